@@ -1,0 +1,134 @@
+//! A reader or a writer with its failures counted and its end noted.
+ghost use Rattle.std.specs.Prelude.{◌≡◌, ◌+◌, ◌-◌, ◌^◌, ◌<◌, ◌||◌, false};
+ghost use Rattle.std.specs.Io.{ReadsAtMost, WritesAtMost};
+ghost use Rattle.std.specs.Io.KnownBytes.{ReadConsumes, WriteAppends, Keeps};
+ghost use Rattle.smap_io.specs.Device.{device_inner, device_failures, has_ended, failures_after};
+ghost use Rattle.smap_io.specs.Device.{is_end, TakesSome};
+
+use std::io::{Read, Write};
+
+/// A call of a device failed: an error of the reader or writer, an interruption among them, or a
+/// write of at least one byte that took none. What the error was isn't kept.
+#[derive(Clone, Copy, Debug, PartialEq, Eq)]
+pub struct Failed;
+
+/// A reader or a writer, with the number of its calls that failed and, for a reader, whether its
+/// end was seen.
+///
+/// Each call is passed on exactly once, also where it fails: a short read or write is handed out as
+/// it came, and nothing is tried again. Where the reader or the writer tells its bytes, so does the
+/// device: what a read gave is what the reader lost, what a write took is what the writer gained,
+/// and a failed call moves nothing. The calls ask that fewer than 2^64 - 1 calls have failed.
+#[derive(Drop)]
+pub struct Device<T> {
+    inner: T,
+    failures: u64,
+    ended: bool,
+}
+
+impl<T> Device<T> {
+    /// A device that hasn't failed, whose end isn't seen.
+    pub fn new(inner: T) -> Self
+        ensures inner { device_inner result ≡ inner }
+        ensures failures { device_failures result ≡ 0 }
+        ensures ended { has_ended result ≡ false }
+    {
+        Device {
+            inner,
+            failures: 0,
+            ended: false,
+        }
+    }
+
+    /// How many calls have failed.
+    pub fn failures(&self) -> u64
+        ensures { result ≡ device_failures self.now }
+    {
+        self.failures
+    }
+
+    /// Whether a read into at least one byte has answered 0.
+    pub fn ended(&self) -> bool
+        ensures { result ≡ has_ended self.now }
+    {
+        self.ended
+    }
+
+    /// The reader or the writer, with whatever it has left or holds.
+    pub fn into_inner(self) -> T
+        ensures { result ≡ device_inner self }
+    {
+        self.inner
+    }
+
+    /// Counts a call that failed.
+    fn count_failure(&mut self) -> Failed
+        requires { device_failures self.old < 2 ^ 64 - 1 }
+        ensures inner { device_inner self.new ≡ device_inner self.old }
+        ensures failures { device_failures self.new ≡ device_failures self.old + 1 }
+        ensures ended { has_ended self.new ≡ has_ended self.old }
+    {
+        self.failures += 1;
+        Failed
+    }
+}
+
+impl<R: Read> Device<R> {
+    /// Passes one read on, and answers how many bytes it put at the front of `buf`. An answer of 0
+    /// where `buf` has room is the end of what is read, and is noted.
+    pub fn read(&mut self, buf: &mut [u8]) -> Result<usize, Failed>
+        requires { device_failures self.old < 2 ^ 64 - 1 }
+        ensures bound { ReadsAtMost result buf.new }
+        ensures bytes { ReadConsumes (R.remaining (device_inner self.old))
+            (R.remaining (device_inner self.new)) result buf.new }
+        ensures failures { device_failures self.new
+            ≡ failures_after (device_failures self.old) result }
+        ensures ended { has_ended self.new ≡ has_ended self.old || is_end result buf.new }
+    {
+        match self.inner.read(buf) {
+            Ok(n) => {
+                self.ended |= n == 0 && !buf.is_empty();
+                Ok(n)
+            }
+            Err(_) => Err(self.count_failure()),
+        }
+    }
+}
+
+impl<W: Write> Device<W> {
+    /// Passes one write on, and answers how many bytes it took from the front of `buf`. A write that
+    /// took none of at least one byte has failed.
+    pub fn write(&mut self, buf: &[u8]) -> Result<usize, Failed>
+        requires { device_failures self.old < 2 ^ 64 - 1 }
+        ensures bound { WritesAtMost result buf.now }
+        ensures some { TakesSome result buf.now }
+        ensures bytes { WriteAppends (W.contents (device_inner self.old))
+            (W.contents (device_inner self.new)) result buf.now }
+        ensures failures { device_failures self.new
+            ≡ failures_after (device_failures self.old) result }
+        ensures ended { has_ended self.new ≡ has_ended self.old }
+    {
+        match self.inner.write(buf) {
+            Ok(n) if n > 0 || buf.is_empty() => Ok(n),
+            _ => Err(self.count_failure()),
+        }
+    }
+
+    /// Passes one flush on.
+    pub fn flush(&mut self) -> Result<(), Failed>
+        requires { device_failures self.old < 2 ^ 64 - 1 }
+        ensures bytes { Keeps (W.contents (device_inner self.old))
+            (W.contents (device_inner self.new)) }
+        ensures failures { device_failures self.new
+            ≡ failures_after (device_failures self.old) result }
+        ensures ended { has_ended self.new ≡ has_ended self.old }
+    {
+        match self.inner.flush() {
+            Ok(()) => Ok(()),
+            Err(_) => Err(self.count_failure()),
+        }
+    }
+}
+
+#[cfg(test)]
+mod tests;

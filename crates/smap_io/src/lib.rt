@@ -1,0 +1,11 @@
+//! Readers and writers whose failures are counted.
+//!
+//! What a layer above promises of its input and output has to say when a device failed. A
+//! [`Device`] keeps that in one place: it passes each call on exactly once, counts the calls that
+//! failed, and notes the end of what is read. It tries nothing again, takes no memory, and costs a
+//! test a call.
+#![tactic(auto)]
+
+mod device;
+
+pub use device::{Device, Failed};
