@@ -1,0 +1,13 @@
+mod Examples
+pub mod ArrangementLemmas
+pub mod OrderLemmas
+pub mod LinesLemmas
+pub mod StepsLemmas
+pub mod ScanLemmas
+pub mod DecodedLemmas
+pub mod TextLemmas
+pub mod EncodingLemmas
+pub mod RunningTextLemmas
+pub mod ReadBackLemmas
+pub mod LawLemmas
+pub mod LengthLemmas

@@ -1,0 +1,30 @@
+-- What a mappings text says, and what a call that reads one may answer.
+use Rattle.std.specs.Prelude.{◌≡◌, ◌<◌, ◌≤◌, ℕ, List, [], Result, Ok, Err}
+use Rattle.std.specs.Global.{Vec}
+use Rattle.smap_vlq.specs.Number.{◌>>=◌}
+use Rattle.smap_mappings.specs.declared.token.Token.{Token}
+use Rattle.smap_mappings.specs.declared.token.Bounds.{Bounds}
+use Rattle.smap_mappings.specs.declared.error.MappingsError.{MappingsError}
+use Rattle.smap_mappings.specs.declared.error.MappingsError.TheVariants as errors
+use Rattle.smap_mappings.specs.Position.{POSITIONS, LINES}
+use Rattle.smap_mappings.specs.Lines.{segments_of}
+use Rattle.smap_mappings.specs.Tokens.{Fault, tokens_behind}
+use Rattle.smap_mappings.specs.Arrangement.{arranged}
+
+-- The tokens of a mappings text, arranged; or its first fault.
+unfoldable pub decoded : Bounds → List ℕ → Result (List Token) Fault
+decoded bounds text = tokens_behind bounds [] (segments_of text) >>= λ tokens. Ok (arranged tokens)
+
+-- What was answered is what the text says, unless memory ran out.
+abbrev pub Gives : Result (Vec Token) MappingsError → Result (List Token) Fault → Type 0
+Gives (Ok v) said = said ≡ Ok v.items
+Gives (Err (errors.Fault place kind)) said = said ≡ Err (place, kind)
+Gives (Err errors.Memory) said = Unit {0}
+
+-- What bounds may be: a start and counts that are positions, and at most as many lines as any map may have.
+pub record AreBounds (bounds : Bounds) : Type 0 where
+  pub start_line : bounds.start_line < POSITIONS
+  pub start_column : bounds.start_column < POSITIONS
+  pub sources : bounds.sources < POSITIONS
+  pub names : bounds.names < POSITIONS
+  pub lines : bounds.lines ≤ LINES

@@ -1,0 +1,9 @@
+pub mod Position
+pub mod Lines
+pub mod Tokens
+pub mod Arrangement
+pub mod Decoded
+pub mod Text
+pub mod Laws
+pub mod Steps
+pub mod Writing

@@ -1,0 +1,33 @@
+-- Generated positions, where a map places them, and their order.
+use Rattle.std.specs.Prelude.{◌≡◌, ℕ, ◌+◌, ◌==◌, ◌&&◌, ◌||◌, Bool, false, nat_lt, if◌then◌else◌, List, [], ◌∷◌}
+use Rattle.smap_mappings.specs.declared.token.Token.{Token}
+
+-- one more than the greatest line, column or index of a position
+abbrev pub POSITIONS : ℕ
+POSITIONS = 2147483648
+
+-- the greatest bound of lines
+abbrev pub LINES : ℕ
+LINES = 16777216
+
+-- A generated position: its line and its column, from 0.
+pub record Position : Type 0 where
+  pub line : ℕ
+  pub column : ℕ
+
+-- Where a position of a map lies when the map starts at an offset: the offset's column counts on the map's first line alone. (ECMA-426, "Index source map")
+abbrev pub place : Position → Position → Position
+place o p = if p.line == 0 then record { line = o.line; column = o.column + p.column } else record { line = o.line + p.line; column = p.column }
+
+-- By line, and on one line by column.
+abbrev pub is_before : Position → Position → Bool
+is_before p q = nat_lt p.line q.line || (p.line == q.line && nat_lt p.column q.column)
+
+abbrev pub position_of : Token → Position
+position_of t = record { line = t.line; column = t.column }
+
+-- No position lies before the one in front of it.
+abbrev pub NeverFalls : List Position → Type 0
+NeverFalls [] = Unit {0}
+NeverFalls (p ∷ []) = Unit {0}
+NeverFalls (p ∷ q ∷ qs) = (is_before q p ≡ false) × NeverFalls (q ∷ qs)

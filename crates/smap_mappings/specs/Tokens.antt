@@ -1,0 +1,130 @@
+-- The tokens of a mappings text in its order, or its first fault (ECMA-426, "Mappings structure").
+-- Ours: a text is refused at its first fault, where the standard reports an error and goes on.
+use Rattle.std.specs.Prelude.{ℕ, ◌==◌, nat_lt, min, if◌then◌else◌, List, [], ◌∷◌, ◌++◌, map, filter, length, slice_index_or, Option, Some, None, ok_or, Result, Ok, Err, ℤ, pos, negsuc, ◌+ℤ◌}
+use Rattle.smap_vlq.specs.declared.segment.SegmentFault.{SegmentFault}
+use Rattle.smap_vlq.specs.declared.segment.SegmentFault.TheVariants as fault
+use Rattle.smap_vlq.specs.Number.{◌>>=◌}
+use Rattle.smap_vlq.specs.Segment.{segment_of}
+use Rattle.smap_mappings.specs.declared.token.Token.{Token}
+use Rattle.smap_mappings.specs.declared.token.Original.{Original}
+use Rattle.smap_mappings.specs.declared.token.Bounds.{Bounds}
+use Rattle.smap_mappings.specs.declared.error.SegmentPlace.{SegmentPlace}
+use Rattle.smap_mappings.specs.declared.error.SegmentKind.{SegmentKind}
+use Rattle.smap_mappings.specs.declared.error.SegmentKind.TheVariants as kind
+use Rattle.smap_mappings.specs.Lines.{SegmentText}
+use Rattle.smap_mappings.specs.Position.{POSITIONS, Position, place}
+
+-- A segment that was read: its line and its numbers.
+pub record Segment : Type 0 where
+  pub line : ℕ
+  pub numbers : List ℤ
+
+-- ---- absolute values
+
+abbrev pub total : List ℤ → ℤ
+total [] = pos 0
+total (n ∷ ns) = n +ℤ total ns
+
+-- The sum of the numbers of one kind over these segments. A segment that lacks it adds nothing.
+abbrev pub sum_of : ℕ → List Segment → ℤ
+sum_of which segments = total (map (λ s. slice_index_or s.numbers which (pos 0)) segments)
+
+-- those of a line
+abbrev pub on_line : ℕ → List Segment → List Segment
+on_line line segments = filter (λ s. s.line == line) segments
+
+-- The absolute values at the last of these segments: each number of a text is a difference. The column is the sum over the segments of its line, the others are sums over all.
+abbrev pub generated_column : List Segment → ℕ → ℤ
+generated_column segments line = sum_of 0 (on_line line segments)
+
+abbrev pub source_index : List Segment → ℤ
+source_index = sum_of 1
+
+abbrev pub original_line : List Segment → ℤ
+original_line = sum_of 2
+
+abbrev pub original_column : List Segment → ℤ
+original_column = sum_of 3
+
+abbrev pub name_index : List Segment → ℤ
+name_index = sum_of 4
+
+-- ---- positions
+
+-- the number, where it is from 0 to below the limit
+abbrev pub below : ℕ → ℤ → Option ℕ
+below limit (pos n) = if nat_lt n limit then Some n else None
+below limit (negsuc n) = None
+
+-- where the text starts
+abbrev pub start_of : Bounds → Position
+start_of bounds = record { line = bounds.start_line; column = bounds.start_column }
+
+-- where a line and a column of the text lie
+abbrev pub placed : Bounds → ℕ → ℕ → Position
+placed bounds line column = place (start_of bounds) (record { line = line; column = column })
+
+-- the placed column of a column that isn't negative
+abbrev pub column_in : Bounds → ℕ → ℤ → Option ℕ
+column_in bounds line (pos column) = below POSITIONS (pos (placed bounds line column).column)
+column_in bounds line (negsuc column) = None
+
+-- ---- one segment
+
+-- the numbers of a segment text, or its fault as one of a mappings text
+abbrev pub kind_of : SegmentFault → SegmentKind
+kind_of fault.Empty = kind.Empty
+kind_of (fault.Number which number_fault) = kind.Number which number_fault
+kind_of (fault.Count count) = kind.Count count
+
+abbrev pub numbers_in : Result (List ℤ) SegmentFault → Result (List ℤ) SegmentKind
+numbers_in (Ok ns) = Ok ns
+numbers_in (Err f) = Err (kind_of f)
+
+-- the name of a segment with so many numbers, or its fault: the last of these segments
+abbrev pub name_in : Bounds → List Segment → ℕ → Result (Option ℕ) SegmentKind
+name_in bounds segments count = if count == 5 then (ok_or (below bounds.names (name_index segments)) kind.Name >>= λ name. Ok (Some name)) else Ok None
+
+-- its original position, or the first fault
+abbrev pub original_in : Bounds → List Segment → ℕ → Result (Option Original) SegmentKind
+original_in bounds segments count = if count == 1 then Ok None else (do
+  source ← ok_or (below bounds.sources (source_index segments)) kind.Source
+  line ← ok_or (below POSITIONS (original_line segments)) kind.OriginalLine
+  column ← ok_or (below POSITIONS (original_column segments)) kind.OriginalColumn
+  name ← name_in bounds segments count
+  Ok (Some (record { source = source; line = line; column = column; name = name })))
+
+-- The token of a segment behind others without a fault; or the first of its faults, in this order.
+unfoldable pub token_of : Bounds → List Segment → Segment → Result Token SegmentKind
+token_of bounds before segment = do
+  line ← ok_or (below bounds.lines (pos (placed bounds segment.line 0).line)) kind.GeneratedLine
+  column ← ok_or (column_in bounds segment.line (generated_column (before ++ segment ∷ []) segment.line)) kind.Column
+  original ← original_in bounds (before ++ segment ∷ []) (length segment.numbers)
+  Ok (record { line = line; column = column; original = original })
+
+-- ---- all segments
+
+-- a fault and where it is
+abbrev pub Fault : Type 0
+Fault = SegmentPlace × SegmentKind
+
+-- a count that stays at the greatest `u32`
+abbrev pub u32_count : ℕ → ℕ
+u32_count n = min n 4294967295
+
+abbrev pub at_place : {A : Type 0} → SegmentText → Result A SegmentKind → Result A Fault
+at_place text (Ok x) = Ok x
+at_place text (Err k) = Err (record { line = u32_count text.line; segment = u32_count text.index }, k)
+
+-- the segment and its token
+abbrev pub read_in : Bounds → List Segment → SegmentText → Result (Segment × Token) SegmentKind
+read_in bounds before text = do
+  numbers ← numbers_in (segment_of text.text)
+  token ← token_of bounds before (record { line = text.line; numbers = numbers })
+  Ok (record { line = text.line; numbers = numbers }, token)
+
+-- The tokens of segment texts behind these segments, or the first fault with its place.
+abbrev pub tokens_behind : Bounds → List Segment → List SegmentText → Result (List Token) Fault
+tokens_behind bounds before [] = Ok []
+tokens_behind bounds before (text ∷ texts) =
+    at_place text (read_in bounds before text) >>= λ x. tokens_behind bounds (before ++ x.0 ∷ []) texts >>= λ tokens. Ok (x.1 ∷ tokens)

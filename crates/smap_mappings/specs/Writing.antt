@@ -1,0 +1,42 @@
+-- For private clauses: the text of one token more, by the absolute values before it.
+use Rattle.std.specs.Prelude.{ℕ, ◌+◌, ◌<◌, ◌==◌, ◌-◌, max, replicate, unwrap_or, if◌then◌else◌, List, [], ◌∷◌, flat_map, Option, Some, None, ℤ}
+use Rattle.smap_vlq.specs.Number.{spelling}
+use Rattle.smap_mappings.specs.declared.token.Token.{Token}
+use Rattle.smap_mappings.specs.declared.token.Original.{Original}
+use Rattle.smap_mappings.specs.declared.running.Running.{Running}
+use Rattle.smap_mappings.specs.Position.{POSITIONS}
+use Rattle.smap_mappings.specs.Text.{difference}
+
+-- Positions and indices that a segment text can have.
+pub record IsRunning (r : Running) : Type 0 where
+  pub column : r.column < POSITIONS
+  pub source : r.source < POSITIONS
+  pub original_line : r.original_line < POSITIONS
+  pub original_column : r.original_column < POSITIONS
+  pub name : r.name < POSITIONS
+
+abbrev pub name_from : ℕ → Option ℕ → List ℤ
+name_from last None = []
+name_from last (Some name) = difference last name ∷ []
+
+abbrev pub original_from : Running → Option Original → List ℤ
+original_from r None = []
+original_from r (Some o) = difference r.source o.source ∷ difference r.original_line o.line ∷ difference r.original_column o.column ∷ name_from r.name o.name
+
+abbrev pub segment_from : Running → Token → List ℕ
+segment_from r t = flat_map spelling (difference r.column t.column ∷ original_from r t.original)
+
+abbrev pub original_behind : Running → Option Original → Running
+original_behind r None = r
+original_behind r (Some o) = record r { source = o.source; original_line = o.line; original_column = o.column; name = unwrap_or o.name r.name }
+
+abbrev pub running_behind : Running → Token → Running
+running_behind r t = original_behind (record r { column = t.column }) t.original
+
+-- what stands before the segment of a token on a line, behind so many lines
+abbrev pub separator : ℕ → ℕ → List ℕ
+separator lines line = if lines == line + 1 then 44 ∷ [] else replicate (line + 1 - max lines 1) 59
+
+-- the values on a line, behind so many lines: the column starts again on a further line
+abbrev pub at_line : Running → ℕ → ℕ → Running
+at_line r lines line = if lines == line + 1 then r else record r { column = 0 }

@@ -1,0 +1,66 @@
+//! Which tokens have a mappings text.
+ghost use Rattle.std.specs.Prelude.{◌≡◌, ◌↔◌, IsTrue};
+ghost use Rattle.smap_mappings.specs.Text.{IsEncodable, IsOriginal, IsPlaced};
+
+use crate::arrangement::never_falls;
+use crate::running::POSITION_LIMIT;
+use crate::token::{Original, Token};
+
+/// The greatest bound of lines: no map has more.
+const LINE_LIMIT: u32 = 16_777_216;
+
+fn is_original(original: &Original) -> bool
+    ensures { IsTrue result ↔ IsOriginal original.now }
+{
+    original.source < POSITION_LIMIT
+        && original.line < POSITION_LIMIT
+        && original.column < POSITION_LIMIT
+        && original.name.is_none_or(|name| name < POSITION_LIMIT)
+}
+
+fn is_placed(token: &Token) -> bool
+    ensures { IsTrue result ↔ IsPlaced token.now }
+{
+    token.line < LINE_LIMIT
+        && token.column < POSITION_LIMIT
+        && token.original.is_none_or(|original| is_original(&original))
+}
+
+/// Whether the tokens have a mappings text: positions never fall in the list's order, lines are below 16,777,216,
+/// and all other numbers are at most 2,147,483,647.
+pub fn is_encodable(tokens: &[Token]) -> bool
+    ensures { IsTrue result ↔ IsEncodable tokens.now }
+{
+    never_falls(tokens) && tokens.iter().all(|token| is_placed(token))
+}
+
+#[cfg(test)]
+mod tests {
+    use super::*;
+
+    fn at(line: u32, column: u32) -> Token {
+        Token {
+            line,
+            column,
+            original: None,
+        }
+    }
+
+    #[test]
+    fn tokens_in_order_and_in_range_have_a_text(rt: HostRuntime) {
+        assert!(rt; is_encodable(&[]));
+        assert!(rt; is_encodable(&[at(0, 1), at(0, 1)]));
+        assert!(rt; is_encodable(&[at(0, 2_147_483_647), at(16_777_215, 0)]));
+
+        assert!(rt; !is_encodable(&[at(0, 2), at(0, 1)]), "a column falls");
+        assert!(rt; !is_encodable(&[at(1, 0), at(0, 1)]), "a line falls");
+        assert!(rt;
+            !is_encodable(&[at(16_777_216, 0)]),
+            "the line is too great"
+        );
+        assert!(rt;
+            !is_encodable(&[at(0, 2_147_483_648)]),
+            "the column is too great"
+        );
+    }
+}

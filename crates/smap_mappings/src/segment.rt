@@ -1,0 +1,136 @@
+//! One segment: its token by the absolute values in front of it, or its first fault.
+ghost use Rattle.std.specs.Prelude.{◌≡◌, pos, ◌+ℤ◌};
+ghost use Rattle.smap_mappings.specs.Tokens.{below, kind_of};
+ghost use Rattle.smap_mappings.specs.Steps.{name_step, original_step, column_step, token_step, judge_step};
+
+use crate::error::SegmentKind;
+use crate::running::{POSITION_LIMIT, Running};
+use crate::token::{Bounds, Original, Token};
+use smap_vlq::{Fields, SegmentFault, read_segment};
+
+/// A position moved by a difference, where it is from 0 to below the limit then.
+fn moved(position: u32, difference: i32, limit: u32) -> Option<u32>
+    ensures { result ≡ below limit (pos position +ℤ difference) }
+{
+    let moved = position as i64 + difference as i64;
+    if moved < 0 || moved >= limit as i64 {
+        return None;
+    }
+    Some(moved as u32)
+}
+
+/// The last name behind the segment, and the segment's own.
+fn name_at(bounds: Bounds, last: u32, fields: &Fields) -> Result<(u32, Option<u32>), SegmentKind>
+    ensures { result ≡ name_step bounds last fields.now }
+{
+    if fields.count != 5 {
+        return Ok((last, None));
+    }
+    let name = moved(last, fields.numbers[4], bounds.names).ok_or(SegmentKind::Name)?;
+    Ok((name, Some(name)))
+}
+
+/// The values behind the segment, the column apart, and the segment's original position.
+fn original_at(
+    bounds: Bounds,
+    running: Running,
+    fields: &Fields,
+) -> Result<(Running, Option<Original>), SegmentKind>
+    ensures { result ≡ original_step bounds running fields.now }
+{
+    if fields.count == 1 {
+        return Ok((running, None));
+    }
+    let source = moved(running.source, fields.numbers[1], bounds.sources).ok_or(
+        SegmentKind::Source,
+    )?;
+    let line = moved(running.original_line, fields.numbers[2], POSITION_LIMIT).ok_or(
+        SegmentKind::OriginalLine,
+    )?;
+    let column = moved(running.original_column, fields.numbers[3], POSITION_LIMIT).ok_or(
+        SegmentKind::OriginalColumn,
+    )?;
+    let (last_name, name) = name_at(bounds, running.name, fields)?;
+    let behind = Running {
+        source,
+        original_line: line,
+        original_column: column,
+        name: last_name,
+        ..running
+    };
+    let original = Original {
+        source,
+        line,
+        column,
+        name,
+    };
+    Ok((behind, Some(original)))
+}
+
+/// The column behind the segment, and where it is placed.
+fn column_at(bounds: Bounds, line: usize, column: u32, difference: i32) -> Option<(u32, u32)>
+    ensures { result ≡ column_step bounds line (pos column +ℤ difference) }
+{
+    let moved = column as i64 + difference as i64;
+    if moved < 0 {
+        return None;
+    }
+    let offset = if line == 0 { bounds.start_column } else { 0 };
+    let placed = moved + offset as i64;
+    if placed >= POSITION_LIMIT as i64 {
+        return None;
+    }
+    Some((moved as u32, placed as u32))
+}
+
+/// The values behind the segment, and its token.
+fn token_at(
+    bounds: Bounds,
+    running: Running,
+    line: usize,
+    fields: &Fields,
+) -> Result<(Running, Token), SegmentKind>
+    ensures { result ≡ token_step bounds running line fields.now }
+{
+    let lines = bounds.lines as usize;
+    let start = bounds.start_line as usize;
+    // The sum below is small once the line is: a text can have more lines than a `usize` can bear on top of a start.
+    if line >= lines || start + line >= lines {
+        return Err(SegmentKind::GeneratedLine);
+    }
+    let (column, placed) = column_at(bounds, line, running.column, fields.numbers[0]).ok_or(
+        SegmentKind::Column,
+    )?;
+    let (behind, original) = original_at(bounds, running, fields)?;
+    let token = Token {
+        line: (start + line) as u32,
+        column: placed,
+        original,
+    };
+    Ok((Running { column, ..behind }, token))
+}
+
+fn kind_of(fault: SegmentFault) -> SegmentKind
+    ensures { result ≡ kind_of fault }
+{
+    match fault {
+        SegmentFault::Empty => SegmentKind::Empty,
+        SegmentFault::Number(which, fault) => SegmentKind::Number(which, fault),
+        SegmentFault::Count(count) => SegmentKind::Count(count),
+    }
+}
+
+/// The values behind the segment of a text, and its token.
+pub(crate) fn judge(
+    bounds: Bounds,
+    running: Running,
+    line: usize,
+    text: &[u8],
+) -> Result<(Running, Token), SegmentKind>
+    ensures { result ≡ judge_step bounds running line text.now }
+{
+    match read_segment(text) {
+        Ok(fields) => token_at(bounds, running, line, &fields),
+        Err(fault) => Err(kind_of(fault)),
+    }
+}

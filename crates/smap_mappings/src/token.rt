@@ -1,0 +1,33 @@
+//! What a mappings text says: tokens, and the bounds under which it is read.
+
+/// A mapping as the text has it: a generated position, and the original position that it comes from, if any.
+///
+/// Lines and columns count from 0, here and below.
+#[derive(Clone, Copy, Debug, PartialEq, Eq)]
+pub struct Token {
+    pub line: u32,
+    pub column: u32,
+    pub original: Option<Original>,
+}
+
+/// A position in a source, perhaps with a name. Source and name are indices into the lists of the map.
+#[derive(Clone, Copy, Debug, PartialEq, Eq)]
+pub struct Original {
+    pub source: u32,
+    pub line: u32,
+    pub column: u32,
+    pub name: Option<u32>,
+}
+
+/// Where a mappings text starts in the generated file, and what its lines and indices stay below.
+///
+/// The start column moves the first line of the text alone.
+/// `lines` is the bound of lines: at most 16,777,216. The other four are at most 2,147,483,647.
+#[derive(Clone, Copy, Debug, PartialEq, Eq)]
+pub struct Bounds {
+    pub start_line: u32,
+    pub start_column: u32,
+    pub sources: u32,
+    pub names: u32,
+    pub lines: u32,
+}

@@ -1,0 +1,146 @@
+-- Which members a JSON tree has, or the first fault of its shape: the lines of each `do` stand in the order of the faults.
+-- ECMA-426, "Source map format" and "Index source map". The tree is RFC 8259's text as serde_json reads it:
+-- of two equal keys the last one's value stays, and a number is whole where `Value::as_u64` answers.
+use Rattle.std.specs.Prelude.{ℕ, ◌+◌, nat_lt, List, [], ◌∷◌, length, codes, not, ◌&&◌, ◌==◌, Bool, true, false, Option, Some, None, is_some, is_none, option_and_then, option_map, Result, Ok, Err, if◌then◌else◌}
+use Rattle.std.specs.Option.{option_or, option_eq}
+use Rattle.serde_json.specs.Data.{Data, Items, no_items, item}
+use Rattle.serde_json.specs.Find.{get, as_null, as_str, as_number, as_array, as_object, as_u64}
+use Rattle.smap_shape.specs.declared.fault.ShapeFault.{ShapeFault}
+use Rattle.smap_shape.specs.declared.fault.ShapeFault.TheVariants.{NotObject, Version, File, Both, SourceRoot, Sources, SourcesContent, Names, IgnoreList, Mappings, Sections, Offset, SectionMap, Nested}
+use Rattle.smap_shape.specs.Members.{Flat, Index, Section, MapMembers, flat, index, fitted}
+
+infixl 10 ◌>>=◌
+-- what is read next, unless a fault was found before
+abbrev pub ◌>>=◌ : {A B : Type 0} → Result A ShapeFault → (A → Result B ShapeFault) → Result B ShapeFault
+(Ok x) >>= f = f x
+(Err e) >>= f = Err e
+
+-- the value where there is one, and else this fault
+abbrev pub or_fault : {A : Type 0} → ShapeFault → Option A → Result A ShapeFault
+or_fault fault None = Err fault
+or_fault fault (Some x) = Ok x
+
+-- this fault where the test holds
+abbrev pub unless : ShapeFault → Bool → Result (Unit {0}) ShapeFault
+unless fault true = Err fault
+unless fault false = Ok tt
+
+-- ---- one member (ECMA-426, "JSON values utilities")
+
+-- the value, unless it is null
+abbrev pub if_present : Data → Option Data
+if_present d = if is_some (as_null d) then None else Some d
+
+-- A member is present where it is there and not null.
+abbrev pub member_of : List ℕ → Data → Option Data
+member_of key tree = option_and_then if_present (get key tree)
+
+-- the whole number that a value is: -1, 3.0 and -0 are none
+abbrev pub whole : Data → Option ℕ
+whole d = option_and_then as_u64 (as_number d)
+
+-- nothing where the member is absent, and else what `read` gives of it
+abbrev pub optional : {A : Type 0} → (Data → Option A) → Option Data → Option (Option A)
+optional read None = Some None
+optional read (Some d) = option_map Some (read d)
+
+-- what `read` gives of each entry of a list, if it gives something of each
+abbrev pub each_item : {A : Type 0} → (Data → Option A) → Items → Option (List A)
+each_item read no_items = Some []
+each_item read (item d ds) = option_and_then (λ x. option_map (λ xs. x ∷ xs) (each_item read ds)) (read d)
+
+-- the entries of the list that a member is, each by `read`; an absent list is empty
+abbrev pub list_member : {A : Type 0} → (Data → Option A) → Option Data → Option (List A)
+list_member read None = Some []
+list_member read (Some d) = option_and_then (each_item read) (as_array d)
+
+-- a text or null
+abbrev pub text_or_null : Data → Option (Option (List ℕ))
+text_or_null d = optional as_str (if_present d)
+
+-- a whole number below the count
+unfoldable pub number_below : ℕ → Data → Option ℕ
+number_below count d = option_and_then (λ n. if nat_lt n count then Some n else None) (whole d)
+
+-- an object
+abbrev pub object_only : Data → Option Data
+object_only d = if is_some (as_object d) then Some d else None
+
+-- ---- a map (ECMA-426, "Source map format")
+
+-- version is the whole number 3
+abbrev pub is_version_3 : Data → Bool
+is_version_3 tree = option_eq (λ a b. a == b) (option_and_then whole (member_of (codes "version") tree)) (Some 3)
+
+-- the file of a map whose version is 3
+abbrev pub file_of : Data → Result (Option (List ℕ)) ShapeFault
+file_of tree = do
+  _ ← unless Version (not (is_version_3 tree))
+  or_fault File (optional as_str (member_of (codes "file") tree))
+
+-- ignoreList, and only where that isn't present its older name
+abbrev pub ignored_member : Data → Option Data
+ignored_member tree = option_or (member_of (codes "ignoreList") tree) (member_of (codes "x_google_ignoreList") tree)
+
+-- The members of a flat map with this file. Every entry of sourcesContent is judged, also one past the sources.
+abbrev pub flat_of : Option (List ℕ) → Data → Result Flat ShapeFault
+flat_of file tree = do
+  root ← or_fault SourceRoot (optional as_str (member_of (codes "sourceRoot") tree))
+  sources ← or_fault Sources (list_member text_or_null (member_of (codes "sources") tree))
+  contents ← or_fault SourcesContent (list_member text_or_null (member_of (codes "sourcesContent") tree))
+  names ← or_fault Names (list_member as_str (member_of (codes "names") tree))
+  ignored ← or_fault IgnoreList (list_member (number_below (length sources)) (ignored_member tree))
+  mappings ← or_fault Mappings (option_and_then as_str (member_of (codes "mappings") tree))
+  Ok (record {
+    file = file;
+    root = root;
+    sources = sources;
+    contents = fitted (length sources) contents;
+    names = names;
+    ignored = ignored;
+    mappings = mappings;
+  })
+
+-- The members of an index map with this file (ECMA-426, "Index source map"). The sections aren't looked into.
+abbrev pub index_of : Option (List ℕ) → Data → Result (Index Data) ShapeFault
+index_of file sections = do
+  ds ← or_fault Sections (list_member Some (Some sections))
+  Ok (record { file = file; sections = ds })
+
+-- A map in which sections is present is an index map, and any other is flat.
+abbrev pub flat_or_index : Option (List ℕ) → Option Data → Data → Result (MapMembers Data) ShapeFault
+flat_or_index file None tree = do
+  members ← flat_of file tree
+  Ok (flat members)
+flat_or_index file (Some sections) tree = do
+  members ← index_of file sections
+  Ok (index members)
+
+-- The members of a map, or the first fault of its shape.
+unfoldable pub shape_of : Data → Result (MapMembers Data) ShapeFault
+shape_of tree = do
+  _ ← unless NotObject (is_none (as_object tree))
+  file ← file_of tree
+  _ ← unless Both (is_some (member_of (codes "sections") tree) && is_some (member_of (codes "mappings") tree))
+  flat_or_index file (member_of (codes "sections") tree) tree
+
+-- ---- a section (ECMA-426, "Index source map")
+
+-- the greatest line or column
+abbrev pub max_position : ℕ
+max_position = 2147483647
+
+-- a whole number up to the greatest position
+abbrev pub position_member : List ℕ → Data → Option ℕ
+position_member key d = option_and_then (number_below (max_position + 1)) (member_of key d)
+
+-- A section's offset and its map, or the first fault of its shape. Index maps don't nest: its map has no sections.
+unfoldable pub section_of : Data → Result (Section Data) ShapeFault
+section_of tree = do
+  _ ← unless NotObject (is_none (as_object tree))
+  offset ← or_fault Offset (option_and_then object_only (member_of (codes "offset") tree))
+  line ← or_fault Offset (position_member (codes "line") offset)
+  column ← or_fault Offset (position_member (codes "column") offset)
+  map ← or_fault SectionMap (option_and_then object_only (member_of (codes "map") tree))
+  _ ← unless Nested (is_some (member_of (codes "sections") map))
+  Ok (record { line = line; column = column; map = map })

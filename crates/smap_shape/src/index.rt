@@ -1,0 +1,72 @@
+ghost use Rattle.std.specs.Prelude.{◌≡◌, ◌<◌, length, slice_get, option_copied, Some};
+ghost use Rattle.serde_json.specs.View.{view};
+ghost use Rattle.smap_shape.specs.Reading.{index_of};
+ghost use Rattle.smap_shape.specs.Views.{index_told, seen};
+
+use crate::fault::ShapeFault;
+use serde_json::Value;
+use std::marker::Model;
+
+/// The members of an index map (ECMA-426, "Index source map"): its sections are numbered from 0.
+#[derive(Drop)]
+pub struct IndexShape<'a> {
+    file: Option<&'a str>,
+    sections: &'a [Value],
+}
+
+impl<'a> Model for IndexShape<'a> {
+    ghost use Rattle.std.specs.Prelude.{option_copied};
+    ghost use Rattle.std.specs.Coded.{codes};
+    ghost use Rattle.serde_json.specs.declared.value.Value.{Value as Tree};
+    ghost use Rattle.serde_json.specs.contracts.value.Value as tree;
+    ghost use Rattle.smap_shape.specs.Members.{Index};
+
+    ghost Value = { Index Tree };
+
+    ghost coded = { Prim.hlevel (codes, tree.the_row.coded) };
+
+    ghost view = { λ s. record { file = option_copied s.file; sections = s.sections.now } };
+}
+
+impl<'a> IndexShape<'a> {
+    /// The `file` member beside the sections, if it is present.
+    pub fn file(&self) -> Option<&str>
+        ensures { option_copied result ≡ self.now.file }
+    {
+        self.file
+    }
+
+    /// How many sections there are.
+    pub fn section_count(&self) -> usize
+        ensures { result ≡ length self.now.sections }
+    {
+        self.sections.len()
+    }
+
+    /// A section's tree as it is listed, for `section` to judge.
+    pub fn section_value(&self, i: usize) -> &Value
+        requires { i < length self.now.sections }
+        ensures { slice_get self.now.sections i ≡ Some result.now }
+    {
+        let sections = self.sections;
+        &sections[i]
+    }
+}
+
+/// The members of an index map with this file and these sections, or the fault of their shape.
+#[tactic(auto, using(crate::proofs::ListLemmas::any_list))]
+pub(crate) fn index<'v>(
+    file: Option<&'v str>,
+    sections: &'v Value,
+) -> Result<IndexShape<'v>, ShapeFault>
+    ensures { seen index_told result ≡ index_of (option_copied file.entry) (view sections.now) }
+{
+    let list = sections.as_array().ok_or(ShapeFault::Sections)?;
+    Ok(IndexShape {
+        file,
+        sections: list.as_slice(),
+    })
+}
+
+#[cfg(test)]
+mod tests;

@@ -1,0 +1,8 @@
+use crate::{FlatShape, IndexShape};
+
+/// The members of a map: an index map is one in which `sections` is present.
+#[derive(Drop)]
+pub enum Shape<'a> {
+    Flat(FlatShape<'a>),
+    Index(IndexShape<'a>),
+}

@@ -1,0 +1,24 @@
+//! The members of a source map, borrowed from its JSON tree (ECMA-426, "Source map format" and
+//! "Index source map").
+//!
+//! `shape` takes a `serde_json::Value` and answers the members of a flat or of an index map, and
+//! `section` those of one section, or the first fault of the shape. Each list is judged once, in
+//! full, and then kept as the slice of the tree that it is: nothing is copied, no call takes
+//! memory, and a shape lives as long as its tree. So `shape` takes time in the entries of the
+//! map's lists, its accessors answer at once, and `is_ignored` alone goes through a list.
+#![tactic(auto)]
+
+mod fault;
+mod flat;
+mod index;
+mod kinds;
+mod map;
+mod member;
+mod sections;
+
+pub use fault::ShapeFault;
+pub use flat::FlatShape;
+pub use index::IndexShape;
+pub use kinds::Shape;
+pub use map::shape;
+pub use sections::{SectionShape, section};

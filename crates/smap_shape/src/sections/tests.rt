@@ -1,0 +1,81 @@
+use super::*;
+use std::test::Fail;
+
+#[test]
+fn a_section_tells_its_offset_and_map(rt: HostRuntime) -> Result<(), Fail> {
+    for (text, line, column) in [
+        (
+            r#"{"offset":{"line":0,"column":2147483647},"map":{}}"#,
+            0,
+            2147483647,
+        ),
+        (
+            r#"{"offset":{"line":2147483647,"column":0,"more":7},"map":{},"url":"x"}"#,
+            2147483647,
+            0,
+        ),
+        (
+            r#"{"offset":{"line":0,"column":0},"map":{"sections":null}}"#,
+            0,
+            0,
+        ),
+    ] {
+        let tree = Value::from_str(rt.alloc(), text)?;
+        let section = section(&tree).ok().ok_or("refused")?;
+        assert_eq!(rt; section.line(), line, "line at {text}");
+        assert_eq!(rt; section.column(), column, "column at {text}");
+        assert!(rt; section.map().is_object(), "map at {text}");
+    }
+    Ok(())
+}
+
+#[test]
+fn the_first_fault_of_a_section_is_answered(rt: HostRuntime) -> Result<(), Fail> {
+    for (text, want) in [
+        ("7", ShapeFault::NotObject),
+        ("[]", ShapeFault::NotObject),
+        ("{}", ShapeFault::Offset),
+        (r#"{"offset":[],"map":[]}"#, ShapeFault::Offset),
+        (r#"{"offset":{"line":0},"map":{}}"#, ShapeFault::Offset),
+        (
+            r#"{"offset":{"line":0,"column":2147483648},"map":{}}"#,
+            ShapeFault::Offset,
+        ),
+        (
+            r#"{"offset":{"line":0,"column":-1},"map":{}}"#,
+            ShapeFault::Offset,
+        ),
+        (
+            r#"{"offset":{"line":0.0,"column":0},"map":{}}"#,
+            ShapeFault::Offset,
+        ),
+        (
+            r#"{"offset":{"line":-0,"column":0},"map":{}}"#,
+            ShapeFault::Offset,
+        ),
+        (
+            r#"{"offset":{"line":0,"column":0},"map":[]}"#,
+            ShapeFault::SectionMap,
+        ),
+        (
+            r#"{"offset":{"line":0,"column":0},"map":null}"#,
+            ShapeFault::SectionMap,
+        ),
+        (
+            r#"{"offset":{"line":0,"column":0},"url":"x"}"#,
+            ShapeFault::SectionMap,
+        ),
+        (
+            r#"{"offset":{"line":0,"column":0},"map":{"version":4,"sections":[]}}"#,
+            ShapeFault::Nested,
+        ),
+        (
+            r#"{"offset":{"line":0,"column":0},"map":{"sections":[]}}"#,
+            ShapeFault::Nested,
+        ),
+    ] {
+        let tree = Value::from_str(rt.alloc(), text)?;
+        assert_eq!(rt; section(&tree).err(), Some(want), "at {text}");
+    }
+    Ok(())
+}

@@ -1,0 +1,3 @@
+pub mod InputLemmas
+pub mod LawLemmas
+pub mod RespellLemmas

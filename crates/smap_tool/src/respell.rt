@@ -1,0 +1,109 @@
+//! The run `respell`: a bare mappings text in its shortest spellings.
+ghost use Rattle.std.specs.Prelude.{◌≡◌, ◌-◌, ◌^◌, ◌<◌, true, false, ◌∷◌, ◌++◌, [], IfOk, OnOk};
+ghost use Rattle.smap_io.specs.Device.{device_inner, device_failures, has_ended};
+ghost use Rattle.smap_mappings.specs.Decoded.{Gives, decoded};
+ghost use Rattle.smap_mappings.specs.Text.{IsEncodable};
+ghost use Rattle.smap_tool.specs.FaultLine.{fault_line};
+ghost use Rattle.smap_tool.specs.Respell.{respell_bounds, respell_output, without_line_feed};
+ghost use Rattle.smap_tool.specs.Run.{Answers, ReaderFails, WriterFails};
+
+use crate::fault_line::fault_line;
+use crate::input::read_input;
+use crate::outcome::{Outcome, RunFault};
+use crate::output::write_output;
+use smap_io::Device;
+use smap_mappings::{
+    Bounds, MappingsError, Memory, SegmentKind, SegmentPlace, Token, decode, encode,
+};
+use std::alloc::Global;
+use std::io::{Read, Write};
+
+/// A bare mappings text starts at line 0 and column 0, and no list bounds its indices.
+const BOUNDS: Bounds = Bounds {
+    start_line: 0,
+    start_column: 0,
+    sources: 2_147_483_647,
+    names: 2_147_483_647,
+    lines: 16_777_216,
+};
+
+/// The text without one last line feed, where it ends in one.
+fn without_line_feed(text: &[u8]) -> &[u8]
+    ensures { result.now ≡ without_line_feed text.now }
+{
+    if text.ends_with(b"\n") {
+        &text[..text.len() - 1]
+    } else {
+        text
+    }
+}
+
+/// The line of a fault, with its line feed.
+fn refusal(alloc: Global, place: SegmentPlace, kind: SegmentKind) -> Result<Vec<u8>, Memory>
+    ensures { IfOk result (λ text. text.items ≡ fault_line (place, kind) ++ 10 ∷ []) }
+{
+    let mut text = fault_line(alloc, place, kind)?.into_bytes();
+    text.push(b'\n')?;
+    Ok(text)
+}
+
+/// The tokens of an input, which is let go: only they are wanted for what is written.
+fn tokens_of(alloc: Global, input: Vec<u8>) -> Result<Vec<Token>, MappingsError>
+    ensures says { Gives result (decoded respell_bounds (without_line_feed input.items)) }
+    ensures encodable { IfOk result (λ tokens. IsEncodable tokens.items) }
+{
+    decode(alloc, without_line_feed(input.as_slice()), BOUNDS)
+}
+
+/// What is written for an input, and the outcome.
+fn respell(alloc: Global, input: Vec<u8>) -> Result<(Vec<u8>, Outcome), Memory>
+    ensures { IfOk result (λ x. (x.0.items, x.1) ≡ respell_output input.items) }
+{
+    match tokens_of(alloc, input) {
+        Ok(tokens) => {
+            let mut text = encode(alloc, tokens.as_slice())?;
+            text.push(b'\n')?;
+            Ok((text, Outcome::Done))
+        }
+        Err(MappingsError::Fault(place, kind)) => {
+            Ok((refusal(alloc, place, kind)?, Outcome::Refused))
+        }
+        Err(MappingsError::Memory) => Err(Memory),
+    }
+}
+
+/// Writes the tokens of a mappings text by line and column in their shortest spellings, or the line of
+/// its first fault (then it is `Refused`), each with a line feed behind it. One last line feed of the
+/// input isn't part of the text. The reader must not have ended, and both devices must be able to
+/// count one more failure.
+pub fn run_respell<R: Read, W: Write>(
+    alloc: Global,
+    reader: &mut Device<R>,
+    writer: &mut Device<W>,
+) -> Result<Outcome, RunFault>
+    requires reader { device_failures reader.old < 2 ^ 64 - 1 }
+    requires writer { device_failures writer.old < 2 ^ 64 - 1 }
+    requires not_ended { has_ended reader.old ≡ false }
+
+    // What was written is what is said of what was read.
+    ensures answers { Answers respell_output
+        (R.remaining (device_inner reader.old)) (R.remaining (device_inner reader.new))
+        (W.contents (device_inner writer.old)) (W.contents (device_inner writer.new)) result }
+    ensures ended { OnOk result (has_ended reader.new ≡ true) }
+
+    // Read and Write come with a failure of their device, and no other answer does.
+    ensures reader_failures { ReaderFails (device_failures reader.old) (device_failures reader.new) result }
+    ensures writer_failures { WriterFails (device_failures writer.old) (device_failures writer.new) result }
+{
+    let input = read_input(alloc, reader)?;
+    let Ok((text, outcome)) = respell(alloc, input) else {
+        return Err(RunFault::Memory);
+    };
+    match write_output(writer, text.as_slice()) {
+        Ok(()) => Ok(outcome),
+        Err(_) => Err(RunFault::Write),
+    }
+}
+
+#[cfg(test)]
+mod tests;

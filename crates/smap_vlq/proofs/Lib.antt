@@ -1,0 +1,10 @@
+mod Examples
+pub mod NumberLemmas
+pub mod UnsignedLemmas
+pub mod ReadingLemmas
+pub mod SpellingLemmas
+pub mod SegmentLemmas
+pub mod PrefixLemmas
+pub mod ShortestLemmas
+pub mod SpelledLemmas
+pub mod SegmentLawLemmas

@@ -1,0 +1,71 @@
+-- A loop over the digits of a number.
+use Rattle.std.proofs.Common.{◌≡◌, ℕ, ◌+◌, ◌*◌, ◌%◌, ◌^◌, ◌<◌, ◌≤◌, min, List, [], ◌∷◌, ◌++◌, length, get_or, drop, Option, None, Some, Result, Ok, Err, refl, sym, ap, ◌∙◌, arith, append_assoc, length-append, drop-cons, add-one}
+use Rattle.std.proofs.Math.ListN.{drop_of_length-le}
+use Rattle.std.proofs.lemmas.Bool.{lt-ltb, le-ltb}
+use Rattle.smap_vlq.specs.declared.number.NumberFault.{NumberFault}
+use Rattle.smap_vlq.specs.declared.number.NumberFault.TheVariants.{Unfinished, Character}
+use Rattle.smap_vlq.specs.Number.{◌>>=◌, digit_of, then_digits, unsigned, number_of, number_digits, number_at}
+use Rattle.smap_vlq.proofs.UnsignedLemmas.{Stands, Stands-push, number_of-min}
+
+abbrev pub with_digits : List ℕ → Result (List ℕ) NumberFault → Result (List ℕ) NumberFault
+with_digits front read = read >>= λ ds. Ok (front ++ ds)
+
+-- The digits so far, and where they lead.
+pub record Progress (text : List ℕ) (at place total weight : ℕ) : Type 0 where
+  pub digits : List ℕ
+  pub stands : Stands total weight digits
+  pub place_is : place ≡ at + length digits
+  pub rest : number_digits (drop at text) ≡ with_digits digits (number_digits (drop place text))
+
+with_digits-nil : (r : Result (List ℕ) NumberFault) → r ≡ with_digits [] r
+with_digits-nil (Ok ds) = refl
+with_digits-nil (Err e) = refl
+
+with_digits-push : (front : List ℕ) (d : ℕ) (r : Result (List ℕ) NumberFault) → with_digits front (r >>= λ ds. Ok (d ∷ ds)) ≡ with_digits (front ++ d ∷ []) r
+with_digits-push front d (Ok ds) = ap (λ (l : List ℕ). Ok l) (sym (append_assoc front (d ∷ []) ds))
+with_digits-push front d (Err e) = refl
+
+pub start : (text : List ℕ) (at : ℕ) → Progress text at at 0 1
+start text at = record {
+  digits = [];
+  stands = record { total_is = refl; weight_is = refl };
+  place_is = omega arith;
+  rest = with_digits-nil (number_digits (drop at text));
+}
+
+digits_there : (text : List ℕ) (place : ℕ) → place < length text → number_digits (drop place text) ≡ then_digits (digit_of (get_or text place 0)) (number_digits (drop (place + 1) text))
+digits_there text place lt = rw (drop-cons text place 0 lt, add-one) refl
+
+-- What the digit at the place makes of what is left.
+step : (text : List ℕ) (at place total weight d : ℕ) (p : Progress text at place total weight) → place < length text → digit_of (get_or text place 0) ≡ Some d
+    → number_digits (drop at text) ≡ with_digits p.digits (then_digits (Some d) (number_digits (drop (place + 1) text)))
+step text at place total weight d p lt is = p.rest ∙ ap (with_digits p.digits) (digits_there text place lt ∙ ap (λ (o : Option ℕ). then_digits o (number_digits (drop (place + 1) text))) is)
+
+-- a continuation digit
+pub goes_on : (text : List ℕ) (at place total weight d t w : ℕ) → Progress text at place total weight → place < length text → digit_of (get_or text place 0) ≡ Some d → 32 ≤ d
+    → t ≡ min (total + d % 32 * weight) (2 ^ 32) → w ≡ min (weight * 32) (2 ^ 35) → Progress text at (place + 1) t w
+goes_on text at place total weight d t w p lt is large te we = record {
+  digits = p.digits ++ d ∷ [];
+  stands = rw (te, we) (Stands-push total weight p.digits d p.stands);
+  place_is = omega (arith, p.place_is, length-append p.digits (d ∷ []));
+  rest = step text at place total weight d p lt is ∙ rw (le-ltb d 32 large) (with_digits-push p.digits d (number_digits (drop (place + 1) text)));
+}
+
+-- the last digit
+pub ends : (text : List ℕ) (at place total weight d t : ℕ) → Progress text at place total weight → place < length text → digit_of (get_or text place 0) ≡ Some d → d < 32
+    → t ≡ min (total + d % 32 * weight) (2 ^ 32) → number_at text at ≡ (number_of t >>= λ n. Ok (n, place + 1))
+ends text at place total weight d t p lt is small te =
+    let found : number_digits (drop at text) ≡ Ok (p.digits ++ d ∷ []) = step text at place total weight d p lt is ∙ rw (lt-ltb d 32 small) refl in
+    let value : number_of (unsigned (p.digits ++ d ∷ [])) ≡ number_of t = rw (te, (Stands-push total weight p.digits d p.stands).total_is) (sym (number_of-min (unsigned (p.digits ++ d ∷ [])))) in
+    let behind : at + length (p.digits ++ d ∷ []) ≡ place + 1 = omega (arith, p.place_is, length-append p.digits (d ∷ [])) in
+    rw (found, value, behind) refl
+
+pub bad_character : (text : List ℕ) (at place total weight : ℕ) → Progress text at place total weight → place < length text → digit_of (get_or text place 0) ≡ None → number_at text at ≡ Err Character
+bad_character text at place total weight p lt is =
+    let found : number_digits (drop at text) ≡ Err Character = p.rest ∙ ap (with_digits p.digits) (digits_there text place lt ∙ ap (λ (o : Option ℕ). then_digits o (number_digits (drop (place + 1) text))) is) in
+    rw found refl
+
+pub unfinished : (text : List ℕ) (at place total weight : ℕ) → Progress text at place total weight → length text ≤ place → number_at text at ≡ Err Unfinished
+unfinished text at place total weight p le =
+    let found : number_digits (drop at text) ≡ Err Unfinished = p.rest ∙ ap (λ (l : List ℕ). with_digits p.digits (number_digits l)) (drop_of_length-le text le) in
+    rw found refl

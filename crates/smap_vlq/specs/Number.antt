@@ -1,0 +1,136 @@
+-- Numbers: digits, what a text spells, how a number is read, and its shortest spelling (ECMA-426, "Base64 VLQ"; that an unsigned value is below 2 ^ 32 and isn't 1 is a rule of our own).
+use Rattle.std.specs.Prelude.{◌≡◌, ◌≢◌, ℕ, zero, suc, ◌+◌, ◌-◌, ◌*◌, ◌/◌, ◌%◌, ◌^◌, ◌<◌, ◌≤◌, ◌&&◌, ◌==◌, nat_lt, nat_le, if◌then◌else◌, List, [], ◌∷◌, ◌++◌, map, length, drop, Option, Some, None, Result, Ok, Err, ℤ, pos, negsuc, neg_ℤ, Bool, false, IsTrue}
+use Rattle.std.specs.Option.{option_map_or}
+use Rattle.std.specs.List.{AllByRecursion}
+use Rattle.smap_vlq.specs.declared.number.NumberFault.{NumberFault}
+use Rattle.smap_vlq.specs.declared.number.NumberFault.TheVariants.{Unfinished, Character, TooLarge, NegativeZero}
+
+infixl 10 ◌>>=◌
+-- what comes next on success; a fault stays
+abbrev pub ◌>>=◌ : {A B F : Type 0} → Result A F → (A → Result B F) → Result B F
+(Ok x) >>= f = f x
+(Err e) >>= f = Err e
+
+-- ---- digits
+
+-- the digit that a byte is: A to Z are 0 to 25, a to z are 26 to 51, 0 to 9 are 52 to 61, + is 62 and / is 63.
+unfoldable pub digit_of : ℕ → Option ℕ
+digit_of byte =
+    if nat_le 65 byte && nat_le byte 90 then Some (byte - 65)
+    else if nat_le 97 byte && nat_le byte 122 then Some (byte - 71)
+    else if nat_le 48 byte && nat_le byte 57 then Some (byte + 4)
+    else if byte == 43 then Some 62
+    else if byte == 47 then Some 63
+    else None
+
+-- the byte of a digit
+unfoldable pub digit_byte : ℕ → ℕ
+digit_byte digit =
+    if nat_lt digit 26 then digit + 65
+    else if nat_lt digit 52 then digit + 71
+    else if nat_lt digit 62 then digit - 4
+    else if digit == 62 then 43
+    else 47
+
+-- The digits of a number: each but the last is a continuation digit, 32 or more, and the last is below 32.
+abbrev pub AreNumberDigits : List ℕ → Type 0
+AreNumberDigits [] = ⊥
+AreNumberDigits (d ∷ []) = d < 32
+AreNumberDigits (d ∷ e ∷ ds) = (32 ≤ d) × AreNumberDigits (e ∷ ds)
+
+-- the unsigned value of digits: the sum of (d_i mod 32) * 32 ^ i
+abbrev pub unsigned : List ℕ → ℕ
+unsigned [] = 0
+unsigned (d ∷ ds) = d % 32 + 32 * unsigned ds
+
+-- ---- numbers
+
+-- The lowest bit is the sign, 1 for a negative number; the bits above it are the magnitude.
+abbrev pub signed : ℕ → ℤ
+signed u = if u % 2 == 0 then pos (u / 2) else neg_ℤ (pos (u / 2))
+
+-- the number of an unsigned value, or why it has none: 2 ^ 32 and more is too large, and 1 would be a negative zero
+abbrev pub number_of : ℕ → Result ℤ NumberFault
+number_of u = if nat_le (2 ^ 32) u then Err TooLarge else if u == 1 then Err NegativeZero else Ok (signed u)
+
+-- The text spells n: its bytes are the digits of a number, and n is the number of their unsigned value.
+pub record Spells (text : List ℕ) (n : ℤ) : Type 0 where
+  pub digits : List ℕ
+  pub spelled : map digit_of text ≡ map (λ d. Some d) digits
+  pub one_number : AreNumberDigits digits
+  pub value : number_of (unsigned digits) ≡ Ok n
+
+-- One digit, or the last digit isn't 0: its byte isn't A.
+abbrev pub EndsShort : List ℕ → Type 0
+EndsShort [] = ⊥
+EndsShort (b ∷ []) = Unit {0}
+EndsShort (b ∷ c ∷ []) = c ≢ 65
+EndsShort (b ∷ c ∷ d ∷ bs) = EndsShort (c ∷ d ∷ bs)
+
+-- A spelling without padding.
+abbrev pub IsShortestSpelling : List ℕ → ℤ → Type 0
+IsShortestSpelling text n = Spells text n × EndsShort text
+
+-- ---- reading
+
+-- whether the byte is a continuation digit: 32 or more
+abbrev pub continues : ℕ → Bool
+continues byte = option_map_or (nat_le 32) (digit_of byte) false
+
+-- All bytes are continuation digits.
+abbrev pub AllContinue : List ℕ → Type 0
+AllContinue bytes = AllByRecursion (λ b. IsTrue (continues b)) bytes
+
+-- The text begins with the digits of a number.
+pub record BeginsWith (text digits : List ℕ) : Type 0 where
+  pub first : List ℕ
+  pub rest : List ℕ
+  pub whole : text ≡ first ++ rest
+  pub spelled : map digit_of first ≡ map (λ d. Some d) digits
+  pub one_number : AreNumberDigits digits
+
+-- Why no number stands at the front of a text. The first place that holds no continuation digit decides: there is none; or it holds no digit; or the number ends there, and its unsigned value is too large, or is 1.
+abbrev pub HasNumberFault : List ℕ → NumberFault → Type 0
+HasNumberFault text Unfinished = AllContinue text
+HasNumberFault text Character = (front rest : List ℕ) × (byte : ℕ) × (text ≡ front ++ byte ∷ rest) × AllContinue front × (digit_of byte ≡ None)
+HasNumberFault text TooLarge = (digits : List ℕ) × BeginsWith text digits × (2 ^ 32 ≤ unsigned digits)
+HasNumberFault text NegativeZero = (digits : List ℕ) × BeginsWith text digits × (unsigned digits ≡ 1)
+
+-- a first digit, and the digits behind it where it is a continuation digit
+abbrev pub then_digits : Option ℕ → Result (List ℕ) NumberFault → Result (List ℕ) NumberFault
+then_digits None behind = Err Character
+then_digits (Some d) behind = if nat_lt d 32 then Ok (d ∷ []) else behind >>= λ ds. Ok (d ∷ ds)
+
+-- The digits of the number at the front of a text. The first byte that is no continuation digit decides.
+abbrev pub number_digits : List ℕ → Result (List ℕ) NumberFault
+number_digits [] = Err Unfinished
+number_digits (b ∷ bs) = then_digits (digit_of b) (number_digits bs)
+
+-- the number at a place of a text, and the place behind it
+abbrev pub number_at : List ℕ → ℕ → Result (ℤ × ℕ) NumberFault
+number_at text at = number_digits (drop at text) >>= λ digits. number_of (unsigned digits) >>= λ n. Ok (n, at + length digits)
+
+-- ---- writing
+
+-- the unsigned value of a number: twice its magnitude, and 1 more where it is negative
+abbrev pub unsigned_of : ℤ → ℕ
+unsigned_of (pos n) = 2 * n
+unsigned_of (negsuc n) = 2 * (n + 1) + 1
+
+-- at most so many digits, the lowest first, and no zero digit at the end
+unfoldable pub shortest_digits : ℕ → ℕ → List ℕ
+shortest_digits zero u = []
+shortest_digits (suc more) u = if nat_lt u 32 then u ∷ [] else (u % 32 + 32) ∷ shortest_digits more (u / 32)
+
+-- the bytes of its shortest digits
+abbrev pub unsigned_spelling : ℕ → List ℕ
+unsigned_spelling u = map digit_byte (shortest_digits 7 u)
+
+-- The shortest spelling of a number. Seven digits hold every unsigned value below 2 ^ 35.
+unfoldable pub spelling : ℤ → List ℕ
+spelling n = unsigned_spelling (unsigned_of n)
+
+-- The text stands at the front, its length is told, and the bytes behind it are as they were.
+pub record Written (text old new : List ℕ) (len : ℕ) : Type 0 where
+  pub len_is : len ≡ length text
+  pub bytes : new ≡ text ++ drop (length text) old

@@ -1,0 +1,23 @@
+//! Base64 VLQ numbers and the segments of a mappings text (ECMA-426, "Base64 VLQ" and "Mappings
+//! structure").
+//!
+//! A number is a row of base64 digits, the lowest first, each worth five bits, whose sixth bit says
+//! that another digit follows; a segment is 1, 4 or 5 numbers, one behind another. Reading gives
+//! the number or the first fault, with its kind; spelling gives the one shortest row of digits.
+//! What a text spells is defined by relations, and the laws join them to what the functions
+//! compute.
+//!
+//! These are the inner loops of a decoder, and lean: nothing takes memory, a text is read in one
+//! pass with a few comparisons and sums a byte, and a number is spelled in at most seven steps into
+//! an array of the caller's.
+#![tactic(auto)]
+
+mod digit;
+pub mod laws;
+mod number;
+mod segment;
+mod spelling;
+
+pub use number::{NumberFault, read_number};
+pub use segment::{Fields, SegmentFault, read_segment};
+pub use spelling::spell;
