@@ -4,7 +4,9 @@
 #![tactic(auto)]
 
 use smap_io::Device;
-use smap_tool::{Outcome, RunFault, Task, WordsFault, run_respell, status, task_of};
+use smap_tool::{
+    Outcome, RunFault, Task, WordsFault, run_check, run_respell, run_tidy, status, task_of,
+};
 use std::alloc::{AllocError, Global};
 use std::env;
 use std::io::{self, ErrorKind, Read, Write};
@@ -38,7 +40,7 @@ fn texts(alloc: Global, words: &[String]) -> Result<Vec<&str>, AllocError> {
 
 fn run<R: Read, W: Write>(
     alloc: Global,
-    task: Task,
+    task: Task<'_>,
     reader: R,
     writer: W,
 ) -> Result<Outcome, RunFault>
@@ -50,6 +52,8 @@ where
     let mut writer = Device::new(writer);
     match task {
         Task::Respell => run_respell(alloc, &mut reader, &mut writer),
+        Task::Check { base } => run_check(alloc, base, &mut reader, &mut writer),
+        Task::Tidy { base } => run_tidy(alloc, base, &mut reader, &mut writer),
     }
 }
 

@@ -1,3 +1,4 @@
+pub mod CheckLemmas
 pub mod InputLemmas
 pub mod LawLemmas
 pub mod RespellLemmas

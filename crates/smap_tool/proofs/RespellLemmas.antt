@@ -8,7 +8,7 @@ use Rattle.smap_mappings.specs.Decoded.{decoded}
 use Rattle.smap_mappings.specs.Text.{mappings_text}
 use Rattle.smap_tool.specs.declared.outcome.Outcome.{Outcome}
 use Rattle.smap_tool.specs.declared.outcome.Outcome.TheVariants.{Done, Refused}
-use Rattle.smap_tool.specs.FaultLine.{fault_line}
+use Rattle.smap_tool.specs.FaultLine.{fault_line, segment_fault}
 use Rattle.smap_tool.specs.Respell.{respell_bounds, respelled, respell_output, without_line_feed}
 
 pub says : (input : List ℕ) (said : Result (List Token) Fault) → decoded respell_bounds (without_line_feed input) ≡ said → respell_output input ≡ respelled said
@@ -20,5 +20,5 @@ pub says_tokens : (input : List ℕ) (tokens : List Token) → decoded respell_b
 says_tokens input tokens said out new written more = rw (more, written) (sym (says input (Ok tokens) said))
 
 pub says_fault : (input : List ℕ) (place : SegmentPlace) (kind : SegmentKind) → decoded respell_bounds (without_line_feed input) ≡ Err (place, kind)
-    → (new : List ℕ) → new ≡ fault_line (place, kind) ++ 10 ∷ [] → (let p : List ℕ × Outcome = (new, Refused) in p ≡ respell_output input)
+    → (new : List ℕ) → new ≡ fault_line (segment_fault (place, kind)) ++ 10 ∷ [] → (let p : List ℕ × Outcome = (new, Refused) in p ≡ respell_output input)
 says_fault input place kind said new written = rw written (sym (says input (Err (place, kind)) said))

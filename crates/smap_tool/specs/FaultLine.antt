@@ -1,10 +1,13 @@
 -- The line that says the first fault of an input.
-use Rattle.std.specs.Prelude.{ℕ, List, ◌++◌, codes, decimal}
+use Rattle.std.specs.Prelude.{ℕ, List, [], ◌++◌, codes, decimal, Option, Some, None}
 use Rattle.smap_vlq.specs.declared.number.NumberFault.{NumberFault}
 use Rattle.smap_vlq.specs.declared.number.NumberFault.TheVariants as number
+use Rattle.smap_mappings.specs.declared.error.SegmentPlace.{SegmentPlace}
 use Rattle.smap_mappings.specs.declared.error.SegmentKind.{SegmentKind}
-use Rattle.smap_mappings.specs.declared.error.SegmentKind.TheVariants as kind
-use Rattle.smap_mappings.specs.Tokens.{Fault}
+use Rattle.smap_record.specs.declared.fault.Kind.{Kind}
+use Rattle.smap_record.specs.declared.fault.Kind.TheVariants as kind
+use Rattle.smap_record.specs.declared.fault.Fault.{Fault}
+use Rattle.smap_record.specs.Faults.{kind_of_segment}
 
 abbrev pub number_words : NumberFault → List ℕ
 number_words number.Unfinished = codes "unfinished"
@@ -12,7 +15,28 @@ number_words number.Character = codes "bad character"
 number_words number.TooLarge = codes "too large"
 number_words number.NegativeZero = codes "negative zero"
 
-abbrev pub kind_words : SegmentKind → List ℕ
+abbrev pub kind_words : Kind → List ℕ
+kind_words kind.Prefix = codes "prefix without line feed"
+kind_words kind.Json = codes "not json"
+kind_words kind.NotObject = codes "not an object"
+kind_words kind.Version = codes "version"
+kind_words kind.File = codes "file"
+kind_words kind.Both = codes "sections beside mappings"
+kind_words kind.SourceRoot = codes "sourceRoot"
+kind_words kind.Sources = codes "sources"
+kind_words kind.SourcesContent = codes "sourcesContent"
+kind_words kind.Names = codes "names"
+kind_words kind.IgnoreList = codes "ignoreList"
+kind_words kind.Mappings = codes "mappings"
+kind_words kind.Sections = codes "sections"
+kind_words kind.Offset = codes "offset"
+kind_words kind.SectionMap = codes "map"
+kind_words kind.Nested = codes "nested sections"
+kind_words kind.Order = codes "order"
+kind_words kind.Overlap = codes "overlap"
+kind_words kind.TooMany = codes "too many sources or names"
+kind_words (kind.SourceUrl i) = codes "source " ++ (decimal i ++ codes " is no URL")
+kind_words (kind.UnstableUrl i) = codes "source " ++ (decimal i ++ codes " has an unstable URL")
 kind_words kind.Empty = codes "empty segment"
 kind_words (kind.Number which fault) = codes "number " ++ (decimal which ++ (codes ": " ++ number_words fault))
 kind_words (kind.Count count) = decimal count ++ codes " numbers"
@@ -23,6 +47,18 @@ kind_words kind.OriginalLine = codes "original line"
 kind_words kind.OriginalColumn = codes "original column"
 kind_words kind.Name = codes "name index"
 
--- The line of a fault in a mappings text, without its line feed: the place, whose numbers count from 0, and the words of the kind.
+abbrev pub section_words : Option ℕ → List ℕ
+section_words None = []
+section_words (Some section) = codes "section " ++ (decimal section ++ codes ": ")
+
+abbrev pub place_words : Option SegmentPlace → List ℕ
+place_words None = []
+place_words (Some place) = codes "line " ++ (decimal place.line ++ (codes " segment " ++ (decimal place.segment ++ codes ": ")))
+
+-- The line of a fault, without its line feed: its section and its place, where it has them, and the words of its kind. All numbers but that of a number in its segment count from 0.
 unfoldable pub fault_line : Fault → List ℕ
-fault_line fault = codes "refused: line " ++ (decimal (fault.0).line ++ (codes " segment " ++ (decimal (fault.0).segment ++ (codes ": " ++ kind_words fault.1))))
+fault_line fault = codes "refused: " ++ (section_words fault.section ++ (place_words fault.place ++ kind_words fault.kind))
+
+-- the fault of a segment of a bare mappings text
+abbrev pub segment_fault : SegmentPlace × SegmentKind → Fault
+segment_fault f = record { section = None; place = Some f.0; kind = kind_of_segment f.1 }

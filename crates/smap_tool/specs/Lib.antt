@@ -1,7 +1,10 @@
+pub mod Check
 pub mod CommandLine
 pub mod FaultLine
 pub mod Laws
+pub mod MapRun
 pub mod Respell
 pub mod Run
 pub mod Status
+pub mod Tidy
 pub mod Words

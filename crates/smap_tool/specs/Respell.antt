@@ -6,7 +6,7 @@ use Rattle.smap_mappings.specs.declared.token.Bounds.{Bounds}
 use Rattle.smap_mappings.specs.Tokens.{Fault}
 use Rattle.smap_mappings.specs.Decoded.{decoded}
 use Rattle.smap_mappings.specs.Text.{mappings_text}
-use Rattle.smap_tool.specs.FaultLine.{fault_line}
+use Rattle.smap_tool.specs.FaultLine.{fault_line, segment_fault}
 use Rattle.smap_tool.specs.declared.outcome.Outcome.{Outcome}
 use Rattle.smap_tool.specs.declared.outcome.Outcome.TheVariants.{Done, Refused}
 
@@ -20,7 +20,7 @@ respell_bounds = record { start_line = 0; start_column = 0; sources = 2147483647
 
 abbrev pub respelled : Result (List Token) Fault → List ℕ × Outcome
 respelled (Ok tokens) = (mappings_text tokens ++ 10 ∷ [], Done)
-respelled (Err fault) = (fault_line fault ++ 10 ∷ [], Refused)
+respelled (Err fault) = (fault_line (segment_fault fault) ++ 10 ∷ [], Refused)
 
 -- The text that is written for an input, and the outcome: its tokens in the shortest spellings, or the line of its first fault.
 unfoldable pub respell_output : List ℕ → List ℕ × Outcome

@@ -1,11 +1,14 @@
 -- What a run has read and written when it answers.
-use Rattle.std.specs.Prelude.{◌≡◌, ℕ, ◌<◌, ◌≤◌, List, length, Option, Result, Ok, Err}
+use Rattle.std.specs.Prelude.{◌≡◌, ℕ, ◌<◌, ◌≤◌, List, [], ◌∷◌, ◌++◌, length, codes, Option, Result, Ok, Err}
 use Rattle.std.specs.Global.{Vec}
 use Rattle.std.specs.Io.{StartsWith}
 use Rattle.std.specs.Io.KnownBytes.{Consumes, Appends, Keeps, IsAtEnd}
+use Rattle.url.specs.Parts.{Parts}
+use Rattle.url.specs.Parser.{Parsed}
 use Rattle.smap_io.specs.declared.device.Failed.{Failed}
 use Rattle.smap_tool.specs.declared.input.TheConstants.{LIMIT}
 use Rattle.smap_tool.specs.declared.outcome.Outcome.{Outcome}
+use Rattle.smap_tool.specs.declared.outcome.Outcome.TheVariants.{Refused}
 use Rattle.smap_tool.specs.declared.outcome.RunFault.{RunFault}
 use Rattle.smap_tool.specs.declared.outcome.RunFault.TheVariants as run
 
@@ -24,6 +27,24 @@ Answers output read_old read_new written_old written_new (Err run.Memory) =
     (input : List ℕ) × Consumes read_old read_new input × (length input ≤ LIMIT) × Keeps written_old written_new
 Answers output read_old read_new written_old written_new (Err run.Write) =
     (input front : List ℕ) × Consumes read_old read_new input × IsAtEnd read_new × (length input ≤ LIMIT) × Appends written_old written_new front × StartsWith (output input).0 front
+
+-- ---- a run against a base
+
+abbrev pub refused_base : List ℕ
+refused_base = codes "refused: base is no URL" ++ 10 ∷ []
+
+-- The refusal of a base: its line is written, or a front of it where a call failed.
+abbrev pub WritesRefusedBase : Option (List ℕ) → Option (List ℕ) → Result Outcome RunFault → Type 0
+WritesRefusedBase old new (Ok outcome) = Appends old new refused_base × (outcome ≡ Refused)
+WritesRefusedBase old new (Err run.Write) = (front : List ℕ) × Appends old new front × StartsWith refused_base front
+WritesRefusedBase old new (Err run.Memory) = Keeps old new
+WritesRefusedBase old new (Err run.Read) = ⊥
+WritesRefusedBase old new (Err run.TooLong) = ⊥
+
+-- With a base that is a URL, a run that reads one text; and else the base's refusal, before anything is read.
+abbrev pub AnswersAgainst : Parsed Parts → (Parts → List ℕ → List ℕ × Outcome) → Option (List ℕ) → Option (List ℕ) → Option (List ℕ) → Option (List ℕ) → Result Outcome RunFault → Type 0
+AnswersAgainst (Ok base) output read_old read_new written_old written_new answer = Answers (output base) read_old read_new written_old written_new answer
+AnswersAgainst (Err e) output read_old read_new written_old written_new answer = Keeps read_old read_new × WritesRefusedBase written_old written_new answer
 
 -- ---- failures of the devices
 

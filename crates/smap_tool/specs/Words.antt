@@ -1,20 +1,22 @@
 -- Which task the words of a command line name.
-use Rattle.std.specs.Prelude.{◌≡◌, ◌≢◌, codes}
-use Rattle.clap.specs.Words.{IsAmong, Kinds, Text, kind_of}
+use Rattle.std.specs.Prelude.{◌≡◌, ◌≢◌, List, Some, codes}
+use Rattle.clap.specs.Words.{IsAmong, Kinds, Row, Text, first_of, kind_of}
 use Rattle.clap.specs.declared.error.kind.ErrorKind.{ErrorKind}
 use Rattle.clap.specs.declared.error.kind.ErrorKind.TheVariants.{OutOfMemory}
 use Rattle.smap_tool.specs.declared.words.WordsFault.{WordsFault}
 use Rattle.smap_tool.specs.declared.words.WordsFault.TheVariants as fault
 use Rattle.smap_tool.specs.declared.words.Task.{Task}
-use Rattle.smap_tool.specs.declared.words.Task.TheVariants.{Respell}
+use Rattle.smap_tool.specs.declared.words.Task.TheVariants.{Respell, Check, Tidy}
 
--- the command of this name
-abbrev pub IsTaskOf : Text → Task → Type 0
-IsTaskOf name Respell = name ≡ codes "respell"
+-- the text is the value of the argument
+abbrev pub HasText : List Row → Text → Text → Type 0
+HasText rows id text = first_of id rows ≡ Some text
 
--- the name of a command that there is
-abbrev pub IsCommand : Text → Type 0
-IsCommand name = name ≡ codes "respell"
+-- The task is the command of this name, with the values that these matches give.
+abbrev pub IsTaskOf : Text × List Row → Task → Type 0
+IsTaskOf m Respell = m.0 ≡ codes "respell"
+IsTaskOf m (Check base) = (m.0 ≡ codes "check") × HasText m.1 (codes "BASE") base.now
+IsTaskOf m (Tidy base) = (m.0 ≡ codes "tidy") × HasText m.1 (codes "BASE") base.now
 
 -- the refusal of a parse whose error has this kind
 abbrev pub IsRefusalOf : ErrorKind → WordsFault → Type 0

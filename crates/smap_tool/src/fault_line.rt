@@ -1,12 +1,13 @@
-//! The words of faults.
-ghost use Rattle.std.specs.Prelude.{◌≡◌, string_bytes, IfOk};
-ghost use Rattle.smap_tool.specs.FaultLine.{fault_line, kind_words, number_words};
+//! The one line that says the first fault of an input.
+ghost use Rattle.std.specs.Prelude.{◌≡◌, ◌∷◌, ◌++◌, [], string_bytes, IfOk};
+ghost use Rattle.smap_tool.specs.FaultLine.{fault_line, kind_words, number_words, place_words, section_words};
 
-use smap_mappings::{SegmentKind, SegmentPlace};
+use smap_mappings::{Memory, SegmentPlace};
+use smap_record::{Fault, Kind};
 use smap_vlq::NumberFault;
 use std::alloc::{AllocError, Global};
 
-/// The words of a number's fault.
+/// How a number is misspelled.
 fn number_words(fault: NumberFault) -> &'static str
     ensures { result.now ≡ number_words fault }
 {
@@ -18,39 +19,91 @@ fn number_words(fault: NumberFault) -> &'static str
     }
 }
 
-/// The words of a segment's fault.
-fn kind_words(alloc: Global, kind: SegmentKind) -> Result<String, AllocError>
+/// What the fault is.
+fn kind_words(alloc: Global, kind: Kind) -> Result<String, AllocError>
     ensures { IfOk result (λ words. string_bytes words ≡ kind_words kind) }
 {
     match kind {
-        SegmentKind::Empty => format!(in alloc; "empty segment"),
-        SegmentKind::Number(which, fault) => {
+        Kind::Prefix => format!(in alloc; "prefix without line feed"),
+        Kind::Json => format!(in alloc; "not json"),
+        Kind::NotObject => format!(in alloc; "not an object"),
+        Kind::Version => format!(in alloc; "version"),
+        Kind::File => format!(in alloc; "file"),
+        Kind::Both => format!(in alloc; "sections beside mappings"),
+        Kind::SourceRoot => format!(in alloc; "sourceRoot"),
+        Kind::Sources => format!(in alloc; "sources"),
+        Kind::SourcesContent => format!(in alloc; "sourcesContent"),
+        Kind::Names => format!(in alloc; "names"),
+        Kind::IgnoreList => format!(in alloc; "ignoreList"),
+        Kind::Mappings => format!(in alloc; "mappings"),
+        Kind::Sections => format!(in alloc; "sections"),
+        Kind::Offset => format!(in alloc; "offset"),
+        Kind::SectionMap => format!(in alloc; "map"),
+        Kind::Nested => format!(in alloc; "nested sections"),
+        Kind::Order => format!(in alloc; "order"),
+        Kind::Overlap => format!(in alloc; "overlap"),
+        Kind::TooMany => format!(in alloc; "too many sources or names"),
+        Kind::SourceUrl(i) => format!(in alloc; "source {i} is no URL"),
+        Kind::UnstableUrl(i) => format!(in alloc; "source {i} has an unstable URL"),
+        Kind::Empty => format!(in alloc; "empty segment"),
+        Kind::Number(which, fault) => {
             format!(in alloc; "number {}: {}", which, number_words(fault))
         }
-        SegmentKind::Count(count) => format!(in alloc; "{} numbers", count),
-        SegmentKind::GeneratedLine => format!(in alloc; "generated line"),
-        SegmentKind::Column => format!(in alloc; "generated column"),
-        SegmentKind::Source => format!(in alloc; "source index"),
-        SegmentKind::OriginalLine => format!(in alloc; "original line"),
-        SegmentKind::OriginalColumn => format!(in alloc; "original column"),
-        SegmentKind::Name => format!(in alloc; "name index"),
+        Kind::Count(count) => format!(in alloc; "{count} numbers"),
+        Kind::GeneratedLine => format!(in alloc; "generated line"),
+        Kind::Column => format!(in alloc; "generated column"),
+        Kind::Source => format!(in alloc; "source index"),
+        Kind::OriginalLine => format!(in alloc; "original line"),
+        Kind::OriginalColumn => format!(in alloc; "original column"),
+        Kind::Name => format!(in alloc; "name index"),
     }
 }
 
-/// The line of a fault in a mappings text, without its line feed.
-#[tactic(auto, unfolding(crate::specs::FaultLine::fault_line))]
-pub(crate) fn fault_line(
-    alloc: Global,
-    place: SegmentPlace,
-    kind: SegmentKind,
-) -> Result<String, AllocError>
-    ensures { IfOk result (λ line. string_bytes line ≡ fault_line (place, kind)) }
+/// In which section it is.
+fn section_words(alloc: Global, section: Option<usize>) -> Result<String, AllocError>
+    ensures { IfOk result (λ words. string_bytes words ≡ section_words section) }
 {
-    let words = kind_words(alloc, kind)?;
-    format!(in alloc;
-        "refused: line {} segment {}: {}",
-        place.line,
-        place.segment,
-        words.as_str()
-    )
+    match section {
+        None => Ok(String::new(alloc)),
+        Some(section) => format!(in alloc; "section {section}: "),
+    }
 }
+
+/// In which segment of the mappings text it is.
+fn place_words(alloc: Global, place: Option<SegmentPlace>) -> Result<String, AllocError>
+    ensures { IfOk result (λ words. string_bytes words ≡ place_words place) }
+{
+    match place {
+        None => Ok(String::new(alloc)),
+        Some(place) => format!(in alloc; "line {} segment {}: ", place.line, place.segment),
+    }
+}
+
+/// The line of a fault, without its line feed. Lines, segments, sections and sources count from 0.
+#[tactic(auto, unfolding(crate::specs::FaultLine::fault_line))]
+pub fn fault_text(alloc: Global, fault: &Fault) -> Result<String, Memory>
+    ensures { IfOk result (λ line. string_bytes line ≡ fault_line fault.now) }
+{
+    let section = section_words(alloc, fault.section)?;
+    let place = place_words(alloc, fault.place)?;
+    let words = kind_words(alloc, fault.kind)?;
+    let line = format!(in alloc;
+        "refused: {}{}{}",
+        section.as_str(),
+        place.as_str(),
+        words.as_str()
+    )?;
+    Ok(line)
+}
+
+/// The same with its line feed, as it is written.
+pub(crate) fn refusal(alloc: Global, fault: &Fault) -> Result<Vec<u8>, Memory>
+    ensures { IfOk result (λ text. text.items ≡ fault_line fault.now ++ 10 ∷ []) }
+{
+    let mut text = fault_text(alloc, fault)?.into_bytes();
+    text.push(b'\n')?;
+    Ok(text)
+}
+
+#[cfg(test)]
+mod tests;

@@ -1,8 +1,9 @@
 //! Writing the text of an answer.
 ghost use Rattle.std.specs.Prelude.{◌≡◌, ◌-◌, ◌^◌, ◌<◌};
 ghost use Rattle.smap_io.specs.Device.{device_inner, device_failures, failures_after};
-ghost use Rattle.smap_tool.specs.Run.{WritesText};
+ghost use Rattle.smap_tool.specs.Run.{WriterFails, WritesRefusedBase, WritesText};
 
+use crate::outcome::{Outcome, RunFault};
 use smap_io::{Device, Failed};
 use std::io::Write;
 
@@ -27,4 +28,16 @@ pub(crate) fn write_output<W: Write>(writer: &mut Device<W>, text: &[u8]) -> Res
 {
     write_text(writer, text)?;
     writer.flush()
+}
+
+/// Refuses a base that is no URL.
+pub(crate) fn write_refused_base<W: Write>(writer: &mut Device<W>) -> Result<Outcome, RunFault>
+    requires { device_failures writer.old < 2 ^ 64 - 1 }
+    ensures bytes { WritesRefusedBase (W.contents (device_inner writer.old)) (W.contents (device_inner writer.new)) result }
+    ensures failures { WriterFails (device_failures writer.old) (device_failures writer.new) result }
+{
+    match write_output(writer, b"refused: base is no URL\n") {
+        Ok(()) => Ok(Outcome::Refused),
+        Err(_) => Err(RunFault::Write),
+    }
 }

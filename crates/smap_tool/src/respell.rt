@@ -3,11 +3,11 @@ ghost use Rattle.std.specs.Prelude.{◌≡◌, ◌-◌, ◌^◌, ◌<◌, true, 
 ghost use Rattle.smap_io.specs.Device.{device_inner, device_failures, has_ended};
 ghost use Rattle.smap_mappings.specs.Decoded.{Gives, decoded};
 ghost use Rattle.smap_mappings.specs.Text.{IsEncodable};
-ghost use Rattle.smap_tool.specs.FaultLine.{fault_line};
+ghost use Rattle.smap_tool.specs.FaultLine.{segment_fault};
 ghost use Rattle.smap_tool.specs.Respell.{respell_bounds, respell_output, without_line_feed};
 ghost use Rattle.smap_tool.specs.Run.{Answers, ReaderFails, WriterFails};
 
-use crate::fault_line::fault_line;
+use crate::fault_line::refusal;
 use crate::input::read_input;
 use crate::outcome::{Outcome, RunFault};
 use crate::output::write_output;
@@ -15,6 +15,7 @@ use smap_io::Device;
 use smap_mappings::{
     Bounds, MappingsError, Memory, SegmentKind, SegmentPlace, Token, decode, encode,
 };
+use smap_record::{Fault, Kind};
 use std::alloc::Global;
 use std::io::{Read, Write};
 
@@ -38,13 +39,15 @@ fn without_line_feed(text: &[u8]) -> &[u8]
     }
 }
 
-/// The line of a fault, with its line feed.
-fn refusal(alloc: Global, place: SegmentPlace, kind: SegmentKind) -> Result<Vec<u8>, Memory>
-    ensures { IfOk result (λ text. text.items ≡ fault_line (place, kind) ++ 10 ∷ []) }
+/// The fault of a segment, which is in no section of a map.
+fn segment_fault(place: SegmentPlace, kind: SegmentKind) -> Fault
+    ensures { result ≡ segment_fault (place, kind) }
 {
-    let mut text = fault_line(alloc, place, kind)?.into_bytes();
-    text.push(b'\n')?;
-    Ok(text)
+    Fault {
+        section: None,
+        place: Some(place),
+        kind: Kind::from(kind),
+    }
 }
 
 /// The tokens of an input, which is let go: only they are wanted for what is written.
@@ -66,7 +69,8 @@ fn respell(alloc: Global, input: Vec<u8>) -> Result<(Vec<u8>, Outcome), Memory>
             Ok((text, Outcome::Done))
         }
         Err(MappingsError::Fault(place, kind)) => {
-            Ok((refusal(alloc, place, kind)?, Outcome::Refused))
+            let fault = segment_fault(place, kind);
+            Ok((refusal(alloc, &fault)?, Outcome::Refused))
         }
         Err(MappingsError::Memory) => Err(Memory),
     }

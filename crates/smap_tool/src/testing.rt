@@ -12,7 +12,8 @@ pub(crate) struct SlowReader<'a> {
     rest: &'a [u8],
     step: usize,
     fails_at: u64,
-    calls: u64,
+    /// How many reads there were.
+    pub(crate) calls: u64,
     ghost steps: { 0 < step },
 }
 

@@ -1,4 +1,5 @@
 mod Examples
+pub mod DigitLemmas
 pub mod NumberLemmas
 pub mod UnsignedLemmas
 pub mod ReadingLemmas

@@ -8,8 +8,8 @@
 //! compute.
 //!
 //! These are the inner loops of a decoder, and lean: nothing takes memory, a text is read in one
-//! pass with a few comparisons and sums a byte, and a number is spelled in at most seven steps into
-//! an array of the caller's.
+//! pass with a table look-up and a few sums a byte, and a number is spelled in at most seven steps
+//! into an array of the caller's.
 #![tactic(auto)]
 
 mod digit;

@@ -1,0 +1,15 @@
+pub mod LayoutLemmas
+pub mod ListLemmas
+pub mod EntryLemmas
+pub mod ReadLemmas
+pub mod RecordLemmas
+pub mod WritableLemmas
+pub mod LawLemmas
+pub mod TreeLemmas
+pub mod PushedLemmas
+pub mod NumberingLemmas
+pub mod ListedLemmas
+pub mod SourceLemmas
+pub mod AsciiLemmas
+pub mod SamenessLemmas
+pub mod RoundTripLemmas

@@ -1,0 +1,10 @@
+use Rattle.std.proofs.Common.{◌≡◌, map, take}
+use Rattle.smap_record.specs.Record.{record_of}
+use Rattle.smap_record.specs.Fitting.{names_used}
+use Rattle.smap_canon.specs.Canonical.{token_of}
+use Rattle.smap_canon.proofs.numbering.tokens_of.Given as goal
+
+abbrev pub invariant-loop-i : goal.invariant-loop-i
+invariant-loop-i l =
+    let record_read = record_of l.map in
+    l.tokens.items ≡ map (token_of record_read.sources (names_used record_read.mappings)) (take l.i record_read.mappings)

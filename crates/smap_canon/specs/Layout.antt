@@ -1,0 +1,62 @@
+-- The one layout of canonical and of flat bytes.
+use Rattle.std.specs.Prelude.{◌≡◌, ℕ, ◌+◌, List, [], ◌∷◌, map, codes, Bool, Option, Some, None, is_some, option_map, IsUtf8, if◌then◌else◌}
+use Rattle.std.specs.List.{list_any}
+use Rattle.serde_json.specs.Data.{Data, null, number, string, array, object, unsigned, Members, no_members, member}
+use Rattle.serde_json.specs.Read.{read}
+use Rattle.serde_json.specs.View.{items_of}
+use Rattle.serde_json.specs.Written.{compact_text}
+use Rattle.smap_mappings.specs.Text.{mappings_text}
+use Rattle.smap_record.specs.Record.{Entry, MapText}
+
+abbrev pub or_null : Option (List ℕ) → Data
+or_null None = null
+or_null (Some s) = string s
+
+abbrev pub whole_number : ℕ → Data
+whole_number n = number (unsigned n)
+
+abbrev pub list_of : List Data → Data
+list_of ds = array (items_of ds)
+
+-- the numbers of the ignored sources, rising, where the first is number i
+abbrev pub ignored_from : ℕ → List Entry → List ℕ
+ignored_from i [] = []
+ignored_from i (e ∷ es) = if e.ignored then i ∷ ignored_from (i + 1) es else ignored_from (i + 1) es
+
+-- the list, unless it is empty
+abbrev pub unless_empty : List Data → Option Data
+unless_empty [] = None
+unless_empty (d ∷ ds) = Some (list_of (d ∷ ds))
+
+-- the member, where there is one, before the others
+abbrev pub optional_member : List ℕ → Option Data → Members → Members
+optional_member key None rest = rest
+optional_member key (Some d) rest = member key d rest
+
+abbrev pub has_content : List Entry → Bool
+has_content es = list_any (λ e. is_some e.content) es
+
+-- each source's content, where some source has one
+abbrev pub written_contents : List Entry → Option Data
+written_contents es = if has_content es then Some (list_of (map (λ e. or_null e.content) es)) else None
+
+-- The JSON object of a flat map with this file and listing (ECMA-426, source map format). Its members are in byte order of their names.
+-- `file`, `ignoreList` and `sourcesContent` stand only where there is something to say, and there is no `sourceRoot`.
+unfoldable pub layout : MapText → Data
+layout m = object
+    (optional_member (codes "file") (option_map string m.file)
+    (optional_member (codes "ignoreList") (unless_empty (map whole_number (ignored_from 0 m.listing.sources)))
+    (member (codes "mappings") (string (mappings_text m.listing.tokens))
+    (member (codes "names") (list_of (map string m.listing.names))
+    (member (codes "sources") (list_of (map (λ e. or_null e.url) m.listing.sources))
+    (optional_member (codes "sourcesContent") (written_contents m.listing.sources)
+    (member (codes "version") (whole_number 3) no_members)))))))
+
+-- Its compact text: JSON (RFC 8259) without any space between tokens.
+abbrev pub layout_text : MapText → List ℕ
+layout_text m = compact_text (layout m)
+
+-- The tree's compact text is UTF-8, and read as JSON it is the tree again.
+pub record ReadsBack (tree : Data) : Type 0 where
+  pub utf8 : IsUtf8 (compact_text tree)
+  pub same : read (compact_text tree) ≡ Some tree

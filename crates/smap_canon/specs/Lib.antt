@@ -1,0 +1,7 @@
+pub mod Layout
+pub mod Canonical
+pub mod Laws
+pub mod RoundTrips
+pub mod Writing
+pub mod Numbering
+pub mod Sameness

@@ -1,0 +1,200 @@
+-- Known answers, computed by the definitions.
+use Rattle.std.proofs.Common.{◌≡◌, ℕ, List, [], ◌∷◌, Option, Some, None, Bool, true, false, refl}
+use Rattle.std.specs.Prelude.{codes, Ok, Err}
+use Rattle.std.specs.Str.{is_utf8, chars}
+use Rattle.serde_json.proofs.OnLiterals.{serde_json_on_literals}
+use Rattle.url.proofs.OnLiterals.{url_on_literals}
+use Rattle.url.specs.Parts.{Parts}
+use Rattle.url.specs.Parser.{Parsed, parse_url}
+use Rattle.smap_vlq.specs.Number.{digit_of}
+use Rattle.smap_vlq.specs.Segment.{segment_of}
+use Rattle.smap_mappings.specs.Tokens.{token_of}
+use Rattle.smap_mappings.specs.Decoded.{decoded}
+use Rattle.smap_shape.specs.Reading.{shape_of, number_below}
+use Rattle.smap_record.specs.declared.fault.Kind.{Kind}
+use Rattle.smap_record.specs.declared.fault.Kind.TheVariants as kinds
+use Rattle.smap_record.specs.Record.{Entry, Mapping, Record, Allowed, record_of, distinct}
+use Rattle.smap_record.specs.Source.{Resolved, no_url, resolved, resolve}
+use Rattle.smap_record.specs.Faults.{Checked, ◌>>=◌, refuse}
+use Rattle.smap_record.specs.Flat.{source_url, entries_from, listed_flat}
+use Rattle.smap_record.specs.Reading.{reading}
+
+abbrev base : List ℕ
+base = codes "http://h/m/out.js.map"
+
+abbrev usual : Allowed
+usual = record { items = 16777216; lines = 16777216 }
+
+-- ---- URLs
+
+-- what a source leads to behind a root
+abbrev against : List ℕ → Option (List ℕ) → List ℕ → Parsed Resolved
+against text root source = by (parse_url None text)
+  where
+    by : Parsed Parts → Parsed Resolved
+    by (Ok b) = Ok (resolve b root source)
+    by (Err e) = Err e
+
+no_root : against base None (codes "a.js") ≡ Ok (resolved (codes "http://h/m/a.js"))
+unfolding url_on_literals resolve
+no_root = refl
+
+empty_root : against base (Some []) (codes "a.js") ≡ Ok (resolved (codes "http://h/m/a.js"))
+unfolding url_on_literals resolve
+empty_root = refl
+
+root : against base (Some (codes "src")) (codes "a.js") ≡ Ok (resolved (codes "http://h/m/src/a.js"))
+unfolding url_on_literals resolve
+root = refl
+
+root_with_slash : against base (Some (codes "src/")) (codes "a.js") ≡ Ok (resolved (codes "http://h/m/src/a.js"))
+unfolding url_on_literals resolve
+root_with_slash = refl
+
+root_from_top : against base (Some (codes "/r")) (codes "a.js") ≡ Ok (resolved (codes "http://h/r/a.js"))
+unfolding url_on_literals resolve
+root_from_top = refl
+
+before_absolute : against base (Some (codes "src")) (codes "http://x/a.js") ≡ Ok (resolved (codes "http://h/m/src/http://x/a.js"))
+unfolding url_on_literals resolve
+before_absolute = refl
+
+absolute : against base None (codes "webpack://app/./src/i.js") ≡ Ok (resolved (codes "webpack://app/src/i.js"))
+unfolding url_on_literals resolve
+absolute = refl
+
+not_a_url : against base None (codes "turbopack://[project]/a.js") ≡ Ok no_url
+unfolding url_on_literals resolve
+not_a_url = refl
+
+opaque_base : against (codes "mailto:x") None (codes "a.js") ≡ Ok no_url
+unfolding url_on_literals resolve
+opaque_base = refl
+
+-- a path that begins with two slashes has a dot before them, so that it is not read as a host: the URL is itself again
+not_a_host : against base None (codes "foo:/..//x:") ≡ Ok (resolved (codes "foo:/.//x:"))
+unfolding url_on_literals resolve
+not_a_host = refl
+
+-- ---- map texts
+
+-- the record of a map text under limits
+abbrev recorded : Allowed → List ℕ → Parsed (Checked Record)
+recorded limits text = by (parse_url None base)
+  where
+    by : Parsed Parts → Parsed (Checked Record)
+    by (Ok b) = Ok (reading b limits text >>= (λ m. Ok (record_of m)))
+    by (Err e) = Err e
+
+abbrev source : List ℕ → Option (List ℕ) → Bool → Entry
+source url content ignored = record { url = Some url; content = content; ignored = ignored }
+
+abbrev first : Entry
+first = source (codes "http://h/m/a.js") None false
+
+abbrev second : Entry
+second = source (codes "http://h/m/b.js") None false
+
+abbrev mapping : ℕ → ℕ → Entry → ℕ → ℕ → Option (List ℕ) → Mapping
+mapping line column entry original_line original_column name = record {
+  line = line;
+  column = column;
+  origin = Some (record { source = entry; line = original_line; column = original_column; name = name });
+}
+
+abbrev unnamed : Entry
+unnamed = record { url = None; content = Some (codes "t"); ignored = false }
+
+abbrev at : ℕ → ℕ → Kind → Checked Record
+at line segment kind = Err (record { section = None; place = Some (record { line = line; segment = segment }); kind = kind })
+
+abbrev few : Allowed
+few = record { items = 2; lines = 4 }
+
+empty : recorded usual (codes "{\"version\":3,\"mappings\":\"\"}") ≡ Ok (Ok (record { file = None; sources = []; mappings = [] }))
+unfolding serde_json_on_literals url_on_literals resolve reading shape_of number_below source_url entries_from listed_flat digit_of segment_of token_of decoded distinct is_utf8 chars
+empty = refl
+
+two_names : recorded usual (codes "{\"version\":3,\"sources\":[\"a.js\"],\"names\":[\"x\",\"y\"],\"mappings\":\"AAAAC,CAACD\"}") ≡ Ok (Ok (record { file = None; sources = first ∷ []; mappings = mapping 0 0 first 0 0 (Some (codes "y")) ∷ mapping 0 1 first 0 1 (Some (codes "x")) ∷ [] }))
+unfolding serde_json_on_literals url_on_literals resolve reading shape_of number_below source_url entries_from listed_flat digit_of segment_of token_of decoded distinct is_utf8 chars
+two_names = refl
+
+members_null : recorded usual (codes "{\"version\":3,\"file\":null,\"sections\":null,\"sources\":[null],\"sourcesContent\":[\"t\"],\"mappings\":\"AAAA\"}") ≡ Ok (Ok (record { file = None; sources = unnamed ∷ []; mappings = mapping 0 0 unnamed 0 0 None ∷ [] }))
+unfolding serde_json_on_literals url_on_literals resolve reading shape_of number_below source_url entries_from listed_flat digit_of segment_of token_of decoded distinct is_utf8 chars
+members_null = refl
+
+ignored_twice : recorded usual (codes "{\"version\":3,\"sources\":[\"a.js\",\"b.js\"],\"x_google_ignoreList\":[1,1],\"mappings\":\"\"}") ≡ Ok (Ok (record { file = None; sources = first ∷ source (codes "http://h/m/b.js") None true ∷ []; mappings = [] }))
+unfolding serde_json_on_literals url_on_literals resolve reading shape_of number_below source_url entries_from listed_flat digit_of segment_of token_of decoded distinct is_utf8 chars
+ignored_twice = refl
+
+equal_urls : recorded usual (codes "{\"version\":3,\"sources\":[\"a.js\",\"./a.js\",\"b.js\"],\"mappings\":\"AAAA,CCAA,CCAA\"}") ≡ Ok (Ok (record { file = None; sources = first ∷ second ∷ []; mappings = mapping 0 0 first 0 0 None ∷ mapping 0 1 first 0 0 None ∷ mapping 0 2 second 0 0 None ∷ [] }))
+unfolding serde_json_on_literals url_on_literals resolve reading shape_of number_below source_url entries_from listed_flat digit_of segment_of token_of decoded distinct is_utf8 chars
+equal_urls = refl
+
+other_content : recorded usual (codes "{\"version\":3,\"sources\":[\"a.js\",\"a.js\"],\"sourcesContent\":[\"t\"],\"mappings\":\"\"}") ≡ Ok (Ok (record { file = None; sources = source (codes "http://h/m/a.js") (Some (codes "t")) false ∷ first ∷ []; mappings = [] }))
+unfolding serde_json_on_literals url_on_literals resolve reading shape_of number_below source_url entries_from listed_flat digit_of segment_of token_of decoded distinct is_utf8 chars
+other_content = refl
+
+columns_fall : recorded usual (codes "{\"version\":3,\"sources\":[\"a.js\"],\"names\":[\"p\",\"q\"],\"mappings\":\"EAAAA,DAACC\"}") ≡ Ok (Ok (record { file = None; sources = first ∷ []; mappings = mapping 0 1 first 0 1 (Some (codes "q")) ∷ mapping 0 2 first 0 0 (Some (codes "p")) ∷ [] }))
+unfolding serde_json_on_literals url_on_literals resolve reading shape_of number_below source_url entries_from listed_flat digit_of segment_of token_of decoded distinct is_utf8 chars
+columns_fall = refl
+
+prefix_line : recorded usual (codes ")]}'\n{\"version\":3,\"mappings\":\"\"}") ≡ Ok (Ok (record { file = None; sources = []; mappings = [] }))
+unfolding serde_json_on_literals url_on_literals resolve reading shape_of number_below source_url entries_from listed_flat digit_of segment_of token_of decoded distinct is_utf8 chars
+prefix_line = refl
+
+prefix_alone : recorded usual (codes ")]}'") ≡ Ok (refuse kinds.Prefix)
+unfolding serde_json_on_literals url_on_literals resolve reading shape_of number_below source_url entries_from listed_flat digit_of segment_of token_of decoded distinct is_utf8 chars
+prefix_alone = refl
+
+cut : recorded usual (codes "{\"version\":3,\"mappings\":\"") ≡ Ok (refuse kinds.Json)
+unfolding serde_json_on_literals url_on_literals resolve reading shape_of number_below source_url entries_from listed_flat digit_of segment_of token_of decoded distinct is_utf8 chars
+cut = refl
+
+list : recorded usual (codes "[]") ≡ Ok (refuse kinds.NotObject)
+unfolding serde_json_on_literals url_on_literals resolve reading shape_of number_below source_url entries_from listed_flat digit_of segment_of token_of decoded distinct is_utf8 chars
+list = refl
+
+text_version : recorded usual (codes "{\"version\":\"3\",\"mappings\":\"\"}") ≡ Ok (refuse kinds.Version)
+unfolding serde_json_on_literals url_on_literals resolve reading shape_of number_below source_url entries_from listed_flat digit_of segment_of token_of decoded distinct is_utf8 chars
+text_version = refl
+
+no_version : recorded usual (codes "{\"mappings\":\"\"}") ≡ Ok (refuse kinds.Version)
+unfolding serde_json_on_literals url_on_literals resolve reading shape_of number_below source_url entries_from listed_flat digit_of segment_of token_of decoded distinct is_utf8 chars
+no_version = refl
+
+sections_too : recorded usual (codes "{\"version\":3,\"mappings\":\"\",\"sections\":[]}") ≡ Ok (refuse kinds.Both)
+unfolding serde_json_on_literals url_on_literals resolve reading shape_of number_below source_url entries_from listed_flat digit_of segment_of token_of decoded distinct is_utf8 chars
+sections_too = refl
+
+ignored_beyond : recorded usual (codes "{\"version\":3,\"sources\":[\"a.js\",\"b.js\"],\"ignoreList\":[2],\"mappings\":\"\"}") ≡ Ok (refuse kinds.IgnoreList)
+unfolding serde_json_on_literals url_on_literals resolve reading shape_of number_below source_url entries_from listed_flat digit_of segment_of token_of decoded distinct is_utf8 chars
+ignored_beyond = refl
+
+source_no_url : recorded usual (codes "{\"version\":3,\"sources\":[\"turbopack://[project]/a.js\"],\"mappings\":\"\"}") ≡ Ok (refuse (kinds.SourceUrl 0))
+unfolding serde_json_on_literals url_on_literals resolve reading shape_of number_below source_url entries_from listed_flat digit_of segment_of token_of decoded distinct is_utf8 chars
+source_no_url = refl
+
+source_before_segment : recorded usual (codes "{\"version\":3,\"sources\":[\"a.js\",\"http://\"],\"mappings\":\"!\"}") ≡ Ok (refuse (kinds.SourceUrl 1))
+unfolding serde_json_on_literals url_on_literals resolve reading shape_of number_below source_url entries_from listed_flat digit_of segment_of token_of decoded distinct is_utf8 chars
+source_before_segment = refl
+
+source_index : recorded usual (codes "{\"version\":3,\"sources\":[\"a.js\"],\"mappings\":\"AAAA,CCAA\"}") ≡ Ok (at 0 1 kinds.Source)
+unfolding serde_json_on_literals url_on_literals resolve reading shape_of number_below source_url entries_from listed_flat digit_of segment_of token_of decoded distinct is_utf8 chars
+source_index = refl
+
+name_index : recorded usual (codes "{\"version\":3,\"sources\":[\"a.js\"],\"mappings\":\"AAAAA\"}") ≡ Ok (at 0 0 kinds.Name)
+unfolding serde_json_on_literals url_on_literals resolve reading shape_of number_below source_url entries_from listed_flat digit_of segment_of token_of decoded distinct is_utf8 chars
+name_index = refl
+
+three_names : recorded few (codes "{\"version\":3,\"names\":[\"m\",\"n\",\"o\"],\"mappings\":\"\"}") ≡ Ok (refuse kinds.TooMany)
+unfolding serde_json_on_literals url_on_literals resolve reading shape_of number_below source_url entries_from listed_flat digit_of segment_of token_of decoded distinct is_utf8 chars
+three_names = refl
+
+fourth_line : recorded few (codes "{\"version\":3,\"mappings\":\";;;A\"}") ≡ Ok (Ok (record { file = None; sources = []; mappings = record { line = 3; column = 0; origin = None } ∷ [] }))
+unfolding serde_json_on_literals url_on_literals resolve reading shape_of number_below source_url entries_from listed_flat digit_of segment_of token_of decoded distinct is_utf8 chars
+fourth_line = refl
+
+fifth_line : recorded few (codes "{\"version\":3,\"mappings\":\";;;;A\"}") ≡ Ok (at 4 0 kinds.GeneratedLine)
+unfolding serde_json_on_literals url_on_literals resolve reading shape_of number_below source_url entries_from listed_flat digit_of segment_of token_of decoded distinct is_utf8 chars
+fifth_line = refl

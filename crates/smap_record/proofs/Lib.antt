@@ -1,0 +1,14 @@
+pub mod DistinctLemmas
+pub mod ListLemmas
+pub mod TextLemmas
+pub mod EqualLemmas
+pub mod SourceLemmas
+pub mod FewerLemmas
+pub mod NumberedLemmas
+pub mod EntryLemmas
+pub mod FlagLemmas
+pub mod OnceLemmas
+pub mod FitLemmas
+pub mod FlatLemmas
+mod Examples
+pub mod StabilityLemmas

@@ -1,0 +1,75 @@
+-- Faults of the layers below, as faults of a map.
+use Rattle.std.specs.Prelude.{ℕ, Bool, true, false, Option, Some, None, Result, Ok, Err}
+use Rattle.smap_mappings.specs.declared.error.SegmentPlace.{SegmentPlace}
+use Rattle.smap_mappings.specs.declared.error.SegmentKind.{SegmentKind}
+use Rattle.smap_mappings.specs.declared.error.SegmentKind.TheVariants as segment
+use Rattle.smap_shape.specs.declared.fault.ShapeFault.{ShapeFault}
+use Rattle.smap_shape.specs.declared.fault.ShapeFault.TheVariants as shape
+use Rattle.smap_record.specs.declared.fault.Kind.{Kind}
+use Rattle.smap_record.specs.declared.fault.Kind.TheVariants as kinds
+use Rattle.smap_record.specs.declared.fault.Fault.{Fault}
+
+abbrev pub kind_of_shape : ShapeFault → Kind
+kind_of_shape shape.NotObject = kinds.NotObject
+kind_of_shape shape.Version = kinds.Version
+kind_of_shape shape.File = kinds.File
+kind_of_shape shape.Both = kinds.Both
+kind_of_shape shape.SourceRoot = kinds.SourceRoot
+kind_of_shape shape.Sources = kinds.Sources
+kind_of_shape shape.SourcesContent = kinds.SourcesContent
+kind_of_shape shape.Names = kinds.Names
+kind_of_shape shape.IgnoreList = kinds.IgnoreList
+kind_of_shape shape.Mappings = kinds.Mappings
+kind_of_shape shape.Sections = kinds.Sections
+kind_of_shape shape.Offset = kinds.Offset
+kind_of_shape shape.SectionMap = kinds.SectionMap
+kind_of_shape shape.Nested = kinds.Nested
+
+abbrev pub kind_of_segment : SegmentKind → Kind
+kind_of_segment segment.Empty = kinds.Empty
+kind_of_segment (segment.Number which fault) = kinds.Number which fault
+kind_of_segment (segment.Count n) = kinds.Count n
+kind_of_segment segment.GeneratedLine = kinds.GeneratedLine
+kind_of_segment segment.Column = kinds.Column
+kind_of_segment segment.Source = kinds.Source
+kind_of_segment segment.OriginalLine = kinds.OriginalLine
+kind_of_segment segment.OriginalColumn = kinds.OriginalColumn
+kind_of_segment segment.Name = kinds.Name
+
+-- a value, or the first fault of the map
+abbrev pub Checked : Type 0 → Type 0
+Checked A = Result A Fault
+
+infixl 10 ◌>>=◌
+abbrev pub ◌>>=◌ : {A B : Type 0} → Checked A → (A → Checked B) → Checked B
+(Ok x) >>= f = f x
+(Err e) >>= f = Err e
+
+-- a fault with no section and no place
+abbrev pub plain : Kind → Fault
+plain kind = record { section = None; place = None; kind = kind }
+
+abbrev pub refuse : {A : Type 0} → Kind → Checked A
+refuse kind = Err (plain kind)
+
+-- this fault where the condition holds
+abbrev pub unless : Kind → Bool → Checked (Unit {0})
+unless kind true = refuse kind
+unless kind false = Ok tt
+
+abbrev pub or_fault : {A : Type 0} → Kind → Option A → Checked A
+or_fault kind None = refuse kind
+or_fault kind (Some x) = Ok x
+
+abbrev pub of_shape : {A : Type 0} → Result A ShapeFault → Checked A
+of_shape (Ok x) = Ok x
+of_shape (Err e) = refuse (kind_of_shape e)
+
+abbrev pub of_segments : {A : Type 0} → Result A (SegmentPlace × SegmentKind) → Checked A
+of_segments (Ok x) = Ok x
+of_segments (Err e) = Err (record { section = None; place = Some e.0; kind = kind_of_segment e.1 })
+
+-- the fault is one of the section with this number
+abbrev pub in_section : {A : Type 0} → ℕ → Checked A → Checked A
+in_section k (Ok x) = Ok x
+in_section k (Err e) = Err (record e { section = Some k })

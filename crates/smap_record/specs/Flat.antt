@@ -1,0 +1,84 @@
+-- What a flat map lists, or its first fault.
+use Rattle.std.specs.Prelude.{ℕ, ◌+◌, nat_lt, Bool, ◌||◌, List, [], ◌∷◌, ◌++◌, length, map, Option, Some, None, option_map, Ok}
+use Rattle.url.specs.Parts.{Parts}
+use Rattle.smap_mappings.specs.declared.token.Token.{Token}
+use Rattle.smap_mappings.specs.declared.token.Original.{Original}
+use Rattle.smap_mappings.specs.declared.token.Bounds.{Bounds}
+use Rattle.smap_mappings.specs.Position.{Position}
+use Rattle.smap_mappings.specs.Decoded.{decoded}
+use Rattle.smap_shape.specs.Members.{Flat, is_listed}
+use Rattle.smap_record.specs.declared.fault.Kind.TheVariants.{TooMany, SourceUrl, UnstableUrl}
+use Rattle.smap_record.specs.Record.{Entry, Listing, Allowed}
+use Rattle.smap_record.specs.Source.{Resolved, no_url, unstable, resolved, resolve}
+use Rattle.smap_record.specs.Faults.{Checked, ◌>>=◌, unless, refuse, of_segments}
+
+-- ---- its sources
+
+-- the URL that source number i leads to, or its fault
+abbrev pub source_at : ℕ → Resolved → Checked (List ℕ)
+source_at i no_url = refuse (SourceUrl i)
+source_at i unstable = refuse (UnstableUrl i)
+source_at i (resolved text) = Ok text
+
+-- The URL of source number i. A null source has none.
+unfoldable pub source_url : Parts → Option (List ℕ) → ℕ → Option (List ℕ) → Checked (Option (List ℕ))
+source_url base root i None = Ok None
+source_url base root i (Some source) = do
+  text ← source_at i (resolve base root source)
+  Ok (Some text)
+
+-- Source number i with its content, and whether it is ignored.
+abbrev pub source_entry : Parts → Option (List ℕ) → ℕ → Option (List ℕ) → Option (List ℕ) → Bool → Checked Entry
+source_entry base root i source content ignored = do
+  url ← source_url base root i source
+  Ok (record { url = url; content = content; ignored = ignored })
+
+-- Sources with their contents, of which there is one for each source, in turn from number i on; or the first fault of one of them.
+unfoldable pub entries_from : Parts → Option (List ℕ) → List ℕ → ℕ → List (Option (List ℕ)) → List (Option (List ℕ)) → Checked (List Entry)
+entries_from base root ignored i (source ∷ sources) (content ∷ contents) = do
+  entry ← source_entry base root i source content (is_listed i ignored)
+  entries ← entries_from base root ignored (i + 1) sources contents
+  Ok (entry ∷ entries)
+entries_from base root ignored i sources contents = Ok []
+
+-- ---- its mappings
+
+-- What its mappings text is read under: where it starts, and what its indices and lines stay below.
+abbrev pub bounds_of : Allowed → Position → Flat → Bounds
+bounds_of limits offset m = record {
+  start_line = offset.line;
+  start_column = offset.column;
+  sources = length m.sources;
+  names = length m.names;
+  lines = limits.lines;
+}
+
+abbrev pub shifted_original : ℕ → ℕ → Original → Original
+shifted_original sources names o = record o { source = sources + o.source; name = option_map (λ n. names + n) o.name }
+
+-- The token, with indices into lists that begin with so many sources and names of earlier sections.
+abbrev pub shifted : ℕ → ℕ → Token → Token
+shifted sources names t = record t { original = option_map (shifted_original sources names) t.original }
+
+-- ---- the whole
+
+-- what is listed before the first section
+abbrev pub nothing : Listing
+nothing = record { sources = []; names = []; tokens = [] }
+
+-- With those listed before, its sources or its names are more than may be listed.
+abbrev pub is_too_many : Allowed → Listing → Flat → Bool
+is_too_many limits before m = nat_lt limits.items (length before.sources + length m.sources) || nat_lt limits.items (length before.names + length m.names)
+
+-- What is listed with a flat map that starts at an offset, behind what is listed before it.
+-- A map alone starts at (0, 0) behind nothing; for a section, Order and Overlap see to it that its tokens come after all before them.
+unfoldable pub listed_flat : Parts → Allowed → Position → Listing → Flat → Checked Listing
+listed_flat base limits offset before m = do
+  _ ← unless TooMany (is_too_many limits before m)
+  entries ← entries_from base m.root m.ignored 0 m.sources m.contents
+  tokens ← of_segments (decoded (bounds_of limits offset m) m.mappings)
+  Ok (record {
+    sources = before.sources ++ entries;
+    names = before.names ++ m.names;
+    tokens = before.tokens ++ map (shifted (length before.sources) (length before.names)) tokens;
+  })

@@ -1,0 +1,16 @@
+pub mod Record
+pub mod Source
+pub mod Faults
+pub mod Flat
+pub mod Sections
+pub mod Reading
+pub mod Fitting
+pub mod Listed
+pub mod Answers
+pub mod Views
+pub mod Resolving
+pub mod Entries
+pub mod Numbered
+pub mod SourcesView
+pub mod MapView
+pub mod Steps

@@ -1,0 +1,18 @@
+-- What the fields of a source map stand for.
+use Rattle.std.specs.Prelude.{map, option_map, string_bytes}
+use Rattle.smap_record.specs.declared.map.SourceMap.TheInside.{Inside}
+use Rattle.smap_record.specs.Record.{Listing, MapText}
+use Rattle.smap_record.specs.Listed.{IsListing}
+
+abbrev pub listing_of : Inside → Listing
+listing_of s = record {
+  sources = s.sources;
+  names = map string_bytes s.names.items;
+  tokens = s.tokens.items;
+}
+
+abbrev pub map_view : Inside → MapText
+map_view s = record { file = option_map string_bytes s.file; listing = listing_of s }
+
+abbrev pub IsSourceMap : Inside → Type 0
+IsSourceMap s = IsListing (listing_of s)

@@ -1,0 +1,86 @@
+-- What a source map says, apart from how it is spelled.
+pub use Rattle.url.specs.Parts.{Parts}
+use Rattle.std.specs.Prelude.{ℕ, Bool, false, not, ◌&&◌, List, [], ◌∷◌, map, filter, bytes_eq, slice_get, Option, None, unwrap_or, option_map, option_and_then}
+use Rattle.std.specs.Option.{option_eq}
+use Rattle.std.proofs.Math.Bool.{beq}
+use Rattle.smap_mappings.specs.declared.token.Token.{Token}
+use Rattle.smap_mappings.specs.declared.token.Original.{Original}
+
+-- A source: the text of its URL, its content, and whether it is ignored (ECMA-426, decoded source record).
+pub record Entry : Type 0 where
+  pub url : Option (List ℕ)
+  pub content : Option (List ℕ)
+  pub ignored : Bool
+
+-- Where a generated position comes from.
+pub record Origin : Type 0 where
+  pub source : Entry
+  pub line : ℕ
+  pub column : ℕ
+  pub name : Option (List ℕ)
+
+-- A generated position, and where it comes from if that is told (ECMA-426, decoded mapping record).
+pub record Mapping : Type 0 where
+  pub line : ℕ
+  pub column : ℕ
+  pub origin : Option Origin
+
+-- The file, the distinct sources in order of first listing, and the mappings in order (ECMA-426, decoded source map record).
+pub record Record : Type 0 where
+  pub file : Option (List ℕ)
+  pub sources : List Entry
+  pub mappings : List Mapping
+
+-- Sources and names as listed, and mappings by indices into these.
+pub record Listing : Type 0 where
+  pub sources : List Entry
+  pub names : List (List ℕ)
+  pub tokens : List Token
+
+-- A map as it was read: its file and its listing.
+pub record MapText : Type 0 where
+  pub file : Option (List ℕ)
+  pub listing : Listing
+
+-- How many sources and how many names may be listed, and how many generated lines there may be.
+pub record Allowed : Type 0 where
+  pub items : ℕ
+  pub lines : ℕ
+
+-- ---- the record of a listing
+
+abbrev pub same_text : Option (List ℕ) → Option (List ℕ) → Bool
+same_text = option_eq bytes_eq
+
+-- Sources are one where their URLs, their contents and their ignored flags are equal.
+abbrev pub same_entry : Entry → Entry → Bool
+same_entry a b = same_text a.url b.url && (same_text a.content b.content && beq a.ignored b.ignored)
+
+-- Each element once, in order of its first place.
+unfoldable pub distinct : {A : Type 0} → (A → A → Bool) → List A → List A
+distinct same [] = []
+distinct same (x ∷ xs) = x ∷ filter (λ y. not (same x y)) (distinct same xs)
+
+-- what stands for a source where there is none
+abbrev pub no_entry : Entry
+no_entry = record { url = None; content = None; ignored = false }
+
+abbrev pub origin_of : Listing → Original → Origin
+origin_of l o = record {
+  source = unwrap_or (slice_get l.sources o.source) no_entry;
+  line = o.line;
+  column = o.column;
+  name = option_and_then (slice_get l.names) o.name;
+}
+
+-- The mapping that a token says: its source and its name in place of their indices.
+abbrev pub mapping_of : Listing → Token → Mapping
+mapping_of l t = record { line = t.line; column = t.column; origin = option_map (origin_of l) t.original }
+
+-- The record of a map text.
+abbrev pub record_of : MapText → Record
+record_of m = record {
+  file = m.file;
+  sources = distinct same_entry m.listing.sources;
+  mappings = map (mapping_of m.listing) m.listing.tokens;
+}

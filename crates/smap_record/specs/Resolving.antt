@@ -1,0 +1,11 @@
+-- For private clauses: how resolving answers.
+use Rattle.std.specs.Prelude.{◌≡◌, String, string_bytes, Result, Ok, Err}
+use Rattle.smap_record.specs.declared.source.SourceFault.{SourceFault}
+use Rattle.smap_record.specs.declared.source.SourceFault.TheVariants.{NoUrl, Unstable, Memory}
+use Rattle.smap_record.specs.Source.{Resolved, no_url, unstable, resolved}
+
+abbrev pub GivesSource : {Z : Type 0} → Result (String Z) SourceFault → Resolved → Type 0
+GivesSource (Ok text) expected = expected ≡ resolved (string_bytes text)
+GivesSource (Err NoUrl) expected = expected ≡ no_url
+GivesSource (Err Unstable) expected = expected ≡ unstable
+GivesSource (Err Memory) expected = Unit {0}

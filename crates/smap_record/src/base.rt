@@ -1,0 +1,55 @@
+//! The base URL of a map, which its sources are resolved against. A base is parsed once and serves any number of maps.
+ghost use Rattle.std.specs.Prelude.{◌≡◌, None, Some};
+ghost use Rattle.url.specs.Parser.{parse_url, Gives};
+ghost use Rattle.url.specs.Parts.{serialize};
+ghost use Rattle.smap_record.specs.Answers.{GivesBase};
+
+use crate::fault::BaseFault;
+use std::alloc::Global;
+use std::marker::Model;
+use url::{ParseError, ParseResult, Url};
+
+/// The URL against which sources are resolved: mostly that of the map itself.
+#[derive(Drop)]
+pub struct Base {
+    url: Url,
+}
+
+impl Model for Base {
+    ghost use Rattle.url.specs.Parts.{Parts, parts_code};
+
+    ghost Value = { Parts };
+
+    ghost coded = { parts_code };
+
+    ghost view = { λ b. b.url };
+}
+
+impl Base {
+    /// The base that the text is, parsed by the URL Standard without a base of its own. A base with an opaque path,
+    /// as `mailto:x`, is one too; only absolute sources have URLs against it.
+    pub fn new(alloc: Global, text: &str) -> Result<Base, BaseFault>
+        ensures { GivesBase (λ b. b) result (parse_url None text.now) }
+    {
+        match Url::parse(alloc, text) {
+            Ok(url) => Ok(Base { url }),
+            Err(ParseError::OutOfMemory) => Err(BaseFault::Memory),
+            Err(ParseError::Overflow) => Err(BaseFault::Memory),
+            Err(_) => Err(BaseFault::NotUrl),
+        }
+    }
+
+    /// The URL that a text leads to from here.
+    pub(crate) fn join(&self, text: &str) -> ParseResult<Url>
+        ensures { Gives result (parse_url (Some self.now) text.now) }
+    {
+        self.url.join(text)
+    }
+
+    /// The text of the base's URL, as the URL Standard serializes it.
+    pub fn text(&self) -> &str
+        ensures { result.now ≡ serialize self.now }
+    {
+        self.url.as_str()
+    }
+}

@@ -1,0 +1,69 @@
+//! How much a map may list, and how many generated lines it may have. A map that lists more is refused before any source is
+//! resolved or any name copied.
+ghost use Rattle.std.specs.Prelude.{◌≡◌, ◌≤◌, ◌↔◌, IsSome, IfSome};
+
+use std::marker::Model;
+
+const MOST_ITEMS: u32 = 2_147_483_647;
+
+const MOST_LINES: u32 = 16_777_216;
+
+/// How many sources may be listed, and as many names (`items`), and how many generated lines there may be (`lines`). What is
+/// read under limits stays within them: the record fits them.
+#[derive(Clone, Copy)]
+pub struct Limits {
+    items: u32,
+    lines: u32,
+}
+
+impl Model for Limits {
+    ghost use Rattle.std.specs.Prelude.{◌≤◌};
+    ghost use Rattle.smap_record.specs.Record.{Allowed};
+
+    ghost Value = { Allowed };
+
+    ghost view = { λ s. record { items = s.items; lines = s.lines } };
+
+    ghost invariant = { λ s. (s.items ≤ 2147483647) × (s.lines ≤ 16777216) };
+
+    ghost inverse = { λ a. record { items = a.items; lines = a.lines } };
+}
+
+impl Limits {
+    /// These limits; none where `items` is above 2,147,483,647 or `lines` above 16,777,216.
+    pub fn new(items: u32, lines: u32) -> Option<Limits>
+        ensures valid { IsSome result ↔ ((items ≤ 2147483647) × (lines ≤ 16777216)) }
+        ensures value { IfSome result (λ l. (l.items ≡ items) × (l.lines ≡ lines)) }
+    {
+        if items <= MOST_ITEMS && lines <= MOST_LINES {
+            Some(Limits { items, lines })
+        } else {
+            None
+        }
+    }
+
+    /// 16,777,216 for both.
+    pub fn usual() -> Limits
+        ensures items { result.items ≡ 16777216 }
+        ensures lines { result.lines ≡ 16777216 }
+    {
+        Limits {
+            items: MOST_LINES,
+            lines: MOST_LINES,
+        }
+    }
+
+    pub(crate) fn items(self) -> u32
+        ensures value { result ≡ self.items }
+        ensures most { result ≤ 2147483647 }
+    {
+        self.items
+    }
+
+    pub(crate) fn lines(self) -> u32
+        ensures value { result ≡ self.lines }
+        ensures most { result ≤ 16777216 }
+    {
+        self.lines
+    }
+}

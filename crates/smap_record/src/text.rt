@@ -1,0 +1,47 @@
+//! From bytes to a JSON tree: the line to leave out, and the text behind it.
+ghost use Rattle.std.specs.Prelude.{◌≡◌, ◌<◌, ◌==◌, position, length, IfSome};
+ghost use Rattle.serde_json.specs.View.{view};
+ghost use Rattle.smap_record.specs.declared.fault.Kind.TheVariants.{Prefix, Json};
+ghost use Rattle.smap_record.specs.Faults.{or_fault};
+ghost use Rattle.smap_record.specs.Reading.{json_text, tree_of};
+ghost use Rattle.smap_record.specs.Answers.{Gives};
+
+use crate::fault::{Kind, ReadError, refused};
+use serde_json::Value;
+use std::alloc::Global;
+
+fn line_feed(bytes: &[u8]) -> Option<usize>
+    ensures place { result ≡ position (λ b. b == 10) bytes.now }
+    ensures within { IfSome result (λ i. i < length bytes.now) }
+{
+    bytes.iter().position(|b| *b == 10)
+}
+
+/// What follows the line to leave out, where the bytes begin with its mark.
+pub(crate) fn after_prefix(bytes: &[u8]) -> Result<&[u8], ReadError>
+    ensures { Gives (λ t. t.now) result (or_fault Prefix (json_text bytes.now)) }
+{
+    if !bytes.starts_with(b")]}'") {
+        return Ok(bytes);
+    }
+    match line_feed(bytes) {
+        Some(i) => Ok(&bytes[i + 1..]),
+        None => Err(refused(Kind::Prefix)),
+    }
+}
+
+/// The tree of a JSON text.
+pub(crate) fn tree(alloc: Global, text: &[u8]) -> Result<Value, ReadError>
+    ensures { Gives view result (or_fault Json (tree_of text.now)) }
+{
+    match Value::from_slice(alloc, text) {
+        Ok(value) => Ok(value),
+        Err(error) => {
+            if error.is_memory() {
+                Err(ReadError::Memory)
+            } else {
+                Err(refused(Kind::Json))
+            }
+        }
+    }
+}
