@@ -1,5 +1,5 @@
 -- Which task the words of a command line name.
-use Rattle.std.specs.Prelude.{◌≡◌, ◌≢◌, List, Some, codes}
+use Rattle.std.specs.Prelude.{◌≡◌, ◌≢◌, ◌⊎◌, List, Some, IsSome, codes}
 use Rattle.clap.specs.Words.{IsAmong, Kinds, Row, Text, first_of, kind_of}
 use Rattle.clap.specs.declared.error.kind.ErrorKind.{ErrorKind}
 use Rattle.clap.specs.declared.error.kind.ErrorKind.TheVariants.{OutOfMemory}
@@ -17,6 +17,10 @@ abbrev pub IsTaskOf : Text × List Row → Task → Type 0
 IsTaskOf m Respell = m.0 ≡ codes "respell"
 IsTaskOf m (Check base) = (m.0 ≡ codes "check") × HasText m.1 (codes "BASE") base.now
 IsTaskOf m (Tidy base) = (m.0 ≡ codes "tidy") × HasText m.1 (codes "BASE") base.now
+
+-- A command that there is, with the values that it needs.
+abbrev pub IsCommand : Text × List Row → Type 0
+IsCommand m = (m.0 ≡ codes "respell") ⊎ (((m.0 ≡ codes "check") ⊎ (m.0 ≡ codes "tidy")) × IsSome (first_of (codes "BASE") m.1))
 
 -- the refusal of a parse whose error has this kind
 abbrev pub IsRefusalOf : ErrorKind → WordsFault → Type 0

@@ -1,10 +1,10 @@
 //! The command line as a task. What `clap` takes and refuses is what its own definitions say of the
 //! command that is built here.
-ghost use Rattle.std.specs.Prelude.{◌≡◌, IfErr, IfOk, IfSome, IsSomeAnd, OnOk, [], map, option_map, true, false};
+ghost use Rattle.std.specs.Prelude.{◌≡◌, IfErr, IfOk, IfSome, IsSome, IsSomeAnd, OnOk, [], map, option_map, true, false};
 ghost use Rattle.clap.specs.Words.{app_of, fault_of, first_of, found_of, kind_of, rows_of, shape_of, subcommand_of, subcommand_rows_of, takes, with_subcommand};
 ghost use Rattle.clap.specs.declared.builder.command.Command.TheViews.{out-Command as fields_of};
 ghost use Rattle.smap_tool.specs.CommandLine as line;
-ghost use Rattle.smap_tool.specs.Words.{IsRefusalBy, IsRefusalOf, IsTaskOf};
+ghost use Rattle.smap_tool.specs.Words.{IsCommand, IsRefusalBy, IsRefusalOf, IsTaskOf};
 ghost use Rattle.smap_tool.specs.declared.words.WordsFault.TheVariants as fault;
 
 use clap::error::ErrorKind;
@@ -94,7 +94,8 @@ fn text_in<'a>(matches: &ArgMatches<'a>, id: &str) -> Option<&'a str>
 
 /// The task of a command, by its name and what was matched for it.
 fn task_named<'a>(name: &str, inner: &ArgMatches<'a>) -> Option<Task<'a>>
-    ensures { IfSome result (IsTaskOf (name.now, rows_of (found_of inner.now))) }
+    ensures task { IfSome result (IsTaskOf (name.now, rows_of (found_of inner.now))) }
+    ensures found { IsCommand (name.now, rows_of (found_of inner.now)) → IsSome result }
 {
     match name {
         "respell" => Some(Task::Respell),
@@ -109,7 +110,8 @@ fn task_named<'a>(name: &str, inner: &ArgMatches<'a>) -> Option<Task<'a>>
 }
 
 fn task_in<'a>(matches: &ArgMatches<'a>) -> Option<Task<'a>>
-    ensures { IfSome result (λ t. IsSomeAnd (subcommand_rows_of matches.now) (λ m. IsTaskOf m t)) }
+    ensures task { IfSome result (λ t. IsSomeAnd (subcommand_rows_of matches.now) (λ m. IsTaskOf m t)) }
+    ensures found { IsSomeAnd (subcommand_rows_of matches.now) IsCommand → IsSome result }
 {
     let (name, inner) = matches.subcommand()?;
     task_named(name, inner)
@@ -137,9 +139,11 @@ pub fn task_of<'a>(alloc: Global, words: &'a [&'a str]) -> Result<Task<'a>, Word
         return Err(WordsFault::Memory);
     };
     match command.try_get_matches_from(words) {
-        // What `clap` matched names a command and has its values, so nothing is missing here; that is
-        // tried by tests alone.
-        Ok(matches) => task_in(&matches).ok_or(WordsFault::Memory),
+        Ok(matches) => match task_in(&matches) {
+            Some(task) => Ok(task),
+            // What `clap` matched is a command with its values.
+            None => unreachable!(),
+        },
         Err(error) => Err(refusal(error)),
     }
 }
