@@ -4,19 +4,17 @@
 #![tactic(auto)]
 
 use smap_io::Device;
-use smap_tool::{
-    Outcome, RunFault, Task, WordsFault, run_check, run_respell, run_tidy, status, task_of,
-};
+use smap_tool::{RunFault, WordsFault, run, status, task_of};
 use std::alloc::{AllocError, Global};
 use std::env;
-use std::io::{self, ErrorKind, Read, Write};
+use std::io::{self, ErrorKind};
 use std::process::ExitCode;
 use std::rt::Env;
 
 const OUT_OF_MEMORY: &str = "smap: out of memory\n";
 
-/// The line on standard error for a run that gave up.
-fn fault_line(fault: RunFault) -> &'static str {
+/// What standard error says of a run that gave up.
+fn message(fault: RunFault) -> &'static str {
     match fault {
         RunFault::TooLong => "smap: input too long\n",
         RunFault::Read => "smap: read failed\n",
@@ -38,25 +36,6 @@ fn texts(alloc: Global, words: &[String]) -> Result<Vec<&str>, AllocError> {
     Ok(texts)
 }
 
-fn run<R: Read, W: Write>(
-    alloc: Global,
-    task: Task<'_>,
-    reader: R,
-    writer: W,
-) -> Result<Outcome, RunFault>
-where
-    R: Drop,
-    W: Drop,
-{
-    let mut reader = Device::new(reader);
-    let mut writer = Device::new(writer);
-    match task {
-        Task::Respell => run_respell(alloc, &mut reader, &mut writer),
-        Task::Check { base } => run_check(alloc, base, &mut reader, &mut writer),
-        Task::Tidy { base } => run_tidy(alloc, base, &mut reader, &mut writer),
-    }
-}
-
 fn main(rt: HostRuntime) -> ExitCode {
     let words = match arguments(&rt) {
         Ok(words) => words,
@@ -75,9 +54,11 @@ fn main(rt: HostRuntime) -> ExitCode {
     };
     match task_of(rt.alloc(), words.as_slice()) {
         Ok(task) => {
-            let answer = run(rt.alloc(), task, rt.reader(), io::writer(&rt));
+            let mut reader = Device::new(rt.reader());
+            let mut writer = Device::new(io::writer(&rt));
+            let answer = run(rt.alloc(), task, &mut reader, &mut writer);
             if let Err(fault) = answer {
-                let _ = eprint!(rt; "{}", fault_line(fault));
+                let _ = eprint!(rt; "{}", message(fault));
             }
             ExitCode::from(status(&answer))
         }

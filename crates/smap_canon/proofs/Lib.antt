@@ -8,7 +8,9 @@ pub mod LawLemmas
 pub mod TreeLemmas
 pub mod PushedLemmas
 pub mod NumberingLemmas
+pub mod StepLemmas
 pub mod ListedLemmas
+pub mod LengthLemmas
 pub mod SourceLemmas
 pub mod AsciiLemmas
 pub mod SamenessLemmas

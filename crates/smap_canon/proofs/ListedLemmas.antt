@@ -1,27 +1,20 @@
 -- The record of a listing can be written.
 use Rattle.std.proofs.Common.{◌≡◌, ℕ, ◌<◌, ◌≤◌, List, [], ◌∷◌, length, map, Option, Some, None, ap, ◌∙◌, sym, subst, true, arith, slice_get, refl}
-use Rattle.std.specs.Prelude.{IfSome, option_map, option_and_then, bytes_eq, unwrap_or, option_copied}
+use Rattle.std.specs.Prelude.{IfSome, option_map, option_and_then, bytes_eq, unwrap_or}
 use Rattle.std.specs.List.{AllByRecursion, list_any, filter_map, cons_option}
-use Rattle.std.proofs.lemmas.List.{length-map}
 use Rattle.std.proofs.lemmas.Option.{slice_get-get_or}
-use denote.Ref.{Bor}
 use Rattle.smap_mappings.specs.declared.token.Token.{Token}
 use Rattle.smap_mappings.specs.declared.token.Original.{Original}
-use Rattle.smap_mappings.specs.Position.{POSITIONS, position_of, NeverFalls}
+use Rattle.smap_mappings.specs.Position.{position_of, NeverFalls}
 use Rattle.smap_mappings.specs.Text.{IsPlaced, IsOriginal}
-use Rattle.smap_record.specs.declared.view.TokenView.{TokenView}
-use Rattle.smap_record.specs.declared.view.OriginalView.{OriginalView}
-use Rattle.smap_record.specs.Record.{Mapping, Listing, MapText, record_of, mapping_of, origin_of, no_entry, distinct, same_entry}
+use Rattle.smap_record.specs.Record.{Listing, ReadMap, record_of, mapping_of, origin_of, no_entry, distinct, same_entry}
 use Rattle.smap_record.specs.Fitting.{mapping_position, names_used}
 use Rattle.smap_record.specs.Listed.{IsListing, IsListedToken, IsListedOriginal}
-use Rattle.smap_record.specs.Views.{origin_seen, mapping_seen}
 use Rattle.smap_record.proofs.EqualLemmas.{same_bytes, own_bytes, same_entries, own_entry}
 use Rattle.smap_record.proofs.FewerLemmas.{length-IsDistinct}
-use Rattle.smap_record.proofs.ListLemmas.{all_at}
 use Rattle.smap_record.proofs.OnceLemmas.{distinct-IsDistinct, length-distinct, all_distinct}
-use Rattle.smap_canon.specs.Numbering.{name_of, HasName, texts_of}
+use Rattle.smap_canon.specs.Numbering.{name_of, HasName}
 use Rattle.smap_canon.proofs.ListLemmas.{any-at, any-distinct}
-use Rattle.smap_canon.proofs.RecordLemmas.{used_names}
 use Rattle.smap_canon.proofs.WritableLemmas.{IsKnown, IsKnownOrigin, IsWritable}
 
 -- ---- names
@@ -74,7 +67,7 @@ same_positions : (l : Listing) (ts : List Token) → map mapping_position (map (
 same_positions l [] = refl
 same_positions l (t ∷ ts) = ap (λ ps. position_of t ∷ ps) (same_positions l ts)
 
-pub listing-writable : (m : MapText) → IsListing m.listing → IsWritable (record_of m)
+pub listing-writable : (m : ReadMap) → IsListing m.listing → IsWritable (record_of m)
 listing-writable m h = record {
   few_sources = omega (arith, h.sources, length-distinct same_entry m.listing.sources);
   few_names = omega (arith, h.names, few);
@@ -85,20 +78,3 @@ listing-writable m h = record {
     few : length (names_used (record_of m).mappings) ≤ length m.listing.names
     few = length-IsDistinct bytes_eq same_bytes (names_used (record_of m).mappings) m.listing.names (distinct-IsDistinct bytes_eq (filter_map name_of (record_of m).mappings))
         (all_distinct (λ n. list_any (bytes_eq n) m.listing.names ≡ true) bytes_eq (filter_map name_of (record_of m).mappings) (names_listed m.listing m.listing.tokens h.listed))
-
--- ---- what is known where a mapping is numbered
-
--- each mapping's name is among those that the mappings use
-pub name-known : (ms : List Mapping) (names : List (List ℕ)) (i : ℕ) (view : TokenView) (o : OriginalView) → names ≡ names_used ms → slice_get ms i ≡ Some (mapping_seen view) → view.original ≡ Some o
-    → IfSome o.name (λ n. list_any (bytes_eq n.now) names ≡ true)
-name-known ms names i view o all at is = by o.name (subst (λ v. IfSome (option_and_then (λ o. o.name) (option_map origin_seen v)) (λ n. list_any (bytes_eq n) names ≡ true)) is here)
-  where
-    here : HasName names (mapping_seen view)
-    here = subst (λ ns. HasName ns (mapping_seen view)) (sym all) (all_at (HasName (names_used ms)) ms i (mapping_seen view) (used_names ms) at)
-
-    by : (n : Option (Bor (List ℕ))) → IfSome (option_copied n) (λ n. list_any (bytes_eq n) names ≡ true) → IfSome n (λ n. list_any (bytes_eq n.now) names ≡ true)
-    by None h = tt
-    by (Some n) h = h
-
-pub few-keys : (m : MapText) (ks : List (Bor (List ℕ))) → IsListing m.listing → texts_of ks ≡ names_used (record_of m).mappings → length ks < POSITIONS
-few-keys m ks h all = omega (arith, (listing-writable m h).few_names, sym (length-map ks (λ k. k.now)) ∙ ap length all)

@@ -1,16 +1,25 @@
 -- Names that are numbered one by one.
-use Rattle.std.proofs.Common.{◌≡◌, ℕ, ◌+◌, List, [], ◌∷◌, ◌++◌, take, Some, None, ap, refl, ◌∙◌, sym, Bool, true, false, cond, not, ◌||◌, slice_get, append-nil, length, position}
-use Rattle.std.specs.Prelude.{bytes_eq, nat_lt}
+use Rattle.std.proofs.Common.{◌≡◌, ◌≢◌, ℕ, ◌+◌, ◌<◌, ◌≤◌, List, [], ◌∷◌, ◌++◌, take, drop, set, length, get_or, Option, Some, None, ap, refl, ◌∙◌, sym, subst, Bool, true, false, cond, not, eqb, ◌||◌, true≢false, slice_get, replicate, append-nil, append_assoc, length-append, add-zero, arith}
+use Rattle.std.specs.Prelude.{bytes_eq, option_map, option_and_then, IfSome}
 use Rattle.std.specs.List.{list_any, filter_map, cons_option, position_or_len}
+use Rattle.std.proofs.lemmas.Bool.{eqb-true, eq-eqb}
+use Rattle.std.proofs.lemmas.List.{take-append-drop, get_or-set_other, get_or-set_same, get_or-replicate, length-set, length-replicate}
 use Rattle.std.proofs.lemmas.List.Elements.{filter_map-append}
+use Rattle.std.proofs.lemmas.List.Sums.{prefix_len-le-length}
+use Rattle.std.proofs.lemmas.Option.{slice_get_within}
+use Rattle.std.proofs.lemmas.List.Folds.{list_any-append, position_or_len_push}
 use Rattle.indexmap.specs.IndexSet.{insert_key}
 use denote.Ref.{Bor}
-use Rattle.smap_record.specs.Record.{Mapping, distinct}
+use Rattle.smap_record.specs.Record.{Entry, Origin, Mapping, distinct, same_entry}
 use Rattle.smap_record.specs.Fitting.{names_used}
 use Rattle.smap_record.proofs.EqualLemmas.{same_bytes, own_bytes}
 use Rattle.smap_record.proofs.DistinctLemmas.{distinct-push}
-use Rattle.smap_canon.specs.Numbering.{texts_of, name_of}
 use Rattle.smap_record.proofs.ListLemmas.{take_next, map-push}
+use Rattle.smap_canon.specs.Canonical.{original_of, token_of}
+use Rattle.smap_canon.specs.Numbering.{texts_of, name_of, with_name, AreNumbers}
+use Rattle.smap_canon.specs.declared.numbering.TheConstants.{UNUSED}
+
+-- ---- texts behind references
 
 -- the comparison of two texts behind references
 abbrev pub same_key : Bor (List ℕ) → Bor (List ℕ) → Bool
@@ -20,28 +29,31 @@ any_key : (k : Bor (List ℕ)) (ks : List (Bor (List ℕ))) → list_any (same_k
 any_key k [] = refl
 any_key k (x ∷ xs) = ap (λ b. bytes_eq k.now x.now || b) (any_key k xs)
 
-texts-insert_key : (ks : List (Bor (List ℕ))) (k : Bor (List ℕ)) → texts_of (insert_key same_key ks k) ≡ insert_key bytes_eq (texts_of ks) k.now
+pub texts-insert_key : (ks : List (Bor (List ℕ))) (k : Bor (List ℕ)) → texts_of (insert_key same_key ks k) ≡ insert_key bytes_eq (texts_of ks) k.now
 texts-insert_key ks k = by (list_any (same_key k) ks) refl
   where
     by : (b : Bool) → list_any (same_key k) ks ≡ b → texts_of (cond b ks (ks ++ k ∷ [])) ≡ insert_key bytes_eq (texts_of ks) k.now
     by true e = ap (λ b. cond b (texts_of ks) (texts_of ks ++ k.now ∷ [])) (sym e ∙ any_key k ks)
     by false e = map-push (λ t. t.now) ks k ∙ ap (λ b. cond b (texts_of ks) (texts_of ks ++ k.now ∷ [])) (sym e ∙ any_key k ks)
 
+pub place-key : (k : Bor (List ℕ)) (ks : List (Bor (List ℕ))) → position_or_len (same_key k) ks ≡ position_or_len (bytes_eq k.now) (texts_of ks)
+place-key k [] = refl
+place-key k (x ∷ xs) = ap (λ n. cond (not (bytes_eq k.now x.now)) (1 + n) 0) (place-key k xs)
+
+-- ---- one name more
+
 used-next : (ms : List Mapping) (i : ℕ) (m : Mapping) → slice_get ms i ≡ Some m → filter_map name_of (take (i + 1) ms) ≡ filter_map name_of (take i ms) ++ cons_option (name_of m) []
 used-next ms i m at = ap (filter_map name_of) (take_next ms i m at) ∙ filter_map-append name_of (take i ms) (m ∷ [])
 
--- a name that a mapping uses is numbered, unless it has a number
-pub used-name : (ks : List (Bor (List ℕ))) (k : Bor (List ℕ)) (ms : List Mapping) (i : ℕ) (m : Mapping) → texts_of ks ≡ names_used (take i ms) → slice_get ms i ≡ Some m → Some k.now ≡ name_of m
-    → texts_of (insert_key same_key ks k) ≡ names_used (take (i + 1) ms)
-used-name ks k ms i m done at named =
-    texts-insert_key ks k ∙ ap (λ ns. insert_key bytes_eq ns k.now) done
-    ∙ sym (distinct-push bytes_eq same_bytes own_bytes (filter_map name_of (take i ms)) k.now)
-    ∙ ap (distinct bytes_eq) (ap (λ o. filter_map name_of (take i ms) ++ cons_option o []) named ∙ sym (used-next ms i m at))
-
--- a mapping without a name uses none
-pub used-none : (ks : List (Bor (List ℕ))) (ms : List Mapping) (i : ℕ) (m : Mapping) → texts_of ks ≡ names_used (take i ms) → slice_get ms i ≡ Some m → None ≡ name_of m
-    → texts_of ks ≡ names_used (take (i + 1) ms)
-used-none ks ms i m done at none = done ∙ ap (distinct bytes_eq) (sym (append-nil (filter_map name_of (take i ms))) ∙ ap (λ o. filter_map name_of (take i ms) ++ cons_option o []) none ∙ sym (used-next ms i m at))
+-- the names that the mappings so far use, and the next one's
+pub used-with_name : (ms : List Mapping) (i : ℕ) (m : Mapping) → slice_get ms i ≡ Some m → with_name (name_of m) (names_used (take i ms)) ≡ names_used (take (i + 1) ms)
+used-with_name ms i m at = by (name_of m) refl
+  where
+    by : (o : Option (List ℕ)) → name_of m ≡ o → with_name o (names_used (take i ms)) ≡ names_used (take (i + 1) ms)
+    by None e = ap (distinct bytes_eq) (sym (append-nil (filter_map name_of (take i ms))) ∙ ap (λ o. filter_map name_of (take i ms) ++ cons_option o []) (sym e) ∙ sym (used-next ms i m at))
+    by (Some n) e =
+        sym (distinct-push bytes_eq same_bytes own_bytes (filter_map name_of (take i ms)) n)
+        ∙ ap (distinct bytes_eq) (ap (λ o. filter_map name_of (take i ms) ++ cons_option o []) (sym e) ∙ sym (used-next ms i m at))
 
 pub used-start : (ks : List (Bor (List ℕ))) (ms : List Mapping) → ks ≡ [] → texts_of ks ≡ names_used (take 0 ms)
 unfolding distinct
@@ -51,21 +63,151 @@ used-start ks ms e = ap texts_of e ∙ sym (ap (λ xs. names_used xs) (take-zero
     take-zero [] = refl
     take-zero (x ∷ xs) = refl
 
--- ---- the number of a name
+-- ---- a place stays
 
-place-key : (k : Bor (List ℕ)) (ks : List (Bor (List ℕ))) → position_or_len (same_key k) ks ≡ position_or_len (bytes_eq k.now) (texts_of ks)
-place-key k [] = refl
-place-key k (x ∷ xs) = ap (λ n. cond (not (bytes_eq k.now x.now)) (1 + n) 0) (place-key k xs)
-
-position-place : {A : Type 0} (p : A → Bool) (xs : List A) (i : ℕ) → position p xs ≡ Some i → i ≡ position_or_len p xs
-position-place p xs i found = by (nat_lt (position_or_len p xs) (length xs)) found
+place-front : {A : Type 0} (p : A → Bool) (xs ys : List A) → list_any p xs ≡ true → position_or_len p (xs ++ ys) ≡ position_or_len p xs
+place-front p [] ys h = absurd (true≢false (sym h))
+place-front p (x ∷ xs) ys h = by (p x) (place-front p xs ys) h
   where
-    by : (b : Bool) → cond b (Some (position_or_len p xs)) None ≡ Some i → i ≡ position_or_len p xs
-    by true e = cc
-    by false e = cc
+    by : (b : Bool) → (list_any p xs ≡ true → position_or_len p (xs ++ ys) ≡ position_or_len p xs) → (b || list_any p xs) ≡ true
+        → cond (not b) (1 + position_or_len p (xs ++ ys)) 0 ≡ cond (not b) (1 + position_or_len p xs) 0
+    by true more h = refl
+    by false more h = ap (λ n. 1 + n) (more h)
 
-pub name-number : (k : Bor (List ℕ)) (ks : List (Bor (List ℕ))) (i : ℕ) → position (same_key k) ks ≡ Some i → i ≡ position_or_len (bytes_eq k.now) (texts_of ks)
-name-number k ks i found = position-place (same_key k) ks i found ∙ place-key k ks
+any-front : {A : Type 0} (p : A → Bool) (xs ys : List A) → list_any p xs ≡ true → list_any p (xs ++ ys) ≡ true
+any-front p xs ys h = list_any-append p xs ys ∙ ap (λ b. b || list_any p ys) h
 
-pub name-there : (k : Bor (List ℕ)) (ks : List (Bor (List ℕ))) → list_any (bytes_eq k.now) (texts_of ks) ≡ true → list_any (same_key k) ks ≡ true
-name-there k ks known = any_key k ks ∙ known
+-- a name that is used stays where it is when another comes
+kept-any : (used : List (List ℕ)) (n k : List ℕ) → list_any (bytes_eq n) used ≡ true → list_any (bytes_eq n) (insert_key bytes_eq used k) ≡ true
+kept-any used n k h = by (list_any (bytes_eq k) used)
+  where
+    by : (b : Bool) → list_any (bytes_eq n) (cond b used (used ++ k ∷ [])) ≡ true
+    by true = h
+    by false = any-front (bytes_eq n) used (k ∷ []) h
+
+kept-place : (used : List (List ℕ)) (n k : List ℕ) → list_any (bytes_eq n) used ≡ true → position_or_len (bytes_eq n) (insert_key bytes_eq used k) ≡ position_or_len (bytes_eq n) used
+kept-place used n k h = by (list_any (bytes_eq k) used)
+  where
+    by : (b : Bool) → position_or_len (bytes_eq n) (cond b used (used ++ k ∷ [])) ≡ position_or_len (bytes_eq n) used
+    by true = refl
+    by false = place-front (bytes_eq n) used (k ∷ []) h
+
+-- the name that comes is there
+own-any : (used : List (List ℕ)) (n : List ℕ) → list_any (bytes_eq n) (insert_key bytes_eq used n) ≡ true
+own-any used n = by (list_any (bytes_eq n) used) refl
+  where
+    by : (b : Bool) → list_any (bytes_eq n) used ≡ b → list_any (bytes_eq n) (cond b used (used ++ n ∷ [])) ≡ true
+    by true e = e
+    by false e = list_any-append (bytes_eq n) used (n ∷ []) ∙ ap (λ b. b || list_any (bytes_eq n) (n ∷ [])) e ∙ ap (λ b. b || false) (own_bytes n)
+
+-- its place is the one that it had, or else the end
+pub own-place : (used : List (List ℕ)) (n : List ℕ) → position_or_len (bytes_eq n) (insert_key bytes_eq used n) ≡ position_or_len (bytes_eq n) used
+own-place used n = by (list_any (bytes_eq n) used)
+  where
+    last : (b : Bool) → eqb (position_or_len (bytes_eq n) used) (length used) ≡ b → cond b (length used + cond (bytes_eq n n) 0 1) (position_or_len (bytes_eq n) used) ≡ position_or_len (bytes_eq n) used
+    last true e = ap (λ b. length used + cond b 0 1) (own_bytes n) ∙ add-zero (length used) ∙ sym (eqb-true _ _ e)
+    last false e = refl
+
+    by : (b : Bool) → position_or_len (bytes_eq n) (cond b used (used ++ n ∷ [])) ≡ position_or_len (bytes_eq n) used
+    by true = refl
+    by false = position_or_len_push (bytes_eq n) used n ∙ last (eqb (position_or_len (bytes_eq n) used) (length used)) refl
+
+pub place-within : {A : Type 0} (p : A → Bool) (xs : List A) → position_or_len p xs ≤ length xs
+place-within p xs = prefix_len-le-length (λ x. not (p x)) xs
+
+-- ---- the numbers of listed names
+
+-- one name more has a number
+pub numbers-set : (listed used : List (List ℕ)) (numbers : List ℕ) (i : ℕ) (n : List ℕ) → AreNumbers listed used numbers → slice_get listed i ≡ Some n
+    → AreNumbers listed (insert_key bytes_eq used n) (set numbers i (position_or_len (bytes_eq n) used))
+numbers-set listed used numbers i n h at = record { count = length-set numbers i _ ∙ h.count; each = λ k name found numbered. by k name found numbered (eqb k i) refl }
+  where
+    below : i < length numbers
+    below = subst (λ len. i < len) (sym h.count) (slice_get_within listed i n at)
+
+    by : (k : ℕ) (name : List ℕ) → slice_get listed k ≡ Some name → get_or (set numbers i (position_or_len (bytes_eq n) used)) k 0 ≢ UNUSED → (b : Bool) → eqb k i ≡ b
+        → (list_any (bytes_eq name) (insert_key bytes_eq used n) ≡ true) × (get_or (set numbers i (position_or_len (bytes_eq n) used)) k 0 ≡ position_or_len (bytes_eq name) (insert_key bytes_eq used n))
+    by k name found numbered true e =
+        let here : k ≡ i = eqb-true k i e in
+        let same : n ≡ name = some-same (sym at ∙ ap (slice_get listed) (sym here) ∙ found) in (
+          subst (λ x. list_any (bytes_eq x) (insert_key bytes_eq used n) ≡ true) same (own-any used n),
+          ap (λ j. get_or (set numbers i (position_or_len (bytes_eq n) used)) j 0) here ∙ get_or-set_same numbers i _ 0 below
+              ∙ sym (own-place used n) ∙ ap (λ x. position_or_len (bytes_eq x) (insert_key bytes_eq used n)) same,
+        )
+      where
+        some-same : {x y : List ℕ} → Some x ≡ Some y → x ≡ y
+        some-same p = cc
+    by k name found numbered false e =
+        let other : k ≢ i = λ same. absurd (true≢false (sym (eq-eqb k i same) ∙ e)) in
+        let stays = get_or-set_other numbers i k (position_or_len (bytes_eq n) used) 0 other in
+        let old = h.each k name found (subst (λ x. x ≢ UNUSED) stays numbered) in
+        (kept-any used name n old.0, stays ∙ old.1 ∙ sym (kept-place used name n old.0))
+
+-- a name that came has its number, and the others keep theirs
+pub numbers-put : (listed used new : List (List ℕ)) (numbers : List ℕ) (i number : ℕ) (n : List ℕ) → AreNumbers listed used numbers → slice_get listed i ≡ Some n
+    → new ≡ insert_key bytes_eq used n → number ≡ position_or_len (bytes_eq n) used → AreNumbers listed new (set numbers i number)
+numbers-put listed used new numbers i number n h at grown placed =
+    subst (λ ns. AreNumbers listed ns (set numbers i number)) (sym grown)
+    (subst (λ k. AreNumbers listed (insert_key bytes_eq used n) (set numbers i k)) (sym placed) (numbers-set listed used numbers i n h at))
+
+-- no name has a number at first
+pub numbers-none : (listed used : List (List ℕ)) (numbers : List ℕ) → numbers ≡ replicate (length listed) UNUSED → AreNumbers listed used numbers
+numbers-none listed used numbers none = record {
+  count = ap length none ∙ length-replicate (length listed) UNUSED;
+  each = λ i name found numbered. absurd (numbered (ap (λ ns. get_or ns i 0) none ∙ get_or-replicate (length listed) i UNUSED 0 (slice_get_within listed i name found)));
+}
+
+-- ---- names so far, and all names
+
+module _ {A : Type 0} (same : A → A → Bool) (equal : (x y : A) → same x y ≡ true → x ≡ y) (own : (x : A) → same x x ≡ true) where
+  -- the elements of the front stand in front
+  distinct-front : (xs ys : List A) → (zs : List A) × (distinct same (xs ++ ys) ≡ distinct same xs ++ zs)
+  distinct-front xs [] = ([], ap (distinct same) (append-nil xs) ∙ sym (append-nil (distinct same xs)))
+  distinct-front xs (y ∷ ys) = by (list_any (same y) (distinct same xs)) refl (distinct-front (xs ++ y ∷ []) ys)
+    where
+      by : (b : Bool) → list_any (same y) (distinct same xs) ≡ b → ((zs : List A) × (distinct same ((xs ++ y ∷ []) ++ ys) ≡ distinct same (xs ++ y ∷ []) ++ zs))
+          → (zs : List A) × (distinct same (xs ++ y ∷ ys) ≡ distinct same xs ++ zs)
+      by true e more = (
+        more.0,
+        ap (distinct same) (sym (append_assoc xs (y ∷ []) ys)) ∙ more.1
+            ∙ ap (λ ds. ds ++ more.0) (distinct-push same equal own xs y ∙ ap (λ b. cond b (distinct same xs) (distinct same xs ++ y ∷ [])) e),
+      )
+      by false e more = (
+        y ∷ more.0,
+        ap (distinct same) (sym (append_assoc xs (y ∷ []) ys)) ∙ more.1
+            ∙ ap (λ ds. ds ++ more.0) (distinct-push same equal own xs y ∙ ap (λ b. cond b (distinct same xs) (distinct same xs ++ y ∷ [])) e)
+            ∙ append_assoc (distinct same xs) (y ∷ []) more.0,
+      )
+
+used-front : (ms : List Mapping) (i : ℕ) → (zs : List (List ℕ)) × (names_used ms ≡ names_used (take i ms) ++ zs)
+used-front ms i =
+    let front = distinct-front bytes_eq same_bytes own_bytes (filter_map name_of (take i ms)) (filter_map name_of (drop i ms)) in
+    (front.0, ap (distinct bytes_eq) (ap (filter_map name_of) (sym (take-append-drop i ms)) ∙ filter_map-append name_of (take i ms) (drop i ms)) ∙ front.1)
+
+-- no more names are used so far than in all
+pub few-used : (ms : List Mapping) (i : ℕ) → length (names_used (take i ms)) ≤ length (names_used ms)
+few-used ms i = let front = used-front ms i in omega (arith, ap length front.1, length-append (names_used (take i ms)) front.0)
+
+-- a mapping's place among the names that were used with it is its place among all
+pub token-kept : (sources : List Entry) (ms : List Mapping) (i : ℕ) (m : Mapping) → slice_get ms i ≡ Some m → token_of sources (names_used (take (i + 1) ms)) m ≡ token_of sources (names_used ms) m
+token-kept sources ms i m at = (λ j. record { line = m.line; column = m.column; original = by m.origin named j })
+  where
+    here : (o : Option (List ℕ)) → IfSome o (λ n. list_any (bytes_eq n) (with_name o (names_used (take i ms))) ≡ true)
+    here None = tt
+    here (Some n) = own-any (names_used (take i ms)) n
+
+    named : IfSome (name_of m) (λ n. list_any (bytes_eq n) (names_used (take (i + 1) ms)) ≡ true)
+    named = subst (λ ns. IfSome (name_of m) (λ n. list_any (bytes_eq n) ns ≡ true)) (used-with_name ms i m at) (here (name_of m))
+
+    front : (zs : List (List ℕ)) × (names_used ms ≡ names_used (take (i + 1) ms) ++ zs)
+    front = used-front ms (i + 1)
+
+    place : (o : Option (List ℕ)) → IfSome o (λ n. list_any (bytes_eq n) (names_used (take (i + 1) ms)) ≡ true)
+        → option_map (λ n. position_or_len (bytes_eq n) (names_used (take (i + 1) ms))) o ≡ option_map (λ n. position_or_len (bytes_eq n) (names_used ms)) o
+    place None h = refl
+    place (Some n) h = ap Some (sym (ap (position_or_len (bytes_eq n)) front.1 ∙ place-front (bytes_eq n) (names_used (take (i + 1) ms)) front.0 h))
+
+    by : (o : Option Origin) → IfSome (option_and_then (λ o. o.name) o) (λ n. list_any (bytes_eq n) (names_used (take (i + 1) ms)) ≡ true)
+        → option_map (original_of sources (names_used (take (i + 1) ms))) o ≡ option_map (original_of sources (names_used ms)) o
+    by None h = refl
+    by (Some o) h = ap Some (λ j. record { source = position_or_len (same_entry o.source) sources; line = o.line; column = o.column; name = place o.name h j })

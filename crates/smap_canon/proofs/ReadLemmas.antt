@@ -1,6 +1,6 @@
 -- The bytes of a listing are read as that listing.
 use Rattle.std.proofs.Common.{◌≡◌, ℕ, ◌≤◌, ◌+◌, List, [], ◌∷◌, length, map, Option, Some, None, Ok, ap, refl, ◌∙◌, true, false, cond, arith}
-use Rattle.std.specs.Prelude.{IfSome, nat_lt, option_map}
+use Rattle.std.specs.Prelude.{nat_lt, option_map}
 use Rattle.std.specs.List.{AllByRecursion}
 use Rattle.std.specs.Str.{is_utf8}
 use Rattle.serde_json.specs.Data.{Data}
@@ -14,25 +14,24 @@ use Rattle.smap_mappings.specs.declared.token.Bounds.{Bounds}
 use Rattle.smap_mappings.specs.Text.{mappings_text}
 use Rattle.smap_mappings.specs.Decoded.{decoded}
 use Rattle.smap_shape.specs.Reading.{shape_of}
-use Rattle.smap_record.specs.Record.{Parts, Entry, Listing, MapText, Allowed}
-use Rattle.smap_record.specs.Fitting.{IsOwnUrl}
+use Rattle.smap_record.specs.Record.{Parts, Entry, Listing, ReadMap, Allowed}
 use Rattle.smap_record.specs.Faults.{◌>>=◌, of_shape, or_fault}
 use Rattle.smap_record.specs.declared.fault.Kind.TheVariants.{Json}
-use Rattle.smap_record.specs.Flat.{listed_flat, shifted, shifted_original, nothing}
+use Rattle.smap_record.specs.Flat.{listed_flat, shifted, shifted_original, start, nothing}
 use Rattle.smap_record.specs.Reading.{reading, map_of, tree_of}
 use Rattle.smap_canon.specs.Layout.{layout, layout_text, ReadsBack, ignored_from, has_content}
 use Rattle.smap_canon.proofs.LayoutLemmas.{flat_of_parts, shape_of-parts}
-use Rattle.smap_canon.proofs.EntryLemmas.{entries_same, ignored_below, contents_same}
+use Rattle.smap_canon.proofs.EntryLemmas.{LeadsBack, entries_same, ignored_below, contents_same}
 
 -- the bounds of a flat map that lists this
 abbrev pub flat_bounds : Allowed → Listing → Bounds
 flat_bounds limits l = record { start_line = 0; start_column = 0; sources = length l.sources; names = length l.names; lines = limits.lines }
 
--- a listing that is read again from its bytes
-pub record IsReadable (base : Parts) (limits : Allowed) (l : Listing) : Type 0 where
+-- a listing that is read again from its bytes, where its URLs are so spelled
+pub record IsReadable (base : Parts) (limits : Allowed) (spell : List ℕ → List ℕ) (l : Listing) : Type 0 where
   pub few_sources : length l.sources ≤ limits.items
   pub few_names : length l.names ≤ limits.items
-  pub urls : AllByRecursion (λ e. IfSome e.url (IsOwnUrl base)) l.sources
+  pub urls : AllByRecursion (LeadsBack base spell) l.sources
   pub decodes : decoded (flat_bounds limits l) (mappings_text l.tokens) ≡ Ok l.tokens
 
 shifted-zero : (t : Token) → shifted 0 0 t ≡ t
@@ -50,23 +49,23 @@ shifted-all : (ts : List Token) → map (shifted 0 0) ts ≡ ts
 shifted-all [] = refl
 shifted-all (t ∷ ts) = (λ i. shifted-zero t i ∷ shifted-all ts i)
 
-pub flat_read : (base : Parts) (limits : Allowed) (file : Option (List ℕ)) (l : Listing) → IsReadable base limits l
-    → listed_flat base limits (record { line = 0; column = 0 }) nothing (flat_of_parts file (ignored_from 0 l.sources) (mappings_text l.tokens) l.names l.sources (has_content l.sources)) ≡ Ok l
+pub flat_read : (base : Parts) (limits : Allowed) (spell : List ℕ → List ℕ) (file : Option (List ℕ)) (l : Listing) → IsReadable base limits spell l
+    → listed_flat base limits start nothing (flat_of_parts spell file (ignored_from 0 l.sources) (mappings_text l.tokens) l.names l.sources (has_content l.sources)) ≡ Ok l
 unfolding listed_flat
-flat_read base limits file l h =
-    let few : nat_lt limits.items (0 + length (map (λ (e : Entry). e.url) l.sources)) ≡ false = le-ltb _ _ (omega (arith, length-map l.sources (λ e. e.url), h.few_sources)) in
+flat_read base limits spell file l h =
+    let few : nat_lt limits.items (0 + length (map (λ (e : Entry). option_map spell e.url) l.sources)) ≡ false = le-ltb _ _ (omega (arith, length-map l.sources (λ e. option_map spell e.url), h.few_sources)) in
     let some : nat_lt limits.items (0 + length l.names) ≡ false = le-ltb _ _ (omega (arith, h.few_names)) in
-    rw (few, some, length-map l.sources (λ e. e.url), contents_same l.sources, entries_same base 0 [] l.sources tt h.urls, h.decodes, shifted-all l.tokens) refl
+    rw (few, some, length-map l.sources (λ e. option_map spell e.url), contents_same l.sources, entries_same base spell 0 [] l.sources tt h.urls, h.decodes, shifted-all l.tokens) refl
 
 tree_read : (bytes : List ℕ) (tree : Data) → is_utf8 bytes ≡ true → read bytes ≡ Some tree → tree_of bytes ≡ Some tree
 tree_read bytes tree utf8 same = ap (λ b. cond b (read bytes) None) utf8 ∙ same
 
 -- The bytes of a listing are read as that listing.
-pub reading-layout : (base : Parts) (limits : Allowed) (m : MapText) → IsReadable base limits m.listing → ReadsBack (layout m) → reading base limits (layout_text m) ≡ Ok m
+pub reading-layout : (base : Parts) (limits : Allowed) (spell : List ℕ → List ℕ) (m : ReadMap) → IsReadable base limits spell m.listing → ReadsBack (layout spell m) → reading base limits (layout_text spell m) ≡ Ok m
 unfolding reading layout
-reading-layout base limits m h back =
+reading-layout base limits spell m h back =
     let es = m.listing.sources in
-    let shape = shape_of-parts m.file (ignored_from 0 es) (mappings_text m.listing.tokens) m.listing.names es (has_content es) (ignored_below 0 (length (map (λ (e : Entry). e.url) es)) es (omega (arith, length-map es (λ e. e.url)))) in
-    ap (λ t. or_fault Json t >>= λ tree. of_shape (shape_of tree) >>= λ members. map_of base limits members) (tree_read (layout_text m) (layout m) (is_utf8-from_IsUtf8 _ back.utf8) back.same)
+    let shape = shape_of-parts spell m.file (ignored_from 0 es) (mappings_text m.listing.tokens) m.listing.names es (has_content es) (ignored_below 0 (length (map (λ (e : Entry). option_map spell e.url) es)) es (omega (arith, length-map es (λ e. option_map spell e.url)))) in
+    ap (λ t. or_fault Json t >>= λ tree. of_shape (shape_of tree) >>= λ members. map_of base limits members) (tree_read (layout_text spell m) (layout spell m) (is_utf8-from_IsUtf8 _ back.utf8) back.same)
     ∙ ap (λ s. of_shape s >>= λ members. map_of base limits members) shape
-    ∙ ap (λ l. l >>= λ listing. Ok (record { file = m.file; listing = listing })) (flat_read base limits m.file m.listing h)
+    ∙ ap (λ l. l >>= λ listing. Ok (record { file = m.file; listing = listing })) (flat_read base limits spell m.file m.listing h)

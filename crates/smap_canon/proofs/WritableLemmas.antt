@@ -6,7 +6,8 @@ use Rattle.std.proofs.lemmas.Option.{slice_get_within}
 use Rattle.smap_mappings.specs.declared.token.Bounds.{Bounds}
 use Rattle.smap_mappings.specs.Position.{POSITIONS, position_of, NeverFalls}
 use Rattle.smap_mappings.specs.Text.{IsPlaced, IsOriginal, IsEncodable}
-use Rattle.smap_mappings.specs.Laws.{IsWithin, AreFor}
+use Rattle.smap_mappings.specs.Decoded.{IsWithin}
+use Rattle.smap_mappings.specs.Laws.{AreFor}
 use Rattle.smap_record.specs.Record.{Entry, Origin, Mapping, Record, Allowed, same_entry}
 use Rattle.smap_record.specs.Fitting.{mapping_position, names_used}
 use Rattle.smap_record.proofs.EqualLemmas.{same_bytes, own_bytes, same_entries, own_entry}

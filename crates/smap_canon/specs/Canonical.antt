@@ -4,9 +4,9 @@ use Rattle.std.specs.List.{position_or_len}
 use Rattle.smap_mappings.specs.declared.token.Token.{Token}
 use Rattle.smap_mappings.specs.declared.token.Original.{Original}
 use Rattle.smap_mappings.specs.Text.{mappings_text}
-use Rattle.smap_record.specs.Record.{Entry, Origin, Mapping, Record, Listing, MapText, same_entry}
+use Rattle.smap_record.specs.Record.{Parts, Entry, Origin, Mapping, Record, Listing, ReadMap, same_entry}
 use Rattle.smap_record.specs.Fitting.{names_used}
-use Rattle.smap_canon.specs.Layout.{layout_text}
+use Rattle.smap_canon.specs.Layout.{absolute, Form, spelling_in, layout_text}
 
 -- a mapping by its places in the list of sources and in that of names
 abbrev pub original_of : List Entry → List (List ℕ) → Origin → Original
@@ -18,7 +18,11 @@ original_of sources names o = record {
 }
 
 abbrev pub token_of : List Entry → List (List ℕ) → Mapping → Token
-token_of sources names m = record { line = m.line; column = m.column; original = option_map (original_of sources names) m.origin }
+token_of sources names m = record {
+  line = m.line;
+  column = m.column;
+  original = option_map (original_of sources names) m.origin;
+}
 
 -- The record's sources, its names in order of first use, and its mappings by their places in these.
 abbrev pub canonical_listing : Record → Listing
@@ -29,12 +33,16 @@ canonical_listing r = record {
 }
 
 -- The one map text for all maps with this record.
-abbrev pub canonical_map : Record → MapText
+abbrev pub canonical_map : Record → ReadMap
 canonical_map r = record { file = r.file; listing = canonical_listing r }
 
 -- The canonical bytes of a record.
 abbrev pub canonical_text : Record → List ℕ
-canonical_text r = layout_text (canonical_map r)
+canonical_text r = layout_text absolute (canonical_map r)
+
+-- The canonical bytes of a record in a form against a base. In the absolute form they are the same for all bases.
+abbrev pub canonical_text_in : Form → Parts → Record → List ℕ
+canonical_text_in form base r = layout_text (spelling_in form base) (canonical_map r)
 
 -- The text that stands in them as `mappings` (ECMA-426, mappings structure), in the shortest spellings.
 abbrev pub canonical_mappings_text : Record → List ℕ

@@ -1,31 +1,50 @@
 -- What holds of canonical bytes.
-use Rattle.std.specs.Prelude.{◌≡◌, ◌≤◌, ◌↔◌, ℕ, List, Ok}
-use Rattle.smap_record.specs.Record.{Parts, Record, Allowed, MapText, record_of}
-use Rattle.smap_record.specs.Fitting.{Fits}
+use Rattle.std.specs.Prelude.{◌≡◌, ◌<◌, ◌≤◌, ◌↔◌, ℕ, List, Ok}
+use Rattle.smap_mappings.specs.Position.{POSITIONS, LINES}
+use Rattle.smap_record.specs.Record.{Parts, Record, Allowed, ReadMap, record_of}
+use Rattle.smap_record.specs.Fitting.{Fits, ListingFits}
 use Rattle.smap_record.specs.Reading.{reading}
-use Rattle.smap_canon.specs.Layout.{layout, ReadsBack}
-use Rattle.smap_canon.specs.Canonical.{canonical_map, canonical_text}
+use Rattle.smap_canon.specs.Layout.{Form, relative_form, spelling_in, layout, flat_text, ReadsBack}
+use Rattle.smap_canon.specs.Canonical.{canonical_map, canonical_text, canonical_text_in}
 
 -- limits that `Limits::new` takes
 pub record AreLimits (limits : Allowed) : Type 0 where
-  pub items : limits.items ≤ 2147483647
-  pub lines : limits.lines ≤ 16777216
+  pub items : limits.items < POSITIONS
+  pub lines : limits.lines ≤ LINES
 
 -- Under this base and these limits the bytes are a map without fault, whose record is this one.
 abbrev pub ReadAs : Parts → Allowed → List ℕ → Record → Type 0
-ReadAs base limits bytes r = (m : MapText) × (reading base limits bytes ≡ Ok m) × (record_of m ≡ r)
+ReadAs base limits bytes r = (m : ReadMap) × (reading base limits bytes ≡ Ok m) × (record_of m ≡ r)
 
--- Under each base and limits that the record fits, its canonical bytes are a map without fault, which has that record.
+-- Under each base and limits that the record fits, its canonical bytes are a map without fault, which has that
+-- record.
 abbrev pub IsReadAgain : Record → Type 0
-IsReadAgain r = (base : Parts) (limits : Allowed) → Fits base limits r → ReadAs base limits (canonical_text r) r
+IsReadAgain r = (base : Parts) (limits : Allowed) → Fits base limits r
+    → ReadAs base limits (canonical_text r) r
 
--- The canonical bytes of a record that fits a base and limits have, under these, no fault and the same record.
+-- Against this base, under each limits that the record fits, its canonical bytes in the relative form are a map without
+-- fault, which has that record.
+abbrev pub IsReadAgainFrom : Parts → Record → Type 0
+IsReadAgainFrom base r = (limits : Allowed) → Fits base limits r
+    → ReadAs base limits (canonical_text_in relative_form base r) r
+
+-- Under each base and limits that the map's listing fits, its flat bytes are a map without fault: this one.
+abbrev pub IsFlatReadAgain : ReadMap → Type 0
+IsFlatReadAgain m = (base : Parts) (limits : Allowed) → ListingFits base limits m.listing
+    → reading base limits (flat_text m) ≡ Ok m
+
+-- In each form, the canonical bytes of a record that fits a base and limits have, under these, no fault and the same
+-- record.
 abbrev pub CanonicalBytesAreAFixedPoint : Type 0
-CanonicalBytesAreAFixedPoint = (base : Parts) (limits : Allowed) (r : Record) → AreLimits limits → Fits base limits r
-    → ReadsBack (layout (canonical_map r)) → ReadAs base limits (canonical_text r) r
+CanonicalBytesAreAFixedPoint = (form : Form) (base : Parts) (limits : Allowed) (r : Record)
+    → AreLimits limits → Fits base limits r
+    → ReadsBack (layout (spelling_in form base) (canonical_map r))
+    → ReadAs base limits (canonical_text_in form base r) r
 
--- Two records that fit a base and limits are equal exactly if their canonical bytes are.
+-- In each form, two records that fit a base and limits are equal exactly if their canonical bytes are.
 abbrev pub EqualBytesForEqualRecordsOnly : Type 0
-EqualBytesForEqualRecordsOnly = (base : Parts) (limits : Allowed) (r s : Record) → AreLimits limits → Fits base limits r → Fits base limits s
-    → ReadsBack (layout (canonical_map r)) → ReadsBack (layout (canonical_map s))
-    → (r ≡ s) ↔ (canonical_text r ≡ canonical_text s)
+EqualBytesForEqualRecordsOnly = (form : Form) (base : Parts) (limits : Allowed) (r s : Record)
+    → AreLimits limits → Fits base limits r → Fits base limits s
+    → ReadsBack (layout (spelling_in form base) (canonical_map r))
+    → ReadsBack (layout (spelling_in form base) (canonical_map s))
+    → (r ≡ s) ↔ (canonical_text_in form base r ≡ canonical_text_in form base s)

@@ -1,12 +1,15 @@
 -- The one layout of canonical and of flat bytes.
-use Rattle.std.specs.Prelude.{◌≡◌, ℕ, ◌+◌, List, [], ◌∷◌, map, codes, Bool, Option, Some, None, is_some, option_map, IsUtf8, if◌then◌else◌}
+use Rattle.std.specs.Prelude.{◌≡◌, ℕ, ◌+◌, List, [], ◌∷◌, map, codes, Bool, if◌then◌else◌, IsUtf8}
+use Rattle.std.specs.Prelude.{Option, Some, None, is_some, option_map}
 use Rattle.std.specs.List.{list_any}
-use Rattle.serde_json.specs.Data.{Data, null, number, string, array, object, unsigned, Members, no_members, member}
+use Rattle.serde_json.specs.Data.{Data, null, number, string, array, object, unsigned}
+use Rattle.serde_json.specs.Data.{Members, no_members, member}
 use Rattle.serde_json.specs.Read.{read}
 use Rattle.serde_json.specs.View.{items_of}
 use Rattle.serde_json.specs.Written.{compact_text}
 use Rattle.smap_mappings.specs.Text.{mappings_text}
-use Rattle.smap_record.specs.Record.{Entry, MapText}
+use Rattle.smap_record.specs.Record.{Parts, Entry, ReadMap}
+use Rattle.smap_record.specs.Relative.{relatively}
 
 abbrev pub or_null : Option (List ℕ) → Data
 or_null None = null
@@ -40,21 +43,40 @@ has_content es = list_any (λ e. is_some e.content) es
 abbrev pub written_contents : List Entry → Option Data
 written_contents es = if has_content es then Some (list_of (map (λ e. or_null e.content) es)) else None
 
--- The JSON object of a flat map with this file and listing (ECMA-426, source map format). Its members are in byte order of their names.
--- `file`, `ignoreList` and `sourcesContent` stand only where there is something to say, and there is no `sourceRoot`.
-unfoldable pub layout : MapText → Data
-layout m = object
+-- How a source's URL is spelled: as it is.
+abbrev pub absolute : List ℕ → List ℕ
+absolute url = url
+
+-- How canonical bytes spell the URLs of sources.
+pub data Form : Type 0 where
+  absolute_form : Form
+  relative_form : Form
+
+-- A form's spelling against a base: each URL as it is, or relatively to the base where that leads back to it.
+abbrev pub spelling_in : Form → Parts → List ℕ → List ℕ
+spelling_in absolute_form base = absolute
+spelling_in relative_form base = relatively base
+
+-- The JSON object of a flat map with this file and listing (ECMA-426, source map format). Its members are in byte
+-- order of their names. `file`, `ignoreList` and `sourcesContent` stand only where there is something to say, and
+-- there is no `sourceRoot`. Each source's URL is spelled as the first argument says.
+unfoldable pub layout : (List ℕ → List ℕ) → ReadMap → Data
+layout spell m = object
     (optional_member (codes "file") (option_map string m.file)
     (optional_member (codes "ignoreList") (unless_empty (map whole_number (ignored_from 0 m.listing.sources)))
     (member (codes "mappings") (string (mappings_text m.listing.tokens))
     (member (codes "names") (list_of (map string m.listing.names))
-    (member (codes "sources") (list_of (map (λ e. or_null e.url) m.listing.sources))
+    (member (codes "sources") (list_of (map (λ e. or_null (option_map spell e.url)) m.listing.sources))
     (optional_member (codes "sourcesContent") (written_contents m.listing.sources)
     (member (codes "version") (whole_number 3) no_members)))))))
 
 -- Its compact text: JSON (RFC 8259) without any space between tokens.
-abbrev pub layout_text : MapText → List ℕ
-layout_text m = compact_text (layout m)
+abbrev pub layout_text : (List ℕ → List ℕ) → ReadMap → List ℕ
+layout_text spell m = compact_text (layout spell m)
+
+-- The flat bytes of a map: its listing as it stands.
+abbrev pub flat_text : ReadMap → List ℕ
+flat_text m = layout_text absolute m
 
 -- The tree's compact text is UTF-8, and read as JSON it is the tree again.
 pub record ReadsBack (tree : Data) : Type 0 where

@@ -1,36 +1,50 @@
 -- Reading and writing put together.
 use Rattle.std.specs.Prelude.{◌≡◌, ◌↔◌, ℕ, List, Bool, IsTrue, bytes_eq, Ok}
-use Rattle.smap_record.specs.Record.{Parts, Allowed, MapText, record_of}
+use Rattle.smap_record.specs.Record.{Parts, Allowed, ReadMap, record_of}
 use Rattle.smap_record.specs.Faults.{Checked, ◌>>=◌}
 use Rattle.smap_record.specs.Reading.{reading}
-use Rattle.smap_canon.specs.Canonical.{canonical_text}
+use Rattle.smap_canon.specs.Layout.{Form, flat_text}
+use Rattle.smap_canon.specs.Canonical.{canonical_text_in}
 
--- The canonical bytes of a map text against a base under limits, or its first fault.
-abbrev pub tidied_text : Parts → Allowed → List ℕ → Checked (List ℕ)
-tidied_text base limits bytes = do
+-- The canonical bytes, in a form, of a map text against a base under limits, or its first fault.
+abbrev pub tidied_text : Form → Parts → Allowed → List ℕ → Checked (List ℕ)
+tidied_text form base limits bytes = do
   m ← reading base limits bytes
-  Ok (canonical_text (record_of m))
+  Ok (canonical_text_in form base (record_of m))
 
--- Both texts are accepted with equal records, and the new one is its own canonical bytes.
-pub record IsTidied (base : Parts) (limits : Allowed) (old new : List ℕ) : Type 0 where
-  pub old_map : MapText
-  pub new_map : MapText
+-- Both texts are accepted with equal records, and the new one is its own canonical bytes in the form.
+pub record IsTidied (form : Form) (base : Parts) (limits : Allowed) (old new : List ℕ) : Type 0 where
+  pub old_map : ReadMap
+  pub new_map : ReadMap
   pub accepted : reading base limits old ≡ Ok old_map
   pub still_accepted : reading base limits new ≡ Ok new_map
   pub same_record : record_of new_map ≡ record_of old_map
-  pub own_bytes : canonical_text (record_of new_map) ≡ new
+  pub own_bytes : canonical_text_in form base (record_of new_map) ≡ new
 
--- Whether the canonical bytes of two map texts are equal, or the first fault of the first text that has one.
-abbrev pub equal_texts : Parts → Allowed → List ℕ → List ℕ → Checked Bool
-equal_texts base limits one other = do
+-- The flat bytes of a map text against a base under limits, or its first fault.
+abbrev pub flattened_text : Parts → Allowed → List ℕ → Checked (List ℕ)
+flattened_text base limits bytes = do
+  m ← reading base limits bytes
+  Ok (flat_text m)
+
+-- Both texts are accepted as one map: with the same file and listing, so with the same record.
+pub record IsFlattened (base : Parts) (limits : Allowed) (old new : List ℕ) : Type 0 where
+  pub same_map : ReadMap
+  pub accepted : reading base limits old ≡ Ok same_map
+  pub still_accepted : reading base limits new ≡ Ok same_map
+
+-- Whether the canonical bytes of two map texts in a form are equal, or the first fault of the first text that has
+-- one.
+abbrev pub equal_texts : Form → Parts → Allowed → List ℕ → List ℕ → Checked Bool
+equal_texts form base limits one other = do
   m ← reading base limits one
   n ← reading base limits other
-  Ok (bytes_eq (canonical_text (record_of m)) (canonical_text (record_of n)))
+  Ok (bytes_eq (canonical_text_in form base (record_of m)) (canonical_text_in form base (record_of n)))
 
 -- Both texts are accepted, and the answer tells whether their records are equal.
 pub record TellsTexts (base : Parts) (limits : Allowed) (one other : List ℕ) (answer : Bool) : Type 0 where
-  pub one_map : MapText
-  pub other_map : MapText
+  pub one_map : ReadMap
+  pub other_map : ReadMap
   pub one_accepted : reading base limits one ≡ Ok one_map
   pub other_accepted : reading base limits other ≡ Ok other_map
   pub tells : IsTrue answer ↔ (record_of one_map ≡ record_of other_map)

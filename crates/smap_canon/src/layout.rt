@@ -1,12 +1,15 @@
-//! The tree of a record's canonical form, member by member.
+//! The tree of a layout, member by member.
 ghost use Rattle.std.specs.Prelude.{◌≡◌, IfOk, OnOk, codes, map as mapped, option_map, option_copied};
 ghost use Rattle.serde_json.specs.Data.{object, string, put as put_member, no_members};
 ghost use Rattle.serde_json.specs.View.{view, members_view};
-ghost use Rattle.smap_record.specs.Record.{record_of};
-ghost use Rattle.smap_canon.specs.Layout.{list_of, or_null, whole_number, ignored_from, unless_empty, has_content, written_contents};
+ghost use Rattle.smap_canon.specs.Layout.{list_of, or_null, whole_number, ignored_from, unless_empty};
+ghost use Rattle.smap_canon.specs.Layout.{has_content, written_contents};
 ghost use Rattle.smap_canon.specs.Numbering.{texts_of};
-ghost use Rattle.smap_canon.specs.Writing.{put_if};
+ghost use Rattle.smap_canon.specs.Spelling.{spelling_of};
+ghost use Rattle.smap_canon.specs.Writing.{put_if, sources_of};
 
+use crate::listed::{Listed, source_at, source_count};
+use crate::spelling::{Spelling, spelled};
 use indexmap::IndexSet;
 use serde_json::{Map, Value, put};
 use smap_record::SourceMap;
@@ -42,22 +45,38 @@ pub(crate) fn names(alloc: Global, names: &IndexSet<&str>) -> Result<Value, Allo
     Ok(list(items))
 }
 
-/// Each source's URL.
-pub(crate) fn sources(alloc: Global, map: &SourceMap) -> Result<Value, AllocError>
-    ensures { IfOk result (λ v. view v ≡ list_of (mapped (λ e. or_null e.url) (record_of map.now).sources)) }
+/// The names as they are listed.
+pub(crate) fn listed_names(alloc: Global, map: &SourceMap) -> Result<Value, AllocError>
+    ensures { IfOk result (λ v. view v ≡ list_of (mapped string map.now.listing.names)) }
 {
     let mut items = Vec::new(alloc);
-    for i in 0..map.source_count() {
-        items.push(text_or_null(alloc, map.source(i).url)?)?;
+    for i in 0..map.name_count() {
+        items.push(Value::try_from_str(alloc, map.name(i))?)?;
     }
     Ok(list(items))
 }
 
-fn has_content(map: &SourceMap) -> bool
-    ensures { result ≡ has_content (record_of map.now).sources }
+/// Each source's URL, so spelled.
+pub(crate) fn sources(
+    alloc: Global,
+    listed: Listed<'_>,
+    spelling: Spelling<'_>,
+) -> Result<Value, AllocError>
+    ensures { IfOk result (λ v. view v ≡ list_of
+        (mapped (λ e. or_null (option_map (spelling_of spelling.entry) e.url)) (sources_of listed.entry))) }
 {
-    for i in 0..map.source_count() {
-        if map.source(i).content.is_some() {
+    let mut items = Vec::new(alloc);
+    for i in 0..source_count(listed) {
+        items.push(spelled(alloc, spelling, source_at(listed, i).url)?)?;
+    }
+    Ok(list(items))
+}
+
+fn has_content(listed: Listed<'_>) -> bool
+    ensures { result ≡ has_content (sources_of listed.entry) }
+{
+    for i in 0..source_count(listed) {
+        if source_at(listed, i).content.is_some() {
             return true;
         }
     }
@@ -65,27 +84,27 @@ fn has_content(map: &SourceMap) -> bool
 }
 
 /// Each source's content, where some source has one.
-pub(crate) fn contents(alloc: Global, map: &SourceMap) -> Result<Option<Value>, AllocError>
-    ensures { IfOk result (λ v. option_map view v ≡ written_contents (record_of map.now).sources) }
+pub(crate) fn contents(alloc: Global, listed: Listed<'_>) -> Result<Option<Value>, AllocError>
+    ensures { IfOk result (λ v. option_map view v ≡ written_contents (sources_of listed.entry)) }
 {
-    if !has_content(map) {
+    if !has_content(listed) {
         return Ok(None);
     }
     let mut items = Vec::new(alloc);
-    for i in 0..map.source_count() {
-        items.push(text_or_null(alloc, map.source(i).content)?)?;
+    for i in 0..source_count(listed) {
+        items.push(text_or_null(alloc, source_at(listed, i).content)?)?;
     }
     Ok(Some(list(items)))
 }
 
 /// The numbers of the ignored sources, rising, where there is one.
-pub(crate) fn ignored(alloc: Global, map: &SourceMap) -> Result<Option<Value>, AllocError>
+pub(crate) fn ignored(alloc: Global, listed: Listed<'_>) -> Result<Option<Value>, AllocError>
     ensures { IfOk result (λ v. option_map view v
-        ≡ unless_empty (mapped whole_number (ignored_from 0 (record_of map.now).sources))) }
+        ≡ unless_empty (mapped whole_number (ignored_from 0 (sources_of listed.entry)))) }
 {
     let mut items = Vec::new(alloc);
-    for i in 0..map.source_count() {
-        if map.source(i).ignored {
+    for i in 0..source_count(listed) {
+        if source_at(listed, i).ignored {
             items.push(Value::from(i))?;
         }
     }
@@ -97,7 +116,7 @@ pub(crate) fn ignored(alloc: Global, map: &SourceMap) -> Result<Option<Value>, A
 
 /// The file, where there is one.
 pub(crate) fn file(alloc: Global, map: &SourceMap) -> Result<Option<Value>, AllocError>
-    ensures { IfOk result (λ v. option_map view v ≡ option_map string (record_of map.now).file) }
+    ensures { IfOk result (λ v. option_map view v ≡ option_map string map.now.file) }
 {
     match map.file() {
         Some(text) => {

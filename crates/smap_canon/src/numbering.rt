@@ -1,93 +1,139 @@
-//! The mappings of a record by their places: sources by the record's numbers, names by first use.
-ghost use Rattle.std.specs.Prelude.{◌≡◌, ◌<◌, IfOk, IfSome, Some, true, slice_get, length, option_copied, bytes_eq};
-ghost use Rattle.std.specs.List.{list_any, position_or_len};
-ghost use Rattle.smap_mappings.specs.Text.{IsEncodable};
-ghost use Rattle.smap_record.specs.Record.{record_of};
+//! The mappings of a record by their places: sources by the record's numbers, names by first use. One pass over the
+//! mappings numbers the names and writes the mappings text.
+ghost use Rattle.std.specs.Prelude.{◌≡◌, ◌<◌, [], length, slice_get, replicate, bytes_eq};
+ghost use Rattle.std.specs.Prelude.{IfOk, OnOk, Some, option_map};
+ghost use Rattle.std.specs.List.{position_or_len};
+ghost use Rattle.smap_mappings.specs.Position.{POSITIONS};
+ghost use Rattle.smap_record.specs.Record.{record_of, mapping_of, origin_of};
 ghost use Rattle.smap_record.specs.Fitting.{names_used};
-ghost use Rattle.smap_record.specs.Listed.{IsListing};
-ghost use Rattle.smap_record.specs.Views.{entry_seen, origin_seen, mapping_seen};
-ghost use Rattle.smap_canon.specs.Canonical.{canonical_listing, original_of};
-ghost use Rattle.smap_canon.specs.Numbering.{texts_of, name_of};
+ghost use Rattle.smap_record.specs.Listed.{IsListing, IsListedOriginal, IsListedToken};
+ghost use Rattle.smap_canon.specs.Canonical.{canonical_mappings_text, original_of, token_of};
+ghost use Rattle.smap_canon.specs.Numbering.{texts_of, name_of, with_name, used_in, AreNumbers};
 
 use indexmap::IndexSet;
-use smap_mappings::{Memory, Original, Token};
-use smap_record::{OriginalView, SourceMap, TokenView};
-use std::alloc::Global;
+use smap_mappings::{Encoder, Memory, Original, Token};
+use smap_record::SourceMap;
+use std::alloc::{AllocError, Global};
 
-fn name_in<'a>(view: TokenView<'a>) -> Option<&'a str>
-    ensures { option_copied result ≡ name_of (mapping_seen view.entry) }
+/// Stands for the number of a listed name that no mapping has used yet.
+const UNUSED: u32 = u32::MAX;
+
+/// The names that were used so far, each once, in order of first use. Beside them stands, for each name that the map
+/// lists, its place among these, or `UNUSED`: so a name's text is looked up once, however many mappings use it.
+#[derive(Drop)]
+struct Names<'a> {
+    used: IndexSet<&'a str>,
+    numbers: Vec<u32>,
+}
+
+/// No name is used yet.
+fn no_names<'a>(alloc: Global, map: &'a SourceMap) -> Result<Names<'a>, AllocError>
+    ensures used { IfOk result (λ n. n.used.keys ≡ []) }
+    ensures numbers { IfOk result (λ n. n.numbers.items ≡ replicate (length map.now.listing.names) UNUSED) }
 {
-    match view.original {
-        Some(original) => original.name,
-        None => None,
+    let numbers = vec![in alloc; UNUSED; map.name_count()]?;
+    Ok(Names {
+        used: IndexSet::new(alloc),
+        numbers,
+    })
+}
+
+/// The number of a listed name, which is used from now on.
+fn number_of<'a>(names: &mut Names<'a>, map: &'a SourceMap, listed: u32) -> Result<u32, Memory>
+    requires listed { listed < length map.now.listing.names }
+    requires numbers { AreNumbers map.now.listing.names (used_in names.old) names.old.numbers.items }
+    requires few { length names.old.used.keys < POSITIONS }
+    ensures used { OnOk result (used_in names.new
+        ≡ with_name (slice_get map.now.listing.names listed) (used_in names.old)) }
+    ensures numbers { OnOk result (AreNumbers
+        map.now.listing.names (used_in names.new) names.new.numbers.items) }
+    ensures number { IfOk result (λ n. Some n ≡ option_map
+        (λ name. position_or_len (bytes_eq name) (used_in names.new)) (slice_get map.now.listing.names listed)) }
+{
+    let number = names.numbers[listed as usize];
+    if number != UNUSED {
+        return Ok(number);
     }
+    let (number, _) = names.used.insert_full(map.name(listed as usize))?;
+    names.numbers[listed as usize] = number as u32;
+    Ok(number as u32)
 }
 
-/// The names that the mappings use, each once, in order of first use.
-pub(crate) fn names_of<'a>(alloc: Global, map: &'a SourceMap) -> Result<IndexSet<&'a str>, Memory>
-    ensures names { IfOk result (λ s. texts_of s.keys ≡ names_used (record_of map.now).mappings) }
-    ensures listing { IsListing map.now.listing }
+/// An original position by the places of its source and of its name, which is used from now on.
+fn original_by<'a>(
+    names: &mut Names<'a>,
+    map: &'a SourceMap,
+    original: Original,
+) -> Result<Original, Memory>
+    requires listed { IsListedOriginal map.now.listing original }
+    requires few_sources { length map.now.listing.sources < POSITIONS }
+    requires numbers { AreNumbers map.now.listing.names (used_in names.old) names.old.numbers.items }
+    requires few { length names.old.used.keys < POSITIONS }
+    ensures used { OnOk result (used_in names.new
+        ≡ with_name (origin_of map.now.listing original).name (used_in names.old)) }
+    ensures numbers { OnOk result (AreNumbers
+        map.now.listing.names (used_in names.new) names.new.numbers.items) }
+    ensures original { IfOk result (λ o. o ≡ original_of
+        (record_of map.now).sources (used_in names.new) (origin_of map.now.listing original)) }
 {
-    let mut names = IndexSet::new(alloc);
-    for i in 0..map.token_count() {
-        if let Some(name) = name_in(map.token(i)) {
-            names.insert_full(name)?;
-        }
-    }
-    Ok(names)
-}
-
-/// The number of a name that is there.
-fn number_of(names: &IndexSet<&str>, name: &str) -> u32
-    requires known { list_any (bytes_eq name.now) (texts_of names.now.keys) ≡ true }
-    requires few { length names.now.keys < 2147483648 }
-    ensures { result ≡ position_or_len (bytes_eq name.now) (texts_of names.now.keys) }
-{
-    names.get_index_of(name).unwrap() as u32
-}
-
-/// An original position by the places of its source and its name.
-fn original_by(map: &SourceMap, names: &IndexSet<&str>, view: OriginalView<'_>) -> Original
-    requires source { slice_get (record_of map.now).sources view.source_number ≡ Some (entry_seen view.source) }
-    requires few_sources { length (record_of map.now).sources < 2147483648 }
-    requires name { IfSome view.name (λ n. list_any (bytes_eq n.now) (texts_of names.now.keys) ≡ true) }
-    requires few_names { length names.now.keys < 2147483648 }
-    ensures { result ≡ original_of (record_of map.now).sources (texts_of names.now.keys) (origin_seen view.entry) }
-{
-    let name = match view.name {
-        Some(name) => Some(number_of(names, name)),
+    let name = match original.name {
+        Some(listed) => Some(number_of(names, map, listed)?),
         None => None,
     };
-    Original {
-        source: view.source_number as u32,
-        line: view.line,
-        column: view.column,
+    Ok(Original {
+        source: map.listed(original.source as usize) as u32,
+        line: original.line,
+        column: original.column,
         name,
-    }
+    })
 }
 
-/// The mappings of the record by their places in its sources and in these names, which are those that they use.
-pub(crate) fn tokens_of(
-    alloc: Global,
-    map: &SourceMap,
-    names: &IndexSet<&str>,
-) -> Result<Vec<Token>, Memory>
-    requires { texts_of names.now.keys ≡ names_used (record_of map.now).mappings }
-    ensures tokens { IfOk result (λ v. v.items ≡ (canonical_listing (record_of map.now)).tokens) }
-    ensures encodable { IfOk result (λ v. IsEncodable v.items) }
+/// A listed token by the places of its source and of its name, which is used from now on.
+fn token_by<'a>(names: &mut Names<'a>, map: &'a SourceMap, token: Token) -> Result<Token, Memory>
+    requires listed { IsListedToken map.now.listing token }
+    requires few_sources { length map.now.listing.sources < POSITIONS }
+    requires numbers { AreNumbers map.now.listing.names (used_in names.old) names.old.numbers.items }
+    requires few { length names.old.used.keys < POSITIONS }
+    ensures used { OnOk result (used_in names.new
+        ≡ with_name (name_of (mapping_of map.now.listing token)) (used_in names.old)) }
+    ensures numbers { OnOk result (AreNumbers
+        map.now.listing.names (used_in names.new) names.new.numbers.items) }
+    ensures token { IfOk result (λ t. t ≡ token_of
+        (record_of map.now).sources (used_in names.new) (mapping_of map.now.listing token)) }
 {
-    let mut tokens = Vec::new(alloc);
+    let original = match token.original {
+        Some(original) => Some(original_by(names, map, original)?),
+        None => None,
+    };
+    Ok(Token {
+        line: token.line,
+        column: token.column,
+        original,
+    })
+}
+
+/// The names that the mappings use, each once, in order of first use, and the mappings text by their places.
+#[derive(Drop)]
+pub(crate) struct Numbered<'a> {
+    pub(crate) names: IndexSet<&'a str>,
+    pub(crate) mappings: Vec<u8>,
+}
+
+/// Numbers the names and writes the mappings text in one pass over the mappings. No other list of them is made.
+pub(crate) fn number_mappings<'a>(alloc: Global, map: &'a SourceMap) -> Result<Numbered<'a>, Memory>
+    ensures names { IfOk result (λ n. texts_of n.names.keys ≡ names_used (record_of map.now).mappings) }
+    ensures mappings { IfOk result (λ n. n.mappings.items ≡ canonical_mappings_text (record_of map.now)) }
+    ensures listing { OnOk result (IsListing map.now.listing) }
+{
+    let mut names = no_names(alloc, map)?;
+    let mut encoder = Encoder::new(alloc);
     for i in 0..map.token_count() {
-        let view = map.token(i);
-        let original = match view.original {
-            Some(original) => Some(original_by(map, names, original)),
-            None => None,
-        };
-        tokens.push(Token {
-            line: view.line,
-            column: view.column,
-            original,
-        })?;
+        let token = token_by(&mut names, map, map.listed_token(i))?;
+        encoder.push(token)?;
     }
-    Ok(tokens)
+    let Names { used, .. } = names;
+    Ok(Numbered {
+        names: used,
+        mappings: encoder.finish(),
+    })
 }

@@ -1,5 +1,7 @@
-use crate::round_trips::{have_equal_bytes, tidied};
-use crate::{canonical, canonical_mappings, same};
+mod relative;
+
+use crate::round_trips::{flattened, have_equal_bytes, tidied};
+use crate::{canonical, canonical_mappings, flatten, same};
 use smap_record::{Base, Kind, Limits, ReadError, SourceMap};
 use std::process::Abort;
 
@@ -12,8 +14,40 @@ const LONGER: &str =
 
 const EMPTY: &str = r#"{"version":3,"mappings":""}"#;
 
+/// Two sections that list a source twice.
+const TWO_SECTIONS: &str =
+    r#"{"version":3,"sections":[{"offset":{"line":0,"column":0},"map":{"version":3,"sources":["a.js"],"mappings":"AAAA"}},{"offset":{"line":0,"column":10},"map":{"version":3,"sources":["a.js","b.js"],"names":["n"],"mappings":"AAAAA;CCCC"}}]}"#;
+
+/// Map texts, and their flat bytes against `http://h/m/out.js.map`.
+const FLATTENED: [(&str, &str); 6] = [
+    (
+        SMALL,
+        r#"{"mappings":"AAAAC,CAACD","names":["x","y"],"sources":["http://h/m/a.js"],"version":3}"#,
+    ),
+    (
+        LONGER,
+        r#"{"mappings":"AAAAC,CAACD","names":["x","y","z"],"sources":["http://h/m/a.js"],"version":3}"#,
+    ),
+    (
+        TWO_SECTIONS,
+        r#"{"mappings":"AAAA,UCAAA;CCCC","names":["n"],"sources":["http://h/m/a.js","http://h/m/a.js","http://h/m/b.js"],"version":3}"#,
+    ),
+    (
+        r#"{"version":3,"sections":[]}"#,
+        r#"{"mappings":"","names":[],"sources":[],"version":3}"#,
+    ),
+    (
+        r#"{"version":3,"sources":["a.js","a.js","./a.js"],"mappings":"AAAA,CCAA,CCAA"}"#,
+        r#"{"mappings":"AAAA,CCAA,CCAA","names":[],"sources":["http://h/m/a.js","http://h/m/a.js","http://h/m/a.js"],"version":3}"#,
+    ),
+    (
+        r#"{"version":3,"sources":["a.js","a.js","./a.js"],"ignoreList":[2],"mappings":""}"#,
+        r#"{"ignoreList":[2],"mappings":"","names":[],"sources":["http://h/m/a.js","http://h/m/a.js","http://h/m/a.js"],"version":3}"#,
+    ),
+];
+
 /// Map texts, and their canonical bytes against `http://h/m/out.js.map`.
-const TIDIED: [(&str, &str); 13] = [
+const TIDIED: [(&str, &str); 19] = [
     (
         SMALL,
         r#"{"mappings":"AAAAA,CAACC","names":["y","x"],"sources":["http://h/m/a.js"],"version":3}"#,
@@ -59,12 +93,36 @@ const TIDIED: [(&str, &str); 13] = [
         r#"{"mappings":"CAACA,CAADC","names":["q","p"],"sources":["http://h/m/a.js"],"version":3}"#,
     ),
     (
+        r#"{"version":3,"sources":["a.js"],"names":["n","m","n"],"mappings":"AAAAE,CAAAF,CAAAC"}"#,
+        r#"{"mappings":"AAAAA,CAAAA,CAAAC","names":["n","m"],"sources":["http://h/m/a.js"],"version":3}"#,
+    ),
+    (
         r#"{"version":3,"file":"x\/y\u0009\u000b","mappings":""}"#,
         r#"{"file":"x/y\t\u000b","mappings":"","names":[],"sources":[],"version":3}"#,
     ),
     (
         r#"{"version":3,"sources":["a.js"],"mappings":"AAUE,IAEA"}"#,
         r#"{"mappings":"AAUE,IAEA","names":[],"sources":["http://h/m/a.js"],"version":3}"#,
+    ),
+    (
+        r#"{"version":3,"sections":[]}"#,
+        r#"{"mappings":"","names":[],"sources":[],"version":3}"#,
+    ),
+    (
+        TWO_SECTIONS,
+        r#"{"mappings":"AAAA,UAAAA;CCCC","names":["n"],"sources":["http://h/m/a.js","http://h/m/b.js"],"version":3}"#,
+    ),
+    (
+        r#"{"version":3,"sections":[{"offset":{"line":0,"column":0},"map":{"version":3,"mappings":"K"}},{"offset":{"line":0,"column":5},"map":{"version":3,"mappings":"A"}}]}"#,
+        r#"{"mappings":"K,A","names":[],"sources":[],"version":3}"#,
+    ),
+    (
+        r#"{"version":3,"sections":[{"offset":{"line":0,"column":0},"map":{"version":3,"mappings":"A"}},{"offset":{"line":0,"column":0},"map":{"version":3,"mappings":"A"}}]}"#,
+        r#"{"mappings":"A,A","names":[],"sources":[],"version":3}"#,
+    ),
+    (
+        r#"{"version":3,"sections":[{"offset":{"line":16777216,"column":0},"map":{"version":3,"mappings":""}}]}"#,
+        r#"{"mappings":"","names":[],"sources":[],"version":3}"#,
     ),
 ];
 
@@ -100,7 +158,12 @@ fn a_canonical_text_is_its_own(rt: HostRuntime) {
 
 #[test]
 fn the_mappings_are_those_of_the_text(rt: HostRuntime) {
-    for (text, want) in [(SMALL, "AAAAA,CAACC"), (LONGER, "AAAAA,CAACC"), (EMPTY, "")] {
+    for (text, want) in [
+        (SMALL, "AAAAA,CAACC"),
+        (LONGER, "AAAAA,CAACC"),
+        (EMPTY, ""),
+        (TWO_SECTIONS, "AAAA,UAAAA;CCCC"),
+    ] {
         let map = read(&rt, text.as_bytes());
         let mappings = canonical_mappings(rt.alloc(), &map).expect(&rt, "there is memory");
         assert!(rt; mappings.as_slice() == want.as_bytes(), "{text}");
@@ -147,6 +210,19 @@ fn texts_are_tidied(rt: HostRuntime) {
     match tidied(rt.alloc(), b"[]", &base(&rt), Limits::usual()) {
         Err(ReadError::Refused(fault)) => assert_eq!(rt; fault.kind, Kind::NotObject),
         _ => assert!(rt; false, "a list is no map"),
+    }
+}
+
+#[test]
+fn flat_bytes_list_what_the_map_lists(rt: HostRuntime) {
+    for (text, want) in FLATTENED {
+        let map = read(&rt, text.as_bytes());
+        let bytes = flatten(rt.alloc(), &map).expect(&rt, "there is memory");
+        assert!(rt; bytes.as_slice() == want.as_bytes(), "{text}");
+        assert!(rt; same(&map, &read(&rt, bytes.as_slice())), "{text}");
+        let bytes = flattened(rt.alloc(), text.as_bytes(), &base(&rt), Limits::usual());
+        let bytes = bytes.expect(&rt, "the text is accepted");
+        assert!(rt; bytes.as_slice() == want.as_bytes(), "{text}");
     }
 }
 

@@ -16,9 +16,11 @@ pub struct Failed;
 /// end was seen.
 ///
 /// Each call is passed on exactly once, also where it fails: a short read or write is handed out as
-/// it came, and nothing is tried again. Where the reader or the writer tells its bytes, so does the
-/// device: what a read gave is what the reader lost, what a write took is what the writer gained,
-/// and a failed call moves nothing. The calls ask that fewer than 2^64 - 1 calls have failed.
+/// it came, and nothing is tried again. No contract can say so, since the traits of the standard
+/// library count no calls: that the call is made, and that `Failed` is its failure, is shown by tests.
+/// What contracts say: the count rises exactly with `Failed`; where the reader or the writer tells its
+/// bytes, what a read gave is what the reader lost, what a write took is what the writer gained, and a
+/// failed call moves nothing. The calls ask that fewer than 2^64 - 1 calls have failed.
 #[derive(Drop)]
 pub struct Device<T> {
     inner: T,

@@ -15,23 +15,22 @@ use Rattle.smap_mappings.specs.Lines.{SegmentText, segments_of}
 use Rattle.smap_mappings.specs.Position.{POSITIONS, is_before, position_of}
 use Rattle.smap_mappings.specs.Tokens.{Segment, below, start_of, placed, column_in, generated_column, source_index, original_line, original_column, name_index, name_in, original_in, token_of, numbers_in, read_in, at_place, tokens_behind}
 use Rattle.smap_mappings.specs.Arrangement.{insert_token, arranged, IsArranged}
-use Rattle.smap_mappings.specs.Decoded.{AreBounds, decoded}
+use Rattle.smap_mappings.specs.Decoded.{AreBounds, IsWithin, IsFromStart, decoded}
 use Rattle.smap_mappings.specs.Text.{IsPlaced, IsOriginal, IsEncodable}
-use Rattle.smap_mappings.specs.Laws.{IsWithin}
 use Rattle.smap_mappings.proofs.ArrangementLemmas.{is_arranged}
 use Rattle.smap_mappings.proofs.StepsLemmas.{below_is, placed-line, placed-column}
 
-abbrev good : {A F : Type 0} → A → Result A F
+abbrev pub good : {A F : Type 0} → A → Result A F
 good x = Ok x
 
-bind_ok : {A B F : Type 0} (r : Result A F) (f : A → Result B F) (y : B) → (r >>= f) ≡ good y → (x : A) × (r ≡ good x) × (f x ≡ good y)
+pub bind_ok : {A B F : Type 0} (r : Result A F) (f : A → Result B F) (y : B) → (r >>= f) ≡ good y → (x : A) × (r ≡ good x) × (f x ≡ good y)
 bind_ok (Ok x) f y e = (x, refl, e)
 bind_ok (Err d) f y e = absurd cc
 
-good_is : {A F : Type 0} (x y : A) → good {F = F} x ≡ good y → x ≡ y
+pub good_is : {A F : Type 0} (x y : A) → good {F = F} x ≡ good y → x ≡ y
 good_is x y e = cc
 
-some_is : {A F : Type 0} (o : Option A) (k : F) (x : A) → ok_or o k ≡ good x → o ≡ Some x
+pub some_is : {A F : Type 0} (o : Option A) (k : F) (x : A) → ok_or o k ≡ good x → o ≡ Some x
 some_is None k x e = absurd cc
 some_is (Some y) k x e = ap (λ z. Some z) (good_is y x e)
 
@@ -156,13 +155,13 @@ behind_start sl sc line own l c el ec = by_test (eqb line 0) refl ec
     by_test true e ec = let z : line ≡ 0 = eqb-true line 0 e in grind (arith, nat_tests)
     by_test false e ec = let z = eqb-false line 0 e in grind (arith, nat_tests)
 
-token_behind_start : (bounds : Bounds) (before : List Segment) (s : Segment) (t : Token) → TokenParts bounds before s t → is_before (position_of t) (start_of bounds) ≡ false
-token_behind_start bounds before s t p =
+token_from_start : (bounds : Bounds) (before : List Segment) (s : Segment) (t : Token) → TokenParts bounds before s t → is_before (position_of t) (start_of bounds) ≡ false
+token_from_start bounds before s t p =
     behind_start bounds.start_line bounds.start_column s.line p.own t.line t.column (p.line ∙ placed-line bounds s.line 0) (p.column ∙ placed-column bounds s.line p.own)
 
 -- ---- all tokens
 
-at_place_ok : {A : Type 0} (text : SegmentText) (r : Result A SegmentKind) (x : A) → at_place text r ≡ good x → r ≡ good x
+pub at_place_ok : {A : Type 0} (text : SegmentText) (r : Result A SegmentKind) (x : A) → at_place text r ≡ good x → r ≡ good x
 at_place_ok text (Ok y) x e = cc
 at_place_ok text (Err k) x e = absurd cc
 
@@ -207,8 +206,8 @@ pub decoded-within : (bounds : Bounds) (text : List ℕ) (ts : List Token) → d
 decoded-within bounds = all_decoded bounds (IsWithin bounds) (token_within bounds)
 
 -- No token lies before the start.
-pub decoded-behind_start : (bounds : Bounds) (text : List ℕ) (ts : List Token) → decoded bounds text ≡ Ok ts → AllByRecursion (λ t. is_before (position_of t) (start_of bounds) ≡ false) ts
-decoded-behind_start bounds = all_decoded bounds (λ t. is_before (position_of t) (start_of bounds) ≡ false) (token_behind_start bounds)
+pub decoded-from_start : (bounds : Bounds) (text : List ℕ) (ts : List Token) → decoded bounds text ≡ Ok ts → AllByRecursion (IsFromStart bounds) ts
+decoded-from_start bounds = all_decoded bounds (IsFromStart bounds) (token_from_start bounds)
 
 -- The tokens can be written.
 pub decoded-encodable : (bounds : Bounds) → AreBounds bounds → (text : List ℕ) (ts : List Token) → decoded bounds text ≡ Ok ts → IsEncodable ts

@@ -5,7 +5,8 @@ use Rattle.std.proofs.lemmas.Bool.Decides.{nat_tests}
 use Rattle.smap_mappings.specs.Position.{POSITIONS, NeverFalls, is_before, position_of}
 use Rattle.std.specs.List.{AllByRecursion, filter_map}
 use Rattle.std.proofs.lemmas.Bool.{eq-eqb, ne_eqb, eqb-true, eqb-false}
-use Rattle.std.proofs.lemmas.List.{append-nil, map-append, take_more}
+use Rattle.std.proofs.lemmas.List.{append-nil, map-append, take-append-le}
+use Rattle.std.proofs.Math.Seq.{take-length}
 use Rattle.std.proofs.lemmas.List.Elements.{filter-append, filter_map-append}
 use Rattle.smap_mappings.specs.declared.token.Token.{Token}
 use Rattle.smap_mappings.specs.declared.token.Original.{Original}
@@ -13,16 +14,10 @@ use Rattle.smap_mappings.specs.declared.running.Running.{Running}
 use Rattle.std.proofs.Common.{ℤ}
 use Rattle.std.specs.List.{flat_map, cons_option}
 use Rattle.smap_vlq.specs.Number.{spelling}
-use Rattle.smap_mappings.specs.Text.{last_or, difference, original_differences, segment_text, original_before, name_before, column_before, no_original, line_count, mappings_text, IsPlaced, IsOriginal, IsEncodable}
+use Rattle.smap_mappings.specs.Text.{last_or, difference, original_differences, segment_text, original_before, column_before, no_original, line_count, mappings_text, IsPlaced, IsOriginal, IsEncodable}
+use Rattle.smap_mappings.specs.Feeding.{Remembers, Encoded}
 use Rattle.smap_mappings.specs.Writing.{original_from, segment_from, running_behind, original_behind, IsRunning, separator, at_line}
 use Rattle.smap_mappings.proofs.TextLemmas.{last_or-push, line_count-push, mappings_text-push}
-
--- The values are those before the next token, but for the column.
-pub record Remembers (r : Running) (ts : List Token) : Type 0 where
-  pub source : (original_before ts).source ≡ r.source
-  pub original_line : (original_before ts).line ≡ r.original_line
-  pub original_column : (original_before ts).column ≡ r.original_column
-  pub name : name_before ts ≡ r.name
 
 differences-from : (r : Running) (ts : List Token) (o : Option Original) → Remembers r ts → original_differences ts o ≡ original_from r o
 differences-from r ts None h = refl
@@ -77,38 +72,64 @@ Remembers-push r ts t h = by_original t.original (filter_map-append (λ (u : Tok
 
 -- ---- the loop
 
--- The text so far, and what the next token's segment is told by.
-pub record Encoding (tokens : List Token) (i : ℕ) (out : List ℕ) (r : Running) (lines : ℕ) : Type 0 where
-  pub text : out ≡ mappings_text (take i tokens)
-  pub lines_are : line_count (take i tokens) ≡ lines
-  pub lines_below : AllByRecursion (λ u. u.line < lines) (take i tokens)
-  pub column : (line : ℕ) → lines ≡ line + 1 → column_before (take i tokens) line ≡ r.column
-  pub remembers : Remembers r (take i tokens)
-  pub running : IsRunning r
-  pub lines_le : lines ≤ 16777216
-
-pub starts : (tokens : List Token) → Encoding tokens 0 [] (record { column = 0; source = 0; original_line = 0; original_column = 0; name = 0 }) 0
+pub starts : (out : List ℕ) (r : Running) → out ≡ [] → r ≡ record { column = 0; source = 0; original_line = 0; original_column = 0; name = 0 } → Encoded [] out r 0
 unfolding mappings_text
-starts tokens = record {
-  text = refl;
+starts out r none zeros = record {
+  text = none;
   lines_are = refl;
   lines_below = tt;
   column = λ line e. absurd (omega arith);
-  remembers = record { source = refl; original_line = refl; original_column = refl; name = refl };
-  running = record { column = omega arith; source = omega arith; original_line = omega arith; original_column = omega arith; name = omega arith };
-  lines_le = omega arith;
+  remembers = record {
+    source = ap (λ (x : Running). x.source) (sym zeros);
+    original_line = ap (λ (x : Running). x.original_line) (sym zeros);
+    original_column = ap (λ (x : Running). x.original_column) (sym zeros);
+    name = ap (λ (x : Running). x.name) (sym zeros);
+  };
 }
 
 pub is_before-line : (x t : Token) → is_before (position_of t) (position_of x) ≡ false → x.line ≤ t.line
 is_before-line x t e = grind (arith, nat_tests)
 
--- a token isn't before the last line so far
-pub never_falls_at : (ts : List Token) (i : ℕ) (d t : Token) → i < length ts → t ≡ get_or ts i d → NeverFalls (map position_of ts) → line_count (take i ts) ≤ t.line + 1
-never_falls_at [] i d t lt e h = absurd (omega arith)
-never_falls_at (x ∷ xs) zero d t lt e h = omega arith
-never_falls_at (x ∷ []) (suc i) d t lt e h = absurd (omega arith)
-never_falls_at (x ∷ y ∷ ys) (suc zero) d t lt e h = omega (arith, is_before-line x y h.0, ap (λ (u : Token). u.line) e)
-never_falls_at (x ∷ y ∷ ys) (suc (suc i)) d t lt e h = never_falls_at (y ∷ ys) (suc i) d t (omega arith) e h.1
+-- the last token isn't before the line of the one in front of it
+pub never_falls_last : (ts : List Token) (t : Token) → NeverFalls (map position_of (ts ++ t ∷ [])) → line_count ts ≤ t.line + 1
+never_falls_last [] t h = omega arith
+never_falls_last (x ∷ []) t h = omega (arith, is_before-line x t h.0)
+never_falls_last (x ∷ y ∷ ys) t h = never_falls_last (y ∷ ys) t h.1
+
+pub placed_last : (ts : List Token) (t : Token) → AllByRecursion IsPlaced (ts ++ t ∷ []) → IsPlaced t
+placed_last [] t h = h.0
+placed_last (x ∷ xs) t h = placed_last xs t h.1
+
+-- the first ones of tokens that have a text have one
+never_falls_take : (ts : List Token) (n : ℕ) → NeverFalls (map position_of ts) → NeverFalls (map position_of (take n ts))
+never_falls_take [] zero h = tt
+never_falls_take [] (suc n) h = tt
+never_falls_take (x ∷ xs) zero h = tt
+never_falls_take (x ∷ []) (suc zero) h = tt
+never_falls_take (x ∷ []) (suc (suc n)) h = tt
+never_falls_take (x ∷ y ∷ ys) (suc zero) h = tt
+never_falls_take (x ∷ y ∷ ys) (suc (suc n)) h = (h.0, never_falls_take (y ∷ ys) (suc n) h.1)
+
+placed_take : (ts : List Token) (n : ℕ) → AllByRecursion IsPlaced ts → AllByRecursion IsPlaced (take n ts)
+placed_take [] zero h = tt
+placed_take [] (suc n) h = tt
+placed_take (x ∷ xs) zero h = tt
+placed_take (x ∷ xs) (suc n) h = (h.0, placed_take xs n h.1)
+
+never_falls_front : (xs ys : List Token) → NeverFalls (map position_of (xs ++ ys)) → NeverFalls (map position_of xs)
+never_falls_front [] ys h = tt
+never_falls_front (x ∷ []) ys h = tt
+never_falls_front (x ∷ y ∷ xs) ys h = (h.0, never_falls_front (y ∷ xs) ys h.1)
+
+placed_front : (xs ys : List Token) → AllByRecursion IsPlaced (xs ++ ys) → AllByRecursion IsPlaced xs
+placed_front [] ys h = tt
+placed_front (x ∷ xs) ys h = (h.0, placed_front xs ys h.1)
+
+pub encodable-front : (xs ys : List Token) → IsEncodable (xs ++ ys) → IsEncodable xs
+encodable-front xs ys h = (never_falls_front xs ys h.0, placed_front xs ys h.1)
+
+pub encodable-take : (ts : List Token) (n : ℕ) → IsEncodable ts → IsEncodable (take n ts)
+encodable-take ts n h = (never_falls_take ts n h.0, placed_take ts n h.1)
 
 pub placed_at : (ts : List Token) (i : ℕ) (d t : Token) → i < length ts → t ≡ get_or ts i d → AllByRecursion IsPlaced ts → IsPlaced t
 placed_at [] i d t lt e h = absurd (omega arith)
@@ -145,25 +166,20 @@ column_behind r t = by_original t.original
     by_original (Some o) = refl
 
 -- a token more
-pub goes_on : (tokens : List Token) (i : ℕ) (out next : List ℕ) (r : Running) (lines : ℕ) (d t : Token) → Encoding tokens i out r lines → i < length tokens → t ≡ get_or tokens i d → IsEncodable tokens
-    → next ≡ (out ++ separator lines t.line) ++ segment_from (at_line r lines t.line) t → Encoding tokens (i + 1) next (running_behind (at_line r lines t.line) t) (t.line + 1)
-goes_on tokens i out next r lines d t p lt is h e =
-    let ts = take i tokens in
-    let more : take (i + 1) tokens ≡ ts ++ t ∷ [] = take_more tokens i d lt ∙ ap (λ (u : Token). ts ++ u ∷ []) (sym is) in
-    let rises : lines ≤ t.line + 1 = omega (arith, p.lines_are, never_falls_at tokens i d t lt is h.0) in
-    let placed : IsPlaced t = placed_at tokens i d t lt is h.1 in
+pub goes_on : (ts : List Token) (out next : List ℕ) (r : Running) (lines : ℕ) (t : Token) → Encoded ts out r lines → IsEncodable (ts ++ t ∷ [])
+    → next ≡ (out ++ separator lines t.line) ++ segment_from (at_line r lines t.line) t → Encoded (ts ++ t ∷ []) next (running_behind (at_line r lines t.line) t) (t.line + 1)
+goes_on ts out next r lines t p h e =
+    let rises : lines ≤ t.line + 1 = omega (arith, p.lines_are, never_falls_last ts t h.0) in
     let at : column_before ts t.line ≡ (at_line r lines t.line).column × Remembers (at_line r lines t.line) ts = at_next ts r lines t.line p.lines_below rises (p.column t.line) p.remembers in
     record {
       text = e ∙ append_assoc out (separator lines t.line) (segment_from (at_line r lines t.line) t) ∙ ap (λ (l : List ℕ). l ++ (separator lines t.line ++ segment_from (at_line r lines t.line) t)) p.text
           ∙ ap (λ (l : List ℕ). mappings_text ts ++ (separator lines t.line ++ l)) (sym (segment_text-from (at_line r lines t.line) ts t at.0 at.1))
           ∙ ap (λ (n : ℕ). mappings_text ts ++ (separator n t.line ++ segment_text ts t)) (sym p.lines_are)
-          ∙ sym (mappings_text-push ts t (subst (λ (n : ℕ). AllByRecursion (λ u. u.line < n) ts) (sym p.lines_are) p.lines_below) (omega (arith, p.lines_are))) ∙ ap mappings_text (sym more);
-      lines_are = ap line_count more ∙ line_count-push ts t;
-      lines_below = subst (AllByRecursion (λ u. u.line < t.line + 1)) (sym more) (still_below ts lines (t.line + 1) t rises (omega arith) p.lines_below);
-      column = λ line same. ap (column_before (take (i + 1) tokens)) (omega arith) ∙ ap (λ (us : List Token). column_before us t.line) more ∙ column_before-push ts t ∙ column_behind (at_line r lines t.line) t;
-      remembers = subst (Remembers (running_behind (at_line r lines t.line) t)) (sym more) (Remembers-push (at_line r lines t.line) ts t at.1);
-      running = IsRunning-behind (at_line r lines t.line) t (at_line-running r lines t.line p.running) placed;
-      lines_le = omega (arith, placed.line);
+          ∙ sym (mappings_text-push ts t (subst (λ (n : ℕ). AllByRecursion (λ u. u.line < n) ts) (sym p.lines_are) p.lines_below) (omega (arith, p.lines_are)));
+      lines_are = line_count-push ts t;
+      lines_below = still_below ts lines (t.line + 1) t rises (omega arith) p.lines_below;
+      column = λ line same. ap (column_before (ts ++ t ∷ [])) (omega arith) ∙ column_before-push ts t ∙ column_behind (at_line r lines t.line) t;
+      remembers = Remembers-push (at_line r lines t.line) ts t at.1;
     }
   where
     at_next : (ts : List Token) (r : Running) (lines line : ℕ) → AllByRecursion (λ u. u.line < lines) ts → lines ≤ line + 1 → (lines ≡ line + 1 → column_before ts line ≡ r.column) → Remembers r ts
@@ -174,12 +190,6 @@ goes_on tokens i out next r lines d t p lt is h e =
         by_test true e = (column (eqb-true _ _ e), h)
         by_test false e = let other = eqb-false _ _ e in (column_before-none ts lines line below (omega arith), record { source = h.source; original_line = h.original_line; original_column = h.original_column; name = h.name })
 
--- all tokens
-pub all_written : (tokens : List Token) (i : ℕ) (out : List ℕ) (r : Running) (lines : ℕ) → Encoding tokens i out r lines → length tokens ≤ i → out ≡ mappings_text tokens
-all_written tokens i out r lines p le = p.text ∙ ap mappings_text (take_all tokens i le)
-  where
-    take_all : (ts : List Token) (n : ℕ) → length ts ≤ n → take n ts ≡ ts
-    take_all [] zero le = refl
-    take_all [] (suc n) le = refl
-    take_all (x ∷ xs) zero le = absurd (omega arith)
-    take_all (x ∷ xs) (suc n) le = ap (λ (us : List Token). x ∷ us) (take_all xs n (omega arith))
+-- the front of what a slice was left as, inside of its vector
+pub front_kept : (n r : ℕ) (out rest : List ℕ) → length out ≡ n → r ≤ length out → take r (take n (out ++ rest)) ≡ take r out
+front_kept n r out rest e le = rw (take-append-le n out rest (omega (arith, e))) (rw (← e) (ap (take r) (take-length out)))

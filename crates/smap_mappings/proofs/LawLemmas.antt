@@ -2,13 +2,15 @@
 use Rattle.std.proofs.Common.{refl, Some, None, ℕ, List, [], ◌∷◌, Result, Ok, ap, ◌∙◌, arith}
 use Rattle.smap_vlq.specs.Number.{◌>>=◌}
 use Rattle.smap_mappings.specs.declared.token.Token.{Token}
+use Rattle.smap_mappings.specs.Lines.{segments_of}
 use Rattle.smap_mappings.specs.Tokens.{Fault, tokens_behind}
 use Rattle.smap_mappings.specs.Arrangement.{arranged}
 use Rattle.smap_mappings.specs.Decoded.{decoded}
-use Rattle.smap_mappings.specs.Text.{IsEncodable}
+use Rattle.smap_mappings.specs.Text.{IsEncodable, mappings_text}
 use Rattle.smap_mappings.specs.declared.token.Bounds.{Bounds}
-use Rattle.smap_mappings.specs.Laws.{AreFor, TextReadsBack}
-use Rattle.smap_mappings.proofs.RunningTextLemmas.{at_start, AreSegments, are_segments, mappings_text-from, segments_from}
+use Rattle.smap_mappings.specs.Laws.{AreFor, TextReadsBack, Says}
+use Rattle.smap_mappings.specs.Steps.{at_start}
+use Rattle.smap_mappings.proofs.RunningTextLemmas.{AreSegments, are_segments, mappings_text-from, segments_from}
 use Rattle.smap_mappings.proofs.ArrangementLemmas.{arranged-in_order}
 use Rattle.smap_mappings.proofs.ReadBackLemmas.{tokens_again, stands_first}
 
@@ -19,21 +21,24 @@ segments_there : (tokens : List Token) → IsEncodable tokens → AreSegments at
 segments_there [] h = tt
 segments_there (t ∷ ts) h = are_segments at_start 0 t ts (omega arith) (record { column = omega arith; source = omega arith; original_line = omega arith; original_column = omega arith; name = omega arith }) h
 
+-- The tokens of the text, in its order, are these.
+pub text_says : (bounds : Bounds) (tokens : List Token) → AreFor bounds tokens → Says bounds (mappings_text tokens) tokens
+text_says bounds tokens are =
+    let all : AreSegments at_start 0 tokens = segments_there tokens are.encodable in
+    ap (λ (text : List ℕ). tokens_behind bounds [] (segments_of text)) (mappings_text-from tokens are.encodable) ∙ ap (tokens_behind bounds []) (segments_from at_start tokens all)
+    ∙ tokens_again bounds at_start 0 0 [] tokens are.line_start are.column_start are.encodable.1 are.within all stands_first
+
 pub text_reads_back : TextReadsBack
 unfolding decoded
 text_reads_back bounds tokens are =
-    let all : AreSegments at_start 0 tokens = segments_there tokens are.encodable in
-    ap (λ (text : List ℕ). decoded bounds text) (mappings_text-from tokens are.encodable)
-    ∙ ap (λ (r : Result (List Token) Fault). r >>= λ ts. tokens_are (arranged ts))
-    (ap (tokens_behind bounds []) (segments_from at_start tokens all) ∙ tokens_again bounds at_start 0 0 [] tokens are.line_start are.column_start are.encodable.1 are.within all stands_first)
-    ∙ ap tokens_are (arranged-in_order tokens are.encodable.0)
+    ap (λ (r : Result (List Token) Fault). r >>= λ ts. tokens_are (arranged ts)) (text_says bounds tokens are) ∙ ap tokens_are (arranged-in_order tokens are.encodable.0)
 
 -- ---- the premise is met: three tokens on two lines, with two sources and a name
 
-abbrev bounds_there : Bounds
+abbrev pub bounds_there : Bounds
 bounds_there = record { start_line = 0; start_column = 0; sources = 2; names = 1; lines = 2 }
 
-abbrev tokens_there : List Token
+abbrev pub tokens_there : List Token
 tokens_there =
     record { line = 0; column = 4; original = Some (record { source = 1; line = 7; column = 3; name = Some 0 }) }
     ∷ record { line = 0; column = 4; original = None }

@@ -11,7 +11,8 @@ use Rattle.smap_mappings.specs.Position.{NeverFalls, position_of}
 use Rattle.smap_mappings.specs.Text.{IsEncodable, last_or, line_count, mappings_text}
 use Rattle.smap_mappings.specs.Writing.{original_from, name_from, segment_from, separator}
 use Rattle.smap_mappings.proofs.EncodingLemmas.{is_before-line}
-use Rattle.smap_mappings.proofs.RunningTextLemmas.{at_start, before_token, behind_token, text_from, numbers_from, mappings_text-from}
+use Rattle.smap_mappings.specs.Steps.{at_start}
+use Rattle.smap_mappings.proofs.RunningTextLemmas.{before_token, behind_token, text_from, numbers_from, mappings_text-from}
 
 spellings_length : (ns : List ℤ) → length (flat_map spelling ns) ≤ 7 * length ns
 spellings_length [] = omega arith

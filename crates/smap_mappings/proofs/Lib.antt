@@ -11,3 +11,7 @@ pub mod RunningTextLemmas
 pub mod ReadBackLemmas
 pub mod LawLemmas
 pub mod LengthLemmas
+pub mod PiecesLemmas
+pub mod CountLemmas
+pub mod SeparatorLemmas
+pub mod LeastLemmas

@@ -18,9 +18,10 @@ use Rattle.smap_mappings.specs.Steps.{Sums, text_at, original_step, column_step,
 use Rattle.smap_mappings.specs.Position.{POSITIONS}
 use Rattle.smap_mappings.specs.Text.{IsPlaced, IsOriginal, difference}
 use Rattle.smap_mappings.specs.Writing.{original_from, name_from, segment_from, original_behind, running_behind, at_line}
-use Rattle.smap_mappings.specs.Laws.{IsWithin}
+use Rattle.smap_mappings.specs.Decoded.{IsWithin}
 use Rattle.smap_mappings.proofs.StepsLemmas.{Reads, reads}
-use Rattle.smap_mappings.proofs.RunningTextLemmas.{at_start, numbers_from, before_token, behind_token, texts_from, index_on, IsSegment, AreSegments}
+use Rattle.smap_mappings.specs.Steps.{at_start}
+use Rattle.smap_mappings.proofs.RunningTextLemmas.{numbers_from, before_token, behind_token, texts_from, index_on, IsSegment, AreSegments}
 
 -- ---- one segment
 
@@ -100,7 +101,7 @@ none_past (s ∷ ss) line next lt all = ((let h = all.0 in omega arith), none_pa
 abbrev pub Stand : Running → List Segment → ℕ → Type 0
 Stand r before lines = (line : ℕ) → lines ≤ line + 1 → Sums (at_line r lines line) before line
 
-stands_behind : (r : Running) (before : List Segment) (line : ℕ) → Sums r before line → Stand r before (line + 1)
+pub stands_behind : (r : Running) (before : List Segment) (line : ℕ) → Sums r before line → Stand r before (line + 1)
 stands_behind r before line h next le = by_test (eqb (line + 1) (next + 1)) refl
   where
     by_test : (b : Bool) → eqb (line + 1) (next + 1) ≡ b → Sums (cond b r (record r { column = 0 })) before next

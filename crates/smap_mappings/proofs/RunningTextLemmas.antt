@@ -1,10 +1,10 @@
 -- The mappings text of tokens and its segments, token by token.
-use Rattle.std.proofs.Common.{◌≡◌, ℕ, zero, suc, ◌+◌, ◌-◌, ◌<◌, ◌≤◌, max, Bool, true, false, cond, eqb, List, [], ◌∷◌, ◌++◌, length, drop, get_or, replicate, Option, Some, None, Ok, ℤ, nat_abs, refl, sym, ap, subst, ◌∙◌, arith, append_assoc, length-append}
+use Rattle.std.proofs.Common.{◌≡◌, ℕ, zero, suc, ◌+◌, ◌-◌, ◌<◌, ◌≤◌, max, Bool, true, false, cond, eqb, List, [], ◌∷◌, ◌++◌, length, replicate, Option, Some, None, Ok, ℤ, nat_abs, refl, sym, ap, subst, ◌∙◌, arith, append_assoc, length-append}
 use Rattle.std.specs.Prelude.{IfSome, flat_map}
 use Rattle.std.specs.List.{AllByRecursion}
 use Rattle.std.proofs.lemmas.Bool.{eqb-true, eqb-false, ne_eqb}
 use Rattle.std.proofs.lemmas.Int.{ints}
-use Rattle.std.proofs.lemmas.List.{append-nil, length-drop, get_or-drop, drop-drop}
+use Rattle.std.proofs.lemmas.List.{append-nil}
 use Rattle.smap_vlq.specs.Number.{digit_of, spelling}
 use Rattle.smap_vlq.specs.Segment.{segment_of, is_field_count}
 use Rattle.smap_vlq.proofs.SpelledLemmas.{IsDigitByte, segment_of_spellings, spelling_spells, spellings_spell, SpellsAll-bytes, Spells-some}
@@ -13,14 +13,12 @@ use Rattle.smap_mappings.specs.declared.token.Original.{Original}
 use Rattle.smap_mappings.specs.declared.running.Running.{Running}
 use Rattle.smap_mappings.specs.Lines.{SegmentText, segments_of}
 use Rattle.smap_mappings.specs.Position.{POSITIONS}
-use Rattle.smap_mappings.specs.Steps.{text_at, ending}
+use Rattle.smap_mappings.specs.Steps.{at_start, walk, text_at, ending}
 use Rattle.smap_mappings.specs.Text.{IsEncodable, IsPlaced, IsOriginal, difference, mappings_text}
+use Rattle.smap_mappings.specs.Feeding.{Encoded}
 use Rattle.smap_mappings.specs.Writing.{IsRunning, name_from, original_from, segment_from, running_behind, separator, at_line}
-use Rattle.smap_mappings.proofs.EncodingLemmas.{Encoding, starts, goes_on, all_written, at_line-running, IsRunning-behind, is_before-line}
-use Rattle.smap_mappings.proofs.LinesLemmas.{walk, segments_of-walk}
-
-abbrev pub at_start : Running
-at_start = record { column = 0; source = 0; original_line = 0; original_column = 0; name = 0 }
+use Rattle.smap_mappings.proofs.EncodingLemmas.{starts, goes_on, encodable-front, at_line-running, IsRunning-behind, is_before-line}
+use Rattle.smap_mappings.proofs.LinesLemmas.{segments_of-walk}
 
 -- the numbers of a token's segment, by the values before it
 abbrev pub numbers_from : Running → Token → List ℤ
@@ -50,26 +48,20 @@ texts_from r lines count (t ∷ ts) =
 
 -- ---- the mappings text is this text
 
-at_place : (tokens : List Token) (i : ℕ) (t : Token) (ts : List Token) → drop i tokens ≡ t ∷ ts → (i < length tokens) × (t ≡ get_or tokens i t) × (drop (i + 1) tokens ≡ ts)
-at_place tokens i t ts e = (
-  (let n = ap length e in omega (arith, length-drop i tokens)),
-  sym (ap (λ (us : List Token). get_or us 0 t) e) ∙ get_or-drop i tokens 0 t ∙ ap (λ (k : ℕ). get_or tokens k t) (omega arith),
-  sym (drop-drop 1 i tokens) ∙ ap (drop 1) e,
-)
-
-left_to_write : (tokens : List Token) (i : ℕ) (out : List ℕ) (r : Running) (lines : ℕ) (left : List Token) → Encoding tokens i out r lines → drop i tokens ≡ left → IsEncodable tokens
-    → mappings_text tokens ≡ out ++ text_from r lines left
-left_to_write tokens i out r lines [] p e h = sym (append-nil out ∙ all_written tokens i out r lines p (let n = ap length e in omega (arith, length-drop i tokens)))
-left_to_write tokens i out r lines (t ∷ ts) p e h =
-    let at = at_place tokens i t ts e in
+left_to_write : (done left : List Token) (out : List ℕ) (r : Running) (lines : ℕ) → Encoded done out r lines → IsEncodable (done ++ left) → mappings_text (done ++ left) ≡ out ++ text_from r lines left
+left_to_write done [] out r lines p h = ap mappings_text (append-nil done) ∙ sym p.text ∙ sym (append-nil out)
+left_to_write done (t ∷ ts) out r lines p h =
     let text : List ℕ = segment_from (before_token r lines t) t in
-    left_to_write tokens (i + 1) ((out ++ separator lines t.line) ++ text) (behind_token r lines t) (t.line + 1) ts
-    (goes_on tokens i out ((out ++ separator lines t.line) ++ text) r lines t t p at.0 at.1 h refl) at.2 h
+    let same : (done ++ t ∷ []) ++ ts ≡ done ++ t ∷ ts = append_assoc done (t ∷ []) ts in
+    let more : IsEncodable ((done ++ t ∷ []) ++ ts) = subst IsEncodable (sym same) h in
+    ap mappings_text (sym same)
+    ∙ left_to_write (done ++ t ∷ []) ts ((out ++ separator lines t.line) ++ text) (behind_token r lines t) (t.line + 1)
+    (goes_on done out ((out ++ separator lines t.line) ++ text) r lines t p (encodable-front (done ++ t ∷ []) ts more) refl) more
     ∙ append_assoc (out ++ separator lines t.line) text (text_from (behind_token r lines t) (t.line + 1) ts)
     ∙ append_assoc out (separator lines t.line) (text ++ text_from (behind_token r lines t) (t.line + 1) ts)
 
 pub mappings_text-from : (tokens : List Token) → IsEncodable tokens → mappings_text tokens ≡ text_from at_start 0 tokens
-mappings_text-from tokens h = left_to_write tokens 0 [] at_start 0 tokens (starts tokens) refl h
+mappings_text-from tokens h = left_to_write [] tokens [] at_start 0 (starts [] at_start refl refl) h
 
 -- ---- what a segment needs to be read back
 
@@ -87,7 +79,7 @@ abbrev pub AreSegments : Running → ℕ → List Token → Type 0
 AreSegments r lines [] = Unit {0}
 AreSegments r lines (t ∷ ts) = (lines ≤ t.line + 1) × IsSegment (before_token r lines t) t × AreSegments (behind_token r lines t) (t.line + 1) ts
 
-clean_bytes : (text : List ℕ) → AllByRecursion IsDigitByte text → IsClean text
+pub clean_bytes : (text : List ℕ) → AllByRecursion IsDigitByte text → IsClean text
 unfolding digit_of
 clean_bytes [] all = tt
 clean_bytes (b ∷ bs) all = ((ne_eqb b 59 (λ e. not_semicolon b all.0.0 all.0.1 e), ne_eqb b 44 (λ e. not_comma b all.0.0 all.0.1 e)), clean_bytes bs all.1)
@@ -147,7 +139,7 @@ are_segments r lines t (u ∷ us) le h e = (
 
 -- ---- its segments
 
-walk_clean : (line index : ℕ) (current text rest : List ℕ) → IsClean text → walk line index current (text ++ rest) ≡ walk line index (current ++ text) rest
+pub walk_clean : (line index : ℕ) (current text rest : List ℕ) → IsClean text → walk line index current (text ++ rest) ≡ walk line index (current ++ text) rest
 walk_clean line index current [] rest all = ap (λ (c : List ℕ). walk line index c rest) (sym (append-nil current))
 walk_clean line index current (b ∷ bs) rest all =
     rw (all.0.0, all.0.1) (walk_clean line index (current ++ b ∷ []) bs rest all.1 ∙ ap (λ (c : List ℕ). walk line index c rest) (append_assoc current (b ∷ []) bs))
@@ -157,7 +149,7 @@ walk_lines line zero rest = ap (λ (l : ℕ). walk l 0 [] rest) (omega arith)
 walk_lines line (suc k) rest = walk_lines (line + 1) k rest ∙ ap (λ (l : ℕ). walk l 0 [] rest) (omega arith)
 
 -- a segment that isn't empty ends
-ending_some : (line index : ℕ) (current : List ℕ) → 0 < length current → ending line index current ≡ text_at line index current ∷ []
+pub ending_some : (line index : ℕ) (current : List ℕ) → 0 < length current → ending line index current ≡ text_at line index current ∷ []
 ending_some line zero [] lt = absurd (omega arith)
 ending_some line zero (b ∷ bs) lt = refl
 ending_some line (suc index) current lt = refl

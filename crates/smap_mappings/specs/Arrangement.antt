@@ -1,4 +1,5 @@
--- Tokens by generated line and column, ties in the order in which they came. Ours: the standard leaves the order of ties open.
+-- Tokens by generated line and column, ties in the order in which they came. Ours: the standard leaves the
+-- order of ties open.
 use Rattle.std.specs.Prelude.{◌≡◌, ℕ, ◌==◌, ◌&&◌, Bool, if◌then◌else◌, List, [], ◌∷◌, map, filter}
 use Rattle.smap_mappings.specs.declared.token.Token.{Token}
 use Rattle.smap_mappings.specs.Position.{is_before, position_of, NeverFalls}
@@ -14,7 +15,8 @@ pub record IsArranged (old new : List Token) : Type 0 where
 -- among tokens in order, before the first that doesn't lie before it
 abbrev pub insert_token : Token → List Token → List Token
 insert_token t [] = t ∷ []
-insert_token t (u ∷ us) = if is_before (position_of u) (position_of t) then u ∷ insert_token t us else t ∷ u ∷ us
+insert_token t (u ∷ us) =
+    if is_before (position_of u) (position_of t) then u ∷ insert_token t us else t ∷ u ∷ us
 
 -- The arrangement of tokens, computed.
 abbrev pub arranged : List Token → List Token

@@ -1,14 +1,14 @@
 -- What a mappings text says, and what a call that reads one may answer.
-use Rattle.std.specs.Prelude.{◌≡◌, ◌<◌, ◌≤◌, ℕ, List, [], Result, Ok, Err}
+use Rattle.std.specs.Prelude.{◌≡◌, ◌<◌, ◌≤◌, ℕ, false, List, [], IfSome, Result, Ok, Err}
 use Rattle.std.specs.Global.{Vec}
 use Rattle.smap_vlq.specs.Number.{◌>>=◌}
 use Rattle.smap_mappings.specs.declared.token.Token.{Token}
 use Rattle.smap_mappings.specs.declared.token.Bounds.{Bounds}
 use Rattle.smap_mappings.specs.declared.error.MappingsError.{MappingsError}
 use Rattle.smap_mappings.specs.declared.error.MappingsError.TheVariants as errors
-use Rattle.smap_mappings.specs.Position.{POSITIONS, LINES}
+use Rattle.smap_mappings.specs.Position.{POSITIONS, LINES, is_before, position_of}
 use Rattle.smap_mappings.specs.Lines.{segments_of}
-use Rattle.smap_mappings.specs.Tokens.{Fault, tokens_behind}
+use Rattle.smap_mappings.specs.Tokens.{Fault, start_of, tokens_behind}
 use Rattle.smap_mappings.specs.Arrangement.{arranged}
 
 -- The tokens of a mappings text, arranged; or its first fault.
@@ -28,3 +28,13 @@ pub record AreBounds (bounds : Bounds) : Type 0 where
   pub sources : bounds.sources < POSITIONS
   pub names : bounds.names < POSITIONS
   pub lines : bounds.lines ≤ LINES
+
+-- Its line and its indices are below the bounds.
+pub record IsWithin (bounds : Bounds) (t : Token) : Type 0 where
+  pub line : t.line < bounds.lines
+  pub source : IfSome t.original (λ o. o.source < bounds.sources)
+  pub name : IfSome t.original (λ o. IfSome o.name (λ n. n < bounds.names))
+
+-- It doesn't lie before the start.
+abbrev pub IsFromStart : Bounds → Token → Type 0
+IsFromStart bounds t = is_before (position_of t) (start_of bounds) ≡ false

@@ -1,17 +1,13 @@
 -- What holds of mappings texts.
-use Rattle.std.specs.Prelude.{◌≡◌, ◌+◌, ◌*◌, ◌<◌, ◌≤◌, ◌↔◌, List, length, Ok, IfSome}
+use Rattle.std.specs.Prelude.{◌≡◌, ◌+◌, ◌*◌, ◌<◌, ◌≤◌, ◌⊎◌, ◌↔◌, ℕ, List, [], length, Ok}
 use Rattle.std.specs.List.{AllByRecursion}
 use Rattle.smap_mappings.specs.declared.token.Token.{Token}
 use Rattle.smap_mappings.specs.declared.token.Bounds.{Bounds}
+use Rattle.smap_mappings.specs.Lines.{segments_of}
+use Rattle.smap_mappings.specs.Tokens.{tokens_behind}
 use Rattle.smap_mappings.specs.Arrangement.{arranged, IsArranged}
-use Rattle.smap_mappings.specs.Decoded.{decoded}
+use Rattle.smap_mappings.specs.Decoded.{decoded, IsWithin}
 use Rattle.smap_mappings.specs.Text.{IsEncodable, line_count, mappings_text}
-
--- Its line and its indices are below the bounds.
-pub record IsWithin (bounds : Bounds) (t : Token) : Type 0 where
-  pub line : t.line < bounds.lines
-  pub source : IfSome t.original (λ o. o.source < bounds.sources)
-  pub name : IfSome t.original (λ o. IfSome o.name (λ n. n < bounds.names))
 
 -- Tokens that have a text, within bounds that start at line 0 and column 0.
 pub record AreFor (bounds : Bounds) (tokens : List Token) : Type 0 where
@@ -22,12 +18,28 @@ pub record AreFor (bounds : Bounds) (tokens : List Token) : Type 0 where
 
 -- The text of such tokens has no fault, and its tokens are these.
 abbrev pub TextReadsBack : Type 0
-TextReadsBack = (bounds : Bounds) (tokens : List Token) → AreFor bounds tokens → decoded bounds (mappings_text tokens) ≡ Ok tokens
+TextReadsBack = (bounds : Bounds) (tokens : List Token) → AreFor bounds tokens
+    → decoded bounds (mappings_text tokens) ≡ Ok tokens
 
--- A list is the arrangement of another exactly if positions never fall in it and each position has its tokens in their order.
+-- A list is the arrangement of another exactly if positions never fall in it and each position has its tokens
+-- in their order.
 abbrev pub ArrangedByPosition : Type 0
 ArrangedByPosition = (old new : List Token) → (new ≡ arranged old) ↔ IsArranged old new
 
 -- A text has at most 36 bytes for each token, and one for each line.
 abbrev pub TextIsShort : Type 0
-TextIsShort = (tokens : List Token) → IsEncodable tokens → length (mappings_text tokens) ≤ 36 * length tokens + line_count tokens
+TextIsShort = (tokens : List Token) → IsEncodable tokens
+    → length (mappings_text tokens) ≤ 36 * length tokens + line_count tokens
+
+-- The text has no fault under these bounds, and the tokens of its segments, in the order of the text, are
+-- these.
+abbrev pub Says : Bounds → List ℕ → List Token → Type 0
+Says bounds text tokens = tokens_behind bounds [] (segments_of text) ≡ Ok tokens
+
+-- Of all texts that say such tokens, their canonical text is the shortest: it is one of them, and every other
+-- is longer.
+abbrev pub TextIsLeast : Type 0
+TextIsLeast = (bounds : Bounds) (tokens : List Token) → AreFor bounds tokens
+    → Says bounds (mappings_text tokens) tokens
+    × ((text : List ℕ) → Says bounds text tokens
+    → (text ≡ mappings_text tokens) ⊎ (length (mappings_text tokens) < length text))

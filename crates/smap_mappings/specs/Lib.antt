@@ -6,4 +6,6 @@ pub mod Decoded
 pub mod Text
 pub mod Laws
 pub mod Steps
+pub mod Pieces
 pub mod Writing
+pub mod Feeding

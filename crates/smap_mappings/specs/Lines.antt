@@ -16,7 +16,8 @@ segment_texts (b ∷ bs) = slice_split (λ byte. byte == 44) (b ∷ bs)
 -- the segment texts of a line from a place on
 abbrev pub numbered : ℕ → ℕ → List (List ℕ) → List SegmentText
 numbered line index [] = []
-numbered line index (text ∷ texts) = record { line = line; index = index; text = text } ∷ numbered line (index + 1) texts
+numbered line index (text ∷ texts) = record { line = line; index = index; text = text }
+    ∷ numbered line (index + 1) texts
 
 -- the segment texts of lines, from a line on
 abbrev pub on_lines : ℕ → List (List ℕ) → List SegmentText

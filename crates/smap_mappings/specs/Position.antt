@@ -1,23 +1,28 @@
 -- Generated positions, where a map places them, and their order.
-use Rattle.std.specs.Prelude.{◌≡◌, ℕ, ◌+◌, ◌==◌, ◌&&◌, ◌||◌, Bool, false, nat_lt, if◌then◌else◌, List, [], ◌∷◌}
+use Rattle.std.specs.Prelude.{◌≡◌, ℕ, ◌+◌, ◌==◌, ◌&&◌, ◌||◌, Bool, false, nat_lt, if◌then◌else◌, List, []}
+use Rattle.std.specs.Prelude.{◌∷◌}
+pub use Rattle.smap_vlq.specs.declared.number.TheConstants.{MAX_POSITION}
+pub use Rattle.smap_mappings.specs.declared.token.TheConstants.{MAX_LINES}
 use Rattle.smap_mappings.specs.declared.token.Token.{Token}
 
 -- one more than the greatest line, column or index of a position
 abbrev pub POSITIONS : ℕ
-POSITIONS = 2147483648
+POSITIONS = MAX_POSITION + 1
 
 -- the greatest bound of lines
 abbrev pub LINES : ℕ
-LINES = 16777216
+LINES = MAX_LINES
 
 -- A generated position: its line and its column, from 0.
 pub record Position : Type 0 where
   pub line : ℕ
   pub column : ℕ
 
--- Where a position of a map lies when the map starts at an offset: the offset's column counts on the map's first line alone. (ECMA-426, "Index source map")
+-- Where a position of a map lies when the map starts at an offset: the offset's column counts on the map's
+-- first line alone. (ECMA-426, "Index source map")
 abbrev pub place : Position → Position → Position
-place o p = if p.line == 0 then record { line = o.line; column = o.column + p.column } else record { line = o.line + p.line; column = p.column }
+place o p = if p.line == 0 then record { line = o.line; column = o.column + p.column }
+    else record { line = o.line + p.line; column = p.column }
 
 -- By line, and on one line by column.
 abbrev pub is_before : Position → Position → Bool

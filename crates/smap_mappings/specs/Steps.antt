@@ -1,6 +1,8 @@
 -- For private clauses: one segment more, by the absolute values before it.
-use Rattle.std.specs.Prelude.{◌≡◌, ℕ, zero, suc, ◌+◌, ◌≤◌, ◌==◌, if◌then◌else◌, List, [], ◌∷◌, ◌++◌, ℤ, pos, negsuc, ◌+ℤ◌, Option, Some, None, ok_or, option_map, slice_index_or, Result, Ok, Err}
-use Rattle.std.specs.List.{AllByRecursion}
+use Rattle.std.specs.Prelude.{◌≡◌, ℕ, zero, suc, ◌+◌, ◌<◌, ◌≤◌, ◌==◌, length, if◌then◌else◌, List, [], ◌∷◌}
+use Rattle.std.specs.Prelude.{◌++◌, ℤ, pos, negsuc, ◌+ℤ◌, Option, Some, None, ok_or, option_map}
+use Rattle.std.specs.Prelude.{Bool, true, not, ◌&&◌, slice_index_or, Result, Ok, Err}
+use Rattle.std.specs.List.{AllByRecursion, count_by}
 use Rattle.smap_mappings.specs.declared.token.Token.{Token}
 use Rattle.smap_mappings.specs.declared.error.SegmentKind.{SegmentKind}
 use Rattle.smap_mappings.specs.declared.token.Bounds.{Bounds}
@@ -14,8 +16,9 @@ use Rattle.smap_mappings.specs.Lines.{SegmentText}
 use Rattle.smap_mappings.specs.declared.error.MappingsError.{MappingsError}
 use Rattle.smap_mappings.specs.declared.error.MappingsError.TheVariants as errors
 use Rattle.smap_vlq.specs.Number.{◌>>=◌}
-use Rattle.smap_mappings.specs.Position.{POSITIONS}
-use Rattle.smap_mappings.specs.Tokens.{Segment, below, generated_column, source_index, original_line, original_column, name_index, kind_of, Fault, tokens_behind}
+use Rattle.smap_mappings.specs.Position.{POSITIONS, Position, is_before}
+use Rattle.smap_mappings.specs.Tokens.{Segment, below, generated_column, source_index, original_line}
+use Rattle.smap_mappings.specs.Tokens.{original_column, name_index, kind_of, Fault, tokens_behind}
 
 -- These are the absolute values behind the segments, on a line that none of them lies past.
 pub record Sums (r : Running) (before : List Segment) (line : ℕ) : Type 0 where
@@ -26,13 +29,20 @@ pub record Sums (r : Running) (before : List Segment) (line : ℕ) : Type 0 wher
   pub name : name_index before ≡ pos r.name
   pub not_past : AllByRecursion (λ s. s.line ≤ line) before
 
+-- in front of the first segment
+abbrev pub at_start : Running
+at_start = record { column = 0; source = 0; original_line = 0; original_column = 0; name = 0 }
+
 -- ---- a segment by the absolute values before it
 
 abbrev pub field : Fields → ℕ → ℤ
 field fields which = slice_index_or fields.numbers which (pos 0)
 
 abbrev pub name_step : Bounds → ℕ → Fields → Result (ℕ × Option ℕ) SegmentKind
-name_step bounds name fields = if fields.count == 5 then (ok_or (below bounds.names (pos name +ℤ field fields 4)) kind.Name >>= λ n. Ok (n, Some n)) else Ok (name, None)
+name_step bounds name fields =
+    if fields.count == 5
+    then (ok_or (below bounds.names (pos name +ℤ field fields 4)) kind.Name >>= λ n. Ok (n, Some n))
+    else Ok (name, None)
 
 abbrev pub original_step : Bounds → Running → Fields → Result (Running × Option Original) SegmentKind
 original_step bounds r fields = if fields.count == 1 then Ok (r, None) else (do
@@ -51,7 +61,9 @@ placed_column start_column line column = if line == 0 then start_column + column
 
 -- the column and the placed column
 abbrev pub column_step : Bounds → ℕ → ℤ → Option (ℕ × ℕ)
-column_step bounds line (pos column) = option_map (λ placed. (column, placed)) (below POSITIONS (pos (placed_column bounds.start_column line column)))
+column_step bounds line (pos column) =
+    option_map (λ placed. (column, placed))
+    (below POSITIONS (pos (placed_column bounds.start_column line column)))
 column_step bounds line (negsuc column) = None
 
 abbrev pub token_step : Bounds → Running → ℕ → Fields → Result (Running × Token) SegmentKind
@@ -59,7 +71,10 @@ token_step bounds r line fields = do
   placed_line ← ok_or (below bounds.lines (pos (bounds.start_line + line))) kind.GeneratedLine
   column ← ok_or (column_step bounds line (pos r.column +ℤ field fields 0)) kind.Column
   rest ← original_step bounds r fields
-  Ok (record rest.0 { column = column.0 }, record { line = placed_line; column = column.1; original = rest.1 })
+  Ok (
+    record rest.0 { column = column.0 },
+    record { line = placed_line; column = column.1; original = rest.1 },
+  )
 
 abbrev pub fields_or_kind : Result Fields SegmentFault → Result Fields SegmentKind
 fields_or_kind (Ok fields) = Ok fields
@@ -77,12 +92,55 @@ ending line zero [] = []
 ending line zero (b ∷ bs) = text_at line 0 (b ∷ bs) ∷ []
 ending line (suc index) current = text_at line (suc index) current ∷ []
 
+-- the segments from within a segment on
+abbrev pub walk : ℕ → ℕ → List ℕ → List ℕ → List SegmentText
+walk line index current [] = ending line index current
+walk line index current (b ∷ bs) =
+    if b == 59 then ending line index current ++ walk (line + 1) 0 [] bs
+    else if b == 44 then text_at line index current ∷ walk line (index + 1) [] bs
+    else walk line index (current ++ b ∷ []) bs
+
 abbrev pub with_tokens : List Token → Result (List Token) Fault → Result (List Token) Fault
 with_tokens front read = read >>= λ tokens. Ok (front ++ tokens)
 
--- Segments were read behind others, or one has a fault, whatever segments follow.
-abbrev pub Continues : Bounds → List Segment → ℕ → List SegmentText → List Token → List Token → Result Running MappingsError → Type 0
-Continues bounds before line texts old new (Ok r) = (behind : List Segment) × Sums r behind line
-    × ((rest : List SegmentText) → with_tokens old (tokens_behind bounds before (texts ++ rest)) ≡ with_tokens new (tokens_behind bounds behind rest))
-Continues bounds before line texts old new (Err (errors.Fault place kind)) = (rest : List SegmentText) → tokens_behind bounds before (texts ++ rest) ≡ Err (place, kind)
-Continues bounds before line texts old new (Err errors.Memory) = Unit {0}
+-- Segments were read behind others; or one has a fault, whatever segments follow; or there are more tokens
+-- than the room.
+abbrev pub Continues : Bounds → List Segment → ℕ → List SegmentText → ℕ → List Token → List Token
+    → Result Running MappingsError → Type 0
+Continues bounds before line texts room old new (Ok r) = (behind : List Segment) × Sums r behind line
+    × ((rest : List SegmentText)
+    → with_tokens old (tokens_behind bounds before (texts ++ rest))
+    ≡ with_tokens new (tokens_behind bounds behind rest))
+Continues bounds before line texts room old new (Err (errors.Fault place kind)) = (rest : List SegmentText)
+    → tokens_behind bounds before (texts ++ rest) ≡ Err (place, kind)
+Continues bounds before line texts room old new (Err errors.Memory) = (tokens : List Token)
+    × (tokens_behind bounds before texts ≡ Ok tokens) × (room < length old + length tokens)
+
+-- ---- order
+
+-- whether no position lies before the one in front of it
+abbrev pub in_order : List Position → Bool
+in_order [] = true
+in_order (p ∷ []) = true
+in_order (p ∷ q ∷ qs) = not (is_before q p) && in_order (q ∷ qs)
+
+-- ---- counting
+
+-- One for a comma, and one for the first byte of a line.
+abbrev pub mark : ℕ → ℕ → ℕ
+mark previous byte =
+    (if byte == 44 then 1 else 0) + (if previous == 59 then (if byte == 59 then 0 else 1) else 0)
+
+-- those of bytes behind a byte
+abbrev pub marks : ℕ → List ℕ → ℕ
+marks previous [] = 0
+marks previous (b ∷ bs) = mark previous b + marks b bs
+
+-- the commas among bytes
+abbrev pub commas_in : List ℕ → ℕ
+commas_in bytes = count_by (λ b. b == 44) bytes
+
+-- the bytes that begin a line, by the bytes that stand one place before
+abbrev pub starts_in : List ℕ → List ℕ → ℕ
+starts_in (p ∷ ps) (b ∷ bs) = (if p == 59 then (if b == 59 then 0 else 1) else 0) + starts_in ps bs
+starts_in ps bs = 0

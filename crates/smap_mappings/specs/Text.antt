@@ -1,5 +1,7 @@
--- The canonical mappings text of tokens: the shortest spellings of the differences between neighbours (ECMA-426, "Mappings structure" and "Base64 VLQ").
-use Rattle.std.specs.Prelude.{ℕ, zero, suc, ◌+◌, ◌<◌, ◌==◌, List, [], ◌∷◌, ◌++◌, map, filter, filter_map, flat_map, Option, Some, None, IfSome, ℤ, pos, ◌-ℤ◌}
+-- The canonical mappings text of tokens: the shortest spellings of the differences between neighbours
+-- (ECMA-426, "Mappings structure" and "Base64 VLQ").
+use Rattle.std.specs.Prelude.{ℕ, zero, suc, ◌+◌, ◌<◌, ◌==◌, List, [], ◌∷◌, ◌++◌, map, filter, filter_map}
+use Rattle.std.specs.Prelude.{flat_map, Option, Some, None, IfSome, ℤ, pos, ◌-ℤ◌}
 use Rattle.std.specs.List.{join_with_byte, AllByRecursion}
 use Rattle.std.specs.Option.{option_map_or}
 use Rattle.smap_vlq.specs.Number.{spelling}
@@ -54,12 +56,14 @@ difference old new = pos new -ℤ pos old
 abbrev pub original_differences : List Token → Option Original → List ℤ
 original_differences before None = []
 original_differences before (Some o) =
-    difference (original_before before).source o.source ∷ difference (original_before before).line o.line ∷ difference (original_before before).column o.column
+    difference (original_before before).source o.source ∷ difference (original_before before).line o.line
+    ∷ difference (original_before before).column o.column
     ∷ option_map_or (λ name. difference (name_before before) name ∷ []) o.name []
 
 -- The numbers of a token's segment behind these tokens.
 abbrev pub differences : List Token → Token → List ℤ
-differences before t = difference (column_before before t.line) t.column ∷ original_differences before t.original
+differences before t = difference (column_before before t.line) t.column
+    ∷ original_differences before t.original
 
 -- its segment
 abbrev pub segment_text : List Token → Token → List ℕ
@@ -85,4 +89,5 @@ line_count tokens = last_or 0 (map (λ t. t.line + 1) tokens)
 
 -- The lines up to the last with a token, joined by semicolons.
 unfoldable pub mappings_text : List Token → List ℕ
-mappings_text tokens = join_with_byte 59 (map (line_text (segments_behind [] tokens)) (below_count (line_count tokens)))
+mappings_text tokens =
+    join_with_byte 59 (map (line_text (segments_behind [] tokens)) (below_count (line_count tokens)))

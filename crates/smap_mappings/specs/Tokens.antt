@@ -1,6 +1,8 @@
 -- The tokens of a mappings text in its order, or its first fault (ECMA-426, "Mappings structure").
 -- Ours: a text is refused at its first fault, where the standard reports an error and goes on.
-use Rattle.std.specs.Prelude.{ℕ, ◌==◌, nat_lt, min, if◌then◌else◌, List, [], ◌∷◌, ◌++◌, map, filter, length, slice_index_or, Option, Some, None, ok_or, Result, Ok, Err, ℤ, pos, negsuc, ◌+ℤ◌}
+use Rattle.std.specs.Prelude.{ℕ, ◌==◌, nat_lt, min, if◌then◌else◌, List, [], ◌∷◌, ◌++◌, map, filter, length}
+use Rattle.std.specs.Prelude.{slice_index_or, Option, Some, None, ok_or, Result, Ok, Err, ℤ, pos, negsuc}
+use Rattle.std.specs.Prelude.{◌+ℤ◌}
 use Rattle.smap_vlq.specs.declared.segment.SegmentFault.{SegmentFault}
 use Rattle.smap_vlq.specs.declared.segment.SegmentFault.TheVariants as fault
 use Rattle.smap_vlq.specs.Number.{◌>>=◌}
@@ -33,7 +35,8 @@ sum_of which segments = total (map (λ s. slice_index_or s.numbers which (pos 0)
 abbrev pub on_line : ℕ → List Segment → List Segment
 on_line line segments = filter (λ s. s.line == line) segments
 
--- The absolute values at the last of these segments: each number of a text is a difference. The column is the sum over the segments of its line, the others are sums over all.
+-- The absolute values at the last of these segments: each number of a text is a difference. The column is the
+-- sum over the segments of its line, the others are sums over all.
 abbrev pub generated_column : List Segment → ℕ → ℤ
 generated_column segments line = sum_of 0 (on_line line segments)
 
@@ -83,7 +86,9 @@ numbers_in (Err f) = Err (kind_of f)
 
 -- the name of a segment with so many numbers, or its fault: the last of these segments
 abbrev pub name_in : Bounds → List Segment → ℕ → Result (Option ℕ) SegmentKind
-name_in bounds segments count = if count == 5 then (ok_or (below bounds.names (name_index segments)) kind.Name >>= λ name. Ok (Some name)) else Ok None
+name_in bounds segments count =
+    if count == 5 then (ok_or (below bounds.names (name_index segments)) kind.Name >>= λ name. Ok (Some name))
+    else Ok None
 
 -- its original position, or the first fault
 abbrev pub original_in : Bounds → List Segment → ℕ → Result (Option Original) SegmentKind
@@ -98,7 +103,8 @@ original_in bounds segments count = if count == 1 then Ok None else (do
 unfoldable pub token_of : Bounds → List Segment → Segment → Result Token SegmentKind
 token_of bounds before segment = do
   line ← ok_or (below bounds.lines (pos (placed bounds segment.line 0).line)) kind.GeneratedLine
-  column ← ok_or (column_in bounds segment.line (generated_column (before ++ segment ∷ []) segment.line)) kind.Column
+  column ← ok_or
+      (column_in bounds segment.line (generated_column (before ++ segment ∷ []) segment.line)) kind.Column
   original ← original_in bounds (before ++ segment ∷ []) (length segment.numbers)
   Ok (record { line = line; column = column; original = original })
 
@@ -127,4 +133,5 @@ read_in bounds before text = do
 abbrev pub tokens_behind : Bounds → List Segment → List SegmentText → Result (List Token) Fault
 tokens_behind bounds before [] = Ok []
 tokens_behind bounds before (text ∷ texts) =
-    at_place text (read_in bounds before text) >>= λ x. tokens_behind bounds (before ++ x.0 ∷ []) texts >>= λ tokens. Ok (x.1 ∷ tokens)
+    at_place text (read_in bounds before text) >>= λ x. tokens_behind bounds (before ++ x.0 ∷ []) texts
+    >>= λ tokens. Ok (x.1 ∷ tokens)

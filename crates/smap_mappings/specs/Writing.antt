@@ -1,5 +1,6 @@
 -- For private clauses: the text of one token more, by the absolute values before it.
-use Rattle.std.specs.Prelude.{ℕ, ◌+◌, ◌<◌, ◌==◌, ◌-◌, max, replicate, unwrap_or, if◌then◌else◌, List, [], ◌∷◌, flat_map, Option, Some, None, ℤ}
+use Rattle.std.specs.Prelude.{ℕ, ◌+◌, ◌<◌, ◌==◌, ◌-◌, max, replicate, unwrap_or, if◌then◌else◌, List, [], ◌∷◌}
+use Rattle.std.specs.Prelude.{flat_map, Option, Some, None, ℤ}
 use Rattle.smap_vlq.specs.Number.{spelling}
 use Rattle.smap_mappings.specs.declared.token.Token.{Token}
 use Rattle.smap_mappings.specs.declared.token.Original.{Original}
@@ -21,14 +22,20 @@ name_from last (Some name) = difference last name ∷ []
 
 abbrev pub original_from : Running → Option Original → List ℤ
 original_from r None = []
-original_from r (Some o) = difference r.source o.source ∷ difference r.original_line o.line ∷ difference r.original_column o.column ∷ name_from r.name o.name
+original_from r (Some o) = difference r.source o.source ∷ difference r.original_line o.line
+    ∷ difference r.original_column o.column ∷ name_from r.name o.name
 
 abbrev pub segment_from : Running → Token → List ℕ
 segment_from r t = flat_map spelling (difference r.column t.column ∷ original_from r t.original)
 
 abbrev pub original_behind : Running → Option Original → Running
 original_behind r None = r
-original_behind r (Some o) = record r { source = o.source; original_line = o.line; original_column = o.column; name = unwrap_or o.name r.name }
+original_behind r (Some o) = record r {
+  source = o.source;
+  original_line = o.line;
+  original_column = o.column;
+  name = unwrap_or o.name r.name;
+}
 
 abbrev pub running_behind : Running → Token → Running
 running_behind r t = original_behind (record r { column = t.column }) t.original

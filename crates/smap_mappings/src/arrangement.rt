@@ -1,15 +1,16 @@
 //! Tokens by generated line, and on one line by column.
-ghost use Rattle.std.specs.Prelude.{◌≡◌, ◌↔◌, IsTrue, OnOk, map};
+ghost use Rattle.std.specs.Prelude.{◌≡◌, ◌↔◌, IsTrue, IsOk, OnOk, map};
 ghost use Rattle.std.specs.Ordering.{is_lt};
 ghost use Rattle.smap_mappings.specs.Position.{NeverFalls, is_before, position_of};
 ghost use Rattle.smap_mappings.specs.Arrangement.{arranged};
 
+use crate::error::Memory;
 use crate::token::Token;
-use std::alloc::AllocError;
 use std::cmp::Ordering;
 
 /// Compares the generated positions.
-fn position_cmp(a: &Token, b: &Token) -> Ordering
+#[inline(always)]
+pub(crate) fn position_cmp(a: &Token, b: &Token) -> Ordering
     ensures { is_lt result ≡ is_before (position_of a.now) (position_of b.now) }
 {
     a.line.cmp(&b.line).then(a.column.cmp(&b.column))
@@ -27,9 +28,11 @@ pub(crate) fn never_falls(tokens: &[Token]) -> bool
     true
 }
 
-/// Sorts the tokens, ties in the order in which they come. Most texts are in order: they need no sort, and no memory for it.
-pub(crate) fn arrange(tokens: &mut Vec<Token>) -> Result<(), AllocError>
-    ensures { OnOk result (tokens.new.items ≡ arranged tokens.old.items) }
+/// Sorts the tokens, ties in the order in which they come. Most texts are in order: they need no
+/// sort, and no memory for it.
+pub(crate) fn arrange(tokens: &mut Vec<Token>) -> Result<(), Memory>
+    ensures arranged { OnOk result (tokens.new.items ≡ arranged tokens.old.items) }
+    ensures fits { NeverFalls (map position_of tokens.old.items) → IsOk result }
 {
     if never_falls(tokens) {
         return Ok(());

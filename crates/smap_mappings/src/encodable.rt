@@ -4,10 +4,7 @@ ghost use Rattle.smap_mappings.specs.Text.{IsEncodable, IsOriginal, IsPlaced};
 
 use crate::arrangement::never_falls;
 use crate::running::POSITION_LIMIT;
-use crate::token::{Original, Token};
-
-/// The greatest bound of lines: no map has more.
-const LINE_LIMIT: u32 = 16_777_216;
+use crate::token::{MAX_LINES, Original, Token};
 
 fn is_original(original: &Original) -> bool
     ensures { IsTrue result ↔ IsOriginal original.now }
@@ -21,13 +18,13 @@ fn is_original(original: &Original) -> bool
 fn is_placed(token: &Token) -> bool
     ensures { IsTrue result ↔ IsPlaced token.now }
 {
-    token.line < LINE_LIMIT
+    token.line < MAX_LINES
         && token.column < POSITION_LIMIT
         && token.original.is_none_or(|original| is_original(&original))
 }
 
-/// Whether the tokens have a mappings text: positions never fall in the list's order, lines are below 16,777,216,
-/// and all other numbers are at most 2,147,483,647.
+/// Whether the tokens have a mappings text: positions never fall in the list's order, lines are
+/// below 16,777,216, and all other numbers are at most 2,147,483,647.
 pub fn is_encodable(tokens: &[Token]) -> bool
     ensures { IsTrue result ↔ IsEncodable tokens.now }
 {

@@ -2,7 +2,10 @@
 ghost use Rattle.std.specs.Prelude.{◌≡◌};
 
 use smap_vlq::NumberFault;
-use std::alloc::{AllocError, AllocFailed};
+use std::alloc::AllocFailed;
+
+/// There was no memory for the answer.
+pub use std::alloc::AllocError as Memory;
 
 /// A segment by its line in the text and its number in the line.
 ///
@@ -45,22 +48,6 @@ pub enum MappingsError {
     Memory,
 }
 
-/// There was no memory for the answer.
-#[derive(Clone, Copy, Debug, PartialEq, Eq)]
-pub struct Memory;
-
-impl<T: Drop> From<AllocFailed<T>> for Memory {
-    fn from(_failed: AllocFailed<T>) -> Memory {
-        Memory
-    }
-}
-
-impl From<AllocError> for Memory {
-    fn from(_failed: AllocError) -> Memory {
-        Memory
-    }
-}
-
 impl<T: Drop> From<AllocFailed<T>> for MappingsError {
     ghost use Rattle.smap_mappings.specs.declared.error.MappingsError.TheVariants as errors;
 
@@ -71,12 +58,12 @@ impl<T: Drop> From<AllocFailed<T>> for MappingsError {
     }
 }
 
-impl From<AllocError> for MappingsError {
+impl From<Memory> for MappingsError {
     ghost use Rattle.smap_mappings.specs.declared.error.MappingsError.TheVariants as errors;
 
     ghost from_gives = { λ _ e. e ≡ errors.Memory };
 
-    fn from(_failed: AllocError) -> MappingsError {
+    fn from(_failed: Memory) -> MappingsError {
         MappingsError::Memory
     }
 }

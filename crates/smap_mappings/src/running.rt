@@ -1,8 +1,12 @@
 //! The five numbers that run through a mappings text.
 ghost use Rattle.std.specs.Prelude.{◌≡◌};
+ghost use Rattle.smap_mappings.specs.Steps.{at_start};
 
-/// One more than the greatest column, original line or index: a difference of two such numbers has a spelling.
-pub(crate) const POSITION_LIMIT: u32 = 2_147_483_648;
+use smap_vlq::MAX_POSITION;
+
+/// One more than the greatest column, original line or index: a difference of two such numbers has
+/// a spelling.
+pub(crate) const POSITION_LIMIT: u32 = MAX_POSITION + 1;
 
 /// The absolute values at the last segment: the numbers of the next one are differences to these.
 #[derive(Clone, Copy)]
@@ -17,7 +21,7 @@ pub(crate) struct Running {
 impl Running {
     /// The values in front of the first segment.
     pub(crate) fn new() -> Running
-        ensures { result ≡ record { column = 0; source = 0; original_line = 0; original_column = 0; name = 0 } }
+        ensures { result ≡ at_start }
     {
         Running {
             column: 0,

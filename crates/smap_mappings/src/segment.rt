@@ -1,14 +1,15 @@
 //! One segment: its token by the absolute values in front of it, or its first fault.
 ghost use Rattle.std.specs.Prelude.{◌≡◌, pos, ◌+ℤ◌};
 ghost use Rattle.smap_mappings.specs.Tokens.{below, kind_of};
-ghost use Rattle.smap_mappings.specs.Steps.{name_step, original_step, column_step, token_step, judge_step};
+ghost use Rattle.smap_mappings.specs.Steps.{name_step, original_step, column_step, token_step};
 
 use crate::error::SegmentKind;
 use crate::running::{POSITION_LIMIT, Running};
 use crate::token::{Bounds, Original, Token};
-use smap_vlq::{Fields, SegmentFault, read_segment};
+use smap_vlq::{Fields, SegmentFault};
 
 /// A position moved by a difference, where it is from 0 to below the limit then.
+#[inline(always)]
 fn moved(position: u32, difference: i32, limit: u32) -> Option<u32>
     ensures { result ≡ below limit (pos position +ℤ difference) }
 {
@@ -20,6 +21,7 @@ fn moved(position: u32, difference: i32, limit: u32) -> Option<u32>
 }
 
 /// The last name behind the segment, and the segment's own.
+#[inline(always)]
 fn name_at(bounds: Bounds, last: u32, fields: &Fields) -> Result<(u32, Option<u32>), SegmentKind>
     ensures { result ≡ name_step bounds last fields.now }
 {
@@ -31,6 +33,7 @@ fn name_at(bounds: Bounds, last: u32, fields: &Fields) -> Result<(u32, Option<u3
 }
 
 /// The values behind the segment, the column apart, and the segment's original position.
+#[inline(always)]
 fn original_at(
     bounds: Bounds,
     running: Running,
@@ -68,6 +71,7 @@ fn original_at(
 }
 
 /// The column behind the segment, and where it is placed.
+#[inline(always)]
 fn column_at(bounds: Bounds, line: usize, column: u32, difference: i32) -> Option<(u32, u32)>
     ensures { result ≡ column_step bounds line (pos column +ℤ difference) }
 {
@@ -84,7 +88,8 @@ fn column_at(bounds: Bounds, line: usize, column: u32, difference: i32) -> Optio
 }
 
 /// The values behind the segment, and its token.
-fn token_at(
+#[inline(always)]
+pub(crate) fn token_at(
     bounds: Bounds,
     running: Running,
     line: usize,
@@ -94,7 +99,8 @@ fn token_at(
 {
     let lines = bounds.lines as usize;
     let start = bounds.start_line as usize;
-    // The sum below is small once the line is: a text can have more lines than a `usize` can bear on top of a start.
+    // The sum below is small once the line is: a text can have more lines than a `usize` can bear
+    // on top of a start.
     if line >= lines || start + line >= lines {
         return Err(SegmentKind::GeneratedLine);
     }
@@ -110,27 +116,13 @@ fn token_at(
     Ok((Running { column, ..behind }, token))
 }
 
-fn kind_of(fault: SegmentFault) -> SegmentKind
+/// The fault of a segment's spelling or count, as one of a mappings text.
+pub(crate) fn kind_of(fault: SegmentFault) -> SegmentKind
     ensures { result ≡ kind_of fault }
 {
     match fault {
         SegmentFault::Empty => SegmentKind::Empty,
         SegmentFault::Number(which, fault) => SegmentKind::Number(which, fault),
         SegmentFault::Count(count) => SegmentKind::Count(count),
-    }
-}
-
-/// The values behind the segment of a text, and its token.
-pub(crate) fn judge(
-    bounds: Bounds,
-    running: Running,
-    line: usize,
-    text: &[u8],
-) -> Result<(Running, Token), SegmentKind>
-    ensures { result ≡ judge_step bounds running line text.now }
-{
-    match read_segment(text) {
-        Ok(fields) => token_at(bounds, running, line, &fields),
-        Err(fault) => Err(kind_of(fault)),
     }
 }

@@ -19,10 +19,13 @@ pub struct Original {
     pub name: Option<u32>,
 }
 
+/// The greatest bound of lines: no map has more.
+pub const MAX_LINES: u32 = 16_777_216;
+
 /// Where a mappings text starts in the generated file, and what its lines and indices stay below.
 ///
 /// The start column moves the first line of the text alone.
-/// `lines` is the bound of lines: at most 16,777,216. The other four are at most 2,147,483,647.
+/// `lines` is the bound of lines: at most `MAX_LINES`. The other four are at most `MAX_POSITION`.
 #[derive(Clone, Copy, Debug, PartialEq, Eq)]
 pub struct Bounds {
     pub start_line: u32,

@@ -6,17 +6,19 @@ use Rattle.serde_json.proofs.OnLiterals.{serde_json_on_literals}
 use Rattle.url.proofs.OnLiterals.{url_on_literals}
 use Rattle.url.specs.Parts.{Parts}
 use Rattle.url.specs.Parser.{Parsed, parse_url}
+use Rattle.smap_vlq.specs.declared.number.NumberFault.TheVariants.{Character}
 use Rattle.smap_vlq.specs.Number.{digit_of}
 use Rattle.smap_vlq.specs.Segment.{segment_of}
 use Rattle.smap_mappings.specs.Tokens.{token_of}
 use Rattle.smap_mappings.specs.Decoded.{decoded}
-use Rattle.smap_shape.specs.Reading.{shape_of, number_below}
+use Rattle.smap_shape.specs.Reading.{shape_of, section_of, number_below}
 use Rattle.smap_record.specs.declared.fault.Kind.{Kind}
 use Rattle.smap_record.specs.declared.fault.Kind.TheVariants as kinds
 use Rattle.smap_record.specs.Record.{Entry, Mapping, Record, Allowed, record_of, distinct}
 use Rattle.smap_record.specs.Source.{Resolved, no_url, resolved, resolve}
-use Rattle.smap_record.specs.Faults.{Checked, ◌>>=◌, refuse}
+use Rattle.smap_record.specs.Faults.{Checked, ◌>>=◌, refuse, in_section}
 use Rattle.smap_record.specs.Flat.{source_url, entries_from, listed_flat}
+use Rattle.smap_record.specs.Sections.{listed_sections, section_map}
 use Rattle.smap_record.specs.Reading.{reading}
 
 abbrev base : List ℕ
@@ -106,7 +108,7 @@ abbrev unnamed : Entry
 unnamed = record { url = None; content = Some (codes "t"); ignored = false }
 
 abbrev at : ℕ → ℕ → Kind → Checked Record
-at line segment kind = Err (record { section = None; place = Some (record { line = line; segment = segment }); kind = kind })
+at line segment kind = Err (record { section = []; place = Some (record { line = line; segment = segment }); kind = kind })
 
 abbrev few : Allowed
 few = record { items = 2; lines = 4 }
@@ -198,3 +200,131 @@ fourth_line = refl
 fifth_line : recorded few (codes "{\"version\":3,\"mappings\":\";;;;A\"}") ≡ Ok (at 4 0 kinds.GeneratedLine)
 unfolding serde_json_on_literals url_on_literals resolve reading shape_of number_below source_url entries_from listed_flat digit_of segment_of token_of decoded distinct is_utf8 chars
 fifth_line = refl
+
+-- ---- index maps
+
+abbrev bare : ℕ → ℕ → Mapping
+bare line column = record { line = line; column = column; origin = None }
+
+abbrev empty_record : Record
+empty_record = record { file = None; sources = []; mappings = [] }
+
+abbrev at_section : ℕ → ℕ → ℕ → Kind → Checked Record
+at_section section line segment kind = in_section section (at line segment kind)
+
+no_sections : recorded usual (codes "{\"version\":3,\"sections\":[]}") ≡ Ok (Ok empty_record)
+unfolding serde_json_on_literals url_on_literals resolve reading shape_of section_of number_below source_url entries_from listed_flat listed_sections section_map digit_of segment_of token_of decoded distinct is_utf8 chars
+no_sections = refl
+
+-- one source of two sections; the offset's column counts on the first line of its section alone
+merged_sources : recorded usual (codes "{\"version\":3,\"sections\":[{\"offset\":{\"line\":0,\"column\":0},\"map\":{\"version\":3,\"sources\":[\"a.js\"],\"mappings\":\"AAAA\"}},{\"offset\":{\"line\":0,\"column\":10},\"map\":{\"version\":3,\"sources\":[\"a.js\",\"b.js\"],\"names\":[\"n\"],\"mappings\":\"AAAAA;CCCC\"}}]}") ≡ Ok (Ok (record { file = None; sources = first ∷ second ∷ []; mappings = mapping 0 0 first 0 0 None ∷ mapping 0 10 first 0 0 (Some (codes "n")) ∷ mapping 1 1 second 1 1 None ∷ [] }))
+unfolding serde_json_on_literals url_on_literals resolve reading shape_of section_of number_below source_url entries_from listed_flat listed_sections section_map digit_of segment_of token_of decoded distinct is_utf8 chars
+merged_sources = refl
+
+offset_at_mapping : recorded usual (codes "{\"version\":3,\"sections\":[{\"offset\":{\"line\":0,\"column\":0},\"map\":{\"version\":3,\"mappings\":\"K\"}},{\"offset\":{\"line\":0,\"column\":5},\"map\":{\"version\":3,\"mappings\":\"A\"}}]}") ≡ Ok (Ok (record { file = None; sources = []; mappings = bare 0 5 ∷ bare 0 5 ∷ [] }))
+unfolding serde_json_on_literals url_on_literals resolve reading shape_of section_of number_below source_url entries_from listed_flat listed_sections section_map digit_of segment_of token_of decoded distinct is_utf8 chars
+offset_at_mapping = refl
+
+offset_before_mapping : recorded usual (codes "{\"version\":3,\"sections\":[{\"offset\":{\"line\":0,\"column\":0},\"map\":{\"version\":3,\"mappings\":\"K\"}},{\"offset\":{\"line\":0,\"column\":4},\"map\":{\"version\":3,\"mappings\":\"A\"}}]}") ≡ Ok (in_section 1 (refuse kinds.Overlap))
+unfolding serde_json_on_literals url_on_literals resolve reading shape_of section_of number_below source_url entries_from listed_flat listed_sections section_map digit_of segment_of token_of decoded distinct is_utf8 chars
+offset_before_mapping = refl
+
+-- the last mapping of the text isn't the greatest
+offset_before_first_in_text : recorded usual (codes "{\"version\":3,\"sections\":[{\"offset\":{\"line\":0,\"column\":0},\"map\":{\"version\":3,\"mappings\":\"K,F\"}},{\"offset\":{\"line\":0,\"column\":4},\"map\":{\"version\":3,\"mappings\":\"A\"}}]}") ≡ Ok (in_section 1 (refuse kinds.Overlap))
+unfolding serde_json_on_literals url_on_literals resolve reading shape_of section_of number_below source_url entries_from listed_flat listed_sections section_map digit_of segment_of token_of decoded distinct is_utf8 chars
+offset_before_first_in_text = refl
+
+offset_falls : recorded usual (codes "{\"version\":3,\"sections\":[{\"offset\":{\"line\":1,\"column\":0},\"map\":{\"version\":3,\"mappings\":\"K\"}},{\"offset\":{\"line\":0,\"column\":0},\"map\":{\"version\":3,\"mappings\":\"A\"}}]}") ≡ Ok (in_section 1 (refuse kinds.Order))
+unfolding serde_json_on_literals url_on_literals resolve reading shape_of section_of number_below source_url entries_from listed_flat listed_sections section_map digit_of segment_of token_of decoded distinct is_utf8 chars
+offset_falls = refl
+
+equal_offsets : recorded usual (codes "{\"version\":3,\"sections\":[{\"offset\":{\"line\":0,\"column\":0},\"map\":{\"version\":3,\"mappings\":\"A\"}},{\"offset\":{\"line\":0,\"column\":0},\"map\":{\"version\":3,\"mappings\":\"A\"}}]}") ≡ Ok (Ok (record { file = None; sources = []; mappings = bare 0 0 ∷ bare 0 0 ∷ [] }))
+unfolding serde_json_on_literals url_on_literals resolve reading shape_of section_of number_below source_url entries_from listed_flat listed_sections section_map digit_of segment_of token_of decoded distinct is_utf8 chars
+equal_offsets = refl
+
+line_beyond : recorded usual (codes "{\"version\":3,\"sections\":[{\"offset\":{\"line\":16777216,\"column\":0},\"map\":{\"version\":3,\"mappings\":\"A\"}}]}") ≡ Ok (at_section 0 0 0 kinds.GeneratedLine)
+unfolding serde_json_on_literals url_on_literals resolve reading shape_of section_of number_below source_url entries_from listed_flat listed_sections section_map digit_of segment_of token_of decoded distinct is_utf8 chars
+line_beyond = refl
+
+line_beyond_and_empty : recorded usual (codes "{\"version\":3,\"sections\":[{\"offset\":{\"line\":16777216,\"column\":0},\"map\":{\"version\":3,\"mappings\":\"\"}}]}") ≡ Ok (Ok empty_record)
+unfolding serde_json_on_literals url_on_literals resolve reading shape_of section_of number_below source_url entries_from listed_flat listed_sections section_map digit_of segment_of token_of decoded distinct is_utf8 chars
+line_beyond_and_empty = refl
+
+two_sources_then_one : recorded few (codes "{\"version\":3,\"sections\":[{\"offset\":{\"line\":0,\"column\":0},\"map\":{\"version\":3,\"sources\":[\"a.js\",\"b.js\"],\"mappings\":\"\"}},{\"offset\":{\"line\":0,\"column\":0},\"map\":{\"version\":3,\"sources\":[\"a.js\"],\"mappings\":\"\"}}]}") ≡ Ok (in_section 1 (refuse kinds.TooMany))
+unfolding serde_json_on_literals url_on_literals resolve reading shape_of section_of number_below source_url entries_from listed_flat listed_sections section_map digit_of segment_of token_of decoded distinct is_utf8 chars
+two_sources_then_one = refl
+
+url_for_map : recorded usual (codes "{\"version\":3,\"sections\":[{\"offset\":{\"line\":0,\"column\":0},\"url\":\"x\"}]}") ≡ Ok (in_section 0 (refuse kinds.SectionMap))
+unfolding serde_json_on_literals url_on_literals resolve reading shape_of section_of number_below source_url entries_from listed_flat listed_sections section_map digit_of segment_of token_of decoded distinct is_utf8 chars
+url_for_map = refl
+
+column_below_zero : recorded usual (codes "{\"version\":3,\"sections\":[{\"offset\":{\"line\":0,\"column\":-1},\"map\":{\"version\":3,\"mappings\":\"\"}}]}") ≡ Ok (in_section 0 (refuse kinds.Offset))
+unfolding serde_json_on_literals url_on_literals resolve reading shape_of section_of number_below source_url entries_from listed_flat listed_sections section_map digit_of segment_of token_of decoded distinct is_utf8 chars
+column_below_zero = refl
+
+section_no_object : recorded usual (codes "{\"version\":3,\"sections\":[7]}") ≡ Ok (in_section 0 (refuse kinds.NotObject))
+unfolding serde_json_on_literals url_on_literals resolve reading shape_of section_of number_below source_url entries_from listed_flat listed_sections section_map digit_of segment_of token_of decoded distinct is_utf8 chars
+section_no_object = refl
+
+first_section_first : recorded usual (codes "{\"version\":3,\"sections\":[{\"offset\":{\"line\":0,\"column\":0},\"map\":{\"version\":3,\"mappings\":\"!\"}},{}]}") ≡ Ok (at_section 0 0 0 (kinds.Number 1 Character))
+unfolding serde_json_on_literals url_on_literals resolve reading shape_of section_of number_below source_url entries_from listed_flat listed_sections section_map digit_of segment_of token_of decoded distinct is_utf8 chars
+first_section_first = refl
+
+file_of_section : recorded usual (codes "{\"version\":3,\"sections\":[{\"offset\":{\"line\":0,\"column\":0},\"map\":{\"version\":3,\"file\":7,\"mappings\":\"\"}}]}") ≡ Ok (in_section 0 (refuse kinds.File))
+unfolding serde_json_on_literals url_on_literals resolve reading shape_of section_of number_below source_url entries_from listed_flat listed_sections section_map digit_of segment_of token_of decoded distinct is_utf8 chars
+file_of_section = refl
+
+file_beside_sections : recorded usual (codes "{\"version\":3,\"file\":\"o\",\"sections\":[{\"offset\":{\"line\":0,\"column\":0},\"map\":{\"version\":3,\"file\":\"p\",\"mappings\":\"\"}}]}") ≡ Ok (Ok (record { file = Some (codes "o"); sources = []; mappings = [] }))
+unfolding serde_json_on_literals url_on_literals resolve reading shape_of section_of number_below source_url entries_from listed_flat listed_sections section_map digit_of segment_of token_of decoded distinct is_utf8 chars
+file_beside_sections = refl
+
+-- ---- index maps within index maps
+
+-- an inner offset is placed by the outer one, and then the mappings by both
+nested_places : recorded usual (codes "{\"version\":3,\"sections\":[{\"offset\":{\"line\":1,\"column\":4},\"map\":{\"version\":3,\"sections\":[{\"offset\":{\"line\":0,\"column\":3},\"map\":{\"version\":3,\"mappings\":\"C;C\"}}]}}]}") ≡ Ok (Ok (record { file = None; sources = []; mappings = bare 1 8 ∷ bare 2 1 ∷ [] }))
+unfolding serde_json_on_literals url_on_literals resolve reading shape_of section_of number_below source_url entries_from listed_flat listed_sections section_map digit_of segment_of token_of decoded distinct is_utf8 chars
+nested_places = refl
+
+nested_empty : recorded usual (codes "{\"version\":3,\"sections\":[{\"offset\":{\"line\":0,\"column\":0},\"map\":{\"version\":3,\"sections\":[]}}]}") ≡ Ok (Ok empty_record)
+unfolding serde_json_on_literals url_on_literals resolve reading shape_of section_of number_below source_url entries_from listed_flat listed_sections section_map digit_of segment_of token_of decoded distinct is_utf8 chars
+nested_empty = refl
+
+nested_no_version : recorded usual (codes "{\"version\":3,\"sections\":[{\"offset\":{\"line\":0,\"column\":0},\"map\":{\"sections\":[]}}]}") ≡ Ok (in_section 0 (refuse kinds.Version))
+unfolding serde_json_on_literals url_on_literals resolve reading shape_of section_of number_below source_url entries_from listed_flat listed_sections section_map digit_of segment_of token_of decoded distinct is_utf8 chars
+nested_no_version = refl
+
+nested_both : recorded usual (codes "{\"version\":3,\"sections\":[{\"offset\":{\"line\":0,\"column\":0},\"map\":{\"version\":3,\"sections\":[],\"mappings\":\"\"}}]}") ≡ Ok (in_section 0 (refuse kinds.Both))
+unfolding serde_json_on_literals url_on_literals resolve reading shape_of section_of number_below source_url entries_from listed_flat listed_sections section_map digit_of segment_of token_of decoded distinct is_utf8 chars
+nested_both = refl
+
+eight_levels : recorded usual (codes "{\"version\":3,\"sections\":[{\"offset\":{\"line\":0,\"column\":0},\"map\":{\"version\":3,\"sections\":[{\"offset\":{\"line\":0,\"column\":0},\"map\":{\"version\":3,\"sections\":[{\"offset\":{\"line\":0,\"column\":0},\"map\":{\"version\":3,\"sections\":[{\"offset\":{\"line\":0,\"column\":0},\"map\":{\"version\":3,\"sections\":[{\"offset\":{\"line\":0,\"column\":0},\"map\":{\"version\":3,\"sections\":[{\"offset\":{\"line\":0,\"column\":0},\"map\":{\"version\":3,\"sections\":[{\"offset\":{\"line\":0,\"column\":0},\"map\":{\"version\":3,\"sections\":[{\"offset\":{\"line\":0,\"column\":0},\"map\":{\"version\":3,\"mappings\":\"\"}}]}}]}}]}}]}}]}}]}}]}}]}") ≡ Ok (Ok empty_record)
+unfolding serde_json_on_literals url_on_literals resolve reading shape_of section_of number_below source_url entries_from listed_flat listed_sections section_map digit_of segment_of token_of decoded distinct is_utf8 chars
+eight_levels = refl
+
+nine_levels : recorded usual (codes "{\"version\":3,\"sections\":[{\"offset\":{\"line\":0,\"column\":0},\"map\":{\"version\":3,\"sections\":[{\"offset\":{\"line\":0,\"column\":0},\"map\":{\"version\":3,\"sections\":[{\"offset\":{\"line\":0,\"column\":0},\"map\":{\"version\":3,\"sections\":[{\"offset\":{\"line\":0,\"column\":0},\"map\":{\"version\":3,\"sections\":[{\"offset\":{\"line\":0,\"column\":0},\"map\":{\"version\":3,\"sections\":[{\"offset\":{\"line\":0,\"column\":0},\"map\":{\"version\":3,\"sections\":[{\"offset\":{\"line\":0,\"column\":0},\"map\":{\"version\":3,\"sections\":[{\"offset\":{\"line\":0,\"column\":0},\"map\":{\"version\":3,\"sections\":[{\"offset\":{\"line\":0,\"column\":0},\"map\":{\"version\":3,\"mappings\":\"\"}}]}}]}}]}}]}}]}}]}}]}}]}}]}") ≡ Ok (Err (record { section = 0 ∷ 0 ∷ 0 ∷ 0 ∷ 0 ∷ 0 ∷ 0 ∷ 0 ∷ []; place = None; kind = kinds.Nested }))
+unfolding serde_json_on_literals url_on_literals resolve reading shape_of section_of number_below source_url entries_from listed_flat listed_sections section_map digit_of segment_of token_of decoded distinct is_utf8 chars
+nine_levels = refl
+
+combined_beyond : recorded usual (codes "{\"version\":3,\"sections\":[{\"offset\":{\"line\":0,\"column\":2147483647},\"map\":{\"version\":3,\"sections\":[{\"offset\":{\"line\":0,\"column\":1},\"map\":{\"version\":3,\"mappings\":\"\"}}]}}]}") ≡ Ok (in_section 0 (in_section 0 (refuse kinds.Offset)))
+unfolding serde_json_on_literals url_on_literals resolve reading shape_of section_of number_below source_url entries_from listed_flat listed_sections section_map digit_of segment_of token_of decoded distinct is_utf8 chars
+combined_beyond = refl
+
+combined_on_another_line : recorded usual (codes "{\"version\":3,\"sections\":[{\"offset\":{\"line\":0,\"column\":2147483647},\"map\":{\"version\":3,\"sections\":[{\"offset\":{\"line\":1,\"column\":1},\"map\":{\"version\":3,\"mappings\":\"\"}}]}}]}") ≡ Ok (Ok empty_record)
+unfolding serde_json_on_literals url_on_literals resolve reading shape_of section_of number_below source_url entries_from listed_flat listed_sections section_map digit_of segment_of token_of decoded distinct is_utf8 chars
+combined_on_another_line = refl
+
+inner_offset_falls : recorded usual (codes "{\"version\":3,\"sections\":[{\"offset\":{\"line\":0,\"column\":0},\"map\":{\"version\":3,\"sections\":[{\"offset\":{\"line\":0,\"column\":2},\"map\":{\"version\":3,\"mappings\":\"\"}},{\"offset\":{\"line\":0,\"column\":1},\"map\":{\"version\":3,\"mappings\":\"\"}}]}}]}") ≡ Ok (in_section 0 (in_section 1 (refuse kinds.Order)))
+unfolding serde_json_on_literals url_on_literals resolve reading shape_of section_of number_below source_url entries_from listed_flat listed_sections section_map digit_of segment_of token_of decoded distinct is_utf8 chars
+inner_offset_falls = refl
+
+overlap_with_inner : recorded usual (codes "{\"version\":3,\"sections\":[{\"offset\":{\"line\":0,\"column\":0},\"map\":{\"version\":3,\"sections\":[{\"offset\":{\"line\":0,\"column\":6},\"map\":{\"version\":3,\"mappings\":\"A\"}}]}},{\"offset\":{\"line\":0,\"column\":5},\"map\":{\"version\":3,\"mappings\":\"A\"}}]}") ≡ Ok (in_section 1 (refuse kinds.Overlap))
+unfolding serde_json_on_literals url_on_literals resolve reading shape_of section_of number_below source_url entries_from listed_flat listed_sections section_map digit_of segment_of token_of decoded distinct is_utf8 chars
+overlap_with_inner = refl
+
+behind_empty_inner : recorded usual (codes "{\"version\":3,\"sections\":[{\"offset\":{\"line\":0,\"column\":0},\"map\":{\"version\":3,\"sections\":[{\"offset\":{\"line\":0,\"column\":6},\"map\":{\"version\":3,\"mappings\":\"\"}}]}},{\"offset\":{\"line\":0,\"column\":5},\"map\":{\"version\":3,\"mappings\":\"A\"}}]}") ≡ Ok (Ok (record { file = None; sources = []; mappings = bare 0 5 ∷ [] }))
+unfolding serde_json_on_literals url_on_literals resolve reading shape_of section_of number_below source_url entries_from listed_flat listed_sections section_map digit_of segment_of token_of decoded distinct is_utf8 chars
+behind_empty_inner = refl
+
+fault_within_inner : recorded usual (codes "{\"version\":3,\"sections\":[{\"offset\":{\"line\":0,\"column\":0},\"map\":{\"version\":3,\"sections\":[{\"offset\":{\"line\":0,\"column\":0},\"map\":{\"version\":3,\"mappings\":\"D\"}}]}}]}") ≡ Ok (in_section 0 (at_section 0 0 0 kinds.Column))
+unfolding serde_json_on_literals url_on_literals resolve reading shape_of section_of number_below source_url entries_from listed_flat listed_sections section_map digit_of segment_of token_of decoded distinct is_utf8 chars
+fault_within_inner = refl

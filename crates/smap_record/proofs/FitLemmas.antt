@@ -1,15 +1,16 @@
 -- The record of a listing fits where the listing keeps to the limits and each URL is its own.
-use Rattle.std.proofs.Common.{◌≡◌, ℕ, zero, suc, ◌<◌, ◌≤◌, List, [], ◌∷◌, length, map, Option, Some, None, slice_get, ap, ◌∙◌, sym, refl, Bool, true, false, ◌||◌, subst, arith}
+use Rattle.std.proofs.Common.{◌≡◌, ℕ, zero, suc, ◌<◌, ◌≤◌, List, [], ◌∷◌, length, map, Option, Some, None, slice_get, ap, ◌∙◌, sym, refl, true, ◌||◌, subst, arith}
 use Rattle.std.specs.Prelude.{IfSome, bytes_eq, unwrap_or, option_map, option_and_then, Contains}
 use Rattle.std.specs.List.{AllByRecursion, list_any, filter_map, cons_option}
+use Rattle.std.proofs.lemmas.Bool.{or_right}
 use Rattle.url.specs.Parts.{Parts}
 use Rattle.smap_mappings.specs.declared.token.Token.{Token}
 use Rattle.smap_mappings.specs.declared.token.Original.{Original}
 use Rattle.smap_mappings.specs.Position.{position_of, NeverFalls}
 use Rattle.smap_mappings.specs.Text.{IsPlaced, IsOriginal}
-use Rattle.smap_record.specs.Record.{Entry, Origin, Mapping, Listing, MapText, Allowed, no_entry, same_entry, distinct, origin_of, mapping_of, record_of}
-use Rattle.smap_record.specs.Listed.{IsListing, IsListedOriginal, IsListedToken}
-use Rattle.smap_record.specs.Fitting.{Fits, IsOwnUrl, IsMappingOf, IsOriginOf, names_used, mapping_position}
+use Rattle.smap_record.specs.Record.{Entry, Origin, Mapping, Listing, ReadMap, Allowed, no_entry, same_entry, distinct, origin_of, mapping_of, record_of}
+use Rattle.smap_record.specs.Listed.{IsListedOriginal, IsListedToken}
+use Rattle.smap_record.specs.Fitting.{Fits, ListingFits, HasOwnUrl, IsMappingOf, IsOriginOf, names_used, mapping_position}
 use Rattle.smap_record.proofs.EqualLemmas.{same_entries, same_bytes, own_bytes}
 use Rattle.smap_record.proofs.OnceLemmas.{all_distinct, distinct-IsDistinct, length-distinct, Contains-distinct}
 use Rattle.smap_record.proofs.FewerLemmas.{length-IsDistinct}
@@ -22,11 +23,7 @@ IsOneOf names x = list_any (bytes_eq x) names ≡ true
 one_at : (names : List (List ℕ)) (n : ℕ) (x : List ℕ) → slice_get names n ≡ Some x → IsOneOf names x
 one_at [] n x at = cc
 one_at (y ∷ ys) zero x at = let e : y ≡ x = cc in ap (λ b. b || list_any (bytes_eq x) ys) (ap (bytes_eq x) e ∙ own_bytes x)
-one_at (y ∷ ys) (suc n) x at = or-true (bytes_eq x y) (list_any (bytes_eq x) ys) (one_at ys n x at)
-  where
-    or-true : (b c : Bool) → c ≡ true → (b || c) ≡ true
-    or-true true c e = refl
-    or-true false c e = e
+one_at (y ∷ ys) (suc n) x at = or_right (bytes_eq x y) (list_any (bytes_eq x) ys) (one_at ys n x at)
 
 abbrev name_of : Mapping → Option (List ℕ)
 name_of m = option_and_then (λ o. o.name) m.origin
@@ -85,16 +82,13 @@ same_positions l (t ∷ ts) = ap (λ ps. position_of t ∷ ps) (same_positions l
 
 -- ---- the record
 
-pub fits : (base : Parts) (limits : Allowed) (m : MapText) → IsListing m.listing
-    → AllByRecursion (λ e. IfSome e.url (IsOwnUrl base)) m.listing.sources
-    → length m.listing.sources ≤ limits.items → length m.listing.names ≤ limits.items
-    → AllByRecursion (λ t. t.line < limits.lines) m.listing.tokens
-    → Fits base limits (record_of m)
-fits base limits m listing own sources names lines = record {
+-- The record of a listing that fits does too.
+pub fits : (base : Parts) (limits : Allowed) (m : ReadMap) → ListingFits base limits m.listing → Fits base limits (record_of m)
+fits base limits m h = record {
   distinct_sources = distinct-IsDistinct same_entry m.listing.sources;
-  few_sources = (let less = length-distinct same_entry m.listing.sources in omega (arith, less, sources));
-  few_names = (let less = few m.listing in omega (arith, less, names));
-  urls = all_distinct (λ e. IfSome e.url (IsOwnUrl base)) same_entry m.listing.sources own;
-  mappings = are_mappings limits.lines m.listing m.listing.tokens listing.encodable.1 listing.listed lines;
-  in_order = subst NeverFalls (sym (same_positions m.listing m.listing.tokens)) listing.encodable.0;
+  few_sources = (let less = length-distinct same_entry m.listing.sources in let sources = h.few_sources in omega (arith, less, sources));
+  few_names = (let less = few m.listing in let names = h.few_names in omega (arith, less, names));
+  urls = all_distinct (HasOwnUrl base) same_entry m.listing.sources h.urls;
+  mappings = are_mappings limits.lines m.listing m.listing.tokens h.listing.encodable.1 h.listing.listed h.lines;
+  in_order = subst NeverFalls (sym (same_positions m.listing m.listing.tokens)) h.listing.encodable.0;
 }

@@ -3,6 +3,7 @@ pub mod ListLemmas
 pub mod TextLemmas
 pub mod EqualLemmas
 pub mod SourceLemmas
+pub mod RelativeLemmas
 pub mod FewerLemmas
 pub mod NumberedLemmas
 pub mod EntryLemmas
@@ -10,5 +11,9 @@ pub mod FlagLemmas
 pub mod OnceLemmas
 pub mod FitLemmas
 pub mod FlatLemmas
+pub mod JoinedLemmas
+pub mod SectionLemmas
+pub mod DepthLemmas
+pub mod OneLevelLemmas
 mod Examples
 pub mod StabilityLemmas

@@ -1,5 +1,5 @@
 -- Sources that are numbered one by one.
-use Rattle.std.proofs.Common.{◌≡◌, ℕ, zero, suc, ◌<◌, List, [], ◌∷◌, ◌++◌, length, map, get_or, Option, Some, None, ap, refl, ◌∙◌, sym, Bool, true, false, cond, ◌||◌, true≢false, arith, slice_get, position, length-append}
+use Rattle.std.proofs.Common.{◌≡◌, ℕ, zero, suc, ◌<◌, List, [], ◌∷◌, ◌++◌, length, map, get_or, Option, Some, None, ap, refl, ◌∙◌, sym, Bool, true, false, cond, not, ltb, subst, ◌+◌, ◌||◌, true≢false, arith, slice_get, position, length-append}
 use Rattle.std.specs.Prelude.{unwrap_or, option_map, find, string_bytes}
 use Rattle.std.specs.Prelude.{String, string_eq}
 use Rattle.std.specs.Option.{option_eq}
@@ -9,7 +9,7 @@ use Rattle.std.proofs.lemmas.List.{map-append}
 use Rattle.std.proofs.lemmas.List.Folds.{find_at}
 use Rattle.std.proofs.lemmas.List.Quantifiers.{position-Some}
 use Rattle.std.proofs.lemmas.Option.{slice_get-map, slice_get-get_or, slice_get_within, none-some}
-use Rattle.std.proofs.lemmas.Bool.{lt-ltb}
+use Rattle.std.proofs.lemmas.Bool.{lt-ltb, or_right}
 use Rattle.indexmap.specs.IndexSet.{insert_key}
 use Rattle.smap_record.specs.declared.entry.SourceEntry.{SourceEntry}
 use Rattle.smap_record.specs.Record.{Entry, no_entry, distinct, same_entry, same_text}
@@ -36,11 +36,7 @@ any_key e (x ∷ xs) = (λ i. same_key-entries e x i || any_key e xs i)
 any_at : {A : Type 0} (p : A → Bool) (xs : List A) (i : ℕ) (d : A) → i < length xs → p (get_or xs i d) ≡ true → list_any p xs ≡ true
 any_at p [] i d below h = absurd (omega (arith, below))
 any_at p (x ∷ xs) zero d below h = ap (λ b. b || list_any p xs) h
-any_at p (x ∷ xs) (suc i) d below h = or-true (p x) (list_any p xs) (any_at p xs i d (omega (arith, below)) h)
-  where
-    or-true : (b c : Bool) → c ≡ true → (b || c) ≡ true
-    or-true true c e = refl
-    or-true false c e = e
+any_at p (x ∷ xs) (suc i) d below h = or_right (p x) (list_any p xs) (any_at p xs i d (omega (arith, below)) h)
 
 find_some : {A : Type 0} (p : A → Bool) (xs : List A) → list_any p xs ≡ true → (x : A) × (find p xs ≡ Some x)
 find_some p [] h = absurd (true≢false (sym h))
@@ -58,12 +54,20 @@ any_none p xs none = by (list_any p xs) refl
         absurd (none-some _ (sym none ∙ ap (λ b. cond b (Some (position_or_len p xs)) None) (lt-ltb _ _ (slice_get_within xs (position_or_len p xs) f.0 (sym (find_at p xs) ∙ f.1)))))
     by false e = refl
 
+place_none : {A : Type 0} (p : A → Bool) (xs : List A) → list_any p xs ≡ false → position_or_len p xs ≡ length xs
+place_none p [] none = refl
+place_none p (x ∷ xs) none = by (p x) (place_none p xs) none
+  where
+    by : (b : Bool) → (list_any p xs ≡ false → position_or_len p xs ≡ length xs) → (b || list_any p xs) ≡ false → cond (not b) (1 + position_or_len p xs) 0 ≡ length (x ∷ xs)
+    by true more none = absurd (true≢false none)
+    by false more none = let rest = more none in omega (arith, rest)
+
 -- ---- numbers
 
 entry_at_within : (xs : List SourceEntry) (i : ℕ) (d : SourceEntry) → i < length xs → entry_at xs i ≡ entry_of (get_or xs i d)
 entry_at_within xs i d below = ap (λ o. unwrap_or o no_entry) (slice_get-map entry_of xs i ∙ ap (option_map entry_of) (slice_get-get_or xs i d below))
 
-pub numbers_found : (xs : List SourceEntry) (e : SourceEntry) (i : ℕ) → position (same_key e) xs ≡ Some i → Numbers xs (entry_of e) xs i
+numbers_found : (xs : List SourceEntry) (e : SourceEntry) (i : ℕ) → position (same_key e) xs ≡ Some i → Numbers xs (entry_of e) xs i
 numbers_found xs e i found =
     let place = position-Some (same_key e) xs i e found in
     record {
@@ -83,7 +87,7 @@ get-end : {A : Type 0} (xs : List A) (x : A) → slice_get (xs ++ x ∷ []) (len
 get-end [] x = refl
 get-end (y ∷ ys) x = get-end ys x
 
-pub numbers_added : (xs : List SourceEntry) (e : SourceEntry) → position (same_key e) xs ≡ None → Numbers xs (entry_of e) (xs ++ e ∷ []) (length xs)
+numbers_added : (xs : List SourceEntry) (e : SourceEntry) → position (same_key e) xs ≡ None → Numbers xs (entry_of e) (xs ++ e ∷ []) (length xs)
 numbers_added xs e none = record {
   kept = λ k below. ap (λ o. unwrap_or o no_entry) (slice_get-map entry_of (xs ++ e ∷ []) k ∙ ap (option_map entry_of) (get-front xs (e ∷ []) k below) ∙ sym (slice_get-map entry_of xs k));
   longer = λ k below. omega (arith, length-append xs (e ∷ []));
@@ -91,6 +95,23 @@ numbers_added xs e none = record {
   within = omega (arith, length-append xs (e ∷ []));
   once = map-append entry_of xs (e ∷ []) ∙ sym (ap (λ b. cond b (map entry_of xs) (map entry_of xs ++ entry_of e ∷ [])) (sym (any_key e xs) ∙ any_none (same_key e) xs none));
 }
+
+-- an entry that is put into a set has its number there
+pub numbers_inserted : (xs : List SourceEntry) (e : SourceEntry) → Numbers xs (entry_of e) (insert_key same_key xs e) (position_or_len (same_key e) xs)
+numbers_inserted xs e = by (ltb (position_or_len (same_key e) xs) (length xs)) refl
+  where
+    by : (b : Bool) → ltb (position_or_len (same_key e) xs) (length xs) ≡ b → Numbers xs (entry_of e) (insert_key same_key xs e) (position_or_len (same_key e) xs)
+    by true within =
+        let at : position (same_key e) xs ≡ Some (position_or_len (same_key e) xs) = ap (λ b. cond b (Some (position_or_len (same_key e) xs)) None) within in
+        let place = position-Some (same_key e) xs (position_or_len (same_key e) xs) e at in
+        let there : list_any (same_key e) xs ≡ true = any_at (same_key e) xs (position_or_len (same_key e) xs) e place.0 place.1 in
+        subst (λ ys. Numbers xs (entry_of e) ys (position_or_len (same_key e) xs)) (sym (ap (λ b. cond b xs (xs ++ e ∷ [])) there)) (numbers_found xs e (position_or_len (same_key e) xs) at)
+    by false beyond =
+        let none : position (same_key e) xs ≡ None = ap (λ b. cond b (Some (position_or_len (same_key e) xs)) None) beyond in
+        let nowhere : list_any (same_key e) xs ≡ false = any_none (same_key e) xs none in
+        let last : position_or_len (same_key e) xs ≡ length xs = place_none (same_key e) xs nowhere in
+        subst (λ i. Numbers xs (entry_of e) (insert_key same_key xs e) i) (sym last)
+        (subst (λ ys. Numbers xs (entry_of e) ys (length xs)) (sym (ap (λ b. cond b xs (xs ++ e ∷ [])) nowhere)) (numbers_added xs e none))
 
 -- ---- one more is listed
 

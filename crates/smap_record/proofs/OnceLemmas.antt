@@ -2,7 +2,9 @@
 use Rattle.std.proofs.Common.{◌≡◌, ℕ, zero, suc, ◌≤◌, List, [], ◌∷◌, length, filter, Some, slice_get, ap, ◌∙◌, sym, refl, Bool, true, false, cond, not, true≢false, subst, arith}
 use Rattle.std.specs.Prelude.{Contains}
 use Rattle.std.specs.List.{AllByRecursion, IsDistinct}
+use Rattle.std.proofs.lemmas.Bool.{not-true}
 use Rattle.smap_record.specs.Record.{distinct}
+use Rattle.smap_record.proofs.ListLemmas.{all_weaker}
 
 -- ---- filters
 
@@ -22,10 +24,6 @@ filter_passes p (x ∷ xs) = by (p x) refl (filter_passes p xs)
     by true e rest = (e, rest)
     by false e rest = rest
 
-all_weaker : {A : Type 0} (P Q : A → Type 0) → ((x : A) → P x → Q x) → (xs : List A) → AllByRecursion P xs → AllByRecursion Q xs
-all_weaker P Q f [] all = tt
-all_weaker P Q f (x ∷ xs) all = (f x all.0, all_weaker P Q f xs all.1)
-
 IsDistinct-filter : {A : Type 0} (same : A → A → Bool) (p : A → Bool) (xs : List A) → IsDistinct same xs → IsDistinct same (filter p xs)
 unfolding IsDistinct
 IsDistinct-filter same p [] once = once
@@ -44,10 +42,6 @@ length-filter_le p (x ∷ xs) = by (p x) (length-filter_le p xs)
     by false rest = omega (arith, rest)
 
 -- ---- each once
-
-not-true : (b : Bool) → not b ≡ true → b ≡ false
-not-true true e = sym e
-not-true false e = refl
 
 pub distinct-IsDistinct : {A : Type 0} (same : A → A → Bool) (xs : List A) → IsDistinct same (distinct same xs)
 unfolding distinct IsDistinct

@@ -5,9 +5,16 @@ use Rattle.std.proofs.Math.Bool.{beq}
 use Rattle.smap_record.specs.declared.entry.SourceEntry.{SourceEntry}
 use Rattle.smap_record.specs.Record.{Entry}
 
+-- a source of the code, as a source
 abbrev pub entry_of : SourceEntry → Entry
-entry_of e = record { url = option_map string_bytes e.url; content = option_map string_bytes e.content; ignored = e.ignored }
+entry_of e = record {
+  url = option_map string_bytes e.url;
+  content = option_map string_bytes e.content;
+  ignored = e.ignored;
+}
 
 -- what the derived comparison answers
 abbrev pub same_key : SourceEntry → SourceEntry → Bool
-same_key a b = option_eq string_eq a.url b.url && (option_eq string_eq a.content b.content && beq a.ignored b.ignored)
+same_key a b =
+    option_eq string_eq a.url b.url
+    && (option_eq string_eq a.content b.content && beq a.ignored b.ignored)

@@ -1,5 +1,6 @@
 -- Faults of the layers below, as faults of a map.
-use Rattle.std.specs.Prelude.{ℕ, Bool, true, false, Option, Some, None, Result, Ok, Err}
+use Rattle.std.specs.Prelude.{ℕ, Bool, true, false, [], ◌∷◌, Option, Some, None, Result, Ok, Err}
+pub use Rattle.smap_vlq.specs.Number.{◌>>=◌}
 use Rattle.smap_mappings.specs.declared.error.SegmentPlace.{SegmentPlace}
 use Rattle.smap_mappings.specs.declared.error.SegmentKind.{SegmentKind}
 use Rattle.smap_mappings.specs.declared.error.SegmentKind.TheVariants as segment
@@ -9,6 +10,7 @@ use Rattle.smap_record.specs.declared.fault.Kind.{Kind}
 use Rattle.smap_record.specs.declared.fault.Kind.TheVariants as kinds
 use Rattle.smap_record.specs.declared.fault.Fault.{Fault}
 
+-- A fault of a tree's shape.
 abbrev pub kind_of_shape : ShapeFault → Kind
 kind_of_shape shape.NotObject = kinds.NotObject
 kind_of_shape shape.Version = kinds.Version
@@ -25,6 +27,7 @@ kind_of_shape shape.Offset = kinds.Offset
 kind_of_shape shape.SectionMap = kinds.SectionMap
 kind_of_shape shape.Nested = kinds.Nested
 
+-- A fault of a segment.
 abbrev pub kind_of_segment : SegmentKind → Kind
 kind_of_segment segment.Empty = kinds.Empty
 kind_of_segment (segment.Number which fault) = kinds.Number which fault
@@ -40,36 +43,35 @@ kind_of_segment segment.Name = kinds.Name
 abbrev pub Checked : Type 0 → Type 0
 Checked A = Result A Fault
 
-infixl 10 ◌>>=◌
-abbrev pub ◌>>=◌ : {A B : Type 0} → Checked A → (A → Checked B) → Checked B
-(Ok x) >>= f = f x
-(Err e) >>= f = Err e
-
--- a fault with no section and no place
+-- a fault in no section, at no place
 abbrev pub plain : Kind → Fault
-plain kind = record { section = None; place = None; kind = kind }
+plain kind = record { section = []; place = None; kind = kind }
 
+-- the map is refused for this fault
 abbrev pub refuse : {A : Type 0} → Kind → Checked A
 refuse kind = Err (plain kind)
 
 -- this fault where the condition holds
-abbrev pub unless : Kind → Bool → Checked (Unit {0})
-unless kind true = refuse kind
-unless kind false = Ok tt
+abbrev pub refuse_if : Kind → Bool → Checked (Unit {0})
+refuse_if kind true = refuse kind
+refuse_if kind false = Ok tt
 
+-- the value where there is one, and else this fault
 abbrev pub or_fault : {A : Type 0} → Kind → Option A → Checked A
 or_fault kind None = refuse kind
 or_fault kind (Some x) = Ok x
 
+-- the value, or its tree's fault as one of the map
 abbrev pub of_shape : {A : Type 0} → Result A ShapeFault → Checked A
 of_shape (Ok x) = Ok x
 of_shape (Err e) = refuse (kind_of_shape e)
 
+-- the value, or a segment's fault as one of the map, with the segment's place
 abbrev pub of_segments : {A : Type 0} → Result A (SegmentPlace × SegmentKind) → Checked A
 of_segments (Ok x) = Ok x
-of_segments (Err e) = Err (record { section = None; place = Some e.0; kind = kind_of_segment e.1 })
+of_segments (Err e) = Err (record { section = []; place = Some e.0; kind = kind_of_segment e.1 })
 
--- the fault is one of the section with this number
+-- the fault is one in the section with this number: the number goes in front of the sections within it
 abbrev pub in_section : {A : Type 0} → ℕ → Checked A → Checked A
 in_section k (Ok x) = Ok x
-in_section k (Err e) = Err (record e { section = Some k })
+in_section k (Err e) = Err (record e { section = k ∷ e.section })

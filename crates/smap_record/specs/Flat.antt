@@ -1,5 +1,6 @@
 -- What a flat map lists, or its first fault.
-use Rattle.std.specs.Prelude.{ℕ, ◌+◌, nat_lt, Bool, ◌||◌, List, [], ◌∷◌, ◌++◌, length, map, Option, Some, None, option_map, Ok}
+use Rattle.std.specs.Prelude.{ℕ, ◌+◌, nat_lt, Bool, ◌||◌, List, [], ◌∷◌, ◌++◌, length, map, Option, Some}
+use Rattle.std.specs.Prelude.{None, option_map, Ok}
 use Rattle.url.specs.Parts.{Parts}
 use Rattle.smap_mappings.specs.declared.token.Token.{Token}
 use Rattle.smap_mappings.specs.declared.token.Original.{Original}
@@ -8,9 +9,9 @@ use Rattle.smap_mappings.specs.Position.{Position}
 use Rattle.smap_mappings.specs.Decoded.{decoded}
 use Rattle.smap_shape.specs.Members.{Flat, is_listed}
 use Rattle.smap_record.specs.declared.fault.Kind.TheVariants.{TooMany, SourceUrl, UnstableUrl}
-use Rattle.smap_record.specs.Record.{Entry, Listing, Allowed}
+use Rattle.smap_record.specs.Record.{Entry, Listing, ReadMap, Allowed}
 use Rattle.smap_record.specs.Source.{Resolved, no_url, unstable, resolved, resolve}
-use Rattle.smap_record.specs.Faults.{Checked, ◌>>=◌, unless, refuse, of_segments}
+use Rattle.smap_record.specs.Faults.{Checked, ◌>>=◌, refuse_if, refuse, of_segments}
 
 -- ---- its sources
 
@@ -28,13 +29,16 @@ source_url base root i (Some source) = do
   Ok (Some text)
 
 -- Source number i with its content, and whether it is ignored.
-abbrev pub source_entry : Parts → Option (List ℕ) → ℕ → Option (List ℕ) → Option (List ℕ) → Bool → Checked Entry
+abbrev pub source_entry : Parts → Option (List ℕ) → ℕ → Option (List ℕ) → Option (List ℕ) → Bool
+    → Checked Entry
 source_entry base root i source content ignored = do
   url ← source_url base root i source
   Ok (record { url = url; content = content; ignored = ignored })
 
--- Sources with their contents, of which there is one for each source, in turn from number i on; or the first fault of one of them.
-unfoldable pub entries_from : Parts → Option (List ℕ) → List ℕ → ℕ → List (Option (List ℕ)) → List (Option (List ℕ)) → Checked (List Entry)
+-- Sources with their contents, of which there is one for each source, in turn from number i on; or the first
+-- fault of one of them.
+unfoldable pub entries_from : Parts → Option (List ℕ) → List ℕ → ℕ
+    → List (Option (List ℕ)) → List (Option (List ℕ)) → Checked (List Entry)
 entries_from base root ignored i (source ∷ sources) (content ∷ contents) = do
   entry ← source_entry base root i source content (is_listed i ignored)
   entries ← entries_from base root ignored (i + 1) sources contents
@@ -53,8 +57,10 @@ bounds_of limits offset m = record {
   lines = limits.lines;
 }
 
+-- Where a token comes from, with its source and its name so many places further on.
 abbrev pub shifted_original : ℕ → ℕ → Original → Original
-shifted_original sources names o = record o { source = sources + o.source; name = option_map (λ n. names + n) o.name }
+shifted_original sources names o =
+    record o { source = sources + o.source; name = option_map (λ n. names + n) o.name }
 
 -- The token, with indices into lists that begin with so many sources and names of earlier sections.
 abbrev pub shifted : ℕ → ℕ → Token → Token
@@ -62,19 +68,26 @@ shifted sources names t = record t { original = option_map (shifted_original sou
 
 -- ---- the whole
 
+-- where a map starts that is no section
+abbrev pub start : Position
+start = record { line = 0; column = 0 }
+
 -- what is listed before the first section
 abbrev pub nothing : Listing
 nothing = record { sources = []; names = []; tokens = [] }
 
 -- With those listed before, its sources or its names are more than may be listed.
 abbrev pub is_too_many : Allowed → Listing → Flat → Bool
-is_too_many limits before m = nat_lt limits.items (length before.sources + length m.sources) || nat_lt limits.items (length before.names + length m.names)
+is_too_many limits before m =
+    nat_lt limits.items (length before.sources + length m.sources)
+    || nat_lt limits.items (length before.names + length m.names)
 
--- What is listed with a flat map that starts at an offset, behind what is listed before it.
--- A map alone starts at (0, 0) behind nothing; for a section, Order and Overlap see to it that its tokens come after all before them.
+-- What is listed with a flat map that starts at an offset, behind what is listed before it. A map that is no
+-- section starts at (0, 0) behind nothing; for a section, Order and Overlap see to it that its tokens come
+-- after all before them.
 unfoldable pub listed_flat : Parts → Allowed → Position → Listing → Flat → Checked Listing
 listed_flat base limits offset before m = do
-  _ ← unless TooMany (is_too_many limits before m)
+  _ ← refuse_if TooMany (is_too_many limits before m)
   entries ← entries_from base m.root m.ignored 0 m.sources m.contents
   tokens ← of_segments (decoded (bounds_of limits offset m) m.mappings)
   Ok (record {
@@ -82,3 +95,9 @@ listed_flat base limits offset before m = do
     names = before.names ++ m.names;
     tokens = before.tokens ++ map (shifted (length before.sources) (length before.names)) tokens;
   })
+
+-- The file of a flat map that is no section, and what it lists.
+abbrev pub flat_map : Parts → Allowed → Flat → Checked ReadMap
+flat_map base limits m = do
+  listing ← listed_flat base limits start nothing m
+  Ok (record { file = m.file; listing = listing })

@@ -1,9 +1,12 @@
 pub mod Record
 pub mod Source
+pub mod Relative
 pub mod Faults
 pub mod Flat
 pub mod Sections
 pub mod Reading
+pub mod OneLevel
+pub mod Laws
 pub mod Fitting
 pub mod Listed
 pub mod Answers
@@ -14,3 +17,4 @@ pub mod Numbered
 pub mod SourcesView
 pub mod MapView
 pub mod Steps
+pub mod Gathering

@@ -1,9 +1,10 @@
 -- What the fields of a source map stand for.
 use Rattle.std.specs.Prelude.{map, option_map, string_bytes}
 use Rattle.smap_record.specs.declared.map.SourceMap.TheInside.{Inside}
-use Rattle.smap_record.specs.Record.{Listing, MapText}
+use Rattle.smap_record.specs.Record.{Listing, ReadMap}
 use Rattle.smap_record.specs.Listed.{IsListing}
 
+-- what the fields list
 abbrev pub listing_of : Inside → Listing
 listing_of s = record {
   sources = s.sources;
@@ -11,8 +12,10 @@ listing_of s = record {
   tokens = s.tokens.items;
 }
 
-abbrev pub map_view : Inside → MapText
+-- the file and what the fields list
+abbrev pub map_view : Inside → ReadMap
 map_view s = record { file = option_map string_bytes s.file; listing = listing_of s }
 
+-- What the fields list is a listing.
 abbrev pub IsSourceMap : Inside → Type 0
 IsSourceMap s = IsListing (listing_of s)

@@ -6,9 +6,11 @@ use Rattle.smap_record.specs.declared.entry.SourceEntry.{SourceEntry}
 use Rattle.smap_record.specs.Record.{Entry, no_entry, distinct, same_entry}
 use Rattle.smap_record.specs.Entries.{entry_of}
 
+-- the source with this number
 abbrev pub entry_at : List SourceEntry → ℕ → Entry
 entry_at entries i = unwrap_or (slice_get (map entry_of entries) i) no_entry
 
+-- The numbers are those of sources, which are each once and in order of first listing.
 pub record IsNumbered (entries : List SourceEntry) (numbers : List ℕ) : Type 0 where
   pub within : AllByRecursion (λ i. i < length entries) numbers
   pub each_once : map entry_of entries ≡ distinct same_entry (map (entry_at entries) numbers)

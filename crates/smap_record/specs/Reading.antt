@@ -1,5 +1,7 @@
 -- What a map text says, or its first fault.
-use Rattle.std.specs.Prelude.{ℕ, ◌+◌, nat_eq, ◌==◌, List, drop, position, codes, Option, Some, None, option_map, Ok, if◌then◌else◌}
+use Rattle.std.specs.Prelude.{ℕ, ◌+◌, nat_eq, ◌==◌, List, drop, position, codes, Option, Some, None}
+use Rattle.std.specs.Prelude.{option_map}
+use Rattle.std.specs.Prelude.{if◌then◌else◌}
 use Rattle.std.specs.List.{starts_with}
 use Rattle.std.specs.Str.{is_utf8}
 use Rattle.url.specs.Parts.{Parts}
@@ -7,30 +9,44 @@ use Rattle.serde_json.specs.Data.{Data}
 use Rattle.serde_json.specs.Read.{read}
 use Rattle.smap_shape.specs.Members.{MapMembers, flat, index}
 use Rattle.smap_shape.specs.Reading.{shape_of}
-use Rattle.smap_record.specs.declared.fault.Kind.TheVariants.{Prefix, Json, Sections}
-use Rattle.smap_record.specs.Record.{MapText, Allowed}
-use Rattle.smap_record.specs.Faults.{Checked, ◌>>=◌, refuse, or_fault, of_shape}
-use Rattle.smap_record.specs.Flat.{nothing, listed_flat}
+use Rattle.smap_record.specs.declared.fault.Kind.TheVariants.{Prefix, Json}
+use Rattle.smap_record.specs.Record.{ReadMap, Allowed}
+use Rattle.smap_record.specs.Faults.{Checked, ◌>>=◌, or_fault, of_shape}
+use Rattle.smap_record.specs.Flat.{flat_map}
+use Rattle.smap_record.specs.Sections.{index_map}
 
--- A flat map starts at (0, 0). Index maps aren't read yet: what Sections says of them will stand in the second line.
-abbrev pub map_of : Parts → Allowed → MapMembers Data → Checked MapText
-map_of base limits (flat m) = do
-  listing ← listed_flat base limits (record { line = 0; column = 0 }) nothing m
-  Ok (record { file = m.file; listing = listing })
-map_of base limits (index i) = refuse Sections
+-- The file and the listing of a flat map, or of an index map.
+abbrev pub map_of : Parts → Allowed → MapMembers Data → Checked ReadMap
+map_of base limits (flat m) = flat_map base limits m
+map_of base limits (index i) = index_map base limits i
 
--- What follows the first line, where the text begins with the four bytes that mark a line to leave out (ECMA-426, prefix of a JSON response).
+-- what follows the first line
+abbrev pub second_line_on : List ℕ → Option (List ℕ)
+second_line_on bytes = option_map (λ i. drop (i + 1) bytes) (position (λ b. b == 10) bytes)
+
+-- What follows the first line, where the text begins with the four bytes that mark a line to leave out
+-- (ECMA-426, prefix of a JSON response).
 abbrev pub json_text : List ℕ → Option (List ℕ)
-json_text bytes = if starts_with nat_eq bytes (codes ")]}'") then option_map (λ i. drop (i + 1) bytes) (position (λ b. b == 10) bytes) else Some bytes
+json_text bytes = if starts_with nat_eq bytes (codes ")]}'") then second_line_on bytes else Some bytes
 
 -- The tree of a JSON text (RFC 8259), which is UTF-8.
 abbrev pub tree_of : List ℕ → Option Data
 tree_of text = if is_utf8 text then read text else None
 
--- The file and the listing of a map text against a base URL under limits, or the first fault.
-unfoldable pub reading : Parts → Allowed → List ℕ → Checked MapText
-reading base limits bytes = do
+-- The tree of a map text.
+abbrev pub map_tree : List ℕ → Checked Data
+map_tree bytes = do
   text ← or_fault Prefix (json_text bytes)
-  tree ← or_fault Json (tree_of text)
+  or_fault Json (tree_of text)
+
+-- The file and the listing that a tree says, or its first fault.
+abbrev pub tree_map : Parts → Allowed → Data → Checked ReadMap
+tree_map base limits tree = do
   members ← of_shape (shape_of tree)
   map_of base limits members
+
+-- The file and the listing of a map text against a base URL under limits, or the first fault.
+unfoldable pub reading : Parts → Allowed → List ℕ → Checked ReadMap
+reading base limits bytes = do
+  tree ← map_tree bytes
+  tree_map base limits tree

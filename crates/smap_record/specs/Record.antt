@@ -1,6 +1,7 @@
 -- What a source map says, apart from how it is spelled.
 pub use Rattle.url.specs.Parts.{Parts}
-use Rattle.std.specs.Prelude.{ℕ, Bool, false, not, ◌&&◌, List, [], ◌∷◌, map, filter, bytes_eq, slice_get, Option, None, unwrap_or, option_map, option_and_then}
+use Rattle.std.specs.Prelude.{ℕ, Bool, false, not, ◌&&◌, List, [], ◌∷◌, map, filter, bytes_eq, slice_get}
+use Rattle.std.specs.Prelude.{Option, None, unwrap_or, option_map, option_and_then}
 use Rattle.std.specs.Option.{option_eq}
 use Rattle.std.proofs.Math.Bool.{beq}
 use Rattle.smap_mappings.specs.declared.token.Token.{Token}
@@ -25,7 +26,8 @@ pub record Mapping : Type 0 where
   pub column : ℕ
   pub origin : Option Origin
 
--- The file, the distinct sources in order of first listing, and the mappings in order (ECMA-426, decoded source map record).
+-- The file, the distinct sources in order of first listing, and the mappings in order (ECMA-426, decoded
+-- source map record).
 pub record Record : Type 0 where
   pub file : Option (List ℕ)
   pub sources : List Entry
@@ -38,7 +40,7 @@ pub record Listing : Type 0 where
   pub tokens : List Token
 
 -- A map as it was read: its file and its listing.
-pub record MapText : Type 0 where
+pub record ReadMap : Type 0 where
   pub file : Option (List ℕ)
   pub listing : Listing
 
@@ -49,6 +51,7 @@ pub record Allowed : Type 0 where
 
 -- ---- the record of a listing
 
+-- texts are equal, or both are absent
 abbrev pub same_text : Option (List ℕ) → Option (List ℕ) → Bool
 same_text = option_eq bytes_eq
 
@@ -65,6 +68,7 @@ distinct same (x ∷ xs) = x ∷ filter (λ y. not (same x y)) (distinct same xs
 abbrev pub no_entry : Entry
 no_entry = record { url = None; content = None; ignored = false }
 
+-- where a token comes from: its source and its name in place of their indices
 abbrev pub origin_of : Listing → Original → Origin
 origin_of l o = record {
   source = unwrap_or (slice_get l.sources o.source) no_entry;
@@ -78,7 +82,7 @@ abbrev pub mapping_of : Listing → Token → Mapping
 mapping_of l t = record { line = t.line; column = t.column; origin = option_map (origin_of l) t.original }
 
 -- The record of a map text.
-abbrev pub record_of : MapText → Record
+abbrev pub record_of : ReadMap → Record
 record_of m = record {
   file = m.file;
   sources = distinct same_entry m.listing.sources;

@@ -1,48 +1,85 @@
--- What an index map lists, or its first fault (ECMA-426, index map).
-use Rattle.std.specs.Prelude.{ℕ, ◌+◌, Bool, false, List, [], ◌∷◌, Option, Some, None, Ok}
+-- What an index map lists, or its first fault (ECMA-426, "Index source map").
+-- An index map may stand in a section of another: the index map of the whole text has level 1, and one in a
+-- section of an index map has one level more.
+use Rattle.std.specs.Prelude.{ℕ, zero, suc, ◌+◌, ◌-◌, nat_lt, ◌||◌, Bool, false, List, [], ◌∷◌}
+use Rattle.std.specs.Prelude.{Option, Some, None, Ok, if◌then◌else◌}
 use Rattle.std.specs.List.{list_any}
 use Rattle.url.specs.Parts.{Parts}
 use Rattle.serde_json.specs.Data.{Data}
-use Rattle.smap_mappings.specs.Position.{Position, is_before, position_of}
-use Rattle.smap_shape.specs.Members.{Index, MapMembers, flat, index}
+use Rattle.smap_vlq.specs.declared.number.TheConstants.{MAX_POSITION}
+use Rattle.smap_mappings.specs.Position.{Position, is_before, place, position_of}
+use Rattle.smap_shape.specs.declared.sections.TheConstants.{MAX_LEVEL}
+use Rattle.smap_shape.specs.Members.{Section, Index, MapMembers, flat, index}
 use Rattle.smap_shape.specs.Reading.{shape_of, section_of}
-use Rattle.smap_record.specs.declared.fault.Kind.TheVariants.{Nested, Order, Overlap}
-use Rattle.smap_record.specs.Record.{Listing, MapText, Allowed}
-use Rattle.smap_record.specs.Faults.{Checked, ◌>>=◌, unless, refuse, of_shape, in_section}
-use Rattle.smap_record.specs.Flat.{nothing, listed_flat}
+use Rattle.smap_record.specs.declared.fault.Kind.TheVariants.{Nested, Offset, Order, Overlap}
+use Rattle.smap_record.specs.Record.{Listing, ReadMap, Allowed}
+use Rattle.smap_record.specs.Faults.{Checked, ◌>>=◌, refuse_if, refuse, or_fault, of_shape, in_section}
+use Rattle.smap_record.specs.Flat.{start, nothing, listed_flat}
 
--- The offset lies before the last one.
+-- ---- where a section lies
+
+-- the section's offset as it is written, from the start of the map that lists it
+abbrev pub own_offset : Section Data → Position
+own_offset s = record { line = s.line; column = s.column }
+
+-- the position, unless its line or its column is past the greatest
+abbrev pub in_range : Position → Option Position
+in_range p = if nat_lt MAX_POSITION p.line || nat_lt MAX_POSITION p.column then None else Some p
+
+-- Where a section starts whose own offset is placed in a map that starts at `outer`.
+abbrev pub combined : Position → Position → Option Position
+combined outer own = in_range (place outer own)
+
+-- The offset lies before that of the section in front.
 abbrev pub falls : Option Position → Position → Bool
-falls None offset = false
-falls (Some last) offset = is_before offset last
+falls None own = false
+falls (Some last) own = is_before own last
 
--- A mapping that was listed before lies after the offset.
+-- A mapping that was listed before lies after the position.
 abbrev pub overlaps : Listing → Position → Bool
 overlaps before offset = list_any (λ t. is_before offset (position_of t)) before.tokens
 
-abbrev pub listed_in_section : Parts → Allowed → Position → Listing → MapMembers Data → Checked Listing
-listed_in_section base limits offset before (flat m) = listed_flat base limits offset before m
-listed_in_section base limits offset before (index i) = refuse Nested
+-- ---- the sections of one list
 
--- One section, behind those before it: the last offset, and what they list. It gives its own offset, and what is listed now.
-abbrev pub listed_section : Parts → Allowed → Option Position → Listing → Data → Checked (Position × Listing)
-listed_section base limits last before tree = do
-  s ← of_shape (section_of tree)
-  _ ← unless Order (falls last (record { line = s.line; column = s.column }))
-  _ ← unless Overlap (overlaps before (record { line = s.line; column = s.column }))
+-- What reads a section's map: it is placed from a position, behind what is listed before it.
+abbrev pub Inner : Type 0
+Inner = Position → Listing → MapMembers Data → Checked Listing
+
+-- One section of an index map of a level that is placed from `outer`: behind the own offset of the section in
+-- front, and what is listed before. It gives its own offset, and what is listed now.
+abbrev pub listed_section : ℕ → Inner → Position → Option Position → Listing → Data → Checked (Position × Listing)
+listed_section level inner outer last before tree = do
+  s ← of_shape (section_of level tree)
+  offset ← or_fault Offset (combined outer (own_offset s))
+  _ ← refuse_if Order (falls last (own_offset s))
+  _ ← refuse_if Overlap (overlaps before offset)
   members ← of_shape (shape_of s.map)
-  now ← listed_in_section base limits (record { line = s.line; column = s.column }) before members
-  Ok (record { line = s.line; column = s.column }, now)
+  now ← inner offset before members
+  Ok (own_offset s, now)
 
--- The sections in turn, from number k on.
-unfoldable pub listed_sections : Parts → Allowed → ℕ → Option Position → Listing → List Data → Checked Listing
-listed_sections base limits k last before [] = Ok before
-listed_sections base limits k last before (section ∷ sections) = do
-  now ← in_section k (listed_section base limits last before section)
-  listed_sections base limits (k + 1) (Some now.0) now.1 sections
+-- The sections in turn, from number k on. A fault in one of them is a fault in its number.
+unfoldable pub listed_sections : ℕ → Inner → Position → ℕ → Option Position → Listing → List Data
+    → Checked Listing
+listed_sections level inner outer k last before [] = Ok before
+listed_sections level inner outer k last before (section ∷ sections) = do
+  now ← in_section k (listed_section level inner outer last before section)
+  listed_sections level inner outer (k + 1) (Some now.0) now.1 sections
+
+-- ---- the map of a section
+
+-- The map of a section of an index map below which n further levels may lie: a flat map as it is, an index map
+-- by its sections, which are placed from where it starts.
+unfoldable pub section_map : Parts → Allowed → ℕ → Inner
+section_map base limits zero offset before (flat m) = listed_flat base limits offset before m
+section_map base limits zero offset before (index i) = refuse Nested
+section_map base limits (suc n) offset before (flat m) = listed_flat base limits offset before m
+section_map base limits (suc n) offset before (index i) =
+    listed_sections (MAX_LEVEL - n) (section_map base limits n) offset 0 None before i.sections
+
+-- ---- the whole
 
 -- The file beside the sections, and what they list.
-abbrev pub index_map : Parts → Allowed → Index Data → Checked MapText
+abbrev pub index_map : Parts → Allowed → Index Data → Checked ReadMap
 index_map base limits i = do
-  listing ← listed_sections base limits 0 None nothing i.sections
+  listing ← listed_sections 1 (section_map base limits (MAX_LEVEL - 1)) start 0 None nothing i.sections
   Ok (record { file = i.file; listing = listing })

@@ -1,5 +1,6 @@
 -- The URL of a source.
-use Rattle.std.specs.Prelude.{ℕ, ◌-◌, ◌==◌, Bool, List, [], ◌++◌, length, slice_index, codes, bytes_eq, Option, Some, None, Ok, Err, if◌then◌else◌}
+use Rattle.std.specs.Prelude.{ℕ, ◌-◌, ◌==◌, Bool, List, [], ◌++◌, length, slice_index, codes, bytes_eq}
+use Rattle.std.specs.Prelude.{Option, Some, None, Ok, Err, if◌then◌else◌}
 use Rattle.std.specs.Option.{option_eq}
 use Rattle.url.specs.Input.{is_empty}
 use Rattle.url.specs.Parts.{Parts, serialize}
@@ -9,7 +10,9 @@ use Rattle.url.specs.Ascii.{slash}
 -- Nothing where the root is absent or empty; else the root, with a slash at its end.
 abbrev pub prefix_of : Option (List ℕ) → List ℕ
 prefix_of None = []
-prefix_of (Some root) = if is_empty root then [] else (if slice_index root (length root - 1) == slash then root else root ++ codes "/")
+prefix_of (Some root) =
+    if is_empty root then []
+    else (if slice_index root (length root - 1) == slash then root else root ++ codes "/")
 
 -- the text of the URL, if there is one
 abbrev pub text_of : Parsed Parts → Option (List ℕ)
@@ -26,10 +29,12 @@ pub data Resolved : Type 0 where
 abbrev pub is_stable : Parts → List ℕ → Bool
 is_stable base text = option_eq bytes_eq (text_of (parse_url (Some base) text)) (Some text)
 
+-- the text where it is its own URL
 abbrev pub if_stable : Parts → Option (List ℕ) → Resolved
 if_stable base None = no_url
 if_stable base (Some text) = if is_stable base text then resolved text else unstable
 
--- The URL that the parser of the URL Standard gives for the prefix and the source against the base. The prefix stands before absolute sources too.
+-- The URL that the parser of the URL Standard gives for the prefix and the source against the base. The
+-- prefix stands before absolute sources too.
 unfoldable pub resolve : Parts → Option (List ℕ) → List ℕ → Resolved
 resolve base root source = if_stable base (text_of (parse_url (Some base) (prefix_of root ++ source)))

@@ -4,8 +4,10 @@ use Rattle.smap_record.specs.declared.sources.Sources.TheInside.{Inside}
 use Rattle.smap_record.specs.Record.{Entry}
 use Rattle.smap_record.specs.Numbered.{entry_at, IsNumbered}
 
+-- the sources as listed
 abbrev pub listed_entries : Inside → List Entry
-listed_entries s = map (entry_at s.distinct.items) s.listed.items
+listed_entries s = map (entry_at s.distinct.keys) s.listed.items
 
+-- The numbers are those of the distinct sources.
 abbrev pub AreSources : Inside → Type 0
-AreSources s = IsNumbered s.distinct.items s.listed.items
+AreSources s = IsNumbered s.distinct.keys s.listed.items

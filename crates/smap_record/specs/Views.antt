@@ -5,11 +5,19 @@ use Rattle.smap_record.specs.declared.view.TokenView.{TokenView}
 use Rattle.smap_record.specs.declared.view.OriginalView.{OriginalView}
 use Rattle.smap_record.specs.Record.{Entry, Origin, Mapping}
 
+-- a source
 abbrev pub entry_seen : SourceView → Entry
 entry_seen v = record { url = option_copied v.url; content = option_copied v.content; ignored = v.ignored }
 
+-- where a mapping comes from
 abbrev pub origin_seen : OriginalView → Origin
-origin_seen v = record { source = entry_seen v.source; line = v.line; column = v.column; name = option_copied v.name }
+origin_seen v = record {
+  source = entry_seen v.source;
+  line = v.line;
+  column = v.column;
+  name = option_copied v.name;
+}
 
+-- a mapping
 abbrev pub mapping_seen : TokenView → Mapping
 mapping_seen v = record { line = v.line; column = v.column; origin = option_map origin_seen v.original }

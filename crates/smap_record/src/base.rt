@@ -1,11 +1,13 @@
-//! The base URL of a map, which its sources are resolved against. A base is parsed once and serves any number of maps.
-ghost use Rattle.std.specs.Prelude.{◌≡◌, None, Some};
+//! The base URL of a map, which its sources are resolved against. A base is parsed once and serves any number
+//! of maps.
+ghost use Rattle.std.specs.Prelude.{◌≡◌, None, Some, IfOk, option_map, string_bytes};
 ghost use Rattle.url.specs.Parser.{parse_url, Gives};
 ghost use Rattle.url.specs.Parts.{serialize};
 ghost use Rattle.smap_record.specs.Answers.{GivesBase};
+ghost use Rattle.smap_record.specs.Relative.{relative_url};
 
 use crate::fault::BaseFault;
-use std::alloc::Global;
+use std::alloc::{AllocError, Global};
 use std::marker::Model;
 use url::{ParseError, ParseResult, Url};
 
@@ -26,8 +28,8 @@ impl Model for Base {
 }
 
 impl Base {
-    /// The base that the text is, parsed by the URL Standard without a base of its own. A base with an opaque path,
-    /// as `mailto:x`, is one too; only absolute sources have URLs against it.
+    /// The base that the text is, parsed by the URL Standard without a base of its own. A base with an opaque
+    /// path, as `mailto:x`, is one too; only absolute sources have URLs against it.
     pub fn new(alloc: Global, text: &str) -> Result<Base, BaseFault>
         ensures { GivesBase (λ b. b) result (parse_url None text.now) }
     {
@@ -44,6 +46,14 @@ impl Base {
         ensures { Gives result (parse_url (Some self.now) text.now) }
     {
         self.url.join(text)
+    }
+
+    /// The relative URL that leads from here to a URL on the same host.
+    pub(crate) fn relative_url(&self, url: &Url) -> Result<Option<String>, AllocError>
+        ensures { IfOk result (λ text. option_map string_bytes text ≡ relative_url self.now url.now) }
+    {
+        let text = self.url.make_relative(url)?;
+        Ok(text)
     }
 
     /// The text of the base's URL, as the URL Standard serializes it.

@@ -1,7 +1,9 @@
-//! Why a map is refused: every kind of fault, in the order in which they are looked for, with its section and its place.
+//! Why a map is refused: every kind of fault, in the order in which they are looked for, with its section and
+//! its place.
 ghost use Rattle.std.specs.Prelude.{◌≡◌};
 ghost use Rattle.smap_record.specs.Faults.{plain};
 
+use crate::path::Path;
 use smap_mappings::{SegmentKind, SegmentPlace};
 use smap_shape::ShapeFault;
 use smap_vlq::NumberFault;
@@ -34,17 +36,18 @@ pub enum Kind {
     IgnoreList,
     /// `mappings` is no text.
     Mappings,
-    /// `sections` is no list. Index maps aren't read yet and have this fault too.
+    /// `sections` is no list.
     Sections,
-    /// A section's `offset` isn't a line and a column of at most 2,147,483,647.
+    /// A section's `offset` isn't a line and a column of at most 2,147,483,647, or isn't once it is placed by those
+    /// of the sections around it.
     Offset,
     /// A section's `map` is no object.
     SectionMap,
-    /// A section's map has sections.
+    /// A section of an index map of level 8 has a map with sections.
     Nested,
-    /// A section's offset lies before that of the section before.
+    /// A section's own offset lies before that of the section before in its list.
     Order,
-    /// A mapping of an earlier section lies after a section's offset.
+    /// A mapping of a section earlier in the text, at any level, lies after a section's placed offset.
     Overlap,
     /// More sources or more names are listed than the limits allow.
     TooMany,
@@ -72,11 +75,11 @@ pub enum Kind {
     Name,
 }
 
-/// The first fault of a map: the number of its section, from 0, in an index map; the place of its segment, where a
-/// segment has it; and what it is.
+/// The first fault of a map: the path of its section, without numbers where it is in no section; the place of its
+/// segment, where a segment has it; and what it is.
 #[derive(Debug, Drop, PartialEq, Eq)]
 pub struct Fault {
-    pub section: Option<usize>,
+    pub section: Path,
     pub place: Option<SegmentPlace>,
     pub kind: Kind,
 }
@@ -122,7 +125,7 @@ pub(crate) fn refused(kind: Kind) -> ReadError
     ensures { result ≡ ReadError.Refused (plain kind) }
 {
     ReadError::Refused(Fault {
-        section: None,
+        section: Path::outside(),
         place: None,
         kind,
     })

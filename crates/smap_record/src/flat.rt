@@ -1,30 +1,34 @@
-//! A flat map, read from its members: how much it lists, then each source in turn, then its mappings. Names and the file are
-//! copied last, when nothing can be refused any more. All of it is linear, but for the scan for equal sources.
-ghost use Rattle.std.specs.Prelude.{◌≡◌, ◌+◌, ◌<◌, length, map, Some, IfOk, option_map, option_copied, string_bytes};
+//! A flat map, read from its members behind what is listed before it: how much it lists, then each source in
+//! turn, then its mappings. Names are copied last, when nothing can be refused any more.
+ghost use Rattle.std.specs.Prelude.{◌≡◌, ◌+◌, ◌<◌, ◌++◌, nat_lt, length, map, Some, IfOk, IfSome, false};
+ghost use Rattle.std.specs.Prelude.{option_map, option_copied, string_bytes};
 ghost use Rattle.std.specs.List.{AllByRecursion};
-ghost use Rattle.smap_mappings.specs.Decoded.{AreBounds, decoded};
-ghost use Rattle.smap_mappings.specs.Text.{IsEncodable};
-ghost use Rattle.smap_mappings.specs.Laws.{IsWithin};
-ghost use Rattle.smap_shape.specs.Members.{flat};
+ghost use Rattle.smap_mappings.specs.Position.{POSITIONS};
+ghost use Rattle.smap_mappings.specs.Decoded.{AreBounds, decoded, IsWithin, IsFromStart};
+ghost use Rattle.smap_mappings.specs.Text.{IsEncodable, IsOriginal, IsPlaced};
 ghost use Rattle.smap_record.specs.declared.fault.Kind.TheVariants.{TooMany};
 ghost use Rattle.smap_record.specs.Record.{record_of};
 ghost use Rattle.smap_record.specs.Source.{resolve as url_of};
-ghost use Rattle.smap_record.specs.Faults.{unless, of_segments};
-ghost use Rattle.smap_record.specs.Flat.{source_at, source_url as source_url_of, source_entry, entries_from, is_too_many, nothing, bounds_of};
-ghost use Rattle.smap_record.specs.Reading.{map_of};
-ghost use Rattle.smap_record.specs.Fitting.{Fits};
+ghost use Rattle.smap_record.specs.Faults.{refuse_if, of_segments};
+ghost use Rattle.smap_record.specs.Flat.{source_at, source_url as source_url_of, source_entry, entries_from};
+ghost use Rattle.smap_record.specs.Flat.{is_too_many, bounds_of, shifted as shifted_by, listed_flat};
+ghost use Rattle.smap_record.specs.Flat.{flat_map as flat_map_of};
+ghost use Rattle.smap_record.specs.Fitting.{Fits, ListingFits};
 ghost use Rattle.smap_record.specs.Answers.{Gives};
 ghost use Rattle.smap_record.specs.Entries.{entry_of};
 ghost use Rattle.smap_record.specs.Steps.{behind, AreFlags};
+ghost use Rattle.smap_record.specs.Gathering.{gathered, position_at, IsOffset, any_after};
 
 use crate::base::Base;
 use crate::entry::SourceEntry;
 use crate::fault::{Fault, Kind, ReadError, refused};
+use crate::gathered::{Gathered, Offset};
 use crate::limits::Limits;
 use crate::map::SourceMap;
+use crate::path::Path;
 use crate::source::{SourceFault, resolve};
 use crate::sources::Sources;
-use smap_mappings::{Bounds, MappingsError, Token, decode};
+use smap_mappings::{Bounds, MappingsError, Original, Token, decode};
 use smap_shape::FlatShape;
 use std::alloc::{AllocError, Global};
 
@@ -69,7 +73,7 @@ fn source_url(
 }
 
 /// A text of the tree, copied.
-fn copied(alloc: Global, text: Option<&str>) -> Result<Option<String>, AllocError>
+pub(crate) fn copied(alloc: Global, text: Option<&str>) -> Result<Option<String>, AllocError>
     ensures { IfOk result (λ s. option_map string_bytes s ≡ option_copied text.entry) }
 {
     let Some(text) = text else {
@@ -89,7 +93,8 @@ fn entry(
     ignored: bool,
 ) -> Result<SourceEntry, ReadError>
     ensures { Gives entry_of result
-        (source_entry base.now (option_copied root.entry) i (option_copied source.entry) (option_copied content.entry) ignored) }
+        (source_entry base.now (option_copied root.entry) i (option_copied source.entry)
+        (option_copied content.entry) ignored) }
 {
     let url = source_url(alloc, base, root, i, source)?;
     let content = copied(alloc, content)?;
@@ -120,7 +125,8 @@ fn with_sources(
     shape: &FlatShape<'_>,
 ) -> Result<Sources, ReadError>
     ensures lists { Gives (λ s. s) result
-        (behind before (entries_from base.now shape.now.root shape.now.ignored 0 shape.now.sources shape.now.contents)) }
+        (behind before (entries_from base.now shape.now.root shape.now.ignored 0
+        shape.now.sources shape.now.contents)) }
     ensures count { IfOk result (λ s. length s ≡ length before + length shape.now.sources) }
 {
     let ignored = ignored_flags(alloc, shape)?;
@@ -141,32 +147,54 @@ fn with_sources(
     Ok(sources)
 }
 
-/// The map's names, copied.
-fn names(alloc: Global, shape: &FlatShape<'_>) -> Result<Vec<String>, AllocError>
-    ensures { IfOk result (λ names. map string_bytes names.items ≡ shape.now.names) }
+/// The map's names, copied behind those that are listed before it.
+fn with_names(
+    alloc: Global,
+    before: Vec<String>,
+    shape: &FlatShape<'_>,
+) -> Result<Vec<String>, AllocError>
+    ensures { IfOk result (λ names.
+        map string_bytes names.items ≡ map string_bytes before.items ++ shape.now.names) }
 {
-    let mut names = Vec::new(alloc);
+    let mut names = before;
     for i in 0..shape.name_count() {
         names.push(String::from_str(alloc, shape.name(i))?)?;
     }
     Ok(names)
 }
 
-/// What the map's mappings text is read under, unless too much is listed.
-fn bounds(shape: &FlatShape<'_>, limits: Limits) -> Result<Bounds, ReadError>
-    ensures few { Gives (λ _. tt) result (unless TooMany (is_too_many limits nothing shape.now)) }
-    ensures bounds { IfOk result (λ b. b ≡ bounds_of limits (record { line = 0; column = 0 }) shape.now) }
+/// Whether so many more are too many. The sum isn't taken, which could be past the greatest `usize`.
+fn is_beyond(most: usize, before: usize, more: usize) -> bool
+    ensures { result ≡ nat_lt most (before + more) }
+{
+    more > most || before > most - more
+}
+
+/// What the map's mappings text is read under, unless with those listed before too much is listed.
+fn bounds(
+    before: &Gathered,
+    shape: &FlatShape<'_>,
+    limits: Limits,
+    offset: Offset,
+) -> Result<Bounds, ReadError>
+    requires { IsOffset offset }
+    ensures few { Gives (λ _. tt) result
+        (refuse_if TooMany (is_too_many limits (gathered before.now) shape.now)) }
+    ensures bounds { IfOk result (λ b. b ≡ bounds_of limits (position_at offset) shape.now) }
     ensures are { IfOk result AreBounds }
+    ensures items { limits.items < POSITIONS }
 {
     let items = limits.items() as usize;
     let sources = shape.source_count();
     let names = shape.name_count();
-    if sources > items || names > items {
+    if is_beyond(items, before.sources.listed_count(), sources)
+        || is_beyond(items, before.names.len(), names)
+    {
         return Err(refused(Kind::TooMany));
     }
     Ok(Bounds {
-        start_line: 0,
-        start_column: 0,
+        start_line: offset.line,
+        start_column: offset.column,
         sources: sources as u32,
         names: names as u32,
         lines: limits.lines(),
@@ -174,21 +202,107 @@ fn bounds(shape: &FlatShape<'_>, limits: Limits) -> Result<Bounds, ReadError>
 }
 
 /// The tokens of a mappings text.
-fn tokens(alloc: Global, text: &str, bounds: Bounds) -> Result<Vec<Token>, ReadError>
+fn own_tokens(alloc: Global, text: &str, bounds: Bounds) -> Result<Vec<Token>, ReadError>
     requires { AreBounds bounds }
     ensures says { Gives (λ v. v.items) result (of_segments (decoded bounds text.now)) }
     ensures encodable { IfOk result (λ v. IsEncodable v.items) }
     ensures within { IfOk result (λ v. AllByRecursion (IsWithin bounds) v.items) }
+    ensures from_start { IfOk result (λ v. AllByRecursion (IsFromStart bounds) v.items) }
 {
     match decode(alloc, text.as_bytes(), bounds) {
         Ok(tokens) => Ok(tokens),
         Err(MappingsError::Fault(place, kind)) => Err(ReadError::Refused(Fault {
-            section: None,
+            section: Path::outside(),
             place: Some(place),
             kind: Kind::from(kind),
         })),
         Err(MappingsError::Memory) => Err(ReadError::Memory),
     }
+}
+
+/// A token, with indices into lists that begin with so many sources and names.
+fn shifted(token: Token, sources: usize, names: usize) -> Token
+    requires sources { sources < POSITIONS }
+    requires names { names < POSITIONS }
+    requires original { IfSome token.original IsOriginal }
+    ensures { result ≡ shifted_by sources names token }
+{
+    let Some(original) = token.original else {
+        return token;
+    };
+    let name = match original.name {
+        Some(name) => Some((names + name as usize) as u32),
+        None => None,
+    };
+    let original = Original {
+        source: (sources + original.source as usize) as u32,
+        name,
+        ..original
+    };
+    Token {
+        original: Some(original),
+        ..token
+    }
+}
+
+/// All tokens, with such indices, each in its place.
+fn shift_all(tokens: &mut Vec<Token>, sources: usize, names: usize)
+    requires sources { sources < POSITIONS }
+    requires names { names < POSITIONS }
+    requires placed { AllByRecursion IsPlaced tokens.old.items }
+    ensures { tokens.new.items ≡ map (shifted_by sources names) tokens.old.items }
+{
+    for i in 0..tokens.len() {
+        tokens[i] = shifted(tokens[i], sources, names);
+    }
+}
+
+/// Tokens behind others. Those of a first map are not copied.
+fn joined(mut front: Vec<Token>, mut back: Vec<Token>) -> Result<Vec<Token>, AllocError>
+    ensures { IfOk result (λ v. v.items ≡ front.items ++ back.items) }
+{
+    if front.is_empty() {
+        return Ok(back);
+    }
+    front.append(&mut back)?;
+    Ok(front)
+}
+
+/// What is listed with a map that starts at an offset, behind what is listed before it; or the map's first
+/// fault. No token before it lies after the offset.
+pub(crate) fn with_flat(
+    alloc: Global,
+    before: Gathered,
+    shape: &FlatShape<'_>,
+    base: &Base,
+    limits: Limits,
+    offset: Offset,
+) -> Result<Gathered, ReadError>
+    requires offset { IsOffset offset }
+    requires none_after { any_after (position_at offset) before.tokens.items ≡ false }
+    requires fits { ListingFits base.now limits (gathered before) }
+    ensures reads { Gives gathered result
+        (listed_flat base.now limits (position_at offset) (gathered before) shape.now) }
+    ensures fits { IfOk result (λ g. ListingFits base.now limits (gathered g)) }
+{
+    let bounds = bounds(&before, shape, limits, offset)?;
+    let Gathered {
+        sources: first_sources,
+        names: first_names,
+        tokens: first_tokens,
+    } = before;
+    let source_count = first_sources.listed_count();
+    let name_count = first_names.len();
+    let sources = with_sources(alloc, first_sources, base, shape)?;
+    let mut own = own_tokens(alloc, shape.mappings(), bounds)?;
+    shift_all(&mut own, source_count, name_count);
+    let tokens = joined(first_tokens, own)?;
+    let names = with_names(alloc, first_names, shape)?;
+    Ok(Gathered {
+        sources,
+        names,
+        tokens,
+    })
 }
 
 /// The map that the members say, or its first fault.
@@ -198,13 +312,12 @@ pub(crate) fn flat_map(
     base: &Base,
     limits: Limits,
 ) -> Result<SourceMap, ReadError>
-    ensures reads { Gives (λ m. m) result (map_of base.now limits (flat shape.now)) }
+    ensures reads { Gives (λ m. m) result (flat_map_of base.now limits shape.now) }
     ensures fits { IfOk result (λ m. Fits base.now limits (record_of m)) }
+    ensures listing_fits { IfOk result (λ m. ListingFits base.now limits m.listing) }
 {
-    let bounds = bounds(shape, limits)?;
-    let sources = with_sources(alloc, Sources::new(alloc), base, shape)?;
-    let tokens = tokens(alloc, shape.mappings(), bounds)?;
-    let names = names(alloc, shape)?;
+    let start = Offset { line: 0, column: 0 };
+    let listed = with_flat(alloc, Gathered::new(alloc), shape, base, limits, start)?;
     let file = copied(alloc, shape.file())?;
-    Ok(SourceMap::new(file, sources, names, tokens))
+    Ok(listed.into_map(file))
 }

@@ -1,17 +1,24 @@
 //! What a source map says: its record and its listing, read from its bytes against a base URL under limits.
-//! A map is read in the order in which its faults are looked for: the prefix line, the JSON text, the shape of its
-//! tree, how much it lists, its sources, its mappings. The first fault is the answer, and no map is handed out then.
-//! Each source is resolved and kept once, found by a scan of those before it. Contents and names are copied out of
-//! the tree once, and all the rest is linear in the length of the text.
+//! A map is read in the order in which its faults are looked for: the prefix line, the JSON text, the shape of
+//! its tree, and of a flat map or of each section how much it lists, its sources, its mappings. The first
+//! fault is the answer, and no map is handed out then.
+//! A flat map, and each section of an index map, is read behind what is listed before it; an index map in a
+//! section is read by its own sections, eight levels deep at most. Each source is resolved, and kept once in a
+//! hashed table. Contents and names are copied out of the tree once.
 #![tactic(auto)]
 
 mod base;
 mod entry;
 mod fault;
 mod flat;
+mod gathered;
+pub mod laws;
 mod limits;
 mod map;
+mod path;
 mod reading;
+mod relative;
+mod sections;
 mod source;
 mod sources;
 #[cfg(test)]
@@ -23,4 +30,5 @@ pub use base::Base;
 pub use fault::{BaseFault, Fault, Kind, ReadError};
 pub use limits::Limits;
 pub use map::SourceMap;
+pub use path::Path;
 pub use view::{OriginalView, SourceView, TokenView};

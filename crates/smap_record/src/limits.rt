@@ -1,15 +1,12 @@
-//! How much a map may list, and how many generated lines it may have. A map that lists more is refused before any source is
-//! resolved or any name copied.
+//! How much a map may list, and how many generated lines it may have. A map that lists more is refused before
+//! any source is resolved or any name copied.
 ghost use Rattle.std.specs.Prelude.{◌≡◌, ◌≤◌, ◌↔◌, IsSome, IfSome};
 
+use smap_mappings::{MAX_LINES, MAX_POSITION};
 use std::marker::Model;
 
-const MOST_ITEMS: u32 = 2_147_483_647;
-
-const MOST_LINES: u32 = 16_777_216;
-
-/// How many sources may be listed, and as many names (`items`), and how many generated lines there may be (`lines`). What is
-/// read under limits stays within them: the record fits them.
+/// How many sources may be listed, and as many names (`items`), and how many generated lines there may be
+/// (`lines`). What is read under limits stays within them: the record fits them.
 #[derive(Clone, Copy)]
 pub struct Limits {
     items: u32,
@@ -18,13 +15,15 @@ pub struct Limits {
 
 impl Model for Limits {
     ghost use Rattle.std.specs.Prelude.{◌≤◌};
+    ghost use Rattle.smap_vlq.specs.declared.number.TheConstants.{MAX_POSITION};
+    ghost use Rattle.smap_mappings.specs.declared.token.TheConstants.{MAX_LINES};
     ghost use Rattle.smap_record.specs.Record.{Allowed};
 
     ghost Value = { Allowed };
 
     ghost view = { λ s. record { items = s.items; lines = s.lines } };
 
-    ghost invariant = { λ s. (s.items ≤ 2147483647) × (s.lines ≤ 16777216) };
+    ghost invariant = { λ s. (s.items ≤ MAX_POSITION) × (s.lines ≤ MAX_LINES) };
 
     ghost inverse = { λ a. record { items = a.items; lines = a.lines } };
 }
@@ -32,10 +31,10 @@ impl Model for Limits {
 impl Limits {
     /// These limits; none where `items` is above 2,147,483,647 or `lines` above 16,777,216.
     pub fn new(items: u32, lines: u32) -> Option<Limits>
-        ensures valid { IsSome result ↔ ((items ≤ 2147483647) × (lines ≤ 16777216)) }
+        ensures valid { IsSome result ↔ ((items ≤ MAX_POSITION) × (lines ≤ MAX_LINES)) }
         ensures value { IfSome result (λ l. (l.items ≡ items) × (l.lines ≡ lines)) }
     {
-        if items <= MOST_ITEMS && lines <= MOST_LINES {
+        if items <= MAX_POSITION && lines <= MAX_LINES {
             Some(Limits { items, lines })
         } else {
             None
@@ -44,25 +43,25 @@ impl Limits {
 
     /// 16,777,216 for both.
     pub fn usual() -> Limits
-        ensures items { result.items ≡ 16777216 }
-        ensures lines { result.lines ≡ 16777216 }
+        ensures items { result.items ≡ MAX_LINES }
+        ensures lines { result.lines ≡ MAX_LINES }
     {
         Limits {
-            items: MOST_LINES,
-            lines: MOST_LINES,
+            items: MAX_LINES,
+            lines: MAX_LINES,
         }
     }
 
     pub(crate) fn items(self) -> u32
         ensures value { result ≡ self.items }
-        ensures most { result ≤ 2147483647 }
+        ensures most { result ≤ MAX_POSITION }
     {
         self.items
     }
 
     pub(crate) fn lines(self) -> u32
         ensures value { result ≡ self.lines }
-        ensures most { result ≤ 16777216 }
+        ensures most { result ≤ MAX_LINES }
     {
         self.lines
     }

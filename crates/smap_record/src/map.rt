@@ -1,5 +1,6 @@
 //! A source map that was read, and what it tells. Every getter takes constant time and no memory.
-ghost use Rattle.std.specs.Prelude.{◌≡◌, ◌<◌, length, map, slice_get, Some, IfSome, option_map, option_copied, string_bytes};
+ghost use Rattle.std.specs.Prelude.{◌≡◌, ◌<◌, length, map, slice_get, Some, IfSome, option_map};
+ghost use Rattle.std.specs.Prelude.{option_copied, string_bytes};
 ghost use Rattle.smap_record.specs.Record.{record_of, origin_of};
 ghost use Rattle.smap_record.specs.Listed.{IsListing, IsListedOriginal};
 ghost use Rattle.smap_record.specs.Views.{entry_seen, origin_seen, mapping_seen};
@@ -9,9 +10,9 @@ use crate::view::{OriginalView, SourceView, TokenView};
 use smap_mappings::{Original, Token};
 use std::marker::Model;
 
-/// A source map that was read. A contract sees its file and its listing: the sources and the names as listed, and
-/// the tokens with indices into these, arranged by generated line and column. Its record is the file, the distinct
-/// sources, and each token with its source and its name in place of their indices.
+/// A source map that was read. A contract sees its file and its listing: the sources and the names as listed,
+/// and the tokens with indices into these, arranged by generated line and column. Its record is the file, the
+/// distinct sources, and each token with its source and its name in place of their indices.
 #[derive(Drop)]
 pub struct SourceMap {
     file: Option<String>,
@@ -21,9 +22,9 @@ pub struct SourceMap {
 }
 
 impl Model for SourceMap {
-    ghost use Rattle.smap_record.specs.Record.{MapText};
+    ghost use Rattle.smap_record.specs.Record.{ReadMap};
 
-    ghost Value = { MapText };
+    ghost Value = { ReadMap };
 
     ghost use Rattle.smap_record.specs.MapView.{map_view, IsSourceMap};
 
@@ -39,10 +40,18 @@ impl SourceMap {
         names: Vec<String>,
         tokens: Vec<Token>,
     ) -> SourceMap
-        requires { IsListing (record { sources = sources; names = map string_bytes names.items; tokens = tokens.items }) }
+        requires { IsListing (record {
+          sources = sources;
+          names = map string_bytes names.items;
+          tokens = tokens.items;
+        }) }
         ensures { result ≡ record {
           file = option_map string_bytes file;
-          listing = record { sources = sources; names = map string_bytes names.items; tokens = tokens.items };
+          listing = record {
+            sources = sources;
+            names = map string_bytes names.items;
+            tokens = tokens.items;
+          };
         } }
     {
         SourceMap {

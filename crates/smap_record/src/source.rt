@@ -1,5 +1,5 @@
-//! The URL of one source: the prefix and the source parsed against the base, and the text of that URL parsed once more, to see
-//! that it is its own URL.
+//! The URL of one source: the prefix and the source parsed against the base, and the text of that URL parsed
+//! once more, to see that it is its own URL.
 ghost use Rattle.std.specs.Prelude.{◌≡◌, ◌++◌, string_bytes, option_copied, IfOk};
 ghost use Rattle.smap_record.specs.Source.{prefix_of, resolve as url_of};
 ghost use Rattle.smap_record.specs.Resolving.{GivesSource};

@@ -1,20 +1,23 @@
-//! The sources of a map. Distinct ones are kept once, and the list of all is a list of their numbers. A source is looked for
-//! among the distinct ones before it, so n distinct sources cost up to n * n / 2 comparisons, most of which end at the URL.
-ghost use Rattle.std.specs.Prelude.{◌≡◌, ◌<◌, ◌++◌, ◌∷◌, [], position, length, slice_get, Some, IfOk, IfSome};
+//! The sources of a map. Distinct ones are kept once, in a hashed table, and the list of all is a list of
+//! their numbers.
+ghost use Rattle.std.specs.Prelude.{◌≡◌, ◌<◌, ◌++◌, ◌∷◌, [], length, slice_get, Some, IfOk, IfErr};
+ghost use Rattle.smap_record.specs.declared.fault.ReadError.TheVariants.{Memory};
 ghost use Rattle.smap_record.specs.Record.{distinct as each_once, same_entry};
 ghost use Rattle.smap_record.specs.Numbered.{Numbers};
-ghost use Rattle.smap_record.specs.Entries.{same_key, entry_of};
+ghost use Rattle.smap_record.specs.Entries.{entry_of};
 ghost use Rattle.smap_record.specs.Views.{entry_seen};
 
 use crate::entry::SourceEntry;
+use crate::fault::ReadError;
 use crate::view::SourceView;
-use std::alloc::{AllocError, Global};
+use indexmap::IndexSet;
+use std::alloc::Global;
 use std::marker::Model;
 
 /// Sources as listed. Those that are equal are kept once, and listed by their number among the distinct ones.
 #[derive(Drop)]
 pub(crate) struct Sources {
-    distinct: Vec<SourceEntry>,
+    distinct: IndexSet<SourceEntry>,
     listed: Vec<usize>,
 }
 
@@ -31,28 +34,16 @@ impl Model for Sources {
     ghost invariant = { AreSources };
 }
 
-fn place_of(entries: &[SourceEntry], entry: &SourceEntry) -> Option<usize>
-    ensures place { result ≡ position (same_key entry.now) entries.now }
-    ensures within { IfSome result (λ i. i < length entries.now) }
-{
-    entries.iter().position(|e| entry == e)
-}
-
-/// The entry's number in the list, which has it at its end where it lacked it.
+/// The entry's number in the set, which has it at its end where it lacked it.
 fn numbered(
-    mut distinct: Vec<SourceEntry>,
+    mut distinct: IndexSet<SourceEntry>,
     entry: SourceEntry,
-) -> Result<(Vec<SourceEntry>, usize), AllocError>
-    ensures { IfOk result (λ r. Numbers distinct.items (entry_of entry) r.0.items r.1) }
+) -> Result<(IndexSet<SourceEntry>, usize), ReadError>
+    ensures numbers { IfOk result (λ r. Numbers distinct.keys (entry_of entry) r.0.keys r.1) }
+    ensures refused { IfErr result (λ e. e ≡ Memory) }
 {
-    match place_of(distinct.as_slice(), &entry) {
-        Some(i) => Ok((distinct, i)),
-        None => {
-            let n = distinct.len();
-            distinct.push(entry)?;
-            Ok((distinct, n))
-        }
-    }
+    let (i, _) = distinct.insert_full(entry)?;
+    Ok((distinct, i))
 }
 
 impl Sources {
@@ -60,14 +51,15 @@ impl Sources {
         ensures { result ≡ [] }
     {
         Sources {
-            distinct: Vec::new(alloc),
+            distinct: IndexSet::new(alloc),
             listed: Vec::new(alloc),
         }
     }
 
     /// One more source is listed.
-    pub(crate) fn with(self, entry: SourceEntry) -> Result<Sources, AllocError>
-        ensures { IfOk result (λ s. s ≡ self ++ entry_of entry ∷ []) }
+    pub(crate) fn with(self, entry: SourceEntry) -> Result<Sources, ReadError>
+        ensures lists { IfOk result (λ s. s ≡ self ++ entry_of entry ∷ []) }
+        ensures refused { IfErr result (λ e. e ≡ Memory) }
     {
         let Sources {
             distinct,

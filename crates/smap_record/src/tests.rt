@@ -1,13 +1,17 @@
+//! What several tests need: a text read against a base, and a text that is refused for a fault.
 mod base;
 mod distinct;
 mod getters;
 mod limits;
+mod nested;
 mod order;
 mod refusals;
+mod relative;
+mod sections;
 mod segments;
 mod urls;
 
-use crate::{Base, Fault, Kind, Limits, ReadError, SourceMap};
+use crate::{Base, Fault, Kind, Limits, Path, ReadError, SourceMap};
 use smap_mappings::SegmentPlace;
 use std::process::Abort;
 
@@ -29,6 +33,19 @@ fn outcome(
     SourceMap::from_slice(rt.alloc(), bytes, &base, limits)
 }
 
+/// The same, of bytes that are handed over.
+fn outcome_of_vec(
+    rt: &(impl Abort + AllocGlobal),
+    bytes: &[u8],
+    base: &str,
+    limits: Limits,
+) -> Result<SourceMap, ReadError> {
+    let base = Base::new(rt.alloc(), base).expect(rt, "a base is a URL");
+    let mut owned = Vec::new(rt.alloc());
+    owned.extend_from_slice(bytes).expect(rt, "memory");
+    SourceMap::from_vec(rt.alloc(), owned, &base, limits)
+}
+
 /// The map that a text says.
 fn read(rt: &(impl Abort + AllocGlobal), text: &str) -> SourceMap {
     let read = outcome(rt, text.as_bytes(), BASE, Limits::usual());
@@ -42,29 +59,26 @@ fn fails(
     bytes: &[u8],
     base: &str,
     limits: Limits,
-    section: Option<usize>,
+    section: &[usize],
     place: Option<SegmentPlace>,
     kind: Kind,
 ) {
-    match outcome(rt, bytes, base, limits) {
-        Ok(_) => assert!(rt; false, "accepted, not {kind:?}: {bytes:?}"),
-        Err(ReadError::Memory) => assert!(rt; false, "no memory: {bytes:?}"),
-        Err(ReadError::Refused(fault)) => {
-            let Fault {
-                section: its_section,
-                place: its_place,
-                kind: its_kind,
-            } = fault;
-            assert_eq!(rt; its_kind, kind, "{bytes:?}");
-            assert!(rt; its_section == section, "{bytes:?}");
-            assert!(rt; its_place == place, "{bytes:?}");
-        }
-    }
+    let Err(error) = outcome(rt, bytes, base, limits) else {
+        assert!(rt; false, "accepted, not {kind:?}: {bytes:?}");
+        return;
+    };
+    let path = Path::new(section).expect(rt, "a path of at most eight numbers");
+    let fault = Fault {
+        section: path,
+        place,
+        kind,
+    };
+    assert_eq!(rt; error, ReadError::Refused(fault), "{bytes:?}");
 }
 
 /// A text is refused for this fault, which has no section and no place.
 fn refuses(rt: &(impl Abort + AllocGlobal), text: &str, kind: Kind) {
-    fails(rt, text.as_bytes(), BASE, Limits::usual(), None, None, kind);
+    fails(rt, text.as_bytes(), BASE, Limits::usual(), &[], None, kind);
 }
 
 /// Limits that are within the range of limits.

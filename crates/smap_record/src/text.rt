@@ -3,7 +3,7 @@ ghost use Rattle.std.specs.Prelude.{◌≡◌, ◌<◌, ◌==◌, position, leng
 ghost use Rattle.serde_json.specs.View.{view};
 ghost use Rattle.smap_record.specs.declared.fault.Kind.TheVariants.{Prefix, Json};
 ghost use Rattle.smap_record.specs.Faults.{or_fault};
-ghost use Rattle.smap_record.specs.Reading.{json_text, tree_of};
+ghost use Rattle.smap_record.specs.Reading.{json_text, tree_of, map_tree};
 ghost use Rattle.smap_record.specs.Answers.{Gives};
 
 use crate::fault::{Kind, ReadError, refused};
@@ -18,7 +18,7 @@ fn line_feed(bytes: &[u8]) -> Option<usize>
 }
 
 /// What follows the line to leave out, where the bytes begin with its mark.
-pub(crate) fn after_prefix(bytes: &[u8]) -> Result<&[u8], ReadError>
+fn after_prefix(bytes: &[u8]) -> Result<&[u8], ReadError>
     ensures { Gives (λ t. t.now) result (or_fault Prefix (json_text bytes.now)) }
 {
     if !bytes.starts_with(b")]}'") {
@@ -31,7 +31,7 @@ pub(crate) fn after_prefix(bytes: &[u8]) -> Result<&[u8], ReadError>
 }
 
 /// The tree of a JSON text.
-pub(crate) fn tree(alloc: Global, text: &[u8]) -> Result<Value, ReadError>
+fn tree(alloc: Global, text: &[u8]) -> Result<Value, ReadError>
     ensures { Gives view result (or_fault Json (tree_of text.now)) }
 {
     match Value::from_slice(alloc, text) {
@@ -43,5 +43,16 @@ pub(crate) fn tree(alloc: Global, text: &[u8]) -> Result<Value, ReadError>
                 Err(refused(Kind::Json))
             }
         }
+    }
+}
+
+/// The tree of a map text: of what follows the line to leave out.
+pub(crate) fn map_tree_of(alloc: Global, bytes: &[u8]) -> Result<Value, ReadError>
+    ensures { Gives view result (map_tree bytes.now) }
+{
+    let text = after_prefix(bytes)?;
+    match tree(alloc, text) {
+        Ok(tree) => Ok(tree),
+        Err(error) => Err(error),
     }
 }

@@ -7,8 +7,8 @@ pub struct SourceView<'a> {
     pub ignored: bool,
 }
 
-/// Where a mapping comes from: its source and that source's number among the distinct ones; a line and a column of
-/// it, both from 0; and a name.
+/// Where a mapping comes from: its source and that source's number among the distinct ones; a line and a
+/// column of it, both from 0; and a name.
 #[derive(Clone, Copy)]
 pub struct OriginalView<'a> {
     pub source: SourceView<'a>,

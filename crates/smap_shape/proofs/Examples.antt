@@ -13,8 +13,9 @@ use Rattle.smap_shape.specs.Reading.{shape_of, section_of, number_below}
 abbrev of_text : List ℕ → Option (Result (MapMembers Data) ShapeFault)
 of_text text = option_map shape_of (read text)
 
+-- of an index map of the greatest level
 abbrev section_of_text : List ℕ → Option (Result (Section Data) ShapeFault)
-section_of_text text = option_map section_of (read text)
+section_of_text text = option_map (section_of 8) (read text)
 
 -- a flat map without sources and names
 abbrev empty : Flat
@@ -99,6 +100,10 @@ list_for_map = refl
 pub nested : section_of_text (codes "{\"offset\":{\"line\":0,\"column\":0},\"map\":{\"sections\":[]}}") ≡ Some (Err Nested)
 unfolding serde_json_on_literals section_of number_below
 nested = refl
+
+pub nested_below : option_map (section_of 7) (read (codes "{\"offset\":{\"line\":0,\"column\":1},\"map\":{\"sections\":null}}")) ≡ section_of_text (codes "{\"offset\":{\"line\":0,\"column\":1},\"map\":{\"sections\":null}}")
+unfolding serde_json_on_literals section_of number_below
+nested_below = refl
 
 pub number_for_section : section_of_text (codes "7") ≡ Some (Err NotObject)
 unfolding serde_json_on_literals section_of number_below

@@ -1,19 +1,22 @@
--- Which members a JSON tree has, or the first fault of its shape: the lines of each `do` stand in the order of the faults.
--- ECMA-426, "Source map format" and "Index source map". The tree is RFC 8259's text as serde_json reads it:
--- of two equal keys the last one's value stays, and a number is whole where `Value::as_u64` answers.
-use Rattle.std.specs.Prelude.{ℕ, ◌+◌, nat_lt, List, [], ◌∷◌, length, codes, not, ◌&&◌, ◌==◌, Bool, true, false, Option, Some, None, is_some, is_none, option_and_then, option_map, Result, Ok, Err, if◌then◌else◌}
+-- Which members a JSON tree has, or the first fault of its shape (ECMA-426, "Source map format" and "Index
+-- source map"): the lines of each `do` stand in the order of the faults.
+-- The tree is RFC 8259's text as serde_json reads it: of two equal keys the last one's value stays, and a
+-- number is whole where `Value::as_u64` answers.
+use Rattle.std.specs.Prelude.{ℕ, ◌+◌, nat_lt, List, [], ◌∷◌, length, codes, not, ◌&&◌, Bool, true, nat_eq}
+use Rattle.std.specs.Prelude.{false, Option, Some, None, is_some, is_none, option_and_then, option_map}
+use Rattle.std.specs.Prelude.{Result, Ok, Err, if◌then◌else◌}
 use Rattle.std.specs.Option.{option_or, option_eq}
 use Rattle.serde_json.specs.Data.{Data, Items, no_items, item}
 use Rattle.serde_json.specs.Find.{get, as_null, as_str, as_number, as_array, as_object, as_u64}
+use Rattle.smap_vlq.specs.declared.number.TheConstants.{MAX_POSITION}
+use Rattle.smap_vlq.specs.Number.{◌>>=◌}
 use Rattle.smap_shape.specs.declared.fault.ShapeFault.{ShapeFault}
-use Rattle.smap_shape.specs.declared.fault.ShapeFault.TheVariants.{NotObject, Version, File, Both, SourceRoot, Sources, SourcesContent, Names, IgnoreList, Mappings, Sections, Offset, SectionMap, Nested}
+use Rattle.smap_shape.specs.declared.fault.ShapeFault.TheVariants.{NotObject, Version, File, Both, SourceRoot}
+use Rattle.smap_shape.specs.declared.fault.ShapeFault.TheVariants.{Sources, SourcesContent, Names, IgnoreList}
+use Rattle.smap_shape.specs.declared.fault.ShapeFault.TheVariants.{Mappings, Sections, Offset, SectionMap}
+use Rattle.smap_shape.specs.declared.fault.ShapeFault.TheVariants.{Nested}
+use Rattle.smap_shape.specs.declared.sections.TheConstants.{MAX_LEVEL}
 use Rattle.smap_shape.specs.Members.{Flat, Index, Section, MapMembers, flat, index, fitted}
-
-infixl 10 ◌>>=◌
--- what is read next, unless a fault was found before
-abbrev pub ◌>>=◌ : {A B : Type 0} → Result A ShapeFault → (A → Result B ShapeFault) → Result B ShapeFault
-(Ok x) >>= f = f x
-(Err e) >>= f = Err e
 
 -- the value where there is one, and else this fault
 abbrev pub or_fault : {A : Type 0} → ShapeFault → Option A → Result A ShapeFault
@@ -21,9 +24,9 @@ or_fault fault None = Err fault
 or_fault fault (Some x) = Ok x
 
 -- this fault where the test holds
-abbrev pub unless : ShapeFault → Bool → Result (Unit {0}) ShapeFault
-unless fault true = Err fault
-unless fault false = Ok tt
+abbrev pub refuse_if : ShapeFault → Bool → Result (Unit {0}) ShapeFault
+refuse_if fault true = Err fault
+refuse_if fault false = Ok tt
 
 -- ---- one member (ECMA-426, "JSON values utilities")
 
@@ -34,6 +37,10 @@ if_present d = if is_some (as_null d) then None else Some d
 -- A member is present where it is there and not null.
 abbrev pub member_of : List ℕ → Data → Option Data
 member_of key tree = option_and_then if_present (get key tree)
+
+-- whether the member is present
+abbrev pub has : List ℕ → Data → Bool
+has key tree = is_some (member_of key tree)
 
 -- the whole number that a value is: -1, 3.0 and -0 are none
 abbrev pub whole : Data → Option ℕ
@@ -70,19 +77,21 @@ object_only d = if is_some (as_object d) then Some d else None
 
 -- version is the whole number 3
 abbrev pub is_version_3 : Data → Bool
-is_version_3 tree = option_eq (λ a b. a == b) (option_and_then whole (member_of (codes "version") tree)) (Some 3)
+is_version_3 tree = option_eq nat_eq (option_and_then whole (member_of (codes "version") tree)) (Some 3)
 
 -- the file of a map whose version is 3
 abbrev pub file_of : Data → Result (Option (List ℕ)) ShapeFault
 file_of tree = do
-  _ ← unless Version (not (is_version_3 tree))
+  _ ← refuse_if Version (not (is_version_3 tree))
   or_fault File (optional as_str (member_of (codes "file") tree))
 
 -- ignoreList, and only where that isn't present its older name
 abbrev pub ignored_member : Data → Option Data
-ignored_member tree = option_or (member_of (codes "ignoreList") tree) (member_of (codes "x_google_ignoreList") tree)
+ignored_member tree =
+    option_or (member_of (codes "ignoreList") tree) (member_of (codes "x_google_ignoreList") tree)
 
--- The members of a flat map with this file. Every entry of sourcesContent is judged, also one past the sources.
+-- The members of a flat map with this file. Every entry of sourcesContent is judged, also one past the
+-- sources.
 abbrev pub flat_of : Option (List ℕ) → Data → Result Flat ShapeFault
 flat_of file tree = do
   root ← or_fault SourceRoot (optional as_str (member_of (codes "sourceRoot") tree))
@@ -119,28 +128,31 @@ flat_or_index file (Some sections) tree = do
 -- The members of a map, or the first fault of its shape.
 unfoldable pub shape_of : Data → Result (MapMembers Data) ShapeFault
 shape_of tree = do
-  _ ← unless NotObject (is_none (as_object tree))
+  _ ← refuse_if NotObject (is_none (as_object tree))
   file ← file_of tree
-  _ ← unless Both (is_some (member_of (codes "sections") tree) && is_some (member_of (codes "mappings") tree))
+  _ ← refuse_if Both (has (codes "sections") tree && has (codes "mappings") tree)
   flat_or_index file (member_of (codes "sections") tree) tree
 
 -- ---- a section (ECMA-426, "Index source map")
 
--- the greatest line or column
-abbrev pub max_position : ℕ
-max_position = 2147483647
-
 -- a whole number up to the greatest position
 abbrev pub position_member : List ℕ → Data → Option ℕ
-position_member key d = option_and_then (number_below (max_position + 1)) (member_of key d)
+position_member key d = option_and_then (number_below (MAX_POSITION + 1)) (member_of key d)
 
--- A section's offset and its map, or the first fault of its shape. Index maps don't nest: its map has no sections.
-unfoldable pub section_of : Data → Result (Section Data) ShapeFault
-section_of tree = do
-  _ ← unless NotObject (is_none (as_object tree))
+-- A section's offset and its map, or the first fault of its shape.
+abbrev pub offset_and_map : Data → Result (Section Data) ShapeFault
+offset_and_map tree = do
+  _ ← refuse_if NotObject (is_none (as_object tree))
   offset ← or_fault Offset (option_and_then object_only (member_of (codes "offset") tree))
   line ← or_fault Offset (position_member (codes "line") offset)
   column ← or_fault Offset (position_member (codes "column") offset)
   map ← or_fault SectionMap (option_and_then object_only (member_of (codes "map") tree))
-  _ ← unless Nested (is_some (member_of (codes "sections") map))
   Ok (record { line = line; column = column; map = map })
+
+-- A section of an index map of this level: that of the whole text has level 1, and one in a section of an index
+-- map has one level more. In one of the greatest level a section's map has no sections.
+unfoldable pub section_of : ℕ → Data → Result (Section Data) ShapeFault
+section_of level tree = do
+  s ← offset_and_map tree
+  _ ← refuse_if Nested (nat_eq level MAX_LEVEL && has (codes "sections") s.map)
+  Ok s

@@ -1,3 +1,4 @@
+//! What can be wrong with the shape of a map or of a section, in the order in which it is looked for.
 /// What is wrong with the shape of a map or of a section.
 ///
 /// `shape` answers the first fault in this order: NotObject, Version, File, Both; then of a flat
@@ -35,6 +36,6 @@ pub enum ShapeFault {
     Offset,
     /// A section's `map` is no object, or absent, as where a `url` stands in its place.
     SectionMap,
-    /// In a section's map `sections` is present.
+    /// In the map of a section of an index map of level 8 `sections` is present.
     Nested,
 }

@@ -1,3 +1,4 @@
+//! The members of a flat map: its lists are judged once, and kept as the slices of the tree that they are.
 ghost use Rattle.std.specs.Prelude.{◌≡◌, ◌<◌, ◌==◌, length, slice_get, option_copied, Some, unwrap_or};
 ghost use Rattle.std.specs.List.{list_any};
 ghost use Rattle.serde_json.specs.View.{view};

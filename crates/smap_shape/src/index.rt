@@ -1,3 +1,4 @@
+//! The members of an index map: its file and its sections, which aren't looked into here.
 ghost use Rattle.std.specs.Prelude.{◌≡◌, ◌<◌, length, slice_get, option_copied, Some};
 ghost use Rattle.serde_json.specs.View.{view};
 ghost use Rattle.smap_shape.specs.Reading.{index_of};

@@ -1,3 +1,4 @@
+//! The two kinds of map.
 use crate::{FlatShape, IndexShape};
 
 /// The members of a map: an index map is one in which `sections` is present.

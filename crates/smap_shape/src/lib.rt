@@ -21,4 +21,4 @@ pub use flat::FlatShape;
 pub use index::IndexShape;
 pub use kinds::Shape;
 pub use map::shape;
-pub use sections::{SectionShape, section};
+pub use sections::{MAX_LEVEL, SectionShape, section};

@@ -1,3 +1,4 @@
+//! A map's tree: its version and its file, and then whether it is a flat map or an index map.
 ghost use Rattle.std.specs.Prelude.{◌≡◌, option_copied};
 ghost use Rattle.serde_json.specs.View.{view};
 ghost use Rattle.smap_shape.specs.Reading.{file_of, shape_of};

@@ -1,10 +1,12 @@
 //! One member of an object, read as a text, a list, a number or an object.
 
-ghost use Rattle.std.specs.Prelude.{◌≡◌, ◌<◌, All, IfSome, option_copied, option_map, option_and_then, is_some, ◌||◌};
+ghost use Rattle.std.specs.Prelude.{◌≡◌, ◌<◌, All, IfSome, option_copied, option_map, option_and_then};
+ghost use Rattle.std.specs.Prelude.{is_some, ◌||◌};
 ghost use Rattle.std.specs.List.{list_all};
 ghost use Rattle.serde_json.specs.View.{view};
 ghost use Rattle.serde_json.specs.Find.{as_str, as_null};
-ghost use Rattle.smap_shape.specs.Reading.{member_of, optional, list_member, text_or_null, number_below, object_only};
+ghost use Rattle.smap_shape.specs.Reading.{member_of, optional, list_member, text_or_null, number_below};
+ghost use Rattle.smap_shape.specs.Reading.{object_only};
 ghost use Rattle.smap_shape.specs.Inside.{texts, sure_texts, numbers};
 
 use serde_json::Value;

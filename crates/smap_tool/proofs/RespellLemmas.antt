@@ -6,10 +6,11 @@ use Rattle.smap_mappings.specs.declared.error.SegmentKind.{SegmentKind}
 use Rattle.smap_mappings.specs.Tokens.{Fault}
 use Rattle.smap_mappings.specs.Decoded.{decoded}
 use Rattle.smap_mappings.specs.Text.{mappings_text}
-use Rattle.smap_tool.specs.declared.outcome.Outcome.{Outcome}
-use Rattle.smap_tool.specs.declared.outcome.Outcome.TheVariants.{Done, Refused}
-use Rattle.smap_tool.specs.FaultLine.{fault_line, segment_fault}
-use Rattle.smap_tool.specs.Respell.{respell_bounds, respelled, respell_output, without_line_feed}
+use Rattle.smap_run.specs.declared.outcome.Outcome.{Outcome}
+use Rattle.smap_run.specs.declared.outcome.Outcome.TheVariants.{Done, Refused}
+use Rattle.smap_run.specs.FaultLine.{fault_line, segment_fault}
+use Rattle.smap_trace.specs.Translation.{without_line_feed}
+use Rattle.smap_tool.specs.Respell.{respell_bounds, respelled, respell_output}
 
 pub says : (input : List ℕ) (said : Result (List Token) Fault) → decoded respell_bounds (without_line_feed input) ≡ said → respell_output input ≡ respelled said
 unfolding respell_output

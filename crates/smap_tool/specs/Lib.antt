@@ -1,10 +1,9 @@
 pub mod Check
-pub mod CommandLine
-pub mod FaultLine
+pub mod Flatten
 pub mod Laws
+pub mod Lookup
 pub mod MapRun
 pub mod Respell
-pub mod Run
-pub mod Status
+pub mod SameTranslation
+pub mod Task
 pub mod Tidy
-pub mod Words

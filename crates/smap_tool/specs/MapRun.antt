@@ -3,20 +3,17 @@ use Rattle.std.specs.Prelude.{ℕ, List, [], ◌∷◌, ◌++◌, Ok, Err}
 use Rattle.url.specs.Parts.{Parts}
 use Rattle.smap_record.specs.Faults.{Checked}
 use Rattle.smap_record.specs.Reading.{reading}
-use Rattle.smap_record.specs.Record.{Allowed, MapText}
-use Rattle.smap_tool.specs.FaultLine.{fault_line}
-use Rattle.smap_tool.specs.declared.outcome.Outcome.{Outcome}
-use Rattle.smap_tool.specs.declared.outcome.Outcome.TheVariants.{Done, Refused}
-
--- the limits of every run
-abbrev pub usual : Allowed
-usual = record { items = 16777216; lines = 16777216 }
+use Rattle.smap_record.specs.Record.{ReadMap}
+use Rattle.smap_run.specs.Run.{usual}
+use Rattle.smap_run.specs.FaultLine.{fault_line}
+use Rattle.smap_run.specs.declared.outcome.Outcome.{Outcome}
+use Rattle.smap_run.specs.declared.outcome.Outcome.TheVariants.{Done, Refused}
 
 -- what is written for a map, or the line of its first fault
-abbrev pub map_answer : (MapText → List ℕ) → Checked MapText → List ℕ × Outcome
+abbrev pub map_answer : (ReadMap → List ℕ) → Checked ReadMap → List ℕ × Outcome
 map_answer text (Ok m) = (text m, Done)
 map_answer text (Err fault) = (fault_line fault ++ 10 ∷ [], Refused)
 
 -- The text that is written for an input against a base, and the outcome.
-abbrev pub map_output : (MapText → List ℕ) → Parts → List ℕ → List ℕ × Outcome
-map_output text base input = map_answer text (reading base usual input)
+abbrev pub map_output : (Parts → ReadMap → List ℕ) → Parts → List ℕ → List ℕ × Outcome
+map_output text base input = map_answer (text base) (reading base usual input)

@@ -1,27 +1,31 @@
 -- What `respell` writes for a mappings text.
-use Rattle.std.specs.Prelude.{ℕ, ◌-◌, if◌then◌else◌, nat_eq, take, length, List, [], ◌∷◌, ◌++◌, Result, Ok, Err}
-use Rattle.std.specs.List.{ends_with}
+use Rattle.std.specs.Prelude.{ℕ, List, [], ◌∷◌, ◌++◌, Result, Ok, Err}
 use Rattle.smap_mappings.specs.declared.token.Token.{Token}
 use Rattle.smap_mappings.specs.declared.token.Bounds.{Bounds}
 use Rattle.smap_mappings.specs.Tokens.{Fault}
 use Rattle.smap_mappings.specs.Decoded.{decoded}
 use Rattle.smap_mappings.specs.Text.{mappings_text}
-use Rattle.smap_tool.specs.FaultLine.{fault_line, segment_fault}
-use Rattle.smap_tool.specs.declared.outcome.Outcome.{Outcome}
-use Rattle.smap_tool.specs.declared.outcome.Outcome.TheVariants.{Done, Refused}
-
--- the text without one last line feed, where it ends in one
-abbrev pub without_line_feed : List ℕ → List ℕ
-without_line_feed text = if ends_with nat_eq text (10 ∷ []) then take (length text - 1) text else text
+use Rattle.smap_trace.specs.Translation.{without_line_feed}
+use Rattle.smap_run.specs.FaultLine.{fault_line, segment_fault}
+use Rattle.smap_run.specs.declared.outcome.Outcome.{Outcome}
+use Rattle.smap_run.specs.declared.outcome.Outcome.TheVariants.{Done, Refused}
 
 -- A bare mappings text starts at line 0 and column 0, and its indices may be as large as a position.
 abbrev pub respell_bounds : Bounds
-respell_bounds = record { start_line = 0; start_column = 0; sources = 2147483647; names = 2147483647; lines = 16777216 }
+respell_bounds = record {
+  start_line = 0;
+  start_column = 0;
+  sources = 2147483647;
+  names = 2147483647;
+  lines = 16777216;
+}
 
+-- what is written for tokens or a fault
 abbrev pub respelled : Result (List Token) Fault → List ℕ × Outcome
 respelled (Ok tokens) = (mappings_text tokens ++ 10 ∷ [], Done)
 respelled (Err fault) = (fault_line (segment_fault fault) ++ 10 ∷ [], Refused)
 
--- The text that is written for an input, and the outcome: its tokens in the shortest spellings, or the line of its first fault.
+-- The text that is written for an input, and the outcome: its tokens in the shortest spellings, or the line
+-- of its first fault.
 unfoldable pub respell_output : List ℕ → List ℕ × Outcome
 respell_output input = respelled (decoded respell_bounds (without_line_feed input))

@@ -1,16 +1,17 @@
 //! The run `check`: whether a map is accepted, and how much it holds.
-ghost use Rattle.std.specs.Prelude.{◌≡◌, ◌-◌, ◌^◌, ◌<◌, ◌∷◌, ◌++◌, [], None, true, false, is_ok, string_bytes, IfOk, OnOk};
-ghost use Rattle.smap_io.specs.Device.{device_inner, device_failures, has_ended};
+ghost use Rattle.std.specs.Prelude.{◌≡◌, ◌-◌, ◌^◌, ◌<◌, None, false, string_bytes, IfOk};
+ghost use Rattle.smap_io.specs.Device.{device_failures, has_ended};
 ghost use Rattle.smap_mappings.specs.Text.{line_count};
-ghost use Rattle.smap_tool.specs.Check.{check_output, check_text, counts_line};
-ghost use Rattle.smap_tool.specs.Run.{AnswersAgainst, ReaderFails, WriterFails};
+ghost use Rattle.smap_tool.specs.Check.{check_output, check_text, counts_line, length_line, most_bytes};
+ghost use Rattle.smap_run.specs.Run.{AnswersAgainst, Runs};
 ghost use Rattle.url.specs.Parser.{parse_url};
 
 use crate::map_run::{MapCommand, run_on_map};
-use crate::outcome::{Outcome, RunFault};
+use smap_canon::canonical_mappings;
 use smap_io::Device;
 use smap_mappings::Memory;
-use smap_record::SourceMap;
+use smap_record::{Base, SourceMap};
+use smap_run::{Outcome, RunFault};
 use std::alloc::{AllocError, Global};
 use std::io::{Read, Write};
 
@@ -39,22 +40,45 @@ fn counts_line(alloc: Global, map: &SourceMap) -> Result<String, AllocError>
     )
 }
 
+/// How many bytes canonical mappings can have: 36 for each mapping, and one for each line.
+fn most_bytes(map: &SourceMap) -> u128
+    ensures { result ≡ most_bytes map.now }
+{
+    36 * map.token_count() as u128 + line_count(map) as u128
+}
+
+/// How long the canonical mappings are and can be, in one line, without its line feed.
+#[tactic(auto, unfolding(crate::specs::Check::length_line))]
+fn length_line(alloc: Global, map: &SourceMap) -> Result<String, Memory>
+    ensures { IfOk result (λ line. string_bytes line ≡ length_line map.now) }
+{
+    let mappings = canonical_mappings(alloc, map)?;
+    let line = format!(in alloc;
+        "canonical mappings: {} bytes, at most {}",
+        mappings.len(),
+        most_bytes(map)
+    )?;
+    Ok(line)
+}
+
 struct Check;
 
 impl MapCommand for Check {
-    ghost output = { λ _ m. check_text m };
+    ghost output = { λ _ _ m. check_text m };
 
-    fn text(&self, alloc: Global, map: &SourceMap) -> Result<Vec<u8>, Memory> {
-        let mut text = counts_line(alloc, map)?.into_bytes();
-        text.push(b'\n')?;
-        Ok(text)
+    fn text(&self, alloc: Global, _base: &Base, map: &SourceMap) -> Result<Vec<u8>, Memory> {
+        let counts = counts_line(alloc, map)?;
+        let lengths = length_line(alloc, map)?;
+        let text = format!(in alloc; "{}\n{}\n", counts.as_str(), lengths.as_str())?;
+        Ok(text.into_bytes())
     }
 }
 
-/// Reads a map against a base, and writes `accepted: S sources, N names, M mappings, L lines`, or the
-/// line of its first fault (then it is `Refused`), each with a line feed. S counts the distinct sources,
-/// N the listed names, and L is one more than the line of the last mapping, or 0. A base that is no URL
-/// is refused as such before anything is read.
+/// Reads a map against a base, and writes `accepted: S sources, N names, M mappings, L lines` and
+/// `canonical mappings: B bytes, at most K`, or the line of its first fault (then it is `Refused`), each
+/// with a line feed. S counts the distinct sources, N the listed names, and L is one more than the line
+/// of the last mapping, or 0. B is the length of the canonical mappings text, and K is 36 for each
+/// mapping and one for each line. A base that is no URL is refused as such before anything is read.
 pub fn run_check<R: Read, W: Write>(
     alloc: Global,
     base: &str,
@@ -65,18 +89,10 @@ pub fn run_check<R: Read, W: Write>(
     requires writer { device_failures writer.old < 2 ^ 64 - 1 }
     requires not_ended { has_ended reader.old ≡ false }
 
-    // What was written is what is said of what was read against the base.
-    ensures answers { AnswersAgainst (parse_url None base.now) check_output
-        (R.remaining (device_inner reader.old)) (R.remaining (device_inner reader.new))
-        (W.contents (device_inner writer.old)) (W.contents (device_inner writer.new)) result }
-    ensures ended { is_ok (parse_url None base.now) ≡ true → OnOk result (has_ended reader.new ≡ true) }
-
-    // Read and Write come with a failure of their device, and no other answer does.
-    ensures reader_failures { ReaderFails (device_failures reader.old) (device_failures reader.new) result }
-    ensures writer_failures { WriterFails (device_failures writer.old) (device_failures writer.new) result }
+    // What was written is what is said of what was read against the base; Read and Write come with a
+    // failure of their device, and no other answer does.
+    ensures { Runs (AnswersAgainst (parse_url None base.now) check_output)
+        R.remaining reader.old reader.new W.contents writer.old writer.new result }
 {
     run_on_map(alloc, &Check, base, reader, writer)
 }
-
-#[cfg(test)]
-mod tests;

@@ -1,8 +1,6 @@
-//! What holds of the outputs of runs and of the command line, whatever the input.
-ghost use Rattle.std.specs.Prelude.{◌≡◌, true};
-ghost use Rattle.clap.specs.Words.{is_simple_and_free};
-ghost use Rattle.smap_tool.specs.CommandLine as line;
+//! What holds of the outputs of runs, whatever the input.
 ghost use Rattle.smap_tool.specs.Laws.{OutputStays, RespellDecides};
+ghost use Rattle.smap_tool.specs.SameTranslation.{SameTranslation};
 
 /// Of two mappings texts that `respell` accepts, the outputs are equal exactly if the tokens are; and
 /// what it writes for one is accepted again, with the same tokens, and written again.
@@ -11,7 +9,8 @@ pub fn respell_decides_equality()
     ensures stays { OutputStays }
 {}
 
-/// The command line is one of those of which `clap` defines what every list of words gives.
-pub fn command_line_is_simple()
-    ensures { is_simple_and_free line.smap ≡ true }
+/// For two lists of scripts that agree place by place, where a map may be the one read from the other's
+/// canonical bytes in either form, every trace is translated alike.
+pub fn same_translation()
+    ensures { SameTranslation }
 {}

@@ -1,36 +1,33 @@
 //! The one shape of the runs that read a map against a base.
-ghost use Rattle.std.specs.Prelude.{◌≡◌, ◌-◌, ◌^◌, ◌<◌, ℕ, List, None, true, false, is_ok, IfOk, OnOk};
-ghost use Rattle.smap_io.specs.Device.{device_inner, device_failures, has_ended};
+ghost use Rattle.std.specs.Prelude.{◌≡◌, ◌-◌, ◌^◌, ◌<◌, ℕ, List, None, IfOk, false};
+ghost use Rattle.smap_io.specs.Device.{device_failures, has_ended};
 ghost use Rattle.smap_record.specs.Answers.{Gives};
 ghost use Rattle.smap_record.specs.Reading.{reading};
-ghost use Rattle.smap_record.specs.Record.{MapText};
-ghost use Rattle.smap_tool.specs.MapRun.{map_output, usual};
-ghost use Rattle.smap_tool.specs.Run.{AnswersAgainst, ReaderFails, WriterFails};
+ghost use Rattle.smap_record.specs.Record.{Parts, ReadMap};
+ghost use Rattle.smap_run.specs.Run.{AnswersAgainst, Runs, usual};
+ghost use Rattle.smap_tool.specs.MapRun.{map_output};
 ghost use Rattle.url.specs.Parser.{parse_url};
 
-use crate::fault_line::refusal;
-use crate::input::read_input;
-use crate::outcome::{Outcome, RunFault};
-use crate::output::{write_output, write_refused_base};
 use smap_io::Device;
 use smap_mappings::Memory;
 use smap_record::{Base, BaseFault, Limits, ReadError, SourceMap};
+use smap_run::{Outcome, RunFault, read_input, refusal, write_output, write_refused_base};
 use std::alloc::Global;
 use std::io::{Read, Write};
 
-/// What a command writes for a map that was read.
+/// What a command writes for a map that was read against a base.
 pub(crate) trait MapCommand {
-    ghost output: { Self → MapText → List ℕ };
+    ghost output: { Self → Parts → ReadMap → List ℕ };
 
-    fn text(&self, alloc: Global, map: &SourceMap) -> Result<Vec<u8>, Memory>
-        ensures { IfOk result (λ text. text.items ≡ output self.now map.now) };
+    fn text(&self, alloc: Global, base: &Base, map: &SourceMap) -> Result<Vec<u8>, Memory>
+        ensures { IfOk result (λ text. text.items ≡ output self.now base.now map.now) };
 }
 
 /// The map of an input, which is let go.
 fn map_of(alloc: Global, base: &Base, input: Vec<u8>) -> Result<SourceMap, ReadError>
     ensures { Gives (λ m. m) result (reading base.now usual input.items) }
 {
-    SourceMap::from_slice(alloc, input.as_slice(), base, Limits::usual())
+    SourceMap::from_vec(alloc, input, base, Limits::usual())
 }
 
 /// What is written for an input, and the outcome.
@@ -43,7 +40,7 @@ fn answer<C: MapCommand>(
     ensures { IfOk result (λ x. (x.0.items, x.1) ≡ map_output (C.output command.now) base.now input.items) }
 {
     match map_of(alloc, base, input) {
-        Ok(map) => Ok((command.text(alloc, &map)?, Outcome::Done)),
+        Ok(map) => Ok((command.text(alloc, base, &map)?, Outcome::Done)),
         Err(ReadError::Refused(fault)) => Ok((refusal(alloc, &fault)?, Outcome::Refused)),
         Err(ReadError::Memory) => Err(Memory),
     }
@@ -60,12 +57,9 @@ pub(crate) fn run_on_map<C: MapCommand, R: Read, W: Write>(
 ) -> Result<Outcome, RunFault>
     requires reader { device_failures reader.old < 2 ^ 64 - 1 }
     requires writer { device_failures writer.old < 2 ^ 64 - 1 }
-    ensures answers { AnswersAgainst (parse_url None base.now) (map_output (C.output command.now))
-        (R.remaining (device_inner reader.old)) (R.remaining (device_inner reader.new))
-        (W.contents (device_inner writer.old)) (W.contents (device_inner writer.new)) result }
-    ensures ended { is_ok (parse_url None base.now) ≡ true → OnOk result (has_ended reader.new ≡ true) }
-    ensures reader_failures { ReaderFails (device_failures reader.old) (device_failures reader.new) result }
-    ensures writer_failures { WriterFails (device_failures writer.old) (device_failures writer.new) result }
+    requires not_ended { has_ended reader.old ≡ false }
+    ensures { Runs (AnswersAgainst (parse_url None base.now) (map_output (C.output command.now)))
+        R.remaining reader.old reader.new W.contents writer.old writer.new result }
 {
     let base = match Base::new(alloc, base) {
         Ok(base) => base,
@@ -73,11 +67,7 @@ pub(crate) fn run_on_map<C: MapCommand, R: Read, W: Write>(
         Err(BaseFault::Memory) => return Err(RunFault::Memory),
     };
     let input = read_input(alloc, reader)?;
-    let Ok((text, outcome)) = answer(alloc, command, &base, input) else {
-        return Err(RunFault::Memory);
-    };
-    match write_output(writer, text.as_slice()) {
-        Ok(()) => Ok(outcome),
-        Err(_) => Err(RunFault::Write),
-    }
+    let (text, outcome) = answer(alloc, command, &base, input)?;
+    write_output(writer, &text)?;
+    Ok(outcome)
 }

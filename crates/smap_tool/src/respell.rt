@@ -1,21 +1,19 @@
 //! The run `respell`: a bare mappings text in its shortest spellings.
-ghost use Rattle.std.specs.Prelude.{◌≡◌, ◌-◌, ◌^◌, ◌<◌, true, false, ◌∷◌, ◌++◌, [], IfOk, OnOk};
-ghost use Rattle.smap_io.specs.Device.{device_inner, device_failures, has_ended};
+ghost use Rattle.std.specs.Prelude.{◌≡◌, ◌-◌, ◌^◌, ◌<◌, false, IfOk};
+ghost use Rattle.smap_io.specs.Device.{device_failures, has_ended};
 ghost use Rattle.smap_mappings.specs.Decoded.{Gives, decoded};
 ghost use Rattle.smap_mappings.specs.Text.{IsEncodable};
-ghost use Rattle.smap_tool.specs.FaultLine.{segment_fault};
-ghost use Rattle.smap_tool.specs.Respell.{respell_bounds, respell_output, without_line_feed};
-ghost use Rattle.smap_tool.specs.Run.{Answers, ReaderFails, WriterFails};
+ghost use Rattle.smap_trace.specs.Translation.{without_line_feed};
+ghost use Rattle.smap_run.specs.FaultLine.{segment_fault};
+ghost use Rattle.smap_tool.specs.Respell.{respell_bounds, respell_output};
+ghost use Rattle.smap_run.specs.Run.{Answers, Runs};
 
-use crate::fault_line::refusal;
-use crate::input::read_input;
-use crate::outcome::{Outcome, RunFault};
-use crate::output::write_output;
 use smap_io::Device;
 use smap_mappings::{
     Bounds, MappingsError, Memory, SegmentKind, SegmentPlace, Token, decode, encode,
 };
-use smap_record::{Fault, Kind};
+use smap_record::{Fault, Kind, Path};
+use smap_run::{Outcome, RunFault, read_input, refusal, write_output};
 use std::alloc::Global;
 use std::io::{Read, Write};
 
@@ -44,7 +42,7 @@ fn segment_fault(place: SegmentPlace, kind: SegmentKind) -> Fault
     ensures { result ≡ segment_fault (place, kind) }
 {
     Fault {
-        section: None,
+        section: Path::new(&[]).unwrap(),
         place: Some(place),
         kind: Kind::from(kind),
     }
@@ -89,25 +87,13 @@ pub fn run_respell<R: Read, W: Write>(
     requires writer { device_failures writer.old < 2 ^ 64 - 1 }
     requires not_ended { has_ended reader.old ≡ false }
 
-    // What was written is what is said of what was read.
-    ensures answers { Answers respell_output
-        (R.remaining (device_inner reader.old)) (R.remaining (device_inner reader.new))
-        (W.contents (device_inner writer.old)) (W.contents (device_inner writer.new)) result }
-    ensures ended { OnOk result (has_ended reader.new ≡ true) }
-
-    // Read and Write come with a failure of their device, and no other answer does.
-    ensures reader_failures { ReaderFails (device_failures reader.old) (device_failures reader.new) result }
-    ensures writer_failures { WriterFails (device_failures writer.old) (device_failures writer.new) result }
+    // What was written is what is said of what was read; Read and Write come with a failure of their
+    // device, and no other answer does.
+    ensures { Runs (Answers respell_output)
+        R.remaining reader.old reader.new W.contents writer.old writer.new result }
 {
     let input = read_input(alloc, reader)?;
-    let Ok((text, outcome)) = respell(alloc, input) else {
-        return Err(RunFault::Memory);
-    };
-    match write_output(writer, text.as_slice()) {
-        Ok(()) => Ok(outcome),
-        Err(_) => Err(RunFault::Write),
-    }
+    let (text, outcome) = respell(alloc, input)?;
+    write_output(writer, &text)?;
+    Ok(outcome)
 }
-
-#[cfg(test)]
-mod tests;

@@ -8,4 +8,6 @@ pub mod SegmentLemmas
 pub mod PrefixLemmas
 pub mod ShortestLemmas
 pub mod SpelledLemmas
+pub mod LeastLemmas
 pub mod SegmentLawLemmas
+pub mod PiecesLemmas

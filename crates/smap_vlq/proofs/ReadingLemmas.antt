@@ -1,10 +1,10 @@
 -- A loop over the digits of a number.
-use Rattle.std.proofs.Common.{◌≡◌, ℕ, ◌+◌, ◌*◌, ◌%◌, ◌^◌, ◌<◌, ◌≤◌, min, List, [], ◌∷◌, ◌++◌, length, get_or, drop, Option, None, Some, Result, Ok, Err, refl, sym, ap, ◌∙◌, arith, append_assoc, length-append, drop-cons, add-one}
+use Rattle.std.proofs.Common.{◌≡◌, ◌≢◌, ℤ, ℕ, ◌+◌, ◌*◌, ◌%◌, ◌^◌, ◌<◌, ◌≤◌, min, List, [], ◌∷◌, ◌++◌, length, get_or, drop, Option, None, Some, Result, Ok, Err, refl, sym, ap, ◌∙◌, arith, append_assoc, length-append, drop-cons, add-one}
 use Rattle.std.proofs.Math.ListN.{drop_of_length-le}
-use Rattle.std.proofs.lemmas.Bool.{lt-ltb, le-ltb}
+use Rattle.std.proofs.lemmas.Bool.{lt-ltb, le-ltb, lt-leb, ne_eqb}
 use Rattle.smap_vlq.specs.declared.number.NumberFault.{NumberFault}
 use Rattle.smap_vlq.specs.declared.number.NumberFault.TheVariants.{Unfinished, Character}
-use Rattle.smap_vlq.specs.Number.{◌>>=◌, digit_of, then_digits, unsigned, number_of, number_digits, number_at}
+use Rattle.smap_vlq.specs.Number.{◌>>=◌, digit_of, then_digits, unsigned, signed, number_of, number_digits, number_at}
 use Rattle.smap_vlq.proofs.UnsignedLemmas.{Stands, Stands-push, number_of-min}
 
 abbrev pub with_digits : List ℕ → Result (List ℕ) NumberFault → Result (List ℕ) NumberFault
@@ -69,3 +69,24 @@ pub unfinished : (text : List ℕ) (at place total weight : ℕ) → Progress te
 unfinished text at place total weight p le =
     let found : number_digits (drop at text) ≡ Err Unfinished = p.rest ∙ ap (λ (l : List ℕ). with_digits p.digits (number_digits l)) (drop_of_length-le text le) in
     rw found refl
+
+abbrev found : ℤ → ℕ → Result (ℤ × ℕ) NumberFault
+found n behind = Ok (n, behind)
+
+number_of-is : (u : ℕ) → u < 2 ^ 32 → u ≢ 1 → number_of u ≡ Ok (signed u)
+number_of-is u lt other = rw (lt-leb (2 ^ 32) u lt, ne_eqb u 1 other) refl
+
+-- a number of one digit
+pub one_digit : (text : List ℕ) (at d : ℕ) → at < length text → digit_of (get_or text at 0) ≡ Some d → d < 32 → d ≢ 1 → number_at text at ≡ Ok (signed d, at + 1)
+one_digit text at d lt is small other =
+    ends text at at 0 1 d d (start text at) lt is small (omega arith)
+    ∙ ap (λ (r : Result ℤ NumberFault). r >>= λ n. Ok (n, at + 1)) (number_of-is d (omega arith) other)
+
+-- a number of two digits
+pub two_digits : (text : List ℕ) (at d e u : ℕ) → at + 1 < length text → digit_of (get_or text at 0) ≡ Some d → 32 ≤ d → digit_of (get_or text (at + 1) 0) ≡ Some e → e < 32 → u ≡ d % 32 + 32 * e → u ≢ 1
+    → number_at text at ≡ Ok (signed u, at + 2)
+two_digits text at d e u lt first large second small is other =
+    let p = goes_on text at at 0 1 d (d % 32) 32 (start text at) (omega arith) first large (omega arith) (omega arith) in
+    ends text at (at + 1) (d % 32) 32 e u p lt second small (omega arith)
+    ∙ ap (λ (r : Result ℤ NumberFault). r >>= λ n. Ok (n, at + 1 + 1)) (number_of-is u (omega arith) other)
+    ∙ ap (λ (k : ℕ). found (signed u) k) (omega arith)

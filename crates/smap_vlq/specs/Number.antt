@@ -1,9 +1,13 @@
--- Numbers: digits, what a text spells, how a number is read, and its shortest spelling (ECMA-426, "Base64 VLQ"; that an unsigned value is below 2 ^ 32 and isn't 1 is a rule of our own).
-use Rattle.std.specs.Prelude.{◌≡◌, ◌≢◌, ℕ, zero, suc, ◌+◌, ◌-◌, ◌*◌, ◌/◌, ◌%◌, ◌^◌, ◌<◌, ◌≤◌, ◌&&◌, ◌==◌, nat_lt, nat_le, if◌then◌else◌, List, [], ◌∷◌, ◌++◌, map, length, drop, Option, Some, None, Result, Ok, Err, ℤ, pos, negsuc, neg_ℤ, Bool, false, IsTrue}
+-- Numbers: digits, what a text spells, how a number is read, and its shortest spelling (ECMA-426, "Base64
+-- VLQ"; that an unsigned value is below 2 ^ 32 and isn't 1 is a rule of our own).
+use Rattle.std.specs.Prelude.{◌≡◌, ◌≢◌, ℕ, zero, suc, ◌+◌, ◌-◌, ◌*◌, ◌/◌, ◌%◌, ◌^◌, ◌<◌, ◌≤◌, ◌&&◌, ◌==◌}
+use Rattle.std.specs.Prelude.{nat_lt, nat_le, if◌then◌else◌, List, [], ◌∷◌, ◌++◌, map, length, drop, Option}
+use Rattle.std.specs.Prelude.{Some, None, Result, Ok, Err, ℤ, pos, negsuc, neg_ℤ, Bool, false, IsTrue}
 use Rattle.std.specs.Option.{option_map_or}
 use Rattle.std.specs.List.{AllByRecursion}
 use Rattle.smap_vlq.specs.declared.number.NumberFault.{NumberFault}
-use Rattle.smap_vlq.specs.declared.number.NumberFault.TheVariants.{Unfinished, Character, TooLarge, NegativeZero}
+use Rattle.smap_vlq.specs.declared.number.NumberFault.TheVariants.{Unfinished, Character, TooLarge}
+use Rattle.smap_vlq.specs.declared.number.NumberFault.TheVariants.{NegativeZero}
 
 infixl 10 ◌>>=◌
 -- what comes next on success; a fault stays
@@ -13,7 +17,8 @@ abbrev pub ◌>>=◌ : {A B F : Type 0} → Result A F → (A → Result B F) �
 
 -- ---- digits
 
--- the digit that a byte is: A to Z are 0 to 25, a to z are 26 to 51, 0 to 9 are 52 to 61, + is 62 and / is 63.
+-- the digit that a byte is: A to Z are 0 to 25, a to z are 26 to 51, 0 to 9 are 52 to 61, + is 62 and
+-- / is 63.
 unfoldable pub digit_of : ℕ → Option ℕ
 digit_of byte =
     if nat_le 65 byte && nat_le byte 90 then Some (byte - 65)
@@ -49,7 +54,8 @@ unsigned (d ∷ ds) = d % 32 + 32 * unsigned ds
 abbrev pub signed : ℕ → ℤ
 signed u = if u % 2 == 0 then pos (u / 2) else neg_ℤ (pos (u / 2))
 
--- the number of an unsigned value, or why it has none: 2 ^ 32 and more is too large, and 1 would be a negative zero
+-- the number of an unsigned value, or why it has none: 2 ^ 32 and more is too large, and 1 would be a
+-- negative zero
 abbrev pub number_of : ℕ → Result ℤ NumberFault
 number_of u = if nat_le (2 ^ 32) u then Err TooLarge else if u == 1 then Err NegativeZero else Ok (signed u)
 
@@ -89,10 +95,13 @@ pub record BeginsWith (text digits : List ℕ) : Type 0 where
   pub spelled : map digit_of first ≡ map (λ d. Some d) digits
   pub one_number : AreNumberDigits digits
 
--- Why no number stands at the front of a text. The first place that holds no continuation digit decides: there is none; or it holds no digit; or the number ends there, and its unsigned value is too large, or is 1.
+-- Why no number stands at the front of a text. The first place that holds no continuation digit decides:
+-- there is none; or it holds no digit; or the number ends there, and its unsigned value is too large, or is
+-- 1.
 abbrev pub HasNumberFault : List ℕ → NumberFault → Type 0
 HasNumberFault text Unfinished = AllContinue text
-HasNumberFault text Character = (front rest : List ℕ) × (byte : ℕ) × (text ≡ front ++ byte ∷ rest) × AllContinue front × (digit_of byte ≡ None)
+HasNumberFault text Character = (front rest : List ℕ) × (byte : ℕ) × (text ≡ front ++ byte ∷ rest)
+    × AllContinue front × (digit_of byte ≡ None)
 HasNumberFault text TooLarge = (digits : List ℕ) × BeginsWith text digits × (2 ^ 32 ≤ unsigned digits)
 HasNumberFault text NegativeZero = (digits : List ℕ) × BeginsWith text digits × (unsigned digits ≡ 1)
 
@@ -108,7 +117,8 @@ number_digits (b ∷ bs) = then_digits (digit_of b) (number_digits bs)
 
 -- the number at a place of a text, and the place behind it
 abbrev pub number_at : List ℕ → ℕ → Result (ℤ × ℕ) NumberFault
-number_at text at = number_digits (drop at text) >>= λ digits. number_of (unsigned digits) >>= λ n. Ok (n, at + length digits)
+number_at text at = number_digits (drop at text) >>= λ digits. number_of (unsigned digits)
+    >>= λ n. Ok (n, at + length digits)
 
 -- ---- writing
 

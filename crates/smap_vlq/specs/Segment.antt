@@ -1,5 +1,6 @@
 -- Segments: one number behind another, 1, 4 or 5 of them (ECMA-426, "Mappings structure").
-use Rattle.std.specs.Prelude.{◌≡◌, ◌≢◌, ℕ, ◌+◌, ◌-◌, ◌||◌, ◌==◌, min, if◌then◌else◌, List, [], ◌∷◌, ◌++◌, length, replicate, Result, Ok, Err, ℤ, pos, Bool, false}
+use Rattle.std.specs.Prelude.{◌≡◌, ◌≢◌, ℕ, ◌+◌, ◌-◌, ◌||◌, ◌==◌, min, if◌then◌else◌, List, [], ◌∷◌, ◌++◌}
+use Rattle.std.specs.Prelude.{length, replicate, Result, Ok, Err, ℤ, pos, Bool, false}
 use Rattle.std.specs.List.{onto_first}
 use Rattle.smap_vlq.specs.declared.number.NumberFault.{NumberFault}
 use Rattle.smap_vlq.specs.declared.segment.SegmentFault.{SegmentFault}
@@ -13,7 +14,8 @@ abbrev pub SpellsAll : List ℕ → List ℤ → Type 0
 SpellsAll text [] = text ≡ []
 SpellsAll text (n ∷ ns) = (first rest : List ℕ) × (text ≡ first ++ rest) × Spells first n × SpellsAll rest ns
 
--- A generated column alone; or with a source index, original line and original column; or with a name index besides.
+-- A generated column alone; or with a source index, original line and original column; or with a name index
+-- besides.
 abbrev pub is_field_count : ℕ → Bool
 is_field_count n = n == 1 || n == 4 || n == 5
 
@@ -50,11 +52,14 @@ unfoldable pub segment_of : List ℕ → Result (List ℤ) SegmentFault
 segment_of [] = Err Empty
 segment_of (b ∷ bs) = numbers_from 1 (number_texts (b ∷ bs)) >>= counted
 
--- Why a text is no segment: it is empty; or behind numbers that it spells, one behind another, it goes on with a text that has a number fault; or it spells numbers, but not 1, 4 or 5.
+-- Why a text is no segment: it is empty; or behind numbers that it spells, one behind another, it goes on
+-- with a text that has a number fault; or it spells numbers, but not 1, 4 or 5.
 abbrev pub HasSegmentFault : List ℕ → SegmentFault → Type 0
 HasSegmentFault text Empty = text ≡ []
-HasSegmentFault text (Number which fault) = (front rest : List ℕ) × (ns : List ℤ) × (text ≡ front ++ rest) × (rest ≢ []) × SpellsAll front ns × HasNumberFault rest fault × (which ≡ u8_count (length ns + 1))
-HasSegmentFault text (Count n) = (ns : List ℤ) × SpellsAll text ns × (ns ≢ []) × (is_field_count (length ns) ≡ false) × (n ≡ u8_count (length ns))
+HasSegmentFault text (Number which fault) = (front rest : List ℕ) × (ns : List ℤ) × (text ≡ front ++ rest)
+    × (rest ≢ []) × SpellsAll front ns × HasNumberFault rest fault × (which ≡ u8_count (length ns + 1))
+HasSegmentFault text (Count n) = (ns : List ℤ) × SpellsAll text ns × (ns ≢ [])
+    × (is_field_count (length ns) ≡ false) × (n ≡ u8_count (length ns))
 
 -- five places, those past the numbers are 0
 abbrev pub fields_of : List ℤ → Fields

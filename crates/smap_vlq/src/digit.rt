@@ -1,5 +1,5 @@
 //! Base64 digits and their bytes.
-ghost use Rattle.std.specs.Prelude.{◌≡◌, ◌<◌};
+ghost use Rattle.std.specs.Prelude.{◌≡◌, ◌≢◌, ℕ, ◌<◌, Some, IfSome, IfNone};
 ghost use Rattle.smap_vlq.specs.Number.{digit_of, digit_byte};
 
 /// The digit of each byte, and 64 for a byte that is none. A look-up costs the same for each byte,
@@ -25,6 +25,7 @@ const DIGITS: [u8; 256] = [
 ];
 
 /// The digit that a byte is.
+#[inline(always)]
 pub fn digit_value(byte: u8) -> Option<u8>
     ensures { result ≡ digit_of byte }
 {
@@ -32,17 +33,52 @@ pub fn digit_value(byte: u8) -> Option<u8>
     if digit < 64 { Some(digit) } else { None }
 }
 
+/// The digit of each byte that is a number by itself, below 32 and not 1, and 64 for all others: most
+/// numbers are such a byte, and one look-up and one comparison read it.
+#[rattlefmt::skip]
+const LONE_DIGITS: [u8; 256] = [
+    64, 64, 64, 64, 64, 64, 64, 64, 64, 64, 64, 64, 64, 64, 64, 64,
+    64, 64, 64, 64, 64, 64, 64, 64, 64, 64, 64, 64, 64, 64, 64, 64,
+    64, 64, 64, 64, 64, 64, 64, 64, 64, 64, 64, 64, 64, 64, 64, 64,
+    64, 64, 64, 64, 64, 64, 64, 64, 64, 64, 64, 64, 64, 64, 64, 64,
+    64, 0, 64, 2, 3, 4, 5, 6, 7, 8, 9, 10, 11, 12, 13, 14,
+    15, 16, 17, 18, 19, 20, 21, 22, 23, 24, 25, 64, 64, 64, 64, 64,
+    64, 26, 27, 28, 29, 30, 31, 64, 64, 64, 64, 64, 64, 64, 64, 64,
+    64, 64, 64, 64, 64, 64, 64, 64, 64, 64, 64, 64, 64, 64, 64, 64,
+    64, 64, 64, 64, 64, 64, 64, 64, 64, 64, 64, 64, 64, 64, 64, 64,
+    64, 64, 64, 64, 64, 64, 64, 64, 64, 64, 64, 64, 64, 64, 64, 64,
+    64, 64, 64, 64, 64, 64, 64, 64, 64, 64, 64, 64, 64, 64, 64, 64,
+    64, 64, 64, 64, 64, 64, 64, 64, 64, 64, 64, 64, 64, 64, 64, 64,
+    64, 64, 64, 64, 64, 64, 64, 64, 64, 64, 64, 64, 64, 64, 64, 64,
+    64, 64, 64, 64, 64, 64, 64, 64, 64, 64, 64, 64, 64, 64, 64, 64,
+    64, 64, 64, 64, 64, 64, 64, 64, 64, 64, 64, 64, 64, 64, 64, 64,
+    64, 64, 64, 64, 64, 64, 64, 64, 64, 64, 64, 64, 64, 64, 64, 64,
+];
+
+/// The digit that a byte is which is a number by itself.
+#[inline(always)]
+pub fn lone_digit(byte: u8) -> Option<u8>
+    ensures lone { IfSome result (λ d. (digit_of byte ≡ Some d) × (d < 32) × (d ≢ 1)) }
+    ensures other { IfNone result ((d : ℕ) → digit_of byte ≡ Some d → d < 32 → d ≡ 1) }
+{
+    let digit = LONE_DIGITS[byte as usize];
+    if digit < 32 { Some(digit) } else { None }
+}
+
+/// The byte of each digit.
+#[rattlefmt::skip]
+const BYTES: [u8; 64] = [
+    65, 66, 67, 68, 69, 70, 71, 72, 73, 74, 75, 76, 77, 78, 79, 80,
+    81, 82, 83, 84, 85, 86, 87, 88, 89, 90, 97, 98, 99, 100, 101, 102,
+    103, 104, 105, 106, 107, 108, 109, 110, 111, 112, 113, 114, 115, 116, 117, 118,
+    119, 120, 121, 122, 48, 49, 50, 51, 52, 53, 54, 55, 56, 57, 43, 47,
+];
+
 /// The byte of a digit.
-#[tactic(auto, unfolding(crate::specs::Number::digit_byte))]
-pub fn digit_char(digit: u8) -> u8
+#[inline(always)]
+pub fn byte_of(digit: u32) -> u8
     requires { digit < 64 }
     ensures { result ≡ digit_byte digit }
 {
-    match digit {
-        0..=25 => digit + b'A',
-        26..=51 => digit - 26 + b'a',
-        52..=61 => digit - 52 + b'0',
-        62 => b'+',
-        _ => b'/',
-    }
+    BYTES[digit as usize]
 }

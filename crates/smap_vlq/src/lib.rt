@@ -9,15 +9,18 @@
 //!
 //! These are the inner loops of a decoder, and lean: nothing takes memory, a text is read in one
 //! pass with a table look-up and a few sums a byte, and a number is spelled in at most seven steps
-//! into an array of the caller's.
+//! into a text of the caller's. A segment of a text that comes in pieces is read by
+//! `SegmentReader`, byte by byte, which stores no text.
 #![tactic(auto)]
 
 mod digit;
 pub mod laws;
 mod number;
 mod segment;
+mod segment_reader;
 mod spelling;
 
-pub use number::{NumberFault, read_number};
+pub use number::{MAX_POSITION, NumberFault, read_number};
 pub use segment::{Fields, SegmentFault, read_segment};
-pub use spelling::spell;
+pub use segment_reader::SegmentReader;
+pub use spelling::{spell, spell_at};

@@ -1,21 +1,48 @@
 //! The shortest spelling of a number.
-ghost use Rattle.std.specs.Prelude.{◌≡◌, ◌≢◌, negsuc};
+ghost use Rattle.std.specs.Prelude.{◌≡◌, ◌≢◌, ◌+◌, ◌≤◌, ◌++◌, negsuc, length, take, drop};
+ghost use Rattle.smap_vlq.specs.declared.number.TheConstants.{MAX_POSITION};
 ghost use Rattle.smap_vlq.specs.Number.{spelling, unsigned_spelling, unsigned_of, Written};
 
-use crate::digit::digit_char;
+use crate::digit::byte_of;
 
 /// Writes the shortest spelling of a number, which isn't -2,147,483,648, to the front of `out`, and
 /// answers its length, from 1 to 7. The bytes of `out` behind it stay. (ECMA-426, "Base64 VLQ")
 pub fn spell(n: i32, out: &mut [u8; 7]) -> usize
-    requires { n ≢ negsuc 2147483647 }
+    requires { n ≢ negsuc MAX_POSITION }
     ensures { Written (spelling n) out.old out.new result }
 {
-    spell_unsigned(unsigned_value(n), out)
+    spell_at(n, out, 0)
+}
+
+/// Writes the shortest spelling of a number, which isn't -2,147,483,648, into a text from the place
+/// `at` on, and answers the place behind it. All other bytes stay.
+///
+/// Nearly all numbers of a mappings text have one or two digits, so these are looked at first.
+#[inline(always)]
+pub fn spell_at(n: i32, out: &mut [u8], at: usize) -> usize
+    requires number { n ≢ negsuc MAX_POSITION }
+    requires room { at + 7 ≤ length out.old }
+    ensures text { take result out.new ≡ take at out.old ++ spelling n }
+    ensures rest { drop result out.new ≡ drop result out.old }
+    ensures place { result ≤ at + 7 }
+    ensures room { length out.new ≡ length out.old }
+{
+    let unsigned = unsigned_value(n);
+    if unsigned < 32 {
+        out[at] = byte_of(unsigned);
+        return at + 1;
+    }
+    if unsigned < 1024 {
+        out[at] = byte_of(unsigned % 32 + 32);
+        out[at + 1] = byte_of(unsigned / 32);
+        return at + 2;
+    }
+    spell_unsigned(unsigned, out, at)
 }
 
 /// The unsigned value of a number: its sign is the lowest bit.
 fn unsigned_value(n: i32) -> u32
-    requires { n ≢ negsuc 2147483647 }
+    requires { n ≢ negsuc MAX_POSITION }
     ensures { result ≡ unsigned_of n }
 {
     if n < 0 {
@@ -25,20 +52,25 @@ fn unsigned_value(n: i32) -> u32
     }
 }
 
-/// Writes the digits of an unsigned value, the lowest first.
-fn spell_unsigned(unsigned: u32, out: &mut [u8; 7]) -> usize
-    ensures { Written (unsigned_spelling unsigned) out.old out.new result }
+/// Writes the digits of an unsigned value from the place `at` on, the lowest first.
+#[inline(never)]
+fn spell_unsigned(unsigned: u32, out: &mut [u8], at: usize) -> usize
+    requires room { at + 7 ≤ length out.old }
+    ensures text { take result out.new ≡ take at out.old ++ unsigned_spelling unsigned }
+    ensures rest { drop result out.new ≡ drop result out.old }
+    ensures place { result ≤ at + 7 }
+    ensures room { length out.new ≡ length out.old }
 {
     let mut left = unsigned;
     for i in 0..7 {
         if left < 32 {
-            out[i] = digit_char(left as u8);
-            return i + 1;
+            out[at + i] = byte_of(left);
+            return at + i + 1;
         }
-        out[i] = digit_char((left % 32) as u8 + 32);
+        out[at + i] = byte_of(left % 32 + 32);
         left /= 32;
     }
-    7
+    at + 7
 }
 
 #[cfg(test)]

@@ -1,5 +1,6 @@
+//! Tokens and faults that are known.
 use super::*;
-use crate::error::SegmentKind;
+use crate::error::{SegmentKind, SegmentPlace};
 use crate::token::Original;
 use smap_vlq::NumberFault;
 use std::process::Abort;
@@ -158,6 +159,16 @@ fn a_segment_that_is_no_segment_is_refused(rt: HostRuntime) {
         ("hA", 0, SegmentKind::Number(1, NumberFault::NegativeZero)),
         ("g", 0, SegmentKind::Number(1, NumberFault::Unfinished)),
         ("A!", 0, SegmentKind::Number(2, NumberFault::Character)),
+        (
+            "/////////!",
+            0,
+            SegmentKind::Number(1, NumberFault::Character),
+        ),
+        (
+            "/////////",
+            0,
+            SegmentKind::Number(1, NumberFault::Unfinished),
+        ),
         ("A,,A", 1, SegmentKind::Empty),
         (",A", 0, SegmentKind::Empty),
         ("A,", 1, SegmentKind::Empty),

@@ -1,7 +1,8 @@
+//! Texts that are known.
 use super::*;
 use crate::decoding::decode;
 use crate::encodable::is_encodable;
-use crate::token::Bounds;
+use crate::token::{Bounds, Original};
 use std::process::Abort;
 use std::test::Fail;
 

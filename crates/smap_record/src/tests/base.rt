@@ -59,7 +59,7 @@ fn against_an_opaque_path_a_relative_source_is_no_url(rt: HostRuntime) {
             bytes,
             "mailto:x",
             Limits::usual(),
-            None,
+            &[],
             None,
             Kind::SourceUrl(0),
         );

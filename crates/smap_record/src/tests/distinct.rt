@@ -1,3 +1,4 @@
+//! Which listed sources are one source.
 use super::{read, url_of};
 use crate::SourceMap;
 use std::process::Abort;

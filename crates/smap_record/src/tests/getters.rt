@@ -1,3 +1,4 @@
+//! What a map tells, by each of its getters.
 use super::{SMALL, read, url_of};
 use crate::{OriginalView, SourceMap, TokenView};
 use smap_mappings::{Original, Token};

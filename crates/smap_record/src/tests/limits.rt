@@ -1,3 +1,4 @@
+//! How much may be listed, and how many lines there may be.
 use super::{BASE, fails, limits_of, outcome};
 use crate::{Kind, Limits};
 use smap_mappings::SegmentPlace;
@@ -12,7 +13,7 @@ fn is_read(rt: &(impl Abort + AllocGlobal), text: &str, items: u32, lines: u32) 
 /// The text lists too many sources or names for these limits.
 fn is_too_long(rt: &(impl Abort + AllocGlobal), text: &str, items: u32, lines: u32) {
     let limits = limits_of(rt, items, lines);
-    fails(rt, text.as_bytes(), BASE, limits, None, None, Kind::TooMany);
+    fails(rt, text.as_bytes(), BASE, limits, &[], None, Kind::TooMany);
 }
 
 /// The first segment of this generated line is past these limits.
@@ -30,7 +31,7 @@ fn is_past_the_lines(
         text.as_bytes(),
         BASE,
         limits,
-        None,
+        &[],
         Some(place),
         Kind::GeneratedLine,
     );

@@ -1,3 +1,4 @@
+//! Which of several faults is the first.
 use super::{BASE, fails, limits_of, refuses};
 use crate::{Kind, Limits};
 use smap_mappings::{NumberFault, SegmentPlace};
@@ -10,7 +11,7 @@ fn refuses_of_one(rt: &(impl Abort + AllocGlobal), text: &str, kind: Kind) {
         text.as_bytes(),
         BASE,
         limits_of(rt, 1, 4),
-        None,
+        &[],
         None,
         kind,
     );
@@ -20,7 +21,7 @@ fn refuses_of_one(rt: &(impl Abort + AllocGlobal), text: &str, kind: Kind) {
 fn a_prefix_without_a_line_feed_comes_before_all_else(rt: HostRuntime) {
     refuses(&rt, ")]}'[", Kind::Prefix);
     let bytes = b")]}'\xff";
-    fails(&rt, bytes, BASE, Limits::usual(), None, None, Kind::Prefix);
+    fails(&rt, bytes, BASE, Limits::usual(), &[], None, Kind::Prefix);
 }
 
 #[test]
@@ -158,7 +159,7 @@ fn the_first_segment_with_a_fault_counts(rt: HostRuntime) {
         text.as_bytes(),
         BASE,
         Limits::usual(),
-        None,
+        &[],
         Some(place),
         Kind::Name,
     );
@@ -169,7 +170,7 @@ fn the_first_segment_with_a_fault_counts(rt: HostRuntime) {
         text.as_bytes(),
         BASE,
         Limits::usual(),
-        None,
+        &[],
         Some(place),
         kind,
     );

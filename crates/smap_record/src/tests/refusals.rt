@@ -1,3 +1,4 @@
+//! Texts and members that are refused, each for its fault.
 use super::{BASE, SMALL, fails, refuses};
 use crate::{Kind, Limits};
 
@@ -10,7 +11,7 @@ fn every_cut_of_a_map_is_not_json(rt: HostRuntime) {
             &bytes[..length],
             BASE,
             Limits::usual(),
-            None,
+            &[],
             None,
             Kind::Json,
         );
@@ -35,7 +36,7 @@ fn bytes_that_are_no_utf8_are_not_json(rt: HostRuntime) {
         &b"{\"version\":3,\"file\":\"\xed\xa0\x80\",\"mappings\":\"\"}"[..],
         &b"{\"version\":3,\"mappings\":\"\"}\xff"[..],
     ] {
-        fails(&rt, bytes, BASE, Limits::usual(), None, None, Kind::Json);
+        fails(&rt, bytes, BASE, Limits::usual(), &[], None, Kind::Json);
     }
 }
 
@@ -140,12 +141,7 @@ fn an_ignored_source_is_a_listed_one(rt: HostRuntime) {
 }
 
 #[test]
-fn an_index_map_is_not_read_yet(rt: HostRuntime) {
-    refuses(&rt, r#"{"version":3,"sections":[]}"#, Kind::Sections);
-    refuses(
-        &rt,
-        r#"{"version":3,"sections":[{"offset":{"line":0,"column":0},"map":{"version":3,"mappings":""}}]}"#,
-        Kind::Sections,
-    );
+fn sections_are_a_list(rt: HostRuntime) {
     refuses(&rt, r#"{"version":3,"sections":{}}"#, Kind::Sections);
+    refuses(&rt, r#"{"version":3,"sections":7}"#, Kind::Sections);
 }

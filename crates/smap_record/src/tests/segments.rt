@@ -1,3 +1,4 @@
+//! Mappings that are refused, each at its segment.
 use super::{BASE, fails, read};
 use crate::{Kind, Limits};
 use smap_mappings::{NumberFault, SegmentPlace};
@@ -15,7 +16,7 @@ fn refuses_segment(rt: &(impl Abort + AllocGlobal), mappings: &str, segment: u32
         text.as_bytes(),
         BASE,
         Limits::usual(),
-        None,
+        &[],
         Some(place),
         kind,
     );

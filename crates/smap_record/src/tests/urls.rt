@@ -1,4 +1,4 @@
-//! Expected URLs are those that Node's `new URL(text, base)` gives, with the root put before the source by hand.
+//! Expected URLs are those that Node's `new URL(text, base)` gives; the root is put before the source by hand.
 use super::{BASE, fails, outcome, read, refuses, url_of};
 use crate::{Kind, Limits};
 use std::process::Abort;
@@ -130,7 +130,7 @@ fn the_base_decides_what_is_a_url(rt: HostRuntime) {
         text.as_bytes(),
         "mailto:x",
         Limits::usual(),
-        None,
+        &[],
         None,
         Kind::SourceUrl(0),
     );

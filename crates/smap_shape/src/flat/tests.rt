@@ -1,3 +1,4 @@
+//! Flat maps that tell their members.
 use super::*;
 use crate::kinds::Shape;
 use crate::map::shape;

@@ -1,3 +1,4 @@
+//! Index maps that tell their file and their sections.
 use super::*;
 use crate::kinds::Shape;
 use crate::map::shape;

@@ -1,3 +1,4 @@
+//! Trees of maps, and the first fault of each.
 use super::*;
 use crate::flat::FlatShape;
 use std::test::Fail;

@@ -1,3 +1,4 @@
+//! Trees of sections, and the first fault of each.
 use super::*;
 use std::test::Fail;
 
@@ -21,7 +22,7 @@ fn a_section_tells_its_offset_and_map(rt: HostRuntime) -> Result<(), Fail> {
         ),
     ] {
         let tree = Value::from_str(rt.alloc(), text)?;
-        let section = section(&tree).ok().ok_or("refused")?;
+        let section = section(&tree, MAX_LEVEL).ok().ok_or("refused")?;
         assert_eq!(rt; section.line(), line, "line at {text}");
         assert_eq!(rt; section.column(), column, "column at {text}");
         assert!(rt; section.map().is_object(), "map at {text}");
@@ -75,7 +76,18 @@ fn the_first_fault_of_a_section_is_answered(rt: HostRuntime) -> Result<(), Fail>
         ),
     ] {
         let tree = Value::from_str(rt.alloc(), text)?;
-        assert_eq!(rt; section(&tree).err(), Some(want), "at {text}");
+        assert_eq!(rt; section(&tree, MAX_LEVEL).err(), Some(want), "at {text}");
     }
+    Ok(())
+}
+
+#[test]
+fn a_section_of_a_lower_level_may_have_sections(rt: HostRuntime) -> Result<(), Fail> {
+    let text = r#"{"offset":{"line":0,"column":0},"map":{"sections":[]}}"#;
+    let tree = Value::from_str(rt.alloc(), text)?;
+    for level in [1, 2, 7] {
+        assert!(rt; section(&tree, level).is_ok(), "{level}");
+    }
+    assert_eq!(rt; section(&tree, 8).err(), Some(ShapeFault::Nested));
     Ok(())
 }

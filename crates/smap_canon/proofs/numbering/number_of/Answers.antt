@@ -1,9 +1,25 @@
-use Rattle.std.proofs.Common.{◌∙◌, sym}
-use Rattle.smap_canon.proofs.NumberingLemmas.{name-there, name-number}
+use Rattle.std.proofs.Common.{◌∙◌, sym, ap, Some, bytes_eq}
+use Rattle.std.specs.Prelude.{option_map}
+use Rattle.std.specs.List.{position_or_len}
+use Rattle.smap_canon.specs.Numbering.{texts_of, with_name, used_in}
+use Rattle.smap_canon.proofs.NumberingLemmas.{texts-insert_key, place-key, own-place, numbers-put}
 use Rattle.smap_canon.proofs.numbering.number_of.Goals as goal
 
-pub unwrap-requires : goal.unwrap-requires
-unwrap-requires c = c.get_index_of.ensures.found ∙ name-there c.args.name c.args.names.now.keys c.requires.known
+pub returns-clause-used : goal.returns-clause-used
+returns-clause-used c =
+    ap texts_of c.in_ok-number.ensures.keys ∙ texts-insert_key c.args.names.now.used.keys c.name.result
+    ∙ ap (λ o. with_name o (used_in c.args.names.now)) (sym c.name.ensures)
 
-pub returns : goal.returns
-returns c = name-number c.args.name c.args.names.now.keys c.unwrap.result (sym c.get_index_of.ensures.index ∙ c.unwrap.ensures)
+pub returns-clause-numbers : goal.returns-clause-numbers
+returns-clause-numbers c =
+    let keys = ap texts_of c.in_ok-number.ensures.keys ∙ texts-insert_key c.args.names.now.used.keys c.name.result in
+    let place = c.in_ok-number.ensures.index ∙ place-key c.name.result c.args.names.now.used.keys in
+    numbers-put c.args.map.now.listing.names (used_in c.args.names.now) (texts_of c.insert_full.new.self.keys) c.args.names.now.numbers.items c.args.listed c.in_ok-number.number c.name.result.now
+    c.requires.numbers c.name.ensures keys place
+
+pub returns-clause-number : goal.returns-clause-number
+returns-clause-number c =
+    let keys = ap texts_of c.in_ok-number.ensures.keys ∙ texts-insert_key c.args.names.now.used.keys c.name.result in
+    let place = c.in_ok-number.ensures.index ∙ place-key c.name.result c.args.names.now.used.keys in
+    ap Some (place ∙ sym (own-place (used_in c.args.names.now) c.name.result.now) ∙ ap (position_or_len (bytes_eq c.name.result.now)) (sym keys))
+    ∙ ap (option_map (λ name. position_or_len (bytes_eq name) (texts_of c.insert_full.new.self.keys))) (sym c.name.ensures)

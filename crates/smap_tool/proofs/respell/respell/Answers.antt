@@ -1,7 +1,7 @@
 use Rattle.std.proofs.Common.{◌∙◌, ◌∷◌, ◌++◌, [], ap}
 use Rattle.smap_mappings.specs.Text.{mappings_text}
 use Rattle.smap_record.specs.declared.fault.Fault.{Fault}
-use Rattle.smap_tool.specs.FaultLine.{fault_line}
+use Rattle.smap_run.specs.FaultLine.{fault_line}
 use Rattle.smap_tool.proofs.RespellLemmas.{says_tokens, says_fault}
 use Rattle.smap_tool.proofs.respell.respell.Goals as goal
 

@@ -1,0 +1,187 @@
+-- What is wrong with an entry, and what an entry is.
+use Rattle.std.proofs.Common.{◌≡◌, ◌≢◌, ◌∙◌, ◌⊎◌, inl, inr, ℕ, ◌+◌, ◌-◌, ◌^◌, ◌<◌, ◌≤◌, Bool, true, false, List, [], ◌∷◌, ◌++◌, length, map, min, take, get_or, codes, Option, Some, None, Result, Ok, Err, is_err, refl, sym, ap, subst, arith, append_assoc, append-nil, length-append, true≢false}
+use Rattle.std.specs.Prelude.{Contains, IsErr, slice_get}
+use Rattle.std.proofs.Math.ListN.{get_or-append}
+use Rattle.std.proofs.Math.Seq.{get_or-append_seam, take-append_seam}
+use Rattle.std.proofs.lemmas.Bool.{cases_lt}
+use Rattle.std.proofs.lemmas.List.{get_or-map, length-map}
+use Rattle.url.specs.Parser.{parse_url}
+use Rattle.url.specs.Parts.{Parts}
+use Rattle.smap_record.specs.declared.fault.Fault.{Fault}
+use Rattle.smap_record.specs.Reading.{reading}
+use Rattle.smap_record.specs.Record.{record_of}
+use Rattle.smap_run.specs.FaultLine.{fault_words}
+use Rattle.smap_run.specs.declared.input.TheConstants.{LIMIT}
+use Rattle.smap_trace.specs.Frame.{lacks}
+use Rattle.smap_trace.specs.Translation.{AreDistinct, Script}
+use Rattle.smap_bundle.specs.Header.{BeginsWithHeader, HasNoHeader, IsHeader, longest_header, trace_line}
+use Rattle.smap_bundle.specs.Bundle.{Answer, Answers, AreEntries, EntryFault, FaultAt, IsEntry, MapFault, usual}
+use Rattle.smap_bundle.specs.Entries.{IsNew, TakesEntry, TakesMap, cut_off, refused_words}
+use Rattle.smap_bundle.specs.Reading.{IsLine, MayFollow}
+use Rattle.smap_bundle.proofs.TextLemmas.{lacks_rest, no_end_within, one_cut}
+use Rattle.smap_bundle.proofs.HeaderLemmas.{begun, inside, inside_lacks, line_is}
+
+-- ---- the faults of an entry
+
+small : (n : ℕ) → n ≤ LIMIT → LIMIT < n → ⊥
+small n le lt = omega (arith, le, lt)
+
+pub ok_isnt : {A E : Type 0} (r : Result A E) (x : A) → r ≡ Ok x → IsErr r → ⊥
+ok_isnt r x e h = true≢false (sym h ∙ ap is_err e)
+
+pub repeated : (seen : List Script) (script base : List ℕ) (n entry : ℕ) (more : List ℕ) (answer : Answer) → entry ≡ length seen → n ≤ LIMIT
+    → Contains (map (λ (s : Script). s.0) seen) script → refused_words entry (codes "script repeated") answer → EntryFault seen script base n more answer
+repeated seen script base n entry more answer at fits known is =
+    inr (small n fits, inl (known, subst (λ (i : ℕ). refused_words i (codes "script repeated") answer) at is))
+
+pub no_base : (seen : List Script) (script base : List ℕ) (n entry : ℕ) (more : List ℕ) (answer : Answer) → entry ≡ length seen → n ≤ LIMIT
+    → IsNew seen script → IsErr (parse_url None base) → refused_words entry (codes "base is no URL") answer → EntryFault seen script base n more answer
+no_base seen script base n entry more answer at fits new bad is =
+    inr (small n fits, inr (new, inl (bad, subst (λ (i : ℕ). refused_words i (codes "base is no URL") answer) at is)))
+
+-- a fault of the map of an entry whose base is a URL
+map_fault : (seen : List Script) (script base : List ℕ) (n : ℕ) (more : List ℕ) (answer : Answer) (url : Parts) → n ≤ LIMIT → IsNew seen script
+    → parse_url None base ≡ Ok url → MapFault (length seen) base n more answer → EntryFault seen script base n more answer
+map_fault seen script base n more answer url fits new good fault = inr (small n fits, inr (new, inr (ok_isnt (parse_url None base) url good, fault)))
+
+pub cut_entry : (seen : List Script) (script base : List ℕ) (n entry : ℕ) (more : List ℕ) (answer : Answer) (url : Parts) → entry ≡ length seen → n ≤ LIMIT
+    → IsNew seen script → parse_url None base ≡ Ok url → cut_off entry n more answer → EntryFault seen script base n more answer
+cut_entry seen script base n entry more answer url at fits new good cut =
+    map_fault seen script base n more answer url fits new good
+    (inl (cut.0, subst (λ (i : ℕ). refused_words i (codes "cut off") answer) at cut.1))
+
+-- the byte behind a text
+pub behind : (xs : List ℕ) (y : ℕ) (ys : List ℕ) → slice_get (xs ++ y ∷ ys) (length xs) ≡ Some y
+behind [] y ys = refl
+behind (x ∷ xs) y ys = behind xs y ys
+
+pub bad_map : (seen : List Script) (script base bytes more : List ℕ) (n entry : ℕ) (fault : Fault) (answer : Answer) (url : Parts) → entry ≡ length seen → n ≤ LIMIT
+    → length bytes ≡ n → IsNew seen script → parse_url None base ≡ Ok url → reading url usual bytes ≡ Err fault
+    → refused_words entry (fault_words fault) answer → EntryFault seen script base n ((bytes ++ 10 ∷ []) ++ more) answer
+bad_map seen script base bytes more n entry fault answer url at fits len new good bad is =
+    let text : (bytes ++ 10 ∷ []) ++ more ≡ bytes ++ 10 ∷ more = append_assoc bytes (10 ∷ []) more in
+    let feed : slice_get ((bytes ++ 10 ∷ []) ++ more) n ≡ Some 10 =
+    ap (λ (xs : List ℕ). slice_get xs n) text ∙ ap (slice_get (bytes ++ 10 ∷ more)) (sym len) ∙ behind bytes 10 more in
+    let front : take n ((bytes ++ 10 ∷ []) ++ more) ≡ bytes =
+    ap (take n) text ∙ ap (λ k. take k (bytes ++ 10 ∷ more)) (sym len) ∙ take-append_seam bytes (10 ∷ more) in
+    map_fault seen script base n ((bytes ++ 10 ∷ []) ++ more) answer url fits new good (inr (
+      (λ (lost : slice_get ((bytes ++ 10 ∷ []) ++ more) n ≢ Some 10). lost feed),
+      (
+        fault,
+        record { url = url; is_base = good; is_fault = ap (reading url usual) front ∙ bad },
+        subst (λ (i : ℕ). refused_words i (fault_words fault) answer) at is,
+      ),
+    ))
+
+-- ---- the line of an entry
+
+-- Where the line is no header and isn't `trace`, none comes.
+pub has_none : (ended : Bool) (line more : List ℕ) → IsLine ended line → MayFollow ended more → line ≢ trace_line
+    → ((script base : List ℕ) (n : ℕ) → IsHeader line script base n → ⊥) → HasNoHeader (line ++ more)
+has_none ended line more (inl w) may isnt none = record {
+  no_trace = λ trace e.
+      let cut = one_cut 10 w.0.front (codes "trace") more trace refl w.0.one_line refl (start ∙ e) in
+      isnt (w.0.whole ∙ ap (λ (xs : List ℕ). xs ++ 10 ∷ []) cut.0);
+  no_header = λ script base rest n b.
+      let cut = one_cut 10 w.0.front (inside script base b.header.digits) more rest refl w.0.one_line (inside_lacks b.line script base n b.header)
+      (start ∙ begun (line ++ more) script base rest n b) in
+      let same : b.line ≡ line = line_is b.line script base n b.header ∙ ap (λ (xs : List ℕ). xs ++ 10 ∷ []) (sym cut.0) ∙ sym w.0.whole in
+      none script base n (subst (λ (l : List ℕ). IsHeader l script base n) same b.header);
+}
+  where
+    start : w.0.front ++ 10 ∷ more ≡ line ++ more
+    start = sym (append_assoc w.0.front (10 ∷ []) more) ∙ ap (λ (xs : List ℕ). xs ++ more) (sym w.0.whole)
+has_none ended line more (inr w) may isnt none = record {
+  no_trace = λ trace e. no_end_within line more (codes "trace") trace w.0 (reaches ended may w.1 6 (omega arith) (codes "trace" ++ 10 ∷ []) trace refl e) e;
+  no_header = λ script base rest n b.
+      let end : b.line ≡ inside script base b.header.digits ++ 10 ∷ [] = line_is b.line script base n b.header in
+      let e : line ++ more ≡ (inside script base b.header.digits ++ 10 ∷ []) ++ rest = b.whole ∙ ap (λ (xs : List ℕ). xs ++ rest) end in
+      no_end_within line more (inside script base b.header.digits) rest w.0
+      (reaches ended may w.1 (length b.line) b.header.short (inside script base b.header.digits ++ 10 ∷ []) rest (ap length (sym end)) e) e;
+}
+  where
+    -- so far the line was read
+    reaches : (t : Bool) → MayFollow t more → (t ≡ false → longest_header ≤ length line) → (k : ℕ) → k ≤ longest_header → (xs rest : List ℕ)
+        → length xs ≡ k → line ++ more ≡ xs ++ rest → length xs ≤ length line
+    reaches false may long k short xs rest is e = omega (arith, long refl, short, is)
+    reaches true may long k short xs rest is e =
+        let all : length line ≡ length xs + length rest =
+        sym (ap length (ap (λ (ys : List ℕ). line ++ ys) (may refl) ∙ append-nil line)) ∙ ap length e ∙ length-append xs rest in
+        omega (arith, all)
+
+-- ---- an entry that is taken
+
+-- a line that is a header was read whole
+pub open_still : (ended : Bool) (line script base : List ℕ) (n : ℕ) → IsLine ended line → IsHeader line script base n → ended ≡ false
+open_still ended line script base n (inl w) h = w.1
+open_still ended line script base n (inr w) h =
+    let bad : lacks 10 (10 ∷ []) ≡ true = lacks_rest 10 (inside script base h.digits) (10 ∷ []) (ap (lacks 10) (sym (line_is line script base n h)) ∙ w.0) in
+    absurd (true≢false (sym bad))
+
+pub is_len : (n len : ℕ) → len ≡ min n (2 ^ 64 - 1) → len ≤ LIMIT → n ≡ len
+is_len n len is fits = omega (arith, is, fits)
+
+-- an entry of a header and its map
+pub entry_taken : (a b : Option (List ℕ)) (calls left : ℕ) (line script base : List ℕ) (n len : ℕ) (old new : List Script) → IsHeader line script base n
+    → len ≡ min n (2 ^ 64 - 1) → TakesMap a b calls left script base len old new → TakesEntry a b calls left line old new
+entry_taken a b calls left line script base n len old new h is t = record {
+  script = (script, record_of t.map_text);
+  bytes = t.bytes ++ 10 ∷ [];
+  got = t.got;
+  entry = record {
+    base = base;
+    url = t.url;
+    bytes = t.bytes;
+    map_text = t.map_text;
+    begins = record { line = line; whole = refl; header = subst (IsHeader line script base) (is_len n len is t.fits ∙ sym t.len_is) h };
+    fits = omega (arith, t.len_is, t.fits);
+    is_base = t.is_base;
+    is_map = t.is_map;
+    record_is = refl;
+  };
+  new_script = t.new_script;
+  added = t.added;
+}
+
+-- a fault behind a header is one of the text
+pub fault_behind : (seen : List Script) (line script base : List ℕ) (n : ℕ) (more : List ℕ) (answer : Answer) → IsHeader line script base n
+    → EntryFault seen script base n more answer → FaultAt seen (line ++ more) answer
+fault_behind seen line script base n more answer h fault =
+    let begins : BeginsWithHeader (line ++ more) script base n more = record { line = line; whole = refl; header = h } in
+    inr ((λ (none : HasNoHeader (line ++ more)). none.no_header script base more n begins), (script, base, n, more, begins, fault))
+
+-- ---- entries one after another
+
+pub entries_more : (ss : List Script) (text entry : List ℕ) (s : Script) → AreEntries text ss → IsEntry entry s → AreEntries (text ++ entry) (ss ++ s ∷ [])
+entries_more [] text entry s are is = (entry, [], ap (λ (xs : List ℕ). xs ++ entry) are ∙ sym (append-nil entry), is, refl)
+entries_more (t ∷ ts) text entry s are is =
+    (are.0, are.1 ++ entry, ap (λ (xs : List ℕ). xs ++ entry) are.2 ∙ append_assoc are.0 are.1 entry, are.3, entries_more ts are.1 entry s are.4 is)
+
+-- a script with a new URL behind others
+pub distinct_more : (ss : List Script) (s : Script) → AreDistinct ss → IsNew ss s.0 → AreDistinct (ss ++ s ∷ [])
+distinct_more ss s distinct new i j d lt within e = go (cases_lt j (length ss))
+  where
+    len : length (ss ++ s ∷ []) ≡ length ss + 1
+    len = length-append ss (s ∷ [])
+
+    first : i < length ss → (get_or (ss ++ s ∷ []) i d).0 ≡ (get_or ss i d).0
+    first less = ap (λ (t : Script). t.0) (get_or-append ss (s ∷ []) d i less)
+
+    go : (j < length ss) ⊎ (length ss ≤ j) → ⊥
+    go (inl less) = distinct i j d lt less (sym (first (omega (arith, lt, less))) ∙ e ∙ ap (λ (t : Script). t.0) (get_or-append ss (s ∷ []) d j less))
+    go (inr le) =
+        let last : j ≡ length ss = omega (arith, le, within, len) in
+        let before : i < length ss = omega (arith, lt, last) in
+        let here : get_or (ss ++ s ∷ []) j d ≡ s = ap (λ k. get_or (ss ++ s ∷ []) k d) last ∙ get_or-append_seam ss s [] d in
+        let same : (get_or ss i d).0 ≡ s.0 = sym (first before) ∙ e ∙ ap (λ (t : Script). t.0) here in
+        new (i, omega (arith, before, length-map ss (λ (t : Script). t.0)), get_or-map (λ (t : Script). t.0) ss i d s.0 before ∙ same)
+
+-- a fault behind entries is the answer
+pub answered : (hide : Bool) (ss : List Script) (entries line text : List ℕ) (answer : Answer) → AreEntries entries ss → AreDistinct ss
+    → FaultAt ss (line ++ text) answer → Answers hide ((entries ++ line) ++ text) answer
+answered hide ss entries line text answer are distinct fault = record {
+  scripts = ss;
+  rest = line ++ text;
+  reads = record { entries = entries; whole = append_assoc entries line text; are = are; distinct = distinct };
+  is = inr fault;
+}

@@ -1,0 +1,88 @@
+-- Headers are read in one way.
+use Rattle.std.proofs.Common.{◌≡◌, ◌∙◌, ℕ, ◌==◌, Bool, true, false, List, [], ◌∷◌, ◌++◌, drop, get_or, codes, refl, sym, ap, arith, subst, append_assoc}
+use Rattle.std.specs.Char.{is_ascii_digit}
+use Rattle.std.specs.List.{list_all}
+use Rattle.std.specs.Str.Parse.{digits_value}
+use Rattle.std.proofs.lemmas.Bool.Decides.{Decides-eqb}
+use Rattle.smap_trace.specs.Frame.{lacks}
+use Rattle.smap_bundle.specs.Header.{BeginsWithHeader, IsHeader, header, trace_line}
+use Rattle.smap_bundle.specs.Laws.{OneBeginning, OneHeader}
+use Rattle.smap_bundle.proofs.TextLemmas.{both, lacks_both, one_cut, one_end}
+
+pub one_header : OneHeader
+one_header line script base other_script other_base n m h k =
+    let whole = ap (drop 4) (sym h.whole ∙ k.whole) in
+    let first = one_cut 32 script other_script _ _ refl h.script_word.no_space k.script_word.no_space whole in
+    let second = one_cut 32 base other_base _ _ refl h.base_word.no_space k.base_word.no_space first.1 in
+    let third = one_end 10 h.digits k.digits second.1 in
+    (first.0, second.0, sym h.number.value ∙ ap (digits_value 10) third ∙ k.number.value)
+
+-- ---- the end of a header
+
+not_both : {t : Bool} → t ≡ true → t ≡ false → ⊥
+not_both p q = cc
+
+digit_lacks : (x : ℕ) → is_ascii_digit x ≡ true → (x == 10) ≡ false
+digit_lacks x h = go (x == 10) refl
+  where
+    go : (t : Bool) → (x == 10) ≡ t → (x == 10) ≡ false
+    go false e = e
+    go true e =
+        let same : x ≡ 10 = (Decides-eqb x 10).0 e in
+        let bad : is_ascii_digit 10 ≡ true = ap is_ascii_digit (sym same) ∙ h in
+        absurd (not_both bad refl)
+
+digits_lack : (ds : List ℕ) → list_all is_ascii_digit ds ≡ true → lacks 10 ds ≡ true
+digits_lack [] h = refl
+digits_lack (d ∷ ds) h =
+    let parts = both (is_ascii_digit d) (list_all is_ascii_digit ds) h in
+    rw (digit_lacks d parts.0) (digits_lack ds parts.1)
+
+-- a header between `map ` and its line feed
+abbrev pub words : List ℕ → List ℕ → List ℕ → List ℕ
+words script base len = script ++ (codes " " ++ (base ++ (codes " " ++ len)))
+
+-- a header before its line feed
+abbrev pub inside : List ℕ → List ℕ → List ℕ → List ℕ
+inside script base len = codes "map " ++ words script base len
+
+pub words_are : (script base len : List ℕ) → header script base len ≡ codes "map " ++ (words script base len ++ 10 ∷ [])
+words_are script base len = sym (
+    ap (λ (xs : List ℕ). codes "map " ++ xs) (append_assoc script (codes " " ++ (base ++ (codes " " ++ len))) (10 ∷ [])
+    ∙ ap (λ (xs : List ℕ). script ++ (codes " " ++ xs)) (append_assoc base (codes " " ++ len) (10 ∷ []))))
+
+pub inside_is : (script base len : List ℕ) → header script base len ≡ inside script base len ++ 10 ∷ []
+inside_is script base len = words_are script base len
+
+pub inside_lacks : (line script base : List ℕ) (n : ℕ) (h : IsHeader line script base n) → lacks 10 (inside script base h.digits) ≡ true
+inside_lacks line script base n h =
+    let len = h.digits in
+    lacks_both 10 (codes "map ") (words script base len) refl
+    (lacks_both 10 script (codes " " ++ (base ++ (codes " " ++ len))) h.script_word.no_feed
+    (lacks_both 10 (codes " ") (base ++ (codes " " ++ len)) refl
+    (lacks_both 10 base (codes " " ++ len) h.base_word.no_feed (lacks_both 10 (codes " ") len refl (digits_lack len h.number.digits)))))
+
+-- The line of a header is what stands before its line feed, and that.
+pub line_is : (line script base : List ℕ) (n : ℕ) (h : IsHeader line script base n) → line ≡ inside script base h.digits ++ 10 ∷ []
+line_is line script base n h = h.whole ∙ inside_is script base h.digits
+
+pub begun : (text script base more : List ℕ) (n : ℕ) (b : BeginsWithHeader text script base n more) → text ≡ inside script base b.header.digits ++ 10 ∷ more
+begun text script base more n b =
+    b.whole ∙ ap (λ (xs : List ℕ). xs ++ more) (line_is b.line script base n b.header) ∙ append_assoc (inside script base b.header.digits) (10 ∷ []) more
+
+pub one_beginning : OneBeginning
+one_beginning text script base more other_script other_base other_more n m b d =
+    let cut = one_cut 10 (inside script base b.header.digits) (inside other_script other_base d.header.digits) more other_more refl
+    (inside_lacks b.line script base n b.header) (inside_lacks d.line other_script other_base m d.header)
+    (sym (begun text script base more n b) ∙ begun text other_script other_base other_more m d) in
+    let lines : d.line ≡ b.line = line_is d.line other_script other_base m d.header ∙ ap (λ (xs : List ℕ). xs ++ 10 ∷ []) (sym cut.0)
+    ∙ sym (line_is b.line script base n b.header) in
+    let same : IsHeader b.line other_script other_base m = subst (λ (l : List ℕ). IsHeader l other_script other_base m) lines d.header in
+    let one = one_header b.line script base other_script other_base n m b.header same in
+    (one.0, one.1, one.2, cut.1)
+
+-- A header isn't the line `trace`.
+pub no_header_of_trace : (script base more trace : List ℕ) (n : ℕ) → BeginsWithHeader (trace_line ++ trace) script base n more → ⊥
+no_header_of_trace script base more trace n b =
+    let first : 116 ≡ 109 = ap (λ (xs : List ℕ). get_or xs 0 0) (begun (trace_line ++ trace) script base more n b) in
+    omega (arith, first)

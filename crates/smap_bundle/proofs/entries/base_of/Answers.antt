@@ -1,0 +1,36 @@
+use Rattle.std.proofs.Common.{◌≡◌, ◌∙◌, ◌≤◌, length, sym, arith, codes}
+use Rattle.std.proofs.lemmas.List.{length-map}
+use Rattle.smap_run.specs.declared.input.TheConstants.{LIMIT}
+use Rattle.smap_bundle.specs.Bundle.{EntryFault}
+use Rattle.smap_bundle.specs.Entries.{refused_words}
+use Rattle.smap_bundle.specs.Scripts.{script_of, scripts_of}
+use Rattle.smap_bundle.proofs.EntryLemmas.{no_base, repeated}
+use Rattle.smap_bundle.proofs.ScriptLemmas.{is_known, is_unknown}
+use Rattle.smap_bundle.proofs.StopLemmas.{says_as}
+use Rattle.smap_bundle.proofs.entries.base_of.Goals as goal
+
+pub returns-then-contains_key-clause-stops : goal.returns-then-contains_key-clause-stops
+returns-then-contains_key-clause-stops c = λ n more e.
+    let seen = scripts_of c.args.scripts.now.entries in
+    let script = c.args.header.now.script.now in
+    let base = c.args.header.now.base.now in
+    let fits : n ≤ LIMIT = omega (arith, e) in
+    let at : c.len.result ≡ length seen = c.len.ensures.len ∙ sym (length-map c.args.scripts.now.entries script_of) in
+    let known = is_known script c.args.scripts.now.entries (sym c.contains_key.ensures ∙ c.if-contains_key.true) in
+    says_as (refused_words c.len.result (codes "script repeated")) (EntryFault seen script base n more)
+    (λ answer is. repeated seen script base n c.len.result more answer at fits known is) c.refused_map.result c.refused_map.ensures
+
+pub returns-in-Ok-clause-new : goal.returns-in-Ok-clause-new
+returns-in-Ok-clause-new c = is_unknown c.args.header.now.script.now c.args.scripts.now.entries (sym c.contains_key.ensures ∙ c.if-contains_key.false)
+
+pub returns-in-Err-NotUrl-clause-stops : goal.returns-in-Err-NotUrl-clause-stops
+returns-in-Err-NotUrl-clause-stops c = λ n more e.
+    let seen = scripts_of c.args.scripts.now.entries in
+    let script = c.args.header.now.script.now in
+    let base = c.args.header.now.base.now in
+    let fits : n ≤ LIMIT = omega (arith, e) in
+    let at : c.len-in-Err-NotUrl.result ≡ length seen = c.len-in-Err-NotUrl.ensures.len ∙ sym (length-map c.args.scripts.now.entries script_of) in
+    let new = is_unknown script c.args.scripts.now.entries (sym c.contains_key.ensures ∙ c.if-contains_key.false) in
+    let bad = rw c.in-Err-NotUrl.field-0-is at c.in-Err-NotUrl.ensures in
+    says_as (refused_words c.len-in-Err-NotUrl.result (codes "base is no URL")) (EntryFault seen script base n more)
+    (λ answer is. no_base seen script base n c.len-in-Err-NotUrl.result more answer at fits new bad is) c.refused_map-in-Err-NotUrl.result c.refused_map-in-Err-NotUrl.ensures

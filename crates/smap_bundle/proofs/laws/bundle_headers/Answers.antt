@@ -1,0 +1,12 @@
+use Rattle.smap_bundle.proofs.HeaderLemmas.{one_beginning, one_header}
+use Rattle.smap_bundle.proofs.LawLemmas.{first_rows}
+use Rattle.smap_bundle.proofs.laws.bundle_headers.Goals as goal
+
+pub returns-clause-one : goal.returns-clause-one
+returns-clause-one c = one_header
+
+pub returns-clause-beginning : goal.returns-clause-beginning
+returns-clause-beginning c = one_beginning
+
+pub returns-clause-rows : goal.returns-clause-rows
+returns-clause-rows c = first_rows

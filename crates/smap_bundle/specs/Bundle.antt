@@ -1,0 +1,105 @@
+-- The bundle that `translate` reads: entries, then the line `trace`, then the trace up to the end of the
+-- input. An entry is a header, the bytes of a map, and a line feed. A format of this project's own.
+use Rattle.std.specs.Prelude.{◌≡◌, ◌≢◌, ◌⊎◌, ℕ, ◌<◌, ◌≤◌, Bool, List, [], ◌∷◌, ◌++◌, length, Contains, map}
+use Rattle.std.specs.Prelude.{codes}
+use Rattle.std.specs.Prelude.{decimal, slice_get, take, Some, None, Ok, Err, IsErr}
+use Rattle.url.specs.Parser.{parse_url}
+use Rattle.url.specs.Parts.{Parts}
+use Rattle.smap_record.specs.declared.fault.Fault.{Fault}
+use Rattle.smap_record.specs.Reading.{reading}
+use Rattle.smap_record.specs.Record.{Allowed, ReadMap, record_of}
+use Rattle.smap_trace.specs.Translation.{AreDistinct, Script, translation}
+use Rattle.smap_run.specs.FaultLine.{fault_words}
+use Rattle.smap_run.specs.declared.input.TheConstants.{LIMIT}
+use Rattle.smap_bundle.specs.Header.{BeginsWithHeader, HasNoHeader, trace_line}
+
+-- ---- entries
+
+-- the limits under which maps are read
+abbrev pub usual : Allowed
+usual = record { items = 16777216; lines = 16777216 }
+
+-- The text is an entry that isn't refused, and gives this script.
+pub record IsEntry (text : List ℕ) (script : Script) : Type 0 where
+  pub base : List ℕ
+  pub url : Parts
+  pub bytes : List ℕ
+  pub map_text : ReadMap
+  pub begins : BeginsWithHeader text script.0 base (length bytes) (bytes ++ 10 ∷ [])
+  pub fits : length bytes ≤ LIMIT
+  pub is_base : parse_url None base ≡ Ok url
+  pub is_map : reading url usual bytes ≡ Ok map_text
+  pub record_is : script.1 ≡ record_of map_text
+
+-- The text is the entries of these scripts, one after another.
+abbrev pub AreEntries : List ℕ → List Script → Type 0
+AreEntries text [] = text ≡ []
+AreEntries text (s ∷ ss) =
+    (entry : List ℕ) × (rest : List ℕ) × (text ≡ entry ++ rest) × IsEntry entry s × AreEntries rest ss
+
+-- The input is the entries of these scripts, no two of which have one URL, and then this rest.
+pub record Reads (input : List ℕ) (scripts : List Script) (rest : List ℕ) : Type 0 where
+  pub entries : List ℕ
+  pub whole : input ≡ entries ++ rest
+  pub are : AreEntries entries scripts
+  pub distinct : AreDistinct scripts
+
+-- ---- the answer
+
+-- What `translate` answers: what it writes of a bundle that isn't refused, or the line of its first fault
+-- without its line feed, or that a map is too long.
+pub data Answer : Type 0 where
+  done : List ℕ → Answer
+  refused : List ℕ → Answer
+  too_long : Answer
+
+-- `refused: map I: ` and the words
+abbrev pub map_line : ℕ → List ℕ → List ℕ
+map_line i words = codes "refused: map " ++ (decimal i ++ (codes ": " ++ words))
+
+-- `refused: bundle header I`
+abbrev pub header_line : ℕ → List ℕ
+header_line i = codes "refused: bundle header " ++ decimal i
+
+-- This where P holds, and else by the next rule.
+abbrev pub Where : Type 0 → Type 0 → Type 0 → Type 0
+Where P this next = (P × this) ⊎ ((P → ⊥) × next)
+
+-- The map of an entry is refused under its base.
+pub record IsRefusedMap (base bytes : List ℕ) (fault : Fault) : Type 0 where
+  pub url : Parts
+  pub is_base : parse_url None base ≡ Ok url
+  pub is_fault : reading url usual bytes ≡ Err fault
+
+-- What is wrong with the map whose base and n bytes stand there: the bytes or their line feed are cut off, or
+-- the map is refused.
+abbrev pub MapFault : ℕ → List ℕ → ℕ → List ℕ → Answer → Type 0
+MapFault i base n more answer =
+    Where (slice_get more n ≢ Some 10) (answer ≡ refused (map_line i (codes "cut off")))
+    ((fault : Fault) × IsRefusedMap base (take n more) fault
+    × (answer ≡ refused (map_line i (fault_words fault))))
+
+-- What is wrong with the entry behind those of `seen`, whose header is followed by `more`: the first that
+-- holds.
+abbrev pub EntryFault : List Script → List ℕ → List ℕ → ℕ → List ℕ → Answer → Type 0
+EntryFault seen script base n more answer =
+    let i = length seen in
+    Where (LIMIT < n) (answer ≡ too_long)
+    (Where (Contains (map (λ s. s.0) seen) script) (answer ≡ refused (map_line i (codes "script repeated")))
+    (Where (IsErr (parse_url None base)) (answer ≡ refused (map_line i (codes "base is no URL")))
+    (MapFault i base n more answer)))
+
+-- What is wrong behind the entries of `seen`.
+abbrev pub FaultAt : List Script → List ℕ → Answer → Type 0
+FaultAt seen text answer = Where (HasNoHeader text) (answer ≡ refused (header_line (length seen)))
+    ((script : List ℕ) × (base : List ℕ) × (n : ℕ) × (more : List ℕ)
+    × BeginsWithHeader text script base n more × EntryFault seen script base n more answer)
+
+-- What `translate` answers for the input.
+pub record Answers (hide : Bool) (input : List ℕ) (answer : Answer) : Type 0 where
+  pub scripts : List Script
+  pub rest : List ℕ
+  pub reads : Reads input scripts rest
+  pub is : ((trace : List ℕ) × (rest ≡ trace_line ++ trace)
+      × (answer ≡ done (translation scripts hide trace)))
+      ⊎ FaultAt scripts rest answer

@@ -1,0 +1,8 @@
+pub mod Header
+pub mod Bundle
+pub mod Scripts
+pub mod Laws
+pub mod Reading
+pub mod Stopping
+pub mod Entries
+pub mod Run

@@ -1,0 +1,25 @@
+-- How long the canonical mappings text is.
+use Rattle.std.proofs.Common.{◌≡◌, ℕ, ◌+◌, ◌*◌, ◌≤◌, List, [], ◌∷◌, length, map, refl, ap, ◌∙◌, arith}
+use Rattle.std.proofs.lemmas.List.{length-map}
+use Rattle.smap_mappings.specs.declared.token.Token.{Token}
+use Rattle.smap_mappings.specs.Text.{last_or, line_count}
+use Rattle.smap_mappings.proofs.LengthLemmas.{length_bound}
+use Rattle.smap_record.specs.Record.{Entry, Listing, ReadMap, record_of, mapping_of}
+use Rattle.smap_record.specs.Fitting.{names_used}
+use Rattle.smap_record.specs.Listed.{IsListing}
+use Rattle.smap_canon.specs.Canonical.{canonical_listing, canonical_mappings_text, token_of}
+use Rattle.smap_canon.proofs.WritableLemmas.{canonical-encodable}
+use Rattle.smap_canon.proofs.ListedLemmas.{listing-writable}
+
+same_lines : (sources : List Entry) (names : List (List ℕ)) (l : Listing) (ts : List Token) → map (λ t. t.line + 1) (map (token_of sources names) (map (mapping_of l) ts)) ≡ map (λ t. t.line + 1) ts
+same_lines sources names l [] = refl
+same_lines sources names l (t ∷ ts) = ap (λ (lines : List ℕ). (t.line + 1) ∷ lines) (same_lines sources names l ts)
+
+-- At most 36 bytes for a mapping and one for a line.
+pub canonical-length : (m : ReadMap) → IsListing m.listing → length (canonical_mappings_text (record_of m)) ≤ 36 * length m.listing.tokens + line_count m.listing.tokens
+canonical-length m h =
+    let ms = (record_of m).mappings in
+    let tokens : List Token = (canonical_listing (record_of m)).tokens in
+    let count : length tokens ≡ length m.listing.tokens = length-map ms (token_of (record_of m).sources (names_used ms)) ∙ length-map m.listing.tokens (mapping_of m.listing) in
+    let lines : line_count tokens ≡ line_count m.listing.tokens = ap (last_or 0) (same_lines (record_of m).sources (names_used ms) m.listing m.listing.tokens) in
+    omega (arith, length_bound tokens (canonical-encodable (record_of m) (listing-writable m h)), count, lines)

@@ -1,0 +1,36 @@
+use Rattle.std.proofs.Common.{◌≡◌, arith, get_or, inl, inr, ◌++◌}
+use Rattle.std.specs.Prelude.{vec_capacity}
+use Rattle.std.specs.Prelude.{slice_range}
+use Rattle.std.proofs.lemmas.Result.{err_from_is_err_and}
+use Rattle.smap_mappings.proofs.PiecesLemmas.{whole_fields, whole_comma, whole_semicolon, whole_fails, fails_less}
+use Rattle.smap_mappings.proofs.reader.read_whole.Goals as goal
+use Rattle.smap_mappings.proofs.reader.read_whole.Goals.{then-piece-end-eq44, else-piece-end-eq44}
+
+pub returns-in_err-running-clause-reads : goal.returns-in_err-running-clause-reads
+returns-in_err-running-clause-reads c = λ text h.
+    let p = err_from_is_err_and c.from_residual.result c.from_residual.ensures.1 in
+    let t = c.args.piece.now in
+    let q = c.loop-place.invariant.3 text h in
+    let w = c.in-Some.ensures in
+    rw (p.1, p.2) (fails_less c.args.bounds (text ++ t) (vec_capacity c.args.tokens.now.list) (vec_capacity c.loop-place.tokens.list) c.in_err-running.field-0.0 c.loop-place.invariant.2 (whole_fails c.args.bounds text t (vec_capacity c.loop-place.tokens.list) c.loop-place.tokens.list.items c.add.new.tokens.list.items c.loop-place.cursor c.loop-place.place c.in-Some.end c.in-Some.fields w q c.in_err-running.field-0.0
+    (c.in_err-running.ensures.reads q.before q.line q.index (slice_range t c.loop-place.place c.in-Some.end) q.is_at (whole_fields t c.loop-place.place c.in-Some.end c.in-Some.fields w) q.sums)))
+
+pub loop-place-preserved : goal.loop-place-preserved
+loop-place-preserved c =
+    let t = c.args.piece.now in
+    let k = c.in-Some.ensures in (
+      (let a = k.le in let b = c.loop-place.invariant.0 in omega arith),
+      (let a = k.within in omega arith),
+      (let a = c.loop-place.invariant.2 in let b = c.in_ok-running.ensures.room in omega arith),
+      λ text h.
+          let q = c.loop-place.invariant.3 text h in
+          let read = c.in_ok-running.ensures.reads q.before q.line q.index (slice_range t c.loop-place.place c.in-Some.end) q.is_at (whole_fields t c.loop-place.place c.in-Some.end c.in-Some.fields k) q.sums in
+          elim c.if-piece-end-eq44.branch [
+            | then-piece-end-eq44 w ↦ rw (w.cursor-is, w.behind_comma-cursor.ensures)
+                (whole_comma c.args.bounds text t (vec_capacity c.loop-place.tokens.list) c.loop-place.tokens.list.items c.add.new.tokens.list.items c.loop-place.cursor c.loop-place.place c.in-Some.end c.in-Some.fields k q c.in_ok-running.running w.if-piece-end-eq44.true read)
+            | else-piece-end-eq44 w ↦
+                let is : get_or t c.in-Some.end 0 ≡ 59 = elim k.ended [ inl e ↦ absurd (w.if-piece-end-eq44.false e) | inr e ↦ e ] in
+                rw (w.cursor-is, w.behind_semicolon-cursor.ensures)
+                (whole_semicolon c.args.bounds text t (vec_capacity c.loop-place.tokens.list) c.loop-place.tokens.list.items c.add.new.tokens.list.items c.loop-place.cursor c.loop-place.place c.in-Some.end c.in-Some.fields k q c.in_ok-running.running is read)
+          ],
+    )

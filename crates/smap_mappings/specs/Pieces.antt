@@ -1,0 +1,122 @@
+-- A mappings text that comes in pieces: which of its segments have ended, and which texts the state of a
+-- reader stands for.
+use Rattle.std.specs.Prelude.{◌≡◌, ℕ, ◌-◌, ◌<◌, ◌≤◌, ◌⊎◌, nat_lt, List, [], ◌∷◌, ◌++◌, length, take}
+use Rattle.std.specs.Prelude.{slice_range, slice_index, Option, Some, None, Result, Ok, Err, IsOk, IsTrue, ℤ}
+use Rattle.std.specs.Prelude.{vec_capacity}
+use Rattle.smap_vlq.specs.declared.segment.Fields.{Fields}
+use Rattle.smap_vlq.specs.Segment.{SpellsAll, is_field_count, fields_of}
+use Rattle.smap_vlq.specs.Pieces.{StandsFor as SegmentStandsFor}
+use Rattle.smap_mappings.specs.declared.error.MappingsError.{MappingsError}
+use Rattle.smap_mappings.specs.declared.error.MappingsError.TheVariants as errors
+use Rattle.smap_mappings.specs.declared.reader.MappingsReader.{MappingsReader}
+use Rattle.smap_mappings.specs.declared.cursor.Cursor.{Cursor}
+use Rattle.smap_mappings.specs.declared.token.Bounds.{Bounds}
+use Rattle.smap_mappings.specs.declared.token.Token.{Token}
+use Rattle.smap_mappings.specs.Lines.{SegmentText, segments_of}
+use Rattle.smap_mappings.specs.Tokens.{Segment, Fault, u32_count, tokens_behind}
+use Rattle.smap_mappings.specs.Steps.{Sums, walk, with_tokens}
+
+-- The segments that a separator has ended: all of the text and one byte more, but the one that this byte
+-- stands in.
+abbrev pub ended_segments : List ℕ → List SegmentText
+ended_segments text = take (length (segments_of (text ++ 65 ∷ [])) - 1) (segments_of (text ++ 65 ∷ []))
+
+-- What `feed` answers for segments: whether one has a fault, and the first fault; or memory ran out.
+abbrev pub Tells : Result (Unit {0}) MappingsError → Result (List Token) Fault → Type 0
+Tells (Ok _) said = IsOk said
+Tells (Err (errors.Fault place kind)) said = said ≡ Err (place, kind)
+Tells (Err errors.Memory) said = Unit {0}
+
+-- The tokens of the segments in front of a first fault, or of some of them.
+pub record ReadsInFront (bounds : Bounds) (texts : List SegmentText) (tokens : List Token) : Type 0 where
+  pub front : List SegmentText
+  pub rest : List SegmentText
+  pub whole : texts ≡ front ++ rest
+  pub read : tokens_behind bounds [] front ≡ Ok tokens
+
+-- The tokens in front of a first fault are at most so many.
+abbrev pub Fits : Bounds → List SegmentText → ℕ → Type 0
+Fits bounds texts room = (tokens : List Token) → ReadsInFront bounds texts tokens → length tokens ≤ room
+
+-- ---- the state
+
+-- The cursor counts a segment's line, and its place in the line, up to the greatest `u32`.
+pub record IsAt (cursor : Cursor) (line index : ℕ) : Type 0 where
+  pub line_is : cursor.line ≡ u32_count line
+  pub index_is : cursor.index ≡ u32_count index
+
+-- Of the text these tokens were read, up to the bytes of a segment that hasn't ended.
+pub record IsReadTo (bounds : Bounds) (text : List ℕ) (tokens : List Token) (cursor : Cursor)
+    (current : List ℕ) : Type 0 where
+  pub ended : List SegmentText
+  pub before : List Segment
+  pub line : ℕ
+  pub index : ℕ
+  pub is_at : IsAt cursor line index
+  pub sums : Sums cursor.running before line
+  pub segments : (rest : List ℕ) → segments_of (text ++ rest) ≡ ended ++ walk line index current rest
+  pub read : (rest : List SegmentText)
+      → tokens_behind bounds [] (ended ++ rest) ≡ with_tokens tokens (tokens_behind bounds before rest)
+
+pub record IsRead (r : MappingsReader) (bounds : Bounds) (text : List ℕ) : Type 0 where
+  pub fine : r.failed ≡ None
+  pub same : r.bounds ≡ bounds
+  pub current : List ℕ
+  pub begun : r.begun ≡ nat_lt 0 (length current)
+  pub segment : SegmentStandsFor r.segment current
+  pub reads : IsReadTo bounds text r.tokens.list.items r.cursor current
+
+-- The error is the text's, whatever follows, of the segments that have ended and of all.
+abbrev pub HasFailed : Bounds → List ℕ → MappingsError → Type 0
+HasFailed bounds text (errors.Fault place kind) = (rest : List ℕ)
+    → (tokens_behind bounds [] (ended_segments (text ++ rest)) ≡ Err (place, kind))
+    × (tokens_behind bounds [] (segments_of (text ++ rest)) ≡ Err (place, kind))
+HasFailed bounds text errors.Memory = Unit {0}
+
+abbrev pub StandsUnder : MappingsReader → Option MappingsError → Bounds → List ℕ → Type 0
+StandsUnder r None bounds text = IsRead r bounds text
+StandsUnder r (Some error) bounds text = HasFailed bounds text error
+
+-- The state stands for the text: all bytes so far, under these bounds.
+abbrev pub StandsFor : MappingsReader → Bounds → List ℕ → Type 0
+StandsFor r bounds text = StandsUnder r r.failed bounds text
+
+-- the error that each later call answers
+abbrev pub failure : MappingsReader → Option MappingsError
+failure r = r.failed
+
+-- how many tokens the reader can hold before it takes memory
+abbrev pub room : MappingsReader → ℕ
+room r = vec_capacity r.tokens.list
+
+-- ---- for private clauses
+
+-- More tokens than the room stand in front of a first fault.
+abbrev pub Overflows : Bounds → List SegmentText → ℕ → Type 0
+Overflows bounds texts most = (tokens : List Token) × ReadsInFront bounds texts tokens
+    × (most < length tokens)
+
+-- An error, and why.
+abbrev pub Fails : Bounds → List ℕ → ℕ → MappingsError → Type 0
+Fails bounds text most (errors.Fault place kind) = HasFailed bounds text (errors.Fault place kind)
+Fails bounds text most errors.Memory = (rest : List ℕ) → Overflows bounds (ended_segments (text ++ rest)) most
+
+-- A text was read to its end, or has failed.
+abbrev pub Reads : MappingsReader → Bounds → List ℕ → ℕ → Result (Unit {0}) MappingsError → Type 0
+Reads r bounds text most (Ok _) = IsRead r bounds text
+Reads r bounds text most (Err error) = Fails bounds text most error
+
+-- Segments of the piece were read, up to a place between segments.
+abbrev pub ReadsSome : Bounds → List ℕ → List ℕ → ℕ → List Token → Result (Cursor × ℕ) MappingsError → Type 0
+ReadsSome bounds text piece most tokens (Ok x) = IsReadTo bounds (text ++ take x.1 piece) tokens x.0 []
+ReadsSome bounds text piece most tokens (Err error) = Fails bounds (text ++ piece) most error
+
+-- The bytes between are the text of a segment with these fields, and a separator ends it.
+pub record IsWhole (text : List ℕ) (start : ℕ) (fields : Fields) (end : ℕ) : Type 0 where
+  pub le : start ≤ end
+  pub within : end < length text
+  pub ns : List ℤ
+  pub spelled : SpellsAll (slice_range text start end) ns
+  pub count : IsTrue (is_field_count (length ns))
+  pub fields_are : fields ≡ fields_of ns
+  pub ended : (slice_index text end ≡ 44) ⊎ (slice_index text end ≡ 59)

@@ -1,0 +1,234 @@
+//! Writing a mappings text token by token.
+ghost use Rattle.std.specs.Prelude.{◌≡◌, ◌≢◌, ◌+◌, ◌-◌, ◌<◌, ◌≤◌, ◌++◌, ◌∷◌, [], List, OnOk, Some, length};
+ghost use Rattle.std.specs.Prelude.{take, vec_len, flat_map};
+ghost use Rattle.smap_vlq.specs.Number.{spelling};
+ghost use Rattle.smap_mappings.specs.declared.token.Token.{Token as SpecToken};
+ghost use Rattle.smap_mappings.specs.Position.{POSITIONS, LINES};
+ghost use Rattle.smap_mappings.specs.Text.{IsEncodable, IsPlaced, IsOriginal, difference, mappings_text};
+ghost use Rattle.smap_mappings.specs.Writing.{IsRunning, original_from, segment_from, running_behind};
+ghost use Rattle.smap_mappings.specs.Writing.{original_behind, separator, at_line};
+
+use crate::error::Memory;
+use crate::running::Running;
+use crate::token::{Original, Token};
+use smap_vlq::spell_at;
+use std::alloc::Global;
+
+/// Writes the difference of two positions.
+#[inline(always)]
+fn put_difference(out: &mut [u8], at: usize, old: u32, new: u32) -> usize
+    requires old { old < POSITIONS }
+    requires new { new < POSITIONS }
+    requires room { at + 7 ≤ length out.old }
+    ensures text { take result out.new ≡ take at out.old ++ spelling (difference old new) }
+    ensures place { result ≤ at + 7 }
+    ensures room { length out.new ≡ length out.old }
+{
+    spell_at(new as i32 - old as i32, out, at)
+}
+
+/// Writes the numbers of an original position.
+#[inline(always)]
+fn put_original(out: &mut [u8], at: usize, running: Running, o: Original) -> usize
+    requires original { IsOriginal o }
+    requires running { IsRunning running }
+    requires room { at + 28 ≤ length out.old }
+    ensures text { take result out.new ≡ take at out.old
+        ++ flat_map spelling (original_from running (Some o)) }
+    ensures place { result ≤ at + 28 }
+    ensures room { length out.new ≡ length out.old }
+{
+    let at = put_difference(out, at, running.source, o.source);
+    let at = put_difference(out, at, running.original_line, o.line);
+    let at = put_difference(out, at, running.original_column, o.column);
+    match o.name {
+        Some(name) => put_difference(out, at, running.name, name),
+        None => at,
+    }
+}
+
+/// Writes the segment of a token.
+#[inline(always)]
+fn put_segment(out: &mut [u8], at: usize, running: Running, token: Token) -> usize
+    requires token { IsPlaced token }
+    requires running { IsRunning running }
+    requires room { at + 35 ≤ length out.old }
+    ensures text { take result out.new ≡ take at out.old ++ segment_from running token }
+    ensures place { result ≤ at + 35 }
+    ensures room { length out.new ≡ length out.old }
+{
+    let at = put_difference(out, at, running.column, token.column);
+    match token.original {
+        None => at,
+        Some(original) => put_original(out, at, running, original),
+    }
+}
+
+/// The values behind an original position.
+#[inline(always)]
+fn behind_original(running: Running, o: Original) -> Running
+    ensures { result ≡ original_behind running (Some o) }
+{
+    Running {
+        source: o.source,
+        original_line: o.line,
+        original_column: o.column,
+        name: o.name.unwrap_or(running.name),
+        ..running
+    }
+}
+
+/// The values behind a token's segment.
+#[inline(always)]
+fn behind(running: Running, token: Token) -> Running
+    ensures { result ≡ running_behind running token }
+{
+    let running = Running {
+        column: token.column,
+        ..running
+    };
+    match token.original {
+        None => running,
+        Some(original) => behind_original(running, original),
+    }
+}
+
+/// The values in front of the next token's segment: the column starts again on a further line.
+#[inline(always)]
+fn on_line(running: Running, lines: u32, line: u32) -> Running
+    requires { line < LINES }
+    ensures { result ≡ at_line running lines line }
+{
+    if lines == line + 1 {
+        return running;
+    }
+    Running {
+        column: 0,
+        ..running
+    }
+}
+
+/// Writes the semicolons between two lines.
+fn put_semicolons(out: &mut [u8], at: usize, lines: u32, line: u32) -> usize
+    requires other { lines ≢ line + 1 }
+    requires line { line < LINES }
+    requires room { at + (line + 1 - lines) ≤ length out.old }
+    ensures text { take result out.new ≡ take at out.old ++ separator lines line }
+    ensures place { result ≤ at + (line + 1 - lines) }
+    ensures room { length out.new ≡ length out.old }
+{
+    let mut at = at;
+    // Behind no line yet, the first is reached without a semicolon.
+    for _ in lines.max(1)..line + 1 {
+        out[at] = b';';
+        at += 1;
+    }
+    at
+}
+
+/// Writes what leads from the lines so far to the next token's segment: a comma on the same line,
+/// else semicolons.
+#[inline(always)]
+fn put_separator(out: &mut [u8], at: usize, lines: u32, line: u32) -> usize
+    requires line { line < LINES }
+    requires room { at + (line + 2 - lines) ≤ length out.old }
+    ensures text { take result out.new ≡ take at out.old ++ separator lines line }
+    ensures place { result ≤ at + (line + 2 - lines) }
+    ensures room { length out.new ≡ length out.old }
+{
+    if lines == line + 1 {
+        out[at] = b',';
+        return at + 1;
+    }
+    put_semicolons(out, at, lines, line)
+}
+
+/// Writes what leads to a token's segment, and the segment.
+#[inline(always)]
+fn put_token(out: &mut [u8], at: usize, lines: u32, running: Running, token: Token) -> usize
+    requires token { IsPlaced token }
+    requires running { IsRunning running }
+    requires room { at + (token.line + 2 - lines) + 35 ≤ length out.old }
+    ensures text { take result out.new ≡ (take at out.old ++ separator lines token.line)
+        ++ segment_from running token }
+    ensures place { result ≤ length out.new }
+    ensures room { length out.new ≡ length out.old }
+{
+    let at = put_separator(out, at, lines, token.line);
+    put_segment(out, at, running, token)
+}
+
+/// Makes room for so many bytes more, at least twice as much as there was.
+fn grow(room: &mut Vec<u8>, at: usize, more: usize) -> Result<(), Memory>
+    requires at { at ≤ vec_len room.old }
+    ensures front { take at room.new.items ≡ take at room.old.items }
+    ensures room { OnOk result (at + more ≤ vec_len room.new) }
+    ensures len { at ≤ vec_len room.new }
+{
+    let len = at.saturating_mul(2).max(4096).max(at.saturating_add(more));
+    room.resize(len, 0)
+}
+
+/// Writes a mappings text while its tokens come.
+///
+/// The bytes stand at the front of a room that is made longer a few times, so that no byte asks for its own.
+#[derive(Drop)]
+pub struct Encoder {
+    room: Vec<u8>,
+    at: usize,
+    running: Running,
+    // One more than the last line that was written.
+    lines: u32,
+    ghost inside: { at ≤ vec_len room },
+    ghost running_is: { IsRunning running },
+    ghost lines_are: { lines ≤ LINES },
+}
+
+impl Encoder {
+    ghost use Rattle.smap_mappings.specs.Feeding.{Encodes};
+
+    /// The text of no tokens yet.
+    pub fn new(alloc: Global) -> Encoder
+        ensures { Encodes result [] }
+    {
+        Encoder {
+            room: Vec::new(alloc),
+            at: 0,
+            running: Running::new(),
+            lines: 0,
+        }
+    }
+
+    /// Writes the segment of one token more, and what leads to it.
+    #[inline(always)]
+    pub fn push(&mut self, token: Token) -> Result<(), Memory>
+        requires { IsPlaced token }
+        ensures { OnOk result ((tokens : List SpecToken) → Encodes self.old tokens
+            → IsEncodable (tokens ++ token ∷ []) → Encodes self.new (tokens ++ token ∷ [])) }
+    {
+        let more = (token.line + 2).saturating_sub(self.lines) as usize + 35;
+        if self.room.len() - self.at < more {
+            grow(&mut self.room, self.at, more)?;
+        }
+        let running = on_line(self.running, self.lines, token.line);
+        self.at = put_token(
+            self.room.as_mut_slice(),
+            self.at,
+            self.lines,
+            running,
+            token,
+        );
+        self.running = behind(running, token);
+        self.lines = token.line + 1;
+        Ok(())
+    }
+
+    /// The text of the tokens.
+    pub fn finish(self) -> Vec<u8>
+        ensures { (tokens : List SpecToken) → Encodes self tokens → result.items ≡ mappings_text tokens }
+    {
+        let Encoder { mut room, at, .. } = self;
+        room.truncate(at);
+        room
+    }
+}

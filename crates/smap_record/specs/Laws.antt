@@ -1,0 +1,21 @@
+-- What holds of index maps within each other.
+use Rattle.std.specs.Prelude.{◌≡◌, ◌≢◌, ℕ, List, Ok, Err}
+use Rattle.url.specs.Parts.{Parts}
+use Rattle.smap_mappings.specs.Position.{Position, place}
+use Rattle.smap_record.specs.declared.fault.Fault.{Fault}
+use Rattle.smap_record.specs.declared.fault.Kind.TheVariants.{Nested}
+use Rattle.smap_record.specs.Record.{ReadMap, Allowed}
+use Rattle.smap_record.specs.Reading.{reading}
+use Rattle.smap_record.specs.OneLevel.{one_level_reading}
+
+-- What is placed by an inner offset and then by an outer one is placed by both combined.
+abbrev pub PlacingIsAssociative : Type 0
+PlacingIsAssociative = (a b p : Position) → place a (place b p) ≡ place (place a b) p
+
+-- A text that was accepted keeps its file and its listing, and so its record; a text that was refused keeps its
+-- fault, unless that was nested sections.
+abbrev pub OldTexts : Type 0
+OldTexts = (base : Parts) (limits : Allowed) (text : List ℕ)
+    → ((m : ReadMap) → one_level_reading base limits text ≡ Ok m → reading base limits text ≡ Ok m)
+    × ((fault : Fault) → one_level_reading base limits text ≡ Err fault → fault.kind ≢ Nested
+    → reading base limits text ≡ Err fault)

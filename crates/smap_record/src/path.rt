@@ -1,0 +1,91 @@
+//! Where a fault lies in index maps within each other: the number of a section at each level.
+ghost use Rattle.std.specs.Prelude.{◌≡◌, ◌≤◌, ◌<◌, ◌↔◌, [], ◌∷◌, length, nat_eq, IsSome, IfSome};
+ghost use Rattle.std.specs.Cmp.{partial_equiv_from_equiv};
+ghost use Rattle.std.specs.Cmp.Lexicographic.{nat_list_eq_equiv, pointwise};
+
+use arrayvec::ArrayVec;
+use smap_shape::MAX_LEVEL;
+use std::fmt;
+use std::marker::Model;
+
+/// As many numbers as there are levels.
+const DEPTH: usize = 8;
+
+/// The numbers of sections, from the outermost in, at most eight; each counts from 0 in the list that it stands
+/// in. A path without numbers leads to no section.
+#[derive(Drop)]
+pub struct Path {
+    numbers: ArrayVec<usize, DEPTH>,
+}
+
+impl Model for Path {
+    ghost use Rattle.std.specs.Prelude.{ℕ, ◌≤◌, List, length};
+    ghost use Rattle.smap_shape.specs.declared.sections.TheConstants.{MAX_LEVEL};
+
+    ghost Value = { List ℕ };
+
+    ghost view = { λ p. p.numbers.items };
+
+    ghost invariant = { λ p. length p.numbers.items ≤ MAX_LEVEL };
+}
+
+impl Path {
+    /// The path of these numbers; none for more than eight.
+    pub fn new(numbers: &[usize]) -> Option<Path>
+        ensures few { IsSome result ↔ (length numbers.now ≤ MAX_LEVEL) }
+        ensures numbers { IfSome result (λ p. p ≡ numbers.now) }
+    {
+        match ArrayVec::try_from(numbers) {
+            Ok(numbers) => Some(Path { numbers }),
+            Err(_) => None,
+        }
+    }
+
+    /// The numbers, from the outermost in.
+    pub fn numbers(&self) -> &[usize]
+        ensures numbers { result.now ≡ self.now }
+        ensures few { length self.now ≤ MAX_LEVEL }
+    {
+        let numbers = &self.numbers;
+        numbers.as_slice()
+    }
+
+    /// The path that leads to no section.
+    pub(crate) fn outside() -> Path
+        ensures { result ≡ [] }
+    {
+        Path {
+            numbers: ArrayVec::new(),
+        }
+    }
+
+    /// The path that leads into the section with this number, and there on.
+    pub(crate) fn within(self, k: usize) -> Path
+        requires { length self < MAX_LEVEL }
+        ensures { result ≡ k ∷ self }
+    {
+        let Path { mut numbers } = self;
+        numbers.insert(0, k);
+        Path { numbers }
+    }
+}
+
+impl PartialEq for Path {
+    ghost eq = { λ a b. pointwise nat_eq a b };
+
+    ghost laws = { partial_equiv_from_equiv nat_list_eq_equiv };
+
+    fn eq(&self, other: &Path) -> bool {
+        self.numbers() == other.numbers()
+    }
+}
+
+impl Eq for Path {
+    ghost laws = { nat_list_eq_equiv };
+}
+
+impl fmt::Debug for Path {
+    fn fmt<W: fmt::Write>(&self, f: &mut fmt::Formatter<W>) -> fmt::Result {
+        f.debug_list().entries(self.numbers()).finish()
+    }
+}

@@ -1,0 +1,3 @@
+pub mod FaultLine
+pub mod Run
+pub mod Status

@@ -1,0 +1,47 @@
+//! The run `flatten`: a map as one flat map that lists what it lists.
+ghost use Rattle.std.specs.Prelude.{◌≡◌, ◌-◌, ◌^◌, ◌<◌, None, false};
+ghost use Rattle.smap_io.specs.Device.{device_failures, has_ended};
+ghost use Rattle.smap_run.specs.Run.{AnswersAgainst, Runs};
+ghost use Rattle.smap_canon.specs.Layout.{flat_text};
+ghost use Rattle.smap_tool.specs.Flatten.{flatten_output};
+ghost use Rattle.url.specs.Parser.{parse_url};
+
+use crate::map_run::{MapCommand, run_on_map};
+use smap_canon::flatten;
+use smap_io::Device;
+use smap_mappings::Memory;
+use smap_record::{Base, SourceMap};
+use smap_run::{Outcome, RunFault};
+use std::alloc::Global;
+use std::io::{Read, Write};
+
+struct Flatten;
+
+impl MapCommand for Flatten {
+    ghost output = { λ _ _ m. flat_text m };
+
+    fn text(&self, alloc: Global, _base: &Base, map: &SourceMap) -> Result<Vec<u8>, Memory> {
+        flatten(alloc, map)
+    }
+}
+
+/// Reads a map against a base, and writes its flat bytes and nothing after them, or the line of its
+/// first fault with a line feed (then it is `Refused`). A base that is no URL is refused as such before
+/// anything is read.
+pub fn run_flatten<R: Read, W: Write>(
+    alloc: Global,
+    base: &str,
+    reader: &mut Device<R>,
+    writer: &mut Device<W>,
+) -> Result<Outcome, RunFault>
+    requires reader { device_failures reader.old < 2 ^ 64 - 1 }
+    requires writer { device_failures writer.old < 2 ^ 64 - 1 }
+    requires not_ended { has_ended reader.old ≡ false }
+
+    // What was written is what is said of what was read against the base; Read and Write come with a
+    // failure of their device, and no other answer does.
+    ensures { Runs (AnswersAgainst (parse_url None base.now) flatten_output)
+        R.remaining reader.old reader.new W.contents writer.old writer.new result }
+{
+    run_on_map(alloc, &Flatten, base, reader, writer)
+}

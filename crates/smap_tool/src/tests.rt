@@ -1,0 +1,51 @@
+//! What no clause says: the rows of each command by name, and devices that fail.
+mod check;
+mod devices;
+mod flatten;
+mod lookup;
+mod respell;
+mod sections;
+mod tidy;
+mod translate;
+
+use crate::{Outcome, Task, run};
+use smap_io::Device;
+use smap_testing::{SlowReader, SlowWriter};
+use std::process::Abort;
+
+/// The base that a test reads against where it names none.
+const BASE: &str = "http://h/m/out.js.map";
+
+/// A map with one source, two names and two mappings.
+const TWO_NAMES: &str =
+    r#"{"version":3,"sources":["a.js"],"names":["x","y"],"mappings":"AAAAC,CAACD"}"#;
+
+/// An index map of two sections, which list one source twice.
+const TWO_SECTIONS: &str =
+    r#"{"version":3,"sections":[{"offset":{"line":0,"column":0},"map":{"version":3,"sources":["a.js"],"mappings":"AAAA"}},{"offset":{"line":0,"column":10},"map":{"version":3,"sources":["a.js","b.js"],"names":["n"],"mappings":"AAAAA;CCCC"}}]}"#;
+
+/// For this input a task writes this output and flushes once, whether the bytes come and go one by one or
+/// at once.
+fn writes(
+    rt: &(impl Abort + AllocGlobal),
+    task: Task<'_>,
+    input: &str,
+    output: &str,
+    outcome: Outcome,
+) {
+    for step in [1, usize::MAX] {
+        let mut reader = Device::new(SlowReader::new(input.as_bytes(), step, 0));
+        let mut writer = Device::new(SlowWriter::new(rt.alloc(), step, 0));
+        let answer = run(rt.alloc(), task, &mut reader, &mut writer);
+        assert_eq!(rt; answer, Ok(outcome), "{task:?} of {input}");
+        assert!(rt; reader.ended(), "{task:?} of {input}");
+        let written = writer.into_inner();
+        assert_eq!(rt;
+            written.bytes.as_slice(),
+            output.as_bytes(),
+            "{task:?} of {input}"
+        );
+        assert_eq!(rt; written.flushes, 1, "{task:?} of {input}");
+        assert!(rt; !written.written_behind_flush, "{task:?} of {input}");
+    }
+}

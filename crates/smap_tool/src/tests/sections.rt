@@ -1,0 +1,116 @@
+//! Rows of index maps.
+use super::{BASE, TWO_SECTIONS, writes};
+use crate::{Outcome, Task};
+
+/// Index maps and the canonical form of each.
+const TIDY: [(&str, &str); 4] = [
+    (
+        r#"{"version":3,"sections":[]}"#,
+        r#"{"mappings":"","names":[],"sources":[],"version":3}"#,
+    ),
+    // A mapping of an earlier section may lie at the offset of a later one.
+    (
+        r#"{"version":3,"sections":[{"offset":{"line":0,"column":0},"map":{"version":3,"mappings":"K"}},{"offset":{"line":0,"column":5},"map":{"version":3,"mappings":"A"}}]}"#,
+        r#"{"mappings":"K,A","names":[],"sources":[],"version":3}"#,
+    ),
+    // Offsets may be equal.
+    (
+        r#"{"version":3,"sections":[{"offset":{"line":0,"column":0},"map":{"version":3,"mappings":"A"}},{"offset":{"line":0,"column":0},"map":{"version":3,"mappings":"A"}}]}"#,
+        r#"{"mappings":"A,A","names":[],"sources":[],"version":3}"#,
+    ),
+    // A section without mappings may stand behind the last line that a mapping can have.
+    (
+        r#"{"version":3,"sections":[{"offset":{"line":16777216,"column":0},"map":{"version":3,"mappings":""}}]}"#,
+        r#"{"mappings":"","names":[],"sources":[],"version":3}"#,
+    ),
+];
+
+/// Index maps that are refused, and the line of each.
+const REFUSED: [(&str, &str); 10] = [
+    (
+        r#"{"version":3,"sections":[{"offset":{"line":0,"column":0},"map":{"version":3,"mappings":"K"}},{"offset":{"line":0,"column":4},"map":{"version":3,"mappings":"A"}}]}"#,
+        "refused: section 1: overlap\n",
+    ),
+    // The greatest column counts, and not the last one of the text.
+    (
+        r#"{"version":3,"sections":[{"offset":{"line":0,"column":0},"map":{"version":3,"mappings":"K,F"}},{"offset":{"line":0,"column":4},"map":{"version":3,"mappings":"A"}}]}"#,
+        "refused: section 1: overlap\n",
+    ),
+    (
+        r#"{"version":3,"sections":[{"offset":{"line":1,"column":0},"map":{"version":3,"mappings":""}},{"offset":{"line":0,"column":0},"map":{"version":3,"mappings":""}}]}"#,
+        "refused: section 1: order\n",
+    ),
+    (
+        r#"{"version":3,"sections":[7]}"#,
+        "refused: section 0: not an object\n",
+    ),
+    (
+        r#"{"version":3,"sections":[{"offset":{"line":0,"column":0},"map":{"version":3,"mappings":"!"}},{}]}"#,
+        "refused: section 0: line 0 segment 0: number 1: bad character\n",
+    ),
+    (
+        r#"{"version":3,"sections":[{"offset":{"line":0,"column":0},"map":{"version":3,"file":7,"mappings":""}}]}"#,
+        "refused: section 0: file\n",
+    ),
+    (
+        r#"{"version":3,"sections":[{"offset":{"line":16777216,"column":0},"map":{"version":3,"mappings":"A"}}]}"#,
+        "refused: section 0: line 0 segment 0: generated line\n",
+    ),
+    (
+        r#"{"version":3,"sections":[{"offset":{"line":0,"column":0},"map":{"sections":[]}}]}"#,
+        "refused: section 0: version\n",
+    ),
+    (
+        r#"{"version":3,"sections":[{"offset":{"line":0,"column":0},"url":"x.map"}]}"#,
+        "refused: section 0: map\n",
+    ),
+    (
+        r#"{"version":3,"sections":[{"offset":{"line":0,"column":-1},"map":{"version":3,"mappings":""}}]}"#,
+        "refused: section 0: offset\n",
+    ),
+];
+
+#[test]
+fn an_index_map_tidies_to_one_flat_map(rt: HostRuntime) {
+    for (input, output) in TIDY {
+        writes(
+            &rt,
+            Task::Tidy {
+                base: BASE,
+                relative: false,
+            },
+            input,
+            output,
+            Outcome::Done,
+        );
+    }
+}
+
+#[test]
+fn a_fault_of_an_index_map_names_its_section(rt: HostRuntime) {
+    for (input, output) in REFUSED {
+        writes(
+            &rt,
+            Task::Tidy {
+                base: BASE,
+                relative: false,
+            },
+            input,
+            output,
+            Outcome::Refused,
+        );
+    }
+}
+
+#[test]
+fn what_all_sections_hold_is_counted(rt: HostRuntime) {
+    let output =
+        "accepted: 2 sources, 1 names, 3 mappings, 2 lines\ncanonical mappings: 15 bytes, at most 110\n";
+    writes(
+        &rt,
+        Task::Check { base: BASE },
+        TWO_SECTIONS,
+        output,
+        Outcome::Done,
+    );
+}

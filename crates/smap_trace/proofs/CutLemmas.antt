@@ -1,0 +1,74 @@
+-- Cuts of a line.
+use Rattle.std.proofs.Common.{◌≡◌, ◌∙◌, ℕ, suc, ◌+◌, ◌-◌, ◌<◌, ◌≤◌, ◌==◌, Bool, true, false, not, ◌&&◌, ◌||◌, List, ◌∷◌, ◌++◌, length, take, drop, reverse, get_or, refl, sym, ap, arith, slice_range, nat_eq, length-take}
+use Rattle.std.specs.List.{starts_with, suffix_len, before_last, after_last, list_any}
+use Rattle.std.proofs.Math.Seq.{split_at, take-append_seam, drop-append_seam}
+use Rattle.std.proofs.lemmas.Bool.Decides.{Decides-eqb}
+use Rattle.std.proofs.lemmas.List.{take-append-drop, drop-drop, get_or-reverse, length-reverse}
+use Rattle.std.proofs.lemmas.List.Sums.{prefix_len_stops}
+use Rattle.std.proofs.lemmas.List.Folds.{list_any-append}
+use Rattle.std.proofs.lemmas.Slice.Eq.{starts_is}
+use Rattle.smap_trace.specs.Frame.{lacks}
+
+pub both : (a b : Bool) → (a && b) ≡ true → (a ≡ true) × (b ≡ true)
+both true b h = (refl, h)
+both false b h = cc
+
+pub rest_at : (xs : List ℕ) (s e : ℕ) → s ≤ e → drop s xs ≡ slice_range xs s e ++ drop e xs
+rest_at xs s e le =
+    let more : s + (e - s) ≡ e = omega arith in
+    let last : drop (e - s) (drop s xs) ≡ drop e xs = drop-drop (e - s) s xs ∙ ap (λ n. drop n xs) more in
+    sym (take-append-drop (e - s) (drop s xs)) ∙ ap (λ (ys : List ℕ). take (e - s) (drop s xs) ++ ys) last
+
+pub cut_at : (xs : List ℕ) (s e : ℕ) → s ≤ e → xs ≡ take s xs ++ (slice_range xs s e ++ drop e xs)
+cut_at xs s e le = sym (take-append-drop s xs) ∙ ap (λ (ys : List ℕ). take s xs ++ ys) (rest_at xs s e le)
+
+-- a line in three parts, cut where they meet
+pub first_part : (a t b : List ℕ) → take (length a) (a ++ (t ++ b)) ≡ a
+first_part a t b = take-append_seam a (t ++ b)
+
+pub middle_part : (a t b : List ℕ) → slice_range (a ++ (t ++ b)) (length a) (length a + length t) ≡ t
+middle_part a t b =
+    let len : length a + length t - length a ≡ length t = omega arith in
+    ap (λ n. take n (drop (length a) (a ++ (t ++ b)))) len ∙ ap (take (length t)) (drop-append_seam a (t ++ b)) ∙ take-append_seam t b
+
+pub begins : (xs needle : List ℕ) → starts_with nat_eq xs needle ≡ true → xs ≡ needle ++ drop (length needle) xs
+begins xs needle h = (starts_is Decides-eqb xs needle (starts_with nat_eq xs needle) refl).0 h
+
+pub begins_with : (needle more : List ℕ) → starts_with nat_eq (needle ++ more) needle ≡ true
+begins_with needle more = (starts_is Decides-eqb (needle ++ more) needle (starts_with nat_eq (needle ++ more) needle) refl).1 more refl
+
+is_not : (x c : ℕ) → not (x == c) ≡ false → x ≡ c
+is_not x c h = go (x == c) refl h
+  where
+    go : (t : Bool) → (x == c) ≡ t → not t ≡ false → x ≡ c
+    go true e f = (Decides-eqb x c).0 e
+    go false e f = cc
+
+-- A text that has the mark is what stands before the last one, the mark, and what stands after it.
+pub last_cut : (c : ℕ) (xs : List ℕ) → suffix_len (λ b. not (b == c)) xs < length xs → xs ≡ before_last (λ b. b == c) xs ++ c ∷ after_last (λ b. b == c) xs
+last_cut c xs lt =
+    let q : ℕ → Bool = λ b. not (b == c) in
+    let n = suffix_len (λ b. not (b == c)) xs in
+    let i = length xs - n - 1 in
+    let len : length (reverse xs) ≡ length xs = length-reverse xs in
+    let below : n < length (reverse xs) = omega arith in
+    let stops : not (get_or (reverse xs) n 0 == c) ≡ false = prefix_len_stops q (reverse xs) 0 below in
+    let place : length xs - 1 - n ≡ i = omega arith in
+    let which : get_or (reverse xs) n 0 ≡ get_or xs i 0 = get_or-reverse xs n 0 lt ∙ ap (λ k. get_or xs k 0) place in
+    let is : get_or xs i 0 ≡ c = sym which ∙ is_not (get_or (reverse xs) n 0) c stops in
+    let next : suc i ≡ length xs - n = omega arith in
+    split_at xs i 0 (omega arith)
+    ∙ ap (λ x. take i xs ++ x ∷ drop (suc i) xs) is
+    ∙ ap (λ k. take i xs ++ c ∷ drop k xs) next
+
+-- The same, where something stands before the last mark.
+pub some_before : (c : ℕ) (xs : List ℕ) → 0 < length (before_last (λ b. b == c) xs) → suffix_len (λ b. not (b == c)) xs < length xs
+some_before c xs h = omega (arith, h, length-take {A = ℕ})
+
+pub lacks-append : (c : ℕ) (xs ys : List ℕ) → lacks c (xs ++ ys) ≡ true → (lacks c xs ≡ true) × (lacks c ys ≡ true)
+lacks-append c xs ys h = go (list_any (λ b. b == c) xs) (list_any (λ b. b == c) ys) (ap not (sym (list_any-append (λ b. b == c) xs ys)) ∙ h)
+  where
+    go : (s t : Bool) → not (s || t) ≡ true → (not s ≡ true) × (not t ≡ true)
+    go false false e = (refl, refl)
+    go false true e = cc
+    go true t e = cc

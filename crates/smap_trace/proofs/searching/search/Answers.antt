@@ -1,0 +1,40 @@
+use Rattle.std.proofs.Common.{◌≡◌, ◌+◌, ◌*◌, ◌-◌, ◌/◌, ◌≤◌, length, arith, sym, Some, slice_get, ◌∙◌}
+use Rattle.smap_trace.specs.Positions.{position_in}
+use Rattle.smap_trace.proofs.HalvingLemmas.{few, halved_once, one_step, counts_past, counts_up_to}
+use Rattle.smap_trace.proofs.searching.search.Goals as goal
+
+pub at-requires-clause-room : goal.at-requires-clause-room
+at-requires-clause-room g c =
+    let k = g.P.Positions.probes c.loop-size.p in
+    let below = few k (length (g.P.Positions.positions c.args.p.now)) c.loop-size.invariant.steps (omega arith) in
+    omega arith
+
+pub loop-size-preserved-then-is_at_most : goal.loop-size-preserved-then-is_at_most
+loop-size-preserved-then-is_at_most g c =
+    let size = c.loop-size.size in
+    let half : 2 * (size - size / 2 - 1) ≤ size = omega arith in
+    let here : slice_get (g.P.Positions.positions c.args.p.now) (c.loop-size.low + size / 2) ≡ Some (position_in c.at.result) = rw (← c.loop-size.invariant.list) c.at.ensures.value in
+    record {
+      list = c.at.ensures.list ∙ c.loop-size.invariant.list;
+      within = omega arith;
+      least = counts_past _ _ (position_in c.at.result) _ c.requires.sorted here (sym c.if-is_at_most.ensures);
+      most = omega arith;
+      halved = rw c.at.ensures.count (halved_once _ size _ _ (omega arith) c.loop-size.invariant.halved half);
+      steps = rw c.at.ensures.count (one_step _ size _ (omega arith) c.loop-size.invariant.halved);
+      probed = λ _. omega arith;
+    }
+
+pub loop-size-preserved : goal.loop-size-preserved
+loop-size-preserved g c =
+    let size = c.loop-size.size in
+    let half : 2 * (size / 2) ≤ size = omega arith in
+    let here : slice_get (g.P.Positions.positions c.args.p.now) (c.loop-size.low + size / 2) ≡ Some (position_in c.at.result) = rw (← c.loop-size.invariant.list) c.at.ensures.value in
+    record {
+      list = c.at.ensures.list ∙ c.loop-size.invariant.list;
+      within = omega arith;
+      least = c.loop-size.invariant.least;
+      most = counts_up_to _ _ (position_in c.at.result) _ c.requires.sorted here (sym c.if-is_at_most.ensures);
+      halved = rw c.at.ensures.count (halved_once _ size _ _ (omega arith) c.loop-size.invariant.halved half);
+      steps = rw c.at.ensures.count (one_step _ size _ (omega arith) c.loop-size.invariant.halved);
+      probed = λ _. omega arith;
+    }

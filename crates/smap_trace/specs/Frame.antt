@@ -1,0 +1,87 @@
+-- The frames of a stack trace, as V8 and Firefox write them. Ours: no standard fixes their form.
+use Rattle.std.specs.Prelude.{◌≡◌, ◌⊎◌, ℕ, ◌<◌, ◌≤◌, ◌==◌, Bool, true, not}
+use Rattle.std.specs.Prelude.{List, [], ◌∷◌, ◌++◌, length, codes, decimal}
+use Rattle.std.specs.List.{list_all, list_any}
+
+-- A frame: its URL, its line and its column, and what stands before and after these.
+pub record Parts : Type 0 where
+  pub before : List ℕ
+  pub url : List ℕ
+  pub line : ℕ
+  pub column : ℕ
+  pub after : List ℕ
+
+-- URL:LINE:COLUMN
+abbrev pub position : List ℕ → ℕ → ℕ → List ℕ
+position url line column = url ++ codes ":" ++ decimal line ++ codes ":" ++ decimal column
+
+-- whether the byte stands nowhere in the text
+abbrev pub lacks : ℕ → List ℕ → Bool
+lacks b text = not (list_any (λ c. c == b) text)
+
+-- nothing but spaces, or nothing
+abbrev pub AreSpaces : List ℕ → Type 0
+AreSpaces text = list_all (λ b. b == 32) text ≡ true
+
+-- Lines and columns count from 1 in a trace.
+abbrev pub IsPlace : ℕ → Type 0
+IsPlace n = (1 ≤ n) × (n ≤ 2147483648)
+
+-- nothing, or the carriage return that ends a line
+abbrev pub IsLineEnd : List ℕ → Type 0
+IsLineEnd text = (text ≡ []) ⊎ (text ≡ 13 ∷ [])
+
+-- ---- V8: spaces, `at `, and one of `NAME (URL:LINE:COLUMN)`, `URL:LINE:COLUMN` and `async URL:LINE:COLUMN`
+
+-- After its spaces the line begins with `at `.
+pub record BeginsWithAt (line : List ℕ) : Type 0 where
+  pub spaces : List ℕ
+  pub rest : List ℕ
+  pub are_spaces : AreSpaces spaces
+  pub whole : line ≡ spaces ++ codes "at " ++ rest
+
+-- What leads from `at ` to the position, and what closes behind it, in each of the three forms:
+-- `NAME (` and `)`
+abbrev pub InParentheses : List ℕ → List ℕ → Type 0
+InParentheses lead close = (name : List ℕ) × (lead ≡ name ++ codes " (") × (close ≡ codes ")")
+
+-- nothing and nothing
+abbrev pub Alone : List ℕ → List ℕ → Type 0
+Alone lead close = (lead ≡ []) × (close ≡ [])
+
+-- `async ` and nothing
+abbrev pub BehindAsync : List ℕ → List ℕ → Type 0
+BehindAsync lead close = (lead ≡ codes "async ") × (close ≡ [])
+
+-- `before` is spaces, `at ` and what leads; `after` is what closes, and the end of the line.
+pub record IsV8 (f : Parts) : Type 0 where
+  pub spaces : List ℕ
+  pub lead : List ℕ
+  pub close : List ℕ
+  pub line_end : List ℕ
+  pub are_spaces : AreSpaces spaces
+  pub form : InParentheses lead close ⊎ (Alone lead close ⊎ BehindAsync lead close)
+  pub ends : IsLineEnd line_end
+  pub before_is : f.before ≡ spaces ++ codes "at " ++ lead
+  pub after_is : f.after ≡ close ++ line_end
+
+-- ---- Firefox: `NAME@URL:LINE:COLUMN`, where NAME has no `@`
+
+-- `before` is a name and `@`; `after` is the end of the line.
+pub record IsFirefox (f : Parts) : Type 0 where
+  pub name : List ℕ
+  pub no_at : lacks 64 name ≡ true
+  pub before_is : f.before ≡ name ++ codes "@"
+  pub ends : IsLineEnd f.after
+
+-- ---- either
+
+-- The line, without its line feed, is this frame. A line that begins as V8's do isn't Firefox's.
+pub record IsFrame (line : List ℕ) (f : Parts) : Type 0 where
+  pub whole : line ≡ f.before ++ position f.url f.line f.column ++ f.after
+  pub one_line : lacks 10 line ≡ true
+  pub some_url : 0 < length f.url
+  pub no_space : lacks 32 f.url ≡ true
+  pub line_place : IsPlace f.line
+  pub column_place : IsPlace f.column
+  pub form : IsV8 f ⊎ ((BeginsWithAt line → ⊥) × IsFirefox f)

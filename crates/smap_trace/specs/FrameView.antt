@@ -1,0 +1,12 @@
+-- What a frame of the code stands for.
+use Rattle.smap_trace.specs.Frame.{Parts}
+use Rattle.smap_trace.specs.declared.parts.Frame.{Frame}
+
+abbrev pub parts_in : Frame → Parts
+parts_in f = record {
+  before = f.before.now;
+  url = f.url.now;
+  line = f.line;
+  column = f.column;
+  after = f.after.now;
+}

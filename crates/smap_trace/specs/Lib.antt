@@ -1,0 +1,10 @@
+pub mod Frame
+pub mod FrameView
+pub mod Laws
+pub mod Lookup
+pub mod Pieces
+pub mod Positions
+pub mod Reading
+pub mod Streaming
+pub mod Translation
+pub mod Views

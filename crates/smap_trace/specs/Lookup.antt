@@ -1,0 +1,26 @@
+-- The mapping that a generated position falls to. Ours: the standard leaves lookup open.
+use Rattle.std.specs.Prelude.{◌≡◌, ℕ, ◌<◌, ◌≤◌, ◌==◌, ◌&&◌, Bool, List, [], ◌∷◌, ◌++◌, All, nat_le}
+use Rattle.std.specs.Prelude.{Option, Some, None, if◌then◌else◌}
+use Rattle.std.specs.Option.{option_or}
+use Rattle.smap_record.specs.Record.{Mapping}
+
+-- if it is on that line, the mapping lies after the column
+abbrev pub LiesAfter : ℕ → ℕ → Mapping → Type 0
+LiesAfter line column m = m.line ≡ line → column < m.column
+
+-- The mapping on the line whose column isn't greater, while every later one on the line has a greater
+-- column; nothing if there is none.
+abbrev pub FallsTo : List Mapping → ℕ → ℕ → Option Mapping → Type 0
+FallsTo ms line column (Some m) = (m.line ≡ line) × (m.column ≤ column) × (before : List Mapping)
+    × (later : List Mapping) × (ms ≡ before ++ m ∷ later) × All (LiesAfter line column) later
+FallsTo ms line column None = All (LiesAfter line column) ms
+
+-- whether the mapping is on the line, and its column isn't greater
+abbrev pub is_within : ℕ → ℕ → Mapping → Bool
+is_within line column m = m.line == line && nat_le m.column column
+
+-- The same, computed: the last on the line whose column isn't greater.
+abbrev pub mapping_at : List Mapping → ℕ → ℕ → Option Mapping
+mapping_at [] line column = None
+mapping_at (m ∷ ms) line column =
+    option_or (mapping_at ms line column) (if is_within line column m then Some m else None)

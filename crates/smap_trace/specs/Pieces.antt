@@ -1,0 +1,57 @@
+-- A trace in pieces: what the parts of `translate` do.
+use Rattle.std.specs.Prelude.{◌≡◌, ◌⊎◌, ℕ, ◌+◌, ◌==◌, Bool, not, true}
+use Rattle.std.specs.Prelude.{List, [], ◌∷◌, ◌++◌, Option, Result, Ok, Err}
+use Rattle.std.specs.List.{list_any}
+use Rattle.std.specs.Io.KnownBytes.{Appends}
+use Rattle.smap_trace.specs.declared.outcome.Counts.{Counts}
+use Rattle.smap_trace.specs.declared.outcome.LineOutcome.{LineOutcome}
+use Rattle.smap_trace.specs.declared.outcome.LineOutcome.TheVariants.{Kept, Translated, Dropped}
+use Rattle.smap_trace.specs.declared.error.TraceError.{TraceError}
+use Rattle.smap_trace.specs.declared.error.TraceError.TheVariants as error
+use Rattle.smap_trace.specs.Translation.{Script, fate, lines_of, translation}
+use Rattle.smap_trace.specs.Views.{at_most_u64, outcome_of}
+
+-- any answer but Read
+abbrev pub IsNotRead : {A : Type 0} → Result A TraceError → Type 0
+IsNotRead (Err error.Read) = ⊥
+IsNotRead (Err error.Write) = Unit {0}
+IsNotRead (Err error.Memory) = Unit {0}
+IsNotRead (Ok x) = Unit {0}
+
+-- one line more
+abbrev pub count_line : Counts → LineOutcome → Counts
+count_line c Kept = record c { lines = at_most_u64 (c.lines + 1) }
+count_line c Translated =
+    record c { lines = at_most_u64 (c.lines + 1); translated = at_most_u64 (c.translated + 1) }
+count_line c Dropped = record c { lines = at_most_u64 (c.lines + 1); dropped = at_most_u64 (c.dropped + 1) }
+
+-- these lines more
+abbrev pub count_lines : List Script → Bool → Counts → List (List ℕ) → Counts
+count_lines scripts hide c [] = c
+count_lines scripts hide c (line ∷ lines) =
+    count_lines scripts hide (count_line c (outcome_of (fate scripts hide line))) lines
+
+-- nothing, or lines that have their line feed
+abbrev pub IsWhole : List ℕ → Type 0
+IsWhole text = (text ≡ []) ⊎ ((front : List ℕ) × (text ≡ front ++ 10 ∷ []))
+
+-- the front of a line, as far as it was read
+abbrev pub HasNoFeed : List ℕ → Type 0
+HasNoFeed text = not (list_any (λ b. b == 10) text) ≡ true
+
+-- known bytes grow by a front of these
+pub record AppendsPart (old new : Option (List ℕ)) (bytes : List ℕ) : Type 0 where
+  pub front : List ℕ
+  pub rest : List ℕ
+  pub written : Appends old new front
+  pub is_front : bytes ≡ front ++ rest
+
+-- A piece of the trace ended the lines `whole`, whose translation was given, and `rest` waits for the
+-- end of its line. Before the piece, `line` did.
+pub record Takes (scripts : List Script) (hide : Bool) (line piece rest old new : List ℕ)
+    (counts_old counts_new : Counts) : Type 0 where
+  pub whole : List ℕ
+  pub is_whole : IsWhole whole
+  pub bytes : line ++ piece ≡ whole ++ rest
+  pub given : new ≡ old ++ translation scripts hide whole
+  pub counted : counts_new ≡ count_lines scripts hide counts_old (lines_of whole)

@@ -1,0 +1,35 @@
+-- What the values of the code stand for.
+use Rattle.std.specs.Prelude.{ℕ, ◌^◌, ◌-◌, Bool, List, length, map, min, count_by}
+use Rattle.std.specs.Borrow.{Bor}
+use Rattle.smap_record.specs.Record.{ReadMap, record_of}
+use Rattle.smap_trace.specs.Translation.{Fate, Script, dropped, kept, translated}
+use Rattle.smap_trace.specs.Translation.{fate, is_dropped, is_translated, lines_of}
+use Rattle.smap_trace.specs.declared.outcome.LineOutcome.{LineOutcome}
+use Rattle.smap_trace.specs.declared.outcome.LineOutcome.TheVariants.{Kept, Translated, Dropped}
+use Rattle.smap_trace.specs.declared.outcome.Counts.{Counts}
+
+-- a script: its URL and its map's record
+abbrev pub script_in : Bor (List ℕ) × Bor ReadMap → Script
+script_in s = (s.0.now, record_of s.1.now)
+
+abbrev pub scripts_in : List (Bor (List ℕ) × Bor ReadMap) → List Script
+scripts_in scripts = map script_in scripts
+
+-- how the code tells what became of a line
+abbrev pub outcome_of : Fate → LineOutcome
+outcome_of kept = Kept
+outcome_of (translated text) = Translated
+outcome_of dropped = Dropped
+
+-- the number, or the greatest of 64 bits
+abbrev pub at_most_u64 : ℕ → ℕ
+at_most_u64 n = min n (2 ^ 64 - 1)
+
+-- The lines of a trace, and those of them that are translated and dropped; each number stays at the
+-- greatest of 64 bits.
+abbrev pub counts_of : List Script → Bool → List ℕ → Counts
+counts_of scripts hide trace = record {
+  lines = at_most_u64 (length (lines_of trace));
+  translated = at_most_u64 (count_by (λ line. is_translated (fate scripts hide line)) (lines_of trace));
+  dropped = at_most_u64 (count_by (λ line. is_dropped (fate scripts hide line)) (lines_of trace));
+}

@@ -1,0 +1,177 @@
+//! The frames of a stack trace. A line is read from its marks: its leading spaces and `at `, or its first
+//! `@`, say where the position begins, and the last two colons where its numbers stand.
+ghost use Rattle.std.specs.Prelude.{◌≡◌, ℕ, ◌≤◌, ◌==◌, not, length, option_map, MatchOption, decimal};
+ghost use Rattle.std.specs.List.{suffix_len, prefix_len, position_or_len, list_any, before_last, after_last};
+ghost use Rattle.std.specs.Str.Lines.{strip_carriage_return};
+ghost use Rattle.smap_trace.specs.Frame.{IsFrame, IsPlace, Parts};
+ghost use Rattle.smap_trace.specs.Reading as spec;
+ghost use Rattle.smap_trace.specs.FrameView.{parts_in};
+
+use crate::parts::Frame;
+use itoa::Buffer;
+
+/// The greatest line and the greatest column of a trace, which counts them from 1.
+const MOST: u32 = 2_147_483_648;
+
+/// The number from 1 to [`MOST`] of which the text is the one spelling.
+fn place(text: &[u8]) -> Option<u32>
+    ensures { MatchOption result ((n : ℕ) → IsPlace n → text.now ≡ decimal n → ⊥)
+        (λ n. IsPlace n × (text.now ≡ decimal n)) }
+{
+    let Ok(digits) = std::str::from_utf8(text) else {
+        return None;
+    };
+    match digits.parse::<u32>() {
+        Ok(n) if n != 0 && n <= MOST && Buffer::new().format(n) == digits => Some(n),
+        _ => None,
+    }
+}
+
+/// How many bytes follow the last mark.
+fn len_after_last(text: &[u8], mark: u8) -> usize
+    ensures value { result ≡ suffix_len (λ b. not (b == mark)) text.now }
+    ensures within { result ≤ length text.now }
+{
+    text.iter().rev().take_while(|b| **b != mark).count()
+}
+
+/// What stands before and after the last mark, or nothing and all where there is none.
+fn split_at_last<'a>(text: &'a [u8], mark: u8) -> (&'a [u8], &'a [u8])
+    ensures before { result.0.now ≡ before_last (λ b. b == mark) text.now }
+    ensures after { result.1.now ≡ after_last (λ b. b == mark) text.now }
+{
+    let at = text.len() - len_after_last(text, mark);
+    (&text[..at.saturating_sub(1)], &text[at..])
+}
+
+/// How many bytes stand before the first mark, or all where there is none.
+fn len_before_first(text: &[u8], mark: u8) -> usize
+    ensures value { result ≡ position_or_len (λ b. b == mark) text.now }
+    ensures within { result ≤ length text.now }
+{
+    text.iter().take_while(|b| **b != mark).count()
+}
+
+/// Whether the text may be a frame's URL: it isn't looked at further.
+fn is_url(text: &[u8]) -> bool
+    ensures { result ≡ spec.is_url text.now }
+{
+    !text.is_empty() && !text.contains(&b' ')
+}
+
+/// The frame whose position stands from `start` up to `end`.
+fn framed<'a>(line: &'a [u8], start: usize, end: usize) -> Option<Frame<'a>>
+    requires { (start ≤ end) × (end ≤ length line.now) }
+    ensures { option_map parts_in result ≡ spec.framed line.now start end }
+{
+    let (rest, column) = split_at_last(&line[start..end], b':');
+    let (url, line_number) = split_at_last(rest, b':');
+    if !is_url(url) {
+        return None;
+    }
+    let line_place = place(line_number)?;
+    let column_place = place(column)?;
+    Some(Frame {
+        before: &line[..start],
+        url,
+        line: line_place,
+        column: column_place,
+        after: &line[end..],
+    })
+}
+
+/// How many spaces come first.
+fn space_count(text: &[u8]) -> usize
+    ensures value { result ≡ prefix_len spec.is_space text.now }
+    ensures within { result ≤ length text.now }
+{
+    text.iter().take_while(|b| **b == b' ').count()
+}
+
+/// Behind `at ` and before `)` the position follows the last space and `(`.
+fn in_parentheses<'a>(line: &'a [u8], start: usize, end: usize) -> Option<Frame<'a>>
+    requires { (start ≤ end) × (end ≤ length line.now) }
+    ensures { option_map parts_in result ≡ spec.in_parentheses line.now start end }
+{
+    let text = &line[start..end];
+    let (_, last) = split_at_last(text, b' ');
+    if last.starts_with(b"(") && last.len() < text.len() {
+        framed(line, end - last.len() + 1, end)
+    } else {
+        None
+    }
+}
+
+/// The frame whose `at ` ends at `start`.
+fn v8_frame<'a>(line: &'a [u8], start: usize, end: usize) -> Option<Frame<'a>>
+    requires { (start ≤ end) × (end ≤ length line.now) }
+    ensures { option_map parts_in result ≡ spec.v8_frame line.now start end }
+{
+    let text = &line[start..end];
+    if text.ends_with(b")") {
+        in_parentheses(line, start, end - 1)
+    } else if text.starts_with(b"async ") {
+        framed(line, start + 6, end)
+    } else {
+        framed(line, start, end)
+    }
+}
+
+/// The frame whose position follows the first `@`.
+fn firefox_frame<'a>(line: &'a [u8], end: usize) -> Option<Frame<'a>>
+    requires { end ≤ length line.now }
+    ensures { option_map parts_in result ≡ spec.firefox_frame line.now end }
+{
+    let at = len_before_first(&line[..end], b'@');
+    if at < end {
+        framed(line, at + 1, end)
+    } else {
+        None
+    }
+}
+
+/// The frame of the line up to `end`, in the form of V8 where the line begins so, else in that of Firefox.
+fn body_frame<'a>(line: &'a [u8], end: usize) -> Option<Frame<'a>>
+    requires { end ≤ length line.now }
+    ensures { option_map parts_in result ≡ spec.body_frame line.now end }
+{
+    let body = &line[..end];
+    let spaces = space_count(body);
+    if body[spaces..].starts_with(b"at ") {
+        v8_frame(line, spaces + 3, end)
+    } else {
+        firefox_frame(line, end)
+    }
+}
+
+/// How long the line is without the carriage return at its end.
+fn body_len(line: &[u8]) -> usize
+    ensures value { result ≡ length (strip_carriage_return line.now) }
+    ensures within { result ≤ length line.now }
+{
+    let n = line.len();
+    if n > 0 && line[n - 1] == b'\r' {
+        n - 1
+    } else {
+        n
+    }
+}
+
+/// The frame that the line is, if it is one: `NAME (URL:LINE:COLUMN)`, `URL:LINE:COLUMN` or
+/// `async URL:LINE:COLUMN` behind `at `, as V8 writes it, or `NAME@URL:LINE:COLUMN`, as Firefox does. The
+/// line is taken without its line feed; a carriage return at its end belongs to `after`. A line that
+/// holds a line feed is no frame. It takes no memory, and looks at each byte a few times.
+pub fn frame<'a>(line: &'a [u8]) -> Option<Frame<'a>>
+    ensures is { MatchOption result ((f : Parts) → IsFrame line.now f → ⊥)
+        (λ f. IsFrame line.now (parts_in f)) }
+    ensures value { option_map parts_in result ≡ spec.frame_of line.now }
+{
+    if line.contains(&b'\n') {
+        None
+    } else {
+        body_frame(line, body_len(line))
+    }
+}
+
+#[cfg(test)]
+mod tests;

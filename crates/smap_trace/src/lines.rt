@@ -1,0 +1,184 @@
+//! The translation of a line.
+ghost use Rattle.std.specs.Prelude.{◌≡◌, ◌+◌, ◌++◌, ◌<◌, option_map, IfOk, OnOk, OnErr};
+ghost use Rattle.std.specs.Io.{StartsWith};
+ghost use Rattle.smap_record.specs.Record.{record_of};
+ghost use Rattle.smap_record.specs.Views.{origin_seen};
+ghost use Rattle.smap_trace.specs.Frame as frame_spec;
+ghost use Rattle.smap_trace.specs.FrameView.{parts_in};
+ghost use Rattle.smap_trace.specs.Translation as spec;
+ghost use Rattle.smap_trace.specs.Translation.{AreDistinct};
+ghost use Rattle.smap_trace.specs.Views.{outcome_of, scripts_in};
+
+use crate::frames::frame;
+use crate::lookups::mapping_of;
+use crate::outcome::LineOutcome;
+use crate::parts::Frame;
+use crate::scripts::{Listed, Maps};
+use itoa::Buffer;
+use smap_mappings::Memory;
+use smap_record::{OriginalView, SourceMap};
+use std::alloc::AllocError;
+
+/// Appends the frame's parts with another position. Without memory a front of that is appended.
+fn push_frame(
+    out: &mut Vec<u8>,
+    frame: &Frame,
+    url: &str,
+    line: u64,
+    column: u64,
+    feed: &[u8],
+) -> Result<(), AllocError>
+    ensures ok { OnOk result (out.new.items ≡ out.old.items ++ (frame.now.before.now
+        ++ frame_spec.position url.now line column ++ frame.now.after.now ++ feed.now)) }
+    ensures err { OnErr result (StartsWith out.new.items out.old.items) }
+{
+    out.extend_from_slice(frame.before)?;
+    out.extend_from_slice(url.as_bytes())?;
+    out.extend_from_slice(b":")?;
+    out.extend_from_slice(Buffer::new().format(line).as_bytes())?;
+    out.extend_from_slice(b":")?;
+    out.extend_from_slice(Buffer::new().format(column).as_bytes())?;
+    out.extend_from_slice(frame.after)?;
+    out.extend_from_slice(feed)
+}
+
+/// Appends the frame at a position of a source, which counts from 0, and the line feed where there is
+/// one; or leaves the bytes as they were.
+fn retell(
+    out: &mut Vec<u8>,
+    frame: &Frame,
+    url: &str,
+    line: u32,
+    column: u32,
+    feed: &[u8],
+) -> Result<(), AllocError>
+    ensures ok { OnOk result (out.new.items ≡ out.old.items ++ (frame.now.before.now
+        ++ frame_spec.position url.now (line + 1) (column + 1) ++ frame.now.after.now ++ feed.now)) }
+    ensures err { OnErr result (out.new.items ≡ out.old.items) }
+{
+    let len = out.len();
+    match push_frame(
+        out,
+        frame,
+        url,
+        u64::from(line) + 1,
+        u64::from(column) + 1,
+        feed,
+    ) {
+        Ok(()) => Ok(()),
+        Err(e) => {
+            out.truncate(len);
+            Err(e)
+        }
+    }
+}
+
+/// Where the frame's position comes from.
+fn origin<'a>(map: &'a SourceMap, frame: &Frame) -> Option<OriginalView<'a>>
+    requires { (0 < frame.now.line) × (0 < frame.now.column) }
+    ensures { option_map origin_seen result ≡ spec.origin_at (record_of map.now) (parts_in frame.now) }
+{
+    mapping_of(map, frame.line - 1, frame.column - 1)?.original
+}
+
+/// Appends the translation of a line whose frame was found, and whose script has this map; or leaves the
+/// bytes as they were.
+fn translate_frame(
+    line: &[u8],
+    frame: &Frame,
+    feed: &[u8],
+    map: &SourceMap,
+    hide: bool,
+    out: &mut Vec<u8>,
+) -> Result<LineOutcome, AllocError>
+    requires places { (0 < frame.now.line) × (0 < frame.now.column) }
+    requires feed { feed.now ≡ spec.feed_of line.now }
+    ensures ok { OnOk result (out.new.items ≡ out.old.items
+        ++ spec.written (spec.fate_in hide (parts_in frame.now) (record_of map.now)) line.now) }
+    ensures err { OnErr result (out.new.items ≡ out.old.items) }
+    ensures outcome { IfOk result (λ o. o
+        ≡ outcome_of (spec.fate_in hide (parts_in frame.now) (record_of map.now))) }
+{
+    let Some(origin) = origin(map, frame) else {
+        out.extend_from_slice(line)?;
+        return Ok(LineOutcome::Kept);
+    };
+    if hide && origin.source.ignored {
+        return Ok(LineOutcome::Dropped);
+    }
+    let Some(url) = origin.source.url else {
+        out.extend_from_slice(line)?;
+        return Ok(LineOutcome::Kept);
+    };
+    retell(out, frame, url, origin.line, origin.column, feed)?;
+    Ok(LineOutcome::Translated)
+}
+
+/// Appends the translation of a line by the maps that are found, or leaves the bytes as they were.
+pub(crate) fn translate_by<M: Maps>(
+    line: &[u8],
+    maps: &M,
+    hide: bool,
+    out: &mut Vec<u8>,
+) -> Result<LineOutcome, AllocError>
+    ensures ok { OnOk result (out.new.items ≡ out.old.items
+        ++ spec.line_translation (M.scripts maps.now) hide line.now) }
+    ensures err { OnErr result (out.new.items ≡ out.old.items) }
+    ensures outcome { IfOk result (λ o. o ≡ outcome_of (spec.fate (M.scripts maps.now) hide line.now)) }
+{
+    let (text, feed) = cut_feed(line);
+    if let Some(frame) = frame(text) {
+        if let Some(map) = maps.map_of(frame.url) {
+            return translate_frame(line, &frame, feed, map, hide, out);
+        }
+    }
+    out.extend_from_slice(line)?;
+    Ok(LineOutcome::Kept)
+}
+
+/// The line without its line feed, and the line feed where it has one.
+fn cut_feed<'a>(line: &'a [u8]) -> (&'a [u8], &'a [u8])
+    ensures text { result.0.now ≡ spec.without_line_feed line.now }
+    ensures feed { result.1.now ≡ spec.feed_of line.now }
+{
+    if line.ends_with(b"\n") {
+        (&line[..line.len() - 1], b"\n")
+    } else {
+        (line, &[])
+    }
+}
+
+/// Appends the translation of a line, and answers what became of it.
+///
+/// The line has its line feed, where it has one. Where it is a frame whose URL is a script's, byte for
+/// byte, and the script's map has a mapping there with an original: the line is dropped if `hide` is set
+/// and the original's source is ignored; else, if that source has a URL, the frame's position becomes
+/// the original's. Every other line is kept byte for byte, also one that holds a line feed before its
+/// end. It asks that no two scripts have one URL, which [`distinct_scripts`] tests. It goes through the
+/// scripts one by one, and a lookup's probes are few.
+///
+/// [`distinct_scripts`]: crate::distinct_scripts
+///
+/// # Errors
+///
+/// `Memory` where `out` finds no room; its bytes are then what they were.
+pub fn translate_line(
+    line: &[u8],
+    scripts: &[(&str, &SourceMap)],
+    hide: bool,
+    out: &mut Vec<u8>,
+) -> Result<LineOutcome, Memory>
+    requires { AreDistinct (scripts_in scripts.now) }
+    ensures ok { OnOk result (out.new.items ≡ out.old.items
+        ++ spec.line_translation (scripts_in scripts.now) hide line.now) }
+    ensures err { OnErr result (out.new.items ≡ out.old.items) }
+    ensures outcome { IfOk result (λ o. o ≡ outcome_of (spec.fate (scripts_in scripts.now) hide line.now)) }
+{
+    match translate_by(line, &Listed { scripts }, hide, out) {
+        Ok(outcome) => Ok(outcome),
+        Err(_) => Err(Memory),
+    }
+}
+
+#[cfg(test)]
+mod tests;

@@ -1,0 +1,77 @@
+//! The mapping that a position falls to.
+ghost use Rattle.std.specs.Prelude.{◌≡◌, ◌<◌, ℕ, length, map, option_map, slice_get, Some};
+ghost use Rattle.std.specs.Prelude.{IfSome};
+ghost use Rattle.smap_record.specs.Fitting.{mapping_position};
+ghost use Rattle.smap_record.specs.Record.{record_of};
+ghost use Rattle.smap_record.specs.Views.{entry_seen, mapping_seen};
+ghost use Rattle.smap_trace.specs.Lookup.{FallsTo, mapping_at};
+ghost use Rattle.smap_trace.specs.Positions.{IsWithinBinaryDigits};
+
+use crate::searching::{Positions, search};
+use smap_record::{SourceMap, TokenView};
+
+/// The positions of a map's mappings, and how many were asked for.
+#[derive(Drop)]
+struct Places<'a> {
+    map: &'a SourceMap,
+    probes: u32,
+}
+
+impl Positions for Places<'_> {
+    ghost positions = { λ s. map mapping_position (record_of s.map.now).mappings };
+
+    ghost probes = { λ s. s.probes };
+
+    fn len(&self) -> usize {
+        self.map.token_count()
+    }
+
+    fn at(&mut self, i: usize) -> (u32, u32) {
+        self.probes += 1;
+        let token = self.map.token(i);
+        (token.line, token.column)
+    }
+}
+
+/// The mapping that a generated position falls to: the last of that line, in the map's order, whose
+/// column isn't greater; nothing where there is none, also if an earlier line has mappings. Line and
+/// column count from 0. It takes no memory.
+///
+/// The second answer is the number of probes; a probe compares one mapping's position with the asked
+/// one. There are at most as many as `token_count` has binary digits, and 0 only for an empty map.
+pub fn lookup<'a>(map: &'a SourceMap, line: u32, column: u32) -> (Option<TokenView<'a>>, u32)
+    ensures found { FallsTo (record_of map.now).mappings line column (option_map mapping_seen result.0) }
+
+    // The number of its source is that of `source`.
+    ensures number { IfSome result.0 (λ t. IfSome t.original (λ o.
+        slice_get (record_of map.now).sources o.source_number ≡ Some (entry_seen o.source))) }
+
+    ensures most { IsWithinBinaryDigits result.1 (length (record_of map.now).mappings) }
+    ensures least { 0 < length (record_of map.now).mappings → 0 < result.1 }
+{
+    // What this call promises besides the count: the positions of a map's mappings never fall.
+    let _ = map.token_count();
+    let mut places = Places { map, probes: 0 };
+    let n = search(&mut places, line, column);
+    let found = if n > 0 {
+        let token = map.token(n - 1);
+        if token.line == line {
+            Some(token)
+        } else {
+            None
+        }
+    } else {
+        None
+    };
+    (found, places.probes)
+}
+
+/// The mapping alone.
+pub(crate) fn mapping_of<'a>(map: &'a SourceMap, line: u32, column: u32) -> Option<TokenView<'a>>
+    ensures { option_map mapping_seen result ≡ mapping_at (record_of map.now).mappings line column }
+{
+    lookup(map, line, column).0
+}
+
+#[cfg(test)]
+mod tests;

@@ -1,0 +1,62 @@
+//! Search in a list of positions that never fall, by halving.
+ghost use Rattle.std.specs.Prelude.{◌≡◌, ℕ, ◌+◌, ◌<◌, ◌≤◌, List, length, slice_get, Some};
+ghost use Rattle.smap_mappings.specs.Position.{Position, NeverFalls};
+ghost use Rattle.smap_trace.specs.Positions.{count_at_most, is_at_most, position_in};
+ghost use Rattle.smap_trace.specs.Positions.{IsWithinBinaryDigits};
+
+/// A list of positions, each a line and a column, and a count of how often one was asked for.
+pub trait Positions {
+    // the list
+    ghost positions: { Self → List Position };
+
+    // the count
+    ghost probes: { Self → ℕ };
+
+    /// How many positions there are.
+    fn len(&self) -> usize
+        ensures { result ≡ length (positions self.now) };
+
+    /// The position at `i`. The count rises by one, and nothing else changes. It asks that `i` is below
+    /// `len` and the count below 4,294,967,295.
+    fn at(&mut self, i: usize) -> (u32, u32)
+        requires within { i < length (positions self.old) }
+        requires room { probes self.old < 4294967295 }
+        ensures value { slice_get (positions self.old) i ≡ Some (position_in result) }
+        ensures list { positions self.new ≡ positions self.old }
+        ensures count { probes self.new ≡ probes self.old + 1 };
+}
+
+/// Whether `p` is not behind `q`.
+fn is_at_most(p: (u32, u32), q: (u32, u32)) -> bool
+    ensures { result ≡ is_at_most (position_in p) (position_in q) }
+{
+    p.0 < q.0 || (p.0 == q.0 && p.1 <= q.1)
+}
+
+/// How many positions are not behind this one, where positions never fall and none was asked for yet.
+/// The list stays; the count is then at most the number of binary digits of `len`, and at least 1 where
+/// `len` isn't 0.
+pub fn search<P: Positions>(p: &mut P, line: u32, column: u32) -> usize
+    requires sorted { NeverFalls (P.positions p.old) }
+    requires none { P.probes p.old ≡ 0 }
+    ensures count { result ≡ count_at_most (P.positions p.old) (position_in (line, column)) }
+    ensures list { P.positions p.new ≡ P.positions p.old }
+
+    ensures most { IsWithinBinaryDigits (P.probes p.new) (length (P.positions p.old)) }
+    ensures least { 0 < length (P.positions p.old) → 0 < P.probes p.new }
+{
+    // What stands before `low` is not behind, what stands from `low + size` on is.
+    let mut low = 0;
+    let mut size = p.len();
+    while size > 0 {
+        let half = size / 2;
+        let middle = low + half;
+        if is_at_most(p.at(middle), (line, column)) {
+            low = middle + 1;
+            size = size - half - 1;
+        } else {
+            size = half;
+        }
+    }
+    low
+}

@@ -1,0 +1,4 @@
+pub mod RangeLemmas
+pub mod RowLemmas
+pub mod ValueLemmas
+pub mod WordsLemmas
