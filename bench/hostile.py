@@ -3,25 +3,45 @@
     python3 bench/hostile.py crates/smap/out/smap
     python3 bench/hostile.py crates/smap/out/smap --only sections
     python3 bench/hostile.py crates/smap/out/smap --into docs/PERFORMANCE.md
+    python3 bench/hostile.py crates/smap/out/smap --once
 
-Each input is long in one respect, and its answer is made beside it, without the program. Prints the processor
-time and the peak memory at the largest size, and the exponent of growth from an eighth of it: time goes with
-the bytes that are read and written to that power. The last line says how many answers were wrong. With --into
-the table is put between the two lines of that file that hold `figures of hostile.py`. A command that the program
-doesn't have is left out.
+Each input is long or deep in one respect, and its answer is made beside it, without the program. Prints the
+processor time and the peak memory at the largest size, and the exponent of growth from an eighth of it: time
+goes with the bytes that are read and written to that power. The last line says how many answers were wrong.
+With --into the table is put between the two lines of that file that hold `figures of hostile.py`. A command
+that the program doesn't have is left out.
+
+With --once each input is run at its largest size alone, and the run has to keep to what docs/PERFORMANCE.md
+states of it. It passes where the answer is right, the processor time is at most ten times that of the table
+and a second more, and in any case at most 60 seconds, and the peak memory is at most one and a half times
+that of the table and 8 MB more. An input without figures there fails, and so does a command that the program
+doesn't have; a run that passes its 60 seconds is ended. What failed is told with the reason, and the last
+line is `N passed, N failed`.
 """
 
 import argparse
 import json
+import math
+import resource
 import sys
 import tempfile
 from pathlib import Path
 
 from make_map import BASE, SCRIPT, difference, spelled
-from measure import exponent, has_command, put_into, run, words_of
+from measure import exponent, has_command, put_into, run, starter, words_of
 
 HERE = BASE.rpartition("/")[0] + "/"
 GREATEST = 2**31 - 1
+
+# How deep lists and objects may stand in one another in a JSON text, and index maps.
+DEEPEST = 127
+MOST_INDEX_MAPS = 8
+
+HEAD = "| command | input | MB read and written | time, ms | memory, MB | exponent |\n" + "|---" * 6 + "|"
+
+# Where the table stands that says what a run takes, and the time that none may pass.
+FIGURES = Path(__file__).resolve().parent.parent / "docs" / "PERFORMANCE.md"
+MOST_SECONDS = 60
 
 
 def compact(tree):
@@ -158,7 +178,8 @@ def every_source_ignored(n):
 
 
 def one_ignored_often(n):
-    return map_of(sources=["a", "b"], ignoreList=[1] * n), canonical(sources=[HERE + "a", HERE + "b"], ignored=[1])
+    sources = [HERE + "a", HERE + "b"]
+    return map_of(sources=["a", "b"], ignoreList=[1] * n), canonical(sources=sources, ignored=[1])
 
 
 def sections_at(offsets, mappings):
@@ -191,6 +212,59 @@ def sections_of_one_source(n):
     return compact({"version": 3, "sections": sections}), canonical(
         "AAAAA" + ";AAAAA" * (n - 1), ["n"], [HERE + "a.js"]
     )
+
+
+def sections_in_the_first_section(n):
+    """The first section holds an index map of as many sections as the map has."""
+    inner = json.loads(sections_at([(i, 0) for i in range(n)], "A"))
+    outer = json.loads(sections_at([(0, 0)] + [(n + i, 0) for i in range(n - 1)], "A"))
+    outer["sections"][0]["map"] = inner
+    return compact(outer), canonical(";".join(["A"] * (2 * n - 1)))
+
+
+def sections_of_sections(n):
+    """As many as each of them has, all on one line, where the columns of both levels are added up."""
+    side = math.isqrt(n)
+    inner = json.loads(sections_at([(0, i) for i in range(side)], "A"))
+    outer = json.loads(sections_at([(0, i * side) for i in range(side)], ""))
+    for section in outer["sections"]:
+        section["map"] = inner
+    return compact(outer), canonical(",".join(["A"] + ["C"] * (side * side - 1)))
+
+
+def if_not_too_deep(levels, output):
+    return output if levels <= DEEPEST else refused("not json")
+
+
+def lists(n):
+    return "[" * n + "]" * n
+
+
+def lists_in_sections(n):
+    output = canonical() if n == 1 else refused("section 0: not an object")
+    return '{"version":3,"sections":' + lists(n) + "}", if_not_too_deep(n + 1, output)
+
+
+def lists_in_sources(n):
+    output = canonical() if n == 1 else refused("sources")
+    return '{"version":3,"mappings":"","sources":' + lists(n) + "}", if_not_too_deep(n + 1, output)
+
+
+def lists_in_an_ignored_member(n):
+    return '{"version":3,"mappings":"","x":' + lists(n) + "}", if_not_too_deep(n + 1, canonical())
+
+
+def objects_in_an_ignored_member(n):
+    text = '{"version":3,"mappings":"","x":' + '{"a":' * n + "0" + "}" * n + "}"
+    return text, if_not_too_deep(n + 1, canonical())
+
+
+def index_maps_in_one_another(n):
+    """Each of them takes three levels: its object, its list, and the section."""
+    front = '{"version":3,"sections":[{"offset":{"line":0,"column":0},"map":'
+    deepest = ".".join(["0"] * MOST_INDEX_MAPS)
+    output = canonical() if n <= MOST_INDEX_MAPS else refused(f"section {deepest}: nested sections")
+    return front * n + map_of() + "}]}" * n, if_not_too_deep(3 * n + 1, output)
 
 
 def listed_sections(n):
@@ -280,6 +354,13 @@ def long_column_number(n):
     return kept(f"    at f ({SCRIPT}:1:" + "1" * n + ")\n")
 
 
+def long_numbers_in_frames(n):
+    """As line and as column, in the frames of both browsers, too large or with zeros in front."""
+    numbers = ["1" * n, "0" * n + "1"]
+    places = [f"{SCRIPT}:{x}:1" for x in numbers] + [f"{SCRIPT}:1:{x}" for x in numbers]
+    return kept("".join(f"    at f ({p})\n    at {p}\n    at async {p}\nf@{p}\n" for p in places))
+
+
 def many_colons(n):
     return kept("    at f (" + ":" * n + ")\n@" + ":1" * n + "x\n")
 
@@ -337,6 +418,18 @@ ROWS = [
     ("tidy", 10_000, sections_at_one_offset),
     ("tidy", 10_000, sections_far_out),
     ("tidy", 10_000, sections_of_one_source),
+    ("tidy", 10_000, sections_in_the_first_section),
+    ("tidy", 10_000, sections_of_sections),
+    ("tidy", 126, lists_in_sections),
+    ("tidy", 127, lists_in_sections),
+    ("tidy", 126, lists_in_sources),
+    ("tidy", 127, lists_in_sources),
+    ("tidy", 126, lists_in_an_ignored_member),
+    ("tidy", 127, lists_in_an_ignored_member),
+    ("tidy", 126, objects_in_an_ignored_member),
+    ("tidy", 127, objects_in_an_ignored_member),
+    ("tidy", 42, index_maps_in_one_another),
+    ("tidy", 43, index_maps_in_one_another),
     ("tidy", 1_000_000, equal_members),
     ("tidy", 1_000_000, other_members),
     ("tidy", 1_000_000, long_fraction),
@@ -353,6 +446,7 @@ ROWS = [
     ("translate", 8_000_000, empty_trace_lines),
     ("translate", 8_000_000, long_line_number),
     ("translate", 8_000_000, long_column_number),
+    ("translate", 1_000_000, long_numbers_in_frames),
     ("translate", 8_000_000, many_colons),
     ("translate", 1_000_000, many_brackets),
     ("translate", 8_000_000, many_at_signs),
@@ -372,35 +466,99 @@ def answered(program, command, make, size, folder):
     return source.stat().st_size + len(expected), seconds, memory, right
 
 
-def main():
-    parser = argparse.ArgumentParser(description=__doc__, formatter_class=argparse.RawDescriptionHelpFormatter)
-    parser.add_argument("program", help="the built program")
-    parser.add_argument("--only", default="", help="a part of the names of the inputs that are run")
-    parser.add_argument("--into", help="a file to put the table into")
-    options = parser.parse_args()
-    lines = ["| command | input | MB read and written | time, ms | memory, MB | exponent |", "|---|---|---|---|---|---|"]
-    print("\n".join(lines), flush=True)
+def label_of(size, make):
+    """What a row is called in the table."""
+    return f"{make.__name__.replace('_', ' ')}, {size:,}"
+
+
+def rows_of(part):
+    """The rows with this part of a name, each with its label."""
+    rows = [(command, size, make, label_of(size, make)) for command, size, make in ROWS]
+    return [row for row in rows if part.replace("_", " ") in row[3].rpartition(", ")[0]]
+
+
+def figures_in(path):
+    """The seconds and the memory in MB that a file's tables state, by the command and the label."""
+    stated = {}
+    for line in Path(path).read_text(encoding="utf-8").split("\n"):
+        cells = [cell.strip() for cell in line.strip("|").split("|")]
+        if len(cells) == 6 and cells[3].isdigit() and cells[4].isdigit():
+            stated[cells[0].strip("`"), cells[1]] = float(cells[3]) / 1e3, float(cells[4])
+    return stated
+
+
+def faults_of(right, seconds, memory, stated):
+    """What is wrong with a run, in words."""
+    if not right:
+        yield "another answer"
+    if stated is None:
+        yield f"no figures of it in {FIGURES.name}"
+        return
+    most_seconds = min(10 * stated[0] + 1, MOST_SECONDS)
+    most_memory = 1.5 * stated[1] + 8
+    if seconds > most_seconds:
+        yield f"{seconds:.1f} s, and not {most_seconds:.1f} s at most"
+    if memory > most_memory:
+        yield f"{memory:.0f} MB, and not {most_memory:.0f} MB at most"
+
+
+def run_once(program, part):
+    """Runs each input at its largest size, tells what fails, and answers how many did."""
+    resource.prlimit(starter().pid, resource.RLIMIT_CPU, (MOST_SECONDS + 1, MOST_SECONDS + 1))
+    stated = figures_in(FIGURES)
+    rows = rows_of(part)
+    failed = 0
+    with tempfile.TemporaryDirectory() as folder:
+        for command, size, make, label in rows:
+            if has_command(program, command):
+                _, seconds, memory, right = answered(program, command, make, size, Path(folder))
+                faults = list(faults_of(right, seconds, memory, stated.get((command, label))))
+            else:
+                faults = ["the program doesn't have this command"]
+            if faults:
+                failed += 1
+                print(f"FAILED: {command}: {label}: {'; '.join(faults)}", flush=True)
+    print(f"{len(rows) - failed} passed, {failed} failed")
+    return failed
+
+
+def run_at_four_sizes(program, part, into):
+    """Prints the table, and answers how many rows were answered wrongly."""
+    lines = [HEAD]
+    print(HEAD, flush=True)
     wrong = 0
     with tempfile.TemporaryDirectory() as folder:
-        for command, size, make in ROWS:
-            name = make.__name__.replace("_", " ")
-            if options.only.replace("_", " ") not in name:
+        for command, size, make, label in rows_of(part):
+            if not has_command(program, command):
+                print(f"{command}, {label}: the program doesn't have this command", file=sys.stderr)
                 continue
-            if not has_command(options.program, command):
-                print(f"{command}, {name}: the program doesn't have this command", file=sys.stderr)
-                continue
-            seen = [answered(options.program, command, make, size * k // 8, Path(folder)) for k in (1, 2, 4, 8)]
+            seen = [answered(program, command, make, size * k // 8, Path(folder)) for k in (1, 2, 4, 8)]
             if not all(right for _, _, _, right in seen):
                 wrong += 1
-                print(f"{command}, {name}: WRONG", file=sys.stderr)
+                print(f"{command}, {label}: WRONG", file=sys.stderr)
             (small, before, _, _), (large, seconds, memory, _) = seen[0], seen[-1]
             grows = exponent((small, before), (large, seconds))
             figures = f"{large / 1e6:.1f} | {seconds * 1e3:.0f} | {memory:.0f} | {grows:.2f} |"
-            lines.append(f"| `{command}` | {name}, {size:,} | {figures}")
+            lines.append(f"| `{command}` | {label} | {figures}")
             print(lines[-1], flush=True)
     print(f"{wrong} wrong", file=sys.stderr)
-    if options.into:
-        put_into(options.into, "figures of hostile.py", "\n".join(lines))
+    if into:
+        put_into(into, "figures of hostile.py", "\n".join(lines))
+    return wrong
+
+
+def main():
+    raw = argparse.RawDescriptionHelpFormatter
+    parser = argparse.ArgumentParser(description=__doc__, formatter_class=raw)
+    parser.add_argument("program", help="the built program")
+    parser.add_argument("--only", default="", help="a part of the names of the inputs that are run")
+    parser.add_argument("--into", help="a file to put the table into")
+    parser.add_argument("--once", action="store_true", help="run each input once, and hold it to the table")
+    options = parser.parse_args()
+    if options.once:
+        wrong = run_once(options.program, options.only)
+    else:
+        wrong = run_at_four_sizes(options.program, options.only, options.into)
     return 1 if wrong else 0
 
 

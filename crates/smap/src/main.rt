@@ -1,13 +1,13 @@
 //! The program `smap`: the words of its command line as a task, the task's run over the standard
-//! streams, and the status that the run ends with. What each run reads and writes is `smap_tool`'s;
-//! nothing else is done here.
+//! streams, and the status that the run ends with. What each run reads and writes is `smap_tool`'s.
+//! Standard input stands behind a buffer, since a bundle's headers are read byte by byte.
 #![tactic(auto)]
 
 use smap_io::Device;
 use smap_tool::{RunFault, WordsFault, run, status, task_of};
 use std::alloc::{AllocError, Global};
 use std::env;
-use std::io::{self, ErrorKind};
+use std::io::{self, BufReader, ErrorKind};
 use std::process::ExitCode;
 use std::rt::Env;
 
@@ -54,7 +54,11 @@ fn main(rt: HostRuntime) -> ExitCode {
     };
     match task_of(rt.alloc(), words.as_slice()) {
         Ok(task) => {
-            let mut reader = Device::new(rt.reader());
+            let Ok(input) = BufReader::new(rt.alloc(), rt.reader()) else {
+                let _ = eprint!(rt; "{OUT_OF_MEMORY}");
+                return ExitCode::from(4);
+            };
+            let mut reader = Device::new(input);
             let mut writer = Device::new(io::writer(&rt));
             let answer = run(rt.alloc(), task, &mut reader, &mut writer);
             if let Err(fault) = answer {

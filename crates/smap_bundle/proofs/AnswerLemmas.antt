@@ -13,7 +13,8 @@ use Rattle.smap_run.specs.FaultLine.{fault_words}
 use Rattle.smap_run.specs.declared.input.TheConstants.{LIMIT}
 use Rattle.smap_trace.specs.Translation.{AreDistinct, Script, translation}
 use Rattle.smap_bundle.specs.Header.{BeginsWithHeader, HasNoHeader, trace_line}
-use Rattle.smap_bundle.specs.Bundle.{Answer, AreEntries, EntryFault, FaultAt, IsEntry, MapFault, Where, done, map_line, refused, usual}
+use Rattle.smap_run.specs.Run.{usual}
+use Rattle.smap_bundle.specs.Bundle.{Answer, AreEntries, EntryFault, FaultAt, IsEntry, MapFault, Where, done, map_line, refused}
 use Rattle.smap_bundle.specs.Entries.{IsNew}
 use Rattle.smap_bundle.specs.Laws.{OneAnswer}
 use Rattle.smap_bundle.proofs.EntryLemmas.{behind, ok_isnt}

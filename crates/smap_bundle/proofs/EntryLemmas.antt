@@ -15,7 +15,8 @@ use Rattle.smap_run.specs.declared.input.TheConstants.{LIMIT}
 use Rattle.smap_trace.specs.Frame.{lacks}
 use Rattle.smap_trace.specs.Translation.{AreDistinct, Script}
 use Rattle.smap_bundle.specs.Header.{BeginsWithHeader, HasNoHeader, IsHeader, longest_header, trace_line}
-use Rattle.smap_bundle.specs.Bundle.{Answer, Answers, AreEntries, EntryFault, FaultAt, IsEntry, MapFault, usual}
+use Rattle.smap_run.specs.Run.{usual}
+use Rattle.smap_bundle.specs.Bundle.{Answer, Answers, AreEntries, EntryFault, FaultAt, IsEntry, MapFault}
 use Rattle.smap_bundle.specs.Entries.{IsNew, TakesEntry, TakesMap, cut_off, refused_words}
 use Rattle.smap_bundle.specs.Reading.{IsLine, MayFollow}
 use Rattle.smap_bundle.proofs.TextLemmas.{lacks_rest, no_end_within, one_cut}

@@ -7,17 +7,14 @@ use Rattle.url.specs.Parser.{parse_url}
 use Rattle.url.specs.Parts.{Parts}
 use Rattle.smap_record.specs.declared.fault.Fault.{Fault}
 use Rattle.smap_record.specs.Reading.{reading}
-use Rattle.smap_record.specs.Record.{Allowed, ReadMap, record_of}
+use Rattle.smap_record.specs.Record.{ReadMap, record_of}
 use Rattle.smap_trace.specs.Translation.{AreDistinct, Script, translation}
 use Rattle.smap_run.specs.FaultLine.{fault_words}
+use Rattle.smap_run.specs.Run.{usual}
 use Rattle.smap_run.specs.declared.input.TheConstants.{LIMIT}
 use Rattle.smap_bundle.specs.Header.{BeginsWithHeader, HasNoHeader, trace_line}
 
 -- ---- entries
-
--- the limits under which maps are read
-abbrev pub usual : Allowed
-usual = record { items = 16777216; lines = 16777216 }
 
 -- The text is an entry that isn't refused, and gives this script.
 pub record IsEntry (text : List ℕ) (script : Script) : Type 0 where

@@ -8,7 +8,8 @@ use Rattle.smap_record.specs.Record.{ReadMap, record_of}
 use Rattle.smap_trace.specs.Translation.{AreDistinct, Script}
 use Rattle.smap_run.specs.declared.input.TheConstants.{LIMIT}
 use Rattle.std.specs.Io.KnownBytes.{Consumes}
-use Rattle.smap_bundle.specs.Bundle.{Answer, AreEntries, IsEntry, map_line, refused, usual}
+use Rattle.smap_run.specs.Run.{usual}
+use Rattle.smap_bundle.specs.Bundle.{Answer, AreEntries, IsEntry, map_line, refused}
 use Rattle.smap_bundle.specs.Header.{trace_line}
 use Rattle.smap_bundle.specs.Reading.{Got}
 

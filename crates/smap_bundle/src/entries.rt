@@ -7,6 +7,7 @@ ghost use Rattle.smap_record.specs.Reading.{reading};
 ghost use Rattle.smap_record.specs.Record.{record_of};
 ghost use Rattle.smap_record.specs.declared.fault.Fault.{Fault};
 ghost use Rattle.smap_run.specs.FaultLine.{fault_words};
+ghost use Rattle.smap_run.specs.Run.{usual};
 ghost use Rattle.smap_trace.specs.Translation.{AreDistinct};
 ghost use Rattle.smap_bundle.specs.Bundle as bundle;
 ghost use Rattle.smap_bundle.specs.Entries.{TakesEntries, TakesEntry, TakesMap, IsNew, cut_off};
@@ -109,9 +110,9 @@ fn bytes_of<R: Read>(
 
 /// The next entry's map.
 fn map_of(alloc: Global, entry: usize, base: &Base, bytes: &[u8]) -> Result<SourceMap, Stop>
-    ensures map { IfOk result (λ m. reading base.now bundle.usual bytes.now ≡ Ok m) }
+    ensures map { IfOk result (λ m. reading base.now usual bytes.now ≡ Ok m) }
     ensures stops { IfErr result (Says (λ answer. (fault : Fault)
-        × (reading base.now bundle.usual bytes.now ≡ Err fault)
+        × (reading base.now usual bytes.now ≡ Err fault)
         × refused_words entry (fault_words fault) answer)) }
 {
     match SourceMap::from_slice(alloc, bytes, base, Limits::usual()) {

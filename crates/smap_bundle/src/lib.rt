@@ -12,8 +12,6 @@ pub mod laws;
 mod reading;
 mod stop;
 #[cfg(test)]
-mod testing;
-#[cfg(test)]
 mod tests;
 mod translate;
 

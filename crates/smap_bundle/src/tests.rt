@@ -1,9 +1,9 @@
 //! Whole bundles, as they come in and what goes out.
 use crate::entries::read_entries;
 use crate::run_translate;
-use crate::testing::{SlowReader, SlowWriter};
 use smap_io::Device;
 use smap_run::{Outcome, RunFault};
+use smap_testing::{SlowReader, SlowWriter};
 use std::process::Abort;
 use std::test::Fail;
 
@@ -17,14 +17,20 @@ const TIDY: &str =
 const IGNORED: &str = r#"{"version":3,"sources":["a.js"],"ignoreList":[0],"mappings":"AAUE,IAEA"}"#;
 
 const TRACE: &str =
-    "Error: x\n    at f (http://h/m/out.js:1:2)\n    at async http://h/m/out.js:1:5\ng@http://h/m/out.js:1:4\r\n    at eval (eval at f (http://h/m/out.js:1:2), <anonymous>:1:1)\n    at f (http://h/m/out.js:0:1)\n    at f (http://h/m/out.js:2:1)\n    at f (http://h/m/other.js:1:2)\n\n@http://h/m/out.js:1:2147483648";
+    "Error: x\n    at f (http://h/m/out.js:1:2)\n    at async http://h/m/out.js:1:5\n\
+    g@http://h/m/out.js:1:4\r\n    at eval (eval at f (http://h/m/out.js:1:2), <anonymous>:1:1)\n\
+    \x20   at f (http://h/m/out.js:0:1)\n    at f (http://h/m/out.js:2:1)\n\
+    \x20   at f (http://h/m/other.js:1:2)\n\n@http://h/m/out.js:1:2147483648";
 
-const TOLD: &str =
-    "Error: x\n    at f (http://h/m/a.js:11:3)\n    at async http://h/m/a.js:13:3\ng@http://h/m/a.js:11:3\r\n    at eval (eval at f (http://h/m/out.js:1:2), <anonymous>:1:1)\n    at f (http://h/m/out.js:0:1)\n    at f (http://h/m/out.js:2:1)\n    at f (http://h/m/other.js:1:2)\n\n@http://h/m/a.js:13:3";
+const TOLD: &str = "Error: x\n    at f (http://h/m/a.js:11:3)\n    at async http://h/m/a.js:13:3\n\
+    g@http://h/m/a.js:11:3\r\n    at eval (eval at f (http://h/m/out.js:1:2), <anonymous>:1:1)\n\
+    \x20   at f (http://h/m/out.js:0:1)\n    at f (http://h/m/out.js:2:1)\n\
+    \x20   at f (http://h/m/other.js:1:2)\n\n@http://h/m/a.js:13:3";
 
 /// The lines of the trace that stay where an ignored source is hidden.
-const KEPT: &str =
-    "Error: x\n    at eval (eval at f (http://h/m/out.js:1:2), <anonymous>:1:1)\n    at f (http://h/m/out.js:0:1)\n    at f (http://h/m/out.js:2:1)\n    at f (http://h/m/other.js:1:2)\n\n";
+const KEPT: &str = "Error: x\n    at eval (eval at f (http://h/m/out.js:1:2), <anonymous>:1:1)\n\
+    \x20   at f (http://h/m/out.js:0:1)\n    at f (http://h/m/out.js:2:1)\n\
+    \x20   at f (http://h/m/other.js:1:2)\n\n";
 
 /// One mapping to the start of `a.js`, and the same of `b.js`, of no source and of one that is ignored.
 const A: &str = r#"{"version":3,"sources":["a.js"],"mappings":"AAAA"}"#;
@@ -59,7 +65,7 @@ fn gives(
     let found = run_translate(rt.alloc(), hide, &mut reader, &mut writer);
     assert_eq!(rt; found, answer);
     let writer = writer.into_inner();
-    assert_eq!(rt; writer.written(), written.as_bytes());
+    assert_eq!(rt; writer.bytes.as_slice(), written.as_bytes());
     if answer.is_ok() {
         assert_eq!(rt; writer.flushes, 1);
         assert!(rt; !writer.written_behind_flush);
@@ -310,7 +316,7 @@ fn pieces_of_one_byte_change_nothing(rt: HostRuntime) -> Result<(), Fail> {
         run_translate(rt.alloc(), false, &mut reader, &mut writer),
         Ok(Outcome::Done)
     );
-    assert_eq!(rt; writer.into_inner().written(), TOLD.as_bytes());
+    assert_eq!(rt; writer.into_inner().bytes.as_slice(), TOLD.as_bytes());
     Ok(())
 }
 
@@ -327,7 +333,7 @@ fn failing(
     let answer = run_translate(rt.alloc(), false, &mut reader, &mut writer);
     assert_eq!(rt; reader.failures() > 0, answer == Err(RunFault::Read));
     assert_eq!(rt; writer.failures() > 0, answer == Err(RunFault::Write));
-    assert!(rt; whole.starts_with(writer.into_inner().written()));
+    assert!(rt; whole.starts_with(writer.into_inner().bytes.as_slice()));
     answer
 }
 

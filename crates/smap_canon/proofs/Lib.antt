@@ -15,3 +15,5 @@ pub mod SourceLemmas
 pub mod AsciiLemmas
 pub mod SamenessLemmas
 pub mod RoundTripLemmas
+pub mod TokenLemmas
+pub mod ReadBackLemmas

@@ -1,16 +1,14 @@
 -- What is written of sources, one by one.
-use Rattle.std.proofs.Common.{◌≡◌, ℕ, zero, suc, ◌+◌, ◌≤◌, List, [], ◌∷◌, ◌++◌, length, map, take, Option, Some, None, ap, refl, ◌∙◌, sym, Bool, true, false, cond, ◌||◌, slice_get, arith, append-nil}
+use Rattle.std.proofs.Common.{◌≡◌, ℕ, zero, suc, ◌+◌, List, [], ◌∷◌, ◌++◌, length, map, take, Option, Some, None, ap, refl, ◌∙◌, sym, Bool, true, false, cond, ◌||◌, slice_get, arith, append-nil}
 use Rattle.std.specs.Prelude.{is_some, option_copied}
 use denote.Ref.{Bor}
 use Rattle.std.specs.List.{list_any}
-use Rattle.std.proofs.lemmas.List.{length-take, take_all}
+use Rattle.std.proofs.lemmas.List.{length-take}
 use Rattle.std.proofs.lemmas.List.Folds.{list_any-append}
 use Rattle.std.proofs.lemmas.Option.{slice_get_within}
-use Rattle.serde_json.specs.Data.{Data, string}
-use Rattle.serde_json.specs.View.{view}
-use Rattle.serde_json.specs.declared.value.Value.{Value}
+use Rattle.serde_json.specs.Data.{string}
 use Rattle.smap_record.specs.Record.{Entry}
-use Rattle.smap_canon.specs.Layout.{ignored_from, has_content, whole_number, list_of, or_null, written_contents}
+use Rattle.smap_canon.specs.Layout.{ignored_from, has_content, whole_number, unless_empty}
 use Rattle.smap_canon.specs.Numbering.{texts_of}
 use Rattle.smap_canon.proofs.ListLemmas.{or-true}
 use Rattle.smap_record.proofs.ListLemmas.{take_next, map-push}
@@ -23,13 +21,6 @@ any-found p (y ∷ ys) (suc i) x at h = or-true (p y) (list_any p ys) (any-found
 pub is_some-copied : {A : Type 0} (o : Option (Bor A)) → is_some (option_copied o) ≡ is_some o
 is_some-copied None = refl
 is_some-copied (Some x) = refl
-
--- what was written is of all
-pub all_written : {A B C : Type 0} (f : A → C) (g : B → C) (xs : List A) (ys : List B) (i : ℕ) → map f xs ≡ map g (take i ys) → length ys ≤ i → map f xs ≡ map g ys
-all_written f g xs ys i done end = done ∙ ap (map g) (take_all i ys end)
-
-pub contents-written : (es : List Entry) (d : Data) → has_content es ≡ true → d ≡ list_of (map (λ e. or_null e.content) es) → Some d ≡ written_contents es
-contents-written es d some is = ap Some is ∙ sym (ap (λ b. cond b (Some (list_of (map (λ e. or_null e.content) es))) None) some)
 
 pub names-written : (ks : List (Bor (List ℕ))) → map (λ k. string k.now) ks ≡ map string (texts_of ks)
 names-written [] = refl
@@ -58,19 +49,29 @@ ignored_from-push i (x ∷ xs) e =
     by true rest = ap (λ ns. i ∷ ns) rest
     by false rest = rest
 
-ignored-next : (es : List Entry) (i : ℕ) (e : Entry) → slice_get es i ≡ Some e → ignored_from 0 (take (i + 1) es) ≡ ignored_from 0 (take i es) ++ cond e.ignored (i ∷ []) []
+pub ignored-next : (es : List Entry) (i : ℕ) (e : Entry) → slice_get es i ≡ Some e → ignored_from 0 (take (i + 1) es) ≡ ignored_from 0 (take i es) ++ cond e.ignored (i ∷ []) []
 ignored-next es i e at =
     let below = slice_get_within es i e at in
     let count : 0 + length (take i es) ≡ i = omega (arith, length-take i es, below) in
     ap (ignored_from 0) (take_next es i e at) ∙ ignored_from-push 0 (take i es) e ∙ ap (λ n. ignored_from 0 (take i es) ++ cond e.ignored (n ∷ []) []) count
 
-pub ignored-more : (items : List Value) (value : Value) (es : List Entry) (i : ℕ) (e : Entry) → map view items ≡ map whole_number (ignored_from 0 (take i es)) → slice_get es i ≡ Some e → e.ignored ≡ true → view value ≡ whole_number i
-    → map view (items ++ value ∷ []) ≡ map whole_number (ignored_from 0 (take (i + 1) es))
-ignored-more items value es i e done at flag is =
-    map-push view items value ∙ (λ j. done j ++ is j ∷ []) ∙ sym (map-push whole_number (ignored_from 0 (take i es)) i)
-    ∙ ap (map whole_number) (ap (λ b. ignored_from 0 (take i es) ++ cond b (i ∷ []) []) (sym flag) ∙ sym (ignored-next es i e at))
+pub ignored-more : (es : List Entry) (i : ℕ) (e : Entry) → slice_get es i ≡ Some e → e.ignored ≡ true
+    → map whole_number (ignored_from 0 (take (i + 1) es)) ≡ map whole_number (ignored_from 0 (take i es)) ++ whole_number i ∷ []
+ignored-more es i e at flag =
+    ap (map whole_number) (ignored-next es i e at ∙ ap (λ b. ignored_from 0 (take i es) ++ cond b (i ∷ []) []) flag) ∙ map-push whole_number (ignored_from 0 (take i es)) i
 
-pub ignored-same : (items : List Value) (es : List Entry) (i : ℕ) (e : Entry) → map view items ≡ map whole_number (ignored_from 0 (take i es)) → slice_get es i ≡ Some e → e.ignored ≡ false
-    → map view items ≡ map whole_number (ignored_from 0 (take (i + 1) es))
-ignored-same items es i e done at flag =
-    done ∙ ap (map whole_number) (sym (append-nil (ignored_from 0 (take i es))) ∙ ap (λ b. ignored_from 0 (take i es) ++ cond b (i ∷ []) []) (sym flag) ∙ sym (ignored-next es i e at))
+pub ignored-same : (es : List Entry) (i : ℕ) (e : Entry) → slice_get es i ≡ Some e → e.ignored ≡ false → ignored_from 0 (take (i + 1) es) ≡ ignored_from 0 (take i es)
+ignored-same es i e at flag = ignored-next es i e at ∙ ap (λ b. ignored_from 0 (take i es) ++ cond b (i ∷ []) []) flag ∙ append-nil (ignored_from 0 (take i es))
+
+pub ignored-found : (k : ℕ) (es : List Entry) (i : ℕ) (e : Entry) → slice_get es i ≡ Some e → e.ignored ≡ true → is_some (unless_empty (map whole_number (ignored_from k es))) ≡ true
+ignored-found k [] i e at h = cc
+ignored-found k (x ∷ xs) zero e at h = let is : x ≡ e = cc in by x.ignored (ap (λ (z : Entry). z.ignored) is ∙ h)
+  where
+    by : (b : Bool) → b ≡ true → is_some (unless_empty (map whole_number (cond b (k ∷ ignored_from (k + 1) xs) (ignored_from (k + 1) xs)))) ≡ true
+    by true t = refl
+    by false t = cc
+ignored-found k (x ∷ xs) (suc i) e at h = let rest = ignored-found (k + 1) xs i e at h in by x.ignored rest
+  where
+    by : (b : Bool) → is_some (unless_empty (map whole_number (ignored_from (k + 1) xs))) ≡ true → is_some (unless_empty (map whole_number (cond b (k ∷ ignored_from (k + 1) xs) (ignored_from (k + 1) xs)))) ≡ true
+    by true rest = refl
+    by false rest = rest

@@ -40,7 +40,8 @@ canonical_map r = record { file = r.file; listing = canonical_listing r }
 abbrev pub canonical_text : Record → List ℕ
 canonical_text r = layout_text absolute (canonical_map r)
 
--- The canonical bytes of a record in a form against a base. In the absolute form they are the same for all bases.
+-- The canonical bytes of a record in a form against a base. In the absolute form they are the same for all
+-- bases.
 abbrev pub canonical_text_in : Form → Parts → Record → List ℕ
 canonical_text_in form base r = layout_text (spelling_in form base) (canonical_map r)
 

@@ -16,14 +16,14 @@ pub record AreLimits (limits : Allowed) : Type 0 where
 abbrev pub ReadAs : Parts → Allowed → List ℕ → Record → Type 0
 ReadAs base limits bytes r = (m : ReadMap) × (reading base limits bytes ≡ Ok m) × (record_of m ≡ r)
 
--- Under each base and limits that the record fits, its canonical bytes are a map without fault, which has that
--- record.
+-- Under each base and limits that the record fits, its canonical bytes are a map without fault, which has
+-- that record.
 abbrev pub IsReadAgain : Record → Type 0
 IsReadAgain r = (base : Parts) (limits : Allowed) → Fits base limits r
     → ReadAs base limits (canonical_text r) r
 
--- Against this base, under each limits that the record fits, its canonical bytes in the relative form are a map without
--- fault, which has that record.
+-- Against this base, under each limits that the record fits, its canonical bytes in the relative form are a
+-- map without fault, which has that record.
 abbrev pub IsReadAgainFrom : Parts → Record → Type 0
 IsReadAgainFrom base r = (limits : Allowed) → Fits base limits r
     → ReadAs base limits (canonical_text_in relative_form base r) r
@@ -33,8 +33,8 @@ abbrev pub IsFlatReadAgain : ReadMap → Type 0
 IsFlatReadAgain m = (base : Parts) (limits : Allowed) → ListingFits base limits m.listing
     → reading base limits (flat_text m) ≡ Ok m
 
--- In each form, the canonical bytes of a record that fits a base and limits have, under these, no fault and the same
--- record.
+-- In each form, the canonical bytes of a record that fits a base and limits have, under these, no fault and
+-- the same record.
 abbrev pub CanonicalBytesAreAFixedPoint : Type 0
 CanonicalBytesAreAFixedPoint = (form : Form) (base : Parts) (limits : Allowed) (r : Record)
     → AreLimits limits → Fits base limits r

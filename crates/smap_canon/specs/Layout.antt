@@ -57,9 +57,9 @@ abbrev pub spelling_in : Form → Parts → List ℕ → List ℕ
 spelling_in absolute_form base = absolute
 spelling_in relative_form base = relatively base
 
--- The JSON object of a flat map with this file and listing (ECMA-426, source map format). Its members are in byte
--- order of their names. `file`, `ignoreList` and `sourcesContent` stand only where there is something to say, and
--- there is no `sourceRoot`. Each source's URL is spelled as the first argument says.
+-- The JSON object of a flat map with this file and listing (ECMA-426, source map format). Its members are in
+-- byte order of their names. `file`, `ignoreList` and `sourcesContent` stand only where there is something to
+-- say, and there is no `sourceRoot`. Each source's URL is spelled as the first argument says.
 unfoldable pub layout : (List ℕ → List ℕ) → ReadMap → Data
 layout spell m = object
     (optional_member (codes "file") (option_map string m.file)

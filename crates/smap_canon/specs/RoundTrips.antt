@@ -33,8 +33,8 @@ pub record IsFlattened (base : Parts) (limits : Allowed) (old new : List ℕ) : 
   pub accepted : reading base limits old ≡ Ok same_map
   pub still_accepted : reading base limits new ≡ Ok same_map
 
--- Whether the canonical bytes of two map texts in a form are equal, or the first fault of the first text that has
--- one.
+-- Whether the canonical bytes of two map texts in a form are equal, or the first fault of the first text that
+-- has one.
 abbrev pub equal_texts : Form → Parts → Allowed → List ℕ → List ℕ → Checked Bool
 equal_texts form base limits one other = do
   m ← reading base limits one

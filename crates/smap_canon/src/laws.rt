@@ -1,18 +1,18 @@
-//! What holds of canonical bytes, over the definitions alone. Each law is the contract of a function that does
-//! nothing.
+//! What holds of canonical bytes, over the definitions alone. Each law is the contract of a function that
+//! does nothing.
 //!
-//! Both have one premise beside those that they name: the compact text of the canonical tree reads back as that
-//! tree. `canonical` promises it of what it writes.
+//! Both have one premise beside those that they name: the compact text of the canonical tree reads back as
+//! that tree. `canonical` promises it of what it writes.
 ghost use Rattle.smap_canon.specs.Laws.{CanonicalBytesAreAFixedPoint, EqualBytesForEqualRecordsOnly};
 
-/// Canonical bytes are a fixed point: those of a record that fits a base and limits have, under these, no fault and
-/// the same record, of which they are the canonical bytes again.
+/// Canonical bytes are a fixed point: those of a record that fits a base and limits have, under these, no
+/// fault and the same record, of which they are the canonical bytes again.
 pub fn canonical_bytes_are_a_fixed_point()
     ensures { CanonicalBytesAreAFixedPoint }
 {}
 
-/// Equal bytes for equal records only: two records that fit a base and limits are equal exactly if their canonical
-/// bytes are.
+/// Equal bytes for equal records only: two records that fit a base and limits are equal exactly if their
+/// canonical bytes are.
 pub fn equal_bytes_for_equal_records_only()
     ensures { EqualBytesForEqualRecordsOnly }
 {}

@@ -1,5 +1,5 @@
-//! The mappings of a record by their places: sources by the record's numbers, names by first use. One pass over the
-//! mappings numbers the names and writes the mappings text.
+//! The mappings of a record by their places: sources by the record's numbers, names by first use. One pass
+//! over the mappings numbers the names and writes the mappings text.
 ghost use Rattle.std.specs.Prelude.{◌≡◌, ◌<◌, [], length, slice_get, replicate, bytes_eq};
 ghost use Rattle.std.specs.Prelude.{IfOk, OnOk, Some, option_map};
 ghost use Rattle.std.specs.List.{position_or_len};
@@ -18,8 +18,9 @@ use std::alloc::{AllocError, Global};
 /// Stands for the number of a listed name that no mapping has used yet.
 const UNUSED: u32 = u32::MAX;
 
-/// The names that were used so far, each once, in order of first use. Beside them stands, for each name that the map
-/// lists, its place among these, or `UNUSED`: so a name's text is looked up once, however many mappings use it.
+/// The names that were used so far, each once, in order of first use. Beside them stands, for each name that
+/// the map lists, its place among these, or `UNUSED`: so a name's text is looked up once, however many
+/// mappings use it.
 #[derive(Drop)]
 struct Names<'a> {
     used: IndexSet<&'a str>,
@@ -48,7 +49,8 @@ fn number_of<'a>(names: &mut Names<'a>, map: &'a SourceMap, listed: u32) -> Resu
     ensures numbers { OnOk result (AreNumbers
         map.now.listing.names (used_in names.new) names.new.numbers.items) }
     ensures number { IfOk result (λ n. Some n ≡ option_map
-        (λ name. position_or_len (bytes_eq name) (used_in names.new)) (slice_get map.now.listing.names listed)) }
+        (λ name. position_or_len (bytes_eq name) (used_in names.new))
+        (slice_get map.now.listing.names listed)) }
 {
     let number = names.numbers[listed as usize];
     if number != UNUSED {
@@ -119,14 +121,15 @@ pub(crate) struct Numbered<'a> {
     pub(crate) mappings: Vec<u8>,
 }
 
-/// Numbers the names and writes the mappings text in one pass over the mappings. No other list of them is made.
+/// Numbers the names and writes the mappings text in one pass over the mappings. No other list of them is
+/// made.
 pub(crate) fn number_mappings<'a>(alloc: Global, map: &'a SourceMap) -> Result<Numbered<'a>, Memory>
     ensures names { IfOk result (λ n. texts_of n.names.keys ≡ names_used (record_of map.now).mappings) }
     ensures mappings { IfOk result (λ n. n.mappings.items ≡ canonical_mappings_text (record_of map.now)) }
     ensures listing { OnOk result (IsListing map.now.listing) }
 {
     let mut names = no_names(alloc, map)?;
-    let mut encoder = Encoder::new(alloc);
+    let mut encoder = Encoder::with_capacity(alloc, map.token_count())?;
     for i in 0..map.token_count() {
         let token = token_by(&mut names, map, map.listed_token(i))?;
         encoder.push(token)?;

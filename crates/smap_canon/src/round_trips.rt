@@ -1,5 +1,5 @@
-//! Reading and writing put together: each function makes the public calls, and its contract says what they promise of
-//! each other.
+//! Reading and writing put together: each function makes the public calls, and its contract says what they
+//! promise of each other.
 ghost use Rattle.std.specs.Prelude.{IfOk};
 ghost use Rattle.smap_record.specs.Answers.{Gives};
 ghost use Rattle.smap_canon.specs.Layout.{absolute_form, relative_form};
@@ -12,8 +12,8 @@ use std::alloc::Global;
 
 /// The canonical bytes of a map text, or its first fault.
 ///
-/// Under the same base and limits they are accepted with the same record, and tidied once more they stay as they
-/// are.
+/// Under the same base and limits they are accepted with the same record, and tidied once more they stay as
+/// they are.
 pub fn tidied(
     alloc: Global,
     bytes: &[u8],
@@ -32,8 +32,8 @@ pub fn tidied(
 
 /// The canonical bytes of a map text in the relative form, or its first fault.
 ///
-/// Under the same base and limits they are accepted with the same record, and tidied once more they stay as they
-/// are.
+/// Under the same base and limits they are accepted with the same record, and tidied once more they stay as
+/// they are.
 pub fn tidied_relative(
     alloc: Global,
     bytes: &[u8],
@@ -69,8 +69,8 @@ pub fn flattened(
     Ok(text)
 }
 
-/// Whether two map texts have the same canonical bytes under one base and limits: exactly if their records are
-/// equal.
+/// Whether two map texts have the same canonical bytes under one base and limits: exactly if their records
+/// are equal.
 ///
 /// Where one of them has a fault, the first fault of the first that has one is answered.
 pub fn have_equal_bytes(
@@ -80,7 +80,8 @@ pub fn have_equal_bytes(
     base: &Base,
     limits: Limits,
 ) -> Result<bool, ReadError>
-    ensures gives { Gives (λ equal. equal) result (equal_texts absolute_form base.now limits one.now other.now) }
+    ensures gives { Gives (λ equal. equal) result
+        (equal_texts absolute_form base.now limits one.now other.now) }
     ensures tells { IfOk result (TellsTexts base.now limits one.now other.now) }
 {
     let first = SourceMap::from_slice(alloc, one, base, limits)?;

@@ -69,8 +69,8 @@ fn same_mappings(a: &SourceMap, b: &SourceMap) -> bool
 
 /// Whether the two records are equal: the file, the sources in their order, and the mappings in theirs.
 ///
-/// How the sources and names are listed makes no difference. Each source is compared once, with its content, and
-/// each mapping by its numbers and its name's text. Takes no memory.
+/// How the sources and names are listed makes no difference. Each source is compared once, with its content,
+/// and each mapping by its numbers and its name's text. Takes no memory.
 pub fn same(a: &SourceMap, b: &SourceMap) -> bool
     ensures { IsTrue result ↔ (record_of a.now ≡ record_of b.now) }
 {

@@ -1,6 +1,6 @@
 //! Which call a name stands for.
 
-use crate::{codec, maps, runs, traces};
+use crate::{codec, maps, traces, words};
 use smap_mappings::Memory;
 use std::alloc::Global;
 
@@ -14,9 +14,9 @@ pub(crate) fn said(alloc: Global, text: &[u8]) -> Answer {
     Ok(out)
 }
 
-/// The answer of the call with this name on a text.
-pub(crate) fn answer_of(alloc: Global, call: &str, text: &[u8]) -> Answer {
-    match call {
+/// The answer of the call with this name on a text, where there is such a call.
+pub(crate) fn answer_of(alloc: Global, call: &str, text: &[u8]) -> Option<Answer> {
+    let answer = match call {
         "decode" => codec::decoded(alloc, text),
         "pieces" => codec::in_pieces(alloc, text),
         "encode" => codec::encoded(alloc),
@@ -28,7 +28,8 @@ pub(crate) fn answer_of(alloc: Global, call: &str, text: &[u8]) -> Answer {
         }
         "translate_line" => traces::line(alloc, text),
         "translate" => traces::trace(alloc, text),
-        "task_of" => runs::task(alloc),
-        _ => runs::run_of(alloc, call, text),
-    }
+        "task_of" => words::task(alloc),
+        _ => return None,
+    };
+    Some(answer)
 }

@@ -6,8 +6,8 @@
 mod answers;
 mod codec;
 mod maps;
-mod runs;
 mod traces;
+mod words;
 
 use answers::{Answer, answer_of};
 use std::env;
@@ -43,7 +43,9 @@ fn main(rt: HostRuntime) -> ExitCode {
     }
     let mut out = io::writer(&rt);
     for _ in 0..2 {
-        let answer = answer_of(rt.alloc(), words[1].as_str(), text.as_slice());
+        let Some(answer) = answer_of(rt.alloc(), words[1].as_str(), text.as_slice()) else {
+            return ExitCode::from(2);
+        };
         if print(&mut out, &answer).is_err() {
             return ExitCode::from(3);
         }

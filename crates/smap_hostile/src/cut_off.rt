@@ -1,6 +1,7 @@
 //! Maps that end too early.
 use crate::answers::{assert_answer, assert_refused, checked};
 use smap_tool::Outcome;
+use std::process::Abort;
 
 /// One map for each kind of member, and an index map.
 const MAPS: [&str; 9] = [
@@ -18,16 +19,25 @@ const MAPS: [&str; 9] = [
     r#"{"version":3,"file":"x\/y\u0009\u000b","mappings":""}"#,
 ];
 
+/// A map that is refused also where it is whole.
+const REFUSED: &str = r#"{"version":3,"sources":["a.js","b.js"],"ignoreList":[2],"mappings":""}"#;
+
+/// Asserts that a map isn't JSON where it is cut after any smaller number of bytes.
+fn assert_no_front(rt: &(impl Abort + AllocGlobal), map: &[u8]) {
+    for len in 0..map.len() {
+        assert_refused(rt, &map[..len], "refused: not json\n");
+    }
+}
+
 #[test]
 fn a_map_cut_after_any_smaller_number_of_bytes_is_not_json(rt: HostRuntime) {
     for map in MAPS {
-        let map = map.as_bytes();
-        for len in 0..map.len() {
-            assert_refused(&rt, &map[..len], "refused: not json\n");
-        }
-        let (answer, _) = checked(rt.alloc(), map);
+        assert_no_front(&rt, map.as_bytes());
+        let (answer, _) = checked(rt.alloc(), map.as_bytes());
         assert_eq!(rt; answer, Ok(Outcome::Done));
     }
+    assert_no_front(&rt, REFUSED.as_bytes());
+    assert_refused(&rt, REFUSED.as_bytes(), "refused: ignoreList\n");
 }
 
 #[test]

@@ -1,5 +1,6 @@
 //! Writing a mappings text token by token.
-ghost use Rattle.std.specs.Prelude.{◌≡◌, ◌≢◌, ◌+◌, ◌-◌, ◌<◌, ◌≤◌, ◌++◌, ◌∷◌, [], List, OnOk, Some, length};
+ghost use Rattle.std.specs.Prelude.{◌≡◌, ◌≢◌, ◌+◌, ◌-◌, ◌<◌, ◌≤◌, ◌++◌, ◌∷◌, [], List, IfOk, OnOk, Some};
+ghost use Rattle.std.specs.Prelude.{length};
 ghost use Rattle.std.specs.Prelude.{take, vec_len, flat_map};
 ghost use Rattle.smap_vlq.specs.Number.{spelling};
 ghost use Rattle.smap_mappings.specs.declared.token.Token.{Token as SpecToken};
@@ -158,15 +159,21 @@ fn put_token(out: &mut [u8], at: usize, lines: u32, running: Running, token: Tok
     put_segment(out, at, running, token)
 }
 
-/// Makes room for so many bytes more, at least twice as much as there was.
+/// How many bytes of the room are filled at a time. The vector doubles its capacity when it has to, but what
+/// isn't filled is never touched.
+const PIECE: usize = 65_536;
+
+/// As many bytes as the segment of a token seldom takes with its separator.
+const USUAL: usize = 8;
+
+/// Makes room for so many bytes more.
 fn grow(room: &mut Vec<u8>, at: usize, more: usize) -> Result<(), Memory>
     requires at { at ≤ vec_len room.old }
     ensures front { take at room.new.items ≡ take at room.old.items }
     ensures room { OnOk result (at + more ≤ vec_len room.new) }
     ensures len { at ≤ vec_len room.new }
 {
-    let len = at.saturating_mul(2).max(4096).max(at.saturating_add(more));
-    room.resize(len, 0)
+    room.resize(at.saturating_add(more.max(PIECE)), 0)
 }
 
 /// Writes a mappings text while its tokens come.
@@ -197,6 +204,19 @@ impl Encoder {
             running: Running::new(),
             lines: 0,
         }
+    }
+
+    /// The same, with the capacity for the usual text of so many tokens, so that it is seldom copied as it
+    /// grows. Capacity that isn't used isn't touched, and so costs neither time nor memory.
+    pub fn with_capacity(alloc: Global, tokens: usize) -> Result<Encoder, Memory>
+        ensures { IfOk result (λ encoder. Encodes encoder []) }
+    {
+        Ok(Encoder {
+            room: Vec::with_capacity(alloc, tokens.saturating_mul(USUAL))?,
+            at: 0,
+            running: Running::new(),
+            lines: 0,
+        })
     }
 
     /// Writes the segment of one token more, and what leads to it.

@@ -16,7 +16,7 @@ pub fn encode(alloc: Global, tokens: &[Token]) -> Result<Vec<u8>, Memory>
     requires { IsEncodable tokens.now }
     ensures { IfOk result (λ text. text.items ≡ mappings_text tokens.now) }
 {
-    let mut encoder = Encoder::new(alloc);
+    let mut encoder = Encoder::with_capacity(alloc, tokens.len())?;
     for token in tokens {
         encoder.push(*token)?;
     }

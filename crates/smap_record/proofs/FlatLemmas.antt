@@ -65,6 +65,12 @@ module _ (base : Parts) (limits : Allowed) (offset : Position) (before : Listing
   unfolding listed_flat
   parts = refl
 
+  -- with other contents that give the same sources, the same is listed
+  pub same_entries : (contents : List (Option (List ℕ))) → entries_from base m.root m.ignored 0 m.sources contents ≡ entries
+      → listed_flat base limits offset before (record m { contents = contents }) ≡ listed_flat base limits offset before m
+  unfolding listed_flat
+  same_entries contents same = ap (λ (es : Checked (List Entry)). with_parts few_or_fault es tokens) same
+
   pub too_many : (fault : Fault) → few_or_fault ≡ Err fault → listed_flat base limits offset before m ≡ Err fault
   too_many fault err = parts ∙ ap (λ few. with_parts few entries tokens) err
 

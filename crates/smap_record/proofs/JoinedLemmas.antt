@@ -1,5 +1,5 @@
 -- Tokens behind others, in order.
-use Rattle.std.proofs.Common.{◌≡◌, ℕ, zero, suc, ◌+◌, List, [], ◌∷◌, ◌++◌, length, map, take, drop, Some, slice_get, get_or, ap, ◌∙◌, sym, refl, Bool, true, false, ◌||◌, arith}
+use Rattle.std.proofs.Common.{◌≡◌, ℕ, zero, suc, ◌+◌, List, [], ◌∷◌, ◌++◌, length, map, take, drop, Some, slice_get, get_or, Option, None, ap, ap₂, ◌∙◌, sym, refl, Bool, true, false, ◌||◌, arith}
 use Rattle.std.proofs.lemmas.Bool.Decides.{nat_tests}
 use Rattle.std.specs.List.{AllByRecursion}
 use Rattle.std.proofs.Math.ListN.{set}
@@ -7,6 +7,9 @@ use Rattle.std.proofs.Math.Bool.{or-false}
 use Rattle.std.proofs.lemmas.Bool.{or_parts}
 use Rattle.smap_mappings.specs.declared.token.Token.{Token}
 use Rattle.smap_mappings.specs.Position.{Position, is_before, position_of, NeverFalls}
+use Rattle.std.specs.Prelude.{option_map}
+use Rattle.smap_mappings.specs.declared.token.Original.{Original}
+use Rattle.smap_record.specs.Flat.{shifted, shifted_original}
 use Rattle.smap_record.specs.Gathering.{any_after}
 
 -- ---- a list whose elements are changed in place, one by one
@@ -30,6 +33,28 @@ change_at f (y ∷ ys) (suc i) x at = ap (λ zs. f y ∷ zs) (change_at f ys i x
 -- one more is changed
 pub change_next : {A : Type 0} (f : A → A) (xs : List A) (i : ℕ) (x : A) → slice_get xs i ≡ Some x → set (changed f i xs) i (f x) ≡ changed f (i + 1) xs
 change_next f xs i x at = let next : suc i ≡ i + 1 = omega arith in change_at f xs i x at ∙ ap (λ n. changed f n xs) next
+
+-- what is behind nothing keeps its indices
+original_kept : (o : Original) → shifted_original 0 0 o ≡ o
+original_kept o = (λ i. record o { source = source i; name = name o.name i })
+  where
+    source : 0 + o.source ≡ o.source
+    source = omega arith
+
+    name : (n : Option ℕ) → option_map (λ n. 0 + n) n ≡ n
+    name None = refl
+    name (Some n) = let same : 0 + n ≡ n = omega arith in ap Some same
+
+token_kept : (t : Token) → shifted 0 0 t ≡ t
+token_kept t = (λ i. record t { original = by t.original i })
+  where
+    by : (o : Option Original) → option_map (shifted_original 0 0) o ≡ o
+    by None = refl
+    by (Some o) = ap Some (original_kept o)
+
+pub tokens_kept : (ts : List Token) → map (shifted 0 0) ts ≡ ts
+tokens_kept [] = refl
+tokens_kept (t ∷ ts) = ap₂ (λ u us. u ∷ us) (token_kept t) (tokens_kept ts)
 
 -- ---- positions
 

@@ -11,6 +11,7 @@ pub mod FlagLemmas
 pub mod OnceLemmas
 pub mod FitLemmas
 pub mod FlatLemmas
+mod OwnedLemmas
 pub mod JoinedLemmas
 pub mod SectionLemmas
 pub mod DepthLemmas

@@ -5,7 +5,7 @@ use Rattle.std.specs.Option.{option_eq}
 use Rattle.std.proofs.lemmas.Bool.{eqb-true, eq-eqb}
 use Rattle.std.proofs.lemmas.Slice.Eq.{bytes_eq-Decides}
 use Rattle.url.specs.Host.{host_text}
-use Rattle.url.specs.Parts.{Parts, cannot_be_a_base, host_or_empty, HasSameHost}
+use Rattle.url.specs.Parts.{Parts, cannot_be_a_base, host_or_empty}
 use Rattle.url.specs.Parser.{parse_url}
 use Rattle.url.specs.Relative.{relative_text, CanRelate, IsRelative}
 use Rattle.smap_record.specs.Source.{Resolved, no_url, unstable, resolved, resolve}

@@ -12,8 +12,8 @@ use Rattle.smap_record.specs.OneLevel.{one_level_reading}
 abbrev pub PlacingIsAssociative : Type 0
 PlacingIsAssociative = (a b p : Position) → place a (place b p) ≡ place (place a b) p
 
--- A text that was accepted keeps its file and its listing, and so its record; a text that was refused keeps its
--- fault, unless that was nested sections.
+-- A text that was accepted keeps its file and its listing, and so its record; a text that was refused keeps
+-- its fault, unless that was nested sections.
 abbrev pub OldTexts : Type 0
 OldTexts = (base : Parts) (limits : Allowed) (text : List ℕ)
     → ((m : ReadMap) → one_level_reading base limits text ≡ Ok m → reading base limits text ≡ Ok m)

@@ -18,3 +18,4 @@ pub mod SourcesView
 pub mod MapView
 pub mod Steps
 pub mod Gathering
+pub mod Owned

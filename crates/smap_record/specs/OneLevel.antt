@@ -1,6 +1,6 @@
--- How map texts were read while index maps couldn't nest. This serves one law alone, which says that such texts
--- are read as they were: nothing else cites it.
--- A fault has the section that it had as a path of one number, and where it had none an empty path.
+-- How map texts were read while index maps couldn't nest. This serves one law alone, which says that such
+-- texts are read as they were: nothing else cites it. A fault has the section that it had as a path of one
+-- number, and where it had none an empty path.
 use Rattle.std.specs.Prelude.{ℕ, ◌+◌, [], ◌∷◌, List, Option, Some, None, Ok, Err}
 use Rattle.url.specs.Parts.{Parts}
 use Rattle.serde_json.specs.Data.{Data}

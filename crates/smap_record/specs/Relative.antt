@@ -11,9 +11,11 @@ use Rattle.smap_record.specs.Source.{Resolved, no_url, unstable, resolved, resol
 -- whether both URLs have the same scheme, host and port
 abbrev pub same_host : Parts → Parts → Bool
 same_host a b = bytes_eq a.scheme b.scheme
-    && (bytes_eq (host_text (host_or_empty a)) (host_text (host_or_empty b)) && option_eq (λ p q. p == q) a.port b.port)
+    && (bytes_eq (host_text (host_or_empty a)) (host_text (host_or_empty b))
+    && option_eq (λ p q. p == q) a.port b.port)
 
--- The relative URL that leads from the base to a URL on the same host, as the crate `url` makes it (`make_relative`).
+-- The relative URL that leads from the base to a URL on the same host, as the crate `url` makes it
+-- (`make_relative`).
 abbrev pub relative_url : Parts → Parts → Option (List ℕ)
 relative_url base url =
     if not (cannot_be_a_base base) && same_host base url then Some (relative_text base url) else None
@@ -38,11 +40,13 @@ abbrev pub if_leads_to : Parts → List ℕ → Option (List ℕ) → Option (Li
 if_leads_to base url None = None
 if_leads_to base url (Some text) = if leads_to base text url then Some text else None
 
--- The relative spelling of a URL that is its own against the base: the relative URL to it, read again from its
--- text, where that leads back to it.
+-- The relative spelling of a URL that is its own against the base: the relative URL to it, read again from
+-- its text, where that leads back to it.
 unfoldable pub relative : Parts → List ℕ → Option (List ℕ)
 relative base url =
-    if leads_to base url url then if_leads_to base url (relative_to base (parse_url (Some base) url)) else None
+    if leads_to base url url
+    then if_leads_to base url (relative_to base (parse_url (Some base) url))
+    else None
 
 -- A URL in its relative spelling where it has one, and else as it is.
 abbrev pub relatively : Parts → List ℕ → List ℕ

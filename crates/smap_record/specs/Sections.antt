@@ -47,7 +47,8 @@ Inner = Position → Listing → MapMembers Data → Checked Listing
 
 -- One section of an index map of a level that is placed from `outer`: behind the own offset of the section in
 -- front, and what is listed before. It gives its own offset, and what is listed now.
-abbrev pub listed_section : ℕ → Inner → Position → Option Position → Listing → Data → Checked (Position × Listing)
+abbrev pub listed_section : ℕ → Inner → Position → Option Position → Listing → Data
+    → Checked (Position × Listing)
 listed_section level inner outer last before tree = do
   s ← of_shape (section_of level tree)
   offset ← or_fault Offset (combined outer (own_offset s))
@@ -67,8 +68,8 @@ listed_sections level inner outer k last before (section ∷ sections) = do
 
 -- ---- the map of a section
 
--- The map of a section of an index map below which n further levels may lie: a flat map as it is, an index map
--- by its sections, which are placed from where it starts.
+-- The map of a section of an index map below which n further levels may lie: a flat map as it is, an index
+-- map by its sections, which are placed from where it starts.
 unfoldable pub section_map : Parts → Allowed → ℕ → Inner
 section_map base limits zero offset before (flat m) = listed_flat base limits offset before m
 section_map base limits zero offset before (index i) = refuse Nested

@@ -38,8 +38,8 @@ pub enum Kind {
     Mappings,
     /// `sections` is no list.
     Sections,
-    /// A section's `offset` isn't a line and a column of at most 2,147,483,647, or isn't once it is placed by those
-    /// of the sections around it.
+    /// A section's `offset` isn't a line and a column of at most 2,147,483,647, or isn't once it is placed by
+    /// those of the sections around it.
     Offset,
     /// A section's `map` is no object.
     SectionMap,
@@ -75,8 +75,8 @@ pub enum Kind {
     Name,
 }
 
-/// The first fault of a map: the path of its section, without numbers where it is in no section; the place of its
-/// segment, where a segment has it; and what it is.
+/// The first fault of a map: the path of its section, without numbers where it is in no section; the place of
+/// its segment, where a segment has it; and what it is.
 #[derive(Debug, Drop, PartialEq, Eq)]
 pub struct Fault {
     pub section: Path,

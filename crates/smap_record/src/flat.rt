@@ -1,11 +1,15 @@
 //! A flat map, read from its members behind what is listed before it: how much it lists, then each source in
-//! turn, then its mappings. Names are copied last, when nothing can be refused any more.
+//! turn, then its mappings. Names are copied last, when nothing can be refused any more. A section's
+//! contents are copied, and those of a map that is no section are handed over.
 ghost use Rattle.std.specs.Prelude.{◌≡◌, ◌+◌, ◌<◌, ◌++◌, nat_lt, length, map, Some, IfOk, IfSome, false};
-ghost use Rattle.std.specs.Prelude.{option_map, option_copied, string_bytes};
+ghost use Rattle.std.specs.Prelude.{option_map, option_copied, string_bytes, take, drop};
+ghost use Rattle.std.specs.Vec.Iter.{into_iter_items};
 ghost use Rattle.std.specs.List.{AllByRecursion};
 ghost use Rattle.smap_mappings.specs.Position.{POSITIONS};
 ghost use Rattle.smap_mappings.specs.Decoded.{AreBounds, decoded, IsWithin, IsFromStart};
 ghost use Rattle.smap_mappings.specs.Text.{IsEncodable, IsOriginal, IsPlaced};
+ghost use Rattle.smap_shape.specs.Members.{fitted};
+ghost use Rattle.smap_shape.specs.Contents.{with_contents as flat_with};
 ghost use Rattle.smap_record.specs.declared.fault.Kind.TheVariants.{TooMany};
 ghost use Rattle.smap_record.specs.Record.{record_of};
 ghost use Rattle.smap_record.specs.Source.{resolve as url_of};
@@ -16,6 +20,7 @@ ghost use Rattle.smap_record.specs.Flat.{flat_map as flat_map_of};
 ghost use Rattle.smap_record.specs.Fitting.{Fits, ListingFits};
 ghost use Rattle.smap_record.specs.Answers.{Gives};
 ghost use Rattle.smap_record.specs.Entries.{entry_of};
+ghost use Rattle.smap_record.specs.Owned.{texts_of, first_of};
 ghost use Rattle.smap_record.specs.Steps.{behind, AreFlags};
 ghost use Rattle.smap_record.specs.Gathering.{gathered, position_at, IsOffset, any_after};
 
@@ -31,6 +36,7 @@ use crate::sources::Sources;
 use smap_mappings::{Bounds, MappingsError, Original, Token, decode};
 use smap_shape::FlatShape;
 use std::alloc::{AllocError, Global};
+use std::vec::IntoIter;
 
 /// The URL of a source, or the fault of the source with this number.
 fn url_at(
@@ -89,15 +95,14 @@ fn entry(
     root: Option<&str>,
     i: usize,
     source: Option<&str>,
-    content: Option<&str>,
+    content: Option<String>,
     ignored: bool,
 ) -> Result<SourceEntry, ReadError>
     ensures { Gives entry_of result
         (source_entry base.now (option_copied root.entry) i (option_copied source.entry)
-        (option_copied content.entry) ignored) }
+        (option_map string_bytes content) ignored) }
 {
     let url = source_url(alloc, base, root, i, source)?;
-    let content = copied(alloc, content)?;
     Ok(SourceEntry {
         url,
         content,
@@ -117,31 +122,50 @@ fn ignored_flags(alloc: Global, shape: &FlatShape<'_>) -> Result<Vec<bool>, Allo
     Ok(flags)
 }
 
-/// The map's sources behind those that are listed before it.
+/// The contents of the map's sources, copied.
+fn copied_contents(alloc: Global, shape: &FlatShape<'_>) -> Result<Vec<Option<String>>, AllocError>
+    ensures copied { IfOk result (λ v.
+        texts_of v.items ≡ take (length shape.now.sources) shape.now.contents) }
+    ensures count { IfOk result (λ v. length v.items ≡ length shape.now.sources) }
+{
+    let mut contents = Vec::with_capacity(alloc, shape.source_count())?;
+    for i in 0..shape.source_count() {
+        contents.push(copied(alloc, shape.content(i))?)?;
+    }
+    Ok(contents)
+}
+
+/// The next source's content. Those past the last one have none.
+fn next_content(rest: &mut IntoIter<Option<String>>) -> Option<String>
+    ensures first { option_map string_bytes result ≡ first_of (texts_of (into_iter_items rest.old)) }
+    ensures rest { texts_of (into_iter_items rest.new) ≡ drop 1 (texts_of (into_iter_items rest.old)) }
+{
+    match rest.next() {
+        Some(content) => content,
+        None => None,
+    }
+}
+
+/// The map's sources with these contents, behind those that are listed before it.
 fn with_sources(
     alloc: Global,
     before: Sources,
     base: &Base,
     shape: &FlatShape<'_>,
+    contents: Vec<Option<String>>,
 ) -> Result<Sources, ReadError>
     ensures lists { Gives (λ s. s) result
         (behind before (entries_from base.now shape.now.root shape.now.ignored 0
-        shape.now.sources shape.now.contents)) }
+        shape.now.sources (fitted (length shape.now.sources) (texts_of contents.items)))) }
     ensures count { IfOk result (λ s. length s ≡ length before + length shape.now.sources) }
 {
     let ignored = ignored_flags(alloc, shape)?;
     let root = shape.root();
+    let mut rest = contents.into_iter();
     let mut sources = before;
     for i in 0..shape.source_count() {
-        let entry = entry(
-            alloc,
-            base,
-            root,
-            i,
-            shape.source(i),
-            shape.content(i),
-            ignored[i],
-        )?;
+        let content = next_content(&mut rest);
+        let entry = entry(alloc, base, root, i, shape.source(i), content, ignored[i])?;
         sources = sources.with(entry)?;
     }
     Ok(sources)
@@ -252,16 +276,19 @@ fn shift_all(tokens: &mut Vec<Token>, sources: usize, names: usize)
     requires placed { AllByRecursion IsPlaced tokens.old.items }
     ensures { tokens.new.items ≡ map (shifted_by sources names) tokens.old.items }
 {
+    if sources + names == 0 {
+        return;
+    }
     for i in 0..tokens.len() {
         tokens[i] = shifted(tokens[i], sources, names);
     }
 }
 
-/// Tokens behind others. Those of a first map are not copied.
+/// Tokens behind others. The first ones are not copied, unless there is room for more already.
 fn joined(mut front: Vec<Token>, mut back: Vec<Token>) -> Result<Vec<Token>, AllocError>
     ensures { IfOk result (λ v. v.items ≡ front.items ++ back.items) }
 {
-    if front.is_empty() {
+    if front.is_empty() && front.capacity() < back.len() {
         return Ok(back);
     }
     front.append(&mut back)?;
@@ -269,7 +296,47 @@ fn joined(mut front: Vec<Token>, mut back: Vec<Token>) -> Result<Vec<Token>, All
 }
 
 /// What is listed with a map that starts at an offset, behind what is listed before it; or the map's first
-/// fault. No token before it lies after the offset.
+/// fault. The map's contents are these, in place of those of its shape. No token before it lies after the
+/// offset.
+fn with_contents(
+    alloc: Global,
+    before: Gathered,
+    shape: &FlatShape<'_>,
+    contents: Vec<Option<String>>,
+    base: &Base,
+    limits: Limits,
+    offset: Offset,
+) -> Result<Gathered, ReadError>
+    requires offset { IsOffset offset }
+    requires none_after { any_after (position_at offset) before.tokens.items ≡ false }
+    requires fits { ListingFits base.now limits (gathered before) }
+    ensures reads { Gives gathered result
+        (listed_flat base.now limits (position_at offset) (gathered before)
+        (flat_with (texts_of contents.items) shape.now)) }
+    ensures fits { IfOk result (λ g. ListingFits base.now limits (gathered g)) }
+{
+    let bounds = bounds(&before, shape, limits, offset)?;
+    let Gathered {
+        sources: first_sources,
+        names: first_names,
+        tokens: first_tokens,
+    } = before;
+    let source_count = first_sources.listed_count();
+    let name_count = first_names.len();
+    let sources = with_sources(alloc, first_sources, base, shape, contents)?;
+    let mut own = own_tokens(alloc, shape.mappings(), bounds)?;
+    shift_all(&mut own, source_count, name_count);
+    let tokens = joined(first_tokens, own)?;
+    let names = with_names(alloc, first_names, shape)?;
+    Ok(Gathered {
+        sources,
+        names,
+        tokens,
+    })
+}
+
+/// What is listed with a map that starts at an offset, behind what is listed before it; or the map's first
+/// fault. The map's contents are copied. No token before it lies after the offset.
 pub(crate) fn with_flat(
     alloc: Global,
     before: Gathered,
@@ -285,39 +352,29 @@ pub(crate) fn with_flat(
         (listed_flat base.now limits (position_at offset) (gathered before) shape.now) }
     ensures fits { IfOk result (λ g. ListingFits base.now limits (gathered g)) }
 {
-    let bounds = bounds(&before, shape, limits, offset)?;
-    let Gathered {
-        sources: first_sources,
-        names: first_names,
-        tokens: first_tokens,
-    } = before;
-    let source_count = first_sources.listed_count();
-    let name_count = first_names.len();
-    let sources = with_sources(alloc, first_sources, base, shape)?;
-    let mut own = own_tokens(alloc, shape.mappings(), bounds)?;
-    shift_all(&mut own, source_count, name_count);
-    let tokens = joined(first_tokens, own)?;
-    let names = with_names(alloc, first_names, shape)?;
-    Ok(Gathered {
-        sources,
-        names,
-        tokens,
-    })
+    let contents = copied_contents(alloc, shape)?;
+    match with_contents(alloc, before, shape, contents, base, limits, offset) {
+        Ok(listed) => Ok(listed),
+        Err(error) => Err(error),
+    }
 }
 
-/// The map that the members say, or its first fault.
+/// The map that the members say with these contents, or its first fault.
 pub(crate) fn flat_map(
     alloc: Global,
     shape: &FlatShape<'_>,
+    contents: Vec<Option<String>>,
     base: &Base,
     limits: Limits,
 ) -> Result<SourceMap, ReadError>
-    ensures reads { Gives (λ m. m) result (flat_map_of base.now limits shape.now) }
+    ensures reads { Gives (λ m. m) result
+        (flat_map_of base.now limits (flat_with (texts_of contents.items) shape.now)) }
     ensures fits { IfOk result (λ m. Fits base.now limits (record_of m)) }
     ensures listing_fits { IfOk result (λ m. ListingFits base.now limits m.listing) }
 {
     let start = Offset { line: 0, column: 0 };
-    let listed = with_flat(alloc, Gathered::new(alloc), shape, base, limits, start)?;
+    let before = Gathered::new(alloc);
+    let listed = with_contents(alloc, before, shape, contents, base, limits, start)?;
     let file = copied(alloc, shape.file())?;
     Ok(listed.into_map(file))
 }

@@ -1,5 +1,5 @@
 //! What is listed so far. A flat map and each section of an index map are read into it, one behind the other.
-ghost use Rattle.std.specs.Prelude.{◌≡◌, map, string_bytes, option_map, IfSome};
+ghost use Rattle.std.specs.Prelude.{◌≡◌, map, string_bytes, option_map, IfSome, IfOk};
 ghost use Rattle.smap_mappings.specs.Position.{is_before, position_of, NeverFalls};
 ghost use Rattle.smap_record.specs.Listed.{IsListing};
 ghost use Rattle.smap_record.specs.Flat.{nothing};
@@ -9,7 +9,7 @@ ghost use Rattle.smap_record.specs.Gathering.{gathered, position_at, last_positi
 use crate::map::SourceMap;
 use crate::sources::Sources;
 use smap_mappings::{MAX_POSITION, Token};
-use std::alloc::Global;
+use std::alloc::{AllocError, Global};
 
 /// Where a map starts: each of its lines lies behind this line, and its first line behind this column too.
 #[derive(Clone, Copy)]
@@ -38,6 +38,18 @@ impl Gathered {
         }
     }
 
+    /// Nothing is listed, and there is room for so many tokens. Room that isn't used isn't touched.
+    pub(crate) fn with_capacity(alloc: Global, tokens: usize) -> Result<Gathered, AllocError>
+        ensures { IfOk result (λ g. gathered g ≡ nothing) }
+    {
+        let tokens = Vec::with_capacity(alloc, tokens)?;
+        Ok(Gathered {
+            sources: Sources::new(alloc),
+            names: Vec::new(alloc),
+            tokens,
+        })
+    }
+
     /// The map with this file that lists this.
     pub(crate) fn into_map(self, file: Option<String>) -> SourceMap
         requires { IsListing (gathered self) }
@@ -52,8 +64,8 @@ impl Gathered {
     }
 }
 
-/// Where a section starts whose own offset is placed in a map that starts at `outer`; nowhere where its line or
-/// its column would be past the greatest position.
+/// Where a section starts whose own offset is placed in a map that starts at `outer`; nowhere where its line
+/// or its column would be past the greatest position.
 pub(crate) fn combined(outer: Offset, own: Offset) -> Option<Offset>
     requires outer { IsOffset outer }
     requires own { IsOffset own }

@@ -6,8 +6,8 @@ pub fn placing_is_associative()
     ensures { PlacingIsAssociative }
 {}
 
-/// A text that was read while index maps couldn't nest is read as it was, and one that was refused has the fault
-/// that it had, unless that was nested sections.
+/// A text that was read while index maps couldn't nest is read as it was, and one that was refused has the
+/// fault that it had, unless that was nested sections.
 pub fn old_texts()
     ensures { OldTexts }
 {}

@@ -11,8 +11,8 @@ use std::marker::Model;
 /// As many numbers as there are levels.
 const DEPTH: usize = 8;
 
-/// The numbers of sections, from the outermost in, at most eight; each counts from 0 in the list that it stands
-/// in. A path without numbers leads to no section.
+/// The numbers of sections, from the outermost in, at most eight; each counts from 0 in the list that it
+/// stands in. A path without numbers leads to no section.
 #[derive(Drop)]
 pub struct Path {
     numbers: ArrayVec<usize, DEPTH>,

@@ -34,9 +34,10 @@ fn relative_to(base: &Base, url: &str) -> Result<Option<String>, AllocError>
 impl Base {
     /// The relative spelling of a URL, such as `../a.js`, where it has one that leads back to it from here.
     ///
-    /// There is none where the text isn't its own URL against this base, where the scheme, the host or the port
-    /// are others, where the base has an opaque path, or where what the crate `url` makes (`make_relative`) leads
-    /// elsewhere, as for a name with a colon. The URL and its spelling are parsed twice each.
+    /// There is none where the text isn't its own URL against this base, where the scheme, the host or the
+    /// port are others, where the base has an opaque path, or where what the crate `url` makes
+    /// (`make_relative`) leads elsewhere, as for a name with a colon. The URL and its spelling are parsed
+    /// twice each.
     #[tactic(auto, unfolding(crate::specs::Relative::relative))]
     pub fn relative(&self, alloc: Global, url: &str) -> Result<Option<String>, AllocError>
         ensures { IfOk result (λ text. option_map string_bytes text ≡ relative self.now url.now) }

@@ -1,7 +1,7 @@
-//! An index map, read section by section in one pass: what one lists stands behind what all before it list.
-//! A section whose map is an index map is read by that map's sections, each placed by both offsets; index maps
-//! within each other are eight levels deep at most, so however deep the JSON text nests, the stack doesn't grow
-//! with it.
+//! An index map, read section by section in one pass: what one lists stands behind what all before it list. A
+//! section whose map is an index map is read by that map's sections, each placed by both offsets; index maps
+//! within each other are eight levels deep at most, so however deep the JSON text nests, the stack doesn't
+//! grow with it.
 ghost use Rattle.std.specs.Prelude.{◌≡◌, ◌≤◌, ◌-◌, IfOk, None, map as mapped};
 ghost use Rattle.serde_json.specs.View.{view};
 ghost use Rattle.smap_shape.specs.Views.{index_told};
@@ -20,6 +20,7 @@ use crate::gathered::{Gathered, Offset, combined, falls, overlaps};
 use crate::limits::Limits;
 use crate::map::SourceMap;
 use serde_json::Value;
+use smap_mappings::count_segments;
 use smap_shape::{IndexShape, MAX_LEVEL, Shape, section, shape};
 use std::alloc::Global;
 
@@ -102,8 +103,8 @@ fn with_section(
     }
 }
 
-/// What all sections of an index map of a level that starts at `outer` list, behind what is listed before it; or
-/// the first fault.
+/// What all sections of an index map of a level that starts at `outer` list, behind what is listed before it;
+/// or the first fault.
 #[cycle(nested)]
 fn with_sections(
     alloc: Global,
@@ -138,6 +139,22 @@ fn with_sections(
     Ok(listed)
 }
 
+/// How many segments the sections' own mappings have: nearly always as many as the map has tokens. It serves
+/// as room, so what isn't as it should be counts nothing here, and is refused when it is read.
+fn segment_count(shape: &IndexShape<'_>) -> usize {
+    let mut sum: usize = 0;
+    for k in 0..shape.section_count() {
+        let map = shape.section_value(k).get("map");
+        if let Some(text) = map
+            .and_then(|map| map.get("mappings"))
+            .and_then(Value::as_str)
+        {
+            sum = sum.saturating_add(count_segments(text.as_bytes()));
+        }
+    }
+    sum
+}
+
 /// The map that the members say, or its first fault.
 pub(crate) fn index_map(
     alloc: Global,
@@ -150,7 +167,8 @@ pub(crate) fn index_map(
     ensures listing_fits { IfOk result (λ m. ListingFits base.now limits m.listing) }
 {
     let start = Offset { line: 0, column: 0 };
-    let listed = with_sections(alloc, Gathered::new(alloc), shape, base, limits, start, 1)?;
+    let before = Gathered::with_capacity(alloc, segment_count(shape))?;
+    let listed = with_sections(alloc, before, shape, base, limits, start, 1)?;
     let file = copied(alloc, shape.file())?;
     Ok(listed.into_map(file))
 }

@@ -1,6 +1,7 @@
 //! The one line that says the first fault of an input.
 ghost use Rattle.std.specs.Prelude.{◌≡◌, ◌∷◌, ◌++◌, [], string_bytes, IfOk};
-ghost use Rattle.smap_run.specs.FaultLine.{fault_line, fault_words, inner_words, kind_words, number_words, place_words, section_words};
+ghost use Rattle.smap_run.specs.FaultLine.{fault_line, fault_words, inner_words, kind_words, number_words};
+ghost use Rattle.smap_run.specs.FaultLine.{place_words, section_words};
 
 use itoa::Buffer;
 use smap_mappings::{Memory, SegmentPlace};

@@ -1,2 +1,3 @@
 mod ListLemmas
+mod ContentsLemmas
 pub mod Examples

@@ -2,3 +2,4 @@ pub mod Members
 pub mod Reading
 pub mod Inside
 pub mod Views
+pub mod Contents

@@ -149,8 +149,8 @@ offset_and_map tree = do
   map ← or_fault SectionMap (option_and_then object_only (member_of (codes "map") tree))
   Ok (record { line = line; column = column; map = map })
 
--- A section of an index map of this level: that of the whole text has level 1, and one in a section of an index
--- map has one level more. In one of the greatest level a section's map has no sections.
+-- A section of an index map of this level: that of the whole text has level 1, and one in a section of an
+-- index map has one level more. In one of the greatest level a section's map has no sections.
 unfoldable pub section_of : ℕ → Data → Result (Section Data) ShapeFault
 section_of level tree = do
   s ← offset_and_map tree

@@ -3,11 +3,15 @@
 //!
 //! `shape` takes a `serde_json::Value` and answers the members of a flat or of an index map, and
 //! `section` those of one section, or the first fault of the shape. Each list is judged once, in
-//! full, and then kept as the slice of the tree that it is: nothing is copied, no call takes
+//! full, and then kept as the slice of the tree that it is: nothing is copied, no such call takes
 //! memory, and a shape lives as long as its tree. So `shape` takes time in the entries of the
 //! map's lists, its accessors answer at once, and `is_ignored` alone goes through a list.
+//!
+//! `split_contents` is for who has the tree and wants to keep the contents, the largest part of most
+//! maps: it moves them out of the tree, and answers the tree that is left.
 #![tactic(auto)]
 
+mod contents;
 mod fault;
 mod flat;
 mod index;
@@ -16,6 +20,7 @@ mod map;
 mod member;
 mod sections;
 
+pub use contents::split_contents;
 pub use fault::ShapeFault;
 pub use flat::FlatShape;
 pub use index::IndexShape;

@@ -10,8 +10,8 @@ use serde_json::Value;
 use smap_vlq::MAX_POSITION;
 use std::marker::Model;
 
-/// The greatest level of an index map. The index map of the whole text has level 1, and one in a section of an
-/// index map has one level more.
+/// The greatest level of an index map. The index map of the whole text has level 1, and one in a section of
+/// an index map has one level more.
 pub const MAX_LEVEL: u8 = 8;
 
 /// A section of an index map (ECMA-426, "Index source map").
@@ -75,8 +75,8 @@ fn position(tree: &Value, key: &str) -> Option<u32>
 /// section's shape (ECMA-426, "Index source map").
 ///
 /// The offset's line and column are from 0 to 2,147,483,647. Of the map no more is judged than that it is an
-/// object, and at level 8 that `sections` isn't present in it; other members are ignored, a `url` beside the map
-/// among them.
+/// object, and at level 8 that `sections` isn't present in it; other members are ignored, a `url` beside the
+/// map among them.
 #[tactic(auto, unfolding(crate::specs::Reading::section_of))]
 pub fn section(tree: &Value, level: u8) -> Result<SectionShape<'_>, ShapeFault>
     requires first { 1 ≤ level }

@@ -1,11 +1,13 @@
 //! The run `lookup`: where a position of the generated text comes from.
-ghost use Rattle.std.specs.Prelude.{◌≡◌, ◌-◌, ◌^◌, ◌<◌, None, false, IfOk, option_copied, option_map, string_bytes};
+ghost use Rattle.std.specs.Prelude.{◌≡◌, ◌-◌, ◌^◌, ◌<◌, None, false, IfOk, option_copied, option_map};
+ghost use Rattle.std.specs.Prelude.{string_bytes};
 ghost use Rattle.serde_json.specs.Data.{string};
 ghost use Rattle.serde_json.specs.Written.{compact_text};
 ghost use Rattle.smap_io.specs.Device.{device_failures, has_ended};
 ghost use Rattle.smap_record.specs.Views.{mapping_seen, origin_seen};
 ghost use Rattle.smap_run.specs.Run.{AnswersAgainst, Runs};
-ghost use Rattle.smap_tool.specs.Lookup.{lookup_output, lookup_text, mapping_words, name_words, origin_words, url_words};
+ghost use Rattle.smap_tool.specs.Lookup.{lookup_output, lookup_text, mapping_words, name_words};
+ghost use Rattle.smap_tool.specs.Lookup.{origin_words, url_words};
 ghost use Rattle.url.specs.Parser.{parse_url};
 
 use crate::map_run::{MapCommand, run_on_map};

@@ -2,6 +2,7 @@
 mod check;
 mod devices;
 mod flatten;
+mod library;
 mod lookup;
 mod respell;
 mod sections;
@@ -21,8 +22,11 @@ const TWO_NAMES: &str =
     r#"{"version":3,"sources":["a.js"],"names":["x","y"],"mappings":"AAAAC,CAACD"}"#;
 
 /// An index map of two sections, which list one source twice.
-const TWO_SECTIONS: &str =
-    r#"{"version":3,"sections":[{"offset":{"line":0,"column":0},"map":{"version":3,"sources":["a.js"],"mappings":"AAAA"}},{"offset":{"line":0,"column":10},"map":{"version":3,"sources":["a.js","b.js"],"names":["n"],"mappings":"AAAAA;CCCC"}}]}"#;
+const TWO_SECTIONS: &str = concat!(
+    r#"{"version":3,"sections":[{"offset":{"line":0,"column":0},"map":{"version":3,"sources":["a.js"],"#,
+    r#""mappings":"AAAA"}},{"offset":{"line":0,"column":10},"map":{"version":3,"sources":["a.js","#,
+    r#""b.js"],"names":["n"],"mappings":"AAAAA;CCCC"}}]}"#,
+);
 
 /// For this input a task writes this output and flushes once, whether the bytes come and go one by one or
 /// at once.

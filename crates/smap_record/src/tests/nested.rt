@@ -10,7 +10,8 @@ fn one(rt: &(impl Abort + AllocGlobal), line: u32, column: u32, map: &str) -> St
     index(rt, section(rt, line, column, map).as_str())
 }
 
-/// So many index maps within each other, each with one section at the start; the innermost map is flat and empty.
+/// So many index maps within each other, each with one section at the start; the innermost map is flat and
+/// empty.
 fn levels(rt: &(impl Abort + AllocGlobal), count: usize) -> String {
     let mut text = String::from_str(rt.alloc(), r#"{"version":3,"mappings":""}"#).expect(
         rt, "memory",

@@ -1,4 +1,5 @@
-//! Expected URLs are those that Node's `new URL(text, base)` gives; the root is put before the source by hand.
+//! Expected URLs are those that Node's `new URL(text, base)` gives; the root is put before the source by
+//! hand.
 use super::{BASE, fails, outcome, read, refuses, url_of};
 use crate::{Kind, Limits};
 use std::process::Abort;

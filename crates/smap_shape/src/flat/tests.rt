@@ -6,8 +6,10 @@ use std::test::Fail;
 
 #[test]
 fn a_flat_map_tells_its_members(rt: HostRuntime) -> Result<(), Fail> {
-    let text =
-        r#"{"version":3,"file":"out.js","sourceRoot":"src","sources":["a.js",null,"c.js"],"sourcesContent":["t",""],"names":["x","y"],"ignoreList":[2,2],"mappings":"AAAA","more":[1]}"#;
+    let text = concat!(
+        r#"{"version":3,"file":"out.js","sourceRoot":"src","sources":["a.js",null,"c.js"],"#,
+        r#""sourcesContent":["t",""],"names":["x","y"],"ignoreList":[2,2],"mappings":"AAAA","more":[1]}"#,
+    );
     let tree = Value::from_str(rt.alloc(), text)?;
     let Ok(Shape::Flat(flat)) = shape(&tree) else {
         return Err("refused".into());

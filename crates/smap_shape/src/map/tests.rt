@@ -136,8 +136,11 @@ fn a_present_ignore_list_hides_its_older_name(rt: HostRuntime) -> Result<(), Fai
 
 #[test]
 fn a_null_member_is_absent(rt: HostRuntime) -> Result<(), Fail> {
-    let text =
-        r#"{"version":3,"file":null,"sections":null,"sourceRoot":null,"sources":null,"sourcesContent":null,"names":null,"ignoreList":null,"x_google_ignoreList":null,"mappings":"A"}"#;
+    let text = concat!(
+        r#"{"version":3,"file":null,"sections":null,"sourceRoot":null,"sources":null,"#,
+        r#""sourcesContent":null,"names":null,"ignoreList":null,"x_google_ignoreList":null,"#,
+        r#""mappings":"A"}"#,
+    );
     let tree = Value::from_str(rt.alloc(), text)?;
     let flat = flat_map(&tree).ok_or("refused")?;
     assert!(rt; flat.file().is_none());

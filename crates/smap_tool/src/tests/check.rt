@@ -18,7 +18,10 @@ const ROWS: [(&str, &str, Outcome); 18] = [
     ),
     // Repeated sources count once, names as they are listed, and the last line has a mapping.
     (
-        r#"{"version":3,"sources":["a.js","./a.js","b.js"],"names":["n","n"],"mappings":";;AAAA,CCAA;CCAA;;"}"#,
+        concat!(
+            r#"{"version":3,"sources":["a.js","./a.js","b.js"],"names":["n","n"],"#,
+            r#""mappings":";;AAAA,CCAA;CCAA;;"}"#,
+        ),
         "accepted: 2 sources, 2 names, 3 mappings, 4 lines\ncanonical mappings: 16 bytes, at most 112\n",
         Outcome::Done,
     ),
@@ -102,10 +105,12 @@ fn a_map_that_is_cut_off_is_not_json(rt: HostRuntime) {
 
 #[test]
 fn the_lines_in_front_of_the_last_mapping_count(rt: HostRuntime) {
-    let input =
-        r#"{"version":3,"sections":[{"offset":{"line":16777215,"column":2147483647},"map":{"version":3,"mappings":"A"}}]}"#;
-    let output =
-        "accepted: 0 sources, 0 names, 1 mappings, 16777216 lines\ncanonical mappings: 16777222 bytes, at most 16777252\n";
+    let input = concat!(
+        r#"{"version":3,"sections":[{"offset":{"line":16777215,"column":2147483647},"#,
+        r#""map":{"version":3,"mappings":"A"}}]}"#,
+    );
+    let output = "accepted: 0 sources, 0 names, 1 mappings, 16777216 lines\n\
+        canonical mappings: 16777222 bytes, at most 16777252\n";
     writes(&rt, CHECK, input, output, Outcome::Done);
 }
 

@@ -12,7 +12,10 @@ const ROWS: [(&str, &str); 4] = [
     ),
     (
         TWO_SECTIONS,
-        r#"{"mappings":"AAAA,UCAAA;CCCC","names":["n"],"sources":["http://h/m/a.js","http://h/m/a.js","http://h/m/b.js"],"version":3}"#,
+        concat!(
+            r#"{"mappings":"AAAA,UCAAA;CCCC","names":["n"],"sources":["http://h/m/a.js","http://h/m/a.js","#,
+            r#""http://h/m/b.js"],"version":3}"#,
+        ),
     ),
     (
         r#"{"version":3,"sections":[]}"#,
@@ -21,7 +24,10 @@ const ROWS: [(&str, &str); 4] = [
     // What is listed more than once stays so, and so does a name that no mapping uses.
     (
         r#"{"version":3,"sources":["a.js","a.js","./a.js"],"names":["n"],"mappings":"AEAA"}"#,
-        r#"{"mappings":"AEAA","names":["n"],"sources":["http://h/m/a.js","http://h/m/a.js","http://h/m/a.js"],"version":3}"#,
+        concat!(
+            r#"{"mappings":"AEAA","names":["n"],"sources":["http://h/m/a.js","http://h/m/a.js","#,
+            r#""http://h/m/a.js"],"version":3}"#,
+        ),
     ),
 ];
 
@@ -37,8 +43,10 @@ fn a_flat_map_is_its_own_and_tidies_as_the_map_does(rt: HostRuntime) {
     for (_, output) in ROWS {
         writes(&rt, FLATTEN, output, output, Outcome::Done);
     }
-    let tidy =
-        r#"{"mappings":"AAAA,UAAAA;CCCC","names":["n"],"sources":["http://h/m/a.js","http://h/m/b.js"],"version":3}"#;
+    let tidy = concat!(
+        r#"{"mappings":"AAAA,UAAAA;CCCC","names":["n"],"sources":["http://h/m/a.js","#,
+        r#""http://h/m/b.js"],"version":3}"#,
+    );
     for input in [TWO_SECTIONS, ROWS[1].1] {
         writes(
             &rt,

@@ -32,7 +32,10 @@ const ROWS: [(&str, u32, u32, &str); 13] = [
         "0:0 http://h/m/a.js:0:0 \"a\\\"b\"\n",
     ),
     (
-        r#"{"version":3,"file":null,"sections":null,"sources":[null],"sourcesContent":["t"],"mappings":"AAAA"}"#,
+        concat!(
+            r#"{"version":3,"file":null,"sections":null,"sources":[null],"sourcesContent":["t"],"#,
+            r#""mappings":"AAAA"}"#,
+        ),
         0,
         0,
         "0:0 null:0:0\n",

@@ -10,17 +10,26 @@ const TIDY: [(&str, &str); 4] = [
     ),
     // A mapping of an earlier section may lie at the offset of a later one.
     (
-        r#"{"version":3,"sections":[{"offset":{"line":0,"column":0},"map":{"version":3,"mappings":"K"}},{"offset":{"line":0,"column":5},"map":{"version":3,"mappings":"A"}}]}"#,
+        concat!(
+            r#"{"version":3,"sections":[{"offset":{"line":0,"column":0},"map":{"version":3,"#,
+            r#""mappings":"K"}},{"offset":{"line":0,"column":5},"map":{"version":3,"mappings":"A"}}]}"#,
+        ),
         r#"{"mappings":"K,A","names":[],"sources":[],"version":3}"#,
     ),
     // Offsets may be equal.
     (
-        r#"{"version":3,"sections":[{"offset":{"line":0,"column":0},"map":{"version":3,"mappings":"A"}},{"offset":{"line":0,"column":0},"map":{"version":3,"mappings":"A"}}]}"#,
+        concat!(
+            r#"{"version":3,"sections":[{"offset":{"line":0,"column":0},"map":{"version":3,"#,
+            r#""mappings":"A"}},{"offset":{"line":0,"column":0},"map":{"version":3,"mappings":"A"}}]}"#,
+        ),
         r#"{"mappings":"A,A","names":[],"sources":[],"version":3}"#,
     ),
     // A section without mappings may stand behind the last line that a mapping can have.
     (
-        r#"{"version":3,"sections":[{"offset":{"line":16777216,"column":0},"map":{"version":3,"mappings":""}}]}"#,
+        concat!(
+            r#"{"version":3,"sections":[{"offset":{"line":16777216,"column":0},"map":{"version":3,"#,
+            r#""mappings":""}}]}"#,
+        ),
         r#"{"mappings":"","names":[],"sources":[],"version":3}"#,
     ),
 ];
@@ -28,16 +37,25 @@ const TIDY: [(&str, &str); 4] = [
 /// Index maps that are refused, and the line of each.
 const REFUSED: [(&str, &str); 10] = [
     (
-        r#"{"version":3,"sections":[{"offset":{"line":0,"column":0},"map":{"version":3,"mappings":"K"}},{"offset":{"line":0,"column":4},"map":{"version":3,"mappings":"A"}}]}"#,
+        concat!(
+            r#"{"version":3,"sections":[{"offset":{"line":0,"column":0},"map":{"version":3,"#,
+            r#""mappings":"K"}},{"offset":{"line":0,"column":4},"map":{"version":3,"mappings":"A"}}]}"#,
+        ),
         "refused: section 1: overlap\n",
     ),
     // The greatest column counts, and not the last one of the text.
     (
-        r#"{"version":3,"sections":[{"offset":{"line":0,"column":0},"map":{"version":3,"mappings":"K,F"}},{"offset":{"line":0,"column":4},"map":{"version":3,"mappings":"A"}}]}"#,
+        concat!(
+            r#"{"version":3,"sections":[{"offset":{"line":0,"column":0},"map":{"version":3,"#,
+            r#""mappings":"K,F"}},{"offset":{"line":0,"column":4},"map":{"version":3,"mappings":"A"}}]}"#,
+        ),
         "refused: section 1: overlap\n",
     ),
     (
-        r#"{"version":3,"sections":[{"offset":{"line":1,"column":0},"map":{"version":3,"mappings":""}},{"offset":{"line":0,"column":0},"map":{"version":3,"mappings":""}}]}"#,
+        concat!(
+            r#"{"version":3,"sections":[{"offset":{"line":1,"column":0},"map":{"version":3,"mappings":""}},"#,
+            r#"{"offset":{"line":0,"column":0},"map":{"version":3,"mappings":""}}]}"#,
+        ),
         "refused: section 1: order\n",
     ),
     (
@@ -45,15 +63,24 @@ const REFUSED: [(&str, &str); 10] = [
         "refused: section 0: not an object\n",
     ),
     (
-        r#"{"version":3,"sections":[{"offset":{"line":0,"column":0},"map":{"version":3,"mappings":"!"}},{}]}"#,
+        concat!(
+            r#"{"version":3,"sections":[{"offset":{"line":0,"column":0},"map":{"version":3,"#,
+            r#""mappings":"!"}},{}]}"#,
+        ),
         "refused: section 0: line 0 segment 0: number 1: bad character\n",
     ),
     (
-        r#"{"version":3,"sections":[{"offset":{"line":0,"column":0},"map":{"version":3,"file":7,"mappings":""}}]}"#,
+        concat!(
+            r#"{"version":3,"sections":[{"offset":{"line":0,"column":0},"map":{"version":3,"file":7,"#,
+            r#""mappings":""}}]}"#,
+        ),
         "refused: section 0: file\n",
     ),
     (
-        r#"{"version":3,"sections":[{"offset":{"line":16777216,"column":0},"map":{"version":3,"mappings":"A"}}]}"#,
+        concat!(
+            r#"{"version":3,"sections":[{"offset":{"line":16777216,"column":0},"map":{"version":3,"#,
+            r#""mappings":"A"}}]}"#,
+        ),
         "refused: section 0: line 0 segment 0: generated line\n",
     ),
     (

@@ -18,7 +18,10 @@ const ACCEPTED: [(&str, &str); 10] = [
     (r#"{"version":3,"mappings":""}"#, EMPTY_TIDY),
     // Null members are absent, and a source without a URL keeps its content.
     (
-        r#"{"version":3,"file":null,"sections":null,"sources":[null],"sourcesContent":["t"],"mappings":"AAAA"}"#,
+        concat!(
+            r#"{"version":3,"file":null,"sections":null,"sources":[null],"sourcesContent":["t"],"#,
+            r#""mappings":"AAAA"}"#,
+        ),
         r#"{"mappings":"AAAA","names":[],"sources":[null],"sourcesContent":["t"],"version":3}"#,
     ),
     (
@@ -27,16 +30,25 @@ const ACCEPTED: [(&str, &str); 10] = [
     ),
     (
         r#"{"version":3,"sources":["a.js","b.js"],"x_google_ignoreList":[1,1],"mappings":""}"#,
-        r#"{"ignoreList":[1],"mappings":"","names":[],"sources":["http://h/m/a.js","http://h/m/b.js"],"version":3}"#,
+        concat!(
+            r#"{"ignoreList":[1],"mappings":"","names":[],"sources":["http://h/m/a.js","http://h/m/b.js"],"#,
+            r#""version":3}"#,
+        ),
     ),
     (
         r#"{"version":3,"sources":["a.js","./a.js","b.js"],"mappings":"AAAA,CCAA,CCAA"}"#,
-        r#"{"mappings":"AAAA,CAAA,CCAA","names":[],"sources":["http://h/m/a.js","http://h/m/b.js"],"version":3}"#,
+        concat!(
+            r#"{"mappings":"AAAA,CAAA,CCAA","names":[],"sources":["http://h/m/a.js","http://h/m/b.js"],"#,
+            r#""version":3}"#,
+        ),
     ),
     // Sources with equal URLs and other contents stay two.
     (
         r#"{"version":3,"sources":["a.js","a.js"],"sourcesContent":["t"],"mappings":""}"#,
-        r#"{"mappings":"","names":[],"sources":["http://h/m/a.js","http://h/m/a.js"],"sourcesContent":["t",null],"version":3}"#,
+        concat!(
+            r#"{"mappings":"","names":[],"sources":["http://h/m/a.js","http://h/m/a.js"],"#,
+            r#""sourcesContent":["t",null],"version":3}"#,
+        ),
     ),
     // A column that falls is sorted, and names are numbered by what comes first then.
     (

@@ -3,8 +3,9 @@ use super::writes;
 use crate::{Outcome, Task};
 
 /// A script whose one source is ignored, and a trace of two lines.
-const BUNDLE: &str =
-    "map http://h/o.js http://h/m/out.js.map 67\n{\"version\":3,\"sources\":[\"a.js\"],\"ignoreList\":[0],\"mappings\":\"AAAA\"}\ntrace\n@http://h/o.js:1:1\nkept\n";
+const BUNDLE: &str = "map http://h/o.js http://h/m/out.js.map 67\n\
+    {\"version\":3,\"sources\":[\"a.js\"],\"ignoreList\":[0],\"mappings\":\"AAAA\"}\n\
+    trace\n@http://h/o.js:1:1\nkept\n";
 
 #[test]
 fn lines_of_ignored_sources_are_left_out_only_where_that_is_asked_for(rt: HostRuntime) {

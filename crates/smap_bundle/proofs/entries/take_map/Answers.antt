@@ -8,7 +8,8 @@ use Rattle.smap_record.specs.declared.fault.Fault.{Fault}
 use Rattle.smap_run.specs.FaultLine.{fault_words}
 use Rattle.smap_bundle.specs.declared.stop.Stop.TheVariants as stop
 use Rattle.smap_run.specs.declared.outcome.RunFault.TheVariants as run
-use Rattle.smap_bundle.specs.Bundle.{EntryFault, usual}
+use Rattle.smap_run.specs.Run.{usual}
+use Rattle.smap_bundle.specs.Bundle.{EntryFault}
 use Rattle.smap_bundle.specs.Entries.{cut_off, refused_words}
 use Rattle.smap_bundle.specs.Scripts.{script_of, scripts_of}
 use Rattle.smap_bundle.proofs.EntryLemmas.{bad_map, cut_entry, is_len}

@@ -16,7 +16,7 @@ pub loop-i-init : goal.loop-i-init
 loop-i-init c = record {
   used = used-start c.in_ok-names.names.used.keys (record_of c.args.map.now).mappings c.in_ok-names.ensures.used;
   numbers = numbers-none c.args.map.now.listing.names (used_in c.in_ok-names.names) c.in_ok-names.names.numbers.items c.in_ok-names.ensures.numbers;
-  encodes = c.new-encoder.ensures;
+  encodes = c.in_ok-encoder.ensures;
 }
 
 pub token_by-requires-clause-listed : goal.token_by-requires-clause-listed

@@ -1,0 +1,145 @@
+-- What is written of a layout is read back as that layout.
+use Rattle.std.proofs.Common.{◌≡◌, ℕ, ◌<◌, ◌≤◌, ◌^◌, suc, List, [], ◌∷◌, length, map, Option, Some, None, ap, ap₂, refl, ◌∙◌, sym, subst, Bool, true, false, cond, max, arith, append-nil}
+use Rattle.std.specs.Prelude.{codes, option_map, option_and_then, IfSome, IsUtf8}
+use Rattle.std.specs.List.{AllByRecursion}
+use Rattle.json.specs.Token.{Token}
+use Rattle.json.specs.Lex.{tokens}
+use Rattle.json.specs.Print.{print}
+use Rattle.json.specs.Json as json
+use Rattle.json.specs.Tree as tree
+use Rattle.json.proofs.Printed.Trees.{value-json_tokens}
+use Rattle.serde_json.specs.Data.{Data, null, boolean, number, string, array, object, Items, no_items, item, Members, no_members, member}
+use Rattle.serde_json.specs.Data.{depth, items_depth, members_depth}
+use Rattle.serde_json.specs.Read.{of_json, of_items, of_members, max_depth}
+use Rattle.serde_json.specs.View.{items_of}
+use Rattle.serde_json.specs.Written.{outline, items_outline, members_outline, compact_text}
+use Rattle.serde_json.proofs.Numbers.{number_of-decimal}
+use Rattle.serde_json.proofs.Texts.{print-outline}
+use Rattle.smap_mappings.specs.Text.{mappings_text}
+use Rattle.smap_record.specs.Record.{Entry, ReadMap}
+use Rattle.smap_canon.specs.Layout.{layout, list_of, or_null, whole_number, ignored_from, unless_empty, optional_member}
+use Rattle.smap_canon.specs.Layout.{has_content, written_contents, ReadsBack}
+use Rattle.smap_canon.specs.Writing.{data_tokens}
+use Rattle.smap_canon.proofs.EntryLemmas.{ignored_below}
+use Rattle.smap_canon.proofs.TreeLemmas.{layout_depth}
+
+-- the JSON of the value says it
+abbrev IsSaid : Data → Type 0
+IsSaid d = of_json (outline d) ≡ Some d
+
+abbrev AreSaid : Items → Type 0
+AreSaid ds = of_items (items_outline ds) ≡ Some ds
+
+-- ---- values
+
+or_null_said : (o : Option (List ℕ)) → IsSaid (or_null o)
+or_null_said None = refl
+or_null_said (Some s) = refl
+
+number_said : (n : ℕ) → n < 2 ^ 64 → IsSaid (whole_number n)
+number_said n few = ap (option_map number) (number_of-decimal n few)
+
+one_said : (d : Data) (ds : Items) → IsSaid d → AreSaid ds → AreSaid (item d ds)
+one_said d ds one rest = rw (one, rest) refl
+
+each_said : {A : Type 0} (write : A → Data) → ((x : A) → IsSaid (write x)) → (xs : List A) → AreSaid (items_of (map write xs))
+each_said write said [] = refl
+each_said write said (x ∷ xs) = one_said (write x) (items_of (map write xs)) (said x) (each_said write said xs)
+
+numbers_said : (ns : List ℕ) → AllByRecursion (λ n. n < 2 ^ 64) ns → AreSaid (items_of (map whole_number ns))
+numbers_said [] few = refl
+numbers_said (n ∷ ns) few = one_said (whole_number n) (items_of (map whole_number ns)) (number_said n few.0) (numbers_said ns few.1)
+
+list_said : (ds : List Data) → AreSaid (items_of ds) → IsSaid (list_of ds)
+list_said ds said = ap (option_map array) said
+
+-- ---- members
+
+unless_empty_said : (ds : List Data) → AreSaid (items_of ds) → IfSome (unless_empty ds) IsSaid
+unless_empty_said [] said = tt
+unless_empty_said (d ∷ ds) said = list_said (d ∷ ds) said
+
+contents_said : (es : List Entry) → IfSome (written_contents es) IsSaid
+contents_said es = by (has_content es)
+  where
+    all : IsSaid (list_of (map (λ (e : Entry). or_null e.content) es))
+    all = list_said (map (λ (e : Entry). or_null e.content) es) (each_said (λ (e : Entry). or_null e.content) (λ e. or_null_said e.content) es)
+
+    by : (b : Bool) → IfSome (cond b (Some (list_of (map (λ (e : Entry). or_null e.content) es))) None) IsSaid
+    by true = all
+    by false = tt
+
+file_said : (o : Option (List ℕ)) → IfSome (option_map string o) IsSaid
+file_said None = tt
+file_said (Some s) = refl
+
+abbrev the_members : Option Data → Option Data → Option Data → Data → Data → Data → Members
+the_members file ignored contents text names urls =
+    optional_member (codes "file") file
+    (optional_member (codes "ignoreList") ignored
+    (member (codes "mappings") text
+    (member (codes "names") names
+    (member (codes "sources") urls
+    (optional_member (codes "sourcesContent") contents
+    (member (codes "version") (whole_number 3) no_members))))))
+
+members_said : (file ignored contents : Option Data) (text names urls : Data) → IfSome file IsSaid → IfSome ignored IsSaid → IfSome contents IsSaid → IsSaid text → IsSaid names → IsSaid urls
+    → of_members (members_outline (the_members file ignored contents text names urls)) no_members ≡ Some (the_members file ignored contents text names urls)
+members_said None None None text names urls f i c t n u = rw (t, n, u, number_said 3 (omega arith)) refl
+members_said None None (Some d) text names urls f i c t n u = rw (t, n, u, c, number_said 3 (omega arith)) refl
+members_said None (Some d) None text names urls f i c t n u = rw (t, n, u, i, number_said 3 (omega arith)) refl
+members_said None (Some d) (Some e) text names urls f i c t n u = rw (t, n, u, i, c, number_said 3 (omega arith)) refl
+members_said (Some a) None None text names urls f i c t n u = rw (f, t, n, u, number_said 3 (omega arith)) refl
+members_said (Some a) None (Some d) text names urls f i c t n u = rw (f, t, n, u, c, number_said 3 (omega arith)) refl
+members_said (Some a) (Some d) None text names urls f i c t n u = rw (f, t, n, u, i, number_said 3 (omega arith)) refl
+members_said (Some a) (Some d) (Some e) text names urls f i c t n u = rw (f, t, n, u, i, c, number_said 3 (omega arith)) refl
+
+layout_said : (spell : List ℕ → List ℕ) (m : ReadMap) → length m.listing.sources ≤ 2 ^ 64 → IsSaid (layout spell m)
+unfolding layout
+layout_said spell m few =
+    let es = m.listing.sources in
+    let ignored = unless_empty (map whole_number (ignored_from 0 es)) in
+    let names = list_of (map string m.listing.names) in
+    let urls = list_of (map (λ (e : Entry). or_null (option_map spell e.url)) es) in
+    let i = unless_empty_said (map whole_number (ignored_from 0 es)) (numbers_said (ignored_from 0 es) (ignored_below 0 (2 ^ 64) es (omega (arith, few)))) in
+    let n = list_said (map string m.listing.names) (each_said string (λ s. refl) m.listing.names) in
+    let u = list_said (map (λ (e : Entry). or_null (option_map spell e.url)) es) (each_said (λ (e : Entry). or_null (option_map spell e.url)) (λ e. or_null_said (option_map spell e.url)) es) in
+    ap (option_map object) (members_said (option_map string m.file) ignored (written_contents es) (string (mappings_text m.listing.tokens)) names urls (file_said m.file) i (contents_said es) refl n u)
+
+-- ---- the text
+
+mutual
+  same_depth : (d : Data) → tree.depth (outline d) ≡ depth d
+  same_depth null = refl
+  same_depth (boolean b) = refl
+  same_depth (number n) = refl
+  same_depth (string s) = refl
+  same_depth (array ds) = ap suc (same_items_depth ds)
+  same_depth (object ms) = ap suc (same_members_depth ms)
+
+  same_items_depth : (ds : Items) → tree.items_depth (items_outline ds) ≡ items_depth ds
+  same_items_depth no_items = refl
+  same_items_depth (item d ds) = ap₂ max (same_depth d) (same_items_depth ds)
+
+  same_members_depth : (ms : Members) → tree.members_depth (members_outline ms) ≡ members_depth ms
+  same_members_depth no_members = refl
+  same_members_depth (member k d ms) = ap₂ max (same_depth d) (same_members_depth ms)
+
+-- the value of the JSON that was read, if nothing stands behind it
+abbrev read_whole : Option (json.Json × List Token) → Option Data
+read_whole o = option_and_then of_json (option_and_then (λ p. json.if_last p.0 p.1) o)
+
+-- what is printed of a layout's tokens is its text
+pub printed : (spell : List ℕ → List ℕ) (m : ReadMap) (ts : List Token) → ts ≡ data_tokens (layout spell m) → print ts ≡ compact_text (layout spell m)
+printed spell m ts is = ap print is ∙ print-outline (layout spell m)
+
+pub printed_back : (spell : List ℕ → List ℕ) (m : ReadMap) (ts : List Token) → ts ≡ data_tokens (layout spell m) → length m.listing.sources ≤ 2 ^ 64 → tokens (print ts) ≡ ts → IsUtf8 (print ts)
+    → ReadsBack (layout spell m)
+printed_back spell m ts is few same utf8 =
+    let d = layout spell m in
+    let text = printed spell m ts is in
+    let said = layout_said spell m few in
+    record {
+      utf8 = subst IsUtf8 text utf8;
+      same = ap read_whole (ap (json.value max_depth) (ap tokens (sym text) ∙ same ∙ is ∙ sym (append-nil (data_tokens d))) ∙ value-json_tokens (outline d) max_depth [] (omega (arith, same_depth d, layout_depth spell m))) ∙ said;
+    }

@@ -1,0 +1,32 @@
+//! The library in the lines in which the README shows it.
+use smap_canon::canonical;
+use smap_io::Device;
+use smap_record::{Base, Limits, SourceMap};
+use smap_testing::{SlowReader, SlowWriter};
+use smap_trace::{lookup, translate};
+use std::test::Fail;
+
+const MAP: &str = r#"{"version":3,"sources":["a.js"],"mappings":"AAUE,IAEA"}"#;
+
+#[test]
+fn the_library_in_six_lines(rt: HostRuntime) -> Result<(), Fail> {
+    let alloc = rt.alloc();
+    let bytes = MAP.as_bytes();
+    let reader = &mut Device::new(SlowReader::new(b"g@http://h/m/out.js:1:8\n", 50, 0));
+    let writer = &mut Device::new(SlowWriter::new(alloc, 50, 0));
+
+    let base = Base::new(alloc, "http://h/m/out.js.map")?;
+    let map = SourceMap::from_slice(alloc, bytes, &base, Limits::usual())?;
+    let (found, _probes) = lookup(&map, 0, 7);
+    let tidied = canonical(alloc, &map)?;
+    let scripts = [("http://h/m/out.js", &map)];
+    let counts = translate(alloc, reader, scripts.as_slice(), false, writer)?;
+
+    assert_eq!(rt; found.map(|token| token.column), Some(4));
+    assert_eq!(rt;
+        tidied.as_slice(),
+        br#"{"mappings":"AAUE,IAEA","names":[],"sources":["http://h/m/a.js"],"version":3}"#.as_slice()
+    );
+    assert_eq!(rt; counts.translated, 1);
+    Ok(())
+}
