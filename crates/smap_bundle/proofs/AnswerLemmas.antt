@@ -9,12 +9,11 @@ use Rattle.url.specs.Parts.{Parts}
 use Rattle.smap_record.specs.declared.fault.Fault.{Fault}
 use Rattle.smap_record.specs.Reading.{reading}
 use Rattle.smap_record.specs.Record.{Record, record_of}
-use Rattle.smap_run.specs.FaultLine.{fault_words}
-use Rattle.smap_run.specs.declared.input.TheConstants.{LIMIT}
+use Rattle.smap_io.specs.declared.reading.TheConstants.{LIMIT}
 use Rattle.smap_trace.specs.Translation.{AreDistinct, Script, translation}
 use Rattle.smap_bundle.specs.Header.{BeginsWithHeader, HasNoHeader, trace_line}
-use Rattle.smap_run.specs.Run.{usual}
-use Rattle.smap_bundle.specs.Bundle.{Answer, AreEntries, EntryFault, FaultAt, IsEntry, MapFault, Where, done, map_line, refused}
+use Rattle.smap_bundle.specs.declared.fault.EntryFault.TheVariants as wrong
+use Rattle.smap_bundle.specs.Bundle.{Answer, AreEntries, FaultAt, FaultOfEntry, FaultOfMap, IsEntry, Where, done, refusal, usual}
 use Rattle.smap_bundle.specs.Entries.{IsNew}
 use Rattle.smap_bundle.specs.Laws.{OneAnswer}
 use Rattle.smap_bundle.proofs.EntryLemmas.{behind, ok_isnt}
@@ -41,14 +40,14 @@ not_both {A = A} {E = E} r x y p q =
     let bad : ◌≡◌ {A = ℕ} 0 1 = cc in
     omega (arith, bad)
 
-one_map_fault : (i : ℕ) (base : List ℕ) (n : ℕ) (more : List ℕ) (a b : Answer) → MapFault i base n more a → MapFault i base n more b → a ≡ b
+one_map_fault : (i : ℕ) (base : List ℕ) (n : ℕ) (more : List ℕ) (a b : Answer) → FaultOfMap i base n more a → FaultOfMap i base n more b → a ≡ b
 one_map_fault i base n more a b x y = one_where (slice_get more n ≢ Some 10) _ _ _ _ a b x y (λ p q. p ∙ sym q) (λ f g.
     let url = ok_one (parse_url None base) f.1.url g.1.url f.1.is_base g.1.is_base in
     let same = err_one (reading f.1.url usual (take n more)) f.0 g.0 f.1.is_fault (ap (λ (u : Parts). reading u usual (take n more)) url ∙ g.1.is_fault) in
-    f.2 ∙ ap (λ (e : Fault). refused (map_line i (fault_words e))) same ∙ sym g.2)
+    f.2 ∙ ap (λ (e : Fault). refusal i (wrong.Map e)) same ∙ sym g.2)
 
-one_entry_fault : (seen : List Script) (script base : List ℕ) (n : ℕ) (more : List ℕ) (a b : Answer) → EntryFault seen script base n more a
-    → EntryFault seen script base n more b → a ≡ b
+one_entry_fault : (seen : List Script) (script base : List ℕ) (n : ℕ) (more : List ℕ) (a b : Answer) → FaultOfEntry seen script base n more a
+    → FaultOfEntry seen script base n more b → a ≡ b
 one_entry_fault seen script base n more a b x y =
     one_where (LIMIT < n) _ _ _ _ a b x y (λ p q. p ∙ sym q) (λ x1 y1.
     one_where (Contains (map (λ (s : Script). s.0) seen) script) _ _ _ _ a b x1 y1 (λ p q. p ∙ sym q) (λ x2 y2.
@@ -57,12 +56,12 @@ one_entry_fault seen script base n more a b x y =
 -- a fault of an entry, told of another entry that is the same
 moved : (seen : List Script) (script base more other_script other_base other_more : List ℕ) (n m : ℕ) (answer : Answer)
     → (script ≡ other_script) × (base ≡ other_base) × (n ≡ m) × (more ≡ other_more)
-    → EntryFault seen other_script other_base m other_more answer → EntryFault seen script base n more answer
+    → FaultOfEntry seen other_script other_base m other_more answer → FaultOfEntry seen script base n more answer
 moved seen script base more other_script other_base other_more n m answer same fault =
-    let one = subst (λ (s : List ℕ). EntryFault seen s other_base m other_more answer) (sym same.0) fault in
-    let two = subst (λ (s : List ℕ). EntryFault seen script s m other_more answer) (sym same.1) one in
-    let three = subst (λ (k : ℕ). EntryFault seen script base k other_more answer) (sym same.2) two in
-    subst (λ (s : List ℕ). EntryFault seen script base n s answer) (sym same.3) three
+    let one = subst (λ (s : List ℕ). FaultOfEntry seen s other_base m other_more answer) (sym same.0) fault in
+    let two = subst (λ (s : List ℕ). FaultOfEntry seen script s m other_more answer) (sym same.1) one in
+    let three = subst (λ (k : ℕ). FaultOfEntry seen script base k other_more answer) (sym same.2) two in
+    subst (λ (s : List ℕ). FaultOfEntry seen script base n s answer) (sym same.3) three
 
 one_fault : (seen : List Script) (text : List ℕ) (a b : Answer) → FaultAt seen text a → FaultAt seen text b → a ≡ b
 one_fault seen text a b x y = one_where (HasNoHeader text) _ _ _ _ a b x y (λ p q. p ∙ sym q) (λ f g.
@@ -80,7 +79,7 @@ entry_begins entry rest s e = record {
 }
 
 no_entry_fault : (seen : List Script) (entry rest : List ℕ) (s : Script) (e : IsEntry entry s) (answer : Answer) → IsNew seen s.0
-    → EntryFault seen s.0 e.base (length e.bytes) ((e.bytes ++ 10 ∷ []) ++ rest) answer → ⊥
+    → FaultOfEntry seen s.0 e.base (length e.bytes) ((e.bytes ++ 10 ∷ []) ++ rest) answer → ⊥
 no_entry_fault seen entry rest s e answer new (inl x) = omega (arith, x.0, e.fits)
 no_entry_fault seen entry rest s e answer new (inr (x0, inl x)) = new x.0
 no_entry_fault seen entry rest s e answer new (inr (x0, inr (x1, inl x))) = ok_isnt (parse_url None e.base) e.url e.is_base x.0

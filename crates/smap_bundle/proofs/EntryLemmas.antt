@@ -10,14 +10,16 @@ use Rattle.url.specs.Parts.{Parts}
 use Rattle.smap_record.specs.declared.fault.Fault.{Fault}
 use Rattle.smap_record.specs.Reading.{reading}
 use Rattle.smap_record.specs.Record.{record_of}
-use Rattle.smap_run.specs.FaultLine.{fault_words}
-use Rattle.smap_run.specs.declared.input.TheConstants.{LIMIT}
+use Rattle.smap_io.specs.declared.reading.TheConstants.{LIMIT}
 use Rattle.smap_trace.specs.Frame.{lacks}
 use Rattle.smap_trace.specs.Translation.{AreDistinct, Script}
+use Rattle.smap_io.specs.declared.device.Device.{Device}
+use Rattle.smap_io.specs.Device.{device_failures, has_ended}
+use Rattle.smap_io.specs.Reading.{Gave, ReadsLine}
+use Rattle.smap_bundle.specs.declared.fault.EntryFault.TheVariants as wrong
 use Rattle.smap_bundle.specs.Header.{BeginsWithHeader, HasNoHeader, IsHeader, longest_header, trace_line}
-use Rattle.smap_run.specs.Run.{usual}
-use Rattle.smap_bundle.specs.Bundle.{Answer, Answers, AreEntries, EntryFault, FaultAt, IsEntry, MapFault}
-use Rattle.smap_bundle.specs.Entries.{IsNew, TakesEntry, TakesMap, cut_off, refused_words}
+use Rattle.smap_bundle.specs.Bundle.{Answer, Answers, AreEntries, FaultAt, FaultOfEntry, FaultOfMap, IsEntry, refusal, usual}
+use Rattle.smap_bundle.specs.Entries.{IsNew, TakesEntry, TakesMap, cut_off}
 use Rattle.smap_bundle.specs.Reading.{IsLine, MayFollow}
 use Rattle.smap_bundle.proofs.TextLemmas.{lacks_rest, no_end_within, one_cut}
 use Rattle.smap_bundle.proofs.HeaderLemmas.{begun, inside, inside_lacks, line_is}
@@ -31,25 +33,25 @@ pub ok_isnt : {A E : Type 0} (r : Result A E) (x : A) → r ≡ Ok x → IsErr r
 ok_isnt r x e h = true≢false (sym h ∙ ap is_err e)
 
 pub repeated : (seen : List Script) (script base : List ℕ) (n entry : ℕ) (more : List ℕ) (answer : Answer) → entry ≡ length seen → n ≤ LIMIT
-    → Contains (map (λ (s : Script). s.0) seen) script → refused_words entry (codes "script repeated") answer → EntryFault seen script base n more answer
+    → Contains (map (λ (s : Script). s.0) seen) script → answer ≡ refusal entry wrong.Repeated → FaultOfEntry seen script base n more answer
 repeated seen script base n entry more answer at fits known is =
-    inr (small n fits, inl (known, subst (λ (i : ℕ). refused_words i (codes "script repeated") answer) at is))
+    inr (small n fits, inl (known, subst (λ (i : ℕ). answer ≡ refusal i wrong.Repeated) at is))
 
 pub no_base : (seen : List Script) (script base : List ℕ) (n entry : ℕ) (more : List ℕ) (answer : Answer) → entry ≡ length seen → n ≤ LIMIT
-    → IsNew seen script → IsErr (parse_url None base) → refused_words entry (codes "base is no URL") answer → EntryFault seen script base n more answer
+    → IsNew seen script → IsErr (parse_url None base) → answer ≡ refusal entry wrong.Base → FaultOfEntry seen script base n more answer
 no_base seen script base n entry more answer at fits new bad is =
-    inr (small n fits, inr (new, inl (bad, subst (λ (i : ℕ). refused_words i (codes "base is no URL") answer) at is)))
+    inr (small n fits, inr (new, inl (bad, subst (λ (i : ℕ). answer ≡ refusal i wrong.Base) at is)))
 
 -- a fault of the map of an entry whose base is a URL
 map_fault : (seen : List Script) (script base : List ℕ) (n : ℕ) (more : List ℕ) (answer : Answer) (url : Parts) → n ≤ LIMIT → IsNew seen script
-    → parse_url None base ≡ Ok url → MapFault (length seen) base n more answer → EntryFault seen script base n more answer
+    → parse_url None base ≡ Ok url → FaultOfMap (length seen) base n more answer → FaultOfEntry seen script base n more answer
 map_fault seen script base n more answer url fits new good fault = inr (small n fits, inr (new, inr (ok_isnt (parse_url None base) url good, fault)))
 
 pub cut_entry : (seen : List Script) (script base : List ℕ) (n entry : ℕ) (more : List ℕ) (answer : Answer) (url : Parts) → entry ≡ length seen → n ≤ LIMIT
-    → IsNew seen script → parse_url None base ≡ Ok url → cut_off entry n more answer → EntryFault seen script base n more answer
+    → IsNew seen script → parse_url None base ≡ Ok url → cut_off entry n more answer → FaultOfEntry seen script base n more answer
 cut_entry seen script base n entry more answer url at fits new good cut =
     map_fault seen script base n more answer url fits new good
-    (inl (cut.0, subst (λ (i : ℕ). refused_words i (codes "cut off") answer) at cut.1))
+    (inl (cut.0, subst (λ (i : ℕ). answer ≡ refusal i wrong.CutOff) at cut.1))
 
 -- the byte behind a text
 pub behind : (xs : List ℕ) (y : ℕ) (ys : List ℕ) → slice_get (xs ++ y ∷ ys) (length xs) ≡ Some y
@@ -58,7 +60,7 @@ behind (x ∷ xs) y ys = behind xs y ys
 
 pub bad_map : (seen : List Script) (script base bytes more : List ℕ) (n entry : ℕ) (fault : Fault) (answer : Answer) (url : Parts) → entry ≡ length seen → n ≤ LIMIT
     → length bytes ≡ n → IsNew seen script → parse_url None base ≡ Ok url → reading url usual bytes ≡ Err fault
-    → refused_words entry (fault_words fault) answer → EntryFault seen script base n ((bytes ++ 10 ∷ []) ++ more) answer
+    → answer ≡ refusal entry (wrong.Map fault) → FaultOfEntry seen script base n ((bytes ++ 10 ∷ []) ++ more) answer
 bad_map seen script base bytes more n entry fault answer url at fits len new good bad is =
     let text : (bytes ++ 10 ∷ []) ++ more ≡ bytes ++ 10 ∷ more = append_assoc bytes (10 ∷ []) more in
     let feed : slice_get ((bytes ++ 10 ∷ []) ++ more) n ≡ Some 10 =
@@ -70,7 +72,7 @@ bad_map seen script base bytes more n entry fault answer url at fits len new goo
       (
         fault,
         record { url = url; is_base = good; is_fault = ap (reading url usual) front ∙ bad },
-        subst (λ (i : ℕ). refused_words i (fault_words fault) answer) at is,
+        subst (λ (i : ℕ). answer ≡ refusal i (wrong.Map fault)) at is,
       ),
     ))
 
@@ -123,12 +125,13 @@ pub is_len : (n len : ℕ) → len ≡ min n (2 ^ 64 - 1) → len ≤ LIMIT → 
 is_len n len is fits = omega (arith, is, fits)
 
 -- an entry of a header and its map
-pub entry_taken : (a b : Option (List ℕ)) (calls left : ℕ) (line script base : List ℕ) (n len : ℕ) (old new : List Script) → IsHeader line script base n
-    → len ≡ min n (2 ^ 64 - 1) → TakesMap a b calls left script base len old new → TakesEntry a b calls left line old new
-entry_taken a b calls left line script base n len old new h is t = record {
+pub entry_taken : {R : Type 0} (remaining : R → Option (List ℕ)) (a b : Device R) (before after : ℕ) (line script base : List ℕ) (n len : ℕ) (old new : List Script)
+    → IsHeader line script base n → len ≡ min n (2 ^ 64 - 1) → TakesMap remaining a b before after script base len old new → TakesEntry remaining a b before after line old new
+entry_taken remaining a b before after line script base n len old new h is t = record {
   script = (script, record_of t.map_text);
   bytes = t.bytes ++ 10 ∷ [];
-  got = t.got;
+  gave = t.gave;
+  calls = t.calls;
   entry = record {
     base = base;
     url = t.url;
@@ -146,7 +149,7 @@ entry_taken a b calls left line script base n len old new h is t = record {
 
 -- a fault behind a header is one of the text
 pub fault_behind : (seen : List Script) (line script base : List ℕ) (n : ℕ) (more : List ℕ) (answer : Answer) → IsHeader line script base n
-    → EntryFault seen script base n more answer → FaultAt seen (line ++ more) answer
+    → FaultOfEntry seen script base n more answer → FaultAt seen (line ++ more) answer
 fault_behind seen line script base n more answer h fault =
     let begins : BeginsWithHeader (line ++ more) script base n more = record { line = line; whole = refl; header = h } in
     inr ((λ (none : HasNoHeader (line ++ more)). none.no_header script base more n begins), (script, base, n, more, begins, fault))
@@ -186,3 +189,15 @@ answered hide ss entries line text answer are distinct fault = record {
   reads = record { entries = entries; whole = append_assoc entries line text; are = are; distinct = distinct };
   is = inr fault;
 }
+
+-- ---- lines as they are read
+
+pub line_read : {R : Type 0} (remaining : R → Option (List ℕ)) (a b : Device R) (line : List ℕ) → has_ended a ≡ false → ReadsLine remaining a b longest_header line
+    → IsLine (has_ended b) line × Gave remaining a b line × (device_failures b ≡ device_failures a)
+line_read remaining a b line still (inl w) =
+    (inl (record { front = w.is_line.front; whole = w.is_line.whole; one_line = w.is_line.one_line; short = w.within }, w.ended ∙ still), w.gave, w.failures)
+line_read remaining a b line still (inr u) = (inr (u.1, λ still_open. far (cases_lt (length line) longest_header) still_open), u.0.gave, u.0.failures)
+  where
+    far : (length line < longest_header) ⊎ (longest_header ≤ length line) → has_ended b ≡ false → longest_header ≤ length line
+    far (inl lt) still_open = absurd (true≢false (sym (u.0.short lt).0 ∙ still_open))
+    far (inr le) still_open = le

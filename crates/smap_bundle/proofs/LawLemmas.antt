@@ -1,6 +1,5 @@
 -- The first rows.
 use Rattle.std.proofs.Common.{◌≢◌, ◌∙◌, inl, inr, ℕ, List, [], ◌++◌, length, drop, codes, refl, ap, arith, length-append}
-use Rattle.std.specs.Fmt.{digits}
 use Rattle.smap_bundle.specs.Header.{BeginsWithHeader, header, trace_line}
 use Rattle.smap_bundle.specs.Laws.{FirstRows}
 
@@ -16,7 +15,6 @@ no_trace trace e =
     omega (arith, l)
 
 pub first_rows : FirstRows
-unfolding digits
 first_rows hide = (
   record {
     scripts = [];

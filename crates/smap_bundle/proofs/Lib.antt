@@ -1,10 +1,8 @@
 pub mod TextLemmas
 pub mod HeaderLemmas
 pub mod ParsedLemmas
-pub mod ReadingLemmas
 pub mod StopLemmas
 pub mod ScriptLemmas
 pub mod EntryLemmas
-pub mod RunLemmas
 pub mod LawLemmas
 pub mod AnswerLemmas

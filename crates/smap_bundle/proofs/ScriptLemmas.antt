@@ -1,14 +1,17 @@
 -- Scripts in a table by their URLs.
-use Rattle.std.proofs.Common.{◌≡◌, ◌∙◌, ℕ, zero, suc, Bool, true, false, ◌||◌, List, [], ◌∷◌, ◌++◌, map, String, refl, sym, ap, arith, bytes_eq, string_bytes, true≢false}
-use Rattle.std.specs.Prelude.{Contains, is_some}
+use Rattle.std.proofs.Common.{◌≡◌, ◌∙◌, ℕ, zero, suc, ◌+◌, Bool, true, false, ◌||◌, List, [], ◌∷◌, ◌++◌, map, take, get_or, Bor, String, Some, refl, sym, ap, arith, bytes_eq, string_bytes, true≢false}
+use Rattle.std.specs.Prelude.{Contains, is_some, slice_get}
 use Rattle.std.specs.List.{list_any}
 use Rattle.std.specs.Map.{lookup}
 use Rattle.std.proofs.lemmas.Cmp.{nat_list_eq_equiv}
+use Rattle.std.proofs.lemmas.List.{map-append, take_more}
+use Rattle.std.proofs.lemmas.Option.{slice_get_within}
 use Rattle.std.proofs.lemmas.Map.Views.{list_any-from_Contains}
 use Rattle.std.proofs.lemmas.Slice.Eq.{bytes_eq-Decides}
 use Rattle.indexmap.specs.IndexMap.{insert_entry}
 use Rattle.smap_record.specs.Record.{ReadMap, record_of}
 use Rattle.smap_trace.specs.Translation.{Script}
+use Rattle.smap_trace.specs.Views.{script_in, scripts_in}
 use Rattle.smap_bundle.specs.Entries.{IsNew}
 use Rattle.smap_bundle.specs.Scripts.{script_of, scripts_of}
 
@@ -71,3 +74,22 @@ put_last {A = A} k v (e ∷ es) h = step (bytes_eq (string_bytes k) (string_byte
 pub insert_new : {A : Type 0} (k : String A) (v : ReadMap) (es : List (String A × ReadMap)) → IsNew (scripts_of es) (string_bytes k)
     → scripts_of (insert_entry (λ (a b : String A). bytes_eq (string_bytes a) (string_bytes b)) es k v) ≡ scripts_of es ++ (string_bytes k, record_of v) ∷ []
 insert_new k v es new = put_last k v es (lacks_url (string_bytes k) (scripts_of es) new)
+
+-- ---- the scripts as they are lent
+
+found : {A : Type 0} (es : List A) (i : ℕ) (e : A) → slice_get es i ≡ Some e → get_or es i e ≡ e
+found [] i e h = cc
+found (x ∷ xs) zero e h = cc
+found (x ∷ xs) (suc i) e h = found xs i e h
+
+take_next : {A : Type 0} (es : List A) (i : ℕ) (e : A) → slice_get es i ≡ Some e → take (i + 1) es ≡ take i es ++ e ∷ []
+take_next {A = A} es i e h = take_more es i e (slice_get_within es i e h) ∙ ap (λ (x : A). take i es ++ x ∷ []) (found es i e h)
+
+pub next_lent : {A : Type 0} (xs : List (Bor (List ℕ) × Bor ReadMap)) (es : List (String A × ReadMap)) (i : ℕ) (e : String A × ReadMap) (u : Bor (List ℕ)) (m : Bor ReadMap)
+    → scripts_in xs ≡ scripts_of (take i es) → slice_get es i ≡ Some e → u.now ≡ string_bytes e.0 → m.now ≡ e.1
+    → scripts_in (xs ++ (u, m) ∷ []) ≡ scripts_of (take (i + 1) es)
+next_lent {A = A} xs es i e u m so_far at url is =
+    let last : ◌≡◌ {A = Script} (u.now, record_of m.now) (script_of e) = rw (url, is) refl in
+    map-append script_in xs ((u, m) ∷ []) ∙ ap (λ (ss : List Script). ss ++ (u.now, record_of m.now) ∷ []) so_far
+    ∙ ap (λ (s : Script). scripts_of (take i es) ++ s ∷ []) last
+    ∙ sym (map-append script_of (take i es) (e ∷ [])) ∙ ap scripts_of (sym (take_next es i e at))

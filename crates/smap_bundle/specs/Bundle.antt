@@ -1,17 +1,18 @@
 -- The bundle that `translate` reads: entries, then the line `trace`, then the trace up to the end of the
 -- input. An entry is a header, the bytes of a map, and a line feed. A format of this project's own.
 use Rattle.std.specs.Prelude.{◌≡◌, ◌≢◌, ◌⊎◌, ℕ, ◌<◌, ◌≤◌, Bool, List, [], ◌∷◌, ◌++◌, length, Contains, map}
-use Rattle.std.specs.Prelude.{codes}
-use Rattle.std.specs.Prelude.{decimal, slice_get, take, Some, None, Ok, Err, IsErr}
+use Rattle.std.specs.Prelude.{slice_get, take, Some, None, Ok, Err, IsErr}
 use Rattle.url.specs.Parser.{parse_url}
 use Rattle.url.specs.Parts.{Parts}
 use Rattle.smap_record.specs.declared.fault.Fault.{Fault}
 use Rattle.smap_record.specs.Reading.{reading}
 use Rattle.smap_record.specs.Record.{ReadMap, record_of}
+pub use Rattle.smap_record.specs.Record.{usual}
 use Rattle.smap_trace.specs.Translation.{AreDistinct, Script, translation}
-use Rattle.smap_run.specs.FaultLine.{fault_words}
-use Rattle.smap_run.specs.Run.{usual}
-use Rattle.smap_run.specs.declared.input.TheConstants.{LIMIT}
+use Rattle.smap_io.specs.declared.reading.TheConstants.{LIMIT}
+use Rattle.smap_bundle.specs.declared.fault.EntryFault.{EntryFault}
+use Rattle.smap_bundle.specs.declared.fault.EntryFault.TheVariants as wrong
+use Rattle.smap_bundle.specs.declared.fault.Refusal.{Refusal}
 use Rattle.smap_bundle.specs.Header.{BeginsWithHeader, HasNoHeader, trace_line}
 
 -- ---- entries
@@ -43,20 +44,16 @@ pub record Reads (input : List ℕ) (scripts : List Script) (rest : List ℕ) : 
 
 -- ---- the answer
 
--- What `translate` answers: what it writes of a bundle that isn't refused, or the line of its first fault
--- without its line feed, or that a map is too long.
+-- What `translate` answers: what it writes of a bundle that isn't refused, or the bundle's first fault, or
+-- that a map is too long.
 pub data Answer : Type 0 where
   done : List ℕ → Answer
-  refused : List ℕ → Answer
+  refused : Refusal → Answer
   too_long : Answer
 
--- `refused: map I: ` and the words
-abbrev pub map_line : ℕ → List ℕ → List ℕ
-map_line i words = codes "refused: map " ++ (decimal i ++ (codes ": " ++ words))
-
--- `refused: bundle header I`
-abbrev pub header_line : ℕ → List ℕ
-header_line i = codes "refused: bundle header " ++ decimal i
+-- this fault of the entry of this number
+abbrev pub refusal : ℕ → EntryFault → Answer
+refusal i fault = refused (record { entry = i; fault = fault })
 
 -- This where P holds, and else by the next rule.
 abbrev pub Where : Type 0 → Type 0 → Type 0 → Type 0
@@ -70,27 +67,26 @@ pub record IsRefusedMap (base bytes : List ℕ) (fault : Fault) : Type 0 where
 
 -- What is wrong with the map whose base and n bytes stand there: the bytes or their line feed are cut off, or
 -- the map is refused.
-abbrev pub MapFault : ℕ → List ℕ → ℕ → List ℕ → Answer → Type 0
-MapFault i base n more answer =
-    Where (slice_get more n ≢ Some 10) (answer ≡ refused (map_line i (codes "cut off")))
-    ((fault : Fault) × IsRefusedMap base (take n more) fault
-    × (answer ≡ refused (map_line i (fault_words fault))))
+abbrev pub FaultOfMap : ℕ → List ℕ → ℕ → List ℕ → Answer → Type 0
+FaultOfMap i base n more answer =
+    Where (slice_get more n ≢ Some 10) (answer ≡ refusal i wrong.CutOff)
+    ((fault : Fault) × IsRefusedMap base (take n more) fault × (answer ≡ refusal i (wrong.Map fault)))
 
--- What is wrong with the entry behind those of `seen`, whose header is followed by `more`: the first that
+-- What is wrong with the entry after those of `seen`, whose header is followed by `more`: the first that
 -- holds.
-abbrev pub EntryFault : List Script → List ℕ → List ℕ → ℕ → List ℕ → Answer → Type 0
-EntryFault seen script base n more answer =
+abbrev pub FaultOfEntry : List Script → List ℕ → List ℕ → ℕ → List ℕ → Answer → Type 0
+FaultOfEntry seen script base n more answer =
     let i = length seen in
     Where (LIMIT < n) (answer ≡ too_long)
-    (Where (Contains (map (λ s. s.0) seen) script) (answer ≡ refused (map_line i (codes "script repeated")))
-    (Where (IsErr (parse_url None base)) (answer ≡ refused (map_line i (codes "base is no URL")))
-    (MapFault i base n more answer)))
+    (Where (Contains (map (λ s. s.0) seen) script) (answer ≡ refusal i wrong.Repeated)
+    (Where (IsErr (parse_url None base)) (answer ≡ refusal i wrong.Base)
+    (FaultOfMap i base n more answer)))
 
--- What is wrong behind the entries of `seen`.
+-- What is wrong after the entries of `seen`.
 abbrev pub FaultAt : List Script → List ℕ → Answer → Type 0
-FaultAt seen text answer = Where (HasNoHeader text) (answer ≡ refused (header_line (length seen)))
+FaultAt seen text answer = Where (HasNoHeader text) (answer ≡ refusal (length seen) wrong.Header)
     ((script : List ℕ) × (base : List ℕ) × (n : ℕ) × (more : List ℕ)
-    × BeginsWithHeader text script base n more × EntryFault seen script base n more answer)
+    × BeginsWithHeader text script base n more × FaultOfEntry seen script base n more answer)
 
 -- What `translate` answers for the input.
 pub record Answers (hide : Bool) (input : List ℕ) (answer : Answer) : Type 0 where

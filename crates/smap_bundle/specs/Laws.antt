@@ -1,7 +1,8 @@
 -- What holds of bundles, whatever the input.
 use Rattle.std.specs.Prelude.{◌≡◌, ℕ, Bool, List, [], codes}
+use Rattle.smap_bundle.specs.declared.fault.EntryFault.TheVariants as wrong
 use Rattle.smap_bundle.specs.Header.{BeginsWithHeader, IsHeader}
-use Rattle.smap_bundle.specs.Bundle.{Answer, Answers, done, refused}
+use Rattle.smap_bundle.specs.Bundle.{Answer, Answers, done, refusal}
 
 -- A line is at most one header.
 abbrev pub OneHeader : Type 0
@@ -23,4 +24,4 @@ OneAnswer = (hide : Bool) (input : List ℕ) (a b : Answer) → Answers hide inp
 -- The first rows: an empty input has no header, and a trace without entries and lines gives nothing.
 abbrev pub FirstRows : Type 0
 FirstRows = (hide : Bool)
-    → Answers hide [] (refused (codes "refused: bundle header 0")) × Answers hide (codes "trace\n") (done [])
+    → Answers hide [] (refusal 0 wrong.Header) × Answers hide (codes "trace\n") (done [])

@@ -5,4 +5,3 @@ pub mod Laws
 pub mod Reading
 pub mod Stopping
 pub mod Entries
-pub mod Run

@@ -1,38 +1,46 @@
 -- Why the entries of a bundle give no scripts.
-use Rattle.std.specs.Prelude.{◌≡◌, ℕ, List, ◌++◌, Option, string_bytes}
-use Rattle.std.specs.Prelude.{Bool}
-use Rattle.std.specs.Io.KnownBytes.{Consumes}
-use Rattle.smap_run.specs.declared.outcome.RunFault.TheVariants as run
-use Rattle.smap_bundle.specs.declared.stop.Stop.{Stop}
-use Rattle.smap_bundle.specs.declared.stop.Stop.TheVariants as stop
+use Rattle.std.specs.Prelude.{◌≡◌, ◌⊎◌, ℕ, ◌<◌, ◌≤◌, List, ◌++◌, length, Option}
+use Rattle.smap_io.specs.declared.device.Device.{Device}
+use Rattle.smap_io.specs.Device.{device_failures, has_ended}
+use Rattle.smap_io.specs.Reading.{Gave}
+use Rattle.smap_io.specs.declared.reading.ReadFault.{ReadFault}
+use Rattle.smap_io.specs.declared.reading.ReadFault.TheVariants as io
+use Rattle.smap_bundle.specs.declared.fault.BundleFault.{BundleFault}
+use Rattle.smap_bundle.specs.declared.fault.BundleFault.TheVariants as fault
 use Rattle.smap_bundle.specs.Bundle.{Answer, refused, too_long}
-use Rattle.smap_bundle.specs.Reading.{GivesUp, MayFollow}
+use Rattle.smap_bundle.specs.Reading.{MayFollow}
 
 -- The answer where it is one; want of memory says nothing, and nothing is read or written.
-abbrev pub Says : (Answer → Type 0) → Stop → Type 0
-Says P (stop.Refused line) = P (refused (string_bytes line))
-Says P (stop.Fault run.TooLong) = P too_long
-Says P (stop.Fault run.Memory) = Unit {0}
-Says P (stop.Fault run.Read) = ⊥
-Says P (stop.Fault run.Write) = ⊥
+abbrev pub Says : (Answer → Type 0) → BundleFault → Type 0
+Says P (fault.Refused refusal) = P (refused refusal)
+Says P fault.TooLong = P too_long
+Says P fault.Memory = Unit {0}
+Says P fault.Read = ⊥
+
+-- what a reader's fault comes to
+abbrev pub unread : ReadFault → BundleFault
+unread io.Failed = fault.Read
+unread io.Spent = fault.Read
+unread io.Memory = fault.Memory
 
 -- These bytes were read, and the answer for them is settled, whatever may follow.
-pub record Settled (read_old read_new : Option (List ℕ)) (P : List ℕ → Answer → Type 0) (answer : Answer)
-    (ended : Bool) : Type 0 where
+pub record Settled {R : Type 0} (remaining : R → Option (List ℕ)) (old new : Device R)
+    (P : List ℕ → Answer → Type 0) (answer : Answer) : Type 0 where
   pub bytes : List ℕ
-  pub consumed : Consumes read_old read_new bytes
-  pub settled : (more : List ℕ) → MayFollow ended more → P (bytes ++ more) answer
+  pub gave : Gave remaining old new bytes
+  pub settled : (more : List ℕ) → MayFollow (has_ended new) more → P (bytes ++ more) answer
 
--- Reading stopped: by an answer for what was read, or because a call failed.
-abbrev pub Stops : Option (List ℕ) → Option (List ℕ) → ℕ → ℕ → ℕ → Bool → (List ℕ → Answer → Type 0) → Stop
-    → Type 0
-Stops read_old read_new old new calls ended P (stop.Refused line) =
-    Settled read_old read_new P (refused (string_bytes line)) ended × (new ≡ old)
-Stops read_old read_new old new calls ended P (stop.Fault run.TooLong) =
-    ((bytes : List ℕ) × Consumes read_old read_new bytes × ((more : List ℕ) → P (bytes ++ more) too_long))
-    × (new ≡ old)
-Stops read_old read_new old new calls ended P (stop.Fault run.Read) = GivesUp read_old read_new old new calls
-    run.Read
-Stops read_old read_new old new calls ended P (stop.Fault run.Memory) = GivesUp read_old read_new old new
-    calls run.Memory
-Stops read_old read_new old new calls ended P (stop.Fault run.Write) = ⊥
+-- Reading by so many calls stopped: by an answer for what was read, or because a call failed, or the calls
+-- were spent, or there was no memory.
+abbrev pub Stops : {R : Type 0} → (R → Option (List ℕ)) → Device R → Device R → ℕ
+    → (List ℕ → Answer → Type 0) → BundleFault → Type 0
+Stops remaining old new calls P (fault.Refused refusal) =
+    Settled remaining old new P (refused refusal) × (device_failures new ≡ device_failures old)
+Stops remaining old new calls P fault.TooLong =
+    (bytes : List ℕ) × Gave remaining old new bytes × ((more : List ℕ) → P (bytes ++ more) too_long)
+    × (device_failures new ≡ device_failures old)
+Stops remaining old new calls P fault.Memory =
+    (bytes : List ℕ) × Gave remaining old new bytes × (device_failures new ≡ device_failures old)
+Stops remaining old new calls P fault.Read = (bytes : List ℕ) × Gave remaining old new bytes
+    × ((device_failures old < device_failures new)
+    ⊎ ((device_failures new ≡ device_failures old) × (calls ≤ length bytes)))

@@ -1,50 +1,46 @@
 //! The entries of a bundle: the scripts whose maps are at hand.
 ghost use Rattle.std.specs.Prelude.{◌≡◌, ◌≢◌, ℕ, Bool, List, ◌-◌, ◌^◌, ◌<◌, ◌≤◌, ◌++◌, ◌∷◌, [], IfOk, IfErr};
-ghost use Rattle.std.specs.Prelude.{OnOk, Contains, None, Some, codes, false, length, map, min, slice_get};
-ghost use Rattle.std.specs.Prelude.{string_bytes, true};
-ghost use Rattle.smap_io.specs.Device.{device_inner, device_failures, has_ended};
+ghost use Rattle.std.specs.Prelude.{MatchResult, OnOk, Contains, None, Some, false, length, map, min};
+ghost use Rattle.std.specs.Prelude.{slice_get, true};
+ghost use Rattle.smap_io.specs.Device.{device_failures, has_ended};
+ghost use Rattle.smap_io.specs.Reading.{Gave};
 ghost use Rattle.smap_record.specs.Reading.{reading};
 ghost use Rattle.smap_record.specs.Record.{record_of};
 ghost use Rattle.smap_record.specs.declared.fault.Fault.{Fault};
-ghost use Rattle.smap_run.specs.FaultLine.{fault_words};
-ghost use Rattle.smap_run.specs.Run.{usual};
 ghost use Rattle.smap_trace.specs.Translation.{AreDistinct};
-ghost use Rattle.smap_bundle.specs.Bundle as bundle;
-ghost use Rattle.smap_bundle.specs.Entries.{TakesEntries, TakesEntry, TakesMap, IsNew, cut_off};
-ghost use Rattle.smap_bundle.specs.Entries.{refused_words};
+ghost use Rattle.smap_bundle.specs.Bundle as spec;
+ghost use Rattle.smap_bundle.specs.Bundle.{usual};
+ghost use Rattle.smap_bundle.specs.Entries.{TakesEntries, TakesEntry, TakesMap, UsesCalls, IsNew, cut_off};
 ghost use Rattle.smap_bundle.specs.Header.{trace_line};
-ghost use Rattle.smap_bundle.specs.Reading.{Got, IsLine};
+ghost use Rattle.smap_bundle.specs.Reading.{IsLine};
 ghost use Rattle.smap_bundle.specs.Scripts.{scripts_of};
+ghost use Rattle.smap_bundle.specs.Stopping as told;
 ghost use Rattle.smap_bundle.specs.Stopping.{Says, Stops};
 ghost use Rattle.url.specs.Parser.{parse_url};
 
-use crate::header::{Header, parse_header};
-use crate::reading::{CALLS, read_line, read_up_to};
-use crate::stop::Stop;
+use crate::bundle::Bundle;
+use crate::fault::{BundleFault, EntryFault, Refusal};
+use crate::header::{Header, LONGEST_HEADER, parse_header};
 use indexmap::IndexMap;
-use smap_io::Device;
+use smap_io::{Device, LIMIT, MOST_CALLS, ReadFault, read_line, read_up_to};
 use smap_record::{Base, BaseFault, Limits, ReadError, SourceMap};
-use smap_run::{LIMIT, RunFault, fault_words};
 use std::alloc::Global;
 use std::io::Read;
 
-/// The refusal of the next line, which is no header.
-fn refused_header(alloc: Global, entry: usize) -> Stop
-    ensures { Says (λ answer. answer ≡ bundle.refused (bundle.header_line entry)) result }
+/// The refusal of an entry.
+fn refused(entry: usize, fault: EntryFault) -> BundleFault
+    ensures { Says (λ answer. answer ≡ spec.refusal entry fault) result }
 {
-    match format!(in alloc; "refused: bundle header {entry}") {
-        Ok(line) => Stop::Refused(line),
-        Err(_) => Stop::Fault(RunFault::Memory),
-    }
+    BundleFault::Refused(Refusal { entry, fault })
 }
 
-/// The refusal of an entry by these words.
-fn refused_map(alloc: Global, entry: usize, words: &str) -> Stop
-    ensures { Says (refused_words entry words.now) result }
+/// What a fault of the reader comes to.
+fn unread(fault: ReadFault) -> BundleFault
+    ensures { result ≡ told.unread fault }
 {
-    match format!(in alloc; "refused: map {entry}: {words}") {
-        Ok(line) => Stop::Refused(line),
-        Err(_) => Stop::Fault(RunFault::Memory),
+    match fault {
+        ReadFault::Failed | ReadFault::Spent => BundleFault::Read,
+        ReadFault::Memory => BundleFault::Memory,
     }
 }
 
@@ -53,96 +49,93 @@ fn base_of(
     alloc: Global,
     header: &Header<'_>,
     scripts: &IndexMap<String, SourceMap>,
-) -> Result<Base, Stop>
+) -> Result<Base, BundleFault>
     ensures fits { OnOk result (header.now.length ≤ LIMIT) }
     ensures new { OnOk result (IsNew (scripts_of scripts.now.entries) header.now.script.now) }
     ensures base { IfOk result (λ base. parse_url None header.now.base.now ≡ Ok base) }
     ensures stops { (n : ℕ) (more : List ℕ) → header.now.length ≡ min n (2 ^ 64 - 1)
-        → IfErr result (Says (bundle.EntryFault (scripts_of scripts.now.entries) header.now.script.now
+        → IfErr result (Says (spec.FaultOfEntry (scripts_of scripts.now.entries) header.now.script.now
         header.now.base.now n more)) }
 {
     if header.length > LIMIT as u64 {
-        return Err(Stop::Fault(RunFault::TooLong));
+        return Err(BundleFault::TooLong);
     }
     if scripts.contains_key(header.script) {
-        return Err(refused_map(alloc, scripts.len(), "script repeated"));
+        return Err(refused(scripts.len(), EntryFault::Repeated));
     }
     match Base::new(alloc, header.base) {
         Ok(base) => Ok(base),
-        Err(BaseFault::NotUrl) => Err(refused_map(alloc, scripts.len(), "base is no URL")),
-        Err(BaseFault::Memory) => Err(Stop::Fault(RunFault::Memory)),
+        Err(BaseFault::NotUrl) => Err(refused(scripts.len(), EntryFault::Base)),
+        Err(BaseFault::Memory) => Err(BundleFault::Memory),
     }
 }
 
-/// The bytes of the next entry's map, behind which a line feed was read.
+/// The bytes of the next entry's map, after which a line feed was read.
 fn bytes_of<R: Read>(
     alloc: Global,
     reader: &mut Device<R>,
     calls: &mut u64,
     entry: usize,
     len: usize,
-) -> Result<Vec<u8>, Stop>
+) -> Result<Vec<u8>, BundleFault>
     requires failures { device_failures reader.old < 2 ^ 64 - 1 }
     requires not_ended { has_ended reader.old ≡ false }
     requires small { len ≤ LIMIT }
     ensures len { IfOk result (λ bytes. length bytes.items ≡ len) }
-    ensures got { IfOk result (λ bytes. Got (R.remaining (device_inner reader.old))
-        (R.remaining (device_inner reader.new)) calls.old calls.new
-        (bytes.items ++ 10 ∷ [])) }
-    ensures calls { OnOk result (calls.new ≤ calls.old) }
+    ensures gave { IfOk result (λ bytes. Gave R.remaining reader.old reader.new (bytes.items ++ 10 ∷ [])) }
     ensures failures { OnOk result (device_failures reader.new ≡ device_failures reader.old) }
     ensures not_ended { OnOk result (has_ended reader.new ≡ false) }
-    ensures stops { IfErr result (Stops (R.remaining (device_inner reader.old))
-        (R.remaining (device_inner reader.new))
-        (device_failures reader.old) (device_failures reader.new) calls.old (has_ended reader.new)
-        (cut_off entry len)) }
+    ensures calls { IfOk result (λ bytes. UsesCalls calls.old calls.new (bytes.items ++ 10 ∷ [])) }
+    ensures stops { IfErr result (Stops R.remaining reader.old reader.new calls.old (cut_off entry len)) }
 {
     let mut bytes = match read_up_to(alloc, reader, calls, len + 1) {
         Ok(bytes) => bytes,
-        Err(fault) => return Err(Stop::Fault(fault)),
+        Err(fault) => return Err(unread(fault)),
     };
     if bytes.len() <= len || bytes[len] != b'\n' {
-        return Err(refused_map(alloc, entry, "cut off"));
+        return Err(refused(entry, EntryFault::CutOff));
     }
     bytes.truncate(len);
     Ok(bytes)
 }
 
 /// The next entry's map.
-fn map_of(alloc: Global, entry: usize, base: &Base, bytes: &[u8]) -> Result<SourceMap, Stop>
-    ensures map { IfOk result (λ m. reading base.now usual bytes.now ≡ Ok m) }
+fn map_of(
+    alloc: Global,
+    entry: usize,
+    base: &Base,
+    bytes: Vec<u8>,
+) -> Result<SourceMap, BundleFault>
+    ensures map { IfOk result (λ m. reading base.now usual bytes.items ≡ Ok m) }
     ensures stops { IfErr result (Says (λ answer. (fault : Fault)
-        × (reading base.now usual bytes.now ≡ Err fault)
-        × refused_words entry (fault_words fault) answer)) }
+        × (reading base.now usual bytes.items ≡ Err fault)
+        × (answer ≡ spec.refusal entry (EntryFault.Map fault)))) }
 {
-    match SourceMap::from_slice(alloc, bytes, base, Limits::usual()) {
+    match SourceMap::from_vec(alloc, bytes, base, Limits::usual()) {
         Ok(map) => Ok(map),
-        Err(ReadError::Refused(fault)) => match fault_words(alloc, &fault) {
-            Ok(words) => Err(refused_map(alloc, entry, words.as_str())),
-            Err(_) => Err(Stop::Fault(RunFault::Memory)),
-        },
-        Err(ReadError::Memory) => Err(Stop::Fault(RunFault::Memory)),
+        Err(ReadError::Refused(fault)) => Err(refused(entry, EntryFault::Map(fault))),
+        Err(ReadError::Memory) => Err(BundleFault::Memory),
     }
 }
 
-/// Puts a script behind the others.
+/// Puts a script after the others.
 fn add(
     alloc: Global,
     scripts: &mut IndexMap<String, SourceMap>,
     script: &str,
     map: SourceMap,
-) -> Result<(), Stop>
+) -> Result<(), BundleFault>
     requires { IsNew (scripts_of scripts.old.entries) script.now }
     ensures added { OnOk result (scripts_of scripts.new.entries ≡ scripts_of scripts.old.entries ++
         (script.now, record_of map) ∷ []) }
-    ensures memory { IfErr result (λ stop. stop ≡ Stop.Fault RunFault.Memory) }
+    ensures memory { IfErr result (λ fault. fault ≡ BundleFault.Memory) }
 {
     let Ok(url) = String::from_str(alloc, script) else {
-        return Err(Stop::Fault(RunFault::Memory));
+        return Err(BundleFault::Memory);
     };
     match scripts.insert(url, map) {
         Ok(_) => Ok(()),
-        Err(_) => Err(Stop::Fault(RunFault::Memory)),
+        Err(_) => Err(BundleFault::Memory),
     }
 }
 
@@ -153,25 +146,22 @@ fn take_map<R: Read>(
     calls: &mut u64,
     header: &Header<'_>,
     scripts: &mut IndexMap<String, SourceMap>,
-) -> Result<(), Stop>
+) -> Result<(), BundleFault>
     requires failures { device_failures reader.old < 2 ^ 64 - 1 }
     requires not_ended { has_ended reader.old ≡ false }
-    ensures takes { OnOk result (TakesMap (R.remaining (device_inner reader.old))
-        (R.remaining (device_inner reader.new)) calls.old calls.new
+    ensures takes { OnOk result (TakesMap R.remaining reader.old reader.new calls.old calls.new
         header.now.script.now header.now.base.now header.now.length (scripts_of scripts.old.entries)
         (scripts_of scripts.new.entries)) }
-    ensures calls { OnOk result (calls.new ≤ calls.old) }
     ensures failures { OnOk result (device_failures reader.new ≡ device_failures reader.old) }
     ensures not_ended { OnOk result (has_ended reader.new ≡ false) }
     ensures stops { (n : ℕ) → header.now.length ≡ min n (2 ^ 64 - 1)
-        → IfErr result (Stops (R.remaining (device_inner reader.old)) (R.remaining (device_inner reader.new))
-        (device_failures reader.old) (device_failures reader.new) calls.old (has_ended reader.new)
-        (bundle.EntryFault (scripts_of scripts.old.entries) header.now.script.now header.now.base.now n)) }
+        → IfErr result (Stops R.remaining reader.old reader.new calls.old
+        (spec.FaultOfEntry (scripts_of scripts.old.entries) header.now.script.now header.now.base.now n)) }
 {
     let base = base_of(alloc, header, scripts)?;
     let entry = scripts.len();
     let bytes = bytes_of(alloc, reader, calls, entry, header.length as usize)?;
-    let map = map_of(alloc, entry, &base, bytes.as_slice())?;
+    let map = map_of(alloc, entry, &base, bytes)?;
     add(alloc, scripts, header.script, map)
 }
 
@@ -182,55 +172,55 @@ fn take_entry<R: Read>(
     calls: &mut u64,
     line: &[u8],
     scripts: &mut IndexMap<String, SourceMap>,
-) -> Result<(), Stop>
+) -> Result<(), BundleFault>
     requires failures { device_failures reader.old < 2 ^ 64 - 1 }
     requires line { IsLine (has_ended reader.old) line.now }
     requires no_trace { line.now ≢ trace_line }
-    ensures takes { OnOk result (TakesEntry (R.remaining (device_inner reader.old))
-        (R.remaining (device_inner reader.new)) calls.old calls.new
+    ensures takes { OnOk result (TakesEntry R.remaining reader.old reader.new calls.old calls.new
         line.now (scripts_of scripts.old.entries) (scripts_of scripts.new.entries)) }
-    ensures calls { OnOk result (calls.new ≤ calls.old) }
     ensures failures { OnOk result (device_failures reader.new ≡ device_failures reader.old) }
     ensures not_ended { OnOk result (has_ended reader.new ≡ false) }
-    ensures was_open { OnOk result (has_ended reader.old ≡ false) }
-    ensures at_end { has_ended reader.old ≡ true → IfErr result (λ stop. stop ≢ Stop.Fault RunFault.Read) }
-    ensures stops { IfErr result (Stops (R.remaining (device_inner reader.old))
-        (R.remaining (device_inner reader.new))
-        (device_failures reader.old) (device_failures reader.new) calls.old (has_ended reader.new)
-        (λ more. bundle.FaultAt (scripts_of scripts.old.entries) (line.now ++ more))) }
+    ensures stops { IfErr result (Stops R.remaining reader.old reader.new calls.old
+        (λ more. spec.FaultAt (scripts_of scripts.old.entries) (line.now ++ more))) }
+    ensures open { MatchResult result (λ _. has_ended reader.old ≡ false)
+        (λ fault. fault ≡ BundleFault.Read → has_ended reader.old ≡ false) }
 {
     let Some(header) = parse_header(line) else {
-        return Err(refused_header(alloc, scripts.len()));
+        return Err(refused(scripts.len(), EntryFault::Header));
     };
     take_map(alloc, reader, calls, &header, scripts)
 }
 
-/// Reads the entries of a bundle and the line `trace` behind them, and no byte more.
-pub(crate) fn read_entries<R: Read>(
-    alloc: Global,
-    reader: &mut Device<R>,
-) -> Result<IndexMap<String, SourceMap>, Stop>
+/// Reads the entries of a bundle and the line `trace` after them, and no byte more.
+///
+/// The bundle is `Refused` with its first fault, or it is `TooLong` where a header gives a map more than
+/// 268,435,456 bytes; the entries together have no limit. There are at most 4,294,967,296 read calls, and
+/// where these don't reach the line `trace` the answer is `Read`.
+pub fn read_bundle<R: Read>(alloc: Global, reader: &mut Device<R>) -> Result<Bundle, BundleFault>
     requires failures { device_failures reader.old < 2 ^ 64 - 1 }
     requires not_ended { has_ended reader.old ≡ false }
-    ensures takes { IfOk result (λ scripts. TakesEntries (R.remaining (device_inner reader.old))
-        (R.remaining (device_inner reader.new))
-        (scripts_of scripts.entries)) }
+
+    // The bundle's scripts are those of the entries that were read, and then the line `trace`.
+    ensures takes { IfOk result (λ bundle. TakesEntries R.remaining reader.old reader.new
+        (scripts_of bundle.scripts.entries)) }
     ensures failures { OnOk result (device_failures reader.new ≡ device_failures reader.old) }
     ensures not_ended { OnOk result (has_ended reader.new ≡ false) }
-    ensures stops { (hide : Bool) → IfErr result (Stops (R.remaining (device_inner reader.old))
-        (R.remaining (device_inner reader.new))
-        (device_failures reader.old) (device_failures reader.new) 4294967296 (has_ended reader.new)
-        (bundle.Answers hide)) }
+
+    // A refusal, and that a map is too long, is the answer for what was read, whatever follows. Read comes
+    // with a failure of the reader, or where so many bytes were read, and no other answer comes with a
+    // failure.
+    ensures stops { (hide : Bool) → IfErr result (Stops R.remaining reader.old reader.new MOST_CALLS
+        (spec.Answers hide)) }
 {
     let mut scripts = IndexMap::new(alloc);
-    let mut calls = CALLS;
+    let mut calls = MOST_CALLS;
     'entries: loop {
-        let line = match read_line(alloc, reader, &mut calls) {
+        let line = match read_line(alloc, reader, &mut calls, LONGEST_HEADER) {
             Ok(line) => line,
-            Err(fault) => return Err(Stop::Fault(fault)),
+            Err(fault) => return Err(unread(fault)),
         };
         if line.as_slice() == b"trace\n".as_slice() {
-            return Ok(scripts);
+            return Ok(Bundle { scripts });
         }
         take_entry(alloc, reader, &mut calls, line.as_slice(), &mut scripts)?;
     }

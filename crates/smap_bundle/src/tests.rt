@@ -1,387 +1,172 @@
-//! Whole bundles, as they come in and what goes out.
-use crate::entries::read_entries;
-use crate::run_translate;
+//! Bundles as they are read, and their first faults.
+use crate::{Bundle, BundleFault, EntryFault, Refusal, read_bundle};
 use smap_io::Device;
-use smap_run::{Outcome, RunFault};
-use smap_testing::{SlowReader, SlowWriter};
+use smap_record::{Fault, Kind, Path};
+use smap_testing::SlowReader;
 use std::process::Abort;
 use std::test::Fail;
 
-/// Mappings to line 10, column 2 and line 12, column 2 of `a.js`.
-const MAP: &str = r#"{"version":3,"sources":["a.js"],"mappings":"AAUE,IAEA"}"#;
+/// Two scripts, the line `trace`, and what follows it.
+const TWO: &[u8] = b"map u http://h/m/x 50\n\
+    {\"version\":3,\"sources\":[\"a.js\"],\"mappings\":\"AAAA\"}\n\
+    map v http://h/m/x 48\n\
+    {\"version\":3,\"sources\":[null],\"mappings\":\"AAAA\"}\n\
+    trace\n@u:1:1\n";
 
-/// Its canonical bytes against `http://h/m/out.js.map`.
-const TIDY: &str =
-    r#"{"mappings":"AAUE,IAEA","names":[],"sources":["http://h/m/a.js"],"version":3}"#;
-
-const IGNORED: &str = r#"{"version":3,"sources":["a.js"],"ignoreList":[0],"mappings":"AAUE,IAEA"}"#;
-
-const TRACE: &str =
-    "Error: x\n    at f (http://h/m/out.js:1:2)\n    at async http://h/m/out.js:1:5\n\
-    g@http://h/m/out.js:1:4\r\n    at eval (eval at f (http://h/m/out.js:1:2), <anonymous>:1:1)\n\
-    \x20   at f (http://h/m/out.js:0:1)\n    at f (http://h/m/out.js:2:1)\n\
-    \x20   at f (http://h/m/other.js:1:2)\n\n@http://h/m/out.js:1:2147483648";
-
-const TOLD: &str = "Error: x\n    at f (http://h/m/a.js:11:3)\n    at async http://h/m/a.js:13:3\n\
-    g@http://h/m/a.js:11:3\r\n    at eval (eval at f (http://h/m/out.js:1:2), <anonymous>:1:1)\n\
-    \x20   at f (http://h/m/out.js:0:1)\n    at f (http://h/m/out.js:2:1)\n\
-    \x20   at f (http://h/m/other.js:1:2)\n\n@http://h/m/a.js:13:3";
-
-/// The lines of the trace that stay where an ignored source is hidden.
-const KEPT: &str = "Error: x\n    at eval (eval at f (http://h/m/out.js:1:2), <anonymous>:1:1)\n\
-    \x20   at f (http://h/m/out.js:0:1)\n    at f (http://h/m/out.js:2:1)\n\
-    \x20   at f (http://h/m/other.js:1:2)\n\n";
-
-/// One mapping to the start of `a.js`, and the same of `b.js`, of no source and of one that is ignored.
-const A: &str = r#"{"version":3,"sources":["a.js"],"mappings":"AAAA"}"#;
-
-const B: &str = r#"{"version":3,"sources":["b.js"],"mappings":"AAAA"}"#;
-
-const NULL: &str = r#"{"version":3,"sources":[null],"mappings":"AAAA"}"#;
-
-const NULL_IGNORED: &str = r#"{"version":3,"sources":[null],"ignoreList":[0],"mappings":"AAAA"}"#;
-
-/// The bundle of one script, with the map `map`, and the trace behind it.
-fn worked(rt: &impl AllocGlobal, map: &str, trace: &str) -> Result<String, Fail> {
-    let bundle = format!(in rt.alloc();
-        "map http://h/m/out.js http://h/m/out.js.map {}\n{}\ntrace\n{}",
-        map.len(),
-        map,
-        trace
-    )?;
-    Ok(bundle)
+/// Reads a bundle that comes whole.
+fn read(rt: &impl AllocGlobal, bundle: &[u8]) -> Result<Bundle, BundleFault> {
+    read_bundle(rt.alloc(), &mut Device::new(bundle))
 }
 
-/// Checks what a run writes for a bundle that comes whole, and what it answers.
-fn gives(
-    rt: &(impl Abort + AllocGlobal),
-    bundle: &[u8],
-    hide: bool,
-    written: &str,
-    answer: Result<Outcome, RunFault>,
-) {
-    let mut reader = Device::new(bundle);
-    let mut writer = Device::new(SlowWriter::new(rt.alloc(), 65_536, 0));
-    let found = run_translate(rt.alloc(), hide, &mut reader, &mut writer);
-    assert_eq!(rt; found, answer);
-    let writer = writer.into_inner();
-    assert_eq!(rt; writer.bytes.as_slice(), written.as_bytes());
-    if answer.is_ok() {
-        assert_eq!(rt; writer.flushes, 1);
-        assert!(rt; !writer.written_behind_flush);
+/// Checks the fault of a bundle.
+fn refuses(rt: &(impl Abort + AllocGlobal), bundle: &[u8], fault: BundleFault) {
+    match read(rt, bundle) {
+        Ok(_bundle) => assert!(rt; false, "it was read"),
+        Err(found) => assert_eq!(rt; found, fault),
+    }
+}
+
+/// The refusal of an entry.
+fn refused(entry: usize, fault: EntryFault) -> BundleFault {
+    BundleFault::Refused(Refusal { entry, fault })
+}
+
+/// The URLs of a bundle's scripts, one after another.
+fn urls(rt: &impl AllocGlobal, bundle: &Bundle) -> Result<String, Fail> {
+    let scripts = bundle.scripts(rt.alloc())?;
+    let mut urls = String::new(rt.alloc());
+    for i in 0..scripts.len() {
+        urls.push_str(scripts[i].0)?;
+    }
+    Ok(urls)
+}
+
+#[test]
+fn a_bundle_is_read_to_its_line_trace(rt: HostRuntime) -> Result<(), Fail> {
+    for step in [1, 7, usize::MAX] {
+        let mut reader = Device::new(SlowReader::new(TWO, step, 0));
+        match read_bundle(rt.alloc(), &mut reader) {
+            Ok(bundle) => assert_eq!(rt; urls(&rt, &bundle)?.as_str(), "uv", "{step}"),
+            Err(_) => assert!(rt; false, "{step} bytes a call"),
+        }
+        assert!(rt; !reader.ended(), "{step} bytes a call");
+        assert_eq!(rt; reader.into_inner().rest, b"@u:1:1\n".as_slice(), "{step}");
+    }
+    Ok(())
+}
+
+#[test]
+fn an_entry_without_a_header_is_told(rt: HostRuntime) {
+    for bundle in [
+        b"".as_slice(),
+        b"trace",
+        b"map u http://h/ 02\n{}\ntrace\n",
+        b"map u http://h/ +2\n{}\ntrace\n",
+        b"map u http://h/ \n{}\ntrace\n",
+        b"map u  http://h/ 2\n{}\ntrace\n",
+        b"map \xff http://h/ 2\n{}\ntrace\n",
+        b"map u http://h/ 2\r\n{}\ntrace\n",
+    ] {
+        refuses(&rt, bundle, refused(0, EntryFault::Header));
     }
 }
 
 #[test]
-fn the_worked_trace_is_translated(rt: HostRuntime) -> Result<(), Fail> {
-    let done = Ok(Outcome::Done);
-    gives(&rt, worked(&rt, MAP, TRACE)?.as_bytes(), false, TOLD, done);
-    gives(&rt, worked(&rt, MAP, TRACE)?.as_bytes(), true, TOLD, done);
-    gives(&rt, worked(&rt, TIDY, TRACE)?.as_bytes(), false, TOLD, done);
-    gives(
+fn the_first_fault_of_an_entry_is_told(rt: HostRuntime) {
+    refuses(&rt, b"map u http://h/ 268435457\n", BundleFault::TooLong);
+    refuses(&rt, b"map u nobase 268435457\n", BundleFault::TooLong);
+    refuses(
         &rt,
-        worked(&rt, IGNORED, TRACE)?.as_bytes(),
-        false,
-        TOLD,
-        done,
+        b"map u nobase 99999999999999999999999999999999\n",
+        BundleFault::TooLong,
     );
-    gives(
-        &rt,
-        worked(&rt, IGNORED, TRACE)?.as_bytes(),
-        true,
-        KEPT,
-        done,
-    );
-    gives(&rt, worked(&rt, MAP, "")?.as_bytes(), false, "", done);
-    Ok(())
-}
-
-#[test]
-fn bundles_without_a_fault(rt: HostRuntime) -> Result<(), Fail> {
-    let alloc = rt.alloc();
-    gives(&rt, b"trace\n", false, "", Ok(Outcome::Done));
-    gives(
-        &rt,
-        b"trace\nrefused: map 0: version\n",
-        false,
-        "refused: map 0: version\n",
-        Ok(Outcome::Done),
-    );
-    let two = format!(in alloc;
-        "map u http://h/m/x 50\n{}\nmap v http://h/m/x 50\n{}\ntrace\n@u:1:1\n@v:1:9\n@w:1:1\n",
-        A, B
-    )?;
-    let told = "@http://h/m/a.js:1:1\n@http://h/m/b.js:1:1\n@w:1:1\n";
-    gives(&rt, two.as_bytes(), false, told, Ok(Outcome::Done));
-    let null = format!(in alloc; "map u http://h/m/x 48\n{}\ntrace\n@u:1:1\n", NULL)?;
-    gives(&rt, null.as_bytes(), false, "@u:1:1\n", Ok(Outcome::Done));
-    let ignored = format!(in alloc; "map u http://h/m/x 65\n{}\ntrace\n@u:1:1\n", NULL_IGNORED)?;
-    gives(
-        &rt,
-        ignored.as_bytes(),
-        false,
-        "@u:1:1\n",
-        Ok(Outcome::Done),
-    );
-    gives(&rt, ignored.as_bytes(), true, "", Ok(Outcome::Done));
-    Ok(())
-}
-
-#[test]
-fn the_first_fault_of_a_bundle_is_told(rt: HostRuntime) -> Result<(), Fail> {
-    let refused = Ok(Outcome::Refused);
-    gives(&rt, b"", false, "refused: bundle header 0\n", refused);
-    gives(&rt, b"trace", false, "refused: bundle header 0\n", refused);
-    let two = format!(in rt.alloc();
-        "map u http://h/m/x 50\n{}\nmap u http://h/m/x 50\n{}\ntrace\n@u:1:1\n",
-        A, B
-    )?;
-    gives(
-        &rt,
-        two.as_bytes(),
-        false,
-        "refused: map 1: script repeated\n",
-        refused,
-    );
-    gives(
-        &rt,
-        b"map u nobase 0\n\ntrace\n",
-        false,
-        "refused: map 0: base is no URL\n",
-        refused,
-    );
-    gives(
-        &rt,
-        b"map u http://h/ 2\n{}\ntrace\n",
-        false,
-        "refused: map 0: version\n",
-        refused,
-    );
-    gives(
-        &rt,
-        b"map u http://h/ 2\n{}x",
-        false,
-        "refused: map 0: cut off\n",
-        refused,
-    );
-    gives(
-        &rt,
-        b"map u http://h/ 2\n{}",
-        false,
-        "refused: map 0: cut off\n",
-        refused,
-    );
-    gives(
-        &rt,
-        b"map u http://h/ 02\n{}\ntrace\n",
-        false,
-        "refused: bundle header 0\n",
-        refused,
-    );
-    gives(
-        &rt,
-        b"map u http://h/ +2\n{}\ntrace\n",
-        false,
-        "refused: bundle header 0\n",
-        refused,
-    );
-    gives(
-        &rt,
-        b"map u http://h/ \n{}\ntrace\n",
-        false,
-        "refused: bundle header 0\n",
-        refused,
-    );
-    gives(
-        &rt,
-        b"map u  http://h/ 2\n{}\ntrace\n",
-        false,
-        "refused: bundle header 0\n",
-        refused,
-    );
-    gives(
-        &rt,
-        b"map \xff http://h/ 2\n{}\ntrace\n",
-        false,
-        "refused: bundle header 0\n",
-        refused,
-    );
-    gives(
-        &rt,
-        b"map u http://h/ 2\r\n{}\ntrace\n",
-        false,
-        "refused: bundle header 0\n",
-        refused,
-    );
-    Ok(())
-}
-
-#[test]
-fn a_length_above_the_limit_is_too_long(rt: HostRuntime) {
-    let too_long = Err(RunFault::TooLong);
-    gives(&rt, b"map u http://h/ 268435457\n", false, "", too_long);
-    gives(&rt, b"map u nobase 268435457\n", false, "", too_long);
-    gives(
-        &rt,
-        b"map u http://h/ 18446744073709551616\n",
-        false,
-        "",
-        too_long,
-    );
-    gives(
-        &rt,
-        b"map u http://h/ 99999999999999999999999999999999\n",
-        false,
-        "",
-        too_long,
-    );
-    gives(
+    refuses(&rt, b"map u nobase 2\n{}x", refused(0, EntryFault::Base));
+    refuses(
         &rt,
         b"map u http://h/ 268435456\n{}\n",
-        false,
-        "refused: map 0: cut off\n",
-        Ok(Outcome::Refused),
+        refused(0, EntryFault::CutOff),
     );
+    refuses(
+        &rt,
+        b"map u http://h/ 2\n{}x",
+        refused(0, EntryFault::CutOff),
+    );
+    refuses(
+        &rt,
+        b"map u http://h/ 2\n{}",
+        refused(0, EntryFault::CutOff),
+    );
+    match Path::new(&[]) {
+        Some(section) => {
+            let fault = Fault {
+                section,
+                place: None,
+                kind: Kind::Version,
+            };
+            refuses(
+                &rt,
+                b"map u http://h/ 2\n{}\ntrace\n",
+                refused(0, EntryFault::Map(fault)),
+            );
+        }
+        None => assert!(rt; false, "no empty path"),
+    }
 }
 
-/// The header of a script of so many bytes, whose map `{}` has no version.
+#[test]
+fn a_later_entry_is_told_by_its_number(rt: HostRuntime) -> Result<(), Fail> {
+    for (last, fault) in [
+        ("map u nobase 2\n", EntryFault::Repeated),
+        ("map v nobase 2\n", EntryFault::Base),
+        ("map v http://h/ 2\n", EntryFault::CutOff),
+        ("", EntryFault::Header),
+    ] {
+        let bundle = format!(in rt.alloc();
+            "map u http://h/m/x 48\n{}\n{}",
+            r#"{"version":3,"sources":[null],"mappings":"AAAA"}"#, last
+        )?;
+        refuses(&rt, bundle.as_bytes(), refused(1, fault));
+    }
+    Ok(())
+}
+
+#[test]
+fn the_kth_read_fails(rt: HostRuntime) {
+    // The first header byte by byte, its map and line feed by sevens, the second alike, and the line `trace`.
+    let reads = 22 + 8 + 22 + 7 + 6;
+    for k in 1..reads + 2 {
+        let mut reader = Device::new(SlowReader::new(TWO, 7, k));
+        match read_bundle(rt.alloc(), &mut reader) {
+            Ok(_bundle) => assert_eq!(rt; k, reads + 1),
+            Err(fault) => assert_eq!(rt; fault, BundleFault::Read, "{k}"),
+        }
+        assert_eq!(rt; reader.failures() > 0, k <= reads, "{k}");
+        assert_eq!(rt; reader.into_inner().calls, k.min(reads), "{k}");
+    }
+}
+
+/// The header of a script of so many bytes, whose map isn't there.
 fn long_header(rt: &impl AllocGlobal, script: usize) -> Result<String, Fail> {
     let mut bundle = String::from_str(rt.alloc(), "map ")?;
     for _ in 0..script {
         bundle.push('u')?;
     }
-    bundle.push_str(" http://h/ 2\n{}\ntrace\n")?;
+    bundle.push_str(" http://h/ 2\n")?;
     Ok(bundle)
 }
 
 #[test]
 fn a_header_has_at_most_65536_bytes(rt: HostRuntime) -> Result<(), Fail> {
     let longest = 65_536 - "map  http://h/ 2\n".len();
-    let refused = Ok(Outcome::Refused);
-    gives(
+    refuses(
         &rt,
         long_header(&rt, longest)?.as_bytes(),
-        false,
-        "refused: map 0: version\n",
-        refused,
+        refused(0, EntryFault::CutOff),
     );
-    gives(
+    refuses(
         &rt,
         long_header(&rt, longest + 1)?.as_bytes(),
-        false,
-        "refused: bundle header 0\n",
-        refused,
+        refused(0, EntryFault::Header),
     );
     Ok(())
-}
-
-/// The first bytes, or all where there are fewer.
-fn front(bundle: &[u8], len: usize) -> &[u8] {
-    &bundle[..len.min(bundle.len())]
-}
-
-#[test]
-fn a_bundle_that_is_cut_off_is_told(rt: HostRuntime) -> Result<(), Fail> {
-    let bundle = worked(&rt, MAP, TRACE)?;
-    let bundle = bundle.as_bytes();
-    for len in 0..109 {
-        let line = match len {
-            0..=46 => "refused: bundle header 0\n",
-            47..=102 => "refused: map 0: cut off\n",
-            _ => "refused: bundle header 1\n",
-        };
-        gives(&rt, front(bundle, len), false, line, Ok(Outcome::Refused));
-    }
-    gives(&rt, front(bundle, 109), false, "", Ok(Outcome::Done));
-    Ok(())
-}
-
-#[test]
-fn nothing_behind_the_line_trace_is_read_with_the_entries(rt: HostRuntime) -> Result<(), Fail> {
-    let bundle = worked(&rt, MAP, TRACE)?;
-    let mut reader = Device::new(bundle.as_bytes());
-    let scripts = read_entries(rt.alloc(), &mut reader);
-    assert!(rt; scripts.is_ok());
-    assert!(rt; !reader.ended());
-    assert_eq!(rt; reader.into_inner(), TRACE.as_bytes());
-    Ok(())
-}
-
-#[test]
-fn pieces_of_one_byte_change_nothing(rt: HostRuntime) -> Result<(), Fail> {
-    let bundle = worked(&rt, MAP, TRACE)?;
-    let mut reader = Device::new(SlowReader::new(bundle.as_bytes(), 1, 0));
-    let mut writer = Device::new(SlowWriter::new(rt.alloc(), 1, 0));
-    assert_eq!(rt;
-        run_translate(rt.alloc(), false, &mut reader, &mut writer),
-        Ok(Outcome::Done)
-    );
-    assert_eq!(rt; writer.into_inner().bytes.as_slice(), TOLD.as_bytes());
-    Ok(())
-}
-
-/// Runs with a reader of 7 bytes a call and a writer of 5, of which a call fails.
-fn failing(
-    rt: &(impl Abort + AllocGlobal),
-    bundle: &[u8],
-    read: u64,
-    write: u64,
-    whole: &[u8],
-) -> Result<Outcome, RunFault> {
-    let mut reader = Device::new(SlowReader::new(bundle, 7, read));
-    let mut writer = Device::new(SlowWriter::new(rt.alloc(), 5, write));
-    let answer = run_translate(rt.alloc(), false, &mut reader, &mut writer);
-    assert_eq!(rt; reader.failures() > 0, answer == Err(RunFault::Read));
-    assert_eq!(rt; writer.failures() > 0, answer == Err(RunFault::Write));
-    assert!(rt; whole.starts_with(writer.into_inner().bytes.as_slice()));
-    answer
-}
-
-#[test]
-fn the_kth_read_fails(rt: HostRuntime) -> Result<(), Fail> {
-    let bundle = worked(&rt, MAP, TRACE)?;
-    // The header and the line `trace` byte by byte, the map and its line feed in 8 reads, the trace in
-    // 43, and its end.
-    let reads = 47 + 8 + 6 + 43 + 1;
-    for k in 1..reads + 2 {
-        let answer = failing(&rt, bundle.as_bytes(), k, 0, TOLD.as_bytes());
-        let expected = if k <= reads {
-            Err(RunFault::Read)
-        } else {
-            Ok(Outcome::Done)
-        };
-        assert_eq!(rt; answer, expected);
-    }
-    Ok(())
-}
-
-#[test]
-fn the_kth_write_fails(rt: HostRuntime) -> Result<(), Fail> {
-    let bundle = worked(&rt, MAP, TRACE)?;
-    // The lines that a read ends are written by fives, and then there is a flush.
-    let writes = 62;
-    for k in 1..writes + 2 {
-        let answer = failing(&rt, bundle.as_bytes(), 0, k, TOLD.as_bytes());
-        let expected = if k <= writes {
-            Err(RunFault::Write)
-        } else {
-            Ok(Outcome::Done)
-        };
-        assert_eq!(rt; answer, expected);
-    }
-    Ok(())
-}
-
-#[test]
-fn the_kth_write_of_a_refusal_fails(rt: HostRuntime) {
-    let bundle = b"map u http://h/ 2\n{}\ntrace\n";
-    for k in 1..8 {
-        let answer = failing(&rt, bundle, 0, k, b"refused: map 0: version\n");
-        let expected = if k <= 6 {
-            Err(RunFault::Write)
-        } else {
-            Ok(Outcome::Refused)
-        };
-        assert_eq!(rt; answer, expected);
-    }
 }

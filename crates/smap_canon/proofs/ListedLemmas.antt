@@ -1,5 +1,5 @@
 -- The record of a listing can be written.
-use Rattle.std.proofs.Common.{◌≡◌, ℕ, ◌<◌, ◌≤◌, List, [], ◌∷◌, length, map, Option, Some, None, ap, ◌∙◌, sym, subst, true, arith, slice_get, refl}
+use Rattle.std.proofs.Common.{◌≡◌, ℕ, ◌<◌, ◌≤◌, List, [], ◌∷◌, length, map, Option, Some, None, ap, ◌∙◌, sym, subst, true, false, arith, slice_get, refl, Bool, cond, ◌^◌}
 use Rattle.std.specs.Prelude.{IfSome, option_map, option_and_then, bytes_eq, unwrap_or}
 use Rattle.std.specs.List.{AllByRecursion, list_any, filter_map, cons_option}
 use Rattle.std.proofs.lemmas.Option.{slice_get-get_or}
@@ -13,7 +13,9 @@ use Rattle.smap_record.specs.Listed.{IsListing, IsListedToken, IsListedOriginal}
 use Rattle.smap_record.proofs.EqualLemmas.{same_bytes, own_bytes, same_entries, own_entry}
 use Rattle.smap_record.proofs.FewerLemmas.{length-IsDistinct}
 use Rattle.smap_record.proofs.OnceLemmas.{distinct-IsDistinct, length-distinct, all_distinct}
+use Rattle.smap_canon.specs.declared.listed.Listed.{Listed}
 use Rattle.smap_canon.specs.Numbering.{name_of, HasName}
+use Rattle.smap_canon.specs.Writing.{sources_of}
 use Rattle.smap_canon.proofs.ListLemmas.{any-at, any-distinct}
 use Rattle.smap_canon.proofs.WritableLemmas.{IsKnown, IsKnownOrigin, IsWritable}
 
@@ -78,3 +80,11 @@ listing-writable m h = record {
     few : length (names_used (record_of m).mappings) ≤ length m.listing.names
     few = length-IsDistinct bytes_eq same_bytes (names_used (record_of m).mappings) m.listing.names (distinct-IsDistinct bytes_eq (filter_map name_of (record_of m).mappings))
         (all_distinct (λ n. list_any (bytes_eq n) m.listing.names ≡ true) bytes_eq (filter_map name_of (record_of m).mappings) (names_listed m.listing m.listing.tokens h.listed))
+
+-- fewer sources are listed than numbers of 64 bits
+pub few_listed : (l : Listed) → IsListing l.map.now.listing → length (sources_of l) ≤ 2 ^ 64
+few_listed l h = by l.each_once
+  where
+    by : (b : Bool) → length (cond b (record_of l.map.now).sources l.map.now.listing.sources) ≤ 2 ^ 64
+    by true = omega (arith, (listing-writable l.map.now h).few_sources)
+    by false = omega (arith, h.sources)

@@ -1,13 +1,14 @@
 -- What is written of a layout is read back as that layout.
-use Rattle.std.proofs.Common.{◌≡◌, ℕ, ◌<◌, ◌≤◌, ◌^◌, suc, List, [], ◌∷◌, length, map, Option, Some, None, ap, ap₂, refl, ◌∙◌, sym, subst, Bool, true, false, cond, max, arith, append-nil}
+use Rattle.std.proofs.Common.{◌≡◌, ℕ, ◌<◌, ◌≤◌, ◌^◌, suc, List, [], ◌∷◌, length, map, Option, Some, None, ap, ap₂, refl, ◌∙◌, sym, Bool, true, false, cond, max, arith, append-nil}
 use Rattle.std.specs.Prelude.{codes, option_map, option_and_then, IfSome, IsUtf8}
 use Rattle.std.specs.List.{AllByRecursion}
 use Rattle.json.specs.Token.{Token}
 use Rattle.json.specs.Lex.{tokens}
-use Rattle.json.specs.Print.{print}
+use Rattle.json.specs.Tree.{json_tokens}
+use Rattle.json.proofs.Printed.Tokens.{tokens-print}
 use Rattle.json.specs.Json as json
 use Rattle.json.specs.Tree as tree
-use Rattle.json.proofs.Printed.Trees.{value-json_tokens}
+use Rattle.json.proofs.Printed.Trees.{value-json_tokens, ArePrintable-json_tokens}
 use Rattle.serde_json.specs.Data.{Data, null, boolean, number, string, array, object, Items, no_items, item, Members, no_members, member}
 use Rattle.serde_json.specs.Data.{depth, items_depth, members_depth}
 use Rattle.serde_json.specs.Read.{of_json, of_items, of_members, max_depth}
@@ -17,11 +18,14 @@ use Rattle.serde_json.proofs.Numbers.{number_of-decimal}
 use Rattle.serde_json.proofs.Texts.{print-outline}
 use Rattle.smap_mappings.specs.Text.{mappings_text}
 use Rattle.smap_record.specs.Record.{Entry, ReadMap}
-use Rattle.smap_canon.specs.Layout.{layout, list_of, or_null, whole_number, ignored_from, unless_empty, optional_member}
+use Rattle.smap_canon.specs.Layout.{layout, layout_text, list_of, or_null, whole_number, ignored_from, unless_empty, optional_member}
 use Rattle.smap_canon.specs.Layout.{has_content, written_contents, ReadsBack}
-use Rattle.smap_canon.specs.Writing.{data_tokens}
 use Rattle.smap_canon.proofs.EntryLemmas.{ignored_below}
-use Rattle.smap_canon.proofs.TreeLemmas.{layout_depth}
+use Rattle.smap_canon.proofs.TreeLemmas.{layout_depth, layout_number, parts_float}
+use Rattle.serde.specs.Event.{Log}
+use Rattle.serde_json.specs.Events.{SendsValue}
+use Rattle.serde_json.specs.Sent.{IsTextOf}
+use Rattle.serde_json.proofs.FreeTexts.{text_of_value}
 
 -- the JSON of the value says it
 abbrev IsSaid : Data → Type 0
@@ -129,17 +133,20 @@ mutual
 abbrev read_whole : Option (json.Json × List Token) → Option Data
 read_whole o = option_and_then of_json (option_and_then (λ p. json.if_last p.0 p.1) o)
 
--- what is printed of a layout's tokens is its text
-pub printed : (spell : List ℕ → List ℕ) (m : ReadMap) (ts : List Token) → ts ≡ data_tokens (layout spell m) → print ts ≡ compact_text (layout spell m)
-printed spell m ts is = ap print is ∙ print-outline (layout spell m)
-
-pub printed_back : (spell : List ℕ → List ℕ) (m : ReadMap) (ts : List Token) → ts ≡ data_tokens (layout spell m) → length m.listing.sources ≤ 2 ^ 64 → tokens (print ts) ≡ ts → IsUtf8 (print ts)
-    → ReadsBack (layout spell m)
-printed_back spell m ts is few same utf8 =
+-- a layout's text is read as that layout
+pub compact_back : (spell : List ℕ → List ℕ) (m : ReadMap) → length m.listing.sources ≤ 2 ^ 64 → IsUtf8 (compact_text (layout spell m)) → ReadsBack (layout spell m)
+compact_back spell m few utf8 =
     let d = layout spell m in
-    let text = printed spell m ts is in
-    let said = layout_said spell m few in
+    let ts = json_tokens (outline d) in
+    let below = ignored_below 0 (2 ^ 64) m.listing.sources (omega (arith, few)) in
+    let same : tokens (compact_text d) ≡ ts = ap tokens (sym (print-outline d)) ∙ tokens-print ts (ArePrintable-json_tokens (outline d) (layout_number spell m below)) in
     record {
-      utf8 = subst IsUtf8 text utf8;
-      same = ap read_whole (ap (json.value max_depth) (ap tokens (sym text) ∙ same ∙ is ∙ sym (append-nil (data_tokens d))) ∙ value-json_tokens (outline d) max_depth [] (omega (arith, same_depth d, layout_depth spell m))) ∙ said;
+      utf8 = utf8;
+      same = ap read_whole (ap (json.value max_depth) (same ∙ sym (append-nil ts)) ∙ value-json_tokens (outline d) max_depth [] (omega (arith, same_depth d, layout_depth spell m))) ∙ layout_said spell m few;
     }
+
+-- what is sent for it has its text
+pub sent-text : (spell : List ℕ → List ℕ) (m : ReadMap) (log : Log) (bytes : List ℕ) → SendsValue (layout spell m) (Some []) log → IsTextOf log bytes → bytes ≡ layout_text spell m
+unfolding layout
+sent-text spell m log bytes sent is =
+    text_of_value (layout spell m) log bytes sent is (parts_float spell m.file (ignored_from 0 m.listing.sources) (mappings_text m.listing.tokens) m.listing.names m.listing.sources (has_content m.listing.sources))

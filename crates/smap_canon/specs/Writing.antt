@@ -1,56 +1,71 @@
--- For private clauses: how a layout's text is written, token by token.
-use Rattle.std.specs.Prelude.{◌≡◌, ℕ, List, [], ◌∷◌, ◌++◌, map, Option, Some, None, option_map, if◌then◌else◌}
-use Rattle.std.specs.Prelude.{codes, Result, OnOk}
-use Rattle.json.specs.Token.{Token, begin_object, end_object, key}
-use Rattle.json.specs.Tree.{json_tokens}
-use Rattle.json.specs.Written.{Written}
+-- For private clauses: what a layout sends to a serializer, member by member.
+use Rattle.std.specs.Prelude.{◌≡◌, ℕ, List, map, Option, Some, None, option_map, option_copied, if◌then◌else◌}
+use Rattle.serde.specs.Event.{Log, Logs, field_key}
+use Rattle.serde.specs.declared.name.Case.TheVariants.{AsIs}
 use Rattle.serde_json.specs.Data.{Data, string}
-use Rattle.serde_json.specs.Written.{outline}
-use Rattle.smap_record.specs.Record.{Entry, record_of}
+use Rattle.smap_mappings.specs.declared.token.Token.{Token}
+use Rattle.smap_mappings.specs.Text.{mappings_text}
+use Rattle.smap_record.specs.Record.{Entry, ReadMap, record_of}
 use Rattle.smap_canon.specs.declared.listed.Listed.{Listed}
-use Rattle.smap_canon.specs.Layout.{list_of, or_null, whole_number, ignored_from, unless_empty}
-use Rattle.smap_canon.specs.Layout.{written_contents}
+use Rattle.smap_canon.specs.declared.layout.Names.{Names}
+use Rattle.smap_canon.specs.declared.layout.Mappings.{Mappings}
+use Rattle.smap_canon.specs.declared.layout.Urls.{Urls}
+use Rattle.smap_canon.specs.declared.layout.Contents.{Contents}
+use Rattle.smap_canon.specs.declared.layout.Ignored.{Ignored}
+use Rattle.smap_canon.specs.declared.layout.FlatMap.{FlatMap}
+use Rattle.smap_canon.specs.declared.spelling.SpelledUrl.{SpelledUrl}
+use Rattle.smap_canon.specs.Layout.{list_of, or_null, whole_number, ignored_from, layout}
+use Rattle.smap_canon.specs.Canonical.{canonical_listing}
+use Rattle.smap_canon.specs.Spelling.{spelling_of}
 
--- the sources of a record, each once, or all as they are listed
+-- ---- what is listed: by a record, or by a map as it stands
+
 abbrev pub sources_of : Listed → List Entry
 sources_of l = if l.each_once then (record_of l.map.now).sources else l.map.now.listing.sources
 
--- the tokens of a value's text
-abbrev pub data_tokens : Data → List Token
-data_tokens d = json_tokens (outline d)
+abbrev pub names_of : Listed → List (List ℕ)
+names_of l = if l.each_once then (canonical_listing (record_of l.map.now)).names else l.map.now.listing.names
 
--- those of values one after another
-abbrev pub each_token : List Data → List Token
-each_token [] = []
-each_token (d ∷ ds) = data_tokens d ++ each_token ds
+abbrev pub tokens_of : Listed → List Token
+tokens_of l = if l.each_once then (canonical_listing (record_of l.map.now)).tokens
+    else l.map.now.listing.tokens
 
--- those of a member
-abbrev pub member_tokens : List ℕ → Data → List Token
-member_tokens name d = key name ∷ data_tokens d
+abbrev pub map_of : Listed → ReadMap
+map_of l = record {
+  file = l.map.now.file;
+  listing = record { sources = sources_of l; names = names_of l; tokens = tokens_of l };
+}
 
--- those of a member, where there is a value
-abbrev pub optional_tokens : List ℕ → Option Data → List Token
-optional_tokens name None = []
-optional_tokens name (Some d) = member_tokens name d
+-- ---- the tree that each part says
 
--- what is written up to the names
-abbrev pub opening_tokens : Option (List ℕ) → List Entry → List ℕ → List Token
-opening_tokens file sources text =
-    begin_object ∷ (optional_tokens (codes "file") (option_map string file)
-    ++ (optional_tokens (codes "ignoreList") (unless_empty (map whole_number (ignored_from 0 sources)))
-    ++ member_tokens (codes "mappings") (string text)))
+abbrev pub url_tree : SpelledUrl → Data
+url_tree u = or_null (option_map (spelling_of u.spelling) (option_copied u.url))
 
--- what is written behind the names
-abbrev pub closing_tokens : (List ℕ → List ℕ) → List Entry → List Token
-closing_tokens spell sources =
-    member_tokens (codes "sources") (list_of (map (λ e. or_null (option_map spell e.url)) sources))
-    ++ (optional_tokens (codes "sourcesContent") (written_contents sources)
-    ++ (member_tokens (codes "version") (whole_number 3) ++ end_object ∷ []))
+abbrev pub mappings_tree : Mappings → Data
+mappings_tree m = string (mappings_text (tokens_of m.listed))
 
--- these tokens are put behind those that were written
-abbrev pub IsLonger : Written → Written → List Token → Type 0
-IsLonger old new ts = (new.before ≡ old.before) × (new.tokens ≡ old.tokens ++ ts)
+abbrev pub names_tree : Names → Data
+names_tree n = list_of (map string (names_of n.listed))
 
--- so, or writing failed
-abbrev pub Appends : {E : Type 0} → Result (Unit {0}) E → Written → Written → List Token → Type 0
-Appends r old new ts = OnOk r (IsLonger old new ts)
+abbrev pub urls_tree : Urls → Data
+urls_tree u = list_of (map (λ e. or_null (option_map (spelling_of u.spelling) e.url)) (sources_of u.listed))
+
+abbrev pub contents_tree : Contents → Data
+contents_tree c = list_of (map (λ e. or_null e.content) (sources_of c.listed))
+
+abbrev pub ignored_tree : Ignored → Data
+ignored_tree i = list_of (map whole_number (ignored_from 0 (sources_of i.listed)))
+
+abbrev pub flat_tree : FlatMap → Data
+flat_tree m = layout (spelling_of m.spelling) (map_of m.listed)
+
+-- ---- members
+
+-- the name, and then the value
+abbrev pub SendsMember : (Log → Log → Type 0) → List ℕ → Log → Log → Type 0
+SendsMember value name old new = (named : Log) × Logs old named (field_key name AsIs) × value named new
+
+-- so where there is a value, and else nothing
+abbrev pub SendsOptional : {A : Type 0} → (A → Log → Log → Type 0) → Option A → List ℕ → Log → Log → Type 0
+SendsOptional value None name old new = new ≡ old
+SendsOptional value (Some x) name old new = SendsMember (value x) name old new

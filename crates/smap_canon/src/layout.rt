@@ -1,108 +1,179 @@
-//! The text of a layout, written member by member: what a map says is borrowed from it, and no tree is made.
-ghost use Rattle.std.specs.Prelude.{◌≡◌, ◌∷◌, [], codes, map as mapped, option_map, option_copied, is_some};
-ghost use Rattle.json.specs.Token.{key, begin_array};
+//! A layout as serde sees it: a flat map, whose members are borrowed from a map that was read, or made when
+//! their turn comes. No tree is made.
+ghost use Rattle.std.specs.Prelude.{◌≡◌, IfOk, OnOk, length, map as mapped, option_map, string_bytes};
 ghost use Rattle.serde_json.specs.Data.{string};
-ghost use Rattle.smap_canon.specs.Layout.{list_of, or_null, whole_number, ignored_from, unless_empty};
+ghost use Rattle.serde_json.specs.Events.{SendsValue};
+ghost use Rattle.smap_canon.specs.Layout.{list_of, whole_number, ignored_from, unless_empty};
 ghost use Rattle.smap_canon.specs.Layout.{has_content, written_contents};
-ghost use Rattle.smap_canon.specs.Numbering.{texts_of};
-ghost use Rattle.smap_canon.specs.Spelling.{spelling_of};
-ghost use Rattle.smap_canon.specs.Writing.{Appends, data_tokens, each_token, member_tokens, optional_tokens};
-ghost use Rattle.smap_canon.specs.Writing.{sources_of, opening_tokens, closing_tokens};
+ghost use Rattle.smap_mappings.specs.Text.{mappings_text};
+ghost use Rattle.smap_record.specs.Record.{record_of};
+ghost use Rattle.smap_record.specs.Fitting.{names_used};
+ghost use Rattle.smap_canon.specs.Writing.{SendsMember, SendsOptional, sources_of, tokens_of};
+ghost use Rattle.smap_canon.specs.Writing.{mappings_tree, names_tree, urls_tree};
+ghost use Rattle.smap_canon.specs.Writing.{contents_tree, ignored_tree, flat_tree};
 
-use crate::listed::{Listed, source_at, source_count};
-use crate::spelling::{Spelling, spelled};
-use indexmap::IndexSet;
-use json::Writer;
+use crate::listed::{Listed, listed_mappings, source_at, source_count};
+use crate::numbering::{numbered_mappings, used_names};
+use crate::spelling::{SpelledUrl, Spelling};
+use serde::{Described, Serialize, Serializer};
+use smap_mappings::Memory;
 use smap_record::SourceMap;
-use std::alloc::{AllocError, Global};
+use std::alloc::Global;
 
-/// A member that is a list, up to its first item.
-fn open_list(out: &mut Writer, name: &str) -> Result<(), AllocError>
-    ensures { Appends result out.old out.new (key name.now ∷ begin_array ∷ []) }
+/// A member.
+fn member<T: Serialize, S: Serializer>(out: &mut S, name: &str, value: &T) -> Result<(), S::Error>
+    ensures { OnOk result
+        (SendsMember (T.writes value.now) name.now (S.written out.old) (S.written out.new)) }
 {
     out.key(name)?;
-    out.begin_array()
+    value.serialize(out)
 }
 
-/// A text, or null.
-pub(crate) fn text_or_null(out: &mut Writer, text: Option<&str>) -> Result<(), AllocError>
-    ensures { Appends result out.old out.new (data_tokens (or_null (option_copied text.entry))) }
+/// A member, where there is a value.
+fn optional_member<T: Serialize, S: Serializer>(
+    out: &mut S,
+    name: &str,
+    value: &Option<T>,
+) -> Result<(), S::Error>
+    ensures { OnOk result
+        (SendsOptional T.writes value.now name.now (S.written out.old) (S.written out.new)) }
 {
-    match text {
-        Some(text) => out.string(text),
-        None => out.null(),
+    match value {
+        Some(value) => member(out, name, value),
+        None => Ok(()),
     }
 }
 
-/// Each of the names, in their order.
-fn each_name(out: &mut Writer, names: &IndexSet<&str>) -> Result<(), AllocError>
-    ensures { Appends result out.old out.new (each_token (mapped string (texts_of names.now.keys))) }
-{
-    for name in names.as_slice() {
-        out.string(*name)?;
-    }
-    Ok(())
+/// The mappings text.
+///
+/// It is made when its turn comes, and let go once it is written.
+#[derive(Clone, Copy)]
+struct Mappings<'a> {
+    alloc: Global,
+    listed: Listed<'a>,
 }
 
-/// The names, in their order.
-pub(crate) fn names(out: &mut Writer, names: &IndexSet<&str>) -> Result<(), AllocError>
-    ensures { Appends result out.old out.new
-        (member_tokens (codes "names") (list_of (mapped string (texts_of names.now.keys)))) }
-{
-    open_list(out, "names")?;
-    each_name(out, names)?;
-    out.end_array()
+impl Described for Mappings<'_> {
+    ghost writes = { λ m. SendsValue (mappings_tree m) };
 }
 
-/// Each of the names as they are listed.
-fn each_listed_name(out: &mut Writer, map: &SourceMap) -> Result<(), AllocError>
-    ensures { Appends result out.old out.new (each_token (mapped string map.now.listing.names)) }
-{
-    for i in 0..map.name_count() {
-        out.string(map.name(i))?;
+impl Serialize for Mappings<'_> {
+    fn serialize<S: Serializer>(&self, out: &mut S) -> Result<(), S::Error> {
+        match mappings_of(self.alloc, self.listed) {
+            Ok(text) => out.str(text.as_str()),
+            Err(_) => Err(out.custom("out of memory")),
+        }
     }
-    Ok(())
+}
+
+fn mappings_of(alloc: Global, listed: Listed<'_>) -> Result<String, Memory>
+    ensures { IfOk result (λ text. string_bytes text ≡ mappings_text (tokens_of listed.entry)) }
+{
+    let text = mappings_bytes(alloc, listed)?;
+    Ok(String::from_utf8(text).unwrap())
+}
+
+fn mappings_bytes(alloc: Global, listed: Listed<'_>) -> Result<Vec<u8>, Memory>
+    ensures { IfOk result (λ text. text.items ≡ mappings_text (tokens_of listed.entry)) }
+{
+    if listed.each_once {
+        numbered_mappings(alloc, listed.map)
+    } else {
+        listed_mappings(alloc, listed.map)
+    }
+}
+
+/// The names, made and let go like the mappings text.
+#[derive(Clone, Copy)]
+struct Names<'a> {
+    alloc: Global,
+    listed: Listed<'a>,
+}
+
+impl Described for Names<'_> {
+    ghost writes = { λ n. SendsValue (names_tree n) };
+}
+
+impl Serialize for Names<'_> {
+    fn serialize<S: Serializer>(&self, out: &mut S) -> Result<(), S::Error> {
+        if self.listed.each_once {
+            names_by_use(out, self.alloc, self.listed.map)
+        } else {
+            listed_names(out, self.listed.map)
+        }
+    }
+}
+
+/// The names that the mappings use, in order of first use.
+fn names_by_use<S: Serializer>(out: &mut S, alloc: Global, map: &SourceMap) -> Result<(), S::Error>
+    ensures { OnOk result (SendsValue (list_of (mapped string (names_used (record_of map.now).mappings)))
+        (S.written out.old) (S.written out.new)) }
+{
+    match used_names(alloc, map) {
+        Ok(names) => names.as_slice().serialize(out),
+        Err(_) => Err(out.custom("out of memory")),
+    }
 }
 
 /// The names as they are listed.
-pub(crate) fn listed_names(out: &mut Writer, map: &SourceMap) -> Result<(), AllocError>
-    ensures { Appends result out.old out.new
-        (member_tokens (codes "names") (list_of (mapped string map.now.listing.names))) }
+fn listed_names<S: Serializer>(out: &mut S, map: &SourceMap) -> Result<(), S::Error>
+    ensures { OnOk result (SendsValue (list_of (mapped string map.now.listing.names))
+        (S.written out.old) (S.written out.new)) }
 {
-    open_list(out, "names")?;
-    each_listed_name(out, map)?;
-    out.end_array()
-}
-
-/// Each source's URL, so spelled.
-fn each_url(
-    out: &mut Writer,
-    alloc: Global,
-    listed: Listed<'_>,
-    spelling: Spelling<'_>,
-) -> Result<(), AllocError>
-    ensures { Appends result out.old out.new (each_token
-        (mapped (λ e. or_null (option_map (spelling_of spelling.entry) e.url)) (sources_of listed.entry))) }
-{
-    for i in 0..source_count(listed) {
-        spelled(out, alloc, spelling, source_at(listed, i).url)?;
+    out.begin_seq(Some(map.name_count()))?;
+    for i in 0..map.name_count() {
+        out.str(map.name(i))?;
     }
-    Ok(())
+    out.end_seq()
 }
 
 /// The URLs of the sources, so spelled.
-fn urls(
-    out: &mut Writer,
+#[derive(Clone, Copy)]
+struct Urls<'a> {
     alloc: Global,
-    listed: Listed<'_>,
-    spelling: Spelling<'_>,
-) -> Result<(), AllocError>
-    ensures { Appends result out.old out.new (member_tokens (codes "sources") (list_of
-        (mapped (λ e. or_null (option_map (spelling_of spelling.entry) e.url)) (sources_of listed.entry)))) }
-{
-    open_list(out, "sources")?;
-    each_url(out, alloc, listed, spelling)?;
-    out.end_array()
+    listed: Listed<'a>,
+    spelling: Spelling<'a>,
+}
+
+impl Described for Urls<'_> {
+    ghost writes = { λ u. SendsValue (urls_tree u) };
+}
+
+impl Serialize for Urls<'_> {
+    fn serialize<S: Serializer>(&self, out: &mut S) -> Result<(), S::Error> {
+        let listed = self.listed;
+        out.begin_seq(Some(source_count(listed)))?;
+        for i in 0..source_count(listed) {
+            let spelled = SpelledUrl {
+                alloc: self.alloc,
+                spelling: self.spelling,
+                url: source_at(listed, i).url,
+            };
+            spelled.serialize(out)?;
+        }
+        out.end_seq()
+    }
+}
+
+/// The contents of the sources.
+#[derive(Clone, Copy)]
+struct Contents<'a> {
+    listed: Listed<'a>,
+}
+
+impl Described for Contents<'_> {
+    ghost writes = { λ c. SendsValue (contents_tree c) };
+}
+
+impl Serialize for Contents<'_> {
+    fn serialize<S: Serializer>(&self, out: &mut S) -> Result<(), S::Error> {
+        let listed = self.listed;
+        out.begin_seq(Some(source_count(listed)))?;
+        for i in 0..source_count(listed) {
+            source_at(listed, i).content.serialize(out)?;
+        }
+        out.end_seq()
+    }
 }
 
 fn has_content(listed: Listed<'_>) -> bool
@@ -116,110 +187,106 @@ fn has_content(listed: Listed<'_>) -> bool
     false
 }
 
-/// Each source's content, or null.
-fn each_content(out: &mut Writer, listed: Listed<'_>) -> Result<(), AllocError>
-    ensures { Appends result out.old out.new (each_token
-        (mapped (λ e. or_null e.content) (sources_of listed.entry))) }
-{
-    for i in 0..source_count(listed) {
-        text_or_null(out, source_at(listed, i).content)?;
-    }
-    Ok(())
-}
-
 /// The contents of the sources, where some source has one.
-fn contents(out: &mut Writer, listed: Listed<'_>) -> Result<(), AllocError>
-    ensures { Appends result out.old out.new
-        (optional_tokens (codes "sourcesContent") (written_contents (sources_of listed.entry))) }
+fn contents_of(listed: Listed<'_>) -> Option<Contents<'_>>
+    ensures { option_map contents_tree result ≡ written_contents (sources_of listed.entry) }
 {
-    if !has_content(listed) {
-        return Ok(());
+    if has_content(listed) {
+        Some(Contents { listed })
+    } else {
+        None
     }
-    open_list(out, "sourcesContent")?;
-    each_content(out, listed)?;
-    out.end_array()
 }
 
-fn has_ignored(listed: Listed<'_>) -> bool
-    ensures { result ≡ is_some
-        (unless_empty (mapped whole_number (ignored_from 0 (sources_of listed.entry)))) }
+/// The numbers of the ignored sources, rising.
+#[derive(Clone, Copy)]
+struct Ignored<'a> {
+    listed: Listed<'a>,
+}
+
+impl Described for Ignored<'_> {
+    ghost writes = { λ i. SendsValue (ignored_tree i) };
+}
+
+impl Serialize for Ignored<'_> {
+    fn serialize<S: Serializer>(&self, out: &mut S) -> Result<(), S::Error> {
+        let listed = self.listed;
+        out.begin_seq(Some(ignored_count(listed)))?;
+        for i in 0..source_count(listed) {
+            if source_at(listed, i).ignored {
+                out.u64(i as u64)?;
+            }
+        }
+        out.end_seq()
+    }
+}
+
+/// How many sources are ignored.
+fn ignored_count(listed: Listed<'_>) -> usize
+    ensures { result ≡ length (ignored_from 0 (sources_of listed.entry)) }
 {
+    let mut count: usize = 0;
     for i in 0..source_count(listed) {
         let source = source_at(listed, i);
         if source.ignored {
-            return true;
+            count += 1;
         }
     }
-    false
+    count
 }
 
-/// Each number of an ignored source, rising.
-fn each_ignored(out: &mut Writer, listed: Listed<'_>) -> Result<(), AllocError>
-    ensures { Appends result out.old out.new (each_token
-        (mapped whole_number (ignored_from 0 (sources_of listed.entry)))) }
+/// The numbers of the ignored sources, where there is one.
+fn ignored_of(listed: Listed<'_>) -> Option<Ignored<'_>>
+    ensures { option_map ignored_tree result
+        ≡ unless_empty (mapped whole_number (ignored_from 0 (sources_of listed.entry))) }
 {
-    for i in 0..source_count(listed) {
-        if source_at(listed, i).ignored {
-            out.u64(i as u64)?;
-        }
+    if ignored_count(listed) > 0 {
+        Some(Ignored { listed })
+    } else {
+        None
     }
-    Ok(())
 }
 
-/// The numbers of the ignored sources, rising, where there is one.
-fn ignored(out: &mut Writer, listed: Listed<'_>) -> Result<(), AllocError>
-    ensures { Appends result out.old out.new (optional_tokens (codes "ignoreList")
-        (unless_empty (mapped whole_number (ignored_from 0 (sources_of listed.entry))))) }
-{
-    if !has_ignored(listed) {
-        return Ok(());
+/// A flat map: that of a record, or the listing of a map as it stands. Its URLs are so spelled.
+#[derive(Clone, Copy)]
+pub(crate) struct FlatMap<'a> {
+    pub(crate) alloc: Global,
+    pub(crate) listed: Listed<'a>,
+    pub(crate) spelling: Spelling<'a>,
+}
+
+impl Described for FlatMap<'_> {
+    ghost writes = { λ m. SendsValue (flat_tree m) };
+}
+
+impl Serialize for FlatMap<'_> {
+    fn serialize<S: Serializer>(&self, out: &mut S) -> Result<(), S::Error> {
+        let FlatMap {
+            alloc,
+            listed,
+            spelling,
+        } = *self;
+        let file = listed.map.file();
+        let ignored = ignored_of(listed);
+        let contents = contents_of(listed);
+        let optional = file.is_some() as usize
+            + ignored.is_some() as usize
+            + contents.is_some() as usize;
+        let mappings = Mappings { alloc, listed };
+        let names = Names { alloc, listed };
+        let urls = Urls {
+            alloc,
+            listed,
+            spelling,
+        };
+        out.begin_map(Some(optional + 4))?;
+        optional_member(out, "file", &file)?;
+        optional_member(out, "ignoreList", &ignored)?;
+        member(out, "mappings", &mappings)?;
+        member(out, "names", &names)?;
+        member(out, "sources", &urls)?;
+        optional_member(out, "sourcesContent", &contents)?;
+        member(out, "version", &3u64)?;
+        out.end_map()
     }
-    open_list(out, "ignoreList")?;
-    each_ignored(out, listed)?;
-    out.end_array()
-}
-
-/// The file, where there is one.
-fn file(out: &mut Writer, map: &SourceMap) -> Result<(), AllocError>
-    ensures { Appends result out.old out.new
-        (optional_tokens (codes "file") (option_map string map.now.file)) }
-{
-    let Some(text) = map.file() else {
-        return Ok(());
-    };
-    out.key("file")?;
-    out.string(text)
-}
-
-/// The members in front of the names, behind the bracket that opens the object.
-pub(crate) fn opening(
-    out: &mut Writer,
-    listed: Listed<'_>,
-    mappings: &str,
-) -> Result<(), AllocError>
-    ensures { Appends result out.old out.new
-        (opening_tokens listed.entry.map.now.file (sources_of listed.entry) mappings.now) }
-{
-    out.begin_object()?;
-    file(out, listed.map)?;
-    ignored(out, listed)?;
-    out.key("mappings")?;
-    out.string(mappings)
-}
-
-/// The members behind the names, and the bracket that closes the object.
-pub(crate) fn closing(
-    out: &mut Writer,
-    alloc: Global,
-    listed: Listed<'_>,
-    spelling: Spelling<'_>,
-) -> Result<(), AllocError>
-    ensures { Appends result out.old out.new
-        (closing_tokens (spelling_of spelling.entry) (sources_of listed.entry)) }
-{
-    urls(out, alloc, listed, spelling)?;
-    contents(out, listed)?;
-    out.key("version")?;
-    out.u64(3)?;
-    out.end_object()
 }

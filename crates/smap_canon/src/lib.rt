@@ -17,8 +17,6 @@ mod numbering;
 pub mod round_trips;
 mod sameness;
 mod spelling;
-#[cfg(test)]
-mod tests;
 mod writing;
 
 pub use sameness::same;

@@ -1,5 +1,4 @@
-//! The mappings of a record by their places: sources by the record's numbers, names by first use. One pass
-//! over the mappings numbers the names and writes the mappings text.
+//! The mappings of a record by their places: sources by the record's numbers, names by first use.
 ghost use Rattle.std.specs.Prelude.{◌≡◌, ◌<◌, [], length, slice_get, replicate, bytes_eq};
 ghost use Rattle.std.specs.Prelude.{IfOk, OnOk, Some, option_map};
 ghost use Rattle.std.specs.List.{position_or_len};
@@ -114,18 +113,10 @@ fn token_by<'a>(names: &mut Names<'a>, map: &'a SourceMap, token: Token) -> Resu
     })
 }
 
-/// The names that the mappings use, each once, in order of first use, and the mappings text by their places.
-#[derive(Drop)]
-pub(crate) struct Numbered<'a> {
-    pub(crate) names: IndexSet<&'a str>,
-    pub(crate) mappings: Vec<u8>,
-}
-
-/// Numbers the names and writes the mappings text in one pass over the mappings. No other list of them is
-/// made.
-pub(crate) fn number_mappings<'a>(alloc: Global, map: &'a SourceMap) -> Result<Numbered<'a>, Memory>
-    ensures names { IfOk result (λ n. texts_of n.names.keys ≡ names_used (record_of map.now).mappings) }
-    ensures mappings { IfOk result (λ n. n.mappings.items ≡ canonical_mappings_text (record_of map.now)) }
+/// The mappings text by the places of sources and names, in one pass over the mappings. No other list of them
+/// is made.
+pub(crate) fn numbered_mappings(alloc: Global, map: &SourceMap) -> Result<Vec<u8>, Memory>
+    ensures text { IfOk result (λ text. text.items ≡ canonical_mappings_text (record_of map.now)) }
     ensures listing { OnOk result (IsListing map.now.listing) }
 {
     let mut names = no_names(alloc, map)?;
@@ -134,9 +125,37 @@ pub(crate) fn number_mappings<'a>(alloc: Global, map: &'a SourceMap) -> Result<N
         let token = token_by(&mut names, map, map.listed_token(i))?;
         encoder.push(token)?;
     }
+    Ok(encoder.finish())
+}
+
+/// The name of a listed token, where it has one, is used from now on.
+fn use_name<'a>(names: &mut Names<'a>, map: &'a SourceMap, token: Token) -> Result<(), Memory>
+    requires listed { IsListedToken map.now.listing token }
+    requires numbers { AreNumbers map.now.listing.names (used_in names.old) names.old.numbers.items }
+    requires few { length names.old.used.keys < POSITIONS }
+    ensures used { OnOk result (used_in names.new
+        ≡ with_name (name_of (mapping_of map.now.listing token)) (used_in names.old)) }
+    ensures numbers { OnOk result (AreNumbers
+        map.now.listing.names (used_in names.new) names.new.numbers.items) }
+{
+    let Some(original) = token.original else {
+        return Ok(());
+    };
+    let Some(listed) = original.name else {
+        return Ok(());
+    };
+    number_of(names, map, listed)?;
+    Ok(())
+}
+
+/// The names that the mappings use, each once, in order of first use.
+pub(crate) fn used_names(alloc: Global, map: &SourceMap) -> Result<IndexSet<&str>, Memory>
+    ensures { IfOk result (λ names. texts_of names.keys ≡ names_used (record_of map.now).mappings) }
+{
+    let mut names = no_names(alloc, map)?;
+    for i in 0..map.token_count() {
+        use_name(&mut names, map, map.listed_token(i))?;
+    }
     let Names { used, .. } = names;
-    Ok(Numbered {
-        names: used,
-        mappings: encoder.finish(),
-    })
+    Ok(used)
 }

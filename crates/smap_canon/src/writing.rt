@@ -1,6 +1,6 @@
 //! Canonical bytes, the canonical mappings text alone, and flat bytes.
-ghost use Rattle.std.specs.Prelude.{◌≡◌, ◌≤◌, ◌+◌, ◌*◌, [], length, IfOk, OnOk, IsUtf8};
-ghost use Rattle.smap_mappings.specs.Text.{line_count, mappings_text};
+ghost use Rattle.std.specs.Prelude.{◌≡◌, ◌≤◌, ◌+◌, ◌*◌, length, IfOk, OnOk};
+ghost use Rattle.smap_mappings.specs.Text.{line_count};
 ghost use Rattle.smap_record.specs.Record.{record_of};
 ghost use Rattle.smap_record.specs.Listed.{IsListing};
 ghost use Rattle.smap_canon.specs.Layout.{absolute, relative_form, spelling_in, layout, layout_text};
@@ -9,30 +9,37 @@ ghost use Rattle.smap_canon.specs.Canonical.{canonical_map, canonical_text, cano
 ghost use Rattle.smap_canon.specs.Canonical.{canonical_mappings_text};
 ghost use Rattle.smap_canon.specs.Laws.{IsReadAgain, IsReadAgainFrom, IsFlatReadAgain};
 ghost use Rattle.smap_canon.specs.Spelling.{spelling_of};
-ghost use Rattle.smap_canon.specs.Writing.{opening_tokens, sources_of};
+ghost use Rattle.smap_canon.specs.Writing.{map_of};
 
-use crate::layout;
-use crate::listed::{Listed, usual_len};
-use crate::numbering::{Numbered, number_mappings};
+use crate::layout::FlatMap;
+use crate::listed::Listed;
+use crate::numbering::numbered_mappings;
 use crate::spelling::Spelling;
-use json::Writer;
-use smap_mappings::{Encoder, Memory};
+use smap_mappings::Memory;
 use smap_record::{Base, SourceMap};
-use std::alloc::{AllocError, Global};
+use std::alloc::Global;
 
-/// A text of a map's layout, written up to the names.
-fn opened(alloc: Global, listed: Listed<'_>, mappings: Vec<u8>) -> Result<Writer, AllocError>
-    requires { IsUtf8 mappings.items }
-    ensures before { IfOk result (λ out. out.before ≡ []) }
-    ensures tokens { IfOk result (λ out. out.tokens
-        ≡ opening_tokens listed.entry.map.now.file (sources_of listed.entry) mappings.items) }
+/// The text of what is listed, its URLs so spelled.
+///
+/// The writer fails only without memory: no key but a text is written, nothing is flattened, and there is no
+/// float. A member that finds no memory while it is made fails as a value of its own.
+fn written(alloc: Global, listed: Listed<'_>, spelling: Spelling<'_>) -> Result<Vec<u8>, Memory>
+    ensures text { IfOk result (λ bytes. bytes.items
+        ≡ layout_text (spelling_of spelling.entry) (map_of listed.entry)) }
+    ensures back { OnOk result (ReadsBack (layout (spelling_of spelling.entry) (map_of listed.entry))) }
+    ensures listing { IsListing listed.entry.map.now.listing }
 {
-    let mappings = String::from_utf8(mappings).unwrap();
-    // What is written is seldom longer, and so isn't copied as it grows; room that isn't used isn't touched.
-    let room = mappings.len().saturating_add(usual_len(listed));
-    let mut out = Writer::new(Vec::with_capacity(alloc, room)?);
-    layout::opening(&mut out, listed, mappings.as_str())?;
-    Ok(out)
+    // Its contract says what every listing keeps to.
+    let _ = listed.map.token_count();
+    let flat = FlatMap {
+        alloc,
+        listed,
+        spelling,
+    };
+    match serde_json::to_string(alloc, &flat) {
+        Ok(text) => Ok(text.into_bytes()),
+        Err(_) => Err(Memory),
+    }
 }
 
 /// The canonical bytes of the map's record, its URLs so spelled.
@@ -41,29 +48,13 @@ fn canonical_in(alloc: Global, map: &SourceMap, spelling: Spelling<'_>) -> Resul
         ≡ layout_text (spelling_of spelling.entry) (canonical_map (record_of map.now))) }
     ensures back { OnOk result (ReadsBack
         (layout (spelling_of spelling.entry) (canonical_map (record_of map.now)))) }
-    ensures listing { OnOk result (IsListing map.now.listing) }
+    ensures listing { IsListing map.now.listing }
 {
-    let Numbered { names, mappings } = number_mappings(alloc, map)?;
     let listed = Listed {
         map,
         each_once: true,
     };
-    let mut out = opened(alloc, listed, mappings)?;
-    layout::names(&mut out, &names)?;
-    layout::closing(&mut out, alloc, listed, spelling)?;
-    Ok(out.into_inner())
-}
-
-/// The mappings text of the tokens as they are listed.
-fn listed_mappings(alloc: Global, map: &SourceMap) -> Result<Vec<u8>, Memory>
-    ensures text { IfOk result (λ text. text.items ≡ mappings_text map.now.listing.tokens) }
-    ensures listing { IsListing map.now.listing }
-{
-    let mut encoder = Encoder::with_capacity(alloc, map.token_count())?;
-    for i in 0..map.token_count() {
-        encoder.push(map.listed_token(i))?;
-    }
-    Ok(encoder.finish())
+    written(alloc, listed, spelling)
 }
 
 /// The canonical mappings text of the map's record: sources are numbered as the record lists them, names by
@@ -76,8 +67,8 @@ pub fn canonical_mappings(alloc: Global, map: &SourceMap) -> Result<Vec<u8>, Mem
     ensures short { IfOk result (λ text. length text.items
         ≤ 36 * length map.now.listing.tokens + line_count map.now.listing.tokens) }
 {
-    let numbered = number_mappings(alloc, map)?;
-    Ok(numbered.mappings)
+    let mappings = numbered_mappings(alloc, map)?;
+    Ok(mappings)
 }
 
 /// The canonical bytes of the map's record: one flat map as compact JSON, its members in byte order of their
@@ -122,13 +113,10 @@ pub fn flatten(alloc: Global, map: &SourceMap) -> Result<Vec<u8>, Memory>
     // As a map text, under a base and limits that the listing fits, they have no fault and say the same map.
     ensures read_again { OnOk result (IsFlatReadAgain map.now) }
 {
-    let mappings = listed_mappings(alloc, map)?;
     let listed = Listed {
         map,
         each_once: false,
     };
-    let mut out = opened(alloc, listed, mappings)?;
-    layout::listed_names(&mut out, map)?;
-    layout::closing(&mut out, alloc, listed, Spelling::Absolute)?;
-    Ok(out.into_inner())
+    let bytes = written(alloc, listed, Spelling::Absolute)?;
+    Ok(bytes)
 }

@@ -2,19 +2,11 @@
 
 use crate::answers::{Answer, said};
 use smap_mappings::{
-    Bounds, MappingsError, MappingsReader, Memory, Original, Token, decode, encode,
+    MAX_POSITION, MappingsError, MappingsReader, Memory, Original, Token, WIDEST, decode, encode,
 };
-use smap_record::{Fault, Kind, Path};
-use smap_run::fault_text;
+use smap_record::Fault;
+use smap_tool::fault_text;
 use std::alloc::Global;
-
-const BOUNDS: Bounds = Bounds {
-    start_line: 0,
-    start_column: 0,
-    sources: 2_147_483_647,
-    names: 2_147_483_647,
-    lines: 16_777_216,
-};
 
 /// The tokens in their canonical text, or the line of the fault.
 fn told(alloc: Global, tokens: Result<Vec<Token>, MappingsError>) -> Answer {
@@ -26,11 +18,7 @@ fn told(alloc: Global, tokens: Result<Vec<Token>, MappingsError>) -> Answer {
             encode(alloc, tokens.as_slice())
         }
         Err(MappingsError::Fault(place, kind)) => {
-            let fault = Fault {
-                section: Path::new(&[]).unwrap(),
-                place: Some(place),
-                kind: Kind::from(kind),
-            };
+            let fault = Fault::of_segment(place, kind);
             let line = fault_text(alloc, &fault)?;
             Ok(line.into_bytes())
         }
@@ -39,12 +27,12 @@ fn told(alloc: Global, tokens: Result<Vec<Token>, MappingsError>) -> Answer {
 }
 
 pub(crate) fn decoded(alloc: Global, text: &[u8]) -> Answer {
-    told(alloc, decode(alloc, text, BOUNDS))
+    told(alloc, decode(alloc, text, WIDEST))
 }
 
 /// Byte by byte, with no room to begin with. After want of memory each further call has to answer it too.
 pub(crate) fn in_pieces(alloc: Global, text: &[u8]) -> Answer {
-    let mut reader = MappingsReader::new(alloc, BOUNDS, 0)?;
+    let mut reader = MappingsReader::new(alloc, WIDEST, 0)?;
     for i in 0..text.len() {
         if let Err(error) = reader.feed(&text[i..i + 1]) {
             let stays = reader.feed(b"A") == Err(error) && reader.finish() == Err(error);
@@ -61,7 +49,7 @@ pub(crate) fn in_pieces(alloc: Global, text: &[u8]) -> Answer {
 pub(crate) fn encoded(alloc: Global) -> Answer {
     let token = Token {
         line: 0,
-        column: 2_147_483_647,
+        column: MAX_POSITION,
         original: Some(Original {
             source: 1,
             line: 2,

@@ -4,7 +4,7 @@ use crate::answers::{Answer, said};
 use smap_canon::{canonical, canonical_mappings, canonical_relative, flatten};
 use smap_mappings::Memory;
 use smap_record::{Base, BaseFault, Fault, Kind, Limits, Path, ReadError, SourceMap};
-use smap_run::fault_text;
+use smap_tool::fault_text;
 use std::alloc::Global;
 
 pub(crate) const BASE: &str = "http://h/m/out.js.map";
@@ -35,7 +35,7 @@ fn line(alloc: Global, fault: &Fault) -> Answer {
 
 pub(crate) fn fault(alloc: Global) -> Answer {
     let fault = Fault {
-        section: Path::new(&[]).unwrap(),
+        section: Path::outside(),
         place: None,
         kind: Kind::SourceUrl(7),
     };

@@ -7,5 +7,11 @@
 #![tactic(auto)]
 
 mod device;
+mod reading;
+#[cfg(test)]
+mod tests;
+mod writing;
 
 pub use device::{Device, Failed};
+pub use reading::{LIMIT, MOST_CALLS, ReadFault, read_line, read_up_to};
+pub use writing::{write_all, write_and_flush};

@@ -25,7 +25,7 @@ module _ {X : Type 0} (lt : X → X → Bool) (o : IsStrictWeakOrder lt) where
       by_test true e = o.one_way x x e
       by_test false e = e
 
-  -- not before, and not behind
+  -- not before, and not after
   ties_are : (x y : X) → lt x y ≡ false → lt y x ≡ false → ties lt x y ≡ true
   ties_are x y p q = rw (p, q) refl
 
@@ -38,7 +38,7 @@ module _ {X : Type 0} (lt : X → X → Bool) (o : IsStrictWeakOrder lt) where
   no_tie_behind : (x y : X) → lt y x ≡ true → ties lt x y ≡ false
   no_tie_behind x y p = rw (o.one_way y x p, p) refl
 
-  -- what stands behind y, where nothing of the list stands before z, and y before z
+  -- what stands after y, where nothing of the list stands before z, and y before z
   none_ties : (y z : X) (zs : List X) → lt y z ≡ true → NoneBefore z zs → filter (ties lt y) zs ≡ []
   none_ties y z [] before none = refl
   none_ties y z (w ∷ ws) before none = rw (no_tie y w (far y z w before none.0)) (none_ties y z ws before none.1)

@@ -16,12 +16,12 @@ use Rattle.smap_mappings.specs.declared.error.SegmentKind.{SegmentKind}
 use Rattle.smap_mappings.specs.declared.error.SegmentKind.TheVariants as kind
 use Rattle.smap_mappings.specs.Lines.{SegmentText, segments_of}
 use Rattle.smap_mappings.specs.Position.{POSITIONS}
-use Rattle.smap_mappings.specs.Tokens.{Segment, below, at_place, read_in, tokens_behind}
-use Rattle.smap_mappings.specs.Steps.{Sums, name_step, original_step, placed_column, column_step, token_step, fields_or_kind, judge_step}
+use Rattle.smap_mappings.specs.Tokens.{Segment, below, placed, at_place, read_in, tokens_behind}
+use Rattle.smap_mappings.specs.Steps.{Sums, name_step, original_step, column_step, token_step, fields_or_kind, judge_step}
 use Rattle.smap_mappings.specs.Text.{difference, mappings_text}
 use Rattle.smap_mappings.specs.Writing.{name_from, original_from, segment_from, original_behind, running_behind, separator, at_line}
 use Rattle.smap_mappings.specs.Laws.{TextIsLeast}
-use Rattle.smap_mappings.proofs.StepsLemmas.{AreFields, one_field, four_fields, five_fields, below_is, column_is, segment_fields, Reads, reads}
+use Rattle.smap_mappings.proofs.StepsLemmas.{AreFields, one_field, four_fields, five_fields, below_is, placed-column, column_is, segment_fields, Reads, reads}
 use Rattle.smap_mappings.proofs.DecodedLemmas.{good, bind_ok, good_is, some_is, at_place_ok}
 use Rattle.smap_mappings.specs.Steps.{at_start}
 use Rattle.smap_mappings.proofs.RunningTextLemmas.{numbers_from, text_from, mappings_text-from}
@@ -34,7 +34,7 @@ use Rattle.smap_mappings.proofs.LawLemmas.{text_says}
 difference_is : (old new : ℕ) (n : ℤ) → pos old +ℤ n ≡ pos new → n ≡ difference old new
 difference_is old new n e = omega (arith, ints)
 
--- What a segment's numbers must be, behind its column, and what the values behind it are.
+-- What a segment's numbers must be, after its column, and what the values after it are.
 record OriginalTold (r : Running) (ns : List ℤ) (x : Running × Option Original) : Type 0 where
   behind : x.0 ≡ original_behind r x.1
   numbers : ns ≡ original_from r x.1
@@ -107,8 +107,8 @@ column_same bounds line z x start e = same z e
 
     same : (z : ℤ) → column_step bounds line z ≡ Some x → x.1 ≡ x.0
     same (pos column) e =
-        by_placed column (below POSITIONS (pos (placed_column bounds.start_column line column)))
-        (λ m is. number_is (placed_column bounds.start_column line column) m (below_is POSITIONS (pos (placed_column bounds.start_column line column)) m is) ∙ at_zero column (eqb line 0)) e
+        by_placed column (below POSITIONS (pos (placed bounds line column).column))
+        (λ m is. number_is (placed bounds line column).column m (below_is POSITIONS (pos (placed bounds line column).column) m is) ∙ placed-column bounds line column ∙ at_zero column (eqb line 0)) e
     same (negsuc column) e = absurd cc
 
 line_told : (bounds : Bounds) (line : ℕ) (k : SegmentKind) (l : ℕ) → bounds.start_line ≡ 0 → ok_or (below bounds.lines (pos (bounds.start_line + line))) k ≡ good l → l ≡ line
@@ -190,7 +190,7 @@ joined_least bounds r lines before (s ∷ ss) ts line_start column_start rise st
     (put_behind (separator lines s.line) (separator lines s.line) (s.text ++ joined (s.line + 1) ss) (segment_from old step.0.1 ++ text_from new (s.line + 1) rest.0) (inl refl)
     (put_behind s.text (segment_from old step.0.1) (joined (s.line + 1) ss) (text_from new (s.line + 1) rest.0) t.least behind)))
 
--- semicolons behind it only lengthen a text
+-- semicolons after it only lengthen a text
 semicolons_behind : (count : ℕ) (text least : List ℕ) → IsOrIsLonger text least → IsOrIsLonger (text ++ replicate count 59) least
 semicolons_behind zero text least h = subst (λ (t : List ℕ). IsOrIsLonger t least) (sym (append-nil text)) h
 semicolons_behind (suc count) text least (inl e) = inr (omega (arith, ap length e, length-append text (replicate (suc count) 59)))

@@ -45,7 +45,7 @@ separator_length lines line le = by_test (eqb lines (line + 1)) refl
     by_test true e = omega (arith, eqb-true _ _ e)
     by_test false e = let n = semicolons_length (line + 1 - max lines 1) in omega arith
 
--- behind the last of tokens, or so many lines
+-- after the last of tokens, or so many lines
 abbrev lines_behind : ℕ → List Token → ℕ
 lines_behind lines ts = last_or lines (map (λ t. t.line + 1) ts)
 

@@ -1,7 +1,8 @@
 -- Tokens in order, index by index.
 use Rattle.std.proofs.Common.{◌≡◌, ℕ, zero, suc, ◌+◌, ◌<◌, ◌≤◌, Bool, true, false, not, ◌&&◌, refl, List, [], ◌∷◌, ◌++◌, length, map, get_or, sym, ◌∙◌, arith}
 use Rattle.smap_mappings.specs.declared.token.Token.{Token}
-use Rattle.smap_mappings.specs.Position.{Position, is_before, position_of, NeverFalls}
+use Rattle.smap_mappings.specs.declared.position.Position.{Position}
+use Rattle.smap_mappings.specs.Position.{is_before, position_of, NeverFalls}
 use Rattle.smap_mappings.specs.Steps.{in_order}
 use Rattle.smap_mappings.proofs.ArrangementLemmas.{before}
 

@@ -51,7 +51,7 @@ slice_joined text start place end a b =
     ap (λ (k : ℕ). take k (drop start text)) n ∙ take-add (place - start) (end - place) (drop start text)
     ∙ ap (λ (l : List ℕ). take (place - start) (drop start text) ++ take (end - place) l) (drop-drop (place - start) start text ∙ ap (λ (k : ℕ). drop k text) m)
 
--- Numbers that stand one behind another.
+-- Numbers that stand one after another.
 pub record Stretch (text : List ℕ) (start end : ℕ) (ns : List ℤ) : Type 0 where
   pub le : start ≤ end
   pub spelled : SpellsAll (slice_range text start end) ns
@@ -141,7 +141,7 @@ bytes_read bounds text tokens cursor bytes p clean = record {
   read = p.read;
 }
 
--- the segments that a separator ends, and those behind it
+-- the segments that a separator ends, and those after it
 abbrev pub Ends : (line index : ℕ) (current : List ℕ) (byte : ℕ) (texts : List SegmentText) (next_line next_index : ℕ) → Type 0
 Ends line index current byte texts next_line next_index = (rest : List ℕ) → walk line index current (byte ∷ rest) ≡ texts ++ walk next_line next_index [] rest
 
@@ -520,3 +520,19 @@ none_falls bounds texts none tokens e = subst (λ (ts : List Token). NeverFalls 
   where
     same : (xs ys : List Token) → tokens_are xs ≡ tokens_are ys → xs ≡ ys
     same xs ys e = cc
+
+-- ---- a line without a segment
+
+ending_none : (line index : ℕ) → u32_count index ≡ 0 → ending line index [] ≡ []
+ending_none line index e = let zero_is : index ≡ 0 = omega arith in rw zero_is refl
+
+pub empty_line : (bounds : Bounds) (text piece : List ℕ) (tokens : List Token) (cursor : Cursor) (place : ℕ) → place < length piece → get_or piece place 0 ≡ 59 → cursor.index ≡ 0
+    → IsReadTo bounds (text ++ take place piece) tokens cursor []
+    → IsReadTo bounds (text ++ take (place + 1) piece) tokens (record { running = record cursor.running { column = 0 }; line = min (cursor.line + 1) 4294967295; index = 0 }) []
+empty_line bounds text piece tokens cursor place lt is none p =
+    let next : Cursor = record { running = record cursor.running { column = 0 }; line = min (cursor.line + 1) 4294967295; index = 0 } in
+    let ended = ending_none p.line p.index (sym p.is_at.index_is ∙ none) in
+    let c : Continues bounds p.before p.line (ending p.line p.index []) 0 tokens tokens (Ok cursor.running) =
+    (p.before, p.sums, λ rest. ap (λ (l : List SegmentText). with_tokens tokens (tokens_behind bounds p.before (l ++ rest))) ended) in
+    subst (λ (l : List ℕ). IsReadTo bounds l tokens next []) (ap (λ (b : ℕ). (text ++ take place piece) ++ b ∷ []) (sym is) ∙ one_byte text piece place lt)
+    (semicolon_read bounds (text ++ take place piece) 0 tokens tokens cursor [] cursor.running p c)

@@ -1,4 +1,4 @@
--- The segments of tokens, read one behind another.
+-- The segments of tokens, read one after another.
 use Rattle.std.proofs.Common.{◌≡◌, ℕ, ◌+◌, ◌<◌, ◌≤◌, Bool, true, false, cond, eqb, List, [], ◌∷◌, ◌++◌, Option, Some, None, Result, Ok, ℤ, pos, ◌+ℤ◌, refl, ap, subst, ◌∙◌, arith}
 use Rattle.std.specs.Prelude.{IfSome, option_map, unwrap_or}
 use Rattle.std.specs.List.{AllByRecursion}
@@ -19,7 +19,7 @@ use Rattle.smap_mappings.specs.Position.{POSITIONS}
 use Rattle.smap_mappings.specs.Text.{IsPlaced, IsOriginal, difference}
 use Rattle.smap_mappings.specs.Writing.{original_from, name_from, segment_from, original_behind, running_behind, at_line}
 use Rattle.smap_mappings.specs.Decoded.{IsWithin}
-use Rattle.smap_mappings.proofs.StepsLemmas.{Reads, reads}
+use Rattle.smap_mappings.proofs.StepsLemmas.{Reads, reads, placed-column}
 use Rattle.smap_mappings.specs.Steps.{at_start}
 use Rattle.smap_mappings.proofs.RunningTextLemmas.{numbers_from, before_token, behind_token, texts_from, index_on, IsSegment, AreSegments}
 
@@ -40,7 +40,7 @@ column_of column o = option_map (λ placed. (column, placed)) o
 
 column_again : (bounds : Bounds) (line old new : ℕ) → bounds.start_column ≡ 0 → new < POSITIONS → column_step bounds line (pos old +ℤ difference old new) ≡ column_of new (Some new)
 column_again bounds line old new start lt =
-    ap (column_step bounds line) (added_again old new) ∙ ap (λ (n : ℕ). column_of new (below POSITIONS (pos n))) (by_test (eqb line 0)) ∙ ap (column_of new) (below_is POSITIONS new lt)
+    ap (column_step bounds line) (added_again old new) ∙ ap (λ (n : ℕ). column_of new (below POSITIONS (pos n))) (placed-column bounds line new ∙ by_test (eqb line 0)) ∙ ap (column_of new) (below_is POSITIONS new lt)
   where
     by_test : (b : Bool) → cond b (bounds.start_column + new) new ≡ new
     by_test true = omega arith
@@ -60,7 +60,7 @@ original_again bounds r (Some o) is source name a = by_name o.name name
 abbrev both : Running → Token → Result (Running × Token) SegmentKind
 both r t = Ok (r, t)
 
--- The segment's numbers give the token, and the values behind it.
+-- The segment's numbers give the token, and the values after it.
 token_again : (bounds : Bounds) (r : Running) (t : Token) → bounds.start_line ≡ 0 → bounds.start_column ≡ 0 → IsPlaced t → IsWithin bounds t
     → token_step bounds r t.line (fields_of (numbers_from r t)) ≡ both (running_behind r t) t
 token_again bounds r t line_start column_start p w =

@@ -24,14 +24,14 @@ use Rattle.smap_mappings.proofs.LinesLemmas.{segments_of-walk}
 abbrev pub numbers_from : Running → Token → List ℤ
 numbers_from r t = difference r.column t.column ∷ original_from r t.original
 
--- the values that a token's segment is told by, and those behind it
+-- the values that a token's segment is told by, and those after it
 abbrev pub before_token : Running → ℕ → Token → Running
 before_token r lines t = at_line r lines t.line
 
 abbrev pub behind_token : Running → ℕ → Token → Running
 behind_token r lines t = running_behind (at_line r lines t.line) t
 
--- the text of tokens behind others
+-- the text of tokens after others
 abbrev pub text_from : Running → ℕ → List Token → List ℕ
 text_from r lines [] = []
 text_from r lines (t ∷ ts) = separator lines t.line ++ (segment_from (before_token r lines t) t ++ text_from (behind_token r lines t) (t.line + 1) ts)
@@ -40,7 +40,7 @@ text_from r lines (t ∷ ts) = separator lines t.line ++ (segment_from (before_t
 abbrev pub index_on : ℕ → ℕ → ℕ → ℕ
 index_on lines line count = cond (eqb lines (line + 1)) count 0
 
--- the segment texts of tokens behind others
+-- the segment texts of tokens after others
 abbrev pub texts_from : Running → ℕ → ℕ → List Token → List SegmentText
 texts_from r lines count [] = []
 texts_from r lines count (t ∷ ts) =
@@ -68,7 +68,7 @@ mappings_text-from tokens h = left_to_write [] tokens [] at_start 0 (starts [] a
 abbrev pub IsClean : List ℕ → Type 0
 IsClean text = AllByRecursion (λ b. (eqb b 59 ≡ false) × (eqb b 44 ≡ false)) text
 
--- The segment text of a token behind these values is read as its numbers.
+-- The segment text of a token after these values is read as its numbers.
 pub record IsSegment (r : Running) (t : Token) : Type 0 where
   pub clean : IsClean (segment_from r t)
   pub some : 0 < length (segment_from r t)

@@ -10,7 +10,7 @@ use Rattle.smap_mappings.proofs.LinesLemmas.{segments_of-walk}
 abbrev semicolons : ℕ → List ℕ
 semicolons count = replicate count 59
 
--- The segments behind so many lines, put together with the separators that they need.
+-- The segments after so many lines, put together with the separators that they need.
 abbrev pub joined : ℕ → List SegmentText → List ℕ
 joined lines [] = []
 joined lines (s ∷ ss) = separator lines s.line ++ (s.text ++ joined (s.line + 1) ss)
@@ -72,7 +72,7 @@ module _ (lines line index : ℕ) (current : List ℕ) (at : StandsAt lines line
       by_index zero first further = let le = first refl in omega arith
       by_index (suc i) first further = let e = further (omega arith) in omega arith
 
-  -- a segment, and what is behind it
+  -- a segment, and what is after it
   one_more : (rest : List ℕ) (segments : List SegmentText) → IsJoined (line + 1) rest segments → IsJoined lines (separator lines line ++ (current ++ rest)) (text_at line index current ∷ segments)
   one_more rest segments h = record {
     rise = (rises, h.rise);

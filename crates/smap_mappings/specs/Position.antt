@@ -1,8 +1,9 @@
 -- Generated positions, where a map places them, and their order.
-use Rattle.std.specs.Prelude.{◌≡◌, ℕ, ◌+◌, ◌==◌, ◌&&◌, ◌||◌, Bool, false, nat_lt, if◌then◌else◌, List, []}
-use Rattle.std.specs.Prelude.{◌∷◌}
+use Rattle.std.specs.Prelude.{◌≡◌, ℕ, ◌+◌, ◌<◌, ◌==◌, ◌&&◌, ◌||◌, Bool, false, nat_lt, if◌then◌else◌}
+use Rattle.std.specs.Prelude.{List, [], ◌∷◌, Option, Some, None}
 pub use Rattle.smap_vlq.specs.declared.number.TheConstants.{MAX_POSITION}
 pub use Rattle.smap_mappings.specs.declared.token.TheConstants.{MAX_LINES}
+use Rattle.smap_mappings.specs.declared.position.Position.{Position}
 use Rattle.smap_mappings.specs.declared.token.Token.{Token}
 
 -- one more than the greatest line, column or index of a position
@@ -13,16 +14,20 @@ POSITIONS = MAX_POSITION + 1
 abbrev pub LINES : ℕ
 LINES = MAX_LINES
 
--- A generated position: its line and its column, from 0.
-pub record Position : Type 0 where
-  pub line : ℕ
-  pub column : ℕ
+-- Its line and its column are at most the greatest.
+pub record IsPosition (p : Position) : Type 0 where
+  pub line : p.line < POSITIONS
+  pub column : p.column < POSITIONS
 
 -- Where a position of a map lies when the map starts at an offset: the offset's column counts on the map's
 -- first line alone. (ECMA-426, "Index source map")
 abbrev pub place : Position → Position → Position
 place o p = if p.line == 0 then record { line = o.line; column = o.column + p.column }
     else record { line = o.line + p.line; column = p.column }
+
+-- the position, unless its line or its column is past the greatest
+abbrev pub in_range : Position → Option Position
+in_range p = if nat_lt MAX_POSITION p.line || nat_lt MAX_POSITION p.column then None else Some p
 
 -- By line, and on one line by column.
 abbrev pub is_before : Position → Position → Bool

@@ -16,11 +16,13 @@ use Rattle.smap_mappings.specs.Lines.{SegmentText}
 use Rattle.smap_mappings.specs.declared.error.MappingsError.{MappingsError}
 use Rattle.smap_mappings.specs.declared.error.MappingsError.TheVariants as errors
 use Rattle.smap_vlq.specs.Number.{◌>>=◌}
-use Rattle.smap_mappings.specs.Position.{POSITIONS, Position, is_before}
-use Rattle.smap_mappings.specs.Tokens.{Segment, below, generated_column, source_index, original_line}
-use Rattle.smap_mappings.specs.Tokens.{original_column, name_index, kind_of, Fault, tokens_behind}
+use Rattle.smap_mappings.specs.declared.position.Position.{Position}
+use Rattle.smap_mappings.specs.Position.{POSITIONS, is_before}
+use Rattle.smap_mappings.specs.Tokens.{Segment, below, placed, generated_column, source_index}
+use Rattle.smap_mappings.specs.Tokens.{original_line, original_column, name_index, kind_of, Fault}
+use Rattle.smap_mappings.specs.Tokens.{tokens_behind}
 
--- These are the absolute values behind the segments, on a line that none of them lies past.
+-- These are the absolute values after the segments, on a line that none of them lies past.
 pub record Sums (r : Running) (before : List Segment) (line : ℕ) : Type 0 where
   pub column : generated_column before line ≡ pos r.column
   pub source : source_index before ≡ pos r.source
@@ -55,15 +57,11 @@ original_step bounds r fields = if fields.count == 1 then Ok (r, None) else (do
     Some (record { source = source; line = line; column = column; name = name.1 }),
   ))
 
--- behind an offset the column is added on the first line alone
-abbrev pub placed_column : ℕ → ℕ → ℕ → ℕ
-placed_column start_column line column = if line == 0 then start_column + column else column
-
 -- the column and the placed column
 abbrev pub column_step : Bounds → ℕ → ℤ → Option (ℕ × ℕ)
 column_step bounds line (pos column) =
     option_map (λ placed. (column, placed))
-    (below POSITIONS (pos (placed_column bounds.start_column line column)))
+    (below POSITIONS (pos (placed bounds line column).column))
 column_step bounds line (negsuc column) = None
 
 abbrev pub token_step : Bounds → Running → ℕ → Fields → Result (Running × Token) SegmentKind
@@ -103,7 +101,7 @@ walk line index current (b ∷ bs) =
 abbrev pub with_tokens : List Token → Result (List Token) Fault → Result (List Token) Fault
 with_tokens front read = read >>= λ tokens. Ok (front ++ tokens)
 
--- Segments were read behind others; or one has a fault, whatever segments follow; or there are more tokens
+-- Segments were read after others; or one has a fault, whatever segments follow; or there are more tokens
 -- than the room.
 abbrev pub Continues : Bounds → List Segment → ℕ → List SegmentText → ℕ → List Token → List Token
     → Result Running MappingsError → Type 0
@@ -131,7 +129,7 @@ abbrev pub mark : ℕ → ℕ → ℕ
 mark previous byte =
     (if byte == 44 then 1 else 0) + (if previous == 59 then (if byte == 59 then 0 else 1) else 0)
 
--- those of bytes behind a byte
+-- those of bytes after a byte
 abbrev pub marks : ℕ → List ℕ → ℕ
 marks previous [] = 0
 marks previous (b ∷ bs) = mark previous b + marks b bs

@@ -60,7 +60,7 @@ original_differences before (Some o) =
     ∷ difference (original_before before).column o.column
     ∷ option_map_or (λ name. difference (name_before before) name ∷ []) o.name []
 
--- The numbers of a token's segment behind these tokens.
+-- The numbers of a token's segment after these tokens.
 abbrev pub differences : List Token → Token → List ℤ
 differences before t = difference (column_before before t.line) t.column
     ∷ original_differences before t.original

@@ -14,7 +14,8 @@ use Rattle.smap_mappings.specs.declared.error.SegmentPlace.{SegmentPlace}
 use Rattle.smap_mappings.specs.declared.error.SegmentKind.{SegmentKind}
 use Rattle.smap_mappings.specs.declared.error.SegmentKind.TheVariants as kind
 use Rattle.smap_mappings.specs.Lines.{SegmentText}
-use Rattle.smap_mappings.specs.Position.{POSITIONS, Position, place}
+use Rattle.smap_mappings.specs.declared.position.Position.{Position}
+use Rattle.smap_mappings.specs.Position.{POSITIONS, place}
 
 -- A segment that was read: its line and its numbers.
 pub record Segment : Type 0 where
@@ -99,7 +100,7 @@ original_in bounds segments count = if count == 1 then Ok None else (do
   name ← name_in bounds segments count
   Ok (Some (record { source = source; line = line; column = column; name = name })))
 
--- The token of a segment behind others without a fault; or the first of its faults, in this order.
+-- The token of a segment after others without a fault; or the first of its faults, in this order.
 unfoldable pub token_of : Bounds → List Segment → Segment → Result Token SegmentKind
 token_of bounds before segment = do
   line ← ok_or (below bounds.lines (pos (placed bounds segment.line 0).line)) kind.GeneratedLine
@@ -129,7 +130,7 @@ read_in bounds before text = do
   token ← token_of bounds before (record { line = text.line; numbers = numbers })
   Ok (record { line = text.line; numbers = numbers }, token)
 
--- The tokens of segment texts behind these segments, or the first fault with its place.
+-- The tokens of segment texts after these segments, or the first fault with its place.
 abbrev pub tokens_behind : Bounds → List Segment → List SegmentText → Result (List Token) Fault
 tokens_behind bounds before [] = Ok []
 tokens_behind bounds before (text ∷ texts) =

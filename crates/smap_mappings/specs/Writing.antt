@@ -40,10 +40,10 @@ original_behind r (Some o) = record r {
 abbrev pub running_behind : Running → Token → Running
 running_behind r t = original_behind (record r { column = t.column }) t.original
 
--- what stands before the segment of a token on a line, behind so many lines
+-- what stands before the segment of a token on a line, after so many lines
 abbrev pub separator : ℕ → ℕ → List ℕ
 separator lines line = if lines == line + 1 then 44 ∷ [] else replicate (line + 1 - max lines 1) 59
 
--- the values on a line, behind so many lines: the column starts again on a further line
+-- the values on a line, after so many lines: the column starts again on a further line
 abbrev pub at_line : Running → ℕ → ℕ → Running
 at_line r lines line = if lines == line + 1 then r else record r { column = 0 }

@@ -1,27 +1,17 @@
 //! Tokens by generated line, and on one line by column.
 ghost use Rattle.std.specs.Prelude.{◌≡◌, ◌↔◌, IsTrue, IsOk, OnOk, map};
-ghost use Rattle.std.specs.Ordering.{is_lt};
-ghost use Rattle.smap_mappings.specs.Position.{NeverFalls, is_before, position_of};
+ghost use Rattle.smap_mappings.specs.Position.{NeverFalls, position_of};
 ghost use Rattle.smap_mappings.specs.Arrangement.{arranged};
 
 use crate::error::Memory;
 use crate::token::Token;
-use std::cmp::Ordering;
-
-/// Compares the generated positions.
-#[inline(always)]
-pub(crate) fn position_cmp(a: &Token, b: &Token) -> Ordering
-    ensures { is_lt result ≡ is_before (position_of a.now) (position_of b.now) }
-{
-    a.line.cmp(&b.line).then(a.column.cmp(&b.column))
-}
 
 /// Whether no token lies before the one in front of it.
 pub(crate) fn never_falls(tokens: &[Token]) -> bool
     ensures { IsTrue result ↔ NeverFalls (map position_of tokens.now) }
 {
     for i in 1..tokens.len() {
-        if position_cmp(&tokens[i], &tokens[i - 1]).is_lt() {
+        if tokens[i].position() < tokens[i - 1].position() {
             return false;
         }
     }
@@ -37,6 +27,6 @@ pub(crate) fn arrange(tokens: &mut Vec<Token>) -> Result<(), Memory>
     if never_falls(tokens) {
         return Ok(());
     }
-    tokens.sort_by(|a, b| position_cmp(a, b))?;
+    tokens.sort_by(|a, b| a.position().cmp(&b.position()))?;
     Ok(())
 }

@@ -5,7 +5,7 @@ ghost use Rattle.smap_mappings.specs.Steps.{mark, marks, commas_in, starts_in};
 
 use std::simd::prelude::*;
 
-/// What a byte behind another adds to the number of segments: one for a comma, and one for the
+/// What a byte after another adds to the number of segments: one for a comma, and one for the
 /// first byte of a line.
 #[inline(always)]
 fn mark(previous: u8, byte: u8) -> usize
@@ -70,6 +70,3 @@ pub fn count_segments(text: &[u8]) -> usize
     }
     total
 }
-
-#[cfg(test)]
-mod tests;

@@ -26,7 +26,7 @@ impl Cursor {
         }
     }
 
-    /// Behind a comma: the values are those of the segment in front of it.
+    /// After a comma: the values are those of the segment in front of it.
     #[inline(always)]
     pub(crate) fn behind_comma(self, running: Running) -> Cursor
         ensures { result
@@ -39,7 +39,7 @@ impl Cursor {
         }
     }
 
-    /// Behind a semicolon: the generated column alone starts again on a further line.
+    /// After a semicolon: the generated column alone starts again on a further line.
     #[inline(always)]
     pub(crate) fn behind_semicolon(self, running: Running) -> Cursor
         ensures { result

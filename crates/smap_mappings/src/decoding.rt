@@ -33,6 +33,3 @@ pub fn decode(alloc: Global, text: &[u8], bounds: Bounds) -> Result<Vec<Token>, 
     reader.feed(text)?;
     reader.finish()
 }
-
-#[cfg(test)]
-mod tests;

@@ -65,7 +65,7 @@ fn put_segment(out: &mut [u8], at: usize, running: Running, token: Token) -> usi
     }
 }
 
-/// The values behind an original position.
+/// The values after an original position.
 #[inline(always)]
 fn behind_original(running: Running, o: Original) -> Running
     ensures { result ≡ original_behind running (Some o) }
@@ -79,7 +79,7 @@ fn behind_original(running: Running, o: Original) -> Running
     }
 }
 
-/// The values behind a token's segment.
+/// The values after a token's segment.
 #[inline(always)]
 fn behind(running: Running, token: Token) -> Running
     ensures { result ≡ running_behind running token }
@@ -119,7 +119,7 @@ fn put_semicolons(out: &mut [u8], at: usize, lines: u32, line: u32) -> usize
     ensures room { length out.new ≡ length out.old }
 {
     let mut at = at;
-    // Behind no line yet, the first is reached without a semicolon.
+    // The first line is reached without a semicolon.
     for _ in lines.max(1)..line + 1 {
         out[at] = b';';
         at += 1;

@@ -22,6 +22,3 @@ pub fn encode(alloc: Global, tokens: &[Token]) -> Result<Vec<u8>, Memory>
     }
     Ok(encoder.finish())
 }
-
-#[cfg(test)]
-mod tests;

@@ -1,4 +1,4 @@
-//! Why a mappings text is refused, and want of memory.
+//! Why a mappings text is refused, and lack of memory.
 ghost use Rattle.std.specs.Prelude.{◌≡◌};
 
 use smap_vlq::NumberFault;
@@ -25,9 +25,9 @@ pub enum SegmentKind {
     Number(u8, NumberFault),
     /// How many numbers there are, where it isn't 1, 4 or 5. 255 stands for 255 and more.
     Count(u8),
-    /// The line, placed behind the start, isn't below the bound of lines.
+    /// The line, placed after the start, isn't below the bound of lines.
     GeneratedLine,
-    /// The generated column is negative, or above 2,147,483,647 once it is placed behind the start.
+    /// The generated column is negative, or above 2,147,483,647 once it is placed after the start.
     Column,
     /// The source index isn't from 0 to below the number of sources.
     Source,

@@ -5,7 +5,7 @@ ghost use Rattle.smap_mappings.specs.Position.{NeverFalls, position_of};
 ghost use Rattle.smap_mappings.specs.Arrangement.{arranged};
 ghost use Rattle.smap_mappings.specs.Steps.{in_order};
 
-use crate::arrangement::{arrange, position_cmp};
+use crate::arrangement::arrange;
 use crate::error::Memory;
 use crate::token::Token;
 use std::alloc::Global;
@@ -69,5 +69,5 @@ fn falls_behind(list: &[Token], token: &Token) -> bool
     if list.is_empty() {
         return false;
     }
-    position_cmp(token, &list[list.len() - 1]).is_lt()
+    token.position() < list[list.len() - 1].position()
 }

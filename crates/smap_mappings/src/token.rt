@@ -1,4 +1,9 @@
 //! What a mappings text says: tokens, and the bounds under which it is read.
+ghost use Rattle.std.specs.Prelude.{◌≡◌};
+ghost use Rattle.smap_mappings.specs.Position.{position_of};
+
+use crate::position::Position;
+use smap_vlq::MAX_POSITION;
 
 /// A mapping as the text has it: a generated position, and the original position that it comes from, if any.
 ///
@@ -8,6 +13,19 @@ pub struct Token {
     pub line: u32,
     pub column: u32,
     pub original: Option<Original>,
+}
+
+impl Token {
+    /// The generated position.
+    #[inline(always)]
+    pub fn position(&self) -> Position
+        ensures { result ≡ position_of self.now }
+    {
+        Position {
+            line: self.line,
+            column: self.column,
+        }
+    }
 }
 
 /// A position in a source, perhaps with a name. Source and name are indices into the lists of the map.
@@ -34,3 +52,12 @@ pub struct Bounds {
     pub names: u32,
     pub lines: u32,
 }
+
+/// The widest bounds of a text that starts at line 0 and column 0.
+pub const WIDEST: Bounds = Bounds {
+    start_line: 0,
+    start_column: 0,
+    sources: MAX_POSITION,
+    names: MAX_POSITION,
+    lines: MAX_LINES,
+};

@@ -5,7 +5,7 @@ use Rattle.url.specs.Parts.{Parts}
 use Rattle.serde_json.specs.Data.{Data}
 use Rattle.smap_mappings.specs.declared.error.SegmentPlace.{SegmentPlace}
 use Rattle.smap_mappings.specs.declared.error.SegmentKind.{SegmentKind}
-use Rattle.smap_mappings.specs.Position.{Position}
+use Rattle.smap_mappings.specs.declared.position.Position.{Position}
 use Rattle.smap_mappings.specs.Decoded.{decoded}
 use Rattle.smap_shape.specs.declared.fault.ShapeFault.{ShapeFault}
 use Rattle.smap_shape.specs.declared.sections.TheConstants.{MAX_LEVEL}

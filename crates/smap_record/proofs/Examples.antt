@@ -14,7 +14,7 @@ use Rattle.smap_mappings.specs.Decoded.{decoded}
 use Rattle.smap_shape.specs.Reading.{shape_of, section_of, number_below}
 use Rattle.smap_record.specs.declared.fault.Kind.{Kind}
 use Rattle.smap_record.specs.declared.fault.Kind.TheVariants as kinds
-use Rattle.smap_record.specs.Record.{Entry, Mapping, Record, Allowed, record_of, distinct}
+use Rattle.smap_record.specs.Record.{Entry, Mapping, Record, Allowed, usual, record_of, distinct}
 use Rattle.smap_record.specs.Source.{Resolved, no_url, resolved, resolve}
 use Rattle.smap_record.specs.Faults.{Checked, ◌>>=◌, refuse, in_section}
 use Rattle.smap_record.specs.Flat.{source_url, entries_from, listed_flat}
@@ -23,9 +23,6 @@ use Rattle.smap_record.specs.Reading.{reading}
 
 abbrev base : List ℕ
 base = codes "http://h/m/out.js.map"
-
-abbrev usual : Allowed
-usual = record { items = 16777216; lines = 16777216 }
 
 -- ---- URLs
 

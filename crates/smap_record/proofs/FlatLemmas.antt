@@ -6,7 +6,8 @@ use Rattle.url.specs.Parts.{Parts}
 use Rattle.smap_mappings.specs.declared.token.Token.{Token}
 use Rattle.smap_mappings.specs.declared.token.Original.{Original}
 use Rattle.smap_mappings.specs.declared.token.Bounds.{Bounds}
-use Rattle.smap_mappings.specs.Position.{POSITIONS, Position, is_before, position_of, NeverFalls}
+use Rattle.smap_mappings.specs.declared.position.Position.{Position}
+use Rattle.smap_mappings.specs.Position.{POSITIONS, is_before, position_of, NeverFalls}
 use Rattle.smap_mappings.specs.Decoded.{decoded}
 use Rattle.smap_mappings.specs.Text.{IsOriginal, IsPlaced, IsEncodable}
 use Rattle.smap_mappings.specs.Decoded.{IsWithin, IsFromStart}

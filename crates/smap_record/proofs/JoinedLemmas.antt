@@ -6,7 +6,8 @@ use Rattle.std.proofs.Math.ListN.{set}
 use Rattle.std.proofs.Math.Bool.{or-false}
 use Rattle.std.proofs.lemmas.Bool.{or_parts}
 use Rattle.smap_mappings.specs.declared.token.Token.{Token}
-use Rattle.smap_mappings.specs.Position.{Position, is_before, position_of, NeverFalls}
+use Rattle.smap_mappings.specs.declared.position.Position.{Position}
+use Rattle.smap_mappings.specs.Position.{is_before, position_of, NeverFalls}
 use Rattle.std.specs.Prelude.{option_map}
 use Rattle.smap_mappings.specs.declared.token.Original.{Original}
 use Rattle.smap_record.specs.Flat.{shifted, shifted_original}

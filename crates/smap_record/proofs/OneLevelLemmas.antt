@@ -6,7 +6,8 @@ use Rattle.url.specs.Parts.{Parts}
 use Rattle.serde_json.specs.Data.{Data}
 use Rattle.serde_json.specs.Find.{as_object}
 use Rattle.smap_vlq.specs.declared.number.TheConstants.{MAX_POSITION}
-use Rattle.smap_mappings.specs.Position.{Position}
+use Rattle.smap_mappings.specs.declared.position.Position.{Position}
+use Rattle.smap_mappings.specs.Position.{in_range}
 use Rattle.smap_shape.specs.declared.fault.ShapeFault.{ShapeFault}
 use Rattle.smap_shape.specs.declared.fault.ShapeFault.TheVariants as shape
 use Rattle.smap_shape.specs.Members.{Section, MapMembers, flat, index}
@@ -16,7 +17,7 @@ use Rattle.smap_record.specs.declared.fault.Kind.TheVariants.{Nested, Offset, Or
 use Rattle.smap_record.specs.Record.{Listing, ReadMap, Allowed}
 use Rattle.smap_record.specs.Faults.{Checked, ◌>>=◌, refuse_if, or_fault, of_shape, in_section}
 use Rattle.smap_record.specs.Flat.{start, nothing}
-use Rattle.smap_record.specs.Sections.{own_offset, combined, in_range, falls, overlaps, listed_section, listed_sections, section_map}
+use Rattle.smap_record.specs.Sections.{own_offset, combined, falls, overlaps, listed_section, listed_sections, section_map}
 use Rattle.smap_record.specs.Reading.{map_tree, map_of, tree_map, reading}
 use Rattle.smap_record.specs.OneLevel.{of_section, flat_alone, old_section, old_sections, old_map_of, one_level_reading}
 use Rattle.smap_record.specs.Laws.{OldTexts}

@@ -4,7 +4,7 @@ use Rattle.std.proofs.Math.Seq.{take-length}
 use Rattle.std.proofs.lemmas.Option.{slice_get-get_or}
 use Rattle.std.proofs.lemmas.List.{get_or-replicate, length-replicate}
 use Rattle.url.specs.Parts.{Parts}
-use Rattle.smap_mappings.specs.Position.{Position}
+use Rattle.smap_mappings.specs.declared.position.Position.{Position}
 use Rattle.smap_shape.specs.Members.{Flat, fitted}
 use Rattle.smap_shape.specs.Contents.{with_contents}
 use Rattle.smap_record.specs.Record.{Entry, Listing, Allowed}

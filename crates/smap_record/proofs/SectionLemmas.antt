@@ -1,7 +1,8 @@
 -- Sections, one after the other.
 use Rattle.std.proofs.Common.{◌≡◌, ℕ, ◌+◌, List, [], Option, Some, Ok, Err, ap, ◌∙◌, sym, refl, slice_get, drop, zero-add, Bool, true, false, cond, eqb}
 use Rattle.std.proofs.lemmas.Bool.{eqb-true}
-use Rattle.smap_mappings.specs.Position.{Position, place}
+use Rattle.smap_mappings.specs.declared.position.Position.{Position}
+use Rattle.smap_mappings.specs.Position.{place}
 use Rattle.serde_json.specs.Data.{Data}
 use Rattle.smap_record.specs.declared.fault.ReadError.{ReadError}
 use Rattle.smap_record.specs.declared.fault.ReadError.TheVariants.{Refused, Memory}

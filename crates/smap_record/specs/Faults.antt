@@ -1,5 +1,5 @@
 -- Faults of the layers below, as faults of a map.
-use Rattle.std.specs.Prelude.{ℕ, Bool, true, false, [], ◌∷◌, Option, Some, None, Result, Ok, Err}
+use Rattle.std.specs.Prelude.{ℕ, Bool, true, false, List, [], ◌∷◌, Option, Some, None, Result, Ok, Err}
 pub use Rattle.smap_vlq.specs.Number.{◌>>=◌}
 use Rattle.smap_mappings.specs.declared.error.SegmentPlace.{SegmentPlace}
 use Rattle.smap_mappings.specs.declared.error.SegmentKind.{SegmentKind}
@@ -43,9 +43,17 @@ kind_of_segment segment.Name = kinds.Name
 abbrev pub Checked : Type 0 → Type 0
 Checked A = Result A Fault
 
+-- the path of what is in no section
+abbrev pub outside : List ℕ
+outside = []
+
 -- a fault in no section, at no place
 abbrev pub plain : Kind → Fault
-plain kind = record { section = []; place = None; kind = kind }
+plain kind = record { section = outside; place = None; kind = kind }
+
+-- the fault of a segment, in no section
+abbrev pub segment_fault : SegmentPlace × SegmentKind → Fault
+segment_fault f = record { section = outside; place = Some f.0; kind = kind_of_segment f.1 }
 
 -- the map is refused for this fault
 abbrev pub refuse : {A : Type 0} → Kind → Checked A
@@ -69,7 +77,7 @@ of_shape (Err e) = refuse (kind_of_shape e)
 -- the value, or a segment's fault as one of the map, with the segment's place
 abbrev pub of_segments : {A : Type 0} → Result A (SegmentPlace × SegmentKind) → Checked A
 of_segments (Ok x) = Ok x
-of_segments (Err e) = Err (record { section = []; place = Some e.0; kind = kind_of_segment e.1 })
+of_segments (Err e) = Err (segment_fault e)
 
 -- the fault is one in the section with this number: the number goes in front of the sections within it
 abbrev pub in_section : {A : Type 0} → ℕ → Checked A → Checked A

@@ -3,7 +3,8 @@ use Rattle.std.specs.Prelude.{◌≡◌, ℕ, ◌<◌, ◌≤◌, List, length, 
 use Rattle.std.specs.Prelude.{Contains}
 use Rattle.std.specs.List.{AllByRecursion, filter_map, IsDistinct}
 use Rattle.url.specs.Parts.{Parts}
-use Rattle.smap_mappings.specs.Position.{POSITIONS, Position, NeverFalls}
+use Rattle.smap_mappings.specs.declared.position.Position.{Position}
+use Rattle.smap_mappings.specs.Position.{POSITIONS, NeverFalls}
 use Rattle.smap_record.specs.Record.{Entry, Origin, Mapping, Record, Listing, Allowed, same_entry, distinct}
 use Rattle.smap_record.specs.Listed.{IsListing}
 use Rattle.smap_record.specs.Source.{resolve, resolved}

@@ -5,7 +5,7 @@ use Rattle.url.specs.Parts.{Parts}
 use Rattle.smap_mappings.specs.declared.token.Token.{Token}
 use Rattle.smap_mappings.specs.declared.token.Original.{Original}
 use Rattle.smap_mappings.specs.declared.token.Bounds.{Bounds}
-use Rattle.smap_mappings.specs.Position.{Position}
+use Rattle.smap_mappings.specs.declared.position.Position.{Position}
 use Rattle.smap_mappings.specs.Decoded.{decoded}
 use Rattle.smap_shape.specs.Members.{Flat, is_listed}
 use Rattle.smap_record.specs.declared.fault.Kind.TheVariants.{TooMany, SourceUrl, UnstableUrl}
@@ -82,9 +82,9 @@ is_too_many limits before m =
     nat_lt limits.items (length before.sources + length m.sources)
     || nat_lt limits.items (length before.names + length m.names)
 
--- What is listed with a flat map that starts at an offset, behind what is listed before it. A map that is no
--- section starts at (0, 0) behind nothing; for a section, Order and Overlap see to it that its tokens come
--- after all before them.
+-- What is listed with a flat map that starts at an offset, after what is listed before it. A map that is no
+-- section starts at (0, 0), with nothing listed before; for a section, Order and Overlap see to it that its
+-- tokens come after all before them.
 unfoldable pub listed_flat : Parts → Allowed → Position → Listing → Flat → Checked Listing
 listed_flat base limits offset before m = do
   _ ← refuse_if TooMany (is_too_many limits before m)

@@ -1,7 +1,8 @@
 -- What holds of index maps within each other.
 use Rattle.std.specs.Prelude.{◌≡◌, ◌≢◌, ℕ, List, Ok, Err}
 use Rattle.url.specs.Parts.{Parts}
-use Rattle.smap_mappings.specs.Position.{Position, place}
+use Rattle.smap_mappings.specs.declared.position.Position.{Position}
+use Rattle.smap_mappings.specs.Position.{place}
 use Rattle.smap_record.specs.declared.fault.Fault.{Fault}
 use Rattle.smap_record.specs.declared.fault.Kind.TheVariants.{Nested}
 use Rattle.smap_record.specs.Record.{ReadMap, Allowed}

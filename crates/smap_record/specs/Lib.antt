@@ -19,3 +19,4 @@ pub mod MapView
 pub mod Steps
 pub mod Gathering
 pub mod Owned
+pub mod Words

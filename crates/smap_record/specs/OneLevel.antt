@@ -4,7 +4,7 @@
 use Rattle.std.specs.Prelude.{ℕ, ◌+◌, [], ◌∷◌, List, Option, Some, None, Ok, Err}
 use Rattle.url.specs.Parts.{Parts}
 use Rattle.serde_json.specs.Data.{Data}
-use Rattle.smap_mappings.specs.Position.{Position}
+use Rattle.smap_mappings.specs.declared.position.Position.{Position}
 use Rattle.smap_shape.specs.declared.sections.TheConstants.{MAX_LEVEL}
 use Rattle.smap_shape.specs.Members.{Index, MapMembers, flat, index}
 use Rattle.smap_shape.specs.Reading.{shape_of, section_of}

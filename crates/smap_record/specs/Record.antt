@@ -49,6 +49,10 @@ pub record Allowed : Type 0 where
   pub items : ℕ
   pub lines : ℕ
 
+-- The usual limits.
+abbrev pub usual : Allowed
+usual = record { items = 16777216; lines = 16777216 }
+
 -- ---- the record of a listing
 
 -- texts are equal, or both are absent

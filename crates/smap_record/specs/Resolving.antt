@@ -1,7 +1,7 @@
 -- For private clauses: how resolving answers.
 use Rattle.std.specs.Prelude.{◌≡◌, String, string_bytes, Result, Ok, Err}
-use Rattle.smap_record.specs.declared.source.SourceFault.{SourceFault}
-use Rattle.smap_record.specs.declared.source.SourceFault.TheVariants.{NoUrl, Unstable, Memory}
+use Rattle.smap_record.specs.declared.source.resolve.SourceFault.{SourceFault}
+use Rattle.smap_record.specs.declared.source.resolve.SourceFault.TheVariants.{NoUrl, Unstable, Memory}
 use Rattle.smap_record.specs.Source.{Resolved, no_url, unstable, resolved}
 
 -- The text of the URL, or why there is none, unless memory ran out.

@@ -1,13 +1,12 @@
 -- What an index map lists, or its first fault (ECMA-426, "Index source map").
 -- An index map may stand in a section of another: the index map of the whole text has level 1, and one in a
 -- section of an index map has one level more.
-use Rattle.std.specs.Prelude.{ℕ, zero, suc, ◌+◌, ◌-◌, nat_lt, ◌||◌, Bool, false, List, [], ◌∷◌}
-use Rattle.std.specs.Prelude.{Option, Some, None, Ok, if◌then◌else◌}
+use Rattle.std.specs.Prelude.{ℕ, zero, suc, ◌+◌, ◌-◌, Bool, false, List, [], ◌∷◌, Option, Some, None, Ok}
 use Rattle.std.specs.List.{list_any}
 use Rattle.url.specs.Parts.{Parts}
 use Rattle.serde_json.specs.Data.{Data}
-use Rattle.smap_vlq.specs.declared.number.TheConstants.{MAX_POSITION}
-use Rattle.smap_mappings.specs.Position.{Position, is_before, place, position_of}
+use Rattle.smap_mappings.specs.declared.position.Position.{Position}
+use Rattle.smap_mappings.specs.Position.{in_range, is_before, place, position_of}
 use Rattle.smap_shape.specs.declared.sections.TheConstants.{MAX_LEVEL}
 use Rattle.smap_shape.specs.Members.{Section, Index, MapMembers, flat, index}
 use Rattle.smap_shape.specs.Reading.{shape_of, section_of}
@@ -21,10 +20,6 @@ use Rattle.smap_record.specs.Flat.{start, nothing, listed_flat}
 -- the section's offset as it is written, from the start of the map that lists it
 abbrev pub own_offset : Section Data → Position
 own_offset s = record { line = s.line; column = s.column }
-
--- the position, unless its line or its column is past the greatest
-abbrev pub in_range : Position → Option Position
-in_range p = if nat_lt MAX_POSITION p.line || nat_lt MAX_POSITION p.column then None else Some p
 
 -- Where a section starts whose own offset is placed in a map that starts at `outer`.
 abbrev pub combined : Position → Position → Option Position
@@ -41,11 +36,11 @@ overlaps before offset = list_any (λ t. is_before offset (position_of t)) befor
 
 -- ---- the sections of one list
 
--- What reads a section's map: it is placed from a position, behind what is listed before it.
+-- What reads a section's map: it is placed from a position, after what is listed before it.
 abbrev pub Inner : Type 0
 Inner = Position → Listing → MapMembers Data → Checked Listing
 
--- One section of an index map of a level that is placed from `outer`: behind the own offset of the section in
+-- One section of an index map of a level that is placed from `outer`: after the own offset of the section in
 -- front, and what is listed before. It gives its own offset, and what is listed now.
 abbrev pub listed_section : ℕ → Inner → Position → Option Position → Listing → Data
     → Checked (Position × Listing)
@@ -69,7 +64,8 @@ listed_sections level inner outer k last before (section ∷ sections) = do
 -- ---- the map of a section
 
 -- The map of a section of an index map below which n further levels may lie: a flat map as it is, an index
--- map by its sections, which are placed from where it starts.
+-- map by its sections, which are placed from where it starts. Where n is 0 no index map comes here, since
+-- `section_of` has refused it: the line stands for the end of the recursion.
 unfoldable pub section_map : Parts → Allowed → ℕ → Inner
 section_map base limits zero offset before (flat m) = listed_flat base limits offset before m
 section_map base limits zero offset before (index i) = refuse Nested

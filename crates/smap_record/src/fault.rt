@@ -1,7 +1,7 @@
 //! Why a map is refused: every kind of fault, in the order in which they are looked for, with its section and
 //! its place.
 ghost use Rattle.std.specs.Prelude.{◌≡◌};
-ghost use Rattle.smap_record.specs.Faults.{plain};
+ghost use Rattle.smap_record.specs.Faults.{plain, segment_fault};
 
 use crate::path::Path;
 use smap_mappings::{SegmentKind, SegmentPlace};
@@ -14,34 +14,34 @@ use std::alloc::{AllocError, AllocFailed};
 pub enum Kind {
     /// The text begins with `)]}'` and has no line feed.
     Prefix,
-    /// The text, behind such a line, is no JSON text in UTF-8.
+    /// The text, after such a line, isn't JSON in UTF-8.
     Json,
-    /// A map or a section is no object.
+    /// A map or a section isn't an object.
     NotObject,
-    /// `version` isn't the whole number 3.
+    /// `version` isn't the integer 3.
     Version,
-    /// `file` is neither absent nor a text.
+    /// `file` is neither absent nor a string.
     File,
     /// `sections` and `mappings` are both present.
     Both,
-    /// `sourceRoot` is neither absent nor a text.
+    /// `sourceRoot` is neither absent nor a string.
     SourceRoot,
-    /// `sources` is neither absent nor a list of texts and nulls.
+    /// `sources` is neither absent nor an array of strings and nulls.
     Sources,
-    /// `sourcesContent` is neither absent nor a list of texts and nulls.
+    /// `sourcesContent` is neither absent nor an array of strings and nulls.
     SourcesContent,
-    /// `names` is neither absent nor a list of texts.
+    /// `names` is neither absent nor an array of strings.
     Names,
-    /// The list of ignored sources is neither absent nor a list of numbers of sources.
+    /// The list of ignored sources is neither absent nor an array of numbers of sources.
     IgnoreList,
-    /// `mappings` is no text.
+    /// `mappings` isn't a string.
     Mappings,
-    /// `sections` is no list.
+    /// `sections` isn't an array.
     Sections,
     /// A section's `offset` isn't a line and a column of at most 2,147,483,647, or isn't once it is placed by
     /// those of the sections around it.
     Offset,
-    /// A section's `map` is no object.
+    /// A section's `map` isn't an object.
     SectionMap,
     /// A section of an index map of level 8 has a map with sections.
     Nested,
@@ -51,7 +51,7 @@ pub enum Kind {
     Overlap,
     /// More sources or more names are listed than the limits allow.
     TooMany,
-    /// The source with this number, from 0, is no URL.
+    /// The source with this number, from 0, isn't a URL.
     SourceUrl(usize),
     /// The URL of the source with this number, from 0, isn't its own URL.
     UnstableUrl(usize),
@@ -84,14 +84,16 @@ pub struct Fault {
     pub kind: Kind,
 }
 
-/// Why no map was read. Want of memory, and a URL of 4 GB or more, may stand in place of any other answer.
+/// Why no map was read. `Memory`, for lack of memory or for a URL of 4 GB or more, may stand in place of any
+/// other answer.
 #[derive(Debug, Drop, PartialEq, Eq)]
 pub enum ReadError {
     Refused(Fault),
     Memory,
 }
 
-/// Why a text is no base. Want of memory, and a URL of 4 GB or more, may stand in place of any other answer.
+/// Why a text is no base. `Memory`, for lack of memory or for a URL of 4 GB or more, may stand in place of
+/// any other answer.
 #[derive(Clone, Copy, Debug, PartialEq, Eq)]
 pub enum BaseFault {
     NotUrl,
@@ -129,6 +131,19 @@ pub(crate) fn refused(kind: Kind) -> ReadError
         place: None,
         kind,
     })
+}
+
+impl Fault {
+    /// The fault of a segment, in no section.
+    pub fn of_segment(place: SegmentPlace, kind: SegmentKind) -> Fault
+        ensures { result ≡ segment_fault (place, kind) }
+    {
+        Fault {
+            section: Path::outside(),
+            place: Some(place),
+            kind: Kind::from(kind),
+        }
+    }
 }
 
 impl From<ShapeFault> for Kind {

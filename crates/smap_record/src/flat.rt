@@ -1,11 +1,11 @@
-//! A flat map, read from its members behind what is listed before it: how much it lists, then each source in
+//! A flat map, read from its members after what is listed before it: how much it lists, then each source in
 //! turn, then its mappings. Names are copied last, when nothing can be refused any more. A section's
 //! contents are copied, and those of a map that is no section are handed over.
 ghost use Rattle.std.specs.Prelude.{◌≡◌, ◌+◌, ◌<◌, ◌++◌, nat_lt, length, map, Some, IfOk, IfSome, false};
 ghost use Rattle.std.specs.Prelude.{option_map, option_copied, string_bytes, take, drop};
 ghost use Rattle.std.specs.Vec.Iter.{into_iter_items};
 ghost use Rattle.std.specs.List.{AllByRecursion};
-ghost use Rattle.smap_mappings.specs.Position.{POSITIONS};
+ghost use Rattle.smap_mappings.specs.Position.{POSITIONS, IsPosition};
 ghost use Rattle.smap_mappings.specs.Decoded.{AreBounds, decoded, IsWithin, IsFromStart};
 ghost use Rattle.smap_mappings.specs.Text.{IsEncodable, IsOriginal, IsPlaced};
 ghost use Rattle.smap_shape.specs.Members.{fitted};
@@ -22,18 +22,16 @@ ghost use Rattle.smap_record.specs.Answers.{Gives};
 ghost use Rattle.smap_record.specs.Entries.{entry_of};
 ghost use Rattle.smap_record.specs.Owned.{texts_of, first_of};
 ghost use Rattle.smap_record.specs.Steps.{behind, AreFlags};
-ghost use Rattle.smap_record.specs.Gathering.{gathered, position_at, IsOffset, any_after};
+ghost use Rattle.smap_record.specs.Gathering.{gathered, any_after};
 
-use crate::base::Base;
 use crate::entry::SourceEntry;
 use crate::fault::{Fault, Kind, ReadError, refused};
-use crate::gathered::{Gathered, Offset};
+use crate::gathered::Gathered;
 use crate::limits::Limits;
 use crate::map::SourceMap;
-use crate::path::Path;
-use crate::source::{SourceFault, resolve};
+use crate::source::{Base, SourceFault, resolve};
 use crate::sources::Sources;
-use smap_mappings::{Bounds, MappingsError, Original, Token, decode};
+use smap_mappings::{Bounds, MappingsError, Original, Position, Token, decode};
 use smap_shape::FlatShape;
 use std::alloc::{AllocError, Global};
 use std::vec::IntoIter;
@@ -146,7 +144,7 @@ fn next_content(rest: &mut IntoIter<Option<String>>) -> Option<String>
     }
 }
 
-/// The map's sources with these contents, behind those that are listed before it.
+/// The map's sources with these contents, after those that are listed before it.
 fn with_sources(
     alloc: Global,
     before: Sources,
@@ -171,7 +169,7 @@ fn with_sources(
     Ok(sources)
 }
 
-/// The map's names, copied behind those that are listed before it.
+/// The map's names, copied after those that are listed before it.
 fn with_names(
     alloc: Global,
     before: Vec<String>,
@@ -199,12 +197,12 @@ fn bounds(
     before: &Gathered,
     shape: &FlatShape<'_>,
     limits: Limits,
-    offset: Offset,
+    offset: Position,
 ) -> Result<Bounds, ReadError>
-    requires { IsOffset offset }
+    requires { IsPosition offset }
     ensures few { Gives (λ _. tt) result
         (refuse_if TooMany (is_too_many limits (gathered before.now) shape.now)) }
-    ensures bounds { IfOk result (λ b. b ≡ bounds_of limits (position_at offset) shape.now) }
+    ensures bounds { IfOk result (λ b. b ≡ bounds_of limits offset shape.now) }
     ensures are { IfOk result AreBounds }
     ensures items { limits.items < POSITIONS }
 {
@@ -235,11 +233,9 @@ fn own_tokens(alloc: Global, text: &str, bounds: Bounds) -> Result<Vec<Token>, R
 {
     match decode(alloc, text.as_bytes(), bounds) {
         Ok(tokens) => Ok(tokens),
-        Err(MappingsError::Fault(place, kind)) => Err(ReadError::Refused(Fault {
-            section: Path::outside(),
-            place: Some(place),
-            kind: Kind::from(kind),
-        })),
+        Err(MappingsError::Fault(place, kind)) => {
+            Err(ReadError::Refused(Fault::of_segment(place, kind)))
+        }
         Err(MappingsError::Memory) => Err(ReadError::Memory),
     }
 }
@@ -284,7 +280,7 @@ fn shift_all(tokens: &mut Vec<Token>, sources: usize, names: usize)
     }
 }
 
-/// Tokens behind others. The first ones are not copied, unless there is room for more already.
+/// Tokens after others. The first ones are not copied, unless there is room for more already.
 fn joined(mut front: Vec<Token>, mut back: Vec<Token>) -> Result<Vec<Token>, AllocError>
     ensures { IfOk result (λ v. v.items ≡ front.items ++ back.items) }
 {
@@ -295,7 +291,7 @@ fn joined(mut front: Vec<Token>, mut back: Vec<Token>) -> Result<Vec<Token>, All
     Ok(front)
 }
 
-/// What is listed with a map that starts at an offset, behind what is listed before it; or the map's first
+/// What is listed with a map that starts at an offset, after what is listed before it; or the map's first
 /// fault. The map's contents are these, in place of those of its shape. No token before it lies after the
 /// offset.
 fn with_contents(
@@ -305,13 +301,13 @@ fn with_contents(
     contents: Vec<Option<String>>,
     base: &Base,
     limits: Limits,
-    offset: Offset,
+    offset: Position,
 ) -> Result<Gathered, ReadError>
-    requires offset { IsOffset offset }
-    requires none_after { any_after (position_at offset) before.tokens.items ≡ false }
+    requires offset { IsPosition offset }
+    requires none_after { any_after offset before.tokens.items ≡ false }
     requires fits { ListingFits base.now limits (gathered before) }
     ensures reads { Gives gathered result
-        (listed_flat base.now limits (position_at offset) (gathered before)
+        (listed_flat base.now limits offset (gathered before)
         (flat_with (texts_of contents.items) shape.now)) }
     ensures fits { IfOk result (λ g. ListingFits base.now limits (gathered g)) }
 {
@@ -335,7 +331,7 @@ fn with_contents(
     })
 }
 
-/// What is listed with a map that starts at an offset, behind what is listed before it; or the map's first
+/// What is listed with a map that starts at an offset, after what is listed before it; or the map's first
 /// fault. The map's contents are copied. No token before it lies after the offset.
 pub(crate) fn with_flat(
     alloc: Global,
@@ -343,13 +339,13 @@ pub(crate) fn with_flat(
     shape: &FlatShape<'_>,
     base: &Base,
     limits: Limits,
-    offset: Offset,
+    offset: Position,
 ) -> Result<Gathered, ReadError>
-    requires offset { IsOffset offset }
-    requires none_after { any_after (position_at offset) before.tokens.items ≡ false }
+    requires offset { IsPosition offset }
+    requires none_after { any_after offset before.tokens.items ≡ false }
     requires fits { ListingFits base.now limits (gathered before) }
     ensures reads { Gives gathered result
-        (listed_flat base.now limits (position_at offset) (gathered before) shape.now) }
+        (listed_flat base.now limits offset (gathered before) shape.now) }
     ensures fits { IfOk result (λ g. ListingFits base.now limits (gathered g)) }
 {
     let contents = copied_contents(alloc, shape)?;
@@ -372,7 +368,7 @@ pub(crate) fn flat_map(
     ensures fits { IfOk result (λ m. Fits base.now limits (record_of m)) }
     ensures listing_fits { IfOk result (λ m. ListingFits base.now limits m.listing) }
 {
-    let start = Offset { line: 0, column: 0 };
+    let start = Position { line: 0, column: 0 };
     let before = Gathered::new(alloc);
     let listed = with_contents(alloc, before, shape, contents, base, limits, start)?;
     let file = copied(alloc, shape.file())?;

@@ -1,6 +1,7 @@
 //! How much a map may list, and how many generated lines it may have. A map that lists more is refused before
 //! any source is resolved or any name copied.
 ghost use Rattle.std.specs.Prelude.{◌≡◌, ◌≤◌, ◌↔◌, IsSome, IfSome};
+ghost use Rattle.smap_record.specs.Record.{usual};
 
 use smap_mappings::{MAX_LINES, MAX_POSITION};
 use std::marker::Model;
@@ -43,8 +44,7 @@ impl Limits {
 
     /// 16,777,216 for both.
     pub fn usual() -> Limits
-        ensures items { result.items ≡ MAX_LINES }
-        ensures lines { result.lines ≡ MAX_LINES }
+        ensures { result ≡ usual }
     {
         Limits {
             items: MAX_LINES,

@@ -1,7 +1,8 @@
 //! Where a fault lies in index maps within each other: the number of a section at each level.
-ghost use Rattle.std.specs.Prelude.{◌≡◌, ◌≤◌, ◌<◌, ◌↔◌, [], ◌∷◌, length, nat_eq, IsSome, IfSome};
+ghost use Rattle.std.specs.Prelude.{◌≡◌, ◌≤◌, ◌<◌, ◌↔◌, ◌∷◌, length, nat_eq, IsSome, IfSome};
 ghost use Rattle.std.specs.Cmp.{partial_equiv_from_equiv};
 ghost use Rattle.std.specs.Cmp.Lexicographic.{nat_list_eq_equiv, pointwise};
+ghost use Rattle.smap_record.specs.Faults.{outside};
 
 use arrayvec::ArrayVec;
 use smap_shape::MAX_LEVEL;
@@ -9,7 +10,7 @@ use std::fmt;
 use std::marker::Model;
 
 /// As many numbers as there are levels.
-const DEPTH: usize = 8;
+const DEPTH: usize = MAX_LEVEL as usize;
 
 /// The numbers of sections, from the outermost in, at most eight; each counts from 0 in the list that it
 /// stands in. A path without numbers leads to no section.
@@ -51,8 +52,8 @@ impl Path {
     }
 
     /// The path that leads to no section.
-    pub(crate) fn outside() -> Path
-        ensures { result ≡ [] }
+    pub fn outside() -> Path
+        ensures { result ≡ outside }
     {
         Path {
             numbers: ArrayVec::new(),

@@ -1,4 +1,4 @@
-//! From bytes to a source map: the tree of the JSON text behind the prefix line, its shape, the map.
+//! From bytes to a source map: the tree of the JSON text after the prefix line, its shape, the map.
 //! The contents are moved out of the tree; what else the map keeps is copied out of it, and the tree is let
 //! go at the end, so a map is read in a few times its size.
 ghost use Rattle.std.specs.Prelude.{IfOk};
@@ -12,12 +12,12 @@ ghost use Rattle.smap_record.specs.Fitting.{Fits, ListingFits};
 ghost use Rattle.smap_record.specs.Answers.{Gives};
 ghost use Rattle.smap_record.specs.Owned.{texts_of, members_map};
 
-use crate::base::Base;
 use crate::fault::{Kind, ReadError, refused};
 use crate::flat::flat_map;
 use crate::limits::Limits;
 use crate::map::SourceMap;
 use crate::sections::index_map;
+use crate::source::Base;
 use crate::text::map_tree_of;
 use serde_json::Value;
 use smap_shape::{Shape, shape, split_contents};

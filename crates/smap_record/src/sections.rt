@@ -1,4 +1,4 @@
-//! An index map, read section by section in one pass: what one lists stands behind what all before it list. A
+//! An index map, read section by section in one pass: what one lists comes after what all before it list. A
 //! section whose map is an index map is read by that map's sections, each placed by both offsets; index maps
 //! within each other are eight levels deep at most, so however deep the JSON text nests, the stack doesn't
 //! grow with it.
@@ -10,17 +10,17 @@ ghost use Rattle.smap_record.specs.Sections.{section_map, listed_section, listed
 ghost use Rattle.smap_record.specs.Sections.{index_map as index_map_of};
 ghost use Rattle.smap_record.specs.Fitting.{Fits, ListingFits};
 ghost use Rattle.smap_record.specs.Answers.{Gives};
-ghost use Rattle.smap_record.specs.Gathering.{gathered, position_at, last_position, error_in, both};
-ghost use Rattle.smap_record.specs.Gathering.{HasRoom, IsOffset};
+ghost use Rattle.smap_mappings.specs.Position.{IsPosition};
+ghost use Rattle.smap_record.specs.Gathering.{gathered, error_in, both, HasRoom};
 
-use crate::base::Base;
 use crate::fault::{Fault, Kind, ReadError, refused};
 use crate::flat::{copied, with_flat};
-use crate::gathered::{Gathered, Offset, combined, falls, overlaps};
+use crate::gathered::{Gathered, falls, overlaps};
 use crate::limits::Limits;
 use crate::map::SourceMap;
+use crate::source::Base;
 use serde_json::Value;
-use smap_mappings::count_segments;
+use smap_mappings::{Position, count_segments};
 use smap_shape::{IndexShape, MAX_LEVEL, Shape, section, shape};
 use std::alloc::Global;
 
@@ -46,37 +46,37 @@ fn in_section(k: usize, error: ReadError) -> ReadError
     }
 }
 
-/// What is listed with one section of an index map of a level that starts at `outer`, behind what is listed
+/// What is listed with one section of an index map of a level that starts at `outer`, after what is listed
 /// before it, and the section's own offset; or its first fault. `last` is that of the section in front of it.
 #[cycle(nested)]
 fn with_section(
     alloc: Global,
     before: Gathered,
-    last: Option<Offset>,
+    last: Option<Position>,
     tree: &Value,
     base: &Base,
     limits: Limits,
-    outer: Offset,
+    outer: Position,
     level: u8,
-) -> Result<(Offset, Gathered), ReadError>
+) -> Result<(Position, Gathered), ReadError>
     requires first { 1 ≤ level }
     requires last { level ≤ MAX_LEVEL }
-    requires outer { IsOffset outer }
+    requires outer { IsPosition outer }
     requires fits { ListingFits base.now limits (gathered before) }
     ensures reads { Gives both result
-        (listed_section level (section_map base.now limits (MAX_LEVEL - level)) (position_at outer)
-        (last_position last) (gathered before) (view tree.now)) }
+        (listed_section level (section_map base.now limits (MAX_LEVEL - level)) outer last
+        (gathered before) (view tree.now)) }
     ensures fits { IfOk result (λ r. ListingFits base.now limits (gathered r.1)) }
 {
     let section = match section(tree, level) {
         Ok(section) => section,
         Err(fault) => return Err(refused(Kind::from(fault))),
     };
-    let own = Offset {
+    let own = Position {
         line: section.line(),
         column: section.column(),
     };
-    let Some(offset) = combined(outer, own) else {
+    let Some(offset) = outer.place(own) else {
         return Err(refused(Kind::Offset));
     };
     if falls(last, own) {
@@ -91,6 +91,7 @@ fn with_section(
             Err(error) => Err(error),
         },
         Ok(Shape::Index(members)) => {
+            // `section` has refused this already. The test is here for the end of the recursion.
             if level == MAX_LEVEL {
                 return Err(refused(Kind::Nested));
             }
@@ -103,7 +104,7 @@ fn with_section(
     }
 }
 
-/// What all sections of an index map of a level that starts at `outer` list, behind what is listed before it;
+/// What all sections of an index map of a level that starts at `outer` list, after what is listed before it;
 /// or the first fault.
 #[cycle(nested)]
 fn with_sections(
@@ -112,15 +113,15 @@ fn with_sections(
     shape: &IndexShape<'_>,
     base: &Base,
     limits: Limits,
-    outer: Offset,
+    outer: Position,
     level: u8,
 ) -> Result<Gathered, ReadError>
     requires first { 1 ≤ level }
     requires last { level ≤ MAX_LEVEL }
-    requires outer { IsOffset outer }
+    requires outer { IsPosition outer }
     requires fits { ListingFits base.now limits (gathered before) }
     ensures reads { Gives gathered result
-        (listed_sections level (section_map base.now limits (MAX_LEVEL - level)) (position_at outer) 0 None
+        (listed_sections level (section_map base.now limits (MAX_LEVEL - level)) outer 0 None
         (gathered before) (mapped view shape.now.sections)) }
     ensures fits { IfOk result (λ g. ListingFits base.now limits (gathered g)) }
 {
@@ -166,7 +167,7 @@ pub(crate) fn index_map(
     ensures fits { IfOk result (λ m. Fits base.now limits (record_of m)) }
     ensures listing_fits { IfOk result (λ m. ListingFits base.now limits m.listing) }
 {
-    let start = Offset { line: 0, column: 0 };
+    let start = Position { line: 0, column: 0 };
     let before = Gathered::with_capacity(alloc, segment_count(shape))?;
     let listed = with_sections(alloc, before, shape, base, limits, start, 1)?;
     let file = copied(alloc, shape.file())?;

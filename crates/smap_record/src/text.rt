@@ -1,4 +1,4 @@
-//! From bytes to a JSON tree: the line to leave out, and the text behind it.
+//! From bytes to a JSON tree: the line to leave out, and the text after it.
 ghost use Rattle.std.specs.Prelude.{◌≡◌, ◌<◌, ◌==◌, position, length, IfSome};
 ghost use Rattle.serde_json.specs.View.{view};
 ghost use Rattle.smap_record.specs.declared.fault.Kind.TheVariants.{Prefix, Json};

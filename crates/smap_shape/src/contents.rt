@@ -88,6 +88,3 @@ pub fn split_contents(
         Ok((Vec::new(alloc), tree))
     }
 }
-
-#[cfg(test)]
-mod tests;

@@ -169,6 +169,3 @@ pub(crate) fn flat<'v>(file: Option<&'v str>, tree: &'v Value) -> Result<FlatSha
         mappings,
     })
 }
-
-#[cfg(test)]
-mod tests;

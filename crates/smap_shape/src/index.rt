@@ -68,6 +68,3 @@ pub(crate) fn index<'v>(
         sections: list.as_slice(),
     })
 }
-
-#[cfg(test)]
-mod tests;

@@ -48,6 +48,3 @@ pub fn shape(tree: &Value) -> Result<Shape<'_>, ShapeFault>
         None => Ok(Shape::Flat(flat(file, tree)?)),
     }
 }
-
-#[cfg(test)]
-mod tests;

@@ -97,6 +97,3 @@ pub fn section(tree: &Value, level: u8) -> Result<SectionShape<'_>, ShapeFault>
     }
     Ok(SectionShape { line, column, map })
 }
-
-#[cfg(test)]
-mod tests;

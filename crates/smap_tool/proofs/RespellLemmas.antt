@@ -6,9 +6,10 @@ use Rattle.smap_mappings.specs.declared.error.SegmentKind.{SegmentKind}
 use Rattle.smap_mappings.specs.Tokens.{Fault}
 use Rattle.smap_mappings.specs.Decoded.{decoded}
 use Rattle.smap_mappings.specs.Text.{mappings_text}
-use Rattle.smap_run.specs.declared.outcome.Outcome.{Outcome}
-use Rattle.smap_run.specs.declared.outcome.Outcome.TheVariants.{Done, Refused}
-use Rattle.smap_run.specs.FaultLine.{fault_line, segment_fault}
+use Rattle.smap_tool.specs.declared.outcome.Outcome.{Outcome}
+use Rattle.smap_tool.specs.declared.outcome.Outcome.TheVariants.{Done, Refused}
+use Rattle.smap_record.specs.Faults.{segment_fault}
+use Rattle.smap_tool.specs.FaultLine.{fault_line}
 use Rattle.smap_trace.specs.Translation.{without_line_feed}
 use Rattle.smap_tool.specs.Respell.{respell_bounds, respelled, respell_output}
 

@@ -1,5 +1,5 @@
 -- Records that stand for one another are equal, and so are their translations.
-use Rattle.std.proofs.Common.{◌≡◌, ◌∙◌, ℕ, List, [], ◌∷◌, inl, inr, refl, sym, ap}
+use Rattle.std.proofs.Common.{◌≡◌, ◌∙◌, List, [], ◌∷◌, inl, inr, refl, sym, ap}
 use Rattle.smap_record.specs.Record.{Record}
 use Rattle.smap_canon.specs.Canonical.{canonical_text_in}
 use Rattle.smap_canon.proofs.LawLemmas.{is_fixed_point, read_once}

@@ -5,7 +5,7 @@ use Rattle.smap_mappings.specs.Text.{line_count}
 use Rattle.smap_record.specs.Record.{ReadMap, record_of}
 use Rattle.smap_canon.specs.Canonical.{canonical_mappings_text}
 use Rattle.smap_tool.specs.MapRun.{map_output}
-use Rattle.smap_run.specs.declared.outcome.Outcome.{Outcome}
+use Rattle.smap_tool.specs.declared.outcome.Outcome.{Outcome}
 
 -- How many distinct sources, listed names and mappings there are, and one more than the last mapping's line.
 unfoldable pub counts_line : ReadMap → List ℕ

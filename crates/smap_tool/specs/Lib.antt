@@ -1,9 +1,14 @@
+pub mod BundleLine
 pub mod Check
+pub mod FaultLine
 pub mod Flatten
 pub mod Laws
 pub mod Lookup
 pub mod MapRun
 pub mod Respell
+pub mod Run
 pub mod SameTranslation
+pub mod Status
 pub mod Task
 pub mod Tidy
+pub mod Translate

@@ -5,7 +5,7 @@ use Rattle.serde_json.specs.Written.{compact_text}
 use Rattle.url.specs.Parts.{Parts}
 use Rattle.smap_record.specs.Record.{Mapping, Origin, ReadMap, record_of}
 use Rattle.smap_trace.specs.Lookup.{mapping_at}
-use Rattle.smap_run.specs.declared.outcome.Outcome.{Outcome}
+use Rattle.smap_tool.specs.declared.outcome.Outcome.{Outcome}
 use Rattle.smap_tool.specs.MapRun.{map_output}
 
 -- a source's URL, or `null` where it has none

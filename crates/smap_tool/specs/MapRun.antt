@@ -3,11 +3,10 @@ use Rattle.std.specs.Prelude.{ℕ, List, [], ◌∷◌, ◌++◌, Ok, Err}
 use Rattle.url.specs.Parts.{Parts}
 use Rattle.smap_record.specs.Faults.{Checked}
 use Rattle.smap_record.specs.Reading.{reading}
-use Rattle.smap_record.specs.Record.{ReadMap}
-use Rattle.smap_run.specs.Run.{usual}
-use Rattle.smap_run.specs.FaultLine.{fault_line}
-use Rattle.smap_run.specs.declared.outcome.Outcome.{Outcome}
-use Rattle.smap_run.specs.declared.outcome.Outcome.TheVariants.{Done, Refused}
+use Rattle.smap_record.specs.Record.{ReadMap, usual}
+use Rattle.smap_tool.specs.FaultLine.{fault_line}
+use Rattle.smap_tool.specs.declared.outcome.Outcome.{Outcome}
+use Rattle.smap_tool.specs.declared.outcome.Outcome.TheVariants.{Done, Refused}
 
 -- what is written for a map, or the line of its first fault
 abbrev pub map_answer : (ReadMap → List ℕ) → Checked ReadMap → List ℕ × Outcome

@@ -2,23 +2,19 @@
 use Rattle.std.specs.Prelude.{ℕ, List, [], ◌∷◌, ◌++◌, Result, Ok, Err}
 use Rattle.smap_mappings.specs.declared.token.Token.{Token}
 use Rattle.smap_mappings.specs.declared.token.Bounds.{Bounds}
+use Rattle.smap_mappings.specs.declared.token.TheConstants.{WIDEST}
 use Rattle.smap_mappings.specs.Tokens.{Fault}
 use Rattle.smap_mappings.specs.Decoded.{decoded}
 use Rattle.smap_mappings.specs.Text.{mappings_text}
 use Rattle.smap_trace.specs.Translation.{without_line_feed}
-use Rattle.smap_run.specs.FaultLine.{fault_line, segment_fault}
-use Rattle.smap_run.specs.declared.outcome.Outcome.{Outcome}
-use Rattle.smap_run.specs.declared.outcome.Outcome.TheVariants.{Done, Refused}
+use Rattle.smap_record.specs.Faults.{segment_fault}
+use Rattle.smap_tool.specs.FaultLine.{fault_line}
+use Rattle.smap_tool.specs.declared.outcome.Outcome.{Outcome}
+use Rattle.smap_tool.specs.declared.outcome.Outcome.TheVariants.{Done, Refused}
 
 -- A bare mappings text starts at line 0 and column 0, and its indices may be as large as a position.
 abbrev pub respell_bounds : Bounds
-respell_bounds = record {
-  start_line = 0;
-  start_column = 0;
-  sources = 2147483647;
-  names = 2147483647;
-  lines = 16777216;
-}
+respell_bounds = WIDEST
 
 -- what is written for tokens or a fault
 abbrev pub respelled : Result (List Token) Fault → List ℕ × Outcome

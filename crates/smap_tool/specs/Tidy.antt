@@ -5,7 +5,7 @@ use Rattle.smap_record.specs.Record.{ReadMap, record_of}
 use Rattle.smap_canon.specs.Layout.{Form, absolute_form, relative_form}
 use Rattle.smap_canon.specs.Canonical.{canonical_text_in}
 use Rattle.smap_tool.specs.MapRun.{map_output}
-use Rattle.smap_run.specs.declared.outcome.Outcome.{Outcome}
+use Rattle.smap_tool.specs.declared.outcome.Outcome.{Outcome}
 
 -- the relative form where that is asked for
 abbrev pub form_asked : Bool → Form

@@ -1,18 +1,22 @@
 //! The run `check`: whether a map is accepted, and how much it holds.
-ghost use Rattle.std.specs.Prelude.{◌≡◌, ◌-◌, ◌^◌, ◌<◌, None, false, string_bytes, IfOk};
+ghost use Rattle.std.specs.Prelude.{◌≡◌, ◌-◌, ◌^◌, ◌<◌, ◌++◌, None, false, IfOk, OnOk, length};
+ghost use Rattle.smap_canon.specs.Canonical.{canonical_mappings_text};
 ghost use Rattle.smap_io.specs.Device.{device_failures, has_ended};
+ghost use Rattle.smap_io.specs.Streams.{streams};
 ghost use Rattle.smap_mappings.specs.Text.{line_count};
+ghost use Rattle.smap_record.specs.Record.{record_of};
 ghost use Rattle.smap_tool.specs.Check.{check_output, check_text, counts_line, length_line, most_bytes};
-ghost use Rattle.smap_run.specs.Run.{AnswersAgainst, Runs};
+ghost use Rattle.smap_tool.specs.Run.{AnswersAgainst, Runs};
 ghost use Rattle.url.specs.Parser.{parse_url};
 
 use crate::map_run::{MapCommand, run_on_map};
+use crate::numbers::push_number;
+use crate::outcome::{Outcome, RunFault};
 use smap_canon::canonical_mappings;
 use smap_io::Device;
 use smap_mappings::Memory;
 use smap_record::{Base, SourceMap};
-use smap_run::{Outcome, RunFault};
-use std::alloc::{AllocError, Global};
+use std::alloc::Global;
 use std::io::{Read, Write};
 
 /// One more than the line of the last mapping, or 0 without one.
@@ -26,18 +30,17 @@ fn line_count(map: &SourceMap) -> u32
     map.listed_token(count - 1).line + 1
 }
 
-/// What the map holds, in one line, without its line feed.
+/// Appends what the map holds, in one line, without its line feed.
 #[tactic(auto, unfolding(crate::specs::Check::counts_line))]
-fn counts_line(alloc: Global, map: &SourceMap) -> Result<String, AllocError>
-    ensures { IfOk result (λ line. string_bytes line ≡ counts_line map.now) }
+fn push_counts(text: &mut Vec<u8>, map: &SourceMap) -> Result<(), Memory>
+    ensures { OnOk result (text.new.items ≡ text.old.items ++ counts_line map.now) }
 {
-    format!(in alloc;
-        "accepted: {} sources, {} names, {} mappings, {} lines",
-        map.source_count(),
-        map.name_count(),
-        map.token_count(),
-        line_count(map)
-    )
+    push_number(text, "accepted: ", map.source_count())?;
+    push_number(text, " sources, ", map.name_count())?;
+    push_number(text, " names, ", map.token_count())?;
+    push_number(text, " mappings, ", line_count(map))?;
+    text.extend_from_slice(b" lines")?;
+    Ok(())
 }
 
 /// How many bytes canonical mappings can have: 36 for each mapping, and one for each line.
@@ -47,18 +50,22 @@ fn most_bytes(map: &SourceMap) -> u128
     36 * map.token_count() as u128 + line_count(map) as u128
 }
 
-/// How long the canonical mappings are and can be, in one line, without its line feed.
-#[tactic(auto, unfolding(crate::specs::Check::length_line))]
-fn length_line(alloc: Global, map: &SourceMap) -> Result<String, Memory>
-    ensures { IfOk result (λ line. string_bytes line ≡ length_line map.now) }
+/// How many bytes the canonical mappings have.
+fn canonical_length(alloc: Global, map: &SourceMap) -> Result<usize, Memory>
+    ensures { IfOk result (λ n. n ≡ length (canonical_mappings_text (record_of map.now))) }
 {
     let mappings = canonical_mappings(alloc, map)?;
-    let line = format!(in alloc;
-        "canonical mappings: {} bytes, at most {}",
-        mappings.len(),
-        most_bytes(map)
-    )?;
-    Ok(line)
+    Ok(mappings.len())
+}
+
+/// Appends how long the canonical mappings are and can be, in one line, without its line feed.
+#[tactic(auto, unfolding(crate::specs::Check::length_line))]
+fn push_length(alloc: Global, text: &mut Vec<u8>, map: &SourceMap) -> Result<(), Memory>
+    ensures { OnOk result (text.new.items ≡ text.old.items ++ length_line map.now) }
+{
+    let len = canonical_length(alloc, map)?;
+    push_number(text, "canonical mappings: ", len)?;
+    push_number(text, " bytes, at most ", most_bytes(map))
 }
 
 struct Check;
@@ -67,10 +74,12 @@ impl MapCommand for Check {
     ghost output = { λ _ _ m. check_text m };
 
     fn text(&self, alloc: Global, _base: &Base, map: &SourceMap) -> Result<Vec<u8>, Memory> {
-        let counts = counts_line(alloc, map)?;
-        let lengths = length_line(alloc, map)?;
-        let text = format!(in alloc; "{}\n{}\n", counts.as_str(), lengths.as_str())?;
-        Ok(text.into_bytes())
+        let mut text = Vec::new(alloc);
+        push_counts(&mut text, map)?;
+        text.push(b'\n')?;
+        push_length(alloc, &mut text, map)?;
+        text.push(b'\n')?;
+        Ok(text)
     }
 }
 
@@ -92,7 +101,7 @@ pub fn run_check<R: Read, W: Write>(
     // What was written is what is said of what was read against the base; Read and Write come with a
     // failure of their device, and no other answer does.
     ensures { Runs (AnswersAgainst (parse_url None base.now) check_output)
-        R.remaining reader.old reader.new W.contents writer.old writer.new result }
+        (streams R.remaining reader.old reader.new W.contents writer.old writer.new) result }
 {
     run_on_map(alloc, &Check, base, reader, writer)
 }

@@ -1,17 +1,18 @@
 //! The run `flatten`: a map as one flat map that lists what it lists.
 ghost use Rattle.std.specs.Prelude.{◌≡◌, ◌-◌, ◌^◌, ◌<◌, None, false};
 ghost use Rattle.smap_io.specs.Device.{device_failures, has_ended};
-ghost use Rattle.smap_run.specs.Run.{AnswersAgainst, Runs};
+ghost use Rattle.smap_io.specs.Streams.{streams};
+ghost use Rattle.smap_tool.specs.Run.{AnswersAgainst, Runs};
 ghost use Rattle.smap_canon.specs.Layout.{flat_text};
 ghost use Rattle.smap_tool.specs.Flatten.{flatten_output};
 ghost use Rattle.url.specs.Parser.{parse_url};
 
 use crate::map_run::{MapCommand, run_on_map};
+use crate::outcome::{Outcome, RunFault};
 use smap_canon::flatten;
 use smap_io::Device;
 use smap_mappings::Memory;
 use smap_record::{Base, SourceMap};
-use smap_run::{Outcome, RunFault};
 use std::alloc::Global;
 use std::io::{Read, Write};
 
@@ -41,7 +42,7 @@ pub fn run_flatten<R: Read, W: Write>(
     // What was written is what is said of what was read against the base; Read and Write come with a
     // failure of their device, and no other answer does.
     ensures { Runs (AnswersAgainst (parse_url None base.now) flatten_output)
-        R.remaining reader.old reader.new W.contents writer.old writer.new result }
+        (streams R.remaining reader.old reader.new W.contents writer.old writer.new) result }
 {
     run_on_map(alloc, &Flatten, base, reader, writer)
 }

@@ -1,17 +1,21 @@
 //! The one shape of the runs that read a map against a base.
 ghost use Rattle.std.specs.Prelude.{◌≡◌, ◌-◌, ◌^◌, ◌<◌, ℕ, List, None, IfOk, false};
 ghost use Rattle.smap_io.specs.Device.{device_failures, has_ended};
+ghost use Rattle.smap_io.specs.Streams.{streams};
 ghost use Rattle.smap_record.specs.Answers.{Gives};
 ghost use Rattle.smap_record.specs.Reading.{reading};
-ghost use Rattle.smap_record.specs.Record.{Parts, ReadMap};
-ghost use Rattle.smap_run.specs.Run.{AnswersAgainst, Runs, usual};
+ghost use Rattle.smap_record.specs.Record.{Parts, ReadMap, usual};
+ghost use Rattle.smap_tool.specs.Run.{AnswersAgainst, Runs};
 ghost use Rattle.smap_tool.specs.MapRun.{map_output};
 ghost use Rattle.url.specs.Parser.{parse_url};
 
+use crate::fault_line::refusal;
+use crate::input::read_input;
+use crate::outcome::{Outcome, RunFault};
+use crate::output::{write_answer, write_refused_base};
 use smap_io::Device;
 use smap_mappings::Memory;
 use smap_record::{Base, BaseFault, Limits, ReadError, SourceMap};
-use smap_run::{Outcome, RunFault, read_input, refusal, write_output, write_refused_base};
 use std::alloc::Global;
 use std::io::{Read, Write};
 
@@ -59,7 +63,7 @@ pub(crate) fn run_on_map<C: MapCommand, R: Read, W: Write>(
     requires writer { device_failures writer.old < 2 ^ 64 - 1 }
     requires not_ended { has_ended reader.old ≡ false }
     ensures { Runs (AnswersAgainst (parse_url None base.now) (map_output (C.output command.now)))
-        R.remaining reader.old reader.new W.contents writer.old writer.new result }
+        (streams R.remaining reader.old reader.new W.contents writer.old writer.new) result }
 {
     let base = match Base::new(alloc, base) {
         Ok(base) => base,
@@ -68,6 +72,5 @@ pub(crate) fn run_on_map<C: MapCommand, R: Read, W: Write>(
     };
     let input = read_input(alloc, reader)?;
     let (text, outcome) = answer(alloc, command, &base, input)?;
-    write_output(writer, &text)?;
-    Ok(outcome)
+    write_answer(writer, &text, outcome)
 }

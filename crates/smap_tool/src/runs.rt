@@ -1,16 +1,17 @@
 //! The run of a task.
 ghost use Rattle.std.specs.Prelude.{◌-◌, ◌^◌, ◌<◌, ◌≡◌, false};
 ghost use Rattle.smap_io.specs.Device.{device_failures, has_ended};
+ghost use Rattle.smap_io.specs.Streams.{streams};
 ghost use Rattle.smap_tool.specs.Task.{RunsTask};
 
 use crate::check::run_check;
 use crate::flatten::run_flatten;
 use crate::lookup::run_lookup;
+use crate::outcome::{Outcome, RunFault};
 use crate::respell::run_respell;
 use crate::tidy::run_tidy;
-use smap_bundle::run_translate;
+use crate::translate::run_translate;
 use smap_io::Device;
-use smap_run::{Outcome, RunFault};
 use smap_words::Task;
 use std::alloc::Global;
 use std::io::{Read, Write};
@@ -30,7 +31,8 @@ pub fn run<R: Read, W: Write>(
     requires not_ended { has_ended reader.old ≡ false }
 
     // The output is that of the task's command with the task's values.
-    ensures { RunsTask task.entry R.remaining reader.old reader.new W.contents writer.old writer.new result }
+    ensures { RunsTask task.entry
+        (streams R.remaining reader.old reader.new W.contents writer.old writer.new) result }
 {
     match task {
         Task::Respell => run_respell(alloc, reader, writer),

@@ -1,4 +1,5 @@
 //! What no clause says: the rows of each command by name, and devices that fail.
+mod bundle;
 mod check;
 mod devices;
 mod flatten;

@@ -1,16 +1,17 @@
 //! The run `tidy`: the canonical form of a map.
 ghost use Rattle.std.specs.Prelude.{◌≡◌, ◌-◌, ◌^◌, ◌<◌, None, false};
 ghost use Rattle.smap_io.specs.Device.{device_failures, has_ended};
-ghost use Rattle.smap_run.specs.Run.{AnswersAgainst, Runs};
+ghost use Rattle.smap_io.specs.Streams.{streams};
+ghost use Rattle.smap_tool.specs.Run.{AnswersAgainst, Runs};
 ghost use Rattle.smap_tool.specs.Tidy.{tidy_output, tidy_text};
 ghost use Rattle.url.specs.Parser.{parse_url};
 
 use crate::map_run::{MapCommand, run_on_map};
+use crate::outcome::{Outcome, RunFault};
 use smap_canon::{canonical, canonical_relative};
 use smap_io::Device;
 use smap_mappings::Memory;
 use smap_record::{Base, SourceMap};
-use smap_run::{Outcome, RunFault};
 use std::alloc::Global;
 use std::io::{Read, Write};
 
@@ -49,7 +50,7 @@ pub fn run_tidy<R: Read, W: Write>(
     // What was written is what is said of what was read against the base; Read and Write come with a
     // failure of their device, and no other answer does.
     ensures { Runs (AnswersAgainst (parse_url None base.now) (tidy_output relative))
-        R.remaining reader.old reader.new W.contents writer.old writer.new result }
+        (streams R.remaining reader.old reader.new W.contents writer.old writer.new) result }
 {
     run_on_map(alloc, &Tidy { relative }, base, reader, writer)
 }

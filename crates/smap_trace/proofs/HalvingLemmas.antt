@@ -7,7 +7,8 @@ use Rattle.std.proofs.lemmas.Option.{slice_get_within, get_or_from_slice_get}
 use Rattle.std.proofs.lemmas.Bool.{cases_eq, cases_lt}
 use Rattle.std.proofs.Math.Nat.{mul-le-mul_left}
 use Rattle.std.proofs.lemmas.Nat.{pow-add, pow_pos}
-use Rattle.smap_mappings.specs.Position.{Position, NeverFalls}
+use Rattle.smap_mappings.specs.declared.position.Position.{Position}
+use Rattle.smap_mappings.specs.Position.{NeverFalls}
 use Rattle.smap_trace.specs.Positions.{count_at_most, is_at_most}
 
 pub trans : (p q r : Position) → is_at_most p q ≡ true → is_at_most q r ≡ true → is_at_most p r ≡ true

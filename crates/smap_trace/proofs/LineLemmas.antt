@@ -1,7 +1,8 @@
 -- Lines, one piece after another.
-use Rattle.std.proofs.Common.{◌≡◌, ◌≢◌, ◌∙◌, ℕ, ◌<◌, ◌==◌, Bool, true, false, not, cond, ◌||◌, List, [], ◌∷◌, ◌++◌, length, flat_map, refl, sym, ap, inl, inr, ◌⊎◌, arith, append_assoc, append-nil}
+use Rattle.std.proofs.Common.{◌≡◌, ◌≢◌, ◌∙◌, ℕ, zero, suc, ◌+◌, ◌-◌, take, drop, slice_range, get_or, ◌<◌, ◌==◌, Bool, true, false, not, cond, ◌||◌, List, [], ◌∷◌, ◌++◌, length, length-drop, flat_map, refl, sym, ap, subst, inl, inr, ◌⊎◌, arith, append_assoc, append-nil}
 use Rattle.std.specs.List.{list_any, onto_first}
-use Rattle.std.proofs.lemmas.Bool.{ne_eqb}
+use Rattle.std.proofs.lemmas.List.{take_more}
+use Rattle.std.proofs.Math.Seq.{take-add, take-length}
 use Rattle.std.proofs.lemmas.Bool.Decides.{nat_tests}
 use Rattle.std.proofs.lemmas.Grind.{flat_map-append}
 use Rattle.smap_trace.specs.declared.outcome.Counts.{Counts}
@@ -72,14 +73,46 @@ lines_of-last b bs h = go (b == 10) h (on_line b bs)
 
 -- ---- a piece, byte by byte
 
-pub HasNoFeed-push : (rest : List ℕ) (b : ℕ) → HasNoFeed rest → b ≢ 10 → HasNoFeed (rest ++ b ∷ [])
-HasNoFeed-push [] b free ne = let e : (b == 10) ≡ false = ne_eqb b 10 ne in rw e refl
-HasNoFeed-push (c ∷ cs) b free ne = go (c == 10) free (λ h. HasNoFeed-push cs b h ne)
+pub HasNoFeed-append : (front back : List ℕ) → HasNoFeed front → HasNoFeed back → HasNoFeed (front ++ back)
+HasNoFeed-append [] back free clean = clean
+HasNoFeed-append (c ∷ cs) back free clean = go (c == 10) free (λ h. HasNoFeed-append cs back h clean)
   where
-    go : (t : Bool) → not (t || list_any (λ d. d == 10) cs) ≡ true → (HasNoFeed cs → HasNoFeed (cs ++ b ∷ []))
-        → not (t || list_any (λ d. d == 10) (cs ++ b ∷ [])) ≡ true
+    go : (t : Bool) → not (t || list_any (λ d. d == 10) cs) ≡ true → (HasNoFeed cs → HasNoFeed (cs ++ back))
+        → not (t || list_any (λ d. d == 10) (cs ++ back)) ≡ true
     go true bad rest = cc
     go false h rest = rest h
+
+-- what a search for a line feed passes has none
+pub none_passed : (bytes : List ℕ) (k : ℕ) → ((i : ℕ) → i < k → (get_or bytes i 0 == 10) ≢ true) → HasNoFeed (take k bytes)
+none_passed [] zero none = refl
+none_passed [] (suc k) none = refl
+none_passed (b ∷ bs) zero none = refl
+none_passed (b ∷ bs) (suc k) none = go (b == 10) refl (none_passed bs k (λ i lt. none (suc i) (omega arith)))
+  where
+    go : (t : Bool) → (b == 10) ≡ t → HasNoFeed (take k bs) → not (t || list_any (λ d. d == 10) (take k bs)) ≡ true
+    go true e rest = absurd (none 0 (omega arith) e)
+    go false e rest = rest
+
+pub none_there : (bytes : List ℕ) → ((i : ℕ) → i < length bytes → (get_or bytes i 0 == 10) ≢ true) → HasNoFeed bytes
+none_there bytes none = subst HasNoFeed (take-length bytes) (none_passed bytes (length bytes) none)
+
+-- what is left of a piece
+pub left_is : (piece : List ℕ) (at : ℕ) → take (length piece - at) (drop at piece) ≡ drop at piece
+left_is piece at = ap (λ n. take n (drop at piece)) (sym (length-drop at piece)) ∙ take-length (drop at piece)
+
+-- the bytes up to a line feed and with it
+pub line_end : (piece : List ℕ) (at feed : ℕ) → feed < length (drop at piece) → get_or (drop at piece) feed 0 ≡ 10
+    → slice_range piece at (at + feed + 1) ≡ take feed (drop at piece) ++ 10 ∷ []
+line_end piece at feed lt is =
+    let n : at + feed + 1 - at ≡ feed + 1 = omega arith in
+    ap (λ k. take k (drop at piece)) n ∙ take_more (drop at piece) feed 0 lt ∙ ap (λ b. take feed (drop at piece) ++ b ∷ []) is
+
+pub line_taken : (piece : List ℕ) (at feed : ℕ) → feed < length (drop at piece) → get_or (drop at piece) feed 0 ≡ 10
+    → take (at + feed + 1) piece ≡ take at piece ++ (take feed (drop at piece) ++ 10 ∷ [])
+line_taken piece at feed lt is =
+    let n : at + feed + 1 ≡ at + (feed + 1) = omega arith in
+    ap (λ k. take k piece) n ∙ take-add at (feed + 1) piece
+    ∙ ap (λ (xs : List ℕ). take at piece ++ xs) (take_more (drop at piece) feed 0 lt ∙ ap (λ b. take feed (drop at piece) ++ b ∷ []) is)
 
 module _ (scripts : List Script) (hide : Bool) where
   pub translation-append : (whole more : List ℕ) → IsWhole whole → translation scripts hide (whole ++ more) ≡ translation scripts hide whole ++ translation scripts hide more
@@ -93,12 +126,12 @@ module _ (scripts : List Script) (hide : Bool) where
       → count_lines scripts hide c (lines_of (whole ++ more)) ≡ count_lines scripts hide (count_lines scripts hide c (lines_of whole)) (lines_of more)
   count_lines-whole c whole more is = ap (count_lines scripts hide c) (lines_of-append whole more is) ∙ count_lines-append c (lines_of whole) (lines_of more)
 
-  pub Takes-byte : (line piece rest old new : List ℕ) (c d : Counts) (b : ℕ) → Takes scripts hide line piece rest old new c d
-      → Takes scripts hide line (piece ++ b ∷ []) (rest ++ b ∷ []) old new c d
-  Takes-byte line piece rest old new c d b t = record {
+  pub Takes-bytes : (line piece rest old new : List ℕ) (c d : Counts) (bytes : List ℕ) → Takes scripts hide line piece rest old new c d
+      → Takes scripts hide line (piece ++ bytes) (rest ++ bytes) old new c d
+  Takes-bytes line piece rest old new c d bytes t = record {
     whole = t.whole;
     is_whole = t.is_whole;
-    bytes = sym (append_assoc line piece (b ∷ [])) ∙ ap (λ (xs : List ℕ). xs ++ b ∷ []) t.bytes ∙ append_assoc t.whole rest (b ∷ []);
+    bytes = sym (append_assoc line piece bytes) ∙ ap (λ (xs : List ℕ). xs ++ bytes) t.bytes ∙ append_assoc t.whole rest bytes;
     given = t.given;
     counted = t.counted;
   }
@@ -124,20 +157,23 @@ module _ (scripts : List Script) (hide : Bool) where
     pub free : HasNoFeed rest
     pub takes : Takes scripts hide line piece rest old new c d
 
-  pub feed_step : (line piece after rest last old new more given : List ℕ) (c d e : Counts) (b : ℕ) → after ≡ piece ++ b ∷ [] → b ≡ 10 → last ≡ [] → given ≡ rest ++ b ∷ []
-      → more ≡ new ++ line_translation scripts hide given → e ≡ count_line d (outcome_of (fate scripts hide given)) → HasNoFeed rest
+  -- a piece's bytes up to a line feed, behind the line's front
+  pub feed_step : (line piece after rest last old new more front : List ℕ) (c d e : Counts) → after ≡ piece ++ (front ++ 10 ∷ []) → last ≡ [] → HasNoFeed front
+      → more ≡ new ++ line_translation scripts hide (rest ++ (front ++ 10 ∷ [])) → e ≡ count_line d (outcome_of (fate scripts hide (rest ++ (front ++ 10 ∷ [])))) → HasNoFeed rest
       → Takes scripts hide line piece rest old new c d → Step line after last old more c e
-  feed_step line piece after rest last old new more given c d e b a is l g m k free t =
-      let given_is : given ≡ rest ++ 10 ∷ [] = g ∙ ap (λ x. rest ++ x ∷ []) is in
-      let after_is : after ≡ piece ++ 10 ∷ [] = a ∙ ap (λ x. piece ++ x ∷ []) is in
-      let m' = m ∙ ap (λ (xs : List ℕ). new ++ line_translation scripts hide xs) given_is in
-      let k' = k ∙ ap (λ (xs : List ℕ). count_line d (outcome_of (fate scripts hide xs))) given_is in
-      rw (after_is, l, m', k') record { free = refl; takes = Takes-feed line piece rest old new c d free t }
+  feed_step line piece after rest last old new more front c d e a l clean m k free t =
+      let given : rest ++ (front ++ 10 ∷ []) ≡ (rest ++ front) ++ 10 ∷ [] = sym (append_assoc rest front (10 ∷ [])) in
+      let after_is : after ≡ (piece ++ front) ++ 10 ∷ [] = a ∙ sym (append_assoc piece front (10 ∷ [])) in
+      let m' = m ∙ ap (λ (xs : List ℕ). new ++ line_translation scripts hide xs) given in
+      let k' = k ∙ ap (λ (xs : List ℕ). count_line d (outcome_of (fate scripts hide xs))) given in
+      let t' = Takes-bytes line piece rest old new c d front t in
+      rw (after_is, l, m', k') record { free = refl; takes = Takes-feed line (piece ++ front) (rest ++ front) old new c d (HasNoFeed-append rest front free clean) t' }
 
-  pub byte_step : (line piece after rest last old new more : List ℕ) (c d e : Counts) (b : ℕ) → after ≡ piece ++ b ∷ [] → b ≢ 10 → last ≡ rest ++ b ∷ []
-      → more ≡ new → e ≡ d → HasNoFeed rest → Takes scripts hide line piece rest old new c d → Step line after last old more c e
-  byte_step line piece after rest last old new more c d e b a ne l m k free t =
-      rw (a, l, m, k) record { free = HasNoFeed-push rest b free ne; takes = Takes-byte line piece rest old new c d b t }
+  -- a piece's bytes behind its last line feed
+  pub rest_step : (line piece after rest last old new : List ℕ) (bytes : List ℕ) (c d : Counts) → after ≡ piece ++ bytes → last ≡ rest ++ bytes → HasNoFeed bytes → HasNoFeed rest
+      → Takes scripts hide line piece rest old new c d → Step line after last old new c d
+  rest_step line piece after rest last old new bytes c d a l clean free t =
+      rw (a, l) record { free = HasNoFeed-append rest bytes free clean; takes = Takes-bytes line piece rest old new c d bytes t }
 
   -- what the last line gives, and how it is counted
   pub last_given : (line out : List ℕ) → HasNoFeed line → ((0 < length line) × (out ≡ line_translation scripts hide line)) ⊎ ((length line ≡ 0) × (out ≡ [])) → out ≡ translation scripts hide line

@@ -7,7 +7,8 @@ use Rattle.std.specs.Prelude.{All, option_map}
 use Rattle.std.specs.Option.{option_or}
 use Rattle.std.proofs.lemmas.Bool.Decides.{nat_tests, Decides-eqb}
 use Rattle.std.proofs.lemmas.Bool.{cases_lt}
-use Rattle.smap_mappings.specs.Position.{Position, NeverFalls, position_of}
+use Rattle.smap_mappings.specs.declared.position.Position.{Position}
+use Rattle.smap_mappings.specs.Position.{NeverFalls, position_of}
 use Rattle.smap_trace.specs.Positions.{count_at_most, is_at_most, position_in}
 use Rattle.smap_trace.proofs.HalvingLemmas.{counts_past, counts_up_to, pairs}
 use Rattle.smap_record.specs.Record.{Listing, Mapping, mapping_of}

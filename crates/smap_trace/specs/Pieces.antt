@@ -1,22 +1,12 @@
 -- A trace in pieces: what the parts of `translate` do.
 use Rattle.std.specs.Prelude.{◌≡◌, ◌⊎◌, ℕ, ◌+◌, ◌==◌, Bool, not, true}
-use Rattle.std.specs.Prelude.{List, [], ◌∷◌, ◌++◌, Option, Result, Ok, Err}
+use Rattle.std.specs.Prelude.{List, [], ◌∷◌, ◌++◌}
 use Rattle.std.specs.List.{list_any}
-use Rattle.std.specs.Io.KnownBytes.{Appends}
 use Rattle.smap_trace.specs.declared.outcome.Counts.{Counts}
 use Rattle.smap_trace.specs.declared.outcome.LineOutcome.{LineOutcome}
 use Rattle.smap_trace.specs.declared.outcome.LineOutcome.TheVariants.{Kept, Translated, Dropped}
-use Rattle.smap_trace.specs.declared.error.TraceError.{TraceError}
-use Rattle.smap_trace.specs.declared.error.TraceError.TheVariants as error
 use Rattle.smap_trace.specs.Translation.{Script, fate, lines_of, translation}
 use Rattle.smap_trace.specs.Views.{at_most_u64, outcome_of}
-
--- any answer but Read
-abbrev pub IsNotRead : {A : Type 0} → Result A TraceError → Type 0
-IsNotRead (Err error.Read) = ⊥
-IsNotRead (Err error.Write) = Unit {0}
-IsNotRead (Err error.Memory) = Unit {0}
-IsNotRead (Ok x) = Unit {0}
 
 -- one line more
 abbrev pub count_line : Counts → LineOutcome → Counts
@@ -38,13 +28,6 @@ IsWhole text = (text ≡ []) ⊎ ((front : List ℕ) × (text ≡ front ++ 10 �
 -- the front of a line, as far as it was read
 abbrev pub HasNoFeed : List ℕ → Type 0
 HasNoFeed text = not (list_any (λ b. b == 10) text) ≡ true
-
--- known bytes grow by a front of these
-pub record AppendsPart (old new : Option (List ℕ)) (bytes : List ℕ) : Type 0 where
-  pub front : List ℕ
-  pub rest : List ℕ
-  pub written : Appends old new front
-  pub is_front : bytes ≡ front ++ rest
 
 -- A piece of the trace ended the lines `whole`, whose translation was given, and `rest` waits for the
 -- end of its line. Before the piece, `line` did.

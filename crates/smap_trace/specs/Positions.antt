@@ -1,16 +1,17 @@
 -- How many positions of a list aren't greater than one.
 use Rattle.std.specs.Prelude.{ℕ, ◌+◌, ◌*◌, ◌^◌, ◌≤◌, not, Bool, List, count_by}
-use Rattle.smap_mappings.specs.Position.{Position, is_before}
+use Rattle.smap_mappings.specs.declared.position.Position.{Position}
+use Rattle.smap_mappings.specs.Position.{is_before}
 
 -- a line and a column
 abbrev pub position_in : ℕ × ℕ → Position
 position_in p = record { line = p.0; column = p.1 }
 
--- not behind
+-- not after
 abbrev pub is_at_most : Position → Position → Bool
 is_at_most p q = not (is_before q p)
 
--- how many of them aren't behind
+-- how many of them aren't after it
 abbrev pub count_at_most : List Position → Position → ℕ
 count_at_most ps q = count_by (λ p. is_at_most p q) ps
 

@@ -172,6 +172,3 @@ pub fn frame<'a>(line: &'a [u8]) -> Option<Frame<'a>>
         body_frame(line, body_len(line))
     }
 }
-
-#[cfg(test)]
-mod tests;

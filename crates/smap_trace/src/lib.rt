@@ -17,8 +17,6 @@ mod parts;
 mod scripts;
 mod searching;
 mod streaming;
-#[cfg(test)]
-mod testing;
 
 pub use error::TraceError;
 pub use frames::frame;

@@ -179,6 +179,3 @@ pub fn translate_line(
         Err(_) => Err(Memory),
     }
 }
-
-#[cfg(test)]
-mod tests;

@@ -28,7 +28,7 @@ impl Positions for Places<'_> {
 
     fn at(&mut self, i: usize) -> (u32, u32) {
         self.probes += 1;
-        let token = self.map.token(i);
+        let token = self.map.listed_token(i);
         (token.line, token.column)
     }
 }
@@ -72,6 +72,3 @@ pub(crate) fn mapping_of<'a>(map: &'a SourceMap, line: u32, column: u32) -> Opti
 {
     lookup(map, line, column).0
 }
-
-#[cfg(test)]
-mod tests;

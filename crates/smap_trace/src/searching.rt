@@ -1,13 +1,15 @@
 //! Search in a list of positions that never fall, by halving.
 ghost use Rattle.std.specs.Prelude.{◌≡◌, ℕ, ◌+◌, ◌<◌, ◌≤◌, List, length, slice_get, Some};
-ghost use Rattle.smap_mappings.specs.Position.{Position, NeverFalls};
-ghost use Rattle.smap_trace.specs.Positions.{count_at_most, is_at_most, position_in};
-ghost use Rattle.smap_trace.specs.Positions.{IsWithinBinaryDigits};
+ghost use Rattle.smap_mappings.specs.declared.position.Position.{Position as SpecPosition};
+ghost use Rattle.smap_mappings.specs.Position.{NeverFalls};
+ghost use Rattle.smap_trace.specs.Positions.{count_at_most, position_in, IsWithinBinaryDigits};
+
+use smap_mappings::Position;
 
 /// A list of positions, each a line and a column, and a count of how often one was asked for.
 pub trait Positions {
     // the list
-    ghost positions: { Self → List Position };
+    ghost positions: { Self → List SpecPosition };
 
     // the count
     ghost probes: { Self → ℕ };
@@ -26,14 +28,17 @@ pub trait Positions {
         ensures count { probes self.new ≡ probes self.old + 1 };
 }
 
-/// Whether `p` is not behind `q`.
-fn is_at_most(p: (u32, u32), q: (u32, u32)) -> bool
-    ensures { result ≡ is_at_most (position_in p) (position_in q) }
+/// A line and a column as a position.
+fn position_in(p: (u32, u32)) -> Position
+    ensures { result ≡ position_in p }
 {
-    p.0 < q.0 || (p.0 == q.0 && p.1 <= q.1)
+    Position {
+        line: p.0,
+        column: p.1,
+    }
 }
 
-/// How many positions are not behind this one, where positions never fall and none was asked for yet.
+/// How many positions are at most this one, where positions never fall and none was asked for yet.
 /// The list stays; the count is then at most the number of binary digits of `len`, and at least 1 where
 /// `len` isn't 0.
 pub fn search<P: Positions>(p: &mut P, line: u32, column: u32) -> usize
@@ -45,13 +50,14 @@ pub fn search<P: Positions>(p: &mut P, line: u32, column: u32) -> usize
     ensures most { IsWithinBinaryDigits (P.probes p.new) (length (P.positions p.old)) }
     ensures least { 0 < length (P.positions p.old) → 0 < P.probes p.new }
 {
-    // What stands before `low` is not behind, what stands from `low + size` on is.
+    let asked = position_in((line, column));
+    // What stands before `low` isn't after it, what stands from `low + size` on is.
     let mut low = 0;
     let mut size = p.len();
     while size > 0 {
         let half = size / 2;
         let middle = low + half;
-        if is_at_most(p.at(middle), (line, column)) {
+        if position_in(p.at(middle)) <= asked {
             low = middle + 1;
             size = size - half - 1;
         } else {

@@ -1,18 +1,20 @@
 //! The translation of a trace, from a reader to a writer: a piece is read, what the lines give that it
 //! ends is written, and only then is more read.
-ghost use Rattle.std.specs.Prelude.{◌≡◌, ℕ, ◌-◌, ◌<◌, ◌^◌, IfOk, OnOk, OnErr, true, false, take, []};
-ghost use Rattle.smap_io.specs.Device.{device_failures, device_inner, failures_after, has_ended};
-ghost use Rattle.std.specs.Io.KnownBytes.{Appends};
-ghost use Rattle.smap_trace.specs.Pieces.{AppendsPart, HasNoFeed, IsNotRead, Takes, count_line, count_lines};
-ghost use Rattle.smap_trace.specs.Streaming.{ReaderFails, Translates, WriterFails};
-ghost use Rattle.smap_trace.specs.Translation.{AreDistinct, lines_of, translation};
-ghost use Rattle.smap_trace.specs.Views.{scripts_in};
+ghost use Rattle.std.specs.Prelude.{◌≡◌, ◌++◌, ◌-◌, ◌<◌, ◌^◌, IfOk, OnOk, OnErr, true, false, []};
+ghost use Rattle.smap_io.specs.Device.{device_failures, has_ended};
+ghost use Rattle.smap_io.specs.Streams.{ReaderFailsOrTires, Rises, WriterFails, fails_by, streams};
+ghost use Rattle.smap_io.specs.Writing.{Took, TookFront};
+ghost use Rattle.smap_trace.specs.Pieces.{HasNoFeed, Takes, count_line, count_lines};
+ghost use Rattle.smap_trace.specs.Streaming.{Translates, TranslatesTrace, is_read, is_write};
+ghost use Rattle.smap_trace.specs.Translation.{AreDistinct, fate, line_translation, lines_of, translation};
+ghost use Rattle.smap_trace.specs.Views.{outcome_of, scripts_in};
 
 use crate::error::TraceError;
 use crate::lines::translate_by;
 use crate::outcome::{Counts, LineOutcome};
-use crate::scripts::{Maps, by_url};
-use smap_io::{Device, Failed};
+use crate::scripts::{Listed, Maps, by_url};
+use memchr::memchr;
+use smap_io::{Device, MOST_CALLS, write_all, write_and_flush};
 use smap_record::SourceMap;
 use std::alloc::{AllocError, Global};
 use std::io::{Read, Write};
@@ -20,8 +22,8 @@ use std::io::{Read, Write};
 /// How many bytes are read at most at once.
 const PIECE: usize = 65_536;
 
-/// The most calls of `read` for one trace, so that it comes to an end.
-const MOST_READS: u64 = 4_294_967_296;
+/// So many scripts are found sooner one by one than in a table.
+const FEW: usize = 4;
 
 /// The counts with one line more.
 fn counted(counts: Counts, outcome: LineOutcome) -> Counts
@@ -43,6 +45,33 @@ fn counted(counts: Counts, outcome: LineOutcome) -> Counts
     }
 }
 
+/// Appends what a line gives, and counts it. The line is what waits in `line`, and then these bytes, which
+/// end it.
+fn take_line<M: Maps>(
+    maps: &M,
+    hide: bool,
+    line: &mut Vec<u8>,
+    end: &[u8],
+    out: &mut Vec<u8>,
+    counts: Counts,
+) -> Result<Counts, AllocError>
+    ensures rest { OnOk result (line.new.items ≡ []) }
+    ensures out { OnOk result (out.new.items ≡ out.old.items
+        ++ line_translation (M.scripts maps.now) hide (line.old.items ++ end.now)) }
+    ensures counts { IfOk result (λ after. after
+        ≡ count_line counts (outcome_of (fate (M.scripts maps.now) hide (line.old.items ++ end.now)))) }
+{
+    // Nearly all lines lie whole in a piece, and aren't copied.
+    if line.is_empty() {
+        let outcome = translate_by(end, maps, hide, out)?;
+        return Ok(counted(counts, outcome));
+    }
+    line.extend_from_slice(end)?;
+    let outcome = translate_by(line, maps, hide, out)?;
+    line.clear();
+    Ok(counted(counts, outcome))
+}
+
 /// Takes the next piece, and appends what the lines give that it ends. The rest of it waits in `line`.
 fn take_piece<M: Maps>(
     maps: &M,
@@ -57,31 +86,35 @@ fn take_piece<M: Maps>(
     ensures takes { OnOk result (Takes (M.scripts maps.now) hide line.old.items piece.now line.new.items
         out.old.items out.new.items counts.old counts.new) }
 {
-    for byte in piece {
-        line.push(*byte)?;
-        if *byte == b'\n' {
-            let outcome = translate_by(line, maps, hide, out)?;
-            *counts = counted(*counts, outcome);
-            line.clear();
-        }
+    let mut at = 0;
+    'lines: while let Some(feed) = memchr(b'\n', &piece[at..]) {
+        let next = at + feed + 1;
+        *counts = take_line(maps, hide, line, &piece[at..next], out, *counts)?;
+        at = next;
     }
+    line.extend_from_slice(&piece[at..])?;
     Ok(())
 }
 
-/// Writes all, by as many calls of `write` as it takes.
-fn write_whole<W: Write>(writer: &mut Device<W>, bytes: &[u8]) -> Result<(), Failed>
-    requires { device_failures writer.old < 2 ^ 64 - 1 }
-    ensures all { OnOk result (Appends (W.contents (device_inner writer.old))
-        (W.contents (device_inner writer.new)) bytes.now) }
-    ensures front { OnErr result ((n : ℕ) × Appends (W.contents (device_inner writer.old))
-        (W.contents (device_inner writer.new)) (take n bytes.now)) }
-    ensures failures { device_failures writer.new ≡ failures_after (device_failures writer.old) result }
+/// Appends what the last line gives, if there is one.
+fn end_line<M: Maps>(
+    maps: &M,
+    hide: bool,
+    line: &[u8],
+    out: &mut Vec<u8>,
+    counts: Counts,
+) -> Result<Counts, AllocError>
+    requires free { HasNoFeed line.now }
+    requires empty { out.old.items ≡ [] }
+    ensures given { OnOk result (out.new.items ≡ translation (M.scripts maps.now) hide line.now) }
+    ensures counts { IfOk result (λ after. after
+        ≡ count_lines (M.scripts maps.now) hide counts (lines_of line.now)) }
 {
-    let mut at = 0;
-    while at < bytes.len() {
-        at += writer.write(&bytes[at..])?;
+    if line.is_empty() {
+        return Ok(counts);
     }
-    Ok(())
+    let outcome = translate_by(line, maps, hide, out)?;
+    Ok(counted(counts, outcome))
 }
 
 /// Writes what the last line gives, if there is one, and flushes.
@@ -96,26 +129,20 @@ fn finish<M: Maps, W: Write>(
     requires free { HasNoFeed line.now }
     requires empty { out.old.items ≡ [] }
     requires writes { device_failures writer.old < 2 ^ 64 - 1 }
-    ensures all { OnOk result (Appends (W.contents (device_inner writer.old))
-        (W.contents (device_inner writer.new)) (translation (M.scripts maps.now) hide line.now)) }
+    ensures all { OnOk result (Took W.contents writer.old writer.new
+        (translation (M.scripts maps.now) hide line.now)) }
     ensures counts { IfOk result (λ after. after
         ≡ count_lines (M.scripts maps.now) hide counts (lines_of line.now)) }
-    ensures part { OnErr result (AppendsPart (W.contents (device_inner writer.old))
-        (W.contents (device_inner writer.new)) (translation (M.scripts maps.now) hide line.now)) }
-    ensures writer_failures { WriterFails (device_failures writer.old) (device_failures writer.new) result }
-    ensures never_read { IsNotRead result }
+    ensures part { OnErr result (TookFront W.contents writer.old writer.new
+        (translation (M.scripts maps.now) hide line.now)) }
+    ensures never_read { fails_by is_read result ≡ false }
+    ensures writer_failures { Rises (fails_by is_write result) (device_failures writer.old)
+        (device_failures writer.new) }
 {
-    let mut after = counts;
-    if !line.is_empty() {
-        let Ok(outcome) = translate_by(line, maps, hide, out) else {
-            return Err(TraceError::Memory);
-        };
-        after = counted(counts, outcome);
-    }
-    let Ok(()) = write_whole(writer, out) else {
-        return Err(TraceError::Write);
+    let Ok(after) = end_line(maps, hide, line, out, counts) else {
+        return Err(TraceError::Memory);
     };
-    let Ok(()) = writer.flush() else {
+    let Ok(()) = write_and_flush(writer, out) else {
         return Err(TraceError::Write);
     };
     Ok(after)
@@ -132,14 +159,12 @@ fn translate_with<M: Maps, R: Read, W: Write>(
     requires reads { device_failures reader.old < 2 ^ 64 - 1 }
     requires writes { device_failures writer.old < 2 ^ 64 - 1 }
     requires not_ended { has_ended reader.old ≡ false }
-    ensures ended { OnOk result (has_ended reader.new ≡ true) }
     ensures translates { Translates (M.scripts maps.now) hide
-        (R.remaining (device_inner reader.old)) (R.remaining (device_inner reader.new))
-        (W.contents (device_inner writer.old)) (W.contents (device_inner writer.new))
-        (has_ended reader.new) result }
-    ensures reader_failures { ReaderFails (device_failures reader.old) (device_failures reader.new)
-        (R.remaining (device_inner reader.old)) (R.remaining (device_inner reader.new)) result }
-    ensures writer_failures { WriterFails (device_failures writer.old) (device_failures writer.new) result }
+        (streams R.remaining reader.old reader.new W.contents writer.old writer.new) result }
+    ensures reader_failures { ReaderFailsOrTires is_read
+        (streams R.remaining reader.old reader.new W.contents writer.old writer.new) result }
+    ensures writer_failures { WriterFails is_write
+        (streams R.remaining reader.old reader.new W.contents writer.old writer.new) result }
 {
     let mut buf = [0; PIECE];
     let mut line = Vec::new(alloc);
@@ -149,7 +174,7 @@ fn translate_with<M: Maps, R: Read, W: Write>(
         translated: 0,
         dropped: 0,
     };
-    'pieces: for _ in 0..MOST_READS {
+    'pieces: for _ in 0..MOST_CALLS {
         out.clear();
         let Ok(n) = reader.read(&mut buf) else {
             return Err(TraceError::Read);
@@ -160,7 +185,7 @@ fn translate_with<M: Maps, R: Read, W: Write>(
         let Ok(()) = take_piece(maps, hide, &mut line, &buf[..n], &mut out, &mut counts) else {
             return Err(TraceError::Memory);
         };
-        let Ok(()) = write_whole(writer, &out) else {
+        let Ok(()) = write_all(writer, &out) else {
             return Err(TraceError::Write);
         };
     }
@@ -198,23 +223,16 @@ pub fn translate<R: Read, W: Write>(
     requires not_ended { has_ended reader.old ≡ false }
     requires distinct { AreDistinct (scripts_in scripts.now) }
 
-    // All was read, and what was written is its translation; or a front of it was written.
-    ensures translates { Translates (scripts_in scripts.now) hide
-        (R.remaining (device_inner reader.old)) (R.remaining (device_inner reader.new))
-        (W.contents (device_inner writer.old)) (W.contents (device_inner writer.new))
-        (has_ended reader.new) result }
-    ensures ended { OnOk result (has_ended reader.new ≡ true) }
-
-    // Read and Write come with a failure of their device, and no other answer does.
-    ensures reader_failures { ReaderFails (device_failures reader.old) (device_failures reader.new)
-        (R.remaining (device_inner reader.old)) (R.remaining (device_inner reader.new)) result }
-    ensures writer_failures { WriterFails (device_failures writer.old) (device_failures writer.new) result }
+    // All was read, and what was written is its translation; or a front of it was written. Read and Write
+    // come with a failure of their device, and no other answer does.
+    ensures { TranslatesTrace (scripts_in scripts.now) hide
+        (streams R.remaining reader.old reader.new W.contents writer.old writer.new) result }
 {
+    if scripts.len() <= FEW {
+        return translate_with(alloc, &Listed { scripts }, hide, reader, writer);
+    }
     let Ok(maps) = by_url(alloc, scripts) else {
         return Err(TraceError::Memory);
     };
     translate_with(alloc, &maps, hide, reader, writer)
 }
-
-#[cfg(test)]
-mod tests;

@@ -1,9 +1,11 @@
 -- The table of digits is that of the definition.
-use Rattle.std.proofs.Common.{◌≡◌, ◌≢◌, ℕ, zero, suc, ◌+◌, ◌<◌, ◌≤◌, Bool, true, false, ltb, eqb, cond, subst, List, [], ◌∷◌, map, length, get_or, Option, None, Some, refl, sym, ap, ◌∙◌, arith}
-use Rattle.smap_vlq.specs.declared.digit.TheConstants.{DIGITS, LONE_DIGITS, BYTES}
-use Rattle.std.proofs.lemmas.Bool.{lt-ltb, le-ltb, ltb-true, eq-eqb, eqb-true}
+use Rattle.std.proofs.Common.{◌≡◌, ◌≢◌, ℕ, zero, suc, ◌+◌, ◌<◌, ◌≤◌, Bool, true, false, ltb, eqb, cond, List, [], ◌∷◌, map, length, get_or, Option, None, Some, ℤ, pos, ◌-ℤ◌, refl, sym, ap, ◌∙◌, arith}
+use Rattle.smap_vlq.specs.declared.digit.TheConstants.{DIGITS, LONE_NUMBERS, BYTES}
+use Rattle.std.proofs.lemmas.Bool.{lt-ltb, le-ltb, ltb-true, eq-eqb, ne_eqb, false≢true}
 use Rattle.std.proofs.lemmas.List.{get_or-map}
-use Rattle.smap_vlq.specs.Number.{digit_of, digit_byte}
+use Rattle.std.proofs.lemmas.List.Folds.{list_all_at}
+use Rattle.std.specs.List.{list_all}
+use Rattle.smap_vlq.specs.Number.{digit_of, digit_byte, signed}
 
 abbrev pub digit_told : ℕ → Option ℕ
 digit_told d = cond (ltb d 64) (Some d) None
@@ -38,49 +40,48 @@ is_none b lt large = sym (digit_is_told b lt ∙ ap (λ (t : Bool). cond t (Some
 
 -- ---- a digit that is a number by itself
 
-abbrev lone : ℕ → ℕ
-lone d = cond (ltb d 32) (cond (eqb d 1) 64 d) 64
+abbrev lone : ℕ → Option ℤ
+lone d = cond (ltb d 32) (cond (eqb d 1) None (Some (signed d))) None
 
-lone_digits : LONE_DIGITS ≡ map lone DIGITS
-lone_digits = refl
+abbrev lone_told : ℕ → Option ℤ
+lone_told n = cond (eqb n 0) None (Some (pos n -ℤ pos 16))
 
-lone_is : (b : ℕ) → b < 256 → get_or LONE_DIGITS b 0 ≡ lone (get_or DIGITS b 0)
-lone_is b lt = ap (λ (ds : List ℕ). get_or ds b 0) lone_digits ∙ get_or-map lone DIGITS b 0 0 lt
+lone_numbers : map lone_told LONE_NUMBERS ≡ map lone DIGITS
+lone_numbers = refl
 
-small_lone : (d : ℕ) → lone d < 32 → (lone d ≡ d) × (d < 32) × (d ≢ 1)
-small_lone d lt = by_cases (ltb d 32) (eqb d 1) refl refl
+lone_is : (b : ℕ) → b < 256 → lone_told (get_or LONE_NUMBERS b 0) ≡ lone (get_or DIGITS b 0)
+lone_is b lt =
+    sym (get_or-map lone_told LONE_NUMBERS b 0 None lt) ∙ ap (λ (ns : List (Option ℤ)). get_or ns b None) lone_numbers
+    ∙ get_or-map lone DIGITS b 0 None lt
+
+some_lone : (d : ℕ) (n : ℤ) → lone d ≡ Some n → (d < 32) × (d ≢ 1) × (n ≡ signed d)
+some_lone d n is = by_cases (ltb d 32) (eqb d 1) refl refl
   where
-    by_cases : (s t : Bool) → ltb d 32 ≡ s → eqb d 1 ≡ t → (lone d ≡ d) × (d < 32) × (d ≢ 1)
-    by_cases true false es et = (rw (es, et) refl, ltb-true d 32 es, λ one. absurd (let e = eq-eqb d 1 one in cc))
-    by_cases true true es et = absurd (let e : lone d ≡ 64 = rw (es, et) refl in omega arith)
-    by_cases false t es et = absurd (let e : lone d ≡ 64 = rw es refl in omega arith)
+    by_cases : (s t : Bool) → ltb d 32 ≡ s → eqb d 1 ≡ t → (d < 32) × (d ≢ 1) × (n ≡ signed d)
+    by_cases true false es et =
+        let e : lone d ≡ Some (signed d) = rw (es, et) refl in
+        (ltb-true d 32 es, λ one. absurd (let e = eq-eqb d 1 one in cc), let h = sym is ∙ e in cc)
+    by_cases true true es et = absurd (let e : lone d ≡ None = rw (es, et) refl in let h = sym is ∙ e in cc)
+    by_cases false t es et = absurd (let e : lone d ≡ None = rw es refl in let h = sym is ∙ e in cc)
 
-pub is_lone : (b : ℕ) → b < 256 → get_or LONE_DIGITS b 0 < 32 → (digit_of b ≡ Some (get_or LONE_DIGITS b 0)) × (get_or LONE_DIGITS b 0 < 32) × (get_or LONE_DIGITS b 0 ≢ 1)
-is_lone b lt small =
+pub is_lone : (b : ℕ) → b < 256 → get_or LONE_NUMBERS b 0 ≢ 0
+    → (d : ℕ) × (digit_of b ≡ Some d) × (d < 32) × (d ≢ 1) × (pos (get_or LONE_NUMBERS b 0) -ℤ pos 16 ≡ signed d)
+is_lone b lt some =
     let d : ℕ = get_or DIGITS b 0 in
-    let e : get_or LONE_DIGITS b 0 ≡ lone d = lone_is b lt in
-    let k = small_lone d (subst (λ (n : ℕ). n < 32) e small) in
-    let same : get_or LONE_DIGITS b 0 ≡ d = e ∙ k.0 in
-    (sym (is_digit b lt (omega (arith, k.1))) ∙ ap (λ (n : ℕ). Some n) (sym same), small, λ one. k.2 (sym same ∙ one))
+    let n : ℕ = get_or LONE_NUMBERS b 0 in
+    let told : lone_told n ≡ Some (pos n -ℤ pos 16) = rw (ne_eqb n 0 some) refl in
+    let k = some_lone d (pos n -ℤ pos 16) (sym (lone_is b lt) ∙ told) in
+    (d, sym (is_digit b lt (omega (arith, k.0))), k.0, k.1, k.2)
 
-told_is : (d k : ℕ) → digit_told d ≡ Some k → d ≡ k
-told_is d k e = by_test (ltb d 64) e
+small_numbers : list_all (λ (n : ℕ). ltb n 32) LONE_NUMBERS ≡ true
+small_numbers = refl
+
+pub small_number : (b : ℕ) → b < 256 → get_or LONE_NUMBERS b 0 < 32
+small_number b lt = by_test (ltb (get_or LONE_NUMBERS b 0) 32) refl
   where
-    by_test : (t : Bool) → cond t (Some d) None ≡ Some k → d ≡ k
-    by_test true e = cc
-    by_test false e = absurd cc
-
-other_is : (d : ℕ) → 32 ≤ lone d → d < 32 → d ≡ 1
-other_is d large small = by_test (eqb d 1) refl
-  where
-    by_test : (t : Bool) → eqb d 1 ≡ t → d ≡ 1
-    by_test true e = eqb-true d 1 e
-    by_test false e = absurd (let same : lone d ≡ d = rw (lt-ltb d 32 small, e) refl in omega (arith, same, large, small))
-
-pub is_other : (b : ℕ) → b < 256 → 32 ≤ get_or LONE_DIGITS b 0 → (k : ℕ) → digit_of b ≡ Some k → k < 32 → k ≡ 1
-is_other b lt large k is small =
-    let same : get_or DIGITS b 0 ≡ k = told_is (get_or DIGITS b 0) k (sym (digit_is_told b lt) ∙ is) in
-    sym same ∙ other_is (get_or DIGITS b 0) (subst (λ (n : ℕ). 32 ≤ n) (lone_is b lt) large) (omega (arith, same, small))
+    by_test : (t : Bool) → ltb (get_or LONE_NUMBERS b 0) 32 ≡ t → get_or LONE_NUMBERS b 0 < 32
+    by_test true e = ltb-true (get_or LONE_NUMBERS b 0) 32 e
+    by_test false e = absurd (false≢true (sym (list_all_at (λ (n : ℕ). ltb n 32) LONE_NUMBERS b 0 lt e) ∙ small_numbers))
 
 -- ---- the other way
 

@@ -1,6 +1,6 @@
 //! Base64 digits and their bytes.
-ghost use Rattle.std.specs.Prelude.{◌≡◌, ◌≢◌, ℕ, ◌<◌, Some, IfSome, IfNone};
-ghost use Rattle.smap_vlq.specs.Number.{digit_of, digit_byte};
+ghost use Rattle.std.specs.Prelude.{◌≡◌, ◌≢◌, ℕ, ◌<◌, Some, IfSome};
+ghost use Rattle.smap_vlq.specs.Number.{digit_of, digit_byte, signed};
 
 /// The digit of each byte, and 64 for a byte that is none. A look-up costs the same for each byte,
 /// where a `match` over the ranges costs a wrong guess of the processor for many.
@@ -33,36 +33,39 @@ pub fn digit_value(byte: u8) -> Option<u8>
     if digit < 64 { Some(digit) } else { None }
 }
 
-/// The digit of each byte that is a number by itself, below 32 and not 1, and 64 for all others: most
-/// numbers are such a byte, and one look-up and one comparison read it.
+/// The number of each byte that is one by itself, a digit below 32 and not 1, plus 16; and 0 for all other
+/// bytes. Most numbers are such a byte, and one look-up and one comparison read it.
 #[rattlefmt::skip]
-const LONE_DIGITS: [u8; 256] = [
-    64, 64, 64, 64, 64, 64, 64, 64, 64, 64, 64, 64, 64, 64, 64, 64,
-    64, 64, 64, 64, 64, 64, 64, 64, 64, 64, 64, 64, 64, 64, 64, 64,
-    64, 64, 64, 64, 64, 64, 64, 64, 64, 64, 64, 64, 64, 64, 64, 64,
-    64, 64, 64, 64, 64, 64, 64, 64, 64, 64, 64, 64, 64, 64, 64, 64,
-    64, 0, 64, 2, 3, 4, 5, 6, 7, 8, 9, 10, 11, 12, 13, 14,
-    15, 16, 17, 18, 19, 20, 21, 22, 23, 24, 25, 64, 64, 64, 64, 64,
-    64, 26, 27, 28, 29, 30, 31, 64, 64, 64, 64, 64, 64, 64, 64, 64,
-    64, 64, 64, 64, 64, 64, 64, 64, 64, 64, 64, 64, 64, 64, 64, 64,
-    64, 64, 64, 64, 64, 64, 64, 64, 64, 64, 64, 64, 64, 64, 64, 64,
-    64, 64, 64, 64, 64, 64, 64, 64, 64, 64, 64, 64, 64, 64, 64, 64,
-    64, 64, 64, 64, 64, 64, 64, 64, 64, 64, 64, 64, 64, 64, 64, 64,
-    64, 64, 64, 64, 64, 64, 64, 64, 64, 64, 64, 64, 64, 64, 64, 64,
-    64, 64, 64, 64, 64, 64, 64, 64, 64, 64, 64, 64, 64, 64, 64, 64,
-    64, 64, 64, 64, 64, 64, 64, 64, 64, 64, 64, 64, 64, 64, 64, 64,
-    64, 64, 64, 64, 64, 64, 64, 64, 64, 64, 64, 64, 64, 64, 64, 64,
-    64, 64, 64, 64, 64, 64, 64, 64, 64, 64, 64, 64, 64, 64, 64, 64,
+const LONE_NUMBERS: [u8; 256] = [
+    0, 0, 0, 0, 0, 0, 0, 0, 0, 0, 0, 0, 0, 0, 0, 0,
+    0, 0, 0, 0, 0, 0, 0, 0, 0, 0, 0, 0, 0, 0, 0, 0,
+    0, 0, 0, 0, 0, 0, 0, 0, 0, 0, 0, 0, 0, 0, 0, 0,
+    0, 0, 0, 0, 0, 0, 0, 0, 0, 0, 0, 0, 0, 0, 0, 0,
+    0, 16, 0, 17, 15, 18, 14, 19, 13, 20, 12, 21, 11, 22, 10, 23,
+    9, 24, 8, 25, 7, 26, 6, 27, 5, 28, 4, 0, 0, 0, 0, 0,
+    0, 29, 3, 30, 2, 31, 1, 0, 0, 0, 0, 0, 0, 0, 0, 0,
+    0, 0, 0, 0, 0, 0, 0, 0, 0, 0, 0, 0, 0, 0, 0, 0,
+    0, 0, 0, 0, 0, 0, 0, 0, 0, 0, 0, 0, 0, 0, 0, 0,
+    0, 0, 0, 0, 0, 0, 0, 0, 0, 0, 0, 0, 0, 0, 0, 0,
+    0, 0, 0, 0, 0, 0, 0, 0, 0, 0, 0, 0, 0, 0, 0, 0,
+    0, 0, 0, 0, 0, 0, 0, 0, 0, 0, 0, 0, 0, 0, 0, 0,
+    0, 0, 0, 0, 0, 0, 0, 0, 0, 0, 0, 0, 0, 0, 0, 0,
+    0, 0, 0, 0, 0, 0, 0, 0, 0, 0, 0, 0, 0, 0, 0, 0,
+    0, 0, 0, 0, 0, 0, 0, 0, 0, 0, 0, 0, 0, 0, 0, 0,
+    0, 0, 0, 0, 0, 0, 0, 0, 0, 0, 0, 0, 0, 0, 0, 0,
 ];
 
-/// The digit that a byte is which is a number by itself.
+/// The number that a byte is by itself.
 #[inline(always)]
-pub fn lone_digit(byte: u8) -> Option<u8>
-    ensures lone { IfSome result (λ d. (digit_of byte ≡ Some d) × (d < 32) × (d ≢ 1)) }
-    ensures other { IfNone result ((d : ℕ) → digit_of byte ≡ Some d → d < 32 → d ≡ 1) }
+pub fn lone_number(byte: u8) -> Option<i32>
+    ensures { IfSome result (λ n.
+        (d : ℕ) × (digit_of byte ≡ Some d) × (d < 32) × (d ≢ 1) × (n ≡ signed d)) }
 {
-    let digit = LONE_DIGITS[byte as usize];
-    if digit < 32 { Some(digit) } else { None }
+    let number = LONE_NUMBERS[byte as usize];
+    if number == 0 {
+        return None;
+    }
+    Some(number as i32 - 16)
 }
 
 /// The byte of each digit.

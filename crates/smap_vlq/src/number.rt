@@ -2,7 +2,7 @@
 ghost use Rattle.std.specs.Prelude.{◌≡◌, ◌+◌, ◌*◌, ◌%◌, ◌^◌, ◌<◌, ◌≤◌, min, length, Ok, IfSome};
 ghost use Rattle.smap_vlq.specs.Number.{signed, number_of, number_at};
 
-use crate::digit::{digit_value, lone_digit};
+use crate::digit::{digit_value, lone_number};
 
 /// The greatest number that a text can spell, and so the greatest line, column or index of a map:
 /// 2^31 - 1. A bound of our own.
@@ -47,8 +47,8 @@ fn read_short(text: &[u8], at: usize) -> Option<(i32, usize)>
     if at >= text.len() {
         return None;
     }
-    if let Some(digit) = lone_digit(text[at]) {
-        return Some((of_unsigned(digit as u32), at + 1));
+    if let Some(number) = lone_number(text[at]) {
+        return Some((number, at + 1));
     }
     read_two(text, at)
 }

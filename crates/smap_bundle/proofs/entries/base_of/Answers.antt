@@ -1,8 +1,8 @@
-use Rattle.std.proofs.Common.{◌≡◌, ◌∙◌, ◌≤◌, length, sym, arith, codes}
+use Rattle.std.proofs.Common.{◌≡◌, ◌∙◌, ◌≤◌, length, sym, arith}
 use Rattle.std.proofs.lemmas.List.{length-map}
-use Rattle.smap_run.specs.declared.input.TheConstants.{LIMIT}
-use Rattle.smap_bundle.specs.Bundle.{EntryFault}
-use Rattle.smap_bundle.specs.Entries.{refused_words}
+use Rattle.smap_io.specs.declared.reading.TheConstants.{LIMIT}
+use Rattle.smap_bundle.specs.declared.fault.EntryFault.TheVariants as wrong
+use Rattle.smap_bundle.specs.Bundle.{FaultOfEntry, refusal}
 use Rattle.smap_bundle.specs.Scripts.{script_of, scripts_of}
 use Rattle.smap_bundle.proofs.EntryLemmas.{no_base, repeated}
 use Rattle.smap_bundle.proofs.ScriptLemmas.{is_known, is_unknown}
@@ -17,8 +17,8 @@ returns-then-contains_key-clause-stops c = λ n more e.
     let fits : n ≤ LIMIT = omega (arith, e) in
     let at : c.len.result ≡ length seen = c.len.ensures.len ∙ sym (length-map c.args.scripts.now.entries script_of) in
     let known = is_known script c.args.scripts.now.entries (sym c.contains_key.ensures ∙ c.if-contains_key.true) in
-    says_as (refused_words c.len.result (codes "script repeated")) (EntryFault seen script base n more)
-    (λ answer is. repeated seen script base n c.len.result more answer at fits known is) c.refused_map.result c.refused_map.ensures
+    says_as (λ answer. answer ≡ refusal c.len.result wrong.Repeated) (FaultOfEntry seen script base n more)
+    (λ answer is. repeated seen script base n c.len.result more answer at fits known is) c.refused.result c.refused.ensures
 
 pub returns-in-Ok-clause-new : goal.returns-in-Ok-clause-new
 returns-in-Ok-clause-new c = is_unknown c.args.header.now.script.now c.args.scripts.now.entries (sym c.contains_key.ensures ∙ c.if-contains_key.false)
@@ -32,5 +32,5 @@ returns-in-Err-NotUrl-clause-stops c = λ n more e.
     let at : c.len-in-Err-NotUrl.result ≡ length seen = c.len-in-Err-NotUrl.ensures.len ∙ sym (length-map c.args.scripts.now.entries script_of) in
     let new = is_unknown script c.args.scripts.now.entries (sym c.contains_key.ensures ∙ c.if-contains_key.false) in
     let bad = rw c.in-Err-NotUrl.field-0-is at c.in-Err-NotUrl.ensures in
-    says_as (refused_words c.len-in-Err-NotUrl.result (codes "base is no URL")) (EntryFault seen script base n more)
-    (λ answer is. no_base seen script base n c.len-in-Err-NotUrl.result more answer at fits new bad is) c.refused_map-in-Err-NotUrl.result c.refused_map-in-Err-NotUrl.ensures
+    says_as (λ answer. answer ≡ refusal c.len-in-Err-NotUrl.result wrong.Base) (FaultOfEntry seen script base n more)
+    (λ answer is. no_base seen script base n c.len-in-Err-NotUrl.result more answer at fits new bad is) c.refused-in-Err-NotUrl.result c.refused-in-Err-NotUrl.ensures

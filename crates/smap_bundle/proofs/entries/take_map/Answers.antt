@@ -1,82 +1,74 @@
-use Rattle.std.proofs.Common.{◌≡◌, ◌∙◌, ◌+◌, ◌≤◌, ◌++◌, ◌∷◌, [], ℕ, Err, length, sym, refl, arith}
+use Rattle.std.proofs.Common.{◌≡◌, ◌∙◌, ◌++◌, ◌∷◌, [], Err, length, sym, refl, arith}
 use Rattle.std.proofs.lemmas.List.{length-map}
 use Rattle.std.proofs.lemmas.Result.{err_from_is_err_and, on_ok_weaker}
-use Rattle.std.proofs.KnownBytes.{Consumes-nil}
-use Rattle.smap_io.specs.Device.{device_inner}
+use Rattle.smap_io.proofs.ReadingLemmas.{Gave-none}
 use Rattle.smap_record.specs.Reading.{reading}
 use Rattle.smap_record.specs.declared.fault.Fault.{Fault}
-use Rattle.smap_run.specs.FaultLine.{fault_words}
-use Rattle.smap_bundle.specs.declared.stop.Stop.TheVariants as stop
-use Rattle.smap_run.specs.declared.outcome.RunFault.TheVariants as run
-use Rattle.smap_run.specs.Run.{usual}
-use Rattle.smap_bundle.specs.Bundle.{EntryFault}
-use Rattle.smap_bundle.specs.Entries.{cut_off, refused_words}
+use Rattle.smap_bundle.specs.declared.fault.EntryFault.TheVariants as wrong
+use Rattle.smap_bundle.specs.declared.fault.BundleFault.TheVariants as stop
+use Rattle.smap_bundle.specs.Bundle.{FaultOfEntry, refusal, usual}
+use Rattle.smap_bundle.specs.Entries.{cut_off}
 use Rattle.smap_bundle.specs.Scripts.{script_of, scripts_of}
+use Rattle.smap_bundle.specs.Stopping.{Stops}
 use Rattle.smap_bundle.proofs.EntryLemmas.{bad_map, cut_entry, is_len}
-use Rattle.smap_bundle.proofs.StopLemmas.{if_stops, memory_stops, says_as, says_stops, stops_behind}
+use Rattle.smap_bundle.proofs.StopLemmas.{if_stops, memory_stops, says_as, says_stops, stops_after}
 use Rattle.smap_bundle.proofs.entries.take_map.Goals as goal
 
 pub returns-in_err-base-clause-stops : goal.returns-in_err-base-clause-stops
 returns-in_err-base-clause-stops g c = λ n e.
     let p = err_from_is_err_and c.from_residual.result c.from_residual.ensures.1 in
-    let ro = g.R.Read.remaining (device_inner c.args.reader.now) in
-    rw (p.1, p.2) (says_stops ro ro [] _ _ _ _ (EntryFault (scripts_of c.args.scripts.now.entries) c.args.header.now.script.now c.args.header.now.base.now n)
-    c.in_err-base.field-0.0 (Consumes-nil ro) refl (λ more. c.in_err-base.ensures.stops n more e))
+    rw (p.1, p.2) (says_stops g.R.Read.remaining c.args.reader.now c.args.reader.now [] (Gave-none g.R.Read.remaining c.args.reader.now) refl c.args.calls.now
+    (FaultOfEntry (scripts_of c.args.scripts.now.entries) c.args.header.now.script.now c.args.header.now.base.now n)
+    c.in_err-base.field-0.0 (λ more. c.in_err-base.ensures.stops n more e))
 
 pub returns-in_err-bytes-clause-stops : goal.returns-in_err-bytes-clause-stops
 returns-in_err-bytes-clause-stops g c = λ n e.
     let p = err_from_is_err_and c.from_residual-in_err-bytes.result c.from_residual-in_err-bytes.ensures.1 in
-    let ro = g.R.Read.remaining (device_inner c.args.reader.now) in
-    let rn = g.R.Read.remaining (device_inner c.bytes_of.new.reader) in
     let seen = scripts_of c.args.scripts.now.entries in
     let script = c.args.header.now.script.now in
     let base = c.args.header.now.base.now in
     let len = is_len n c.args.header.now.length e c.in_ok-base.ensures.fits in
     let at : c.len-entry.result ≡ length seen = c.len-entry.ensures.len ∙ sym (length-map c.args.scripts.now.entries script_of) in
-    let counted : c.args.calls.now ≤ c.args.calls.now + length {A = ℕ} [] = omega arith in
-    rw (p.1, p.2) (stops_behind ro ro rn [] _ _ _ _ _ _ (cut_off c.len-entry.result n) (EntryFault seen script base n) c.in_err-bytes.field-0.0
-    (Consumes-nil ro) refl (λ is. counted)
+    rw (p.1, p.2) (stops_after g.R.Read.remaining c.args.reader.now c.args.reader.now [] (Gave-none g.R.Read.remaining c.args.reader.now) refl c.bytes_of.new.reader
+    c.args.calls.now c.args.calls.now (cut_off c.len-entry.result n) (FaultOfEntry seen script base n) c.in_err-bytes.field-0.0 (λ is. omega arith)
     (λ text answer cut. cut_entry seen script base n c.len-entry.result text answer c.in_ok-base.base at (omega (arith, len, c.in_ok-base.ensures.fits)) c.in_ok-base.ensures.new c.in_ok-base.ensures.base cut)
     (rw len c.in_err-bytes.ensures.stops))
 
 pub returns-in_err-map-clause-stops : goal.returns-in_err-map-clause-stops
 returns-in_err-map-clause-stops g c = λ n e.
     let p = err_from_is_err_and c.from_residual-in_err-map.result c.from_residual-in_err-map.ensures.1 in
-    let ro = g.R.Read.remaining (device_inner c.args.reader.now) in
-    let rn = g.R.Read.remaining (device_inner c.bytes_of.new.reader) in
     let seen = scripts_of c.args.scripts.now.entries in
     let script = c.args.header.now.script.now in
     let base = c.args.header.now.base.now in
     let bytes = c.in_ok-bytes.bytes.items in
     let len = is_len n c.args.header.now.length e c.in_ok-base.ensures.fits in
     let at : c.len-entry.result ≡ length seen = c.len-entry.ensures.len ∙ sym (length-map c.args.scripts.now.entries script_of) in
-    let says = rw c.as_slice.ensures.value at c.in_err-map.ensures.stops in
-    rw (p.1, p.2) (says_stops ro rn (bytes ++ 10 ∷ []) _ _ _ _ (EntryFault seen script base n) c.in_err-map.field-0.0
-    c.in_ok-bytes.ensures.got.consumed c.in_ok-bytes.ensures.failures
-    (λ more. says_as (λ answer. (fault : Fault) × (reading c.in_ok-base.base usual bytes ≡ Err fault) × refused_words c.len-entry.result (fault_words fault) answer)
-    (EntryFault seen script base n ((bytes ++ 10 ∷ []) ++ more))
+    rw (p.1, p.2) (says_stops g.R.Read.remaining c.args.reader.now c.bytes_of.new.reader (bytes ++ 10 ∷ []) c.in_ok-bytes.ensures.gave c.in_ok-bytes.ensures.failures
+    c.args.calls.now (FaultOfEntry seen script base n) c.in_err-map.field-0.0
+    (λ more. says_as (λ answer. (fault : Fault) × (reading c.in_ok-base.base usual bytes ≡ Err fault) × (answer ≡ refusal c.len-entry.result (wrong.Map fault)))
+    (FaultOfEntry seen script base n ((bytes ++ 10 ∷ []) ++ more))
     (λ answer bad. bad_map seen script base bytes more n c.len-entry.result bad.0 answer c.in_ok-base.base at (omega (arith, len, c.in_ok-base.ensures.fits))
     (c.in_ok-bytes.ensures.len ∙ sym len) c.in_ok-base.ensures.new c.in_ok-base.ensures.base bad.1 bad.2)
-    c.in_err-map.field-0.0 says))
+    c.in_err-map.field-0.0 c.in_err-map.ensures.stops))
 
 pub returns-clause-takes : goal.returns-clause-takes
 returns-clause-takes g c = on_ok_weaker c.add.result (λ added. record {
   bytes = c.in_ok-bytes.bytes.items;
   url = c.in_ok-base.base;
   map_text = c.in_ok-map.map;
-  got = c.in_ok-bytes.ensures.got;
+  gave = c.in_ok-bytes.ensures.gave;
+  calls = c.in_ok-bytes.ensures.calls;
   len_is = c.in_ok-bytes.ensures.len;
   fits = c.in_ok-base.ensures.fits;
   is_base = c.in_ok-base.ensures.base;
-  is_map = rw c.as_slice.ensures.value at c.in_ok-map.ensures.map;
+  is_map = c.in_ok-map.ensures.map;
   new_script = c.in_ok-base.ensures.new;
   added = added;
 }) c.add.ensures.added
 
 pub returns-clause-stops : goal.returns-clause-stops
 returns-clause-stops g c = λ n e.
-    let ro = g.R.Read.remaining (device_inner c.args.reader.now) in
-    let rn = g.R.Read.remaining (device_inner c.bytes_of.new.reader) in
-    if_stops c.add.result (λ s. s ≡ stop.Fault run.Memory) _ (λ s is. memory_stops ro rn (c.in_ok-bytes.bytes.items ++ 10 ∷ []) _ _ _ _
-    (EntryFault (scripts_of c.args.scripts.now.entries) c.args.header.now.script.now c.args.header.now.base.now n) s
-    c.in_ok-bytes.ensures.got.consumed c.in_ok-bytes.ensures.failures is) c.add.ensures.memory
+    let fault = FaultOfEntry (scripts_of c.args.scripts.now.entries) c.args.header.now.script.now c.args.header.now.base.now n in
+    if_stops c.add.result (λ s. s ≡ stop.Memory) (Stops g.R.Read.remaining c.args.reader.now c.bytes_of.new.reader c.args.calls.now fault)
+    (λ s is. memory_stops g.R.Read.remaining c.args.reader.now c.bytes_of.new.reader (c.in_ok-bytes.bytes.items ++ 10 ∷ []) c.in_ok-bytes.ensures.gave c.in_ok-bytes.ensures.failures c.args.calls.now fault s is)
+    c.add.ensures.memory

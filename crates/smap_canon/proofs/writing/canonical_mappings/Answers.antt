@@ -3,4 +3,4 @@ use Rattle.smap_canon.proofs.LengthLemmas.{canonical-length}
 use Rattle.smap_canon.proofs.writing.canonical_mappings.Goals as goal
 
 pub returns-clause-short : goal.returns-clause-short
-returns-clause-short c = omega (arith, canonical-length c.args.map.now c.in_ok-numbered.ensures.listing, ap length c.in_ok-numbered.ensures.mappings)
+returns-clause-short c = omega (arith, canonical-length c.args.map.now c.in_ok-mappings.ensures.listing, ap length c.in_ok-mappings.ensures.text)

@@ -1,4 +1,4 @@
-use Rattle.std.proofs.Common.{◌-◌, length, arith, sym, ◌∙◌, None}
+use Rattle.std.proofs.Common.{rules, ◌-◌, length, arith, None}
 use Rattle.std.proofs.lemmas.Bool.Decides.{nat_tests}
 use Rattle.smap_mappings.specs.declared.token.Token.{Token}
 use Rattle.smap_mappings.proofs.OrderLemmas.{in_order-more, in_order-first}
@@ -12,4 +12,4 @@ returns-then-is_empty c = λ e h. in_order-first c.args.list.now c.args.token.no
 
 pub returns : goal.returns
 returns c = λ e h.
-    in_order-more c.args.list.now c.args.token.now (length c.args.list.now - 1) no_token (grind (arith, nat_tests)) (sym c.position_cmp.ensures ∙ sym c.is_lt.ensures ∙ e) h
+    in_order-more c.args.list.now c.args.token.now (length c.args.list.now - 1) no_token (grind (arith, nat_tests)) (search rules) h

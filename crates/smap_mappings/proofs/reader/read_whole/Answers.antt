@@ -1,8 +1,8 @@
-use Rattle.std.proofs.Common.{◌≡◌, arith, get_or, inl, inr, ◌++◌}
+use Rattle.std.proofs.Common.{◌≡◌, arith, get_or, inl, inr, rules, ◌++◌}
 use Rattle.std.specs.Prelude.{vec_capacity}
 use Rattle.std.specs.Prelude.{slice_range}
 use Rattle.std.proofs.lemmas.Result.{err_from_is_err_and}
-use Rattle.smap_mappings.proofs.PiecesLemmas.{whole_fields, whole_comma, whole_semicolon, whole_fails, fails_less}
+use Rattle.smap_mappings.proofs.PiecesLemmas.{whole_fields, whole_comma, whole_semicolon, whole_fails, fails_less, empty_line}
 use Rattle.smap_mappings.proofs.reader.read_whole.Goals as goal
 use Rattle.smap_mappings.proofs.reader.read_whole.Goals.{then-piece-end-eq44, else-piece-end-eq44}
 
@@ -30,7 +30,17 @@ loop-place-preserved c =
                 (whole_comma c.args.bounds text t (vec_capacity c.loop-place.tokens.list) c.loop-place.tokens.list.items c.add.new.tokens.list.items c.loop-place.cursor c.loop-place.place c.in-Some.end c.in-Some.fields k q c.in_ok-running.running w.if-piece-end-eq44.true read)
             | else-piece-end-eq44 w ↦
                 let is : get_or t c.in-Some.end 0 ≡ 59 = elim k.ended [ inl e ↦ absurd (w.if-piece-end-eq44.false e) | inr e ↦ e ] in
-                rw (w.cursor-is, w.behind_semicolon-cursor.ensures)
+                rw (w.cursor-is, w.behind_semicolon-cursor-else-piece-end-eq44.ensures)
                 (whole_semicolon c.args.bounds text t (vec_capacity c.loop-place.tokens.list) c.loop-place.tokens.list.items c.add.new.tokens.list.items c.loop-place.cursor c.loop-place.place c.in-Some.end c.in-Some.fields k q c.in_ok-running.running is read)
           ],
     )
+
+pub loop-place-preserved-then-cursor-eq0 : goal.loop-place-preserved-then-cursor-eq0
+loop-place-preserved-then-cursor-eq0 c = (
+  omega arith,
+  omega arith,
+  c.loop-place.invariant.2,
+  λ text h.
+      rw c.behind_semicolon-cursor.ensures
+      (empty_line c.args.bounds text c.args.piece.now c.loop-place.tokens.list.items c.loop-place.cursor c.loop-place.place (omega arith) c.if-piece-place-eq59.true (search rules) (c.loop-place.invariant.3 text h)),
+)

@@ -5,7 +5,7 @@ use Rattle.std.proofs.lemmas.List.{length-map}
 use Rattle.std.proofs.lemmas.Option.{slice_get-map}
 use Rattle.serde_json.specs.Data.{Data}
 use Rattle.serde_json.specs.View.{view}
-use Rattle.smap_mappings.specs.Position.{Position}
+use Rattle.smap_mappings.specs.declared.position.Position.{Position}
 use Rattle.smap_shape.specs.declared.fault.ShapeFault.{ShapeFault}
 use Rattle.smap_shape.specs.declared.kinds.Shape.{Shape}
 use Rattle.smap_shape.specs.Members.{MapMembers, flat, index}
@@ -15,7 +15,7 @@ use Rattle.smap_record.specs.Record.{Listing}
 use Rattle.smap_record.specs.Answers.{Fails}
 use Rattle.smap_record.specs.Faults.{Checked, ◌>>=◌}
 use Rattle.smap_record.specs.Sections.{overlaps, section_map, listed_section, listed_sections}
-use Rattle.smap_record.specs.Gathering.{gathered, position_at, last_position, any_after, error_in, both}
+use Rattle.smap_record.specs.Gathering.{gathered, any_after, error_in, both}
 use Rattle.smap_record.proofs.EntryLemmas.{passes_on}
 use Rattle.smap_record.proofs.SectionLemmas.{section_steps, sections_more, sections_fault, sections_all}
 use Rattle.smap_record.proofs.DepthLemmas.{section_depth, map_depth, has_room, map_of_flat, map_of_index, map_of_deepest}
@@ -34,41 +34,41 @@ pub with_section-returns-then-level-eq-MAX_LEVEL-clause-reads : goal.with_sectio
 with_section-returns-then-level-eq-MAX_LEVEL-clause-reads t c =
     let s = section_told c.in-Ok.section in
     let own : Position = record { line = c.line.result; column = c.column.result } in
-    let offset = position_at c.in-Some.offset in
+    let offset = c.in-Some.offset in
     let inner = section_map c.args.base.now c.args.limits (8 - c.args.level) in
     let none : overlaps (gathered c.args.before) offset ≡ false = ap (any_after offset) (sym c.as_slice.ensures.value) ∙ sym c.overlaps.ensures ∙ c.if-overlaps.false in
     let i = index_told c.in-Ok-Index.members in
     let members : shape_of s.map ≡ Ok (index i) = sym (ap (λ t. shape_of (view t)) c.map.ensures) ∙ sym c.in-Ok-Index.ensures ∙ ap (λ (x : Shape). has (told x)) c.in-Ok-Index.field-0-is in
     rw c.refused-then-level-eq-MAX_LEVEL.ensures
-    (section_steps c.args.level inner (position_at c.args.outer) (last_position c.args.last) (gathered c.args.before) (view c.args.tree.now) s offset (index i) own
-    (sym c.in-Ok.ensures.says) (λ j. record { line = sym c.line.ensures j; column = sym c.column.ensures j }) (sym c.in-Some.ensures.place) (sym c.falls.ensures ∙ c.if-falls.false) none members
+    (section_steps c.args.level inner c.args.outer c.args.last (gathered c.args.before) (view c.args.tree.now) s offset (index i) own
+    (sym c.in-Ok.ensures.says) (λ j. record { line = sym c.line.ensures j; column = sym c.column.ensures j }) (sym c.in-Some.ensures.placed) (sym c.falls.ensures ∙ c.if-falls.false) none members
     ∙ ap (with_own own) (map_of_deepest c.args.base.now c.args.limits c.args.level offset (gathered c.args.before) i c.if-level-eq-MAX_LEVEL.true))
 
 pub with_section-returns-in-Ok-with_flat-clause-reads : goal.with_section-returns-in-Ok-with_flat-clause-reads
 with_section-returns-in-Ok-with_flat-clause-reads t c =
     let s = section_told c.in-Ok.section in
     let own : Position = record { line = c.line.result; column = c.column.result } in
-    let offset = position_at c.in-Some.offset in
+    let offset = c.in-Some.offset in
     let inner = section_map c.args.base.now c.args.limits (8 - c.args.level) in
     let none : overlaps (gathered c.args.before) offset ≡ false = ap (any_after offset) (sym c.as_slice.ensures.value) ∙ sym c.overlaps.ensures ∙ c.if-overlaps.false in
     let m = c.in-Ok-Flat.members in
     let members : shape_of s.map ≡ Ok (flat m) = sym (ap (λ t. shape_of (view t)) c.map.ensures) ∙ sym c.in-Ok-Flat.ensures ∙ ap (λ (x : Shape). has (told x)) c.in-Ok-Flat.field-0-is in
-    section_steps c.args.level inner (position_at c.args.outer) (last_position c.args.last) (gathered c.args.before) (view c.args.tree.now) s offset (flat m) own
-    (sym c.in-Ok.ensures.says) (λ j. record { line = sym c.line.ensures j; column = sym c.column.ensures j }) (sym c.in-Some.ensures.place) (sym c.falls.ensures ∙ c.if-falls.false) none members
+    section_steps c.args.level inner c.args.outer c.args.last (gathered c.args.before) (view c.args.tree.now) s offset (flat m) own
+    (sym c.in-Ok.ensures.says) (λ j. record { line = sym c.line.ensures j; column = sym c.column.ensures j }) (sym c.in-Some.ensures.placed) (sym c.falls.ensures ∙ c.if-falls.false) none members
     ∙ ap (with_own own) (map_of_flat c.args.base.now c.args.limits (8 - c.args.level) offset (gathered c.args.before) m ∙ c.in-Ok-with_flat.ensures.reads)
 
 pub with_section-returns-in-Err-with_flat-clause-reads : goal.with_section-returns-in-Err-with_flat-clause-reads
 with_section-returns-in-Err-with_flat-clause-reads t c =
     let s = section_told c.in-Ok.section in
     let own : Position = record { line = c.line.result; column = c.column.result } in
-    let offset = position_at c.in-Some.offset in
+    let offset = c.in-Some.offset in
     let inner = section_map c.args.base.now c.args.limits (8 - c.args.level) in
     let none : overlaps (gathered c.args.before) offset ≡ false = ap (any_after offset) (sym c.as_slice.ensures.value) ∙ sym c.overlaps.ensures ∙ c.if-overlaps.false in
     let m = c.in-Ok-Flat.members in
     let members : shape_of s.map ≡ Ok (flat m) = sym (ap (λ t. shape_of (view t)) c.map.ensures) ∙ sym c.in-Ok-Flat.ensures ∙ ap (λ (x : Shape). has (told x)) c.in-Ok-Flat.field-0-is in
     passes_on c.in-Err-with_flat.error _ _ c.in-Err-with_flat.ensures.reads (λ fault err.
-    section_steps c.args.level inner (position_at c.args.outer) (last_position c.args.last) (gathered c.args.before) (view c.args.tree.now) s offset (flat m) own
-    (sym c.in-Ok.ensures.says) (λ j. record { line = sym c.line.ensures j; column = sym c.column.ensures j }) (sym c.in-Some.ensures.place) (sym c.falls.ensures ∙ c.if-falls.false) none members
+    section_steps c.args.level inner c.args.outer c.args.last (gathered c.args.before) (view c.args.tree.now) s offset (flat m) own
+    (sym c.in-Ok.ensures.says) (λ j. record { line = sym c.line.ensures j; column = sym c.column.ensures j }) (sym c.in-Some.ensures.placed) (sym c.falls.ensures ∙ c.if-falls.false) none members
     ∙ ap (with_own own) (map_of_flat c.args.base.now c.args.limits (8 - c.args.level) offset (gathered c.args.before) m ∙ err))
 
 pub with_section-returns-in-Ok-with_sections-clause-reads : goal.with_section-returns-in-Ok-with_sections-clause-reads
@@ -78,13 +78,13 @@ with_section-returns-in-Ok-with_sections-clause-reads t c =
     let less : c.args.level < 8 = omega (arith, most, other) in
     let s = section_told c.in-Ok.section in
     let own : Position = record { line = c.line.result; column = c.column.result } in
-    let offset = position_at c.in-Some.offset in
+    let offset = c.in-Some.offset in
     let inner = section_map c.args.base.now c.args.limits (8 - c.args.level) in
     let none : overlaps (gathered c.args.before) offset ≡ false = ap (any_after offset) (sym c.as_slice.ensures.value) ∙ sym c.overlaps.ensures ∙ c.if-overlaps.false in
     let i = index_told c.in-Ok-Index.members in
     let members : shape_of s.map ≡ Ok (index i) = sym (ap (λ t. shape_of (view t)) c.map.ensures) ∙ sym c.in-Ok-Index.ensures ∙ ap (λ (x : Shape). has (told x)) c.in-Ok-Index.field-0-is in
-    section_steps c.args.level inner (position_at c.args.outer) (last_position c.args.last) (gathered c.args.before) (view c.args.tree.now) s offset (index i) own
-    (sym c.in-Ok.ensures.says) (λ j. record { line = sym c.line.ensures j; column = sym c.column.ensures j }) (sym c.in-Some.ensures.place) (sym c.falls.ensures ∙ c.if-falls.false) none members
+    section_steps c.args.level inner c.args.outer c.args.last (gathered c.args.before) (view c.args.tree.now) s offset (index i) own
+    (sym c.in-Ok.ensures.says) (λ j. record { line = sym c.line.ensures j; column = sym c.column.ensures j }) (sym c.in-Some.ensures.placed) (sym c.falls.ensures ∙ c.if-falls.false) none members
     ∙ ap (with_own own) (map_of_index c.args.base.now c.args.limits c.args.level offset (gathered c.args.before) i less ∙ c.in-Ok-with_sections.ensures.reads)
 
 pub with_section-returns-in-Err-with_sections-clause-reads : goal.with_section-returns-in-Err-with_sections-clause-reads
@@ -94,14 +94,14 @@ with_section-returns-in-Err-with_sections-clause-reads t c =
     let less : c.args.level < 8 = omega (arith, most, other) in
     let s = section_told c.in-Ok.section in
     let own : Position = record { line = c.line.result; column = c.column.result } in
-    let offset = position_at c.in-Some.offset in
+    let offset = c.in-Some.offset in
     let inner = section_map c.args.base.now c.args.limits (8 - c.args.level) in
     let none : overlaps (gathered c.args.before) offset ≡ false = ap (any_after offset) (sym c.as_slice.ensures.value) ∙ sym c.overlaps.ensures ∙ c.if-overlaps.false in
     let i = index_told c.in-Ok-Index.members in
     let members : shape_of s.map ≡ Ok (index i) = sym (ap (λ t. shape_of (view t)) c.map.ensures) ∙ sym c.in-Ok-Index.ensures ∙ ap (λ (x : Shape). has (told x)) c.in-Ok-Index.field-0-is in
     passes_on c.in-Err-with_sections.error _ _ c.in-Err-with_sections.ensures.reads (λ fault err.
-    section_steps c.args.level inner (position_at c.args.outer) (last_position c.args.last) (gathered c.args.before) (view c.args.tree.now) s offset (index i) own
-    (sym c.in-Ok.ensures.says) (λ j. record { line = sym c.line.ensures j; column = sym c.column.ensures j }) (sym c.in-Some.ensures.place) (sym c.falls.ensures ∙ c.if-falls.false) none members
+    section_steps c.args.level inner c.args.outer c.args.last (gathered c.args.before) (view c.args.tree.now) s offset (index i) own
+    (sym c.in-Ok.ensures.says) (λ j. record { line = sym c.line.ensures j; column = sym c.column.ensures j }) (sym c.in-Some.ensures.placed) (sym c.falls.ensures ∙ c.if-falls.false) none members
     ∙ ap (with_own own) (map_of_index c.args.base.now c.args.limits c.args.level offset (gathered c.args.before) i less ∙ err))
 
 -- ---- all sections
@@ -111,8 +111,8 @@ with_sections-in_section-requires t c =
     let n = 8 - c.args.level in
     let inner = section_map c.args.base.now c.args.limits n in
     let first = c.requires.first in
-    has_room n c.in-Err.error (listed_section c.args.level inner (position_at c.args.outer) (last_position c.loop-k.last) (gathered c.loop-k.listed) (view c.section_value-tree.result.now)) (omega (arith, first))
-    (section_depth c.args.level inner n (map_depth c.args.base.now c.args.limits n) (position_at c.args.outer) (last_position c.loop-k.last) (gathered c.loop-k.listed) (view c.section_value-tree.result.now))
+    has_room n c.in-Err.error (listed_section c.args.level inner c.args.outer c.loop-k.last (gathered c.loop-k.listed) (view c.section_value-tree.result.now)) (omega (arith, first))
+    (section_depth c.args.level inner n (map_depth c.args.base.now c.args.limits n) c.args.outer c.loop-k.last (gathered c.loop-k.listed) (view c.section_value-tree.result.now))
     c.in-Err.ensures.reads
 
 pub with_sections-returns-in-Err-clause-reads : goal.with_sections-returns-in-Err-clause-reads
@@ -121,7 +121,7 @@ with_sections-returns-in-Err-clause-reads t c =
     let at : slice_get all c.loop-k.k ≡ Some (view c.section_value-tree.result.now) = slice_get-map view c.args.shape.now.sections c.loop-k.k ∙ ap (option_map view) c.section_value-tree.ensures in
     rw c.in_section.ensures
     (subst (λ (r : Checked Listing). Fails (error_in c.loop-k.k c.in-Err.error) r) (sym c.loop-k.invariant.reads)
-    (sections_fault c.args.level (section_map c.args.base.now c.args.limits (8 - c.args.level)) (position_at c.args.outer) c.loop-k.k (last_position c.loop-k.last) (gathered c.loop-k.listed) all (view c.section_value-tree.result.now) at c.in-Err.error c.in-Err.ensures.reads))
+    (sections_fault c.args.level (section_map c.args.base.now c.args.limits (8 - c.args.level)) c.args.outer c.loop-k.k c.loop-k.last (gathered c.loop-k.listed) all (view c.section_value-tree.result.now) at c.in-Err.error c.in-Err.ensures.reads))
 
 pub with_sections-loop-k-preserved : goal.with_sections-loop-k-preserved
 with_sections-loop-k-preserved t c =
@@ -129,7 +129,7 @@ with_sections-loop-k-preserved t c =
     let at : slice_get all c.loop-k.k ≡ Some (view c.section_value-tree.result.now) = slice_get-map view c.args.shape.now.sections c.loop-k.k ∙ ap (option_map view) c.section_value-tree.ensures in
     record {
       reads = c.loop-k.invariant.reads
-          ∙ sections_more c.args.level (section_map c.args.base.now c.args.limits (8 - c.args.level)) (position_at c.args.outer) c.loop-k.k (last_position c.loop-k.last) (gathered c.loop-k.listed) all (view c.section_value-tree.result.now) at (both (c.in-Ok.own, c.in-Ok.now)) c.in-Ok.ensures.reads;
+          ∙ sections_more c.args.level (section_map c.args.base.now c.args.limits (8 - c.args.level)) c.args.outer c.loop-k.k c.loop-k.last (gathered c.loop-k.listed) all (view c.section_value-tree.result.now) at (both (c.in-Ok.own, c.in-Ok.now)) c.in-Ok.ensures.reads;
       fits = c.in-Ok.ensures.fits;
     }
 
@@ -138,5 +138,5 @@ with_sections-returns-clause-reads t c =
     let all = map view c.args.shape.now.sections in
     let end : length all ≤ c.loop-k.k = omega (arith, length-map c.args.shape.now.sections view) in
     c.loop-k.invariant.reads
-    ∙ ap (listed_sections c.args.level (section_map c.args.base.now c.args.limits (8 - c.args.level)) (position_at c.args.outer) c.loop-k.k (last_position c.loop-k.last) (gathered c.loop-k.listed)) (drop_of_length-le all end)
-    ∙ sections_all c.args.level (section_map c.args.base.now c.args.limits (8 - c.args.level)) (position_at c.args.outer) c.loop-k.k (last_position c.loop-k.last) (gathered c.loop-k.listed)
+    ∙ ap (listed_sections c.args.level (section_map c.args.base.now c.args.limits (8 - c.args.level)) c.args.outer c.loop-k.k c.loop-k.last (gathered c.loop-k.listed)) (drop_of_length-le all end)
+    ∙ sections_all c.args.level (section_map c.args.base.now c.args.limits (8 - c.args.level)) c.args.outer c.loop-k.k c.loop-k.last (gathered c.loop-k.listed)

@@ -1,7 +1,6 @@
-use Rattle.std.proofs.Common.{rules, ap, ◌∙◌, ◌++◌, ◌∷◌, []}
+use Rattle.std.proofs.Common.{rules}
 use Rattle.smap_record.specs.Record.{record_of}
 use Rattle.smap_trace.proofs.LookupLemmas.{falls_to_is}
-use Rattle.smap_tool.specs.Lookup.{mapping_words}
 use Rattle.smap_tool.proofs.lookup.lookup_text.Goals as goal
 
 pub returns : goal.returns

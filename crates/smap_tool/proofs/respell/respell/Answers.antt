@@ -1,7 +1,7 @@
 use Rattle.std.proofs.Common.{◌∙◌, ◌∷◌, ◌++◌, [], ap}
 use Rattle.smap_mappings.specs.Text.{mappings_text}
 use Rattle.smap_record.specs.declared.fault.Fault.{Fault}
-use Rattle.smap_run.specs.FaultLine.{fault_line}
+use Rattle.smap_tool.specs.FaultLine.{fault_line}
 use Rattle.smap_tool.proofs.RespellLemmas.{says_tokens, says_fault}
 use Rattle.smap_tool.proofs.respell.respell.Goals as goal
 
@@ -13,4 +13,4 @@ returns-in_ok-push-in-Ok c =
 pub returns-in_ok-refusal-in-Err-Fault : goal.returns-in_ok-refusal-in-Err-Fault
 returns-in_ok-refusal-in-Err-Fault c =
     says_fault c.args.input.items c.in-Err-Fault.place c.in-Err-Fault.kind (rw c.in-Err-Fault.field-0-is at c.in-Err-Fault.ensures.says) c.in_ok-refusal-in-Err-Fault.field-0.items
-    (c.in_ok-refusal-in-Err-Fault.ensures ∙ ap (λ (f : Fault). fault_line f ++ 10 ∷ []) c.segment_fault-fault.ensures)
+    (c.in_ok-refusal-in-Err-Fault.ensures ∙ ap (λ (f : Fault). fault_line f ++ 10 ∷ []) c.of_segment-fault.ensures)

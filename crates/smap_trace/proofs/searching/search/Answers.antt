@@ -1,5 +1,5 @@
-use Rattle.std.proofs.Common.{◌≡◌, ◌+◌, ◌*◌, ◌-◌, ◌/◌, ◌≤◌, length, arith, sym, Some, slice_get, ◌∙◌}
-use Rattle.smap_trace.specs.Positions.{position_in}
+use Rattle.std.proofs.Common.{◌≡◌, true, false, rules, ◌+◌, ◌*◌, ◌-◌, ◌/◌, ◌≤◌, length, arith, Some, slice_get, ◌∙◌}
+use Rattle.smap_trace.specs.Positions.{position_in, is_at_most}
 use Rattle.smap_trace.proofs.HalvingLemmas.{few, halved_once, one_step, counts_past, counts_up_to}
 use Rattle.smap_trace.proofs.searching.search.Goals as goal
 
@@ -9,15 +9,16 @@ at-requires-clause-room g c =
     let below = few k (length (g.P.Positions.positions c.args.p.now)) c.loop-size.invariant.steps (omega arith) in
     omega arith
 
-pub loop-size-preserved-then-is_at_most : goal.loop-size-preserved-then-is_at_most
-loop-size-preserved-then-is_at_most g c =
+pub loop-size-preserved-then-le : goal.loop-size-preserved-then-le
+loop-size-preserved-then-le g c =
     let size = c.loop-size.size in
     let half : 2 * (size - size / 2 - 1) ≤ size = omega arith in
     let here : slice_get (g.P.Positions.positions c.args.p.now) (c.loop-size.low + size / 2) ≡ Some (position_in c.at.result) = rw (← c.loop-size.invariant.list) c.at.ensures.value in
+    let low : is_at_most (position_in c.at.result) (position_in (c.args.line, c.args.column)) ≡ true = search rules in
     record {
       list = c.at.ensures.list ∙ c.loop-size.invariant.list;
       within = omega arith;
-      least = counts_past _ _ (position_in c.at.result) _ c.requires.sorted here (sym c.if-is_at_most.ensures);
+      least = counts_past _ _ (position_in c.at.result) _ c.requires.sorted here low;
       most = omega arith;
       halved = rw c.at.ensures.count (halved_once _ size _ _ (omega arith) c.loop-size.invariant.halved half);
       steps = rw c.at.ensures.count (one_step _ size _ (omega arith) c.loop-size.invariant.halved);
@@ -29,11 +30,12 @@ loop-size-preserved g c =
     let size = c.loop-size.size in
     let half : 2 * (size / 2) ≤ size = omega arith in
     let here : slice_get (g.P.Positions.positions c.args.p.now) (c.loop-size.low + size / 2) ≡ Some (position_in c.at.result) = rw (← c.loop-size.invariant.list) c.at.ensures.value in
+    let past : is_at_most (position_in c.at.result) (position_in (c.args.line, c.args.column)) ≡ false = search rules in
     record {
       list = c.at.ensures.list ∙ c.loop-size.invariant.list;
       within = omega arith;
       least = c.loop-size.invariant.least;
-      most = counts_up_to _ _ (position_in c.at.result) _ c.requires.sorted here (sym c.if-is_at_most.ensures);
+      most = counts_up_to _ _ (position_in c.at.result) _ c.requires.sorted here past;
       halved = rw c.at.ensures.count (halved_once _ size _ _ (omega arith) c.loop-size.invariant.halved half);
       steps = rw c.at.ensures.count (one_step _ size _ (omega arith) c.loop-size.invariant.halved);
       probed = λ _. omega arith;

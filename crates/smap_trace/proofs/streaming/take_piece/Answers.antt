@@ -1,25 +1,41 @@
-use Rattle.std.proofs.Common.{◌≡◌, ◌∙◌, ◌+◌, ◌++◌, [], ◌∷◌, ap, arith, rules, take, get_or}
-use Rattle.std.proofs.lemmas.List.{take_more}
-use Rattle.smap_trace.proofs.LineLemmas.{Step, byte_step, feed_step}
+use Rattle.std.proofs.Common.{◌≡◌, ◌∙◌, ℕ, ◌+◌, ◌<◌, List, ◌++◌, length, take, drop, get_or, sym, ap, arith, length-drop}
+use Rattle.std.proofs.lemmas.Bool.{eqb-true}
+use Rattle.std.proofs.lemmas.List.{take-append-drop}
+use Rattle.smap_trace.specs.Translation.{fate, line_translation}
+use Rattle.smap_trace.specs.Pieces.{count_line}
+use Rattle.smap_trace.specs.Views.{outcome_of}
+use Rattle.smap_trace.proofs.LineLemmas.{feed_step, rest_step, none_passed, none_there, line_end, line_taken, left_is}
 use Rattle.smap_trace.proofs.streaming.take_piece.Goals as goal
-use Rattle.smap_trace.proofs.streaming.take_piece.Goals.{then-byte-eq10+in_ok-outcome, else-byte-eq10}
 
-pub loop-byte-preserved : goal.loop-byte-preserved
-loop-byte-preserved g c =
+pub lines-preserved : goal.lines-preserved
+lines-preserved g c =
     let scripts = g.M.Maps.scripts c.args.maps.now in
     let hide = c.args.hide in
     let piece = c.args.piece.now in
-    let i = c.loop-byte.byte-index in
-    let more : take (i + 1) piece ≡ take i piece ++ get_or piece i 0 ∷ [] = take_more piece i 0 (omega arith) in
-    let before = c.loop-byte.invariant in
-    let step : Step scripts hide c.args.line.now.items (take (i + 1) piece) c.if-byte-eq10.line.items c.args.out.now.items c.if-byte-eq10.out.items c.args.counts.now c.if-byte-eq10.counts =
-    elim c.if-byte-eq10.branch [
-      | then-byte-eq10+in_ok-outcome w ↦
-          feed_step scripts hide _ (take i piece) _ c.loop-byte.line.items _ _ c.loop-byte.out.items _ w.deref.result.now _ c.loop-byte.counts _ _ more w.if-byte-eq10.true
-          (ap (λ v. v.items) w.line-is ∙ w.clear.ensures.items) (search rules) (ap (λ v. v.items) w.out-is ∙ w.in_ok-outcome.ensures.ok)
-          (search rules) before.free before.takes
-      | else-byte-eq10 w ↦
-          byte_step scripts hide _ (take i piece) _ c.loop-byte.line.items _ _ c.loop-byte.out.items _ _ c.loop-byte.counts _ _ more w.if-byte-eq10.false
-          (ap (λ v. v.items) w.line-is ∙ c.in_ok-push.ensures.items) (ap (λ v. v.items) w.out-is) w.counts-is before.free before.takes
-    ] in
-    record { free = step.free; takes = step.takes }
+    let at = c.lines.at in
+    let feed = c.in-Some.feed in
+    let found = rw (left_is piece at) at c.in-Some.ensures in
+    let lt : feed < length (drop at piece) = found.0.high in
+    let is : get_or (drop at piece) feed 0 ≡ 10 = eqb-true _ 10 found.1 in
+    let end = line_end piece at feed lt is in
+    let step = feed_step scripts hide c.args.line.now.items (take at piece) (take (at + feed + 1) piece) c.lines.line.items c.take_line.new.line.items c.args.out.now.items c.lines.out.items c.take_line.new.out.items
+    (take feed (drop at piece)) c.args.counts.now c.lines.counts c.in_ok-counts.field-0
+    (line_taken piece at feed lt is) c.in_ok-counts.ensures.rest (none_passed (drop at piece) feed (λ i below. found.0.before i (omega arith) below))
+    (c.in_ok-counts.ensures.out ∙ ap (λ (xs : List ℕ). c.lines.out.items ++ line_translation scripts hide (c.lines.line.items ++ xs)) end)
+    (c.in_ok-counts.ensures.counts ∙ ap (λ (xs : List ℕ). count_line c.lines.counts (outcome_of (fate scripts hide (c.lines.line.items ++ xs)))) end)
+    c.lines.invariant.free c.lines.invariant.takes in
+    record { within = omega (arith, lt, length-drop at piece); free = step.free; takes = step.takes }
+
+pub returns : goal.returns
+returns g c =
+    let scripts = g.M.Maps.scripts c.args.maps.now in
+    let piece = c.args.piece.now in
+    let at = c.lines.at in
+    let left = left_is piece at in
+    let none = rw left at c.in_default.ensures in
+    let step = rest_step scripts c.args.hide c.args.line.now.items (take at piece) piece c.lines.line.items c.extend_from_slice.new.self.items c.args.out.now.items c.lines.out.items
+    (drop at piece) c.args.counts.now c.lines.counts
+    (sym (take-append-drop at piece)) (c.in_ok-extend_from_slice.ensures.items ∙ ap (λ (xs : List ℕ). c.lines.line.items ++ xs) left)
+    (none_there (drop at piece) (λ i below. none i (omega arith) below))
+    c.lines.invariant.free c.lines.invariant.takes in
+    record { rest = step.free; takes = step.takes }

@@ -1,9 +1,13 @@
-use Rattle.std.proofs.Common.{take}
+use Rattle.std.proofs.Common.{take, ◌≤◌, ◌-◌, length}
 use Rattle.smap_trace.specs.Pieces.{HasNoFeed, Takes}
 use Rattle.smap_trace.proofs.streaming.take_piece.Given as goal
 
-abbrev pub invariant-loop-byte : goal.invariant-loop-byte
-invariant-loop-byte g l = record {
+abbrev pub invariant-lines : goal.invariant-lines
+invariant-lines g l = record {
+  within : l.at ≤ length l.piece;
   free : HasNoFeed l.line.items;
-  takes : Takes (g.M.Maps.scripts l.maps) l.hide l.fn.line.items (take l.byte-index l.piece) l.line.items l.fn.out.items l.out.items l.fn.counts l.counts;
+  takes : Takes (g.M.Maps.scripts l.maps) l.hide l.fn.line.items (take l.at l.piece) l.line.items l.fn.out.items l.out.items l.fn.counts l.counts;
 }
+
+abbrev pub decreases-lines : goal.decreases-lines
+decreases-lines g l = length l.piece - l.at

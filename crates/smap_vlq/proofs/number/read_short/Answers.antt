@@ -7,7 +7,7 @@ use Rattle.smap_vlq.proofs.number.read_short.Goals as goal
 
 pub returns-in-Some : goal.returns-in-Some
 returns-in-Some c =
-    let f : SFits w32 c.of_unsigned.result = search rules in
-    let is = c.in-Some.ensures.lone in
-    rw (to_z-of_z w32 c.of_unsigned.result f, c.of_unsigned.ensures)
-    (sym (one_digit c.args.text.now c.args.at c.in-Some.digit (omega arith) is.0 is.1 is.2))
+    let f : SFits w32 c.in-Some.number = search rules in
+    let is = c.in-Some.ensures in
+    rw (to_z-of_z w32 c.in-Some.number f, is.4)
+    (sym (one_digit c.args.text.now c.args.at is.0 (omega arith) is.1 is.2 is.3))

@@ -1,0 +1,34 @@
+//! Writing a text, by as many calls as it takes.
+ghost use Rattle.std.specs.Prelude.{◌≡◌, ◌-◌, ◌^◌, ◌<◌};
+ghost use Rattle.smap_io.specs.Device.{device_failures, failures_after};
+ghost use Rattle.smap_io.specs.Writing.{WritesText};
+
+use crate::device::{Device, Failed};
+use std::io::Write;
+
+/// Writes a text. Where a call fails, the calls before it have written a front of the text.
+pub fn write_all<W: Write>(writer: &mut Device<W>, text: &[u8]) -> Result<(), Failed>
+    requires { device_failures writer.old < 2 ^ 64 - 1 }
+    ensures bytes { WritesText W.contents writer.old writer.new text.now result }
+    ensures failures { device_failures writer.new ≡ failures_after (device_failures writer.old) result }
+{
+    let mut at = 0;
+    while at < text.len() {
+        let Ok(n) = writer.write(&text[at..]) else {
+            return Err(Failed);
+        };
+        at += n;
+    }
+    Ok(())
+}
+
+/// Writes a text and then flushes, once.
+#[tactic(auto, using(crate::proofs::WritingLemmas::flushed_text))]
+pub fn write_and_flush<W: Write>(writer: &mut Device<W>, text: &[u8]) -> Result<(), Failed>
+    requires { device_failures writer.old < 2 ^ 64 - 1 }
+    ensures bytes { WritesText W.contents writer.old writer.new text.now result }
+    ensures failures { device_failures writer.new ≡ failures_after (device_failures writer.old) result }
+{
+    write_all(writer, text)?;
+    writer.flush()
+}

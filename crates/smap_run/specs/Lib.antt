@@ -1,3 +1,0 @@
-pub mod FaultLine
-pub mod Run
-pub mod Status

@@ -1,0 +1,17 @@
+//! Mappings texts: segments counted, texts decoded at once and in pieces, and encoded.
+mod counting;
+mod decoding;
+mod encodable;
+mod encoding;
+mod pieces;
+
+use smap_mappings::Bounds;
+
+/// As wide as bounds may be.
+const WIDE: Bounds = Bounds {
+    start_line: 0,
+    start_column: 0,
+    sources: 2_147_483_647,
+    names: 2_147_483_647,
+    lines: 16_777_216,
+};

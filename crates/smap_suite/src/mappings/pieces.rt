@@ -1,0 +1,119 @@
+//! Texts in pieces, and whole.
+use super::WIDE;
+use smap_mappings::{
+    MappingsError, MappingsReader, NumberFault, SegmentKind, SegmentPlace, Token, decode,
+};
+use std::alloc::Global;
+use std::process::Abort;
+use std::test::Fail;
+
+/// Texts with and without faults, and one long enough for a line to be cut in many ways.
+#[rattlefmt::skip]
+const TEXTS: [&str; 36] = [
+    "", ";;", ";;;A", "A", "C", "D", "E;C", "A,,A", ",A", "A,", "A;gA;;", ";,;", ";;K;;K",
+    "+/////D", "//////D", "+/////H", "/////////!", "/////////", "B", "hA", "g", "A!", "AA", "AAAAAA",
+    "AAB", "AAB,A", "E,D", "EAAAA,DAACC", "AACA,AADA", "C,DACA,AADA", "AAAAC,CAACD",
+    "gAAAAC,CAACD;;", "AAAA,UCAAA;CCCC", "ADAA", "AAA+/////D,AAA//////D",
+    "AAAAA,SAASA,IAAIC,GAAGC,MAAM;AACzB,MAAM,gBAAgBC;;EACpB,OAAOD,CAAC;gBgBAgBhB,kB;AADA,A",
+];
+
+/// What a reader with such room answers for pieces.
+fn read(alloc: Global, room: usize, pieces: &[&[u8]]) -> Result<Vec<Token>, MappingsError> {
+    let mut reader = MappingsReader::new(alloc, WIDE, room)?;
+    for piece in pieces {
+        reader.feed(piece)?;
+    }
+    reader.finish()
+}
+
+/// A number below the bound, and the next state of the generator.
+fn drawn(state: u64, bound: u64) -> (u64, usize) {
+    let state = state
+        .wrapping_mul(6_364_136_223_846_793_005)
+        .wrapping_add(1_442_695_040_888_963_407);
+    let number = if bound == 0 { 0 } else { (state >> 33) % bound };
+    (state, number as usize)
+}
+
+/// What a reader answers for a text in pieces of 0 to 7 bytes.
+fn read_cut(alloc: Global, text: &[u8], seed: u64) -> Result<Vec<Token>, MappingsError> {
+    let mut reader = MappingsReader::new(alloc, WIDE, 0)?;
+    let mut state = seed;
+    let mut rest = text;
+    for _ in 0..text.len() {
+        let (next, len) = drawn(state, 8);
+        let (piece, left) = rest.split_at(len.min(rest.len()));
+        reader.feed(piece)?;
+        rest = left;
+        state = next;
+    }
+    reader.feed(rest)?;
+    reader.finish()
+}
+
+fn is_same(
+    rt: &impl Abort,
+    whole: &Result<Vec<Token>, MappingsError>,
+    pieces: Result<Vec<Token>, MappingsError>,
+    text: &str,
+) {
+    match (whole, pieces) {
+        (Ok(a), Ok(b)) => assert_eq!(rt; a.as_slice(), b.as_slice(), "{text}"),
+        (Err(a), Err(b)) => assert_eq!(rt; *a, b, "{text}"),
+        _ => assert!(rt; false, "{text}"),
+    }
+}
+
+#[test]
+fn every_two_pieces_give_what_the_whole_gives(rt: HostRuntime) {
+    for text in TEXTS {
+        let whole = decode(rt.alloc(), text.as_bytes(), WIDE);
+        assert!(rt; !matches!(whole, Err(MappingsError::Memory)), "{text}");
+        let bytes = text.as_bytes();
+        for cut in 0..=bytes.len() {
+            let pieces = read(rt.alloc(), 0, &[&bytes[..cut], &bytes[cut..]]);
+            is_same(&rt, &whole, pieces, text);
+        }
+    }
+}
+
+#[test]
+fn byte_by_byte_gives_what_the_whole_gives(rt: HostRuntime) -> Result<(), Fail> {
+    for text in TEXTS {
+        let whole = decode(rt.alloc(), text.as_bytes(), WIDE);
+        let mut pieces = Vec::new(rt.alloc());
+        for place in 0..text.len() {
+            pieces.push(&text.as_bytes()[place..place + 1])?;
+        }
+        is_same(&rt, &whole, read(rt.alloc(), 2, &pieces), text);
+    }
+    Ok(())
+}
+
+#[test]
+fn a_thousand_random_cuts_give_what_the_whole_gives(rt: HostRuntime) {
+    for text in TEXTS {
+        let whole = decode(rt.alloc(), text.as_bytes(), WIDE);
+        for seed in 0..1000u64 {
+            let pieces = read_cut(rt.alloc(), text.as_bytes(), seed);
+            is_same(&rt, &whole, pieces, text);
+        }
+    }
+}
+
+#[test]
+fn a_fault_is_answered_again(rt: HostRuntime) -> Result<(), Fail> {
+    let mut reader = MappingsReader::new(rt.alloc(), WIDE, 0)?;
+    assert_eq!(rt; reader.feed(b"AAAA,A"), Ok(()));
+    assert_eq!(rt; reader.feed(b"AB"), Ok(()));
+    let first = reader.feed(b",");
+    let place = SegmentPlace {
+        line: 0,
+        segment: 1,
+    };
+    let fault = MappingsError::Fault(place, SegmentKind::Number(3, NumberFault::NegativeZero));
+    assert_eq!(rt; first, Err(fault));
+    assert_eq!(rt; reader.feed(b"A"), Err(fault));
+    assert_eq!(rt; reader.finish().err(), Some(fault));
+    Ok(())
+}

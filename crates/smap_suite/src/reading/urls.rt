@@ -1,0 +1,189 @@
+//! Bases, and the URLs of sources. Expected URLs are those that Node's `new URL(text, base)` gives; the root is
+//! put before the source by hand. Expected spellings lead back to the URL by Node's `new URL(spelling, base)`.
+use super::{are_answered, base_of, is_answered, usual_base};
+use smap_record::{Base, BaseFault, Limits};
+use std::test::Fail;
+
+/// A source without a root, as JSON spells it, and its URL.
+const ALONE: &str = r#"a.js -> http://h/m/a.js
+/a.js -> http://h/a.js
+//g/a.js -> http://g/a.js
+../../a.js -> http://h/a.js
+ -> http://h/m/out.js.map
+?q -> http://h/m/out.js.map?q
+#f -> http://h/m/out.js.map#f
+webpack://app/./src/i.js -> webpack://app/src/i.js
+webpack:///a.js -> webpack:///a.js
+HTTP://X:80/a.js -> http://x/a.js
+x:y.js -> x:y.js
+a b.js -> http://h/m/a%20b.js
+ä.js -> http://h/m/%C3%A4.js
+a%2fb.js -> http://h/m/a%2fb.js
+a\\b.js -> http://h/m/a/b.js
+foo:/..//x: -> foo:/.//x:
+foo:/..//x -> foo:/.//x
+foo:/.//x -> foo:/.//x"#;
+
+#[test]
+fn a_source_without_a_root_is_resolved_against_the_base(rt: HostRuntime) -> Result<(), Fail> {
+    let base = usual_base(&rt);
+    for row in ALONE.lines() {
+        let (source, url) = row.split_once(" -> ").ok_or("a row has two parts")?;
+        let want = format!(in rt.alloc(); "read; source {url}; listed 0")?;
+        for root in ["", "\"sourceRoot\":null,", "\"sourceRoot\":\"\","] {
+            let text = format!(in rt.alloc();
+                "{{\"version\":3,{root}\"sources\":[\"{source}\"],\"mappings\":\"\"}}"
+            )?;
+            is_answered(
+                &rt,
+                row,
+                text.as_bytes(),
+                &base,
+                Limits::usual(),
+                want.as_str(),
+            )?;
+        }
+    }
+    Ok(())
+}
+
+/// A root, a source, and its URL. The root stands before an absolute source too.
+const ROOTED: &str = r#"src | a.js -> http://h/m/src/a.js
+src/ | a.js -> http://h/m/src/a.js
+/r | a.js -> http://h/r/a.js
+/ | a.js -> http://h/a.js
+.. | a.js -> http://h/a.js
+//g | a.js -> http://g/a.js
+http://c/d | a.js -> http://c/d/a.js
+src |  -> http://h/m/src/
+src | http://x/a.js -> http://h/m/src/http://x/a.js
+src | /a.js -> http://h/m/src//a.js
+src | turbopack://[project]/a.js -> http://h/m/src/turbopack://[project]/a.js"#;
+
+#[test]
+fn a_root_stands_before_its_source(rt: HostRuntime) -> Result<(), Fail> {
+    let base = usual_base(&rt);
+    for row in ROOTED.lines() {
+        let (root, rest) = row.split_once(" | ").ok_or("a row has three parts")?;
+        let (source, url) = rest.split_once(" -> ").ok_or("a row has three parts")?;
+        let want = format!(in rt.alloc(); "read; source {url}; listed 0")?;
+        let text = format!(in rt.alloc();
+            "{{\"version\":3,\"sourceRoot\":\"{root}\",\"sources\":[\"{source}\"],\"mappings\":\"\"}}"
+        )?;
+        is_answered(
+            &rt,
+            row,
+            text.as_bytes(),
+            &base,
+            Limits::usual(),
+            want.as_str(),
+        )?;
+    }
+    Ok(())
+}
+
+/// What a row shows, a map, and its answer against `mailto:x`.
+const OPAQUE: &str =
+    r##"a relative source | {"version":3,"sources":["a.js"],"mappings":""} | refused SourceUrl(0)
+a relative source | {"version":3,"sources":["/a.js"],"mappings":""} | refused SourceUrl(0)
+a relative source | {"version":3,"sources":["?q"],"mappings":""} | refused SourceUrl(0)
+a relative source | {"version":3,"sources":[""],"mappings":""} | refused SourceUrl(0)
+a fragment and absolute sources | {"version":3,"sources":["#f","mailto:y","http://x/a.js"],"mappings":""} | read; source mailto:x#f; source mailto:y; source http://x/a.js; listed 0 1 2"##;
+
+#[test]
+fn against_an_opaque_path_a_relative_source_is_no_url(rt: HostRuntime) -> Result<(), Fail> {
+    are_answered(&rt, OPAQUE, &base_of(&rt, "mailto:x"), Limits::usual())?;
+    Ok(())
+}
+
+/// Texts that are bases, some with an opaque path, and the URL of each.
+const BASES: &str = r#"http://h/m/out.js.map -> http://h/m/out.js.map
+http://h -> http://h/
+HTTP://H:80/m/../out.js.map -> http://h/out.js.map
+ http://h/m/out.js.map  -> http://h/m/out.js.map
+file:///m/o.map -> file:///m/o.map
+mailto:x -> mailto:x
+data:,x -> data:,x"#;
+
+#[test]
+fn a_base_tells_its_url(rt: HostRuntime) -> Result<(), Fail> {
+    for row in BASES.lines() {
+        let (text, url) = row.split_once(" -> ").ok_or("a row has two parts")?;
+        let base = base_of(&rt, text);
+        assert!(rt; base.text() == url, "{text}: {}", base.text());
+    }
+    Ok(())
+}
+
+#[test]
+fn a_text_without_a_url_of_its_own_is_no_base(rt: HostRuntime) {
+    for text in [
+        "nobase",
+        "",
+        "h/m",
+        "/m/out.js.map",
+        "//h/m",
+        "http://",
+        "http://[h]/",
+        "http://h:99999/",
+    ] {
+        match Base::new(rt.alloc(), text) {
+            Ok(_) => assert!(rt; false, "a base: {text}"),
+            Err(fault) => assert_eq!(rt; fault, BaseFault::NotUrl, "{text}"),
+        }
+    }
+}
+
+/// A base, a URL, and its relative spelling.
+const SPELLED: &str = r#"http://h/m/out.js.map | http://h/m/a.js -> a.js
+http://h/m/out.js.map | http://h/m/s/a.js -> s/a.js
+http://h/m/out.js.map | http://h/r/a.js -> ../r/a.js
+http://h/m/out.js.map | http://h/a.js -> ../a.js
+http://h/m/ | http://h/m/a.js -> a.js
+file:///d/out.js.map | file:///d/a.js -> a.js
+file:///d/out.js.map | file:///e/a.js -> ../e/a.js
+http://h/m/out.js.map | http://h/m/a.js?x=1 -> a.js?x=1
+http://h/m/out.js.map | http://h/m/out.js.map?x -> ?x
+http://h/m/out.js.map | http://h/m/out.js.map#f -> #f
+http://h/m/out.js.map | http://h/m/out.js.map -> 
+http://h/m/out.js.map | http://h/m/%C3%A9.js -> %C3%A9.js
+http://h/m/out.js.map | http://h/m/a%20b.js -> a%20b.js
+http://h/m/out.js.map | http://h//x.js -> ..//x.js"#;
+
+#[test]
+fn a_url_on_the_same_host_is_spelled_by_its_path(rt: HostRuntime) -> Result<(), Fail> {
+    for row in SPELLED.lines() {
+        let (base, rest) = row.split_once(" | ").ok_or("a row has three parts")?;
+        let (url, want) = rest.split_once(" -> ").ok_or("a row has three parts")?;
+        let spelling = base_of(&rt, base).relative(rt.alloc(), url)?;
+        let spelling = spelling.ok_or("a spelling")?;
+        assert!(rt; spelling.as_str() == want, "{row}: {spelling}");
+    }
+    Ok(())
+}
+
+/// A base, and a URL that has no relative spelling from it: of another origin; where the spelling leads
+/// elsewhere, since `x:y.js` has a scheme, `/` is the root and `x.js` lies beside the base; and texts that
+/// aren't their own URL.
+const NOT_SPELLED: &str = r#"http://h/m/out.js.map | http://x/m/a.js
+http://h/m/out.js.map | https://h/m/a.js
+http://h/m/out.js.map | http://h:8080/m/a.js
+http://h/m/out.js.map | http://u:p@h/m/a.js
+http://h/m/out.js.map | webpack://app/src/i.js
+mailto:x | mailto:y
+http://h/m/out.js.map | http://h/m/x:y.js
+http://h/m/out.js.map | http://h/m/
+http://h/out.js.map | http://h//x.js
+http://h/m/out.js.map | a.js
+http://h/m/out.js.map | http://h/m/./a.js
+http://h/m/out.js.map | HTTP://h/m/a.js"#;
+
+#[test]
+fn other_urls_have_no_relative_spelling(rt: HostRuntime) -> Result<(), Fail> {
+    for row in NOT_SPELLED.lines() {
+        let (base, url) = row.split_once(" | ").ok_or("a row has two parts")?;
+        let spelling = base_of(&rt, base).relative(rt.alloc(), url)?;
+        assert!(rt; spelling.is_none(), "{row}");
+    }
+    Ok(())
+}

@@ -1,0 +1,92 @@
+//! What is said of a fault.
+use smap_mappings::{NumberFault, SegmentPlace};
+use smap_record::{Fault, Kind, Path};
+use std::test::Fail;
+
+/// The words of each kind.
+const KINDS: [(Kind, &str); 33] = [
+    (Kind::Prefix, "prefix without line feed"),
+    (Kind::Json, "not json"),
+    (Kind::NotObject, "not an object"),
+    (Kind::Version, "version"),
+    (Kind::File, "file"),
+    (Kind::Both, "sections beside mappings"),
+    (Kind::SourceRoot, "sourceRoot"),
+    (Kind::Sources, "sources"),
+    (Kind::SourcesContent, "sourcesContent"),
+    (Kind::Names, "names"),
+    (Kind::IgnoreList, "ignoreList"),
+    (Kind::Mappings, "mappings"),
+    (Kind::Sections, "sections"),
+    (Kind::Offset, "offset"),
+    (Kind::SectionMap, "map"),
+    (Kind::Nested, "nested sections"),
+    (Kind::Order, "order"),
+    (Kind::Overlap, "overlap"),
+    (Kind::TooMany, "too many sources or names"),
+    (Kind::SourceUrl(0), "source 0 is no URL"),
+    (Kind::UnstableUrl(12), "source 12 has an unstable URL"),
+    (Kind::Empty, "empty segment"),
+    (
+        Kind::Number(1, NumberFault::Unfinished),
+        "number 1: unfinished",
+    ),
+    (
+        Kind::Number(2, NumberFault::Character),
+        "number 2: bad character",
+    ),
+    (
+        Kind::Number(3, NumberFault::TooLarge),
+        "number 3: too large",
+    ),
+    (
+        Kind::Number(255, NumberFault::NegativeZero),
+        "number 255: negative zero",
+    ),
+    (Kind::Count(255), "255 numbers"),
+    (Kind::GeneratedLine, "generated line"),
+    (Kind::Column, "generated column"),
+    (Kind::Source, "source index"),
+    (Kind::OriginalLine, "original line"),
+    (Kind::OriginalColumn, "original column"),
+    (Kind::Name, "name index"),
+];
+
+#[test]
+fn a_kind_says_its_words(rt: HostRuntime) -> Result<(), Fail> {
+    for (kind, words) in KINDS {
+        let said = format!(in rt.alloc(); "{kind}")?;
+        assert_eq!(rt; said.as_str(), words);
+    }
+    Ok(())
+}
+
+#[test]
+fn section_and_place_stand_before_the_words_of_a_kind(rt: HostRuntime) -> Result<(), Fail> {
+    let place = Some(SegmentPlace {
+        line: 3,
+        segment: 4_294_967_295,
+    });
+    let rows: [(&[usize], Option<SegmentPlace>, &str); 5] = [
+        (&[], None, "map"),
+        (&[7], None, "section 7: map"),
+        (&[0, 12, 3], None, "section 0.12.3: map"),
+        (&[], place, "line 3 segment 4294967295: map"),
+        (&[0], place, "section 0: line 3 segment 4294967295: map"),
+    ];
+    for (section, place, words) in rows {
+        let Some(section) = Path::new(section) else {
+            assert!(rt; false, "{words}");
+            continue;
+        };
+        let kind = Kind::SectionMap;
+        let fault = Fault {
+            section,
+            place,
+            kind,
+        };
+        let said = format!(in rt.alloc(); "{fault}")?;
+        assert_eq!(rt; said.as_str(), words);
+    }
+    Ok(())
+}

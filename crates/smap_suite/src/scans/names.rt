@@ -1,0 +1,166 @@
+//! The numbers that names get by first use, by a scan.
+use super::{joined, push_item, read, scan};
+use smap_canon::canonical;
+use std::alloc::{AllocError, Global};
+use std::test::Fail;
+
+/// How many names the map lists, and how many mappings there are.
+const LISTED: usize = 240;
+
+const MAPPINGS: usize = 100;
+
+const DIGITS: &[u8; 64] = b"ABCDEFGHIJKLMNOPQRSTUVWXYZabcdefghijklmnopqrstuvwxyz0123456789+/";
+
+/// The text of the i-th listed name is `n` and this number.
+fn text_of(i: usize) -> usize {
+    i.wrapping_mul(i) / 3 % 59
+}
+
+/// The listed name that the j-th mapping uses, if it uses one.
+fn used_at(j: usize) -> usize {
+    (j.wrapping_mul(j) / 3).wrapping_add(j) % LISTED
+}
+
+/// Whether a mapping has a generated position alone.
+fn is_bare(j: usize) -> bool {
+    j % 7 == 6
+}
+
+/// Whether a mapping has no name.
+fn is_nameless(j: usize) -> bool {
+    j % 5 == 4
+}
+
+/// Puts the digits of the difference of two numbers below 256 behind a text.
+fn push_difference(text: &mut String, before: u8, now: u8) -> Result<(), AllocError> {
+    let value = if now < before {
+        (before - now) as usize * 2 + 1
+    } else {
+        (now - before) as usize * 2
+    };
+    if value < 32 {
+        return text.push(DIGITS[value] as char);
+    }
+    text.push(DIGITS[value % 32 + 32] as char)?;
+    text.push(DIGITS[value / 32] as char)
+}
+
+/// Puts the segment of the j-th mapping behind a mappings text, without the digits of its name. Each mapping
+/// lies one column behind the one before it, and comes from the start of the first source.
+fn push_segment(text: &mut String, j: usize) -> Result<(), AllocError> {
+    push_item(text, if j == 0 { "A" } else { "C" })?;
+    if is_bare(j) {
+        return Ok(());
+    }
+    text.push_str("AAA")
+}
+
+/// The mappings text in which each mapping that has a name uses the next of these numbers.
+fn mappings(alloc: Global, names: &[usize]) -> Result<String, AllocError> {
+    let mut text = String::new(alloc);
+    let mut names = names.iter();
+    let mut before = 0;
+    for j in 0..MAPPINGS {
+        push_segment(&mut text, j)?;
+        if is_bare(j) || is_nameless(j) {
+            continue;
+        }
+        if let Some(name) = names.next() {
+            let now = (*name % 256) as u8;
+            push_difference(&mut text, before, now)?;
+            before = now;
+        }
+    }
+    Ok(text)
+}
+
+/// The names with these numbers, as the items of a JSON list.
+fn names_of(alloc: Global, numbers: &[usize]) -> Result<String, AllocError> {
+    let mut text = String::new(alloc);
+    for number in numbers {
+        let name = format!(in alloc; "\"n{number}\"")?;
+        push_item(&mut text, name.as_str())?;
+    }
+    Ok(text)
+}
+
+/// The numbers of the listed names' texts.
+fn listed(alloc: Global) -> Result<Vec<usize>, AllocError> {
+    let mut numbers = Vec::new(alloc);
+    for i in 0..LISTED {
+        numbers.push(text_of(i))?;
+    }
+    Ok(numbers)
+}
+
+/// The listed names that the mappings use, one after the other.
+fn used(alloc: Global) -> Result<Vec<usize>, AllocError> {
+    let mut numbers = Vec::new(alloc);
+    for j in 0..MAPPINGS {
+        if !is_bare(j) && !is_nameless(j) {
+            numbers.push(used_at(j))?;
+        }
+    }
+    Ok(numbers)
+}
+
+/// The numbers of these listed names' texts.
+fn texts_of(alloc: Global, names: &[usize]) -> Result<Vec<usize>, AllocError> {
+    let mut numbers = Vec::new(alloc);
+    for name in names {
+        numbers.push(text_of(*name))?;
+    }
+    Ok(numbers)
+}
+
+/// The map text.
+fn map_text(alloc: Global) -> Result<String, AllocError> {
+    let listed = listed(alloc)?;
+    let used = used(alloc)?;
+    let names = names_of(alloc, listed.as_slice())?;
+    let mappings = mappings(alloc, used.as_slice())?;
+    let pieces = [
+        r#"{"version":3,"sources":["a.js"],"names":["#,
+        names.as_str(),
+        r#"],"mappings":""#,
+        mappings.as_str(),
+        r#""}"#,
+    ];
+    joined(alloc, &pieces)
+}
+
+/// The canonical text of a map whose names are these, used by mappings in this order.
+fn canonical_text(alloc: Global, names: &[usize], uses: &[usize]) -> Result<String, AllocError> {
+    let names = names_of(alloc, names)?;
+    let mappings = mappings(alloc, uses)?;
+    let pieces = [
+        r#"{"mappings":""#,
+        mappings.as_str(),
+        r#"","names":["#,
+        names.as_str(),
+        r#"],"sources":["http://h/m/a.js"],"version":3}"#,
+    ];
+    joined(alloc, &pieces)
+}
+
+#[test]
+fn names_are_numbered_as_a_scan_numbers_them(rt: HostRuntime) -> Result<(), Fail> {
+    let used = used(rt.alloc())?;
+    let texts = texts_of(rt.alloc(), used.as_slice())?;
+    let scanned = scan(rt.alloc(), texts.as_slice())?;
+    // Of 45 names that differ 37 are used, by 68 mappings.
+    assert_eq!(rt; scanned.distinct.len(), 37);
+    assert_eq!(rt; scanned.places.len(), 68);
+    let want = canonical_text(
+        rt.alloc(),
+        scanned.distinct.as_slice(),
+        scanned.places.as_slice(),
+    )?;
+    let text = map_text(rt.alloc())?;
+    let map = read(&rt, text.as_str());
+    assert_eq!(rt; map.name_count(), LISTED);
+    assert_eq!(rt; map.token_count(), MAPPINGS);
+    let bytes = canonical(rt.alloc(), &map)?;
+    assert!(rt; bytes.as_slice() == want.as_bytes());
+    Ok(())
+}

@@ -1,0 +1,222 @@
+//! Which listed sources are one source, by a scan.
+use super::{joined, push_item, read, scan};
+use smap_record::SourceMap;
+use std::alloc::{AllocError, Global};
+use std::process::Abort;
+use std::test::Fail;
+
+/// The listed sources have these numbers among the distinct ones.
+fn are_numbered(rt: &impl Abort, map: &SourceMap, numbers: &[usize]) {
+    assert_eq!(rt; map.listed_count(), numbers.len());
+    for i in 0..numbers.len() {
+        assert!(rt; i < map.listed_count());
+        assert_eq!(rt; map.listed(i), numbers[i]);
+    }
+}
+
+/// A map text that lists a source `s0.js`, `s1.js` and so on for each of these numbers.
+fn listing(alloc: Global, numbers: &[usize]) -> Result<String, AllocError> {
+    let mut sources = String::new(alloc);
+    for number in numbers {
+        let source = format!(in alloc; "\"s{number}.js\"")?;
+        push_item(&mut sources, source.as_str())?;
+    }
+    let front = r#"{"version":3,"mappings":"","sources":["#;
+    joined(alloc, &[front, sources.as_str(), "]}"])
+}
+
+/// The numbers below 5 in turn, 5,000 of them.
+fn in_turn(alloc: Global) -> Result<Vec<usize>, AllocError> {
+    let mut numbers = Vec::new(alloc);
+    for i in 0..5000usize {
+        numbers.push(i % 5)?;
+    }
+    Ok(numbers)
+}
+
+#[test]
+fn five_thousand_sources_are_five(rt: HostRuntime) -> Result<(), Fail> {
+    let numbers = in_turn(rt.alloc())?;
+    let text = listing(rt.alloc(), numbers.as_slice())?;
+    let map = read(&rt, text.as_str());
+    assert_eq!(rt; map.source_count(), 5);
+    assert_eq!(rt; map.listed_count(), 5000);
+    are_numbered(&rt, &map, numbers.as_slice());
+    Ok(())
+}
+
+/// 2,000 numbers below 811 in a scrambled order, some of them often and some not at all.
+fn scrambled(alloc: Global) -> Result<Vec<usize>, AllocError> {
+    let mut numbers = Vec::new(alloc);
+    for i in 0..2000usize {
+        numbers.push(i.wrapping_mul(i) / 3 % 811)?;
+    }
+    Ok(numbers)
+}
+
+#[test]
+fn many_urls_are_numbered_as_a_scan_numbers_them(rt: HostRuntime) -> Result<(), Fail> {
+    let numbers = scrambled(rt.alloc())?;
+    let text = listing(rt.alloc(), numbers.as_slice())?;
+    let scanned = scan(rt.alloc(), numbers.as_slice())?;
+    let map = read(&rt, text.as_str());
+    assert_eq!(rt; map.source_count(), scanned.distinct.len());
+    are_numbered(&rt, &map, scanned.places.as_slice());
+    Ok(())
+}
+
+/// What makes a source one with another: its URL, its content, and whether it is ignored.
+#[derive(Clone, Copy, PartialEq)]
+struct Source {
+    url: Option<&'static str>,
+    content: Option<&'static str>,
+    ignored: bool,
+}
+
+/// A source as a map text lists it, and what it is.
+#[derive(Clone, Copy)]
+struct Listed {
+    spelled: Option<&'static str>,
+    source: Source,
+}
+
+const A: Option<&str> = Some("http://h/m/a.js");
+
+const B: Option<&str> = Some("http://h/b.js");
+
+/// Sources of several kinds: how each is listed, its URL, its content, and whether it is ignored. Some that
+/// are spelled otherwise are one, and some that are spelled alike are not.
+const KINDS: [(Option<&str>, Option<&str>, Option<&str>, bool); 17] = [
+    (Some("a.js"), A, None, false),
+    (Some("a.js"), A, Some("t"), false),
+    (Some("a.js"), A, Some("u"), false),
+    (Some("a.js"), A, Some(""), false),
+    (Some("a.js"), A, None, true),
+    (Some("a.js"), A, Some("t"), true),
+    (Some("./x/../a.js"), A, None, false),
+    (Some("HTTP://H:80/m/a.js"), A, Some("t"), false),
+    (Some("/m/a.js"), A, None, true),
+    (None, None, None, false),
+    (None, None, Some("t"), false),
+    (None, None, Some(""), false),
+    (None, None, None, true),
+    (Some("../b.js"), B, None, false),
+    (Some("//h/b.js"), B, None, false),
+    (Some("/b.js"), B, Some("u"), true),
+    (Some("http://h/m/%2e./b.js"), B, Some("u"), true),
+];
+
+/// The i-th source of the list, in a scrambled order.
+fn kind_at(i: usize) -> Listed {
+    let (spelled, url, content, ignored) = KINDS[i.wrapping_mul(i) / 9 % 17];
+    Listed {
+        spelled,
+        source: Source {
+            url,
+            content,
+            ignored,
+        },
+    }
+}
+
+/// The list, in a scrambled order.
+fn all_kinds(alloc: Global) -> Result<Vec<Listed>, AllocError> {
+    let mut list = Vec::new(alloc);
+    for i in 0..500 {
+        list.push(kind_at(i))?;
+    }
+    Ok(list)
+}
+
+/// What the sources of the list are.
+fn sources_of(alloc: Global, list: &[Listed]) -> Result<Vec<Source>, AllocError> {
+    let mut sources = Vec::new(alloc);
+    for kind in list {
+        sources.push(kind.source)?;
+    }
+    Ok(sources)
+}
+
+/// Puts a text between quotation marks, or `null`, behind the items of a list.
+fn push_text(text: &mut String, item: Option<&str>) -> Result<(), AllocError> {
+    let Some(item) = item else {
+        return push_item(text, "null");
+    };
+    push_item(text, "\"")?;
+    text.push_str(item)?;
+    text.push_str("\"")
+}
+
+/// The sources as they are spelled, as the items of a JSON list.
+fn spelled(alloc: Global, list: &[Listed]) -> Result<String, AllocError> {
+    let mut text = String::new(alloc);
+    for kind in list {
+        push_text(&mut text, kind.spelled)?;
+    }
+    Ok(text)
+}
+
+/// The contents of the sources, as the items of a JSON list.
+fn contents(alloc: Global, list: &[Listed]) -> Result<String, AllocError> {
+    let mut text = String::new(alloc);
+    for kind in list {
+        push_text(&mut text, kind.source.content)?;
+    }
+    Ok(text)
+}
+
+/// The numbers of the ignored ones, as the items of a JSON list.
+fn ignored(alloc: Global, list: &[Listed]) -> Result<String, AllocError> {
+    let mut text = String::new(alloc);
+    for i in 0..list.len() {
+        if list[i].source.ignored {
+            let number = format!(in alloc; "{i}")?;
+            push_item(&mut text, number.as_str())?;
+        }
+    }
+    Ok(text)
+}
+
+/// A map text that lists these sources, their contents, and the ignored ones of them.
+fn listing_of_kinds(alloc: Global, list: &[Listed]) -> Result<String, AllocError> {
+    let sources = spelled(alloc, list)?;
+    let contents = contents(alloc, list)?;
+    let ignored = ignored(alloc, list)?;
+    let pieces = [
+        r#"{"version":3,"mappings":"","sources":["#,
+        sources.as_str(),
+        r#"],"sourcesContent":["#,
+        contents.as_str(),
+        r#"],"ignoreList":["#,
+        ignored.as_str(),
+        "]}",
+    ];
+    joined(alloc, &pieces)
+}
+
+/// The distinct sources are these.
+fn are_sources(rt: &impl Abort, map: &SourceMap, sources: &[Source]) {
+    assert_eq!(rt; map.source_count(), sources.len());
+    for i in 0..sources.len() {
+        assert!(rt; i < map.source_count());
+        let seen = map.source(i);
+        let source = sources[i];
+        assert!(rt; seen.url == source.url);
+        assert!(rt; seen.content == source.content);
+        assert!(rt; seen.ignored == source.ignored);
+    }
+}
+
+#[test]
+fn sources_of_all_kinds_are_numbered_as_a_scan_numbers_them(rt: HostRuntime) -> Result<(), Fail> {
+    let list = all_kinds(rt.alloc())?;
+    let sources = sources_of(rt.alloc(), list.as_slice())?;
+    let scanned = scan(rt.alloc(), sources.as_slice())?;
+    // Found by hand: the rows of the table without those that are another one spelled otherwise.
+    assert_eq!(rt; scanned.distinct.len(), 12);
+    let text = listing_of_kinds(rt.alloc(), list.as_slice())?;
+    let map = read(&rt, text.as_str());
+    are_sources(&rt, &map, scanned.distinct.as_slice());
+    are_numbered(&rt, &map, scanned.places.as_slice());
+    Ok(())
+}

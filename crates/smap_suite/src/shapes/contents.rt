@@ -1,0 +1,79 @@
+//! Trees with contents of each kind, and what is left of them.
+use serde_json::Value;
+use smap_shape::{Shape, ShapeFault, shape, split_contents};
+use std::test::Fail;
+
+fn is_text(content: &Option<String>, want: &str) -> bool {
+    match content {
+        Some(text) => text.as_str() == want,
+        None => want == "null",
+    }
+}
+
+#[test]
+fn contents_are_moved_out_of_the_tree(rt: HostRuntime) -> Result<(), Fail> {
+    for (members, count, last) in [
+        (r#""sourcesContent":["t",null,""]"#, 3, ""),
+        (r#""sourcesContent":["t",null]"#, 2, "null"),
+        (r#""sourcesContent":["t","u","v","w"]"#, 4, "w"),
+        (r#""sections":[],"sourcesContent":["t"]"#, 1, "t"),
+        (r#""sourcesContent":[]"#, 0, ""),
+        (r#""sourcesContent":null"#, 0, ""),
+        (r#""file":"f""#, 0, ""),
+    ] {
+        let text = format!(in rt.alloc(); "{{\"version\":3,{members},\"names\":[]}}")?;
+        let tree = Value::from_str(rt.alloc(), text.as_str())?;
+        let (contents, rest) = split_contents(rt.alloc(), tree)?;
+        assert_eq!(rt; contents.len(), count, "at {members}");
+        if count > 0 {
+            assert!(rt; is_text(&contents[count - 1], last), "at {members}");
+        }
+        assert!(rt; rest.get("names").is_some(), "at {members}");
+        assert!(rt; rest.get("sourcesContent").is_none(), "at {members}");
+    }
+    Ok(())
+}
+
+#[test]
+fn the_other_members_stay(rt: HostRuntime) -> Result<(), Fail> {
+    let text =
+        r#"{"version":3,"file":"f","sources":["a","b"],"sourcesContent":["t","u"],"mappings":"A"}"#;
+    let tree = Value::from_str(rt.alloc(), text)?;
+    let (contents, rest) = split_contents(rt.alloc(), tree)?;
+    assert_eq!(rt; contents.len(), 2);
+    let Ok(Shape::Flat(flat)) = shape(&rest) else {
+        return Err("refused".into());
+    };
+    assert!(rt; flat.file() == Some("f"));
+    assert_eq!(rt; flat.source_count(), 2);
+    assert!(rt; flat.source(1) == Some("b"));
+    assert!(rt; flat.content(0).is_none());
+    assert!(rt; flat.mappings() == "A");
+    Ok(())
+}
+
+#[test]
+fn a_tree_without_a_list_of_contents_stays_whole(rt: HostRuntime) -> Result<(), Fail> {
+    for text in [
+        r#"{"version":3,"sourcesContent":["t",7],"mappings":""}"#,
+        r#"{"version":3,"sourcesContent":{},"mappings":""}"#,
+        r#"{"version":3,"sourcesContent":"t","mappings":""}"#,
+    ] {
+        let tree = Value::from_str(rt.alloc(), text)?;
+        let (contents, rest) = split_contents(rt.alloc(), tree)?;
+        assert_eq!(rt; contents.len(), 0, "at {text}");
+        assert!(rt; rest.get("sourcesContent").is_some(), "at {text}");
+        assert_eq!(rt;
+            shape(&rest).err(),
+            Some(ShapeFault::SourcesContent),
+            "at {text}"
+        );
+    }
+    for text in ["[]", "null", "\"t\""] {
+        let tree = Value::from_str(rt.alloc(), text)?;
+        let (contents, rest) = split_contents(rt.alloc(), tree)?;
+        assert_eq!(rt; contents.len(), 0, "at {text}");
+        assert!(rt; !rest.is_object(), "at {text}");
+    }
+    Ok(())
+}

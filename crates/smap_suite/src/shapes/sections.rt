@@ -1,0 +1,94 @@
+//! Trees of sections, and the first fault of each.
+use serde_json::Value;
+use smap_shape::{MAX_LEVEL, ShapeFault, section};
+use std::test::Fail;
+
+#[test]
+fn a_section_tells_its_offset_and_map(rt: HostRuntime) -> Result<(), Fail> {
+    for (text, line, column) in [
+        (
+            r#"{"offset":{"line":0,"column":2147483647},"map":{}}"#,
+            0,
+            2147483647,
+        ),
+        (
+            r#"{"offset":{"line":2147483647,"column":0,"more":7},"map":{},"url":"x"}"#,
+            2147483647,
+            0,
+        ),
+        (
+            r#"{"offset":{"line":0,"column":0},"map":{"sections":null}}"#,
+            0,
+            0,
+        ),
+    ] {
+        let tree = Value::from_str(rt.alloc(), text)?;
+        let section = section(&tree, MAX_LEVEL).ok().ok_or("refused")?;
+        assert_eq!(rt; section.line(), line, "line at {text}");
+        assert_eq!(rt; section.column(), column, "column at {text}");
+        assert!(rt; section.map().is_object(), "map at {text}");
+    }
+    Ok(())
+}
+
+#[test]
+fn the_first_fault_of_a_section_is_answered(rt: HostRuntime) -> Result<(), Fail> {
+    for (text, want) in [
+        ("7", ShapeFault::NotObject),
+        ("[]", ShapeFault::NotObject),
+        ("{}", ShapeFault::Offset),
+        (r#"{"offset":[],"map":[]}"#, ShapeFault::Offset),
+        (r#"{"offset":{"line":0},"map":{}}"#, ShapeFault::Offset),
+        (
+            r#"{"offset":{"line":0,"column":2147483648},"map":{}}"#,
+            ShapeFault::Offset,
+        ),
+        (
+            r#"{"offset":{"line":0,"column":-1},"map":{}}"#,
+            ShapeFault::Offset,
+        ),
+        (
+            r#"{"offset":{"line":0.0,"column":0},"map":{}}"#,
+            ShapeFault::Offset,
+        ),
+        (
+            r#"{"offset":{"line":-0,"column":0},"map":{}}"#,
+            ShapeFault::Offset,
+        ),
+        (
+            r#"{"offset":{"line":0,"column":0},"map":[]}"#,
+            ShapeFault::SectionMap,
+        ),
+        (
+            r#"{"offset":{"line":0,"column":0},"map":null}"#,
+            ShapeFault::SectionMap,
+        ),
+        (
+            r#"{"offset":{"line":0,"column":0},"url":"x"}"#,
+            ShapeFault::SectionMap,
+        ),
+        (
+            r#"{"offset":{"line":0,"column":0},"map":{"version":4,"sections":[]}}"#,
+            ShapeFault::Nested,
+        ),
+        (
+            r#"{"offset":{"line":0,"column":0},"map":{"sections":[]}}"#,
+            ShapeFault::Nested,
+        ),
+    ] {
+        let tree = Value::from_str(rt.alloc(), text)?;
+        assert_eq!(rt; section(&tree, MAX_LEVEL).err(), Some(want), "at {text}");
+    }
+    Ok(())
+}
+
+#[test]
+fn a_section_of_a_lower_level_may_have_sections(rt: HostRuntime) -> Result<(), Fail> {
+    let text = r#"{"offset":{"line":0,"column":0},"map":{"sections":[]}}"#;
+    let tree = Value::from_str(rt.alloc(), text)?;
+    for level in [1, 2, 7] {
+        assert!(rt; section(&tree, level).is_ok(), "{level}");
+    }
+    assert_eq!(rt; section(&tree, 8).err(), Some(ShapeFault::Nested));
+    Ok(())
+}

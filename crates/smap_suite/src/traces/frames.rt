@@ -1,0 +1,89 @@
+//! The rows of the table of frames.
+use smap_trace::frame;
+use std::test::Fail;
+
+#[test]
+fn lines_of_v8_and_firefox_are_frames(rt: HostRuntime) {
+    for (line, before, url, places, after) in [
+        (
+            "    at f (http://h/o.js:1:2)",
+            "    at f (",
+            "http://h/o.js",
+            (1, 2),
+            ")",
+        ),
+        (
+            "at new A [as b] (http://h/o.js:1:2)",
+            "at new A [as b] (",
+            "http://h/o.js",
+            (1, 2),
+            ")",
+        ),
+        (
+            "    at http://h/o.js:1:2",
+            "    at ",
+            "http://h/o.js",
+            (1, 2),
+            "",
+        ),
+        (
+            "    at async http://h/o.js:1:2",
+            "    at async ",
+            "http://h/o.js",
+            (1, 2),
+            "",
+        ),
+        ("g@http://h/o.js:1:2\r", "g@", "http://h/o.js", (1, 2), "\r"),
+        ("@u:2147483648:1", "@", "u", (2147483648, 1), ""),
+        (
+            "    at g@http://h/o.js:1:2",
+            "    at ",
+            "g@http://h/o.js",
+            (1, 2),
+            "",
+        ),
+        ("at a (b) (u:1:2)", "at a (b) (", "u", (1, 2), ")"),
+    ] {
+        let Some(found) = frame(line.as_bytes()) else {
+            panic!(rt; "{line}");
+        };
+        assert_eq!(rt; found.before, before.as_bytes(), "{line}");
+        assert_eq!(rt; found.url, url.as_bytes(), "{line}");
+        assert_eq!(rt; (found.line, found.column), places, "{line}");
+        assert_eq!(rt; found.after, after.as_bytes(), "{line}");
+    }
+}
+
+#[test]
+fn other_lines_are_none(rt: HostRuntime) {
+    for line in [
+        "@u:2147483649:1",
+        "@u:0:1",
+        "@u:01:1",
+        "@:1:1",
+        "@u:1",
+        "    at eval (eval at f (http://h/o.js:1:2), <anonymous>:1:1)",
+        "f@http://h/o.js line 3 > eval:1:1",
+        "    at f (native)",
+        "    at <anonymous>",
+        "",
+        "@u:1:1\n",
+    ] {
+        assert!(rt; frame(line.as_bytes()).is_none(), "{line}");
+    }
+}
+
+#[test]
+fn a_number_of_a_million_digits_is_no_place(rt: HostRuntime) -> Result<(), Fail> {
+    let mut line = Vec::from_slice(rt.alloc(), b"@u:")?;
+    for _ in 0..1000000 {
+        line.push(b'1')?;
+    }
+    assert!(rt; frame(&line).is_none());
+    line.extend_from_slice(b":1")?;
+    assert!(rt; frame(&line).is_none());
+    line.extend_from_slice(b":1:1")?;
+    let found = frame(&line).ok_or("the digits are part of the URL")?;
+    assert_eq!(rt; found.url.len(), 1000004);
+    Ok(())
+}

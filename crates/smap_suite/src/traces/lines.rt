@@ -1,0 +1,74 @@
+//! Single lines, translated.
+use super::read;
+use smap_trace::{LineOutcome, distinct_scripts, translate_line};
+use std::test::Fail;
+
+const NAMED: &str = r#"{"version":3,"sources":["a.js"],"mappings":"AAAA"}"#;
+
+const NULL: &str = r#"{"version":3,"sources":[null],"mappings":"AAAA"}"#;
+
+const NULL_IGNORED: &str = r#"{"version":3,"sources":[null],"ignoreList":[0],"mappings":"AAAA"}"#;
+
+const UNMAPPED: &str = r#"{"version":3,"mappings":"A"}"#;
+
+#[test]
+fn a_line_is_kept_translated_or_dropped(rt: HostRuntime) -> Result<(), Fail> {
+    for (map, hide, line, outcome, expected) in [
+        (
+            NAMED,
+            false,
+            "@u:1:9\n",
+            LineOutcome::Translated,
+            "> @http://h/m/a.js:1:1\n",
+        ),
+        (
+            NAMED,
+            true,
+            "@u:1:9",
+            LineOutcome::Translated,
+            "> @http://h/m/a.js:1:1",
+        ),
+        (
+            NAMED,
+            false,
+            "@u:1:9\r\n",
+            LineOutcome::Translated,
+            "> @http://h/m/a.js:1:1\r\n",
+        ),
+        (NAMED, false, "@w:1:9\n", LineOutcome::Kept, "> @w:1:9\n"),
+        (NAMED, false, "@uu:1:9\n", LineOutcome::Kept, "> @uu:1:9\n"),
+        (NAMED, false, "@u:2:9\n", LineOutcome::Kept, "> @u:2:9\n"),
+        (
+            NAMED,
+            false,
+            "@u:1:9\n@u:1:9\n",
+            LineOutcome::Kept,
+            "> @u:1:9\n@u:1:9\n",
+        ),
+        (UNMAPPED, true, "@u:1:9\n", LineOutcome::Kept, "> @u:1:9\n"),
+        (NULL, true, "@u:1:1\n", LineOutcome::Kept, "> @u:1:1\n"),
+        (
+            NULL_IGNORED,
+            false,
+            "@u:1:1\n",
+            LineOutcome::Kept,
+            "> @u:1:1\n",
+        ),
+        (NULL_IGNORED, true, "@u:1:1\n", LineOutcome::Dropped, "> "),
+    ] {
+        let map = read(&rt, map);
+        let mut out = Vec::from_slice(rt.alloc(), b"> ")?;
+        let answer = translate_line(line.as_bytes(), &[("u", &map)], hide, &mut out);
+        assert_eq!(rt; answer, Ok(outcome), "{line}");
+        assert_eq!(rt; out.as_slice(), expected.as_bytes(), "{line}");
+    }
+    Ok(())
+}
+
+#[test]
+fn scripts_are_distinct_by_their_urls(rt: HostRuntime) {
+    let map = read(&rt, NAMED);
+    assert!(rt; distinct_scripts(&[]));
+    assert!(rt; distinct_scripts(&[("u", &map), ("v", &map), ("uv", &map)]));
+    assert!(rt; !distinct_scripts(&[("u", &map), ("v", &map), ("u", &map)]));
+}

@@ -1,0 +1,146 @@
+//! Lookups in worked maps, and their probes.
+ghost use Rattle.std.specs.Prelude.{map};
+ghost use Rattle.smap_record.specs.Fitting.{mapping_position};
+ghost use Rattle.smap_record.specs.Record.{record_of};
+
+use super::read;
+use smap_record::{SourceMap, TokenView};
+use smap_trace::{Positions, lookup, search};
+use std::alloc::{AllocError, Global};
+use std::fmt::Write;
+use std::test::Fail;
+
+const SECTIONS: &str = r#"{"version":3,"sections":[
+    {"offset":{"line":0,"column":0},"map":{"version":3,"sources":["a.js"],"mappings":"AAAA"}},
+    {"offset":{"line":0,"column":10},"map":
+        {"version":3,"sources":["a.js","b.js"],"names":["n"],"mappings":"AAAAA;CCCC"}}]}"#;
+
+const UNMAPPED: &str = r#"{"version":3,"mappings":"A"}"#;
+
+const TIES: &str = r#"{"version":3,"sources":["a.js"],"mappings":"AAAA,AACA"}"#;
+
+fn told(alloc: Global, found: Option<TokenView>) -> Result<String, Fail> {
+    let Some(token) = found else {
+        return Ok(format!(in alloc; "none")?);
+    };
+    let Some(original) = token.original else {
+        return Ok(format!(in alloc; "{}:{} unmapped", token.line, token.column)?);
+    };
+    Ok(format!(in alloc;
+        "{}:{} {}:{}:{} {}",
+        token.line,
+        token.column,
+        original.source.url.unwrap_or("null"),
+        original.line,
+        original.column,
+        original.name.unwrap_or("unnamed")
+    )?)
+}
+
+#[test]
+fn a_position_falls_to_the_last_mapping_of_its_line(rt: HostRuntime) -> Result<(), Fail> {
+    for (text, line, column, expected) in [
+        (SECTIONS, 0, 0, "0:0 http://h/m/a.js:0:0 unnamed"),
+        (SECTIONS, 0, 9, "0:0 http://h/m/a.js:0:0 unnamed"),
+        (SECTIONS, 0, 10, "0:10 http://h/m/a.js:0:0 n"),
+        (SECTIONS, 0, 2147483647, "0:10 http://h/m/a.js:0:0 n"),
+        (SECTIONS, 1, 0, "none"),
+        (SECTIONS, 2, 0, "none"),
+        (SECTIONS, 1, 1, "1:1 http://h/m/b.js:1:1 unnamed"),
+        (UNMAPPED, 0, 7, "0:0 unmapped"),
+        (TIES, 0, 0, "0:0 http://h/m/a.js:1:0 unnamed"),
+    ] {
+        let map = read(&rt, text);
+        let (found, _probes) = lookup(&map, line, column);
+        let answer = told(rt.alloc(), found)?;
+        assert_eq!(rt; answer.as_str(), expected, "{line} {column} in {text}");
+    }
+    Ok(())
+}
+
+/// The positions of a map, each as it is asked for.
+#[derive(Drop)]
+struct Asked<'a> {
+    map: &'a SourceMap,
+    count: u32,
+}
+
+impl Positions for Asked<'_> {
+    ghost positions = { λ s. map mapping_position (record_of s.map.now).mappings };
+
+    ghost probes = { λ s. s.count };
+
+    fn len(&self) -> usize {
+        self.map.token_count()
+    }
+
+    fn at(&mut self, i: usize) -> (u32, u32) {
+        self.count += 1;
+        let token = self.map.token(i);
+        (token.line, token.column)
+    }
+}
+
+/// How often `search` asks for a position of the map.
+fn count_of_search(map: &SourceMap, line: u32, column: u32) -> u32 {
+    let _ = map.token_count();
+    let mut asked = Asked { map, count: 0 };
+    let _found = search(&mut asked, line, column);
+    asked.count
+}
+
+/// The mapping that is found by going through all.
+fn scanned<'a>(map: &'a SourceMap, line: u32, column: u32) -> Option<TokenView<'a>> {
+    let mut found = None;
+    for i in 0..map.token_count() {
+        let token = map.token(i);
+        if token.line == line && token.column <= column {
+            found = Some(token);
+        }
+    }
+    found
+}
+
+/// A map of so many mappings of one line, three of them at each column.
+fn crowded(alloc: Global, mappings: usize) -> Result<String, AllocError> {
+    let mut text = String::new(alloc);
+    text.push_str(r#"{"version":3,"sources":["a.js"],"mappings":"AAAA"#)?;
+    for i in 1..mappings {
+        text.push_str(if i % 3 == 0 { ",CACA" } else { ",AACA" })?;
+    }
+    text.push_str(r#""}"#)?;
+    Ok(text)
+}
+
+#[test]
+fn probes_are_few_and_the_answer_is_that_of_a_scan(rt: HostRuntime) -> Result<(), Fail> {
+    let thousand = crowded(rt.alloc(), 1000)?;
+    let power = crowded(rt.alloc(), 1024)?;
+    for (text, columns, least, most) in [
+        (r#"{"version":3,"mappings":""}"#, 3, 0, 0),
+        (UNMAPPED, 3, 1, 1),
+        (SECTIONS, 12, 1, 2),
+        (thousand.as_str(), 336, 9, 10),
+        (power.as_str(), 344, 10, 11),
+    ] {
+        let map = read(&rt, text);
+        for line in 0..3 {
+            for column in 0..columns {
+                let (found, probes) = lookup(&map, line, column);
+                assert!(rt;
+                    least <= probes && probes <= most,
+                    "{probes} at {line} {column}"
+                );
+                assert_eq!(rt;
+                    probes,
+                    count_of_search(&map, line, column),
+                    "{line} {column}"
+                );
+                let answer = told(rt.alloc(), found)?;
+                let expected = told(rt.alloc(), scanned(&map, line, column))?;
+                assert_eq!(rt; answer.as_str(), expected.as_str(), "{line} {column}");
+            }
+        }
+    }
+    Ok(())
+}

@@ -1,0 +1,18 @@
+-- The line that says the first fault of a bundle.
+use Rattle.std.specs.Prelude.{ℕ, List, ◌++◌, codes, decimal}
+use Rattle.smap_record.specs.Words.{fault_words}
+use Rattle.smap_bundle.specs.declared.fault.EntryFault.{EntryFault}
+use Rattle.smap_bundle.specs.declared.fault.EntryFault.TheVariants as wrong
+use Rattle.smap_bundle.specs.declared.fault.Refusal.{Refusal}
+
+-- what is wrong with the entry of this number, from 0
+abbrev pub entry_line : ℕ → EntryFault → List ℕ
+entry_line i wrong.Header = codes "refused: bundle header " ++ decimal i
+entry_line i wrong.Repeated = codes "refused: map " ++ (decimal i ++ codes ": script repeated")
+entry_line i wrong.Base = codes "refused: map " ++ (decimal i ++ codes ": base is no URL")
+entry_line i wrong.CutOff = codes "refused: map " ++ (decimal i ++ codes ": cut off")
+entry_line i (wrong.Map fault) = codes "refused: map " ++ (decimal i ++ (codes ": " ++ fault_words fault))
+
+-- The line of a bundle's first fault, without its line feed.
+abbrev pub bundle_line : Refusal → List ℕ
+bundle_line r = entry_line r.entry r.fault

@@ -1,0 +1,101 @@
+-- What `translate` has read and written when it answers.
+use Rattle.std.specs.Prelude.{◌≡◌, ◌⊎◌, ℕ, ◌<◌, Bool, true, List, [], ◌∷◌, ◌++◌, take, Option, Result}
+use Rattle.std.specs.Prelude.{Ok, Err}
+use Rattle.std.specs.Io.KnownBytes.{IsAtEnd}
+use Rattle.smap_io.specs.declared.device.Device.{Device}
+use Rattle.smap_io.specs.Device.{device_failures}
+use Rattle.smap_io.specs.Streams.{HasRead, HasWritten, HasWrittenNothing, ReaderFailsOrTires, Streams}
+use Rattle.smap_io.specs.Streams.{WriterFails}
+use Rattle.smap_io.specs.Writing.{Took, TookFront}
+use Rattle.smap_trace.specs.Streaming.{WritesFront, read_lines}
+use Rattle.smap_trace.specs.Translation.{Script, translation}
+use Rattle.smap_tool.specs.Run.{is_read, is_write}
+use Rattle.smap_tool.specs.declared.outcome.Outcome.{Outcome}
+use Rattle.smap_tool.specs.declared.outcome.Outcome.TheVariants.{Done, Refused}
+use Rattle.smap_tool.specs.declared.outcome.RunFault.{RunFault}
+use Rattle.smap_tool.specs.declared.outcome.RunFault.TheVariants as run
+use Rattle.smap_bundle.specs.Header.{trace_line}
+use Rattle.smap_bundle.specs.Bundle.{Answer, Answers, Reads, done, refused, too_long}
+use Rattle.smap_bundle.specs.Reading.{MayFollow}
+use Rattle.smap_bundle.specs.declared.fault.Refusal.{Refusal}
+use Rattle.smap_tool.specs.BundleLine.{bundle_line}
+
+-- The answer for what was read, and where the reader hasn't ended for each text that begins with it.
+abbrev pub Settles : Bool → Bool → List ℕ → Answer → Type 0
+Settles hide ended input answer = (more : List ℕ) → MayFollow ended more → Answers hide (input ++ more) answer
+
+-- A prefix of the translation of the complete lines that were read after the line `trace`.
+pub record BehindTrace (hide ended : Bool) (input front : List ℕ) : Type 0 where
+  pub scripts : List Script
+  pub trace : List ℕ
+  pub rest : List ℕ
+  pub reads : Reads input scripts (trace_line ++ trace)
+  pub is_front : translation scripts hide (read_lines ended trace) ≡ front ++ rest
+
+-- What a run that gave up has written of a bundle that isn't refused: nothing, until the line `trace` was
+-- read.
+abbrev pub IsFront : Bool → Bool → List ℕ → List ℕ → Type 0
+IsFront hide ended input front = (front ≡ []) ⊎ BehindTrace hide ended input front
+
+-- What was read and written when a run gave up.
+pub record GaveUp (hide : Bool) (s : Streams) : Type 0 where
+  pub input : List ℕ
+  pub front : List ℕ
+  pub read : HasRead s input
+  pub written : HasWritten s front
+  pub is_front : IsFront hide s.ended input front
+
+-- What was read is refused, and a prefix of the line that says so was written.
+pub record FrontOfRefusal (hide : Bool) (s : Streams) : Type 0 where
+  pub input : List ℕ
+  pub refusal : Refusal
+  pub n : ℕ
+  pub read : HasRead s input
+  pub settles : Settles hide s.ended input (refused refusal)
+  pub written : HasWritten s (take n (bundle_line refusal ++ 10 ∷ []))
+
+-- What was written is what is said of what was read, and nothing else.
+abbrev pub RunTranslates : Bool → Streams → Result Outcome RunFault → Type 0
+RunTranslates hide s (Ok Done) = (input text : List ℕ) × HasRead s input × IsAtEnd s.read_after
+    × (s.ended ≡ true)
+    × Answers hide input (done text) × HasWritten s text
+RunTranslates hide s (Ok Refused) =
+    (input : List ℕ) × (refusal : Refusal) × HasRead s input × Settles hide s.ended input (refused refusal)
+    × HasWritten s (bundle_line refusal ++ 10 ∷ [])
+RunTranslates hide s (Err run.TooLong) =
+    (input : List ℕ) × HasRead s input × ((more : List ℕ) → Answers hide (input ++ more) too_long)
+    × HasWrittenNothing s
+RunTranslates hide s (Err run.Read) = GaveUp hide s
+RunTranslates hide s (Err run.Memory) = GaveUp hide s
+RunTranslates hide s (Err run.Write) = GaveUp hide s ⊎ FrontOfRefusal hide s
+
+-- What `translate` promises of its two devices. Read comes with a failure of the reader, or where too much
+-- was read; Write with one of the writer; and nothing else comes with a failure.
+pub record RunsTranslate (hide : Bool) (s : Streams) (result : Result Outcome RunFault) : Type 0 where
+  pub translates : RunTranslates hide s result
+  pub reader_failures : ReaderFailsOrTires is_read s result
+  pub writer_failures : WriterFails is_write s result
+
+-- ---- the parts of a run
+
+-- A trace was translated by these scripts to its end, or a prefix of its translation was written.
+abbrev pub TranslatesTrace : List Script → Bool → Streams → Result Outcome RunFault → Type 0
+TranslatesTrace scripts hide s (Ok Done) =
+    (trace : List ℕ) × HasRead s trace × IsAtEnd s.read_after × (s.ended ≡ true) × HasWritten s
+    (translation scripts hide trace)
+TranslatesTrace scripts hide s (Ok Refused) = ⊥
+TranslatesTrace scripts hide s (Err run.TooLong) = ⊥
+TranslatesTrace scripts hide s (Err run.Read) = WritesFront scripts hide s
+TranslatesTrace scripts hide s (Err run.Memory) = WritesFront scripts hide s
+TranslatesTrace scripts hide s (Err run.Write) = WritesFront scripts hide s
+
+-- The line of a refusal was written, or a prefix of it where a call failed.
+abbrev pub WritesRefusal : {W : Type 0} → (W → Option (List ℕ)) → Device W → Device W → List ℕ
+    → Result Outcome RunFault → Type 0
+WritesRefusal contents old new text (Ok outcome) =
+    Took contents old new text × (outcome ≡ Refused) × (device_failures new ≡ device_failures old)
+WritesRefusal contents old new text (Err run.Write) =
+    TookFront contents old new text × (device_failures old < device_failures new)
+WritesRefusal contents old new text (Err run.Memory) = new ≡ old
+WritesRefusal contents old new text (Err run.Read) = ⊥
+WritesRefusal contents old new text (Err run.TooLong) = ⊥

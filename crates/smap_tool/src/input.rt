@@ -1,0 +1,28 @@
+//! Reading an input to its end.
+ghost use Rattle.std.specs.Prelude.{◌≡◌, ◌-◌, ◌^◌, ◌<◌};
+ghost use Rattle.smap_io.specs.Device.{device_failures};
+ghost use Rattle.smap_tool.specs.Run.{ReadsInput};
+
+use crate::outcome::RunFault;
+use smap_io::{Device, LIMIT, ReadFault, read_up_to};
+use std::alloc::Global;
+use std::io::Read;
+
+/// Reads to the end. What was read is lost where this fails: it is `TooLong` where there are more bytes
+/// than the limit, `Read` where a call of the reader failed, or `Memory`.
+pub fn read_input<R: Read>(alloc: Global, reader: &mut Device<R>) -> Result<Vec<u8>, RunFault>
+    requires { device_failures reader.old < 2 ^ 64 - 1 }
+    ensures { ReadsInput R.remaining reader.old reader.new result }
+{
+    // Each call brings at least one byte, so that these calls aren't spent before.
+    let mut calls = u64::MAX;
+    match read_up_to(alloc, reader, &mut calls, LIMIT + 1) {
+        Ok(input) if input.len() <= LIMIT => Ok(input),
+        Ok(_) => Err(RunFault::TooLong),
+        Err(ReadFault::Failed | ReadFault::Spent) => Err(RunFault::Read),
+        Err(ReadFault::Memory) => Err(RunFault::Memory),
+    }
+}
+
+#[cfg(test)]
+mod tests;

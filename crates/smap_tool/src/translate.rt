@@ -1,0 +1,96 @@
+//! The run `translate`: a trace told in the positions of the sources, by the maps of a bundle.
+ghost use Rattle.std.specs.Prelude.{◌≡◌, ◌-◌, ◌^◌, ◌<◌, ◌++◌, ◌∷◌, [], false};
+ghost use Rattle.smap_io.specs.Device.{device_failures, has_ended};
+ghost use Rattle.smap_io.specs.Streams.{ReaderFailsOrTires, WriterFails, streams};
+ghost use Rattle.smap_tool.specs.Run.{is_read, is_write};
+ghost use Rattle.smap_trace.specs.Translation.{AreDistinct};
+ghost use Rattle.smap_tool.specs.Translate.{RunsTranslate, TranslatesTrace, WritesRefusal};
+ghost use Rattle.smap_bundle.specs.Scripts.{scripts_of};
+ghost use Rattle.smap_tool.specs.BundleLine.{bundle_line};
+
+use crate::bundle_line::bundle_refusal;
+use crate::outcome::{Outcome, RunFault};
+use crate::output::write_answer;
+use smap_bundle::{Bundle, BundleFault, Refusal, read_bundle};
+use smap_io::Device;
+use smap_trace::{TraceError, translate};
+use std::alloc::Global;
+use std::io::{Read, Write};
+
+/// Writes the line of a bundle's first fault.
+fn refuse<W: Write>(
+    alloc: Global,
+    refusal: &Refusal,
+    writer: &mut Device<W>,
+) -> Result<Outcome, RunFault>
+    requires { device_failures writer.old < 2 ^ 64 - 1 }
+    ensures { WritesRefusal W.contents writer.old writer.new (bundle_line refusal.now ++ 10 ∷ []) result }
+{
+    let Ok(text) = bundle_refusal(alloc, refusal) else {
+        return Err(RunFault::Memory);
+    };
+    write_answer(writer, text.as_slice(), Outcome::Refused)
+}
+
+/// Translates the trace, up to the end of the input.
+fn translate_trace<R: Read, W: Write>(
+    alloc: Global,
+    hide: bool,
+    bundle: &Bundle,
+    reader: &mut Device<R>,
+    writer: &mut Device<W>,
+) -> Result<Outcome, RunFault>
+    requires reader { device_failures reader.old < 2 ^ 64 - 1 }
+    requires writer { device_failures writer.old < 2 ^ 64 - 1 }
+    requires not_ended { has_ended reader.old ≡ false }
+    requires distinct { AreDistinct (scripts_of bundle.now.scripts.entries) }
+    ensures translates { TranslatesTrace (scripts_of bundle.now.scripts.entries) hide
+        (streams R.remaining reader.old reader.new W.contents writer.old writer.new) result }
+    ensures reader_failures { ReaderFailsOrTires is_read
+        (streams R.remaining reader.old reader.new W.contents writer.old writer.new) result }
+    ensures writer_failures { WriterFails is_write
+        (streams R.remaining reader.old reader.new W.contents writer.old writer.new) result }
+{
+    let Ok(scripts) = bundle.scripts(alloc) else {
+        return Err(RunFault::Memory);
+    };
+    match translate(alloc, reader, scripts.as_slice(), hide, writer) {
+        Ok(_) => Ok(Outcome::Done),
+        Err(TraceError::Read) => Err(RunFault::Read),
+        Err(TraceError::Write) => Err(RunFault::Write),
+        Err(TraceError::Memory) => Err(RunFault::Memory),
+    }
+}
+
+/// Reads a bundle, and writes the translation of its trace line by line as it comes, or the line of the
+/// bundle's first fault with a line feed (then it is `Refused`). With `hide`, a line whose source is ignored
+/// is dropped.
+///
+/// Nothing after the line `trace` is read before the translation begins, and nothing is written before that
+/// but the line of a fault. It is `TooLong` where a header gives a map more than 268,435,456 bytes; the
+/// entries together have no limit. They are read by at most 4,294,967,296 calls; where these don't reach the
+/// line `trace`, the answer is `Read`. Where the answer is an error, what was written is a prefix of the
+/// translation of the complete lines that were read, or after `Write` a prefix of the line of the fault.
+pub fn run_translate<R: Read, W: Write>(
+    alloc: Global,
+    hide: bool,
+    reader: &mut Device<R>,
+    writer: &mut Device<W>,
+) -> Result<Outcome, RunFault>
+    requires reader { device_failures reader.old < 2 ^ 64 - 1 }
+    requires writer { device_failures writer.old < 2 ^ 64 - 1 }
+    requires not_ended { has_ended reader.old ≡ false }
+
+    // What was written is the translation of the bundle's trace, or the line of its first fault. Read and
+    // Write come with a failure of their device, and no other answer does.
+    ensures { RunsTranslate hide
+        (streams R.remaining reader.old reader.new W.contents writer.old writer.new) result }
+{
+    match read_bundle(alloc, reader) {
+        Ok(bundle) => translate_trace(alloc, hide, &bundle, reader, writer),
+        Err(BundleFault::Refused(refusal)) => refuse(alloc, &refusal, writer),
+        Err(BundleFault::TooLong) => Err(RunFault::TooLong),
+        Err(BundleFault::Read) => Err(RunFault::Read),
+        Err(BundleFault::Memory) => Err(RunFault::Memory),
+    }
+}
