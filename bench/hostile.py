@@ -292,7 +292,7 @@ def long_fraction(n):
     return '{"version":3,"mappings":"","x":0.' + "5" * n + "}", canonical()
 
 
-def long_whole_number(n):
+def long_integer(n):
     return '{"mappings":"","version":' + "3" * n + "}", refused("not json")
 
 
@@ -433,7 +433,7 @@ ROWS = [
     ("tidy", 1_000_000, equal_members),
     ("tidy", 1_000_000, other_members),
     ("tidy", 1_000_000, long_fraction),
-    ("tidy", 1_000_000, long_whole_number),
+    ("tidy", 1_000_000, long_integer),
     ("tidy", 1_000_000, open_lists),
     ("tidy", 1_000_000, many_small_values),
     ("tidy", 1_000_000, faulty_last_segment),

@@ -3,7 +3,7 @@
     python3 bench/make_map.py > large.map                 a flat map of about 35 MB
     python3 bench/make_map.py --index > large.map         an index map of 100 sections, about as large
     python3 bench/make_map.py --mappings > large.txt      a mappings text of about 25 MB with 4,000,000 segments
-    python3 bench/make_map.py --bundle > large.bundle     a flat map with a trace of 200,000 frames behind it
+    python3 bench/make_map.py --bundle > large.bundle     a flat map with a trace of 200,000 frames after it
 
 --segments, --sources, --names, --content and --segments-in-a-line give other sizes, --sections and --frames
 those of index maps and traces.

@@ -1,0 +1,31 @@
+# shellcheck shell=sh disable=SC2154
+# What the rows about man pages use, read by `.` after work.sh.
+
+# The options of a page, one a line.
+options_of_page() {
+    grep -o 'Fl [-a-z]*' "$1" | sed 's/Fl /-/' | sort -u
+}
+
+# The options that a text of help names.
+options_of_help() {
+    grep -o -e '--*[a-z][-a-z]*' | grep -e '^--[a-z]' -e '^-h$' | sort -u
+}
+
+# Runs the example of a page: its lines that begin with `$ ` as commands, in the folder $work. Says where
+# what they write isn't what the page says, and how many there were.
+run_example() {
+    sed -n '/^\.Sh EXAMPLES/,$p' "$1" | sed -e '1,/^\.Bd/d' -e '/^\.Ed/,$d' -e 's/\\e/\\/g' >example
+    : >commands
+    : >wanted
+    while IFS= read -r line; do
+        case $line in
+        '$ '*) printf '%s\n' "${line#* }" >>commands ;;
+        *) printf '%s\n' "$line" >>wanted ;;
+        esac
+    done <example
+    mkdir bin
+    ln -s "$SMAP" bin/smap
+    PATH=$work/bin:$PATH sh ./commands >written 2>&1
+    diff wanted written
+    grep -c '' commands
+}
