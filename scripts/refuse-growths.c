@@ -1,5 +1,5 @@
-/* Refuses one growth of a program that it is preloaded into: the request for memory whose number, from 1,
- * stands in REFUSE. That it came to that is noted by a byte on descriptor 9. */
+/* Preloaded into a program, refuses one of its requests for memory: the one whose number, from 1, is in
+ * REFUSE. A byte on descriptor 9 says that the request was made. */
 #define _GNU_SOURCE
 #include <dlfcn.h>
 #include <stdlib.h>

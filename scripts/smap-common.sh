@@ -14,14 +14,14 @@ say() {
     printf '%s: %s\n' "$me" "$1" >&2
 }
 
-# Says what is wrong, and ends with a status, 2 unless it is given.
+# Says what is wrong, and ends with a status, by default 2.
 fail() {
     say "$1"
     exit "${2:-2}"
 }
 
-# Sets SMAP to the program: what SMAP names, or smap beside the script, or as it was built beside the
-# folder of the script, or on the PATH.
+# Sets SMAP to the program: the one that SMAP names, or smap next to the script, or the one that was built in
+# the repository of the script, or smap on the PATH.
 find_program() {
     for program in "$here/smap" "$here/../crates/smap/out/smap"; do
         if [ -z "$SMAP" ] && [ -f "$program" ] && [ -x "$program" ]; then
@@ -39,12 +39,12 @@ find_program() {
     SMAP=$program
 }
 
-# Ends where a temporary file can't be written.
+# Ends because a temporary file can't be written.
 no_room() {
     fail "cannot write temporary files in ${TMPDIR:-/tmp}" 3
 }
 
-# Makes the folder for temporary files, which goes at the end and on signals.
+# Makes the folder for temporary files, which is removed at the end and on signals.
 make_room() {
     room=
     workers=
@@ -67,12 +67,12 @@ stop() {
     # shellcheck disable=SC2086
     [ -z "$workers" ] || kill $workers 2>/dev/null
     wait
-    # a signal may have come while the shell ended, and then nothing else does this
+    # if a signal comes while the shell ends, nothing else does this
     clean_up
     exit "$1"
 }
 
-# Sets `encoded` to a path as it stands in a URL: each byte that can't stand there is percent-encoded.
+# Sets `encoded` to a path as in a URL: each byte that a URL can't have there is percent-encoded.
 encode() {
     case $1 in
     *[!A-Za-z0-9/._~@+-]*) ;;
@@ -91,7 +91,7 @@ encode() {
         { for (i = 1; i <= NF; i++) printf "%s", $i in plain ? plain[$i] : "%" toupper($i) }')
 }
 
-# Writes the names of the maps in a folder and below it, from the folder on, one a line in byte order.
+# Writes the names of the maps in a folder and below it, relative to the folder, one a line in byte order.
 maps_below() {
     folder=$1
     case $folder in [!A-Za-z0-9/._]*) folder=./$folder ;; esac
@@ -108,7 +108,7 @@ maps_below() {
     done || exit
 }
 
-# Takes the slashes from the end of a folder's name, but for that of the root: sets `folder`.
+# Sets `folder` to a folder's name without slashes at its end; the root becomes empty.
 without_slashes() {
     folder=$1
     while [ "$folder" != "${folder%/}" ]; do
@@ -116,8 +116,8 @@ without_slashes() {
     done
 }
 
-# Calls `one NUMBER LINE` for each line of a file, as many at once as there are processors. It answers 0
-# where it has written what it had to.
+# Calls `one NUMBER LINE` for each line of a file, as many at once as there are processors. `one` answers 0
+# if it has written all that it had to.
 each_at_once() {
     left=$(nproc 2>/dev/null || getconf _NPROCESSORS_ONLN 2>/dev/null || echo 1)
     while [ "$left" -gt 0 ]; do
@@ -134,8 +134,8 @@ each_at_once() {
     done <"$1"
 }
 
-# Calls `one` for each line that no other worker has taken. A file that `one` names by `new` goes on
-# signals.
+# Calls `one` for each line that no other worker has taken. On signals, the file that `one` names in `new` is
+# removed.
 take_turns() {
     trap - EXIT HUP INT
     trap 'trap "" TERM; [ -z "$new" ] || rm -f "$new"; exit 143' TERM
@@ -143,7 +143,7 @@ take_turns() {
     number=0
     while IFS= read -r line; do
         number=$((number + 1))
-        # With -C a file is made by one worker alone.
+        # With -C only one worker can make the file.
         set -C
         if { command true >"$room/$number.taken"; } 2>/dev/null; then
             set +C
@@ -153,7 +153,7 @@ take_turns() {
     done <"$1"
 }
 
-# Sets `fault` to what smap said of a map, by its status and by what it wrote, and `status` to 1, 3 or 4.
+# Sets `fault` to the error of a map, from smap's status and output, and `status` to 1, 3 or 4.
 fault_of() {
     status=$1
     case $1:$2 in

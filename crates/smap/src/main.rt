@@ -1,6 +1,6 @@
-//! The program `smap`: the words of its command line as a task, the task's run over the standard
-//! streams, and the status that the run ends with. What each run reads and writes is `smap_tool`'s.
-//! Standard input stands behind a buffer, since a bundle's headers are read byte by byte.
+//! The program `smap`: from the arguments of its command line to a task, the run of the task on the
+//! standard streams, and its exit status. What each run reads and writes is defined in `smap_tool`.
+//! Standard input is buffered, since a bundle's headers are read byte by byte.
 #![tactic(auto)]
 
 use smap_io::Device;
@@ -13,7 +13,7 @@ use std::rt::Env;
 
 const OUT_OF_MEMORY: &str = "smap: out of memory\n";
 
-/// What standard error says of a run that gave up.
+/// The message on standard error for a run that gave up.
 fn message(fault: RunFault) -> &'static str {
     match fault {
         RunFault::TooLong => "smap: input too long\n",
@@ -23,7 +23,7 @@ fn message(fault: RunFault) -> &'static str {
     }
 }
 
-/// The words of the command line. It fails where one of them is no text, or without memory.
+/// The arguments of the command line. It fails if one of them isn't UTF-8, or if memory runs out.
 fn arguments(rt: &(impl Env + AllocGlobal)) -> io::Result<Vec<String>> {
     Ok(env::args(rt)?.collect(rt.alloc())?)
 }

@@ -17,7 +17,7 @@ use Rattle.smap_io.specs.declared.device.Device.{Device}
 use Rattle.smap_io.specs.Device.{device_failures, has_ended}
 use Rattle.smap_io.specs.Reading.{Gave, ReadsLine}
 use Rattle.smap_bundle.specs.declared.fault.EntryFault.TheVariants as wrong
-use Rattle.smap_bundle.specs.Header.{BeginsWithHeader, HasNoHeader, IsHeader, longest_header, trace_line}
+use Rattle.smap_bundle.specs.Header.{BeginsWithHeader, HasNoHeader, IsHeader, LONGEST_HEADER, trace_line}
 use Rattle.smap_bundle.specs.Bundle.{Answer, Answers, AreEntries, FaultAt, FaultOfEntry, FaultOfMap, IsEntry, refusal, usual}
 use Rattle.smap_bundle.specs.Entries.{IsNew, TakesEntry, TakesMap, cut_off}
 use Rattle.smap_bundle.specs.Reading.{IsLine, MayFollow}
@@ -104,7 +104,7 @@ has_none ended line more (inr w) may isnt none = record {
 }
   where
     -- so far the line was read
-    reaches : (t : Bool) → MayFollow t more → (t ≡ false → longest_header ≤ length line) → (k : ℕ) → k ≤ longest_header → (xs rest : List ℕ)
+    reaches : (t : Bool) → MayFollow t more → (t ≡ false → LONGEST_HEADER ≤ length line) → (k : ℕ) → k ≤ LONGEST_HEADER → (xs rest : List ℕ)
         → length xs ≡ k → line ++ more ≡ xs ++ rest → length xs ≤ length line
     reaches false may long k short xs rest is e = omega (arith, long refl, short, is)
     reaches true may long k short xs rest is e =
@@ -192,12 +192,12 @@ answered hide ss entries line text answer are distinct fault = record {
 
 -- ---- lines as they are read
 
-pub line_read : {R : Type 0} (remaining : R → Option (List ℕ)) (a b : Device R) (line : List ℕ) → has_ended a ≡ false → ReadsLine remaining a b longest_header line
+pub line_read : {R : Type 0} (remaining : R → Option (List ℕ)) (a b : Device R) (line : List ℕ) → has_ended a ≡ false → ReadsLine remaining a b LONGEST_HEADER line
     → IsLine (has_ended b) line × Gave remaining a b line × (device_failures b ≡ device_failures a)
 line_read remaining a b line still (inl w) =
     (inl (record { front = w.is_line.front; whole = w.is_line.whole; one_line = w.is_line.one_line; short = w.within }, w.ended ∙ still), w.gave, w.failures)
-line_read remaining a b line still (inr u) = (inr (u.1, λ still_open. far (cases_lt (length line) longest_header) still_open), u.0.gave, u.0.failures)
+line_read remaining a b line still (inr u) = (inr (u.1, λ still_open. far (cases_lt (length line) LONGEST_HEADER) still_open), u.0.gave, u.0.failures)
   where
-    far : (length line < longest_header) ⊎ (longest_header ≤ length line) → has_ended b ≡ false → longest_header ≤ length line
+    far : (length line < LONGEST_HEADER) ⊎ (LONGEST_HEADER ≤ length line) → has_ended b ≡ false → LONGEST_HEADER ≤ length line
     far (inl lt) still_open = absurd (true≢false (sym (u.0.short lt).0 ∙ still_open))
     far (inr le) still_open = le

@@ -75,7 +75,7 @@ pub insert_new : {A : Type 0} (k : String A) (v : ReadMap) (es : List (String A 
     → scripts_of (insert_entry (λ (a b : String A). bytes_eq (string_bytes a) (string_bytes b)) es k v) ≡ scripts_of es ++ (string_bytes k, record_of v) ∷ []
 insert_new k v es new = put_last k v es (lacks_url (string_bytes k) (scripts_of es) new)
 
--- ---- the scripts as they are lent
+-- ---- the pairs of URL and map
 
 found : {A : Type 0} (es : List A) (i : ℕ) (e : A) → slice_get es i ≡ Some e → get_or es i e ≡ e
 found [] i e h = cc
@@ -85,10 +85,10 @@ found (x ∷ xs) (suc i) e h = found xs i e h
 take_next : {A : Type 0} (es : List A) (i : ℕ) (e : A) → slice_get es i ≡ Some e → take (i + 1) es ≡ take i es ++ e ∷ []
 take_next {A = A} es i e h = take_more es i e (slice_get_within es i e h) ∙ ap (λ (x : A). take i es ++ x ∷ []) (found es i e h)
 
-pub next_lent : {A : Type 0} (xs : List (Bor (List ℕ) × Bor ReadMap)) (es : List (String A × ReadMap)) (i : ℕ) (e : String A × ReadMap) (u : Bor (List ℕ)) (m : Bor ReadMap)
+pub next_pair : {A : Type 0} (xs : List (Bor (List ℕ) × Bor ReadMap)) (es : List (String A × ReadMap)) (i : ℕ) (e : String A × ReadMap) (u : Bor (List ℕ)) (m : Bor ReadMap)
     → scripts_in xs ≡ scripts_of (take i es) → slice_get es i ≡ Some e → u.now ≡ string_bytes e.0 → m.now ≡ e.1
     → scripts_in (xs ++ (u, m) ∷ []) ≡ scripts_of (take (i + 1) es)
-next_lent {A = A} xs es i e u m so_far at url is =
+next_pair {A = A} xs es i e u m so_far at url is =
     let last : ◌≡◌ {A = Script} (u.now, record_of m.now) (script_of e) = rw (url, is) refl in
     map-append script_in xs ((u, m) ∷ []) ∙ ap (λ (ss : List Script). ss ++ (u.now, record_of m.now) ∷ []) so_far
     ∙ ap (λ (s : Script). scripts_of (take i es) ++ s ∷ []) last

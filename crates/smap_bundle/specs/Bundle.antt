@@ -1,5 +1,5 @@
 -- The bundle that `translate` reads: entries, then the line `trace`, then the trace up to the end of the
--- input. An entry is a header, the bytes of a map, and a line feed. A format of this project's own.
+-- input. An entry is a header, the bytes of a map, and a line feed. The format is this project's own.
 use Rattle.std.specs.Prelude.{◌≡◌, ◌≢◌, ◌⊎◌, ℕ, ◌<◌, ◌≤◌, Bool, List, [], ◌∷◌, ◌++◌, length, Contains, map}
 use Rattle.std.specs.Prelude.{slice_get, take, Some, None, Ok, Err, IsErr}
 use Rattle.url.specs.Parser.{parse_url}
@@ -17,7 +17,7 @@ use Rattle.smap_bundle.specs.Header.{BeginsWithHeader, HasNoHeader, trace_line}
 
 -- ---- entries
 
--- The text is an entry that isn't refused, and gives this script.
+-- These bytes are an entry without a fault, which gives this script.
 pub record IsEntry (text : List ℕ) (script : Script) : Type 0 where
   pub base : List ℕ
   pub url : Parts
@@ -29,13 +29,13 @@ pub record IsEntry (text : List ℕ) (script : Script) : Type 0 where
   pub is_map : reading url usual bytes ≡ Ok map_text
   pub record_is : script.1 ≡ record_of map_text
 
--- The text is the entries of these scripts, one after another.
+-- These bytes are the entries of these scripts, one after another.
 abbrev pub AreEntries : List ℕ → List Script → Type 0
 AreEntries text [] = text ≡ []
 AreEntries text (s ∷ ss) =
     (entry : List ℕ) × (rest : List ℕ) × (text ≡ entry ++ rest) × IsEntry entry s × AreEntries rest ss
 
--- The input is the entries of these scripts, no two of which have one URL, and then this rest.
+-- The input is the entries of these scripts, no two of which have the same URL, and then this rest.
 pub record Reads (input : List ℕ) (scripts : List Script) (rest : List ℕ) : Type 0 where
   pub entries : List ℕ
   pub whole : input ≡ entries ++ rest
@@ -44,36 +44,37 @@ pub record Reads (input : List ℕ) (scripts : List Script) (rest : List ℕ) : 
 
 -- ---- the answer
 
--- What `translate` answers: what it writes of a bundle that isn't refused, or the bundle's first fault, or
+-- What `translate` answers: what it writes for a bundle without a fault, or the bundle's first fault, or
 -- that a map is too long.
 pub data Answer : Type 0 where
   done : List ℕ → Answer
   refused : Refusal → Answer
   too_long : Answer
 
--- this fault of the entry of this number
+-- this fault of the entry with this index
 abbrev pub refusal : ℕ → EntryFault → Answer
 refusal i fault = refused (record { entry = i; fault = fault })
 
--- This where P holds, and else by the next rule.
+-- If P holds this, and else by the next rule.
 abbrev pub Where : Type 0 → Type 0 → Type 0 → Type 0
 Where P this next = (P × this) ⊎ ((P → ⊥) × next)
 
--- The map of an entry is refused under its base.
+-- The map of an entry has this fault, read against its base.
 pub record IsRefusedMap (base bytes : List ℕ) (fault : Fault) : Type 0 where
   pub url : Parts
   pub is_base : parse_url None base ≡ Ok url
   pub is_fault : reading url usual bytes ≡ Err fault
 
--- What is wrong with the map whose base and n bytes stand there: the bytes or their line feed are cut off, or
--- the map is refused.
+-- Rules 5 and 6, for a map of n bytes: 5. the input ends within the map, or the byte after the map isn't a
+-- line feed; 6. the map is rejected.
 abbrev pub FaultOfMap : ℕ → List ℕ → ℕ → List ℕ → Answer → Type 0
 FaultOfMap i base n more answer =
     Where (slice_get more n ≢ Some 10) (answer ≡ refusal i wrong.CutOff)
     ((fault : Fault) × IsRefusedMap base (take n more) fault × (answer ≡ refusal i (wrong.Map fault)))
 
--- What is wrong with the entry after those of `seen`, whose header is followed by `more`: the first that
--- holds.
+-- The fault of the entry after those of `seen`, whose header is followed by `more`, is the first rule that
+-- applies: 2. the map is too long; 3. an earlier entry has the same script; 4. the base isn't an absolute
+-- URL; then rules 5 and 6.
 abbrev pub FaultOfEntry : List Script → List ℕ → List ℕ → ℕ → List ℕ → Answer → Type 0
 FaultOfEntry seen script base n more answer =
     let i = length seen in
@@ -82,7 +83,8 @@ FaultOfEntry seen script base n more answer =
     (Where (IsErr (parse_url None base)) (answer ≡ refusal i wrong.Base)
     (FaultOfMap i base n more answer)))
 
--- What is wrong after the entries of `seen`.
+-- The fault after the entries of `seen`: 1. the next line is neither `trace` nor a header; then rules 2 to
+-- 6.
 abbrev pub FaultAt : List Script → List ℕ → Answer → Type 0
 FaultAt seen text answer = Where (HasNoHeader text) (answer ≡ refusal (length seen) wrong.Header)
     ((script : List ℕ) × (base : List ℕ) × (n : ℕ) × (more : List ℕ)

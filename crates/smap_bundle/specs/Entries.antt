@@ -17,16 +17,16 @@ use Rattle.smap_bundle.specs.Header.{trace_line}
 abbrev pub IsNew : List Script → List ℕ → Type 0
 IsNew seen script = Contains (map (λ s. s.0) seen) script → ⊥
 
--- After so many bytes no line feed stands, and the entry is refused.
+-- The byte after this many isn't a line feed, and the entry is rejected.
 abbrev pub cut_off : ℕ → ℕ → List ℕ → Answer → Type 0
 cut_off entry len more answer = (slice_get more len ≢ Some 10) × (answer ≡ refusal entry wrong.CutOff)
 
--- Fewer calls are left, and each gave at least one byte.
+-- At least one call was made, and at most one for each byte.
 pub record UsesCalls (old new : ℕ) (bytes : List ℕ) : Type 0 where
   pub fewer : new < old
   pub paid : old ≤ new + length bytes
 
--- The map of a header was read, and its script put after the others.
+-- The map of a header was read, and its script added after the others.
 pub record TakesMap {R : Type 0} (remaining : R → Option (List ℕ)) (reader_old reader_new : Device R)
     (calls_old calls_new : ℕ) (script base : List ℕ) (len : ℕ) (old new : List Script) : Type 0 where
   pub bytes : List ℕ
@@ -41,7 +41,7 @@ pub record TakesMap {R : Type 0} (remaining : R → Option (List ℕ)) (reader_o
   pub new_script : IsNew old script
   pub added : new ≡ old ++ (script, record_of map_text) ∷ []
 
--- An entry was read, whose first line was read before, and its script put after the others.
+-- The rest of an entry was read, after its first line, and its script added after the others.
 pub record TakesEntry {R : Type 0} (remaining : R → Option (List ℕ)) (reader_old reader_new : Device R)
     (calls_old calls_new : ℕ) (line : List ℕ) (old new : List Script) : Type 0 where
   pub script : Script

@@ -1,20 +1,21 @@
 -- The header of an entry of a bundle: the URL of a script, the base of its map, and how many bytes the map
--- has. A format of this project's own.
+-- has. The format is this project's own.
 use Rattle.std.specs.Prelude.{◌≡◌, ◌≢◌, ℕ, ◌<◌, ◌≤◌, true, List, [], ◌∷◌, ◌++◌, length, codes, IsUtf8}
 use Rattle.std.specs.Prelude.{slice_index}
 use Rattle.std.specs.List.{list_all}
 use Rattle.std.specs.Char.{is_ascii_digit}
 use Rattle.std.specs.Str.Parse.{digits_value}
 use Rattle.smap_trace.specs.Frame.{lacks}
+pub use Rattle.smap_bundle.specs.declared.header.TheConstants.{LONGEST_HEADER}
 
--- A whole number in decimal digits: `0`, or digits that don't begin with `0`.
+-- An integer in decimal digits: `0`, or digits that don't begin with `0`.
 pub record IsNumber (text : List ℕ) (n : ℕ) : Type 0 where
   pub digits : list_all is_ascii_digit text ≡ true
   pub some : 0 < length text
   pub no_zero : slice_index text 0 ≡ 48 → text ≡ codes "0"
   pub value : digits_value 10 text ≡ n
 
--- A text that a header may hold: some UTF-8 without a space and without a line feed.
+-- A URL that a header may hold: nonempty UTF-8 without a space and without a line feed.
 pub record IsWord (text : List ℕ) : Type 0 where
   pub some : 0 < length text
   pub utf8 : IsUtf8 text
@@ -25,10 +26,6 @@ pub record IsWord (text : List ℕ) : Type 0 where
 abbrev pub header : List ℕ → List ℕ → List ℕ → List ℕ
 header script base len = codes "map " ++ (script ++ (codes " " ++ (base ++ (codes " " ++ (len ++ 10 ∷ [])))))
 
--- the most bytes that a header line has, its line feed among them
-abbrev pub longest_header : ℕ
-longest_header = 65536
-
 -- The line is the header of this script and this base, whose map has n bytes.
 pub record IsHeader (line script base : List ℕ) (n : ℕ) : Type 0 where
   pub digits : List ℕ
@@ -36,9 +33,9 @@ pub record IsHeader (line script base : List ℕ) (n : ℕ) : Type 0 where
   pub script_word : IsWord script
   pub base_word : IsWord base
   pub number : IsNumber digits n
-  pub short : length line ≤ longest_header
+  pub short : length line ≤ LONGEST_HEADER
 
--- The text begins with such a line, and `more` follows it.
+-- The input begins with such a line, and `more` follows it.
 pub record BeginsWithHeader (text script base : List ℕ) (n : ℕ) (more : List ℕ) : Type 0 where
   pub line : List ℕ
   pub whole : text ≡ line ++ more
@@ -48,8 +45,7 @@ pub record BeginsWithHeader (text script base : List ℕ) (n : ℕ) (more : List
 abbrev pub trace_line : List ℕ
 trace_line = codes "trace" ++ 10 ∷ []
 
--- Neither the line `trace` nor a header comes: the next line is too long, has no line feed or isn't of that
--- form.
+-- The next line is neither `trace` nor a header: it is too long, has no line feed or has another form.
 pub record HasNoHeader (text : List ℕ) : Type 0 where
   pub no_trace : (trace : List ℕ) → text ≢ trace_line ++ trace
   pub no_header : (script base more : List ℕ) (n : ℕ) → BeginsWithHeader text script base n more → ⊥

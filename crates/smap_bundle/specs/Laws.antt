@@ -1,16 +1,16 @@
--- What holds of bundles, whatever the input.
+-- Laws about bundles, for every input.
 use Rattle.std.specs.Prelude.{◌≡◌, ℕ, Bool, List, [], codes}
 use Rattle.smap_bundle.specs.declared.fault.EntryFault.TheVariants as wrong
 use Rattle.smap_bundle.specs.Header.{BeginsWithHeader, IsHeader}
 use Rattle.smap_bundle.specs.Bundle.{Answer, Answers, done, refusal}
 
--- A line is at most one header.
+-- A line is a header in at most one way.
 abbrev pub OneHeader : Type 0
 OneHeader = (line script base other_script other_base : List ℕ) (n m : ℕ)
     → IsHeader line script base n → IsHeader line other_script other_base m
     → (script ≡ other_script) × (base ≡ other_base) × (n ≡ m)
 
--- A text begins with at most one header.
+-- An input begins with at most one header.
 abbrev pub OneBeginning : Type 0
 OneBeginning = (text script base more other_script other_base other_more : List ℕ) (n m : ℕ)
     → BeginsWithHeader text script base n more → BeginsWithHeader text other_script other_base m other_more
@@ -21,7 +21,7 @@ abbrev pub OneAnswer : Type 0
 OneAnswer = (hide : Bool) (input : List ℕ) (a b : Answer) → Answers hide input a → Answers hide input b
     → a ≡ b
 
--- The first rows: an empty input has no header, and a trace without entries and lines gives nothing.
+-- The shortest inputs: an empty one has no header, and a trace without entries and lines gives nothing.
 abbrev pub FirstRows : Type 0
 FirstRows = (hide : Bool)
     → Answers hide [] (refusal 0 wrong.Header) × Answers hide (codes "trace\n") (done [])

@@ -1,4 +1,4 @@
--- The scripts that were read, as the definitions see them.
+-- The scripts that were read, as the definitions have them.
 use Rattle.std.specs.Prelude.{List, String, map, string_bytes}
 use Rattle.smap_record.specs.Record.{ReadMap, record_of}
 use Rattle.smap_trace.specs.Translation.{Script}

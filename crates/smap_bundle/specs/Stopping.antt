@@ -1,4 +1,4 @@
--- Why the entries of a bundle give no scripts.
+-- Why reading the entries of a bundle stopped.
 use Rattle.std.specs.Prelude.{◌≡◌, ◌⊎◌, ℕ, ◌<◌, ◌≤◌, List, ◌++◌, length, Option}
 use Rattle.smap_io.specs.declared.device.Device.{Device}
 use Rattle.smap_io.specs.Device.{device_failures, has_ended}
@@ -10,14 +10,14 @@ use Rattle.smap_bundle.specs.declared.fault.BundleFault.TheVariants as fault
 use Rattle.smap_bundle.specs.Bundle.{Answer, refused, too_long}
 use Rattle.smap_bundle.specs.Reading.{MayFollow}
 
--- The answer where it is one; want of memory says nothing, and nothing is read or written.
+-- P holds for the answer, if there is one. Running out of memory isn't one, and nothing is read here.
 abbrev pub Says : (Answer → Type 0) → BundleFault → Type 0
 Says P (fault.Refused refusal) = P (refused refusal)
 Says P fault.TooLong = P too_long
 Says P fault.Memory = Unit {0}
 Says P fault.Read = ⊥
 
--- what a reader's fault comes to
+-- the answer to a fault of reading
 abbrev pub unread : ReadFault → BundleFault
 unread io.Failed = fault.Read
 unread io.Spent = fault.Read
@@ -30,8 +30,8 @@ pub record Settled {R : Type 0} (remaining : R → Option (List ℕ)) (old new :
   pub gave : Gave remaining old new bytes
   pub settled : (more : List ℕ) → MayFollow (has_ended new) more → P (bytes ++ more) answer
 
--- Reading by so many calls stopped: by an answer for what was read, or because a call failed, or the calls
--- were spent, or there was no memory.
+-- Reading with this many calls stopped: with an answer for what was read, or because a call failed, or the
+-- calls were used up, or memory ran out.
 abbrev pub Stops : {R : Type 0} → (R → Option (List ℕ)) → Device R → Device R → ℕ
     → (List ℕ → Answer → Type 0) → BundleFault → Type 0
 Stops remaining old new calls P (fault.Refused refusal) =

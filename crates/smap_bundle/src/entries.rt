@@ -1,4 +1,4 @@
-//! The entries of a bundle: the scripts whose maps are at hand.
+//! Reading the entries of a bundle.
 ghost use Rattle.std.specs.Prelude.{◌≡◌, ◌≢◌, ℕ, Bool, List, ◌-◌, ◌^◌, ◌<◌, ◌≤◌, ◌++◌, ◌∷◌, [], IfOk, IfErr};
 ghost use Rattle.std.specs.Prelude.{MatchResult, OnOk, Contains, None, Some, false, length, map, min};
 ghost use Rattle.std.specs.Prelude.{slice_get, true};
@@ -14,7 +14,7 @@ ghost use Rattle.smap_bundle.specs.Entries.{TakesEntries, TakesEntry, TakesMap, 
 ghost use Rattle.smap_bundle.specs.Header.{trace_line};
 ghost use Rattle.smap_bundle.specs.Reading.{IsLine};
 ghost use Rattle.smap_bundle.specs.Scripts.{scripts_of};
-ghost use Rattle.smap_bundle.specs.Stopping as told;
+ghost use Rattle.smap_bundle.specs.Stopping as stopping;
 ghost use Rattle.smap_bundle.specs.Stopping.{Says, Stops};
 ghost use Rattle.url.specs.Parser.{parse_url};
 
@@ -27,16 +27,16 @@ use smap_record::{Base, BaseFault, Limits, ReadError, SourceMap};
 use std::alloc::Global;
 use std::io::Read;
 
-/// The refusal of an entry.
+/// An entry is rejected for this fault.
 fn refused(entry: usize, fault: EntryFault) -> BundleFault
     ensures { Says (λ answer. answer ≡ spec.refusal entry fault) result }
 {
     BundleFault::Refused(Refusal { entry, fault })
 }
 
-/// What a fault of the reader comes to.
+/// The answer to a fault of reading.
 fn unread(fault: ReadFault) -> BundleFault
-    ensures { result ≡ told.unread fault }
+    ensures { result ≡ stopping.unread fault }
 {
     match fault {
         ReadFault::Failed | ReadFault::Spent => BundleFault::Read,
@@ -44,7 +44,7 @@ fn unread(fault: ReadFault) -> BundleFault
     }
 }
 
-/// The base of the next entry, whose length and script are right.
+/// The base of the next entry, once its length and its script are checked.
 fn base_of(
     alloc: Global,
     header: &Header<'_>,
@@ -70,7 +70,7 @@ fn base_of(
     }
 }
 
-/// The bytes of the next entry's map, after which a line feed was read.
+/// The bytes of the next entry's map. The line feed after them is read too.
 fn bytes_of<R: Read>(
     alloc: Global,
     reader: &mut Device<R>,
@@ -118,7 +118,7 @@ fn map_of(
     }
 }
 
-/// Puts a script after the others.
+/// Adds a script after the others.
 fn add(
     alloc: Global,
     scripts: &mut IndexMap<String, SourceMap>,
@@ -139,7 +139,7 @@ fn add(
     }
 }
 
-/// Takes the entry that begins with this header, which was read.
+/// Reads the rest of the entry with this header, and adds its script.
 fn take_map<R: Read>(
     alloc: Global,
     reader: &mut Device<R>,
@@ -165,7 +165,7 @@ fn take_map<R: Read>(
     add(alloc, scripts, header.script, map)
 }
 
-/// Takes the entry that begins with this line, which was read and isn't `trace`.
+/// Reads the rest of the entry that begins with this line, which isn't `trace`, and adds its script.
 fn take_entry<R: Read>(
     alloc: Global,
     reader: &mut Device<R>,
@@ -191,23 +191,27 @@ fn take_entry<R: Read>(
     take_map(alloc, reader, calls, &header, scripts)
 }
 
-/// Reads the entries of a bundle and the line `trace` after them, and no byte more.
+/// Reads the entries of a bundle and the line `trace` after them, and nothing more: the reader is then at
+/// the first byte of the trace.
 ///
-/// The bundle is `Refused` with its first fault, or it is `TooLong` where a header gives a map more than
-/// 268,435,456 bytes; the entries together have no limit. There are at most 4,294,967,296 read calls, and
-/// where these don't reach the line `trace` the answer is `Read`.
+/// The reader's end must not have been seen yet, and fewer than 2^64 - 1 of its calls may have failed.
+///
+/// # Errors
+///
+/// `Refused` with the first fault; `TooLong` where a header gives a map more than 268,435,456 bytes (the
+/// entries together have no limit); `Read` where a read fails, or 4,294,967,296 reads didn't reach the line
+/// `trace`; `Memory`.
 pub fn read_bundle<R: Read>(alloc: Global, reader: &mut Device<R>) -> Result<Bundle, BundleFault>
     requires failures { device_failures reader.old < 2 ^ 64 - 1 }
     requires not_ended { has_ended reader.old ≡ false }
 
     // The bundle's scripts are those of the entries that were read, and then the line `trace`.
-    ensures takes { IfOk result (λ bundle. TakesEntries R.remaining reader.old reader.new
-        (scripts_of bundle.scripts.entries)) }
+    ensures takes { IfOk result (TakesEntries R.remaining reader.old reader.new) }
     ensures failures { OnOk result (device_failures reader.new ≡ device_failures reader.old) }
     ensures not_ended { OnOk result (has_ended reader.new ≡ false) }
 
-    // A refusal, and that a map is too long, is the answer for what was read, whatever follows. Read comes
-    // with a failure of the reader, or where so many bytes were read, and no other answer comes with a
+    // Refused and TooLong are the answer for what was read, whatever follows. Read comes with a failure of
+    // the reader, or if at least as many bytes as calls were read, and no other answer comes with a
     // failure.
     ensures stops { (hide : Bool) → IfErr result (Stops R.remaining reader.old reader.new MOST_CALLS
         (spec.Answers hide)) }
@@ -220,7 +224,7 @@ pub fn read_bundle<R: Read>(alloc: Global, reader: &mut Device<R>) -> Result<Bun
             Err(fault) => return Err(unread(fault)),
         };
         if line.as_slice() == b"trace\n".as_slice() {
-            return Ok(Bundle { scripts });
+            return Ok(Bundle::new(scripts));
         }
         take_entry(alloc, reader, &mut calls, line.as_slice(), &mut scripts)?;
     }

@@ -1,37 +1,40 @@
-//! Why a bundle isn't read.
+//! Why a bundle is rejected.
 
 use smap_record::Fault;
 
-/// What is wrong with an entry, in the order in which faults are looked for.
+/// What is wrong with an entry. Of several faults the first in this list is reported.
 #[derive(Debug, Drop, PartialEq, Eq)]
 pub enum EntryFault {
-    /// Neither a header nor the line `trace` comes.
+    /// The next line is neither a header nor `trace`.
     Header,
     /// An earlier entry has the same script.
     Repeated,
-    /// The base is no URL.
+    /// The base isn't an absolute URL.
     Base,
-    /// Some of the map's bytes are missing, or the line feed after them.
+    /// The input ends within the map, or the byte after the map isn't a line feed.
     CutOff,
-    /// The map is refused.
+    /// The map is rejected, for this fault.
     Map(Fault),
 }
 
 /// The first fault of a bundle.
 #[derive(Debug, Drop, PartialEq, Eq)]
 pub struct Refusal {
-    /// Which entry it is, from 0.
+    /// The index of the entry, from 0.
     pub entry: usize,
+    /// What is wrong with it.
     pub fault: EntryFault,
 }
 
-/// Why a bundle isn't read. Want of memory may stand in place of any other answer.
+/// Why a bundle wasn't read. `Memory` may come in place of any other answer.
 #[derive(Debug, Drop, PartialEq, Eq)]
 pub enum BundleFault {
+    /// It has this fault, and no earlier one.
     Refused(Refusal),
     /// A header gives a map more than 268,435,456 bytes.
     TooLong,
-    /// A call of the reader failed, or 4,294,967,296 calls didn't reach the line `trace`.
+    /// A read failed, or 4,294,967,296 reads didn't reach the line `trace`.
     Read,
+    /// Out of memory, or a URL of 4 GiB or more.
     Memory,
 }

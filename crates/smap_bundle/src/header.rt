@@ -3,16 +3,16 @@ ghost use Rattle.std.specs.Prelude.{◌≡◌, ◌≢◌, ℕ, ◌-◌, ◌^◌,
 ghost use Rattle.std.specs.Prelude.{MatchOption, codes, length, min, true};
 ghost use Rattle.std.specs.Char.{is_ascii_digit};
 ghost use Rattle.std.specs.List.{list_all};
-ghost use Rattle.smap_bundle.specs.Header.{IsHeader, IsNumber, longest_header};
+ghost use Rattle.smap_bundle.specs.Header.{IsHeader, IsNumber};
 ghost use Rattle.smap_trace.specs.Frame.{lacks};
 
 use std::str;
 
-/// The most bytes that a header line has, its line feed among them.
+/// The most bytes of a header line, its line feed included.
 pub(crate) const LONGEST_HEADER: usize = 65_536;
 
-/// What a header says: the URL of a script, the base of its map, and how many bytes the map has. A greater
-/// length than a u64 holds is u64::MAX.
+/// A header: the URL of a script, the base of its map, and how many bytes the map has. A length that
+/// doesn't fit into a u64 is u64::MAX.
 #[derive(Drop)]
 pub(crate) struct Header<'a> {
     pub(crate) script: &'a str,
@@ -20,7 +20,7 @@ pub(crate) struct Header<'a> {
     pub(crate) length: u64,
 }
 
-/// What stands between `map ` and the line feed.
+/// What is between `map ` and the line feed.
 fn words_of(line: &[u8]) -> Option<&str>
     ensures { MatchOption result ((words : List ℕ) → IsUtf8 words → line.now ≢ codes "map " ++
         (words ++ 10 ∷ []))
@@ -33,7 +33,7 @@ fn words_of(line: &[u8]) -> Option<&str>
     }
 }
 
-/// Whether there is something, and no line feed.
+/// Whether the string isn't empty, and has no line feed.
 fn is_one_line(text: &str) -> bool
     ensures one_line { IsTrue result ↔ ((0 < length text.now) × (lacks 10 text.now ≡ true)) }
     ensures utf8 { IsUtf8 text.now }
@@ -41,14 +41,14 @@ fn is_one_line(text: &str) -> bool
     !text.is_empty() && !text.as_bytes().contains(&b'\n')
 }
 
-/// Whether these are decimal digits alone.
+/// Whether all bytes are decimal digits.
 fn are_digits(bytes: &[u8]) -> bool
     ensures { result ≡ list_all is_ascii_digit bytes.now }
 {
     bytes.iter().all(|b| b.is_ascii_digit())
 }
 
-/// Whether these are the decimal digits of a number.
+/// Whether this is an integer in decimal digits.
 fn is_number(text: &str) -> bool
     ensures { IsTrue result ↔ ((n : ℕ) × IsNumber text.now n) }
 {
@@ -59,7 +59,7 @@ fn is_number(text: &str) -> bool
     }
 }
 
-/// The number that is written so.
+/// The integer that this is in decimal digits, or u64::MAX for a greater one.
 fn number_of(text: &str) -> Option<u64>
     ensures { MatchOption result ((n : ℕ) → IsNumber text.now n → ⊥)
         (λ least. (n : ℕ) × IsNumber text.now n × (least ≡ min n (2 ^ 64 - 1))) }
@@ -73,7 +73,7 @@ fn number_of(text: &str) -> Option<u64>
     }
 }
 
-/// The header that the line is, with its line feed.
+/// The header that the line is, which includes its line feed.
 pub(crate) fn parse_header(line: &[u8]) -> Option<Header<'_>>
     ensures { MatchOption result ((script base : List ℕ) (n : ℕ) → IsHeader line.now script base n → ⊥)
         (λ h. (n : ℕ) × IsHeader line.now h.script.now h.base.now n × (h.length ≡ min n (2 ^ 64 - 1))) }

@@ -26,7 +26,7 @@ fn refuses(rt: &(impl Abort + AllocGlobal), bundle: &[u8], fault: BundleFault) {
     }
 }
 
-/// The refusal of an entry.
+/// An entry that is rejected for this fault.
 fn refused(entry: usize, fault: EntryFault) -> BundleFault {
     BundleFault::Refused(Refusal { entry, fault })
 }
@@ -145,7 +145,7 @@ fn the_kth_read_fails(rt: HostRuntime) {
     }
 }
 
-/// The header of a script of so many bytes, whose map isn't there.
+/// The header of a script with a map of this many bytes, which isn't there.
 fn long_header(rt: &impl AllocGlobal, script: usize) -> Result<String, Fail> {
     let mut bundle = String::from_str(rt.alloc(), "map ")?;
     for _ in 0..script {
@@ -169,4 +169,25 @@ fn a_header_has_at_most_65536_bytes(rt: HostRuntime) -> Result<(), Fail> {
         refused(0, EntryFault::Header),
     );
     Ok(())
+}
+
+#[test]
+fn nothing_is_read_after_the_first_fault(rt: HostRuntime) {
+    // A line up to its line feed byte by byte, and a map with its line feed by sevens.
+    for (bundle, calls) in [
+        ("", 1),
+        ("trace", 6),
+        ("trace \n@u:1:1\n", 7),
+        ("map u http://h/ 02\n{}\ntrace\n", 19),
+        ("map u nobase 2\n{}\ntrace\n", 15),
+        ("map u http://h/ 268435457\n{}\ntrace\n", 26),
+        ("map u http://h/ 2\n{}x\ntrace\n", 19),
+        ("map u http://h/ 2\n{}\ntrace\n", 19),
+        ("map u http://h/ 8\n{}\ntrace\n", 20),
+        ("map u http://h/ 9\n{}\ntrace\n", 21),
+    ] {
+        let mut reader = Device::new(SlowReader::new(bundle.as_bytes(), 7, 0));
+        assert!(rt; read_bundle(rt.alloc(), &mut reader).is_err(), "{bundle:?}");
+        assert_eq!(rt; reader.into_inner().calls, calls, "{bundle:?}");
+    }
 }

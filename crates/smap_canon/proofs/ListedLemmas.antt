@@ -1,6 +1,6 @@
 -- The record of a listing can be written.
 use Rattle.std.proofs.Common.{◌≡◌, ℕ, ◌<◌, ◌≤◌, List, [], ◌∷◌, length, map, Option, Some, None, ap, ◌∙◌, sym, subst, true, false, arith, slice_get, refl, Bool, cond, ◌^◌}
-use Rattle.std.specs.Prelude.{IfSome, option_map, option_and_then, bytes_eq, unwrap_or}
+use Rattle.std.specs.Prelude.{IfSome, is_some, option_map, option_and_then, bytes_eq, unwrap_or}
 use Rattle.std.specs.List.{AllByRecursion, list_any, filter_map, cons_option}
 use Rattle.std.proofs.lemmas.Option.{slice_get-get_or}
 use Rattle.smap_mappings.specs.declared.token.Token.{Token}
@@ -83,7 +83,7 @@ listing-writable m h = record {
 
 -- fewer sources are listed than numbers of 64 bits
 pub few_listed : (l : Listed) → IsListing l.map.now.listing → length (sources_of l) ≤ 2 ^ 64
-few_listed l h = by l.each_once
+few_listed l h = by (is_some l.names)
   where
     by : (b : Bool) → length (cond b (record_of l.map.now).sources l.map.now.listing.sources) ≤ 2 ^ 64
     by true = omega (arith, (listing-writable l.map.now h).few_sources)

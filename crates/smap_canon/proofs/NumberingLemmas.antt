@@ -1,22 +1,23 @@
 -- Names that are numbered one by one.
 use Rattle.std.proofs.Common.{◌≡◌, ◌≢◌, ℕ, ◌+◌, ◌<◌, ◌≤◌, List, [], ◌∷◌, ◌++◌, take, drop, set, length, get_or, Option, Some, None, ap, refl, ◌∙◌, sym, subst, Bool, true, false, cond, not, eqb, ◌||◌, true≢false, slice_get, replicate, append-nil, append_assoc, length-append, add-zero, arith}
 use Rattle.std.specs.Prelude.{bytes_eq, option_map, option_and_then, IfSome}
-use Rattle.std.specs.List.{list_any, filter_map, cons_option, position_or_len}
+use Rattle.std.specs.List.{AllByRecursion, list_any, filter_map, cons_option, position_or_len}
 use Rattle.std.proofs.lemmas.Bool.{eqb-true, eq-eqb}
 use Rattle.std.proofs.lemmas.List.{take-append-drop, get_or-set_other, get_or-set_same, get_or-replicate, length-set, length-replicate}
 use Rattle.std.proofs.lemmas.List.Elements.{filter_map-append}
 use Rattle.std.proofs.lemmas.List.Sums.{prefix_len-le-length}
-use Rattle.std.proofs.lemmas.Option.{slice_get_within}
+use Rattle.std.proofs.lemmas.Option.{slice_get_within, slice_get-get_or}
 use Rattle.std.proofs.lemmas.List.Folds.{list_any-append, position_or_len_push}
 use Rattle.indexmap.specs.IndexSet.{insert_key}
 use denote.Ref.{Bor}
-use Rattle.smap_record.specs.Record.{Entry, Origin, Mapping, distinct, same_entry}
+use Rattle.smap_mappings.specs.declared.token.Token.{Token}
+use Rattle.smap_mappings.specs.Position.{POSITIONS}
+use Rattle.smap_record.specs.Record.{Mapping, distinct}
 use Rattle.smap_record.specs.Fitting.{names_used}
 use Rattle.smap_record.proofs.EqualLemmas.{same_bytes, own_bytes}
 use Rattle.smap_record.proofs.DistinctLemmas.{distinct-push}
-use Rattle.smap_record.proofs.ListLemmas.{take_next, map-push}
-use Rattle.smap_canon.specs.Canonical.{original_of, token_of}
-use Rattle.smap_canon.specs.Numbering.{texts_of, name_of, with_name, AreNumbers}
+use Rattle.smap_record.proofs.ListLemmas.{all_append, all_weaker, take_next, map-push}
+use Rattle.smap_canon.specs.Numbering.{texts_of, name_of, with_name, AreNumbers, IsNumbered}
 use Rattle.smap_canon.specs.declared.numbering.TheConstants.{UNUSED}
 
 -- ---- texts behind references
@@ -157,6 +158,42 @@ numbers-none listed used numbers none = record {
   each = λ i name found numbered. absurd (numbered (ap (λ ns. get_or ns i 0) none ∙ get_or-replicate (length listed) i UNUSED 0 (slice_get_within listed i name found)));
 }
 
+-- the name that comes has a number: a place among fewer names than the greatest position
+pub own-numbered : (used : List (List ℕ)) (numbers : List ℕ) (i number : ℕ) (n : List ℕ) → i < length numbers → number ≡ position_or_len (bytes_eq n) used → length used < POSITIONS
+    → get_or (set numbers i number) i 0 ≢ UNUSED
+own-numbered used numbers i number n below placed few = λ none.
+    absurd (omega (arith, sym (get_or-set_same numbers i number 0 below) ∙ none, placed, place-within (bytes_eq n) used, few))
+
+-- and the others keep theirs
+pub still-numbered : (numbers : List ℕ) (i number k : ℕ) → get_or (set numbers i number) i 0 ≢ UNUSED → get_or numbers k 0 ≢ UNUSED → get_or (set numbers i number) k 0 ≢ UNUSED
+still-numbered numbers i number k own h = by (eqb k i) refl
+  where
+    by : (b : Bool) → eqb k i ≡ b → get_or (set numbers i number) k 0 ≢ UNUSED
+    by true e = subst (λ j. get_or (set numbers i number) j 0 ≢ UNUSED) (sym (eqb-true k i e)) own
+    by false e = subst (λ x. x ≢ UNUSED) (sym (get_or-set_other numbers i k number 0 (λ same. absurd (true≢false (sym (eq-eqb k i same) ∙ e))))) h
+
+-- ---- the numbers of tokens' names
+
+module _ (old new : List ℕ) (kept : (n : ℕ) → get_or old n 0 ≢ UNUSED → get_or new n 0 ≢ UNUSED) where
+  still : (t : Token) → IsNumbered old t → IsNumbered new t
+  still t h = by (option_and_then (λ o. o.name) t.original) h
+    where
+      by : (o : Option ℕ) → IfSome o (λ n. get_or old n 0 ≢ UNUSED) → IfSome o (λ n. get_or new n 0 ≢ UNUSED)
+      by None h = tt
+      by (Some n) h = kept n h
+
+  -- one token more
+  pub numbered-next : (ts : List Token) (i : ℕ) (t : Token) → slice_get ts i ≡ Some t → AllByRecursion (IsNumbered old) (take i ts) → IsNumbered new t → AllByRecursion (IsNumbered new) (take (i + 1) ts)
+  numbered-next ts i t at so_far own = subst (AllByRecursion (IsNumbered new)) (sym (take_next ts i t at))
+      (all_append (IsNumbered new) (take i ts) (t ∷ []) (all_weaker (IsNumbered old) (IsNumbered new) still (take i ts) so_far) (own, tt))
+
+-- the place of a listed name among those that are used
+pub number-there : (listed used : List (List ℕ)) (numbers : List ℕ) (i : ℕ) → AreNumbers listed used numbers → i < length listed → get_or numbers i 0 ≢ UNUSED
+    → Some (get_or numbers i 0) ≡ option_map (λ n. position_or_len (bytes_eq n) used) (slice_get listed i)
+number-there listed used numbers i h below numbered =
+    let found = slice_get-get_or listed i [] below in
+    ap Some (h.each i (get_or listed i []) found numbered).1 ∙ sym (ap (option_map (λ n. position_or_len (bytes_eq n) used)) found)
+
 -- ---- names so far, and all names
 
 module _ {A : Type 0} (same : A → A → Bool) (equal : (x y : A) → same x y ≡ true → x ≡ y) (own : (x : A) → same x x ≡ true) where
@@ -187,27 +224,3 @@ used-front ms i =
 -- no more names are used so far than in all
 pub few-used : (ms : List Mapping) (i : ℕ) → length (names_used (take i ms)) ≤ length (names_used ms)
 few-used ms i = let front = used-front ms i in omega (arith, ap length front.1, length-append (names_used (take i ms)) front.0)
-
--- a mapping's place among the names that were used with it is its place among all
-pub token-kept : (sources : List Entry) (ms : List Mapping) (i : ℕ) (m : Mapping) → slice_get ms i ≡ Some m → token_of sources (names_used (take (i + 1) ms)) m ≡ token_of sources (names_used ms) m
-token-kept sources ms i m at = (λ j. record { line = m.line; column = m.column; original = by m.origin named j })
-  where
-    here : (o : Option (List ℕ)) → IfSome o (λ n. list_any (bytes_eq n) (with_name o (names_used (take i ms))) ≡ true)
-    here None = tt
-    here (Some n) = own-any (names_used (take i ms)) n
-
-    named : IfSome (name_of m) (λ n. list_any (bytes_eq n) (names_used (take (i + 1) ms)) ≡ true)
-    named = subst (λ ns. IfSome (name_of m) (λ n. list_any (bytes_eq n) ns ≡ true)) (used-with_name ms i m at) (here (name_of m))
-
-    front : (zs : List (List ℕ)) × (names_used ms ≡ names_used (take (i + 1) ms) ++ zs)
-    front = used-front ms (i + 1)
-
-    place : (o : Option (List ℕ)) → IfSome o (λ n. list_any (bytes_eq n) (names_used (take (i + 1) ms)) ≡ true)
-        → option_map (λ n. position_or_len (bytes_eq n) (names_used (take (i + 1) ms))) o ≡ option_map (λ n. position_or_len (bytes_eq n) (names_used ms)) o
-    place None h = refl
-    place (Some n) h = ap Some (sym (ap (position_or_len (bytes_eq n)) front.1 ∙ place-front (bytes_eq n) (names_used (take (i + 1) ms)) front.0 h))
-
-    by : (o : Option Origin) → IfSome (option_and_then (λ o. o.name) o) (λ n. list_any (bytes_eq n) (names_used (take (i + 1) ms)) ≡ true)
-        → option_map (original_of sources (names_used (take (i + 1) ms))) o ≡ option_map (original_of sources (names_used ms)) o
-    by None h = refl
-    by (Some o) h = ap Some (λ j. record { source = position_or_len (same_entry o.source) sources; line = o.line; column = o.column; name = place o.name h j })

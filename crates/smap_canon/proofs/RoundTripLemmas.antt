@@ -8,7 +8,6 @@ use Rattle.smap_canon.specs.Layout.{Form}
 use Rattle.smap_canon.specs.Canonical.{canonical_text_in}
 use Rattle.smap_canon.specs.Laws.{ReadAs}
 use Rattle.smap_canon.specs.RoundTrips.{IsTidied, TellsTexts}
-use Rattle.smap_canon.proofs.LawLemmas.{read_once}
 
 pub is_tidied : (form : Form) (base : Parts) (limits : Allowed) (old new : List ℕ) (m : ReadMap) → reading base limits old ≡ Ok m → new ≡ canonical_text_in form base (record_of m)
     → ReadAs base limits (canonical_text_in form base (record_of m)) (record_of m) → IsTidied form base limits old new
@@ -21,17 +20,21 @@ is_tidied form base limits old new m accepted written again = record {
   own_bytes = ap (canonical_text_in form base) again.2 ∙ sym written;
 }
 
-pub tells_texts : (form : Form) (base : Parts) (limits : Allowed) (one other a b : List ℕ) (equal : Bool) (m n : ReadMap) → reading base limits one ≡ Ok m → reading base limits other ≡ Ok n
-    → a ≡ canonical_text_in form base (record_of m) → b ≡ canonical_text_in form base (record_of n)
-    → ReadAs base limits (canonical_text_in form base (record_of m)) (record_of m) → ReadAs base limits (canonical_text_in form base (record_of n)) (record_of n)
-    → equal ≡ bytes_eq a b → TellsTexts base limits one other equal
-tells_texts form base limits one other a b equal m n one_accepted other_accepted a_is b_is m_again n_again is = record {
-  one_map = m;
-  other_map = n;
-  one_accepted = one_accepted;
-  other_accepted = other_accepted;
+same_map : (base : Parts) (limits : Allowed) (bytes : List ℕ) (m n : ReadMap) → reading base limits bytes ≡ Ok m → reading base limits bytes ≡ Ok n → m ≡ n
+same_map base limits bytes m n p q = cc
+
+pub tells_texts : (form : Form) (base : Parts) (limits : Allowed) (one other a b : List ℕ) (equal : Bool)
+    → IsTidied form base limits one a → IsTidied form base limits other b → equal ≡ bytes_eq a b
+    → TellsTexts base limits one other equal
+tells_texts form base limits one other a b equal x y is = record {
+  one_map = x.old_map;
+  other_map = y.old_map;
+  one_accepted = x.accepted;
+  other_accepted = y.accepted;
   tells = (
-    λ h. read_once base limits (canonical_text_in form base (record_of m)) (canonical_text_in form base (record_of n)) (record_of m) (record_of n) m_again n_again (sym a_is ∙ (bytes_eq-Decides a b).0 (sym is ∙ h) ∙ b_is),
-    λ e. is ∙ (bytes_eq-Decides a b).1 (a_is ∙ ap (canonical_text_in form base) e ∙ sym b_is),
+    λ h. let same = (bytes_eq-Decides a b).0 (sym is ∙ h) in
+        sym x.same_record ∙ ap record_of (same_map base limits b x.new_map y.new_map (ap (reading base limits) (sym same) ∙ x.still_accepted) y.still_accepted) ∙ y.same_record,
+    λ e. is ∙ (bytes_eq-Decides a b).1
+        (sym x.own_bytes ∙ ap (canonical_text_in form base) (x.same_record ∙ e ∙ sym y.same_record) ∙ y.own_bytes),
   );
 }

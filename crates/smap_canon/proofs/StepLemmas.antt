@@ -14,7 +14,7 @@ use Rattle.smap_canon.specs.Canonical.{token_of}
 use Rattle.smap_canon.specs.Numbering.{texts_of, name_of, with_name}
 use Rattle.smap_canon.proofs.ListedLemmas.{listing-writable}
 use Rattle.smap_canon.proofs.WritableLemmas.{canonical-encodable}
-use Rattle.smap_canon.proofs.NumberingLemmas.{used-with_name, token-kept, few-used}
+use Rattle.smap_canon.proofs.NumberingLemmas.{used-with_name, few-used}
 use Rattle.smap_canon.proofs.PushedLemmas.{encodable_more}
 
 -- what is listed at a place
@@ -28,13 +28,6 @@ module _ (m : ReadMap) (i : ℕ) (t : Token) (at : slice_get m.listing.tokens i 
   pub used-then : (old new : List (List ℕ)) → old ≡ names_used (take i (record_of m).mappings) → new ≡ with_name (name_of (mapping_of m.listing t)) old
       → new ≡ names_used (take (i + 1) (record_of m).mappings)
   used-then old new so_far grown = grown ∙ ap (with_name (name_of (mapping_of m.listing t))) so_far ∙ used-with_name (record_of m).mappings i (mapping_of m.listing t) mapping-there
-
-  -- its number among the names so far is its number among all
-  pub token-then : (new : List (List ℕ)) (placed : Token) → new ≡ names_used (take (i + 1) (record_of m).mappings)
-      → placed ≡ token_of (record_of m).sources new (mapping_of m.listing t) → placed ≡ token_of (record_of m).sources (names_used (record_of m).mappings) (mapping_of m.listing t)
-  token-then new placed used numbered =
-      numbered ∙ ap (λ (ns : List (List ℕ)). token_of (record_of m).sources ns (mapping_of m.listing t)) used
-      ∙ token-kept (record_of m).sources (record_of m).mappings i (mapping_of m.listing t) mapping-there
 
   pub encodable-then : (placed : Token) → IsListing m.listing → placed ≡ token_of (record_of m).sources (names_used (record_of m).mappings) (mapping_of m.listing t)
       → IsEncodable (map (token_of (record_of m).sources (names_used (record_of m).mappings)) (take i (record_of m).mappings) ++ placed ∷ [])

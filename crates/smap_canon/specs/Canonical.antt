@@ -1,4 +1,4 @@
--- The canonical bytes of a record.
+-- The canonical bytes of a record. The canonical form is this project's own.
 use Rattle.std.specs.Prelude.{ℕ, List, map, bytes_eq, option_map}
 use Rattle.std.specs.List.{position_or_len}
 use Rattle.smap_mappings.specs.declared.token.Token.{Token}
@@ -8,7 +8,7 @@ use Rattle.smap_record.specs.Record.{Parts, Entry, Origin, Mapping, Record, List
 use Rattle.smap_record.specs.Fitting.{names_used}
 use Rattle.smap_canon.specs.Layout.{absolute, Form, spelling_in, layout_text}
 
--- a mapping by its places in the list of sources and in that of names
+-- a mapping by indices into a list of sources and one of names
 abbrev pub original_of : List Entry → List (List ℕ) → Origin → Original
 original_of sources names o = record {
   source = position_or_len (same_entry o.source) sources;
@@ -24,7 +24,7 @@ token_of sources names m = record {
   original = option_map (original_of sources names) m.origin;
 }
 
--- The record's sources, its names in order of first use, and its mappings by their places in these.
+-- The record's sources, its names in order of first use, and its mappings by indices into these.
 abbrev pub canonical_listing : Record → Listing
 canonical_listing r = record {
   sources = r.sources;
@@ -32,11 +32,11 @@ canonical_listing r = record {
   tokens = map (token_of r.sources (names_used r.mappings)) r.mappings;
 }
 
--- The one map text for all maps with this record.
+-- The one flat map for all maps with this record.
 abbrev pub canonical_map : Record → ReadMap
 canonical_map r = record { file = r.file; listing = canonical_listing r }
 
--- The canonical bytes of a record.
+-- The canonical bytes of a record. The canonical form is this project's own.
 abbrev pub canonical_text : Record → List ℕ
 canonical_text r = layout_text absolute (canonical_map r)
 
@@ -45,6 +45,6 @@ canonical_text r = layout_text absolute (canonical_map r)
 abbrev pub canonical_text_in : Form → Parts → Record → List ℕ
 canonical_text_in form base r = layout_text (spelling_in form base) (canonical_map r)
 
--- The text that stands in them as `mappings` (ECMA-426, mappings structure), in the shortest spellings.
+-- Their mappings string (ECMA-426, "Mappings structure"), as short as possible.
 abbrev pub canonical_mappings_text : Record → List ℕ
 canonical_mappings_text r = mappings_text (canonical_listing r).tokens

@@ -1,5 +1,6 @@
 -- The one layout of canonical and of flat bytes.
-use Rattle.std.specs.Prelude.{◌≡◌, ℕ, ◌+◌, List, [], ◌∷◌, map, codes, Bool, if◌then◌else◌, IsUtf8}
+use Rattle.std.specs.Prelude.{◌≡◌, ℕ, ◌+◌, List, [], ◌∷◌, map, codes, Bool, true, false}
+use Rattle.std.specs.Prelude.{if◌then◌else◌, IsUtf8}
 use Rattle.std.specs.Prelude.{Option, Some, None, is_some, option_map}
 use Rattle.std.specs.List.{list_any}
 use Rattle.serde_json.specs.Data.{Data, null, number, string, array, object, unsigned}
@@ -21,7 +22,7 @@ whole_number n = number (unsigned n)
 abbrev pub list_of : List Data → Data
 list_of ds = array (items_of ds)
 
--- the numbers of the ignored sources, rising, where the first is number i
+-- the indices of the ignored sources, rising, where the first source has index i
 abbrev pub ignored_from : ℕ → List Entry → List ℕ
 ignored_from i [] = []
 ignored_from i (e ∷ es) = if e.ignored then i ∷ ignored_from (i + 1) es else ignored_from (i + 1) es
@@ -31,7 +32,7 @@ abbrev pub unless_empty : List Data → Option Data
 unless_empty [] = None
 unless_empty (d ∷ ds) = Some (list_of (d ∷ ds))
 
--- the member, where there is one, before the others
+-- the member, if there is one, before the others
 abbrev pub optional_member : List ℕ → Option Data → Members → Members
 optional_member key None rest = rest
 optional_member key (Some d) rest = member key d rest
@@ -39,27 +40,32 @@ optional_member key (Some d) rest = member key d rest
 abbrev pub has_content : List Entry → Bool
 has_content es = list_any (λ e. is_some e.content) es
 
--- each source's content, where some source has one
+-- each source's content, if any source has one
 abbrev pub written_contents : List Entry → Option Data
 written_contents es = if has_content es then Some (list_of (map (λ e. or_null e.content) es)) else None
 
--- How a source's URL is spelled: as it is.
+-- How a source's URL is written: as it is.
 abbrev pub absolute : List ℕ → List ℕ
 absolute url = url
 
--- How canonical bytes spell the URLs of sources.
+-- How canonical bytes write the URLs of sources.
 pub data Form : Type 0 where
   absolute_form : Form
   relative_form : Form
 
--- A form's spelling against a base: each URL as it is, or relatively to the base where that leads back to it.
+-- How a form writes URLs with respect to a base: each as it is, or in its relative form if it has one.
 abbrev pub spelling_in : Form → Parts → List ℕ → List ℕ
 spelling_in absolute_form base = absolute
 spelling_in relative_form base = relatively base
 
--- The JSON object of a flat map with this file and listing (ECMA-426, source map format). Its members are in
--- byte order of their names. `file`, `ignoreList` and `sourcesContent` stand only where there is something to
--- say, and there is no `sourceRoot`. Each source's URL is spelled as the first argument says.
+-- the relative form if it is asked for
+abbrev pub form_asked : Bool → Form
+form_asked true = relative_form
+form_asked false = absolute_form
+
+-- The JSON object of a flat map with this file and listing (ECMA-426, "Source map format"). Its members are
+-- in byte order of their names. `file`, `ignoreList` and `sourcesContent` are left out if there is none,
+-- and there is no `sourceRoot`. Each source's URL is written as the first argument says.
 unfoldable pub layout : (List ℕ → List ℕ) → ReadMap → Data
 layout spell m = object
     (optional_member (codes "file") (option_map string m.file)
@@ -74,7 +80,7 @@ layout spell m = object
 abbrev pub layout_text : (List ℕ → List ℕ) → ReadMap → List ℕ
 layout_text spell m = compact_text (layout spell m)
 
--- The flat bytes of a map: its listing as it stands.
+-- The flat bytes of a map: its listing as it is.
 abbrev pub flat_text : ReadMap → List ℕ
 flat_text m = layout_text absolute m
 

@@ -1,4 +1,4 @@
--- Reading and writing put together.
+-- Reading and writing together.
 use Rattle.std.specs.Prelude.{◌≡◌, ◌↔◌, ℕ, List, Bool, IsTrue, bytes_eq, Ok}
 use Rattle.smap_record.specs.Record.{Parts, Allowed, ReadMap, record_of}
 use Rattle.smap_record.specs.Faults.{Checked, ◌>>=◌}
@@ -6,13 +6,13 @@ use Rattle.smap_record.specs.Reading.{reading}
 use Rattle.smap_canon.specs.Layout.{Form, flat_text}
 use Rattle.smap_canon.specs.Canonical.{canonical_text_in}
 
--- The canonical bytes, in a form, of a map text against a base under limits, or its first fault.
+-- The canonical bytes, in a form, of a map against a base under limits, or its first fault.
 abbrev pub tidied_text : Form → Parts → Allowed → List ℕ → Checked (List ℕ)
 tidied_text form base limits bytes = do
   m ← reading base limits bytes
   Ok (canonical_text_in form base (record_of m))
 
--- Both texts are accepted with equal records, and the new one is its own canonical bytes in the form.
+-- Both are accepted with equal records, and the new one is its own canonical bytes in the form.
 pub record IsTidied (form : Form) (base : Parts) (limits : Allowed) (old new : List ℕ) : Type 0 where
   pub old_map : ReadMap
   pub new_map : ReadMap
@@ -21,27 +21,27 @@ pub record IsTidied (form : Form) (base : Parts) (limits : Allowed) (old new : L
   pub same_record : record_of new_map ≡ record_of old_map
   pub own_bytes : canonical_text_in form base (record_of new_map) ≡ new
 
--- The flat bytes of a map text against a base under limits, or its first fault.
+-- The flat bytes of a map against a base under limits, or its first fault.
 abbrev pub flattened_text : Parts → Allowed → List ℕ → Checked (List ℕ)
 flattened_text base limits bytes = do
   m ← reading base limits bytes
   Ok (flat_text m)
 
--- Both texts are accepted as one map: with the same file and listing, so with the same record.
+-- Both are accepted as the same map: with the same file and listing, so with the same record.
 pub record IsFlattened (base : Parts) (limits : Allowed) (old new : List ℕ) : Type 0 where
   pub same_map : ReadMap
   pub accepted : reading base limits old ≡ Ok same_map
   pub still_accepted : reading base limits new ≡ Ok same_map
 
--- Whether the canonical bytes of two map texts in a form are equal, or the first fault of the first text that
--- has one.
+-- Whether the canonical bytes of two maps in a form are equal, or the first fault of the first one that has
+-- a fault.
 abbrev pub equal_texts : Form → Parts → Allowed → List ℕ → List ℕ → Checked Bool
 equal_texts form base limits one other = do
-  m ← reading base limits one
-  n ← reading base limits other
-  Ok (bytes_eq (canonical_text_in form base (record_of m)) (canonical_text_in form base (record_of n)))
+  a ← tidied_text form base limits one
+  b ← tidied_text form base limits other
+  Ok (bytes_eq a b)
 
--- Both texts are accepted, and the answer tells whether their records are equal.
+-- Both are accepted, and the answer is whether their records are equal.
 pub record TellsTexts (base : Parts) (limits : Allowed) (one other : List ℕ) (answer : Bool) : Type 0 where
   pub one_map : ReadMap
   pub other_map : ReadMap

@@ -1,4 +1,4 @@
--- For private clauses: equality of views whose sources are numbers in one list.
+-- For private contracts: equality of views whose sources are indices into one list.
 use Rattle.std.specs.Prelude.{Bool, ◌&&◌, ◌==◌, option_copied}
 use Rattle.std.specs.Option.{option_eq}
 use Rattle.smap_record.specs.declared.view.OriginalView.{OriginalView}

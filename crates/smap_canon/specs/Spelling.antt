@@ -1,4 +1,4 @@
--- For private clauses: how a layout spells the URLs of sources.
+-- For private contracts: how a layout writes the URLs of sources.
 use Rattle.std.specs.Prelude.{ℕ, List}
 use Rattle.smap_record.specs.Relative.{relatively}
 use Rattle.smap_canon.specs.declared.spelling.Spelling.{Spelling}

@@ -1,5 +1,6 @@
--- For private clauses: what a layout sends to a serializer, member by member.
-use Rattle.std.specs.Prelude.{◌≡◌, ℕ, List, map, Option, Some, None, option_map, option_copied, if◌then◌else◌}
+-- For private contracts: what a layout sends to a serializer, member by member.
+use Rattle.std.specs.Prelude.{◌≡◌, ℕ, List, map, Option, Some, None, is_some, option_map, option_copied}
+use Rattle.std.specs.Prelude.{if◌then◌else◌}
 use Rattle.serde.specs.Event.{Log, Logs, field_key}
 use Rattle.serde.specs.declared.name.Case.TheVariants.{AsIs}
 use Rattle.serde_json.specs.Data.{Data, string}
@@ -18,16 +19,16 @@ use Rattle.smap_canon.specs.Layout.{list_of, or_null, whole_number, ignored_from
 use Rattle.smap_canon.specs.Canonical.{canonical_listing}
 use Rattle.smap_canon.specs.Spelling.{spelling_of}
 
--- ---- what is listed: by a record, or by a map as it stands
+-- ---- what is listed: by a record, or by a map as it is
 
 abbrev pub sources_of : Listed → List Entry
-sources_of l = if l.each_once then (record_of l.map.now).sources else l.map.now.listing.sources
+sources_of l = if is_some l.names then (record_of l.map.now).sources else l.map.now.listing.sources
 
 abbrev pub names_of : Listed → List (List ℕ)
-names_of l = if l.each_once then (canonical_listing (record_of l.map.now)).names else l.map.now.listing.names
+names_of l = if is_some l.names then (canonical_listing (record_of l.map.now)).names else l.map.now.listing.names
 
 abbrev pub tokens_of : Listed → List Token
-tokens_of l = if l.each_once then (canonical_listing (record_of l.map.now)).tokens
+tokens_of l = if is_some l.names then (canonical_listing (record_of l.map.now)).tokens
     else l.map.now.listing.tokens
 
 abbrev pub map_of : Listed → ReadMap
@@ -36,7 +37,7 @@ map_of l = record {
   listing = record { sources = sources_of l; names = names_of l; tokens = tokens_of l };
 }
 
--- ---- the tree that each part says
+-- ---- the tree of each part
 
 abbrev pub url_tree : SpelledUrl → Data
 url_tree u = or_null (option_map (spelling_of u.spelling) (option_copied u.url))
@@ -65,7 +66,7 @@ flat_tree m = layout (spelling_of m.spelling) (map_of m.listed)
 abbrev pub SendsMember : (Log → Log → Type 0) → List ℕ → Log → Log → Type 0
 SendsMember value name old new = (named : Log) × Logs old named (field_key name AsIs) × value named new
 
--- so where there is a value, and else nothing
+-- so if there is a value, and else nothing
 abbrev pub SendsOptional : {A : Type 0} → (A → Log → Log → Type 0) → Option A → List ℕ → Log → Log → Type 0
 SendsOptional value None name old new = new ≡ old
 SendsOptional value (Some x) name old new = SendsMember (value x) name old new

@@ -5,14 +5,13 @@
 //! that tree. `canonical` promises it of what it writes.
 ghost use Rattle.smap_canon.specs.Laws.{CanonicalBytesAreAFixedPoint, EqualBytesForEqualRecordsOnly};
 
-/// Canonical bytes are a fixed point: those of a record that fits a base and limits have, under these, no
-/// fault and the same record, of which they are the canonical bytes again.
+/// Canonical bytes are a fixed point: those of a record that fits a base and limits are accepted under
+/// these, with the same record, and are its canonical bytes again.
 pub fn canonical_bytes_are_a_fixed_point()
     ensures { CanonicalBytesAreAFixedPoint }
 {}
 
-/// Equal bytes for equal records only: two records that fit a base and limits are equal exactly if their
-/// canonical bytes are.
+/// Two records that fit a base and limits are equal exactly if their canonical bytes are.
 pub fn equal_bytes_for_equal_records_only()
     ensures { EqualBytesForEqualRecordsOnly }
 {}

@@ -7,13 +7,13 @@ ghost use Rattle.smap_canon.specs.Layout.{list_of, whole_number, ignored_from, u
 ghost use Rattle.smap_canon.specs.Layout.{has_content, written_contents};
 ghost use Rattle.smap_mappings.specs.Text.{mappings_text};
 ghost use Rattle.smap_record.specs.Record.{record_of};
-ghost use Rattle.smap_record.specs.Fitting.{names_used};
 ghost use Rattle.smap_canon.specs.Writing.{SendsMember, SendsOptional, sources_of, tokens_of};
 ghost use Rattle.smap_canon.specs.Writing.{mappings_tree, names_tree, urls_tree};
 ghost use Rattle.smap_canon.specs.Writing.{contents_tree, ignored_tree, flat_tree};
 
-use crate::listed::{Listed, listed_mappings, source_at, source_count};
-use crate::numbering::{numbered_mappings, used_names};
+use crate::listed::Listed;
+use crate::numbering::{listed_mappings, numbered_mappings};
+use crate::sources::{source_at, source_count};
 use crate::spelling::{SpelledUrl, Spelling};
 use serde::{Described, Serialize, Serializer};
 use smap_mappings::Memory;
@@ -76,17 +76,15 @@ fn mappings_of(alloc: Global, listed: Listed<'_>) -> Result<String, Memory>
 fn mappings_bytes(alloc: Global, listed: Listed<'_>) -> Result<Vec<u8>, Memory>
     ensures { IfOk result (λ text. text.items ≡ mappings_text (tokens_of listed.entry)) }
 {
-    if listed.each_once {
-        numbered_mappings(alloc, listed.map)
-    } else {
-        listed_mappings(alloc, listed.map)
+    match listed.names {
+        Some(names) => numbered_mappings(alloc, listed.map, names),
+        None => listed_mappings(alloc, listed.map),
     }
 }
 
-/// The names, made and let go like the mappings text.
+/// The names: those that the mappings use, in order of first use, or as they are listed.
 #[derive(Clone, Copy)]
 struct Names<'a> {
-    alloc: Global,
     listed: Listed<'a>,
 }
 
@@ -96,22 +94,10 @@ impl Described for Names<'_> {
 
 impl Serialize for Names<'_> {
     fn serialize<S: Serializer>(&self, out: &mut S) -> Result<(), S::Error> {
-        if self.listed.each_once {
-            names_by_use(out, self.alloc, self.listed.map)
-        } else {
-            listed_names(out, self.listed.map)
+        match self.listed.names {
+            Some(names) => names.used.as_slice().serialize(out),
+            None => listed_names(out, self.listed.map),
         }
-    }
-}
-
-/// The names that the mappings use, in order of first use.
-fn names_by_use<S: Serializer>(out: &mut S, alloc: Global, map: &SourceMap) -> Result<(), S::Error>
-    ensures { OnOk result (SendsValue (list_of (mapped string (names_used (record_of map.now).mappings)))
-        (S.written out.old) (S.written out.new)) }
-{
-    match used_names(alloc, map) {
-        Ok(names) => names.as_slice().serialize(out),
-        Err(_) => Err(out.custom("out of memory")),
     }
 }
 
@@ -273,7 +259,7 @@ impl Serialize for FlatMap<'_> {
             + ignored.is_some() as usize
             + contents.is_some() as usize;
         let mappings = Mappings { alloc, listed };
-        let names = Names { alloc, listed };
+        let names = Names { listed };
         let urls = Urls {
             alloc,
             listed,

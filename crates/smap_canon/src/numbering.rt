@@ -1,16 +1,17 @@
-//! The mappings of a record by their places: sources by the record's numbers, names by first use.
-ghost use Rattle.std.specs.Prelude.{◌≡◌, ◌<◌, [], length, slice_get, replicate, bytes_eq};
-ghost use Rattle.std.specs.Prelude.{IfOk, OnOk, Some, option_map};
-ghost use Rattle.std.specs.List.{position_or_len};
+//! The mappings of a record by their places: sources by the record's numbers, names by first use; or the
+//! tokens of a map as they are listed.
+ghost use Rattle.std.specs.Prelude.{◌≡◌, ◌≢◌, ◌<◌, ℕ, [], length, slice_get, replicate, bytes_eq, get_or};
+ghost use Rattle.std.specs.Prelude.{IfOk, IfSome, OnOk, option_map};
 ghost use Rattle.smap_mappings.specs.Position.{POSITIONS};
+ghost use Rattle.smap_mappings.specs.Text.{mappings_text};
 ghost use Rattle.smap_record.specs.Record.{record_of, mapping_of, origin_of};
-ghost use Rattle.smap_record.specs.Fitting.{names_used};
 ghost use Rattle.smap_record.specs.Listed.{IsListing, IsListedOriginal, IsListedToken};
 ghost use Rattle.smap_canon.specs.Canonical.{canonical_mappings_text, original_of, token_of};
-ghost use Rattle.smap_canon.specs.Numbering.{texts_of, name_of, with_name, used_in, AreNumbers};
+ghost use Rattle.smap_canon.specs.Numbering.{AreNumbers, AreUsedNames, IsNumbered};
+ghost use Rattle.smap_canon.specs.Numbering.{name_of, used_in, with_name};
 
 use indexmap::IndexSet;
-use smap_mappings::{Encoder, Memory, Original, Token};
+use smap_mappings::{Encoder, Memory, Original, TextLength, Token};
 use smap_record::SourceMap;
 use std::alloc::{AllocError, Global};
 
@@ -21,25 +22,25 @@ const UNUSED: u32 = u32::MAX;
 /// the map lists, its place among these, or `UNUSED`: so a name's text is looked up once, however many
 /// mappings use it.
 #[derive(Drop)]
-struct Names<'a> {
-    used: IndexSet<&'a str>,
+pub(crate) struct UsedNames<'a> {
+    pub(crate) used: IndexSet<&'a str>,
     numbers: Vec<u32>,
 }
 
 /// No name is used yet.
-fn no_names<'a>(alloc: Global, map: &'a SourceMap) -> Result<Names<'a>, AllocError>
+fn no_names<'a>(alloc: Global, map: &'a SourceMap) -> Result<UsedNames<'a>, AllocError>
     ensures used { IfOk result (λ n. n.used.keys ≡ []) }
     ensures numbers { IfOk result (λ n. n.numbers.items ≡ replicate (length map.now.listing.names) UNUSED) }
 {
     let numbers = vec![in alloc; UNUSED; map.name_count()]?;
-    Ok(Names {
+    Ok(UsedNames {
         used: IndexSet::new(alloc),
         numbers,
     })
 }
 
-/// The number of a listed name, which is used from now on.
-fn number_of<'a>(names: &mut Names<'a>, map: &'a SourceMap, listed: u32) -> Result<u32, Memory>
+/// A listed name is used from now on.
+fn use_listed<'a>(names: &mut UsedNames<'a>, map: &'a SourceMap, listed: u32) -> Result<(), Memory>
     requires listed { listed < length map.now.listing.names }
     requires numbers { AreNumbers map.now.listing.names (used_in names.old) names.old.numbers.items }
     requires few { length names.old.used.keys < POSITIONS }
@@ -47,89 +48,20 @@ fn number_of<'a>(names: &mut Names<'a>, map: &'a SourceMap, listed: u32) -> Resu
         ≡ with_name (slice_get map.now.listing.names listed) (used_in names.old)) }
     ensures numbers { OnOk result (AreNumbers
         map.now.listing.names (used_in names.new) names.new.numbers.items) }
-    ensures number { IfOk result (λ n. Some n ≡ option_map
-        (λ name. position_or_len (bytes_eq name) (used_in names.new))
-        (slice_get map.now.listing.names listed)) }
+    ensures numbered { OnOk result (get_or names.new.numbers.items listed 0 ≢ UNUSED) }
+    ensures kept { (n : ℕ) → get_or names.old.numbers.items n 0 ≢ UNUSED
+        → get_or names.new.numbers.items n 0 ≢ UNUSED }
 {
-    let number = names.numbers[listed as usize];
-    if number != UNUSED {
-        return Ok(number);
+    if names.numbers[listed as usize] != UNUSED {
+        return Ok(());
     }
     let (number, _) = names.used.insert_full(map.name(listed as usize))?;
     names.numbers[listed as usize] = number as u32;
-    Ok(number as u32)
-}
-
-/// An original position by the places of its source and of its name, which is used from now on.
-fn original_by<'a>(
-    names: &mut Names<'a>,
-    map: &'a SourceMap,
-    original: Original,
-) -> Result<Original, Memory>
-    requires listed { IsListedOriginal map.now.listing original }
-    requires few_sources { length map.now.listing.sources < POSITIONS }
-    requires numbers { AreNumbers map.now.listing.names (used_in names.old) names.old.numbers.items }
-    requires few { length names.old.used.keys < POSITIONS }
-    ensures used { OnOk result (used_in names.new
-        ≡ with_name (origin_of map.now.listing original).name (used_in names.old)) }
-    ensures numbers { OnOk result (AreNumbers
-        map.now.listing.names (used_in names.new) names.new.numbers.items) }
-    ensures original { IfOk result (λ o. o ≡ original_of
-        (record_of map.now).sources (used_in names.new) (origin_of map.now.listing original)) }
-{
-    let name = match original.name {
-        Some(listed) => Some(number_of(names, map, listed)?),
-        None => None,
-    };
-    Ok(Original {
-        source: map.listed(original.source as usize) as u32,
-        line: original.line,
-        column: original.column,
-        name,
-    })
-}
-
-/// A listed token by the places of its source and of its name, which is used from now on.
-fn token_by<'a>(names: &mut Names<'a>, map: &'a SourceMap, token: Token) -> Result<Token, Memory>
-    requires listed { IsListedToken map.now.listing token }
-    requires few_sources { length map.now.listing.sources < POSITIONS }
-    requires numbers { AreNumbers map.now.listing.names (used_in names.old) names.old.numbers.items }
-    requires few { length names.old.used.keys < POSITIONS }
-    ensures used { OnOk result (used_in names.new
-        ≡ with_name (name_of (mapping_of map.now.listing token)) (used_in names.old)) }
-    ensures numbers { OnOk result (AreNumbers
-        map.now.listing.names (used_in names.new) names.new.numbers.items) }
-    ensures token { IfOk result (λ t. t ≡ token_of
-        (record_of map.now).sources (used_in names.new) (mapping_of map.now.listing token)) }
-{
-    let original = match token.original {
-        Some(original) => Some(original_by(names, map, original)?),
-        None => None,
-    };
-    Ok(Token {
-        line: token.line,
-        column: token.column,
-        original,
-    })
-}
-
-/// The mappings text by the places of sources and names, in one pass over the mappings. No other list of them
-/// is made.
-pub(crate) fn numbered_mappings(alloc: Global, map: &SourceMap) -> Result<Vec<u8>, Memory>
-    ensures text { IfOk result (λ text. text.items ≡ canonical_mappings_text (record_of map.now)) }
-    ensures listing { OnOk result (IsListing map.now.listing) }
-{
-    let mut names = no_names(alloc, map)?;
-    let mut encoder = Encoder::with_capacity(alloc, map.token_count())?;
-    for i in 0..map.token_count() {
-        let token = token_by(&mut names, map, map.listed_token(i))?;
-        encoder.push(token)?;
-    }
-    Ok(encoder.finish())
+    Ok(())
 }
 
 /// The name of a listed token, where it has one, is used from now on.
-fn use_name<'a>(names: &mut Names<'a>, map: &'a SourceMap, token: Token) -> Result<(), Memory>
+fn use_name<'a>(names: &mut UsedNames<'a>, map: &'a SourceMap, token: Token) -> Result<(), Memory>
     requires listed { IsListedToken map.now.listing token }
     requires numbers { AreNumbers map.now.listing.names (used_in names.old) names.old.numbers.items }
     requires few { length names.old.used.keys < POSITIONS }
@@ -137,6 +69,9 @@ fn use_name<'a>(names: &mut Names<'a>, map: &'a SourceMap, token: Token) -> Resu
         ≡ with_name (name_of (mapping_of map.now.listing token)) (used_in names.old)) }
     ensures numbers { OnOk result (AreNumbers
         map.now.listing.names (used_in names.new) names.new.numbers.items) }
+    ensures numbered { OnOk result (IsNumbered names.new.numbers.items token) }
+    ensures kept { (n : ℕ) → get_or names.old.numbers.items n 0 ≢ UNUSED
+        → get_or names.new.numbers.items n 0 ≢ UNUSED }
 {
     let Some(original) = token.original else {
         return Ok(());
@@ -144,18 +79,98 @@ fn use_name<'a>(names: &mut Names<'a>, map: &'a SourceMap, token: Token) -> Resu
     let Some(listed) = original.name else {
         return Ok(());
     };
-    number_of(names, map, listed)?;
-    Ok(())
+    use_listed(names, map, listed)
 }
 
-/// The names that the mappings use, each once, in order of first use.
-pub(crate) fn used_names(alloc: Global, map: &SourceMap) -> Result<IndexSet<&str>, Memory>
-    ensures { IfOk result (λ names. texts_of names.keys ≡ names_used (record_of map.now).mappings) }
+/// The names that the map's mappings use.
+pub(crate) fn used_names(alloc: Global, map: &SourceMap) -> Result<UsedNames<'_>, Memory>
+    ensures { IfOk result (AreUsedNames map.now) }
 {
     let mut names = no_names(alloc, map)?;
     for i in 0..map.token_count() {
         use_name(&mut names, map, map.listed_token(i))?;
     }
-    let Names { used, .. } = names;
-    Ok(used)
+    Ok(names)
+}
+
+/// An original position by the places of its source and of its name.
+fn original_by(names: &UsedNames<'_>, map: &SourceMap, original: Original) -> Original
+    requires listed { IsListedOriginal map.now.listing original }
+    requires few_sources { length map.now.listing.sources < POSITIONS }
+    requires numbers { AreNumbers map.now.listing.names (used_in names.now) names.now.numbers.items }
+    requires numbered { IfSome original.name (λ n. get_or names.now.numbers.items n 0 ≢ UNUSED) }
+    ensures { result ≡ original_of
+        (record_of map.now).sources (used_in names.now) (origin_of map.now.listing original) }
+{
+    let name = match original.name {
+        Some(listed) => Some(names.numbers[listed as usize]),
+        None => None,
+    };
+    Original {
+        source: map.listed(original.source as usize) as u32,
+        line: original.line,
+        column: original.column,
+        name,
+    }
+}
+
+/// A listed token by the places of its source and of its name.
+fn token_by(names: &UsedNames<'_>, map: &SourceMap, token: Token) -> Token
+    requires listed { IsListedToken map.now.listing token }
+    requires few_sources { length map.now.listing.sources < POSITIONS }
+    requires numbers { AreNumbers map.now.listing.names (used_in names.now) names.now.numbers.items }
+    requires numbered { IsNumbered names.now.numbers.items token }
+    ensures { result ≡ token_of
+        (record_of map.now).sources (used_in names.now) (mapping_of map.now.listing token) }
+{
+    let original = match token.original {
+        Some(original) => Some(original_by(names, map, original)),
+        None => None,
+    };
+    Token {
+        line: token.line,
+        column: token.column,
+        original,
+    }
+}
+
+/// The mappings text by the places of sources and names, in one pass over the mappings. No other list of them
+/// is made.
+pub(crate) fn numbered_mappings(
+    alloc: Global,
+    map: &SourceMap,
+    names: &UsedNames<'_>,
+) -> Result<Vec<u8>, Memory>
+    requires { AreUsedNames map.now names.now }
+    ensures text { IfOk result (λ text. text.items ≡ canonical_mappings_text (record_of map.now)) }
+    ensures listing { OnOk result (IsListing map.now.listing) }
+{
+    let mut encoder = Encoder::with_capacity(alloc, map.token_count())?;
+    for i in 0..map.token_count() {
+        encoder.push(token_by(names, map, map.listed_token(i)))?;
+    }
+    Ok(encoder.finish())
+}
+
+/// How many bytes that mappings text has: it is counted, and not made.
+pub(crate) fn numbered_length(map: &SourceMap, names: &UsedNames<'_>) -> u128
+    requires { AreUsedNames map.now names.now }
+    ensures { result ≡ length (canonical_mappings_text (record_of map.now)) }
+{
+    let mut text = TextLength::new();
+    for i in 0..map.token_count() {
+        text.push(token_by(names, map, map.listed_token(i)));
+    }
+    text.len()
+}
+
+/// The mappings text of the tokens as they are listed.
+pub(crate) fn listed_mappings(alloc: Global, map: &SourceMap) -> Result<Vec<u8>, Memory>
+    ensures { IfOk result (λ text. text.items ≡ mappings_text map.now.listing.tokens) }
+{
+    let mut encoder = Encoder::with_capacity(alloc, map.token_count())?;
+    for i in 0..map.token_count() {
+        encoder.push(map.listed_token(i))?;
+    }
+    Ok(encoder.finish())
 }

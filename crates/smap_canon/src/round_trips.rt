@@ -1,58 +1,51 @@
-//! Reading and writing put together: each function makes the public calls, and its contract says what they
-//! promise of each other.
+//! Reading and writing in one call, with contracts that say what the two promise together.
 ghost use Rattle.std.specs.Prelude.{IfOk};
 ghost use Rattle.smap_record.specs.Answers.{Gives};
-ghost use Rattle.smap_canon.specs.Layout.{absolute_form, relative_form};
+ghost use Rattle.smap_canon.specs.Layout.{form_asked};
 ghost use Rattle.smap_canon.specs.RoundTrips.{tidied_text, IsTidied, flattened_text, IsFlattened};
 ghost use Rattle.smap_canon.specs.RoundTrips.{equal_texts, TellsTexts};
 
-use crate::writing::{canonical, canonical_relative, flatten};
+use crate::writing::{canonical_in, flatten};
 use smap_record::{Base, Limits, ReadError, SourceMap};
 use std::alloc::Global;
 
-/// The canonical bytes of a map text, or its first fault.
+/// The canonical form of the map that these bytes are, with source URLs relative to the base if that is asked
+/// for: [`SourceMap::from_slice`], then [`crate::canonical_in`]. Under the same base and limits it is accepted
+/// with the same record, and is its own canonical form.
 ///
-/// Under the same base and limits they are accepted with the same record, and tidied once more they stay as
-/// they are.
+/// # Errors
+///
+/// `Refused` with the first fault; `Memory`.
+///
+/// # Examples
+///
+/// ```
+/// let text = tidied(alloc, bytes, &base, Limits::usual())?;
+/// ```
 pub fn tidied(
     alloc: Global,
     bytes: &[u8],
     base: &Base,
     limits: Limits,
+    relative: bool,
 ) -> Result<Vec<u8>, ReadError>
-    ensures gives { Gives (λ v. v.items) result (tidied_text absolute_form base.now limits bytes.now) }
-    ensures stays { IfOk result (λ v. IsTidied absolute_form base.now limits bytes.now v.items) }
+    ensures gives { Gives (λ v. v.items) result
+        (tidied_text (form_asked relative) base.now limits bytes.now) }
+    ensures stays { IfOk result (λ v. IsTidied (form_asked relative) base.now limits bytes.now v.items) }
 {
     let map = SourceMap::from_slice(alloc, bytes, base, limits)?;
-    let Ok(text) = canonical(alloc, &map) else {
+    let Ok(text) = canonical_in(alloc, &map, base, relative) else {
         return Err(ReadError::Memory);
     };
     Ok(text)
 }
 
-/// The canonical bytes of a map text in the relative form, or its first fault.
+/// The flat form of the map that these bytes are: [`SourceMap::from_slice`], then [`flatten`]. Under the
+/// same base and limits it is accepted as the same map, with the same file, listing and record.
 ///
-/// Under the same base and limits they are accepted with the same record, and tidied once more they stay as
-/// they are.
-pub fn tidied_relative(
-    alloc: Global,
-    bytes: &[u8],
-    base: &Base,
-    limits: Limits,
-) -> Result<Vec<u8>, ReadError>
-    ensures gives { Gives (λ v. v.items) result (tidied_text relative_form base.now limits bytes.now) }
-    ensures stays { IfOk result (λ v. IsTidied relative_form base.now limits bytes.now v.items) }
-{
-    let map = SourceMap::from_slice(alloc, bytes, base, limits)?;
-    let Ok(text) = canonical_relative(alloc, &map, base) else {
-        return Err(ReadError::Memory);
-    };
-    Ok(text)
-}
-
-/// The flat bytes of a map text, or its first fault.
+/// # Errors
 ///
-/// Under the same base and limits they are accepted as the same map: with the same file, listing and record.
+/// `Refused` with the first fault; `Memory`.
 pub fn flattened(
     alloc: Global,
     bytes: &[u8],
@@ -69,51 +62,25 @@ pub fn flattened(
     Ok(text)
 }
 
-/// Whether two map texts have the same canonical bytes under one base and limits: exactly if their records
-/// are equal.
+/// Whether two inputs have the same canonical bytes under one base and limits, in either form, which is to
+/// say equal records.
 ///
-/// Where one of them has a fault, the first fault of the first that has one is answered.
+/// # Errors
+///
+/// `Refused` with the first fault of `one`, or if it has none, of `other`; `Memory`.
 pub fn have_equal_bytes(
     alloc: Global,
     one: &[u8],
     other: &[u8],
     base: &Base,
     limits: Limits,
+    relative: bool,
 ) -> Result<bool, ReadError>
     ensures gives { Gives (λ equal. equal) result
-        (equal_texts absolute_form base.now limits one.now other.now) }
+        (equal_texts (form_asked relative) base.now limits one.now other.now) }
     ensures tells { IfOk result (TellsTexts base.now limits one.now other.now) }
 {
-    let first = SourceMap::from_slice(alloc, one, base, limits)?;
-    let second = SourceMap::from_slice(alloc, other, base, limits)?;
-    let Ok(a) = canonical(alloc, &first) else {
-        return Err(ReadError::Memory);
-    };
-    let Ok(b) = canonical(alloc, &second) else {
-        return Err(ReadError::Memory);
-    };
-    Ok(a == b)
-}
-
-/// The same of their canonical bytes in the relative form.
-pub fn have_equal_relative_bytes(
-    alloc: Global,
-    one: &[u8],
-    other: &[u8],
-    base: &Base,
-    limits: Limits,
-) -> Result<bool, ReadError>
-    ensures gives { Gives (λ equal. equal) result
-        (equal_texts relative_form base.now limits one.now other.now) }
-    ensures tells { IfOk result (TellsTexts base.now limits one.now other.now) }
-{
-    let first = SourceMap::from_slice(alloc, one, base, limits)?;
-    let second = SourceMap::from_slice(alloc, other, base, limits)?;
-    let Ok(text) = canonical_relative(alloc, &first, base) else {
-        return Err(ReadError::Memory);
-    };
-    let Ok(other_text) = canonical_relative(alloc, &second, base) else {
-        return Err(ReadError::Memory);
-    };
-    Ok(text == other_text)
+    let first = tidied(alloc, one, base, limits, relative)?;
+    let second = tidied(alloc, other, base, limits, relative)?;
+    Ok(first == second)
 }

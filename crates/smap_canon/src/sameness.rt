@@ -67,10 +67,11 @@ fn same_mappings(a: &SourceMap, b: &SourceMap) -> bool
     true
 }
 
-/// Whether the two records are equal: the file, the sources in their order, and the mappings in theirs.
+/// Whether two maps have equal records: the same file, the same distinct sources in the same order, and the
+/// same mappings. How sources and names are listed makes no difference.
 ///
-/// How the sources and names are listed makes no difference. Each source is compared once, with its content,
-/// and each mapping by its numbers and its name's text. Takes no memory.
+/// Each source is compared once, with its content, and each mapping by its numbers and its name. It takes
+/// no memory.
 pub fn same(a: &SourceMap, b: &SourceMap) -> bool
     ensures { IsTrue result ↔ (record_of a.now ≡ record_of b.now) }
 {

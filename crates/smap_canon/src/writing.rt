@@ -1,19 +1,20 @@
-//! Canonical bytes, the canonical mappings text alone, and flat bytes.
+//! Canonical bytes, the canonical mappings string by itself, and flat bytes.
 ghost use Rattle.std.specs.Prelude.{◌≡◌, ◌≤◌, ◌+◌, ◌*◌, length, IfOk, OnOk};
 ghost use Rattle.smap_mappings.specs.Text.{line_count};
 ghost use Rattle.smap_record.specs.Record.{record_of};
 ghost use Rattle.smap_record.specs.Listed.{IsListing};
-ghost use Rattle.smap_canon.specs.Layout.{absolute, relative_form, spelling_in, layout, layout_text};
+ghost use Rattle.smap_canon.specs.Layout.{absolute, form_asked, relative_form, spelling_in, layout, layout_text};
 ghost use Rattle.smap_canon.specs.Layout.{flat_text, ReadsBack};
 ghost use Rattle.smap_canon.specs.Canonical.{canonical_map, canonical_text, canonical_text_in};
 ghost use Rattle.smap_canon.specs.Canonical.{canonical_mappings_text};
-ghost use Rattle.smap_canon.specs.Laws.{IsReadAgain, IsReadAgainFrom, IsFlatReadAgain};
+ghost use Rattle.smap_canon.specs.Laws.{IsReadAgain, IsReadAgainFrom, IsReadAgainIn, IsFlatReadAgain};
+ghost use Rattle.smap_canon.specs.Numbering.{AreUsedNames};
 ghost use Rattle.smap_canon.specs.Spelling.{spelling_of};
 ghost use Rattle.smap_canon.specs.Writing.{map_of};
 
 use crate::layout::FlatMap;
 use crate::listed::Listed;
-use crate::numbering::numbered_mappings;
+use crate::numbering::{UsedNames, numbered_length, numbered_mappings, used_names};
 use crate::spelling::Spelling;
 use smap_mappings::Memory;
 use smap_record::{Base, SourceMap};
@@ -42,8 +43,14 @@ fn written(alloc: Global, listed: Listed<'_>, spelling: Spelling<'_>) -> Result<
     }
 }
 
-/// The canonical bytes of the map's record, its URLs so spelled.
-fn canonical_in(alloc: Global, map: &SourceMap, spelling: Spelling<'_>) -> Result<Vec<u8>, Memory>
+/// The canonical bytes of the map's record by the names that its mappings use, its URLs so spelled.
+fn canonical_by(
+    alloc: Global,
+    map: &SourceMap,
+    names: &UsedNames<'_>,
+    spelling: Spelling<'_>,
+) -> Result<Vec<u8>, Memory>
+    requires { AreUsedNames map.now names.now }
     ensures text { IfOk result (λ bytes. bytes.items
         ≡ layout_text (spelling_of spelling.entry) (canonical_map (record_of map.now))) }
     ensures back { OnOk result (ReadsBack
@@ -52,29 +59,73 @@ fn canonical_in(alloc: Global, map: &SourceMap, spelling: Spelling<'_>) -> Resul
 {
     let listed = Listed {
         map,
-        each_once: true,
+        names: Some(names),
     };
     written(alloc, listed, spelling)
 }
 
-/// The canonical mappings text of the map's record: sources are numbered as the record lists them, names by
-/// first use.
+/// The canonical bytes of the map's record, its URLs so spelled.
+fn canonical_spelled(
+    alloc: Global,
+    map: &SourceMap,
+    spelling: Spelling<'_>,
+) -> Result<Vec<u8>, Memory>
+    ensures text { IfOk result (λ bytes. bytes.items
+        ≡ layout_text (spelling_of spelling.entry) (canonical_map (record_of map.now))) }
+    ensures back { OnOk result (ReadsBack
+        (layout (spelling_of spelling.entry) (canonical_map (record_of map.now)))) }
+    ensures listing { OnOk result (IsListing map.now.listing) }
+{
+    let names = used_names(alloc, map)?;
+    canonical_by(alloc, map, &names, spelling)
+}
+
+/// The canonical mappings string of a map: sorted, and as short as possible, with sources numbered as the
+/// record has them and names by first use. It has at most 36 bytes for each mapping, and one for each line
+/// up to the last one with a mapping.
 ///
-/// The same names in another list, or listed and not used, give the same text.
+/// # Errors
+///
+/// `Memory`.
 pub fn canonical_mappings(alloc: Global, map: &SourceMap) -> Result<Vec<u8>, Memory>
     ensures text { IfOk result (λ text. text.items ≡ canonical_mappings_text (record_of map.now)) }
     // At most 36 bytes for each mapping, and one for each line up to the last with a mapping.
     ensures short { IfOk result (λ text. length text.items
         ≤ 36 * length map.now.listing.tokens + line_count map.now.listing.tokens) }
 {
-    let mappings = numbered_mappings(alloc, map)?;
+    let names = used_names(alloc, map)?;
+    let mappings = numbered_mappings(alloc, map, &names)?;
     Ok(mappings)
 }
 
-/// The canonical bytes of the map's record: one flat map as compact JSON, its members in byte order of their
-/// names.
+/// The length in bytes of the canonical mappings string of a map, which isn't made for it.
 ///
-/// Two maps with equal records have the same canonical bytes, whatever their texts were.
+/// # Errors
+///
+/// `Memory`.
+pub fn canonical_mappings_len(alloc: Global, map: &SourceMap) -> Result<u128, Memory>
+    ensures { IfOk result (λ len. len ≡ length (canonical_mappings_text (record_of map.now))) }
+{
+    let names = used_names(alloc, map)?;
+    Ok(numbered_length(map, &names))
+}
+
+/// The canonical form of a map: one flat map as compact JSON, which `docs/OUTPUT.md` specifies byte by
+/// byte.
+///
+/// Two maps have equal records exactly if their canonical bytes are equal. Read again with the same base
+/// and limits, they are accepted with the same record.
+///
+/// # Errors
+///
+/// `Memory`.
+///
+/// # Examples
+///
+/// ```
+/// let map = SourceMap::from_slice(alloc, bytes, &base, Limits::usual())?;
+/// let tidied = canonical(alloc, &map)?;
+/// ```
 pub fn canonical(alloc: Global, map: &SourceMap) -> Result<Vec<u8>, Memory>
     ensures text { IfOk result (λ bytes. bytes.items ≡ canonical_text (record_of map.now)) }
     // As JSON they say the canonical tree.
@@ -82,14 +133,26 @@ pub fn canonical(alloc: Global, map: &SourceMap) -> Result<Vec<u8>, Memory>
     // As a map text they have no fault and the same record.
     ensures read_again { OnOk result (IsReadAgain (record_of map.now)) }
 {
-    let bytes = canonical_in(alloc, map, Spelling::Absolute)?;
+    let bytes = canonical_spelled(alloc, map, Spelling::Absolute)?;
     Ok(bytes)
 }
 
-/// The canonical bytes of the map's record in the relative form: each source's URL in its relative spelling
-/// from the base, where it has one, and else as it is. A null source stays null.
+/// The canonical form of a map with source URLs relative to `base`, so that maps and sources can be moved
+/// together. A URL for which that doesn't round-trip stays absolute ([`Base::relative`]), and a source
+/// without a URL stays `null`.
 ///
-/// Each URL and its spelling are resolved again, beside what `canonical` costs.
+/// `base` is the map's own URL. Read again with this base, the bytes are accepted with the same record.
+/// Each URL and its relative form are resolved again, on top of what [`canonical`] costs.
+///
+/// # Errors
+///
+/// `Memory`.
+///
+/// # Examples
+///
+/// ```
+/// let tidied = canonical_relative(alloc, &map, &base)?; // "sources":["a.js"], not ["http://h/m/a.js"]
+/// ```
 pub fn canonical_relative(alloc: Global, map: &SourceMap, base: &Base) -> Result<Vec<u8>, Memory>
     ensures text { IfOk result (λ bytes. bytes.items
         ≡ canonical_text_in relative_form base.now (record_of map.now)) }
@@ -99,13 +162,38 @@ pub fn canonical_relative(alloc: Global, map: &SourceMap, base: &Base) -> Result
     // As a map text against this base they have no fault and the same record.
     ensures read_again { OnOk result (IsReadAgainFrom base.now (record_of map.now)) }
 {
-    let bytes = canonical_in(alloc, map, Spelling::Relative(base))?;
+    let bytes = canonical_spelled(alloc, map, Spelling::Relative(base))?;
     Ok(bytes)
 }
 
-/// The flat bytes of the map: one flat map as compact JSON, that lists what the map lists, in its order.
+/// The canonical bytes of the map's record in the form that is asked for: those of `canonical_relative`, or
+/// those of `canonical`.
+pub fn canonical_in(
+    alloc: Global,
+    map: &SourceMap,
+    base: &Base,
+    relative: bool,
+) -> Result<Vec<u8>, Memory>
+    ensures text { IfOk result (λ bytes. bytes.items
+        ≡ canonical_text_in (form_asked relative) base.now (record_of map.now)) }
+    ensures read_again { OnOk result
+        (IsReadAgainIn (form_asked relative) base.now (record_of map.now)) }
+{
+    if relative {
+        let bytes = canonical_relative(alloc, map, base)?;
+        return Ok(bytes);
+    }
+    let bytes = canonical(alloc, map)?;
+    Ok(bytes)
+}
+
+/// A map as one flat map, as compact JSON, with `sources` and `names` as listed, one section's after
+/// another's. Repeated sources and unused names stay. Read again with the same base and limits, it is the
+/// same map.
 ///
-/// Repeated sources and names that nothing uses stay. Read again, it is the same map.
+/// # Errors
+///
+/// `Memory`.
 pub fn flatten(alloc: Global, map: &SourceMap) -> Result<Vec<u8>, Memory>
     ensures text { IfOk result (λ bytes. bytes.items ≡ flat_text map.now) }
     // As JSON they say the layout of the listing.
@@ -113,10 +201,7 @@ pub fn flatten(alloc: Global, map: &SourceMap) -> Result<Vec<u8>, Memory>
     // As a map text, under a base and limits that the listing fits, they have no fault and say the same map.
     ensures read_again { OnOk result (IsFlatReadAgain map.now) }
 {
-    let listed = Listed {
-        map,
-        each_once: false,
-    };
+    let listed = Listed { map, names: None };
     let bytes = written(alloc, listed, Spelling::Absolute)?;
     Ok(bytes)
 }

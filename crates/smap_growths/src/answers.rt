@@ -1,24 +1,27 @@
-//! Which call a name stands for.
+//! Which call has which name.
 
-use crate::{codec, maps, traces, words};
-use smap_mappings::Memory;
+use crate::{codec, maps, runs, traces, words};
+use smap_mappings::{Memory, WIDEST};
 use std::alloc::Global;
 
-/// What a call answered, as text.
+/// The answer of a call, as a string of bytes.
 pub(crate) type Answer = Result<Vec<u8>, Memory>;
 
-/// A text of our own.
+/// An answer of this program's own.
 pub(crate) fn said(alloc: Global, text: &[u8]) -> Answer {
     let mut out = Vec::new(alloc);
     out.extend_from_slice(text)?;
     Ok(out)
 }
 
-/// The answer of the call with this name on a text, where there is such a call.
+/// The answer of the call with this name for this input, if there is such a call.
 pub(crate) fn answer_of(alloc: Global, call: &str, text: &[u8]) -> Option<Answer> {
     let answer = match call {
-        "decode" => codec::decoded(alloc, text),
-        "pieces" => codec::in_pieces(alloc, text),
+        "decode" => codec::decoded(alloc, text, WIDEST),
+        "decode_of_one_source" => codec::decoded(alloc, text, codec::ONE_SOURCE),
+        "pieces" => codec::in_pieces(alloc, text, WIDEST, 0),
+        "pieces_with_room" => codec::in_pieces(alloc, text, WIDEST, 9),
+        "pieces_of_one_source" => codec::in_pieces(alloc, text, codec::ONE_SOURCE, 0),
         "encode" => codec::encoded(alloc),
         "base" => maps::base(alloc),
         "fault_text" => maps::fault(alloc),
@@ -28,8 +31,8 @@ pub(crate) fn answer_of(alloc: Global, call: &str, text: &[u8]) -> Option<Answer
         }
         "translate_line" => traces::line(alloc, text),
         "translate" => traces::trace(alloc, text),
-        "task_of" => words::task(alloc),
-        _ => return None,
+        "task_of" => words::task(alloc, text),
+        _ => runs::ran(alloc, runs::task_named(call)?, text),
     };
     Some(answer)
 }

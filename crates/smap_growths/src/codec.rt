@@ -1,15 +1,23 @@
-//! Calls on mappings texts.
+//! Calls on mappings strings.
 
 use crate::answers::{Answer, said};
 use smap_mappings::{
-    MAX_POSITION, MappingsError, MappingsReader, Memory, Original, Token, WIDEST, decode, encode,
+    Bounds, MAX_POSITION, MappingsError, MappingsReader, Memory, Original, Token, WIDEST, decode,
+    encode,
 };
 use smap_record::Fault;
 use smap_tool::fault_text;
 use std::alloc::Global;
 
-/// The tokens in their canonical text, or the line of the fault.
-fn told(alloc: Global, tokens: Result<Vec<Token>, MappingsError>) -> Answer {
+/// The bounds of a map with one source and no names.
+pub(crate) const ONE_SOURCE: Bounds = Bounds {
+    sources: 1,
+    names: 0,
+    ..WIDEST
+};
+
+/// The canonical string of the tokens, or the line of the fault.
+fn tokens_or_fault(alloc: Global, tokens: Result<Vec<Token>, MappingsError>) -> Answer {
     match tokens {
         Ok(tokens) => {
             if !smap_mappings::is_encodable(tokens.as_slice()) {
@@ -26,26 +34,27 @@ fn told(alloc: Global, tokens: Result<Vec<Token>, MappingsError>) -> Answer {
     }
 }
 
-pub(crate) fn decoded(alloc: Global, text: &[u8]) -> Answer {
-    told(alloc, decode(alloc, text, WIDEST))
+pub(crate) fn decoded(alloc: Global, text: &[u8], bounds: Bounds) -> Answer {
+    tokens_or_fault(alloc, decode(alloc, text, bounds))
 }
 
-/// Byte by byte, with no room to begin with. After want of memory each further call has to answer it too.
-pub(crate) fn in_pieces(alloc: Global, text: &[u8]) -> Answer {
-    let mut reader = MappingsReader::new(alloc, WIDEST, 0)?;
+/// Byte by byte, with room for so many tokens to begin with. Once memory has run out, each further call has
+/// to answer that too.
+pub(crate) fn in_pieces(alloc: Global, text: &[u8], bounds: Bounds, room: usize) -> Answer {
+    let mut reader = MappingsReader::new(alloc, bounds, room)?;
     for i in 0..text.len() {
         if let Err(error) = reader.feed(&text[i..i + 1]) {
             let stays = reader.feed(b"A") == Err(error) && reader.finish() == Err(error);
             if !stays {
                 return said(alloc, b"the reader changed its mind");
             }
-            return told(alloc, Err(error));
+            return tokens_or_fault(alloc, Err(error));
         }
     }
-    told(alloc, reader.finish())
+    tokens_or_fault(alloc, reader.finish())
 }
 
-/// The canonical text of a list of its own.
+/// The canonical string of tokens of this program's own.
 pub(crate) fn encoded(alloc: Global) -> Answer {
     let token = Token {
         line: 0,

@@ -1,11 +1,12 @@
-//! A program of the tests. It makes one call of the libraries on the text of its standard input, twice,
-//! and prints both answers; where memory ran out it prints `memory` in place of one.
-//! `scripts/refuse-growths` runs it once for each growth that such a call asks for, and refuses that one.
+//! A program for tests. It makes one call of the libraries on its standard input, twice, and prints both
+//! answers, or `memory` for one that ran out of memory. `scripts/refuse-growths` runs it once for each
+//! request for memory that the call makes, and refuses that request.
 #![tactic(auto)]
 
 mod answers;
 mod codec;
 mod maps;
+mod runs;
 mod traces;
 mod words;
 
@@ -26,7 +27,7 @@ fn print<W: Write>(out: &mut W, answer: &Answer) -> io::Result<()> {
     out.write_all(b"\n")
 }
 
-/// The call's name, and the text.
+/// The call's name, and the input.
 fn input(rt: &HostRuntime) -> io::Result<(Vec<String>, Vec<u8>)> {
     let words = env::args(rt)?.collect(rt.alloc())?;
     let mut text = Vec::new(rt.alloc());

@@ -2,14 +2,14 @@
 
 use crate::answers::{Answer, said};
 use smap_canon::{canonical, canonical_mappings, canonical_relative, flatten};
-use smap_mappings::Memory;
+use smap_mappings::{Memory, SegmentPlace};
 use smap_record::{Base, BaseFault, Fault, Kind, Limits, Path, ReadError, SourceMap};
 use smap_tool::fault_text;
 use std::alloc::Global;
 
 pub(crate) const BASE: &str = "http://h/m/out.js.map";
 
-/// The relative spelling of a source beside the base.
+/// The relative form of a source next to the base.
 pub(crate) fn relative(alloc: Global) -> Answer {
     let Ok(base) = Base::new(alloc, BASE) else {
         return Err(Memory);
@@ -33,16 +33,24 @@ fn line(alloc: Global, fault: &Fault) -> Answer {
     Ok(line.into_bytes())
 }
 
+/// The line of a fault in a segment of a section within a section.
 pub(crate) fn fault(alloc: Global) -> Answer {
+    let Some(section) = Path::new(&[1, 20]) else {
+        return said(alloc, b"too deep");
+    };
+    let place = SegmentPlace {
+        line: 300,
+        segment: 4_000,
+    };
     let fault = Fault {
-        section: Path::outside(),
-        place: None,
-        kind: Kind::SourceUrl(7),
+        section,
+        place: Some(place),
+        kind: Kind::Count(6),
     };
     line(alloc, &fault)
 }
 
-/// What one of the calls that write gives of the map of a text, or the line of its fault.
+/// What one of the calls that write gives for the map that was read, or the line of its fault.
 pub(crate) fn written(alloc: Global, call: &str, text: &[u8]) -> Answer {
     let base = match Base::new(alloc, BASE) {
         Ok(base) => base,

@@ -3,7 +3,8 @@
     python3 crates/smap_hostile/model/one_byte.py
 
 The definition is written here for flat maps with the members that a changed byte can leave, over Python's json and
-with a reading of mappings of its own: it shares nothing with the crates.
+with a reading of mappings of its own: it shares nothing with the crates. The last line counts the places of the map,
+each with all bytes that can stand there.
 """
 
 import json
@@ -196,7 +197,8 @@ TEST = Path(__file__).resolve().parent.parent / "src" / "one_byte_changed.rt"
 def table():
     """The rows of the test's table: first place, last place, bytes as a text, answer."""
     code = TEST.read_text(encoding="utf-8")
-    sets = {name: text.replace("\\x7f", "\x7f") for name, text in re.findall(r'const (\w+): &str = "(.*)";', code)}
+    constants = re.findall(r'const (\w+): &str =\s+"(.*)";', code)
+    sets = {name: text.replace("\\x7f", "\x7f") for name, text in constants}
     sets["SPACE"] = " "
     for row in re.search(r'const TABLE: &str = r#"(.*?)"#;', code, re.S)[1].split("\n"):
         first, last, characters, answer = row.split(" | ")
@@ -221,15 +223,17 @@ def said(rows, place, byte):
 
 def main():
     rows = list(table())
-    wrong = 0
+    passed = 0
     for place in range(len(MAP)):
+        wrong = 0
         for byte in range(256):
             text = MAP[:place] + bytes([byte]) + MAP[place + 1 :]
             if said(rows, place, byte) != tidied(text):
                 wrong += 1
                 print(f"byte {byte} at {place}: {tidied(text)!r}, and the table has {said(rows, place, byte)!r}")
-    print(f"{len(rows)} rows, {wrong} of {256 * len(MAP)} answers differ")
-    return 1 if wrong else 0
+        passed += wrong == 0
+    print(f"{passed} passed, {len(MAP) - passed} failed")
+    return 0 if passed == len(MAP) else 1
 
 
 if __name__ == "__main__":

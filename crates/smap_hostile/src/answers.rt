@@ -1,4 +1,4 @@
-//! What a run answers to an input in memory, and the inputs that are made of repeated pieces.
+//! What a run answers for an input in memory, and inputs that are made of repeated pieces.
 use smap_io::Device;
 use smap_tool::{Outcome, RunFault, run_check, run_respell, run_tidy};
 use std::alloc::{AllocError, Global};
@@ -12,7 +12,7 @@ pub(crate) const EMPTY: &str = r#"{"version":3,"mappings":""}"#;
 
 pub(crate) const EMPTY_TIDY: &str = r#"{"mappings":"","names":[],"sources":[],"version":3}"#;
 
-/// What a run came to, and the bytes that it wrote.
+/// The outcome of a run, and the bytes that it wrote.
 pub(crate) type Answer = (Result<Outcome, RunFault>, Vec<u8>);
 
 pub(crate) fn respelled(alloc: Global, input: &[u8]) -> Answer {
@@ -36,7 +36,7 @@ pub(crate) fn tidied(alloc: Global, input: &[u8]) -> Answer {
     (answer, writer.into_inner())
 }
 
-/// Asserts an answer. A long output isn't printed where it is another one.
+/// Asserts an answer. A long output that differs isn't printed.
 pub(crate) fn assert_answer(rt: &impl Abort, answer: Answer, outcome: Outcome, output: &[u8]) {
     let (answer, written) = answer;
     assert_eq!(rt; answer, Ok(outcome));
@@ -46,13 +46,13 @@ pub(crate) fn assert_answer(rt: &impl Abort, answer: Answer, outcome: Outcome, o
     assert!(rt; written.as_slice() == output);
 }
 
-/// Asserts that a mappings text is accepted and written so, with a line feed behind it.
+/// Asserts that a mappings string is accepted and written like this, followed by a line feed.
 pub(crate) fn assert_respelled(rt: &(impl Abort + AllocGlobal), input: &[u8], output: &[u8]) {
     let answer = respelled(rt.alloc(), input);
     assert_answer(rt, answer, Outcome::Done, output);
 }
 
-/// Asserts that a mappings text is refused with a line.
+/// Asserts that a mappings string is refused with this line.
 pub(crate) fn assert_no_mappings(rt: &(impl Abort + AllocGlobal), input: &[u8], line: &str) {
     let answer = respelled(rt.alloc(), input);
     assert_answer(rt, answer, Outcome::Refused, line.as_bytes());
@@ -64,7 +64,7 @@ pub(crate) fn assert_tidied(rt: &(impl Abort + AllocGlobal), input: &[u8], outpu
     assert_answer(rt, answer, Outcome::Done, output);
 }
 
-/// Asserts that a map is refused with a line, by each run that reads a map.
+/// Asserts that a map is refused with this line, by each run that reads a map.
 pub(crate) fn assert_refused(rt: &(impl Abort + AllocGlobal), input: &[u8], line: &str) {
     let answer = checked(rt.alloc(), input);
     assert_answer(rt, answer, Outcome::Refused, line.as_bytes());
@@ -81,7 +81,7 @@ pub(crate) fn assert_counted(rt: &(impl Abort + AllocGlobal), input: &[u8], line
     assert_eq!(rt; &written[..line.len()], line.as_bytes());
 }
 
-/// Puts a piece behind a text so many times.
+/// Appends a piece this many times.
 pub(crate) fn push_times(text: &mut Vec<u8>, piece: &str, times: usize) -> Result<(), AllocError> {
     for _ in 0..times {
         text.extend_from_slice(piece.as_bytes())?;
@@ -89,13 +89,13 @@ pub(crate) fn push_times(text: &mut Vec<u8>, piece: &str, times: usize) -> Resul
     Ok(())
 }
 
-/// Puts a decimal number behind a text.
+/// Appends a number in decimal digits.
 pub(crate) fn push_number(alloc: Global, text: &mut Vec<u8>, n: usize) -> Result<(), AllocError> {
     let digits = format!(in alloc; "{n}")?;
     text.extend_from_slice(digits.as_bytes())
 }
 
-/// A front, a piece so many times, and what stands behind.
+/// A beginning, a piece this many times, and an end.
 pub(crate) fn around(
     alloc: Global,
     front: &str,

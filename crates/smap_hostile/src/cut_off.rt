@@ -19,10 +19,10 @@ const MAPS: [&str; 9] = [
     r#"{"version":3,"file":"x\/y\u0009\u000b","mappings":""}"#,
 ];
 
-/// A map that is refused also where it is whole.
+/// A map that is refused even if it is whole.
 const REFUSED: &str = r#"{"version":3,"sources":["a.js","b.js"],"ignoreList":[2],"mappings":""}"#;
 
-/// Asserts that a map isn't JSON where it is cut after any smaller number of bytes.
+/// Asserts that a map isn't JSON if it is cut off anywhere.
 fn assert_no_front(rt: &(impl Abort + AllocGlobal), map: &[u8]) {
     for len in 0..map.len() {
         assert_refused(rt, &map[..len], "refused: not json\n");

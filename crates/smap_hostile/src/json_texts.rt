@@ -1,4 +1,4 @@
-//! Texts that are hardly JSON, or nested, or long in one value.
+//! Inputs that are nearly JSON, or nested, or long in one value.
 use crate::answers::{
     EMPTY, EMPTY_TIDY, around, assert_counted, assert_refused, assert_tidied, push_times,
 };
@@ -176,7 +176,7 @@ fn of_a_million_equal_members_the_last_counts(rt: HostRuntime) -> Result<(), Fai
     Ok(())
 }
 
-/// Names with every escape that JSON has, and the canonical text of each.
+/// Names with every escape that JSON has, and how each is written.
 const ESCAPES: [(&str, &str); 12] = [
     (
         r#"\u0000\u0001\u0002\u0003\u0004\u0005\u0006\u0007"#,

@@ -1,9 +1,9 @@
-//! The suite of hostile texts: inputs that are cut off, nested as deep as a reader of JSON goes, changed
-//! in one byte, or long in one respect, each with the answer that the format's definition gives. The
-//! contracts of `smap_tool` say that every run ends with the defined answer; this suite shows that these
-//! definitions say what they are to, and that the answer comes in seconds and in the memory at hand. The
-//! answers were found by hand or by another program. The crate has nothing but tests: it stands alone so
-//! that it's proved beside the crates that it tries.
+//! Tests with hostile inputs: cut off, nested as deep as a reader of JSON goes, changed in one byte, or long
+//! in one respect, each with the answer that the format's definition gives. The contracts of `smap_tool` say
+//! that every run ends with the defined answer; these tests show that the definitions say what they should,
+//! and that the answer comes within seconds and within the memory of a usual machine. The answers were found
+//! by hand or by another program. The crate has only tests, so that it is proved next to the crates that it
+//! tests.
 #![tactic(auto)]
 
 #[cfg(test)]

@@ -1,11 +1,11 @@
-//! Maps that list much: sources, contents, names and ignored numbers.
+//! Maps with long arrays: of sources, contents, names and ignored sources.
 use crate::answers::{
     around, assert_counted, assert_refused, assert_tidied, push_number, push_times,
 };
 use std::alloc::{AllocError, Global};
 use std::test::Fail;
 
-/// A list of texts: a front, a number that counts from 0, and a back, each between quotation marks.
+/// An array of strings: each is a beginning, a number that counts from 0, and an end.
 fn push_numbered(
     alloc: Global,
     text: &mut Vec<u8>,

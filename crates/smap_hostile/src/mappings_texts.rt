@@ -1,4 +1,4 @@
-//! Mappings texts that are long, padded or out of order, as `respell` reads them.
+//! Mappings strings that are long, have redundant digits or are out of order, as `respell` reads them.
 use crate::answers::{around, assert_no_mappings, assert_respelled};
 use smap_io::Device;
 use smap_tool::{RunFault, run_respell};
@@ -64,7 +64,7 @@ fn the_last_line_has_the_number_16777215(rt: HostRuntime) -> Result<(), Fail> {
     Ok(())
 }
 
-/// Gives so many `;`.
+/// Gives this many `;`.
 #[derive(Drop)]
 struct Lines {
     left: usize,

@@ -1,4 +1,4 @@
-//! Index maps whose sections lie far out, or are many.
+//! Index maps with sections at large offsets, or with many sections.
 use crate::answers::{EMPTY_TIDY, around, assert_refused, assert_tidied, push_number, push_times};
 use std::alloc::{AllocError, Global};
 use std::test::Fail;
@@ -85,7 +85,7 @@ fn a_section_may_reach_the_last_line_and_the_greatest_column(rt: HostRuntime) ->
     Ok(())
 }
 
-/// How far apart the sections of a map stand, the mappings of each, and the map's.
+/// How far apart the sections of a map are, the mappings of each, and those of the map.
 const STEPS: [(usize, usize, &str, &str, &str); 5] = [
     (1, 0, "A", "A", ";A"),
     (0, 1, "A", "A", ",C"),

@@ -1,4 +1,4 @@
--- What a call has read that reads by as many calls as it takes.
+-- What was read by a function that makes as many read calls as it takes.
 use Rattle.std.specs.Prelude.{◌≡◌, ◌⊎◌, ℕ, ◌+◌, ◌<◌, ◌≤◌, ◌==◌, Bool, not, ◌||◌, true, false, List, [], ◌∷◌}
 use Rattle.std.specs.Prelude.{◌++◌, length, Option, None, Some, Result, Ok, Err}
 use Rattle.std.specs.List.{list_any}
@@ -8,7 +8,7 @@ use Rattle.smap_io.specs.declared.reading.ReadFault.{ReadFault}
 use Rattle.smap_io.specs.declared.reading.ReadFault.TheVariants as fault
 use Rattle.smap_io.specs.Device.{device_inner, device_failures, has_ended}
 
--- The reader gave these bytes: they are the front of what it had left.
+-- The reader gave these bytes: they are a prefix of what it had left.
 abbrev pub Gave : {R : Type 0} → (R → Option (List ℕ)) → Device R → Device R → List ℕ → Type 0
 Gave remaining old new bytes = Consumes (remaining (device_inner old)) (remaining (device_inner new)) bytes
 
@@ -16,7 +16,7 @@ Gave remaining old new bytes = Consumes (remaining (device_inner old)) (remainin
 abbrev pub IsAtItsEnd : {R : Type 0} → (R → Option (List ℕ)) → Device R → Type 0
 IsAtItsEnd remaining d = (has_ended d ≡ true) × IsAtEnd (remaining (device_inner d))
 
--- So many bytes were read, or as many as came before the end. No call failed.
+-- This many bytes were read, or all those before the end if there are fewer. No call failed.
 pub record ReadsUpTo {R : Type 0} (remaining : R → Option (List ℕ)) (old new : Device R) (most : ℕ)
     (bytes : List ℕ) : Type 0 where
   pub gave : Gave remaining old new bytes
@@ -25,25 +25,25 @@ pub record ReadsUpTo {R : Type 0} (remaining : R → Option (List ℕ)) (old new
   pub full : length bytes ≡ most → has_ended new ≡ has_ended old
   pub short : length bytes < most → IsAtItsEnd remaining new
 
--- Fewer calls are left than before. Each gave at least one byte, but the one that saw the end.
+-- At least one call was made, if any bytes were wanted; and unless the end was seen, at most one for each byte.
 pub record TakesCalls {R : Type 0} (new : Device R) (most calls_old calls_new : ℕ) (bytes : List ℕ)
     : Type 0 where
   pub some : 0 < most → calls_new < calls_old
   pub paid : has_ended new ≡ false → calls_old ≤ calls_new + length bytes
 
--- one more where a call failed
+-- one more if a call failed
 abbrev pub failed_by : ReadFault → ℕ → ℕ
 failed_by fault.Failed n = n + 1
 failed_by fault.Spent n = n
 failed_by fault.Memory n = n
 
--- Where the calls were spent, so many bytes were read.
+-- If the calls were used up, at least this many bytes were read.
 abbrev pub SpentBy : ReadFault → ℕ → ℕ → Type 0
 SpentBy fault.Failed calls n = Unit {0}
 SpentBy fault.Spent calls n = calls ≤ n
 SpentBy fault.Memory calls n = Unit {0}
 
--- Reading by so many calls gave up after these bytes, of which there are fewer than wanted.
+-- Reading with this many calls gave up after these bytes, which are fewer than wanted.
 pub record GaveUp {R : Type 0} (remaining : R → Option (List ℕ)) (old new : Device R) (most calls : ℕ)
     (fault : ReadFault) : Type 0 where
   pub bytes : List ℕ
@@ -55,11 +55,11 @@ pub record GaveUp {R : Type 0} (remaining : R → Option (List ℕ)) (old new : 
 
 -- ---- lines
 
--- whether the byte stands nowhere in the text
+-- whether the byte doesn't occur
 abbrev pub lacks : ℕ → List ℕ → Bool
 lacks b text = not (list_any (λ c. c == b) text)
 
--- The text ends with its one line feed.
+-- The bytes end with a line feed, and have no other.
 pub record IsOneLine (text : List ℕ) : Type 0 where
   pub front : List ℕ
   pub whole : text ≡ front ++ 10 ∷ []
@@ -74,14 +74,14 @@ pub record ReadsWholeLine {R : Type 0} (remaining : R → Option (List ℕ)) (ol
   pub failures : device_failures new ≡ device_failures old
   pub ended : has_ended new ≡ has_ended old
 
--- A line was read, as far as it goes: up to its line feed, or up to the end, or so many bytes.
+-- A line was read: up to its line feed, or the end, or this many bytes.
 abbrev pub ReadsLine : {R : Type 0} → (R → Option (List ℕ)) → Device R → Device R → ℕ → List ℕ → Type 0
 ReadsLine remaining old new most line = ReadsWholeLine remaining old new most line
     ⊎ (ReadsUpTo remaining old new most line × (lacks 10 line ≡ true))
 
 -- ---- one call
 
--- One call gave these n bytes, none at the end alone. It is over where there were none.
+-- One call gave these n bytes, none only at the end. Reading is over if there were none.
 pub record ReadsSome {R : Type 0} (remaining : R → Option (List ℕ)) (old new : Device R)
     (calls_old calls_new : ℕ) (over : Bool) (n : ℕ) (bytes : List ℕ) : Type 0 where
   pub gave : Gave remaining old new bytes

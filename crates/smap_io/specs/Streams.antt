@@ -1,12 +1,12 @@
--- What a call that reads and writes has done to its two devices.
+-- What a function that reads and writes has done to its two devices.
 use Rattle.std.specs.Prelude.{◌≡◌, ◌⊎◌, ℕ, ◌<◌, ◌≤◌, Bool, true, false, List, length, Option, Result, Ok, Err}
 use Rattle.std.specs.Io.KnownBytes.{Appends, Consumes, Keeps}
 use Rattle.smap_io.specs.declared.device.Device.{Device}
 use Rattle.smap_io.specs.declared.reading.TheConstants.{MOST_CALLS}
 use Rattle.smap_io.specs.Device.{device_inner, device_failures, has_ended}
 
--- What the reader has left and what the writer holds, where they tell it, before and after; how often each
--- had failed; and whether the reader's end was seen.
+-- What the reader has left and what the writer holds, for those whose contents are known, before and after;
+-- how often each had failed; and whether the reader's end was seen.
 pub record Streams : Type 0 where
   pub read_before : Option (List ℕ)
   pub read_after : Option (List ℕ)
@@ -49,7 +49,7 @@ HasWrittenNothing s = Keeps s.written_before s.written_after
 
 -- ---- the failures
 
--- more failures than before, or as many
+-- more failures than before if the flag is set, else as many
 abbrev pub Rises : Bool → ℕ → ℕ → Type 0
 Rises true old new = old < new
 Rises false old new = new ≡ old
@@ -59,19 +59,19 @@ abbrev pub fails_by : {A E : Type 0} → (E → Bool) → Result A E → Bool
 fails_by is (Ok x) = false
 fails_by is (Err e) = is e
 
--- The reader's failures rise with such an error, and with nothing else.
+-- The reader's failures rise exactly with such an error.
 abbrev pub ReaderFails : {A E : Type 0} → (E → Bool) → Streams → Result A E → Type 0
 ReaderFails is s result = Rises (fails_by is result) s.read_failures_before s.read_failures_after
 
--- The writer's failures rise with such an error, and with nothing else.
+-- The writer's failures rise exactly with such an error.
 abbrev pub WriterFails : {A E : Type 0} → (E → Bool) → Streams → Result A E → Type 0
 WriterFails is s result = Rises (fails_by is result) s.write_failures_before s.write_failures_after
 
--- So many bytes were read that the bound on read calls may have been met.
+-- Enough bytes were read that the limit on read calls may have been reached.
 abbrev pub ReadsTooMuch : Streams → Type 0
 ReadsTooMuch s = (bytes : List ℕ) × HasRead s bytes × (MOST_CALLS ≤ length bytes)
 
--- The same where such an error may also come after so many bytes.
+-- The same, where such an error may also come after that many bytes.
 abbrev pub RisesOr : Type 0 → Bool → ℕ → ℕ → Type 0
 RisesOr P true old new = (old < new) ⊎ ((new ≡ old) × P)
 RisesOr P false old new = new ≡ old

@@ -7,20 +7,22 @@ ghost use Rattle.smap_io.specs.Device.{is_end, TakesSome};
 
 use std::io::{Read, Write};
 
-/// A call of a device failed: an error of the reader or writer, an interruption among them, or a
-/// write of at least one byte that took none. What the error was isn't kept.
+/// A call of a [`Device`] failed: the reader or writer answered an error, an interruption included, or a
+/// write of at least one byte took none. The error itself isn't kept.
 #[derive(Clone, Copy, Debug, PartialEq, Eq)]
 pub struct Failed;
 
-/// A reader or a writer, with the number of its calls that failed and, for a reader, whether its
-/// end was seen.
+/// A reader or a writer, with the number of its calls that failed and, for a reader, whether its end was
+/// seen.
 ///
-/// Each call is passed on exactly once, also where it fails: a short read or write is handed out as
-/// it came, and nothing is tried again. No contract can say so, since the traits of the standard
-/// library count no calls: that the call is made, and that `Failed` is its failure, is shown by tests.
-/// What contracts say: the count rises exactly with `Failed`; where the reader or the writer tells its
-/// bytes, what a read gave is what the reader lost, what a write took is what the writer gained, and a
-/// failed call moves nothing. The calls ask that fewer than 2^64 - 1 calls have failed.
+/// Each call is passed on exactly once, also where it fails: a short read or write is handed out as it
+/// came, and nothing is retried. Contracts say that the count rises exactly with `Failed`; that, for
+/// readers and writers whose contents are known, what a read gave is what the reader lost and what a write
+/// took is what the writer gained; and that a failed call moves nothing. That the call is made at all, and
+/// that `Failed` is its failure, no contract can say, since the traits of the standard library count no
+/// calls: tests show it.
+///
+/// The calls require that fewer than 2^64 - 1 calls have failed.
 #[derive(Drop)]
 pub struct Device<T> {
     inner: T,
@@ -29,7 +31,7 @@ pub struct Device<T> {
 }
 
 impl<T> Device<T> {
-    /// A device that hasn't failed, whose end isn't seen.
+    /// A device around a reader or a writer. No call has failed yet, and the end hasn't been seen.
     pub fn new(inner: T) -> Self
         ensures inner { device_inner result ≡ inner }
         ensures failures { device_failures result ≡ 0 }
@@ -42,21 +44,21 @@ impl<T> Device<T> {
         }
     }
 
-    /// How many calls have failed.
+    /// The number of calls that have failed.
     pub fn failures(&self) -> u64
         ensures { result ≡ device_failures self.now }
     {
         self.failures
     }
 
-    /// Whether a read into at least one byte has answered 0.
+    /// Whether the end of the input was seen: a read into at least one byte has answered 0.
     pub fn ended(&self) -> bool
         ensures { result ≡ has_ended self.now }
     {
         self.ended
     }
 
-    /// The reader or the writer, with whatever it has left or holds.
+    /// Takes the reader or writer out of the device.
     pub fn into_inner(self) -> T
         ensures { result ≡ device_inner self }
     {
@@ -76,8 +78,12 @@ impl<T> Device<T> {
 }
 
 impl<R: Read> Device<R> {
-    /// Passes one read on, and answers how many bytes it put at the front of `buf`. An answer of 0
-    /// where `buf` has room is the end of what is read, and is noted.
+    /// Makes one read call, and answers how many bytes it put at the start of `buf`. An answer of 0 for a
+    /// `buf` that isn't empty is the end of the input, and is noted.
+    ///
+    /// # Errors
+    ///
+    /// `Failed` where the read fails or is interrupted.
     pub fn read(&mut self, buf: &mut [u8]) -> Result<usize, Failed>
         requires { device_failures self.old < 2 ^ 64 - 1 }
         ensures bound { ReadsAtMost result buf.new }
@@ -98,8 +104,11 @@ impl<R: Read> Device<R> {
 }
 
 impl<W: Write> Device<W> {
-    /// Passes one write on, and answers how many bytes it took from the front of `buf`. A write that
-    /// took none of at least one byte has failed.
+    /// Makes one write call, and answers how many bytes it took from the start of `buf`.
+    ///
+    /// # Errors
+    ///
+    /// `Failed` where the write fails, is interrupted, or takes none of at least one byte.
     pub fn write(&mut self, buf: &[u8]) -> Result<usize, Failed>
         requires { device_failures self.old < 2 ^ 64 - 1 }
         ensures bound { WritesAtMost result buf.now }
@@ -116,7 +125,11 @@ impl<W: Write> Device<W> {
         }
     }
 
-    /// Passes one flush on.
+    /// Makes one flush call.
+    ///
+    /// # Errors
+    ///
+    /// `Failed` where the flush fails or is interrupted.
     pub fn flush(&mut self) -> Result<(), Failed>
         requires { device_failures self.old < 2 ^ 64 - 1 }
         ensures bytes { Keeps (W.contents (device_inner self.old))

@@ -1,9 +1,9 @@
 //! Readers and writers whose failures are counted.
 //!
-//! What a layer above promises of its input and output has to say when a device failed. A
-//! [`Device`] keeps that in one place: it passes each call on exactly once, counts the calls that
-//! failed, and notes the end of what is read. It tries nothing again, takes no memory, and costs a
-//! test a call.
+//! What a program promises about its input and output has to say when a device failed. A [`Device`] keeps
+//! that in one place: it passes each call on exactly once, counts the calls that failed, and notes the end
+//! of the input. It retries nothing, takes no memory, and costs one comparison a call. [`read_up_to`],
+//! [`read_line`], [`write_all`] and [`write_and_flush`] are the loops over it.
 #![tactic(auto)]
 
 mod device;

@@ -1,5 +1,5 @@
-//! Reading as much as is wanted, by as many calls as it takes, of those that are left. What is read grows as
-//! the bytes come, so that a bound alone takes no memory.
+//! Reading as much as is wanted, with as many read calls as it takes, up to a limit. The buffer grows as
+//! the bytes come, so that a large limit alone takes no memory.
 ghost use Rattle.std.specs.Prelude.{◌≡◌, ◌+◌, ◌-◌, ◌^◌, ◌<◌, ◌≤◌, IfOk, MatchResult, OnOk, false, length};
 ghost use Rattle.std.specs.Prelude.{drop, take, vec_len};
 ghost use Rattle.smap_io.specs.Device.{device_failures};
@@ -9,28 +9,30 @@ use crate::device::Device;
 use std::alloc::{AllocError, Global};
 use std::io::Read;
 
-/// The most bytes of an input: 256 MiB.
+/// The longest input that the program reads, in bytes: 256 MiB. This project's own limit.
 pub const LIMIT: usize = 268_435_456;
 
-/// The most read calls of an input that has no such limit.
+/// The most read calls for an input without a limit on its length, such as a stack trace. This project's
+/// own limit.
 pub const MOST_CALLS: u64 = 4_294_967_296;
 
 /// Why reading gave up.
 #[derive(Clone, Copy, Debug, PartialEq, Eq)]
 pub enum ReadFault {
-    /// A call of the reader failed.
+    /// A read call failed.
     Failed,
-    /// No call was left.
+    /// All read calls were used up.
     Spent,
-    /// There was no memory.
+    /// Out of memory.
     Memory,
 }
 
-/// The room for a read: small enough to stay in the processor's cache, large enough for few calls.
+/// How many bytes a read asks for: few enough to stay in the processor's cache, and enough that few calls
+/// are needed.
 const MORE_ROOM: usize = 262_144;
 
-/// Makes room after what is filled, where there is none left, by zeros. The vector takes memory by
-/// doubling; only what is filled with zeros is touched.
+/// Appends zeros as room for a read, if all room is filled. The vector grows by doubling; only what is
+/// filled with zeros is touched.
 fn make_room(text: &mut Vec<u8>, filled: usize, most: usize) -> Result<(), AllocError>
     requires filled { filled ≤ vec_len text.old }
     requires inside { filled < most }
@@ -45,8 +47,8 @@ fn make_room(text: &mut Vec<u8>, filled: usize, most: usize) -> Result<(), Alloc
     text.resize(filled.saturating_add(MORE_ROOM).min(most), 0)
 }
 
-/// One read call, where one is left. It says whether reading is over, by the end or a failure: then no call
-/// comes after it.
+/// One read call, if one is left. It says whether reading is over, by the end or a failure: then no further
+/// call is made.
 fn read_some<R: Read>(
     reader: &mut Device<R>,
     calls: &mut u64,
@@ -99,9 +101,14 @@ fn read_after<R: Read>(
     read_some(reader, calls, over, &mut text[filled..])
 }
 
-/// Reads so many bytes, or as many as come before the end, by no more calls than are left, and takes these
-/// from them. Each call brings at least one byte, but the one that sees the end, so that as many calls as
-/// bytes are enough. What was read is lost where this fails.
+/// Reads `most` bytes, or all that there are before the end of the input.
+///
+/// It makes at most `*calls` read calls, and subtracts those that it made. Each call brings at least one
+/// byte, except the one that sees the end, so that as many calls as bytes are always enough.
+///
+/// # Errors
+///
+/// `Failed` where a read fails, `Spent` where no call is left, and `Memory`. What was read is lost then.
 pub fn read_up_to<R: Read>(
     alloc: Global,
     reader: &mut Device<R>,
@@ -148,9 +155,15 @@ fn read_byte<R: Read>(
     Ok(Some(buf[0]))
 }
 
-/// Reads the next line with its line feed, byte by byte, so that nothing after it is read. Where it answers
-/// bytes without one, the end was read, or as many bytes as are wanted at most. The calls are those of
-/// `read_up_to`.
+/// Reads the next line with its line feed, of at most `most` bytes, byte by byte, so that nothing after it
+/// is read.
+///
+/// Without a line feed in the answer either the input has ended, or there are `most` bytes before a line
+/// feed. Calls are counted as by [`read_up_to`].
+///
+/// # Errors
+///
+/// Those of [`read_up_to`].
 pub fn read_line<R: Read>(
     alloc: Global,
     reader: &mut Device<R>,

@@ -1,4 +1,4 @@
-//! Writing a text, by as many calls as it takes.
+//! Writing a string of bytes with as many write calls as it takes.
 ghost use Rattle.std.specs.Prelude.{◌≡◌, ◌-◌, ◌^◌, ◌<◌};
 ghost use Rattle.smap_io.specs.Device.{device_failures, failures_after};
 ghost use Rattle.smap_io.specs.Writing.{WritesText};
@@ -6,7 +6,11 @@ ghost use Rattle.smap_io.specs.Writing.{WritesText};
 use crate::device::{Device, Failed};
 use std::io::Write;
 
-/// Writes a text. Where a call fails, the calls before it have written a front of the text.
+/// Writes all of `text`, with as many write calls as it takes.
+///
+/// # Errors
+///
+/// `Failed` where a write fails. The calls before it have then written a prefix of `text`.
 pub fn write_all<W: Write>(writer: &mut Device<W>, text: &[u8]) -> Result<(), Failed>
     requires { device_failures writer.old < 2 ^ 64 - 1 }
     ensures bytes { WritesText W.contents writer.old writer.new text.now result }
@@ -22,7 +26,12 @@ pub fn write_all<W: Write>(writer: &mut Device<W>, text: &[u8]) -> Result<(), Fa
     Ok(())
 }
 
-/// Writes a text and then flushes, once.
+/// Writes all of `text`, and then flushes once.
+///
+/// # Errors
+///
+/// `Failed` where a write or the flush fails. What was written is then a prefix of `text`, perhaps all of
+/// it.
 #[tactic(auto, using(crate::proofs::WritingLemmas::flushed_text))]
 pub fn write_and_flush<W: Write>(writer: &mut Device<W>, text: &[u8]) -> Result<(), Failed>
     requires { device_failures writer.old < 2 ^ 64 - 1 }

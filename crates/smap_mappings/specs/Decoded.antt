@@ -1,4 +1,4 @@
--- What a mappings text says, and what a call that reads one may answer.
+-- What a mappings string says, and what a call that reads one may answer.
 use Rattle.std.specs.Prelude.{◌≡◌, ◌<◌, ◌≤◌, ℕ, false, List, [], IfSome, Result, Ok, Err}
 use Rattle.std.specs.Global.{Vec}
 use Rattle.smap_vlq.specs.Number.{◌>>=◌}
@@ -11,17 +11,18 @@ use Rattle.smap_mappings.specs.Lines.{segments_of}
 use Rattle.smap_mappings.specs.Tokens.{Fault, start_of, tokens_behind}
 use Rattle.smap_mappings.specs.Arrangement.{arranged}
 
--- The tokens of a mappings text, arranged; or its first fault.
+-- The tokens of a mappings string, sorted; or its first fault.
 unfoldable pub decoded : Bounds → List ℕ → Result (List Token) Fault
 decoded bounds text = tokens_behind bounds [] (segments_of text) >>= λ tokens. Ok (arranged tokens)
 
--- What was answered is what the text says, unless memory ran out.
+-- The answer is what the string says, unless memory ran out.
 abbrev pub Gives : Result (Vec Token) MappingsError → Result (List Token) Fault → Type 0
 Gives (Ok v) said = said ≡ Ok v.items
 Gives (Err (errors.Fault place kind)) said = said ≡ Err (place, kind)
 Gives (Err errors.Memory) said = Unit {0}
 
--- What bounds may be: a start and counts that are positions, and at most as many lines as any map may have.
+-- Bounds in range: start and counts are at most the greatest position, and lines at most the greatest
+-- limit.
 pub record AreBounds (bounds : Bounds) : Type 0 where
   pub start_line : bounds.start_line < POSITIONS
   pub start_column : bounds.start_column < POSITIONS
@@ -35,6 +36,6 @@ pub record IsWithin (bounds : Bounds) (t : Token) : Type 0 where
   pub source : IfSome t.original (λ o. o.source < bounds.sources)
   pub name : IfSome t.original (λ o. IfSome o.name (λ n. n < bounds.names))
 
--- It doesn't lie before the start.
+-- It isn't before the start.
 abbrev pub IsFromStart : Bounds → Token → Type 0
 IsFromStart bounds t = is_before (position_of t) (start_of bounds) ≡ false

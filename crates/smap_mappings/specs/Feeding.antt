@@ -1,19 +1,20 @@
--- Tokens that an encoder was fed, one by one.
-use Rattle.std.specs.Prelude.{◌≡◌, ℕ, ◌+◌, ◌<◌, List, take}
+-- What an encoder, or a length, stands for: the tokens that it was fed.
+use Rattle.std.specs.Prelude.{◌≡◌, ℕ, ◌+◌, ◌-◌, ◌^◌, ◌<◌, List, length, min, take}
 use Rattle.std.specs.List.{AllByRecursion}
 use Rattle.smap_mappings.specs.declared.token.Token.{Token}
 use Rattle.smap_mappings.specs.declared.running.Running.{Running}
 use Rattle.smap_mappings.specs.declared.encoder.Encoder.{Encoder}
+use Rattle.smap_mappings.specs.declared.length.TextLength.{TextLength}
 use Rattle.smap_mappings.specs.Text.{original_before, name_before, column_before, line_count, mappings_text}
 
--- The values are those before the next token, but for the column.
+-- The running values are those before the next token, except for the column.
 pub record Remembers (r : Running) (ts : List Token) : Type 0 where
   pub source : (original_before ts).source ≡ r.source
   pub original_line : (original_before ts).line ≡ r.original_line
   pub original_column : (original_before ts).column ≡ r.original_column
   pub name : name_before ts ≡ r.name
 
--- The text of the tokens so far, and what the next token's segment is told by.
+-- It holds the string of the tokens so far, and the running values for the next one.
 pub record Encoded (ts : List Token) (out : List ℕ) (r : Running) (lines : ℕ) : Type 0 where
   pub text : out ≡ mappings_text ts
   pub lines_are : line_count ts ≡ lines
@@ -24,3 +25,12 @@ pub record Encoded (ts : List Token) (out : List ℕ) (r : Running) (lines : ℕ
 -- The encoder was fed these tokens.
 abbrev pub Encodes : Encoder → List Token → Type 0
 Encodes e ts = Encoded ts (take e.at e.room.items) e.running e.lines
+
+-- The length of the text of the tokens so far, and what the next token's segment is told by.
+pub record Measured (ts : List Token) (len : ℕ) (r : Running) (lines : ℕ) : Type 0 where
+  pub len_is : len ≡ min (length (mappings_text ts)) (2 ^ 128 - 1)
+  pub encoded : Encoded ts (mappings_text ts) r lines
+
+-- The length was fed these tokens.
+abbrev pub Measures : TextLength → List Token → Type 0
+Measures l ts = Measured ts l.len l.running l.lines

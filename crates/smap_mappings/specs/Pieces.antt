@@ -1,5 +1,5 @@
--- A mappings text that comes in pieces: which of its segments have ended, and which texts the state of a
--- reader stands for.
+-- A mappings string that comes in pieces: which of its segments have ended, and which strings the state of
+-- a reader stands for.
 use Rattle.std.specs.Prelude.{◌≡◌, ℕ, ◌-◌, ◌<◌, ◌≤◌, ◌⊎◌, nat_lt, List, [], ◌∷◌, ◌++◌, length, take}
 use Rattle.std.specs.Prelude.{slice_range, slice_index, Option, Some, None, Result, Ok, Err, IsOk, IsTrue, ℤ}
 use Rattle.std.specs.Prelude.{vec_capacity}
@@ -16,36 +16,36 @@ use Rattle.smap_mappings.specs.Lines.{SegmentText, segments_of}
 use Rattle.smap_mappings.specs.Tokens.{Segment, Fault, u32_count, tokens_behind}
 use Rattle.smap_mappings.specs.Steps.{Sums, walk, with_tokens}
 
--- The segments that a separator has ended: all of the text and one byte more, but the one that this byte
--- stands in.
+-- The segments that a separator has ended: all those of the string with one byte more, except the one that
+-- has this byte.
 abbrev pub ended_segments : List ℕ → List SegmentText
 ended_segments text = take (length (segments_of (text ++ 65 ∷ [])) - 1) (segments_of (text ++ 65 ∷ []))
 
--- What `feed` answers for segments: whether one has a fault, and the first fault; or memory ran out.
+-- What `feed` answers for segments: the first fault if there is one, or memory ran out.
 abbrev pub Tells : Result (Unit {0}) MappingsError → Result (List Token) Fault → Type 0
 Tells (Ok _) said = IsOk said
 Tells (Err (errors.Fault place kind)) said = said ≡ Err (place, kind)
 Tells (Err errors.Memory) said = Unit {0}
 
--- The tokens of the segments in front of a first fault, or of some of them.
+-- The tokens of the segments before the first fault, or of some of these.
 pub record ReadsInFront (bounds : Bounds) (texts : List SegmentText) (tokens : List Token) : Type 0 where
   pub front : List SegmentText
   pub rest : List SegmentText
   pub whole : texts ≡ front ++ rest
   pub read : tokens_behind bounds [] front ≡ Ok tokens
 
--- The tokens in front of a first fault are at most so many.
+-- There are at most this many tokens before the first fault.
 abbrev pub Fits : Bounds → List SegmentText → ℕ → Type 0
 Fits bounds texts room = (tokens : List Token) → ReadsInFront bounds texts tokens → length tokens ≤ room
 
 -- ---- the state
 
--- The cursor counts a segment's line, and its place in the line, up to the greatest `u32`.
+-- The cursor counts a segment's line, and its index on the line, capped at the greatest `u32`.
 pub record IsAt (cursor : Cursor) (line index : ℕ) : Type 0 where
   pub line_is : cursor.line ≡ u32_count line
   pub index_is : cursor.index ≡ u32_count index
 
--- Of the text these tokens were read, up to the bytes of a segment that hasn't ended.
+-- These tokens of the string were read, up to the bytes of a segment that hasn't ended.
 pub record IsReadTo (bounds : Bounds) (text : List ℕ) (tokens : List Token) (cursor : Cursor)
     (current : List ℕ) : Type 0 where
   pub ended : List SegmentText
@@ -66,7 +66,7 @@ pub record IsRead (r : MappingsReader) (bounds : Bounds) (text : List ℕ) : Typ
   pub segment : SegmentStandsFor r.segment current
   pub reads : IsReadTo bounds text r.tokens.list.items r.cursor current
 
--- The error is the text's, whatever follows, of the segments that have ended and of all.
+-- The error is that of the string, whatever follows: of the segments that have ended, and of all.
 abbrev pub HasFailed : Bounds → List ℕ → MappingsError → Type 0
 HasFailed bounds text (errors.Fault place kind) = (rest : List ℕ)
     → (tokens_behind bounds [] (ended_segments (text ++ rest)) ≡ Err (place, kind))
@@ -77,7 +77,7 @@ abbrev pub StandsUnder : MappingsReader → Option MappingsError → Bounds → 
 StandsUnder r None bounds text = IsRead r bounds text
 StandsUnder r (Some error) bounds text = HasFailed bounds text error
 
--- The state stands for the text: all bytes so far, under these bounds.
+-- The state stands for the string of all bytes so far, under these bounds.
 abbrev pub StandsFor : MappingsReader → Bounds → List ℕ → Type 0
 StandsFor r bounds text = StandsUnder r r.failed bounds text
 
@@ -85,13 +85,13 @@ StandsFor r bounds text = StandsUnder r r.failed bounds text
 abbrev pub failure : MappingsReader → Option MappingsError
 failure r = r.failed
 
--- how many tokens the reader can hold before it takes memory
+-- the number of tokens that the reader has memory for
 abbrev pub room : MappingsReader → ℕ
 room r = vec_capacity r.tokens.list
 
 -- ---- for private clauses
 
--- More tokens than the room stand in front of a first fault.
+-- There are more tokens before the first fault than there is room for.
 abbrev pub Overflows : Bounds → List SegmentText → ℕ → Type 0
 Overflows bounds texts most = (tokens : List Token) × ReadsInFront bounds texts tokens
     × (most < length tokens)
@@ -101,17 +101,17 @@ abbrev pub Fails : Bounds → List ℕ → ℕ → MappingsError → Type 0
 Fails bounds text most (errors.Fault place kind) = HasFailed bounds text (errors.Fault place kind)
 Fails bounds text most errors.Memory = (rest : List ℕ) → Overflows bounds (ended_segments (text ++ rest)) most
 
--- A text was read to its end, or has failed.
+-- The string was read to its end, or has failed.
 abbrev pub Reads : MappingsReader → Bounds → List ℕ → ℕ → Result (Unit {0}) MappingsError → Type 0
 Reads r bounds text most (Ok _) = IsRead r bounds text
 Reads r bounds text most (Err error) = Fails bounds text most error
 
--- Segments of the piece were read, up to a place between segments.
+-- Segments of the piece were read, up to an index between segments.
 abbrev pub ReadsSome : Bounds → List ℕ → List ℕ → ℕ → List Token → Result (Cursor × ℕ) MappingsError → Type 0
 ReadsSome bounds text piece most tokens (Ok x) = IsReadTo bounds (text ++ take x.1 piece) tokens x.0 []
 ReadsSome bounds text piece most tokens (Err error) = Fails bounds (text ++ piece) most error
 
--- The bytes between are the text of a segment with these fields, and a separator ends it.
+-- The bytes between are a segment with these fields, and a separator ends it.
 pub record IsWhole (text : List ℕ) (start : ℕ) (fields : Fields) (end : ℕ) : Type 0 where
   pub le : start ≤ end
   pub within : end < length text

@@ -10,22 +10,22 @@ use Rattle.smap_mappings.specs.declared.token.Token.{Token}
 abbrev pub POSITIONS : ℕ
 POSITIONS = MAX_POSITION + 1
 
--- the greatest bound of lines
+-- the greatest limit on lines
 abbrev pub LINES : ℕ
 LINES = MAX_LINES
 
--- Its line and its column are at most the greatest.
+-- Its line and its column are in range.
 pub record IsPosition (p : Position) : Type 0 where
   pub line : p.line < POSITIONS
   pub column : p.column < POSITIONS
 
--- Where a position of a map lies when the map starts at an offset: the offset's column counts on the map's
--- first line alone. (ECMA-426, "Index source map")
+-- A position of a map that starts at an offset: the offset's column is added only on the map's first line.
+-- (ECMA-426, "Index source map")
 abbrev pub place : Position → Position → Position
 place o p = if p.line == 0 then record { line = o.line; column = o.column + p.column }
     else record { line = o.line + p.line; column = p.column }
 
--- the position, unless its line or its column is past the greatest
+-- the position, if its line and its column are in range
 abbrev pub in_range : Position → Option Position
 in_range p = if nat_lt MAX_POSITION p.line || nat_lt MAX_POSITION p.column then None else Some p
 
@@ -36,7 +36,7 @@ is_before p q = nat_lt p.line q.line || (p.line == q.line && nat_lt p.column q.c
 abbrev pub position_of : Token → Position
 position_of t = record { line = t.line; column = t.column }
 
--- No position lies before the one in front of it.
+-- No position is before the previous one.
 abbrev pub NeverFalls : List Position → Type 0
 NeverFalls [] = Unit {0}
 NeverFalls (p ∷ []) = Unit {0}

@@ -1,4 +1,4 @@
--- For private clauses: one segment more, by the absolute values before it.
+-- For private contracts: the next segment, by the absolute values before it.
 use Rattle.std.specs.Prelude.{◌≡◌, ℕ, zero, suc, ◌+◌, ◌<◌, ◌≤◌, ◌==◌, length, if◌then◌else◌, List, [], ◌∷◌}
 use Rattle.std.specs.Prelude.{◌++◌, ℤ, pos, negsuc, ◌+ℤ◌, Option, Some, None, ok_or, option_map}
 use Rattle.std.specs.Prelude.{Bool, true, not, ◌&&◌, slice_index_or, Result, Ok, Err}
@@ -22,7 +22,7 @@ use Rattle.smap_mappings.specs.Tokens.{Segment, below, placed, generated_column,
 use Rattle.smap_mappings.specs.Tokens.{original_line, original_column, name_index, kind_of, Fault}
 use Rattle.smap_mappings.specs.Tokens.{tokens_behind}
 
--- These are the absolute values after the segments, on a line that none of them lies past.
+-- These are the absolute values after the segments, on a line that none of them is after.
 pub record Sums (r : Running) (before : List Segment) (line : ℕ) : Type 0 where
   pub column : generated_column before line ≡ pos r.column
   pub source : source_index before ≡ pos r.source
@@ -31,7 +31,7 @@ pub record Sums (r : Running) (before : List Segment) (line : ℕ) : Type 0 wher
   pub name : name_index before ≡ pos r.name
   pub not_past : AllByRecursion (λ s. s.line ≤ line) before
 
--- in front of the first segment
+-- before the first segment
 abbrev pub at_start : Running
 at_start = record { column = 0; source = 0; original_line = 0; original_column = 0; name = 0 }
 
@@ -84,13 +84,13 @@ judge_step bounds r line text = fields_or_kind (fields_in text) >>= λ fields. t
 abbrev pub text_at : ℕ → ℕ → List ℕ → SegmentText
 text_at line index text = record { line = line; index = index; text = text }
 
--- the segment that ends here: none in an empty line
+-- the segment that ends here: none on an empty line
 abbrev pub ending : ℕ → ℕ → List ℕ → List SegmentText
 ending line zero [] = []
 ending line zero (b ∷ bs) = text_at line 0 (b ∷ bs) ∷ []
 ending line (suc index) current = text_at line (suc index) current ∷ []
 
--- the segments from within a segment on
+-- the segments from the middle of a segment on
 abbrev pub walk : ℕ → ℕ → List ℕ → List ℕ → List SegmentText
 walk line index current [] = ending line index current
 walk line index current (b ∷ bs) =
@@ -102,7 +102,7 @@ abbrev pub with_tokens : List Token → Result (List Token) Fault → Result (Li
 with_tokens front read = read >>= λ tokens. Ok (front ++ tokens)
 
 -- Segments were read after others; or one has a fault, whatever segments follow; or there are more tokens
--- than the room.
+-- than there is room for.
 abbrev pub Continues : Bounds → List Segment → ℕ → List SegmentText → ℕ → List Token → List Token
     → Result Running MappingsError → Type 0
 Continues bounds before line texts room old new (Ok r) = (behind : List Segment) × Sums r behind line
@@ -116,7 +116,7 @@ Continues bounds before line texts room old new (Err errors.Memory) = (tokens : 
 
 -- ---- order
 
--- whether no position lies before the one in front of it
+-- whether no position is before the previous one
 abbrev pub in_order : List Position → Bool
 in_order [] = true
 in_order (p ∷ []) = true
@@ -129,7 +129,7 @@ abbrev pub mark : ℕ → ℕ → ℕ
 mark previous byte =
     (if byte == 44 then 1 else 0) + (if previous == 59 then (if byte == 59 then 0 else 1) else 0)
 
--- those of bytes after a byte
+-- those of bytes that follow a byte
 abbrev pub marks : ℕ → List ℕ → ℕ
 marks previous [] = 0
 marks previous (b ∷ bs) = mark previous b + marks b bs
@@ -138,7 +138,7 @@ marks previous (b ∷ bs) = mark previous b + marks b bs
 abbrev pub commas_in : List ℕ → ℕ
 commas_in bytes = count_by (λ b. b == 44) bytes
 
--- the bytes that begin a line, by the bytes that stand one place before
+-- the bytes that begin a line, by the bytes before each of them
 abbrev pub starts_in : List ℕ → List ℕ → ℕ
 starts_in (p ∷ ps) (b ∷ bs) = (if p == 59 then (if b == 59 then 0 else 1) else 0) + starts_in ps bs
 starts_in ps bs = 0

@@ -1,4 +1,4 @@
--- The canonical mappings text of tokens: the shortest spellings of the differences between neighbours
+-- The canonical mappings string of tokens: the shortest encodings of the differences between neighbours
 -- (ECMA-426, "Mappings structure" and "Base64 VLQ").
 use Rattle.std.specs.Prelude.{ℕ, zero, suc, ◌+◌, ◌<◌, ◌==◌, List, [], ◌∷◌, ◌++◌, map, filter, filter_map}
 use Rattle.std.specs.Prelude.{flat_map, Option, Some, None, IfSome, ℤ, pos, ◌-ℤ◌}
@@ -9,33 +9,33 @@ use Rattle.smap_mappings.specs.declared.token.Token.{Token}
 use Rattle.smap_mappings.specs.declared.token.Original.{Original}
 use Rattle.smap_mappings.specs.Position.{POSITIONS, LINES, position_of, NeverFalls}
 
--- ---- which tokens have a text
+-- ---- which tokens have a string
 
--- No number is past the greatest of a position.
+-- Each number is in range.
 pub record IsOriginal (o : Original) : Type 0 where
   pub source : o.source < POSITIONS
   pub line : o.line < POSITIONS
   pub column : o.column < POSITIONS
   pub name : IfSome o.name (λ n. n < POSITIONS)
 
--- Nor here, and the line is below the greatest bound of lines.
+-- Each number is in range, and the line is below the greatest limit on lines.
 pub record IsPlaced (t : Token) : Type 0 where
   pub line : t.line < LINES
   pub column : t.column < POSITIONS
   pub original : IfSome t.original IsOriginal
 
--- Tokens that have a text: positions never fall, and no number is too great.
+-- Tokens that have a string: positions never fall, and each number is in range.
 abbrev pub IsEncodable : List Token → Type 0
 IsEncodable tokens = NeverFalls (map position_of tokens) × AllByRecursion IsPlaced tokens
 
--- ---- the text
+-- ---- the string
 
 -- the last of a list
 abbrev pub last_or : {A : Type 0} → A → List A → A
 last_or d [] = d
 last_or d (x ∷ xs) = last_or x xs
 
--- the column of the last of these tokens, where it is on the line
+-- the column of the last of these tokens, if it is on the line
 abbrev pub column_before : List Token → ℕ → ℕ
 column_before before line = last_or 0 (map (λ t. t.column) (filter (λ t. t.line == line) before))
 
@@ -69,7 +69,7 @@ differences before t = difference (column_before before t.line) t.column
 abbrev pub segment_text : List Token → Token → List ℕ
 segment_text before t = flat_map spelling (differences before t)
 
--- Each token's line and segment text.
+-- Each token's line and segment.
 abbrev pub segments_behind : List Token → List Token → List (ℕ × List ℕ)
 segments_behind before [] = []
 segments_behind before (t ∷ ts) = (t.line, segment_text before t) ∷ segments_behind (before ++ t ∷ []) ts
@@ -83,11 +83,11 @@ abbrev pub below_count : ℕ → List ℕ
 below_count zero = []
 below_count (suc n) = below_count n ++ n ∷ []
 
--- one more than the last line with a token
+-- one more than the last line with a token, or 0
 abbrev pub line_count : List Token → ℕ
 line_count tokens = last_or 0 (map (λ t. t.line + 1) tokens)
 
--- The lines up to the last with a token, joined by semicolons.
+-- The lines up to the last one with a token, joined by semicolons.
 unfoldable pub mappings_text : List Token → List ℕ
 mappings_text tokens =
     join_with_byte 59 (map (line_text (segments_behind [] tokens)) (below_count (line_count tokens)))

@@ -1,5 +1,6 @@
--- The tokens of a mappings text in its order, or its first fault (ECMA-426, "Mappings structure").
--- Ours: a text is refused at its first fault, where the standard reports an error and goes on.
+-- The tokens of a mappings string in its order, or its first fault (ECMA-426, "Mappings structure"). This
+-- project's own rule: a string is rejected at its first fault, where the standard reports an error and goes
+-- on.
 use Rattle.std.specs.Prelude.{ℕ, ◌==◌, nat_lt, min, if◌then◌else◌, List, [], ◌∷◌, ◌++◌, map, filter, length}
 use Rattle.std.specs.Prelude.{slice_index_or, Option, Some, None, ok_or, Result, Ok, Err, ℤ, pos, negsuc}
 use Rattle.std.specs.Prelude.{◌+ℤ◌}
@@ -28,7 +29,7 @@ abbrev pub total : List ℤ → ℤ
 total [] = pos 0
 total (n ∷ ns) = n +ℤ total ns
 
--- The sum of the numbers of one kind over these segments. A segment that lacks it adds nothing.
+-- The sum of the numbers of one kind over these segments. A segment without it adds nothing.
 abbrev pub sum_of : ℕ → List Segment → ℤ
 sum_of which segments = total (map (λ s. slice_index_or s.numbers which (pos 0)) segments)
 
@@ -36,8 +37,8 @@ sum_of which segments = total (map (λ s. slice_index_or s.numbers which (pos 0)
 abbrev pub on_line : ℕ → List Segment → List Segment
 on_line line segments = filter (λ s. s.line == line) segments
 
--- The absolute values at the last of these segments: each number of a text is a difference. The column is the
--- sum over the segments of its line, the others are sums over all.
+-- The absolute values at the last of these segments, since each number of a string is a difference. The
+-- column is the sum over the segments of its line, the others are sums over all segments.
 abbrev pub generated_column : List Segment → ℕ → ℤ
 generated_column segments line = sum_of 0 (on_line line segments)
 
@@ -55,16 +56,16 @@ name_index = sum_of 4
 
 -- ---- positions
 
--- the number, where it is from 0 to below the limit
+-- the number, if it is from 0 to below the limit
 abbrev pub below : ℕ → ℤ → Option ℕ
 below limit (pos n) = if nat_lt n limit then Some n else None
 below limit (negsuc n) = None
 
--- where the text starts
+-- where the string starts
 abbrev pub start_of : Bounds → Position
 start_of bounds = record { line = bounds.start_line; column = bounds.start_column }
 
--- where a line and a column of the text lie
+-- the position of a line and a column of the string
 abbrev pub placed : Bounds → ℕ → ℕ → Position
 placed bounds line column = place (start_of bounds) (record { line = line; column = column })
 
@@ -75,7 +76,7 @@ column_in bounds line (negsuc column) = None
 
 -- ---- one segment
 
--- the numbers of a segment text, or its fault as one of a mappings text
+-- the numbers of a segment, or its fault as one of a mappings string
 abbrev pub kind_of : SegmentFault → SegmentKind
 kind_of fault.Empty = kind.Empty
 kind_of (fault.Number which number_fault) = kind.Number which number_fault
@@ -85,7 +86,7 @@ abbrev pub numbers_in : Result (List ℤ) SegmentFault → Result (List ℤ) Seg
 numbers_in (Ok ns) = Ok ns
 numbers_in (Err f) = Err (kind_of f)
 
--- the name of a segment with so many numbers, or its fault: the last of these segments
+-- the name of the last of these segments, which has this many numbers, or its fault
 abbrev pub name_in : Bounds → List Segment → ℕ → Result (Option ℕ) SegmentKind
 name_in bounds segments count =
     if count == 5 then (ok_or (below bounds.names (name_index segments)) kind.Name >>= λ name. Ok (Some name))
@@ -111,11 +112,11 @@ token_of bounds before segment = do
 
 -- ---- all segments
 
--- a fault and where it is
+-- a fault, and where it is
 abbrev pub Fault : Type 0
 Fault = SegmentPlace × SegmentKind
 
--- a count that stays at the greatest `u32`
+-- a count, capped at the greatest `u32`
 abbrev pub u32_count : ℕ → ℕ
 u32_count n = min n 4294967295
 
@@ -130,7 +131,7 @@ read_in bounds before text = do
   token ← token_of bounds before (record { line = text.line; numbers = numbers })
   Ok (record { line = text.line; numbers = numbers }, token)
 
--- The tokens of segment texts after these segments, or the first fault with its place.
+-- The tokens of segments that follow these, or the first fault with its place.
 abbrev pub tokens_behind : Bounds → List Segment → List SegmentText → Result (List Token) Fault
 tokens_behind bounds before [] = Ok []
 tokens_behind bounds before (text ∷ texts) =

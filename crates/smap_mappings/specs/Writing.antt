@@ -1,4 +1,4 @@
--- For private clauses: the text of one token more, by the absolute values before it.
+-- For private contracts: the string of the next token, by the absolute values before it.
 use Rattle.std.specs.Prelude.{ℕ, ◌+◌, ◌<◌, ◌==◌, ◌-◌, max, replicate, unwrap_or, if◌then◌else◌, List, [], ◌∷◌}
 use Rattle.std.specs.Prelude.{flat_map, Option, Some, None, ℤ}
 use Rattle.smap_vlq.specs.Number.{spelling}
@@ -8,7 +8,7 @@ use Rattle.smap_mappings.specs.declared.running.Running.{Running}
 use Rattle.smap_mappings.specs.Position.{POSITIONS}
 use Rattle.smap_mappings.specs.Text.{difference}
 
--- Positions and indices that a segment text can have.
+-- The running values are in range.
 pub record IsRunning (r : Running) : Type 0 where
   pub column : r.column < POSITIONS
   pub source : r.source < POSITIONS
@@ -40,10 +40,10 @@ original_behind r (Some o) = record r {
 abbrev pub running_behind : Running → Token → Running
 running_behind r t = original_behind (record r { column = t.column }) t.original
 
--- what stands before the segment of a token on a line, after so many lines
+-- the separators before the segment of a token on a line, after this many lines
 abbrev pub separator : ℕ → ℕ → List ℕ
 separator lines line = if lines == line + 1 then 44 ∷ [] else replicate (line + 1 - max lines 1) 59
 
--- the values on a line, after so many lines: the column starts again on a further line
+-- the running values on a line, after this many lines: the column starts again on a new line
 abbrev pub at_line : Running → ℕ → ℕ → Running
 at_line r lines line = if lines == line + 1 then r else record r { column = 0 }

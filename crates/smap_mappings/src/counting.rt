@@ -50,8 +50,8 @@ fn block(text: &[u8], at: usize) -> u32
     commas(lanes) + starts(behind, lanes)
 }
 
-/// The number of segments of a mappings text: over all nonempty lines, one more than the commas of
-/// the line. Of 32 bytes at a time, and of the rest byte by byte.
+/// The number of segments of a mappings string, valid or not: each line that isn't empty has one more than
+/// it has commas. It reads 32 bytes at a time, and takes no memory.
 pub fn count_segments(text: &[u8]) -> usize
     ensures { result ≡ length (segments_of text.now) }
 {

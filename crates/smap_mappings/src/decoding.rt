@@ -12,12 +12,25 @@ use crate::reader::MappingsReader;
 use crate::token::{Bounds, Token};
 use std::alloc::Global;
 
-/// Reads a mappings text (ECMA-426, "Mappings structure"): its tokens, arranged by line and column
-/// with ties in the order of the text; or the first segment that is refused. The text is any bytes.
+/// Reads a mappings string (ECMA-426, "Mappings structure"), and answers its tokens sorted by generated
+/// line and column, where tokens at one position keep the order of the string. The string may be any bytes;
+/// [`WIDEST`] are the bounds for one without a map.
 ///
-/// The segments are counted first, so that memory is taken once; then the text is read in one pass.
-/// The tokens are sorted only where a column falls within its line, which may want memory of its
-/// own.
+/// [`WIDEST`]: crate::WIDEST
+///
+/// The segments are counted first, so that memory is taken once; then the string is read in one pass. The
+/// tokens are sorted only where a column falls within its line, which may take more memory.
+///
+/// # Errors
+///
+/// `Fault` with the place and the kind of the first invalid segment, in the order of the string; `Memory`.
+///
+/// # Examples
+///
+/// ```
+/// let tokens = decode(alloc, b"AAUE,IAEA", WIDEST)?;
+/// // tokens[1]: line 0, column 4, original source 0, line 12, column 2
+/// ```
 pub fn decode(alloc: Global, text: &[u8], bounds: Bounds) -> Result<Vec<Token>, MappingsError>
     ensures says { Gives result (decoded bounds text.now) }
 

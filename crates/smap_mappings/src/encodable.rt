@@ -23,8 +23,9 @@ fn is_placed(token: &Token) -> bool
         && token.original.is_none_or(|original| is_original(&original))
 }
 
-/// Whether the tokens have a mappings text: positions never fall in the list's order, lines are
-/// below 16,777,216, and all other numbers are at most 2,147,483,647.
+/// Whether [`encode`](crate::encode) has a string for these tokens: their positions never fall, lines are
+/// below 16,777,216, and all other numbers are at most 2,147,483,647. What [`decode`](crate::decode)
+/// answers always is.
 pub fn is_encodable(tokens: &[Token]) -> bool
     ensures { IsTrue result ↔ IsEncodable tokens.now }
 {

@@ -81,7 +81,7 @@ fn behind_original(running: Running, o: Original) -> Running
 
 /// The values after a token's segment.
 #[inline(always)]
-fn behind(running: Running, token: Token) -> Running
+pub(crate) fn behind(running: Running, token: Token) -> Running
     ensures { result ≡ running_behind running token }
 {
     let running = Running {
@@ -96,7 +96,7 @@ fn behind(running: Running, token: Token) -> Running
 
 /// The values in front of the next token's segment: the column starts again on a further line.
 #[inline(always)]
-fn on_line(running: Running, lines: u32, line: u32) -> Running
+pub(crate) fn on_line(running: Running, lines: u32, line: u32) -> Running
     requires { line < LINES }
     ensures { result ≡ at_line running lines line }
 {
@@ -176,9 +176,19 @@ fn grow(room: &mut Vec<u8>, at: usize, more: usize) -> Result<(), Memory>
     room.resize(at.saturating_add(more.max(PIECE)), 0)
 }
 
-/// Writes a mappings text while its tokens come.
+/// Writes a mappings string while its tokens come.
 ///
-/// The bytes stand at the front of a room that is made longer a few times, so that no byte asks for its own.
+/// The bytes are written into one buffer that grows a few times, so that a token seldom asks for memory.
+///
+/// # Examples
+///
+/// ```
+/// let mut encoder = Encoder::new(alloc);
+/// for token in tokens {
+///     encoder.push(token)?;
+/// }
+/// let mappings = encoder.finish();
+/// ```
 #[derive(Drop)]
 pub struct Encoder {
     room: Vec<u8>,
@@ -194,7 +204,7 @@ pub struct Encoder {
 impl Encoder {
     ghost use Rattle.smap_mappings.specs.Feeding.{Encodes};
 
-    /// The text of no tokens yet.
+    /// An encoder without tokens. It takes no memory yet.
     pub fn new(alloc: Global) -> Encoder
         ensures { Encodes result [] }
     {
@@ -206,8 +216,12 @@ impl Encoder {
         }
     }
 
-    /// The same, with the capacity for the usual text of so many tokens, so that it is seldom copied as it
-    /// grows. Capacity that isn't used isn't touched, and so costs neither time nor memory.
+    /// An encoder without tokens, with capacity for the usual length of so many: eight bytes each. Capacity
+    /// that isn't used isn't touched, and costs neither time nor memory.
+    ///
+    /// # Errors
+    ///
+    /// `Memory`.
     pub fn with_capacity(alloc: Global, tokens: usize) -> Result<Encoder, Memory>
         ensures { IfOk result (λ encoder. Encodes encoder []) }
     {
@@ -219,7 +233,13 @@ impl Encoder {
         })
     }
 
-    /// Writes the segment of one token more, and what leads to it.
+    /// Writes the segment of the next token, and the separators before it. The token must not lie before
+    /// the last one, and its numbers must be those of an encodable token
+    /// ([`is_encodable`](crate::is_encodable)).
+    ///
+    /// # Errors
+    ///
+    /// `Memory`. What was written so far isn't defined then: drop the encoder.
     #[inline(always)]
     pub fn push(&mut self, token: Token) -> Result<(), Memory>
         requires { IsPlaced token }
@@ -243,7 +263,7 @@ impl Encoder {
         Ok(())
     }
 
-    /// The text of the tokens.
+    /// The canonical mappings string of the tokens.
     pub fn finish(self) -> Vec<u8>
         ensures { (tokens : List SpecToken) → Encodes self tokens → result.items ≡ mappings_text tokens }
     {

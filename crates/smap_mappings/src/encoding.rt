@@ -7,11 +7,23 @@ use crate::error::Memory;
 use crate::token::Token;
 use std::alloc::Global;
 
-/// Writes the canonical mappings text of tokens (ECMA-426, "Mappings structure"): the lines up to
-/// the last with a token, and in each segment the shortest spellings of the differences to the
-/// tokens before. No separator is left over.
+/// Writes the canonical mappings string of tokens (ECMA-426, "Mappings structure"): the lines up to the
+/// last one with a token, each number as the shortest encoding of its difference to the tokens before, and
+/// no separator at the end. No other string that says the same tokens is as short.
 ///
-/// One pass over the tokens.
+/// The tokens must be encodable, which [`is_encodable`](crate::is_encodable) tests. One pass over the
+/// tokens.
+///
+/// # Errors
+///
+/// `Memory`.
+///
+/// # Examples
+///
+/// ```
+/// let tokens = decode(alloc, b"IAEA,AAAA", WIDEST)?;
+/// let mappings = encode(alloc, tokens.as_slice())?; // sorted, and as short as possible
+/// ```
 pub fn encode(alloc: Global, tokens: &[Token]) -> Result<Vec<u8>, Memory>
     requires { IsEncodable tokens.now }
     ensures { IfOk result (λ text. text.items ≡ mappings_text tokens.now) }

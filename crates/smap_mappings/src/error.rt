@@ -4,47 +4,48 @@ ghost use Rattle.std.specs.Prelude.{◌≡◌};
 use smap_vlq::NumberFault;
 use std::alloc::AllocFailed;
 
-/// There was no memory for the answer.
+/// Memory ran out.
 pub use std::alloc::AllocError as Memory;
 
-/// A segment by its line in the text and its number in the line.
-///
-/// Both count from 0, and each stays at 4,294,967,295 once it is there.
+/// Where a segment is in a mappings string. Both numbers count from 0, and stay at 4,294,967,295 once they
+/// are there.
 #[derive(Clone, Copy, Debug, PartialEq, Eq)]
 pub struct SegmentPlace {
+    /// The line of the string, without the start of a section added.
     pub line: u32,
+    /// The index of the segment on its line.
     pub segment: u32,
 }
 
-/// Why a segment is refused. Where several reasons hold, the first of this list is the answer.
+/// What is wrong with a segment. Of several faults the first in this list is reported.
 #[derive(Clone, Copy, Debug, PartialEq, Eq)]
 pub enum SegmentKind {
-    /// No byte stands between the separators.
+    /// The segment is empty: a comma has nothing before or after it.
     Empty,
-    /// Which number, from 1, has a fault of spelling, and the fault. 255 stands for 255 and more.
+    /// A number is invalid: which one, from 1, where 255 stands for 255 or more; and why.
     Number(u8, NumberFault),
-    /// How many numbers there are, where it isn't 1, 4 or 5. 255 stands for 255 and more.
+    /// There are this many numbers, not 1, 4 or 5; 255 stands for 255 or more.
     Count(u8),
-    /// The line, placed after the start, isn't below the bound of lines.
+    /// The generated line, after placing, isn't below the limit on lines.
     GeneratedLine,
-    /// The generated column is negative, or above 2,147,483,647 once it is placed after the start.
+    /// The generated column is negative, or after placing above 2,147,483,647.
     Column,
-    /// The source index isn't from 0 to below the number of sources.
+    /// The source index is negative, or not below the number of sources.
     Source,
-    /// The original line isn't from 0 to 2,147,483,647.
+    /// The original line is negative, or above 2,147,483,647.
     OriginalLine,
-    /// The original column isn't from 0 to 2,147,483,647.
+    /// The original column is negative, or above 2,147,483,647.
     OriginalColumn,
-    /// The name index isn't from 0 to below the number of names.
+    /// The name index is negative, or not below the number of names.
     Name,
 }
 
-/// Why there are no tokens of a mappings text.
+/// Why a mappings string has no tokens.
 #[derive(Clone, Copy, Debug, PartialEq, Eq)]
 pub enum MappingsError {
-    /// The first segment, in the order of the text, that is refused.
+    /// The first invalid segment, in the order of the string: its place, and what is wrong with it.
     Fault(SegmentPlace, SegmentKind),
-    /// There was no memory for the tokens. This says nothing of the text.
+    /// Out of memory. This says nothing about the string.
     Memory,
 }
 

@@ -1,10 +1,13 @@
-//! The mappings text of a source map (ECMA-426, "Mappings structure"): `decode` reads it into
-//! tokens, `encode` writes tokens as their canonical text, `is_encodable` tells which tokens have
-//! one. A text is a list of differences, so both ways carry five running numbers and make one pass:
-//! no text is split, no segment is stored, and tokens are sorted only where a column falls. Memory
-//! is taken for the answer, and for a sort. `MappingsReader` reads a text that comes in pieces, and
-//! `decode` is one reader that is fed once; `Encoder` writes a text while its tokens come, and
-//! `encode` feeds it; `count_segments` says how many tokens a text can have.
+//! The mappings string of a source map (ECMA-426, "Mappings structure").
+//!
+//! [`decode`] reads it into tokens, [`encode`] writes tokens as their canonical string, and
+//! [`is_encodable`] says which tokens have one. [`MappingsReader`] reads a string that comes in pieces,
+//! [`Encoder`] writes one while its tokens come, and [`count_segments`] says how many tokens a string can
+//! have.
+//!
+//! The numbers of a string are differences, so both directions carry five running values and make one pass:
+//! no string is split, and no segment is stored. Tokens are sorted only where a column falls. Memory is
+//! taken for the answer, and for a sort.
 #![tactic(auto)]
 
 mod arrangement;
@@ -17,6 +20,7 @@ mod encoding;
 mod error;
 mod gathered;
 pub mod laws;
+mod length;
 mod position;
 mod reader;
 mod running;
@@ -30,6 +34,7 @@ pub use encodable::is_encodable;
 pub use encoder::Encoder;
 pub use encoding::encode;
 pub use error::{MappingsError, Memory, SegmentKind, SegmentPlace};
+pub use length::TextLength;
 pub use position::Position;
 pub use reader::MappingsReader;
 pub use smap_vlq::{MAX_POSITION, NumberFault};

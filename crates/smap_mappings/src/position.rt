@@ -4,17 +4,19 @@ ghost use Rattle.smap_mappings.specs.Position.{IsPosition, in_range, place};
 
 use smap_vlq::MAX_POSITION;
 
-/// A generated line and a generated column, from 0. Positions are in order of their lines, and on one line of
-/// their columns.
+/// A generated line and column, both from 0. Positions are ordered by line, and on one line by column.
 #[derive(Clone, Copy, Debug, PartialEq, Eq, PartialOrd, Ord)]
 pub struct Position {
+    /// The generated line.
     pub line: u32,
+    /// The generated column.
     pub column: u32,
 }
 
 impl Position {
-    /// Where a position of a map lies when the map starts here; nowhere where its line or its column would be
-    /// past `MAX_POSITION`.
+    /// The position `own` of a map that starts at `self` (ECMA-426, "Index source map"): the lines are
+    /// added, and the columns only on the map's first line. None where the line or the column would be
+    /// above 2,147,483,647.
     pub fn place(self, own: Position) -> Option<Position>
         ensures placed { result ≡ in_range (place self own) }
         ensures within { IfSome result IsPosition }

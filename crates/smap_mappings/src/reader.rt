@@ -22,8 +22,17 @@ use crate::whole::whole_segment;
 use smap_vlq::{Fields, SegmentReader};
 use std::alloc::Global;
 
-/// Reads a mappings text in pieces, which may be cut anywhere, and stores none of it: what it has
-/// of a segment that a piece has cut is what `SegmentReader` has.
+/// Reads a mappings string that comes in pieces, which may be cut anywhere, and stores none of them. It
+/// answers what [`decode`](crate::decode) answers for the pieces joined.
+///
+/// # Examples
+///
+/// ```
+/// let mut reader = MappingsReader::new(alloc, WIDEST, 0)?;
+/// reader.feed(b"AAUE,I")?;
+/// reader.feed(b"AEA")?;
+/// let tokens = reader.finish()?;
+/// ```
 #[derive(Drop)]
 pub struct MappingsReader {
     bounds: Bounds,
@@ -36,7 +45,11 @@ pub struct MappingsReader {
 }
 
 impl MappingsReader {
-    /// A reader in front of a text, which takes the memory for so many tokens at once.
+    /// A reader before the first byte of a string, with capacity for `room` tokens; 0 takes no memory yet.
+    ///
+    /// # Errors
+    ///
+    /// `Memory`.
     pub fn new(alloc: Global, bounds: Bounds, room: usize) -> Result<MappingsReader, Memory>
         ensures stands { IfOk result (λ r. StandsFor r bounds []) }
         ensures room { IfOk result (λ r. room ≤ room_of r) }
@@ -53,9 +66,12 @@ impl MappingsReader {
         })
     }
 
-    /// Reads a piece more of the text. It fails where a segment that a separator has ended has a
-    /// fault, with the first such fault; or where there is no memory for the tokens. Each later
-    /// call then answers the same.
+    /// Takes the next piece of the string.
+    ///
+    /// # Errors
+    ///
+    /// `Fault` for the first segment that is invalid, as soon as the separator after it was read; `Memory`.
+    /// Each later call answers the same error again.
     pub fn feed(&mut self, piece: &[u8]) -> Result<(), MappingsError>
         ensures stands { (bounds : Bounds) (text : List ℕ) → StandsFor self.old bounds text
             → StandsFor self.new bounds (text ++ piece.now) }
@@ -149,7 +165,12 @@ impl MappingsReader {
         Ok(())
     }
 
-    /// The tokens of the whole text, arranged as those of `decode`: what `decode` answers for it.
+    /// Ends the string, and answers its tokens, sorted as by [`decode`](crate::decode).
+    ///
+    /// # Errors
+    ///
+    /// The error of an earlier [`feed`](MappingsReader::feed); `Fault` where the last segment is invalid;
+    /// `Memory`.
     pub fn finish(self) -> Result<Vec<Token>, MappingsError>
         ensures says { (bounds : Bounds) (text : List ℕ) → StandsFor self bounds text
             → Gives result (decoded bounds text) }

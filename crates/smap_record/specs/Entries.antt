@@ -1,4 +1,4 @@
--- For private clauses: a source as the code keeps it.
+-- For private contracts: a source as the code keeps it.
 use Rattle.std.specs.Prelude.{Bool, ◌&&◌, option_map, string_bytes, string_eq}
 use Rattle.std.specs.Option.{option_eq}
 use Rattle.std.proofs.Math.Bool.{beq}

@@ -15,28 +15,27 @@ use Rattle.smap_record.specs.Faults.{Checked, ◌>>=◌, refuse_if, refuse, of_s
 
 -- ---- its sources
 
--- the URL that source number i leads to, or its fault
+-- the URL of the source with index i, or its fault
 abbrev pub source_at : ℕ → Resolved → Checked (List ℕ)
 source_at i no_url = refuse (SourceUrl i)
 source_at i unstable = refuse (UnstableUrl i)
 source_at i (resolved text) = Ok text
 
--- The URL of source number i. A null source has none.
+-- The URL of the source with index i. A null source has none.
 unfoldable pub source_url : Parts → Option (List ℕ) → ℕ → Option (List ℕ) → Checked (Option (List ℕ))
 source_url base root i None = Ok None
 source_url base root i (Some source) = do
   text ← source_at i (resolve base root source)
   Ok (Some text)
 
--- Source number i with its content, and whether it is ignored.
+-- The source with index i, with its content, and whether it is ignored.
 abbrev pub source_entry : Parts → Option (List ℕ) → ℕ → Option (List ℕ) → Option (List ℕ) → Bool
     → Checked Entry
 source_entry base root i source content ignored = do
   url ← source_url base root i source
   Ok (record { url = url; content = content; ignored = ignored })
 
--- Sources with their contents, of which there is one for each source, in turn from number i on; or the first
--- fault of one of them.
+-- The sources with their contents, one for each, in turn from index i on; or the first fault.
 unfoldable pub entries_from : Parts → Option (List ℕ) → List ℕ → ℕ
     → List (Option (List ℕ)) → List (Option (List ℕ)) → Checked (List Entry)
 entries_from base root ignored i (source ∷ sources) (content ∷ contents) = do
@@ -47,7 +46,7 @@ entries_from base root ignored i sources contents = Ok []
 
 -- ---- its mappings
 
--- What its mappings text is read under: where it starts, and what its indices and lines stay below.
+-- The bounds of its mappings string: where it starts, and what its indices and lines must stay below.
 abbrev pub bounds_of : Allowed → Position → Flat → Bounds
 bounds_of limits offset m = record {
   start_line = offset.line;
@@ -57,18 +56,18 @@ bounds_of limits offset m = record {
   lines = limits.lines;
 }
 
--- Where a token comes from, with its source and its name so many places further on.
+-- An original with this many sources and names added to its indices.
 abbrev pub shifted_original : ℕ → ℕ → Original → Original
 shifted_original sources names o =
     record o { source = sources + o.source; name = option_map (λ n. names + n) o.name }
 
--- The token, with indices into lists that begin with so many sources and names of earlier sections.
+-- A token with indices into lists that begin with this many sources and names of earlier sections.
 abbrev pub shifted : ℕ → ℕ → Token → Token
 shifted sources names t = record t { original = option_map (shifted_original sources names) t.original }
 
 -- ---- the whole
 
--- where a map starts that is no section
+-- where a map starts that isn't in a section
 abbrev pub start : Position
 start = record { line = 0; column = 0 }
 
@@ -76,15 +75,15 @@ start = record { line = 0; column = 0 }
 abbrev pub nothing : Listing
 nothing = record { sources = []; names = []; tokens = [] }
 
--- With those listed before, its sources or its names are more than may be listed.
+-- Together with those listed before, its sources or its names exceed the limit.
 abbrev pub is_too_many : Allowed → Listing → Flat → Bool
 is_too_many limits before m =
     nat_lt limits.items (length before.sources + length m.sources)
     || nat_lt limits.items (length before.names + length m.names)
 
--- What is listed with a flat map that starts at an offset, after what is listed before it. A map that is no
--- section starts at (0, 0), with nothing listed before; for a section, Order and Overlap see to it that its
--- tokens come after all before them.
+-- What is listed once a flat map that starts at an offset is added to what is listed before it. A map that
+-- isn't in a section starts at (0, 0), with nothing listed before; in a section, Order and Overlap ensure
+-- that its tokens aren't before earlier ones.
 unfoldable pub listed_flat : Parts → Allowed → Position → Listing → Flat → Checked Listing
 listed_flat base limits offset before m = do
   _ ← refuse_if TooMany (is_too_many limits before m)
@@ -96,7 +95,7 @@ listed_flat base limits offset before m = do
     tokens = before.tokens ++ map (shifted (length before.sources) (length before.names)) tokens;
   })
 
--- The file of a flat map that is no section, and what it lists.
+-- The file of a flat map that isn't in a section, and what it lists.
 abbrev pub flat_map : Parts → Allowed → Flat → Checked ReadMap
 flat_map base limits m = do
   listing ← listed_flat base limits start nothing m

@@ -1,4 +1,4 @@
--- For private clauses: what is gathered.
+-- For private contracts: the listing while it is built.
 use Rattle.std.specs.Prelude.{ℕ, ◌<◌, Bool, List, ◌∷◌, length, map, string_bytes}
 use Rattle.std.specs.List.{list_any}
 use Rattle.smap_mappings.specs.declared.token.Token.{Token}
@@ -14,20 +14,20 @@ use Rattle.smap_record.specs.Record.{Listing}
 abbrev pub gathered : Gathered → Listing
 gathered g = record { sources = g.sources; names = map string_bytes g.names.items; tokens = g.tokens.items }
 
--- some token lies after the position
+-- some token is after the position
 abbrev pub any_after : Position → List Token → Bool
 any_after offset tokens = list_any (λ t. is_before offset (position_of t)) tokens
 
--- One more section can be named in front of those that the refusal names.
+-- The fault's path has room for one more section.
 abbrev pub HasRoom : ReadError → Type 0
 HasRoom (errors.Refused fault) = length fault.section < MAX_LEVEL
 HasRoom errors.Memory = Unit {0}
 
--- a refusal as one in the section with this number
+-- the error as one in the section with this index
 abbrev pub error_in : ℕ → ReadError → ReadError
 error_in k (errors.Refused fault) = errors.Refused (record fault { section = k ∷ fault.section })
 error_in k errors.Memory = errors.Memory
 
--- an offset and what is listed, in the words of the definition
+-- an offset and what is listed, as the definition has them
 abbrev pub both : Position × Gathered → Position × Listing
 both r = (r.0, gathered r.1)

@@ -1,4 +1,4 @@
--- What every listing keeps to.
+-- What holds for every listing.
 use Rattle.std.specs.Prelude.{◌<◌, length, IfSome}
 use Rattle.std.specs.List.{AllByRecursion}
 use Rattle.smap_mappings.specs.declared.token.Token.{Token}
@@ -12,12 +12,12 @@ pub record IsListedOriginal (l : Listing) (o : Original) : Type 0 where
   pub source : o.source < length l.sources
   pub name : IfSome o.name (λ n. n < length l.names)
 
--- It comes from nowhere, or its source and its name are listed.
+-- It has no original, or its source and its name are listed.
 abbrev pub IsListedToken : Listing → Token → Type 0
 IsListedToken l t = IfSome t.original (IsListedOriginal l)
 
--- At most 2,147,483,647 sources and as many names, tokens in order that have a mappings text, and indices
--- into the lists.
+-- At most 2,147,483,647 sources and as many names; sorted tokens that have a mappings string, with indices
+-- into these lists.
 pub record IsListing (l : Listing) : Type 0 where
   pub sources : length l.sources < POSITIONS
   pub names : length l.names < POSITIONS

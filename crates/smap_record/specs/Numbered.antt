@@ -1,4 +1,4 @@
--- For private clauses: sources that are listed by their numbers in a list that has each once.
+-- For private contracts: listed sources as indices into a list that has each once.
 use Rattle.std.specs.Prelude.{◌≡◌, ℕ, ◌<◌, List, map, length, slice_get, unwrap_or}
 use Rattle.std.specs.List.{AllByRecursion}
 use Rattle.indexmap.specs.IndexSet.{insert_key}
@@ -6,16 +6,16 @@ use Rattle.smap_record.specs.declared.entry.SourceEntry.{SourceEntry}
 use Rattle.smap_record.specs.Record.{Entry, no_entry, distinct, same_entry}
 use Rattle.smap_record.specs.Entries.{entry_of}
 
--- the source with this number
+-- the source with this index
 abbrev pub entry_at : List SourceEntry → ℕ → Entry
 entry_at entries i = unwrap_or (slice_get (map entry_of entries) i) no_entry
 
--- The numbers are those of sources, which are each once and in order of first listing.
+-- The indices are those of sources, which are each once and in order of first listing.
 pub record IsNumbered (entries : List SourceEntry) (numbers : List ℕ) : Type 0 where
   pub within : AllByRecursion (λ i. i < length entries) numbers
   pub each_once : map entry_of entries ≡ distinct same_entry (map (entry_at entries) numbers)
 
--- The entry has a number in the new list, in which those of the old one mean the same.
+-- The entry has an index in the new list, in which indices of the old one mean the same.
 pub record Numbers (old : List SourceEntry) (entry : Entry) (new : List SourceEntry) (i : ℕ) : Type 0 where
   pub kept : (k : ℕ) → k < length old → entry_at new k ≡ entry_at old k
   pub longer : (k : ℕ) → k < length old → k < length new

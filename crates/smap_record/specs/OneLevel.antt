@@ -1,6 +1,5 @@
--- How map texts were read while index maps couldn't nest. This serves one law alone, which says that such
--- texts are read as they were: nothing else cites it. A fault has the section that it had as a path of one
--- number, and where it had none an empty path.
+-- How maps are read if index maps can't nest. Only one law cites this: reading with nested index maps
+-- agrees with it. The path of a fault has one index, or is empty outside of sections.
 use Rattle.std.specs.Prelude.{ℕ, ◌+◌, [], ◌∷◌, List, Option, Some, None, Ok, Err}
 use Rattle.url.specs.Parts.{Parts}
 use Rattle.serde_json.specs.Data.{Data}
@@ -15,17 +14,17 @@ use Rattle.smap_record.specs.Flat.{nothing, listed_flat, flat_map}
 use Rattle.smap_record.specs.Sections.{own_offset, falls, overlaps}
 use Rattle.smap_record.specs.Reading.{map_tree}
 
--- the fault was one of the section with this number
+-- the fault is one of the section with this index
 abbrev pub of_section : {A : Type 0} → ℕ → Checked A → Checked A
 of_section k (Ok x) = Ok x
 of_section k (Err e) = Err (record e { section = k ∷ [] })
 
--- A section's map was flat.
+-- A section's map is a flat map.
 abbrev pub flat_alone : Parts → Allowed → Position → Listing → MapMembers Data → Checked Listing
 flat_alone base limits offset before (flat m) = listed_flat base limits offset before m
 flat_alone base limits offset before (index i) = refuse Nested
 
--- One section: in its map sections weren't present, which is asked of the greatest level now.
+-- One section: its map has no `sections`, as is required at the greatest level.
 abbrev pub old_section : Parts → Allowed → Option Position → Listing → Data → Checked (Position × Listing)
 old_section base limits last before tree = do
   s ← of_shape (section_of MAX_LEVEL tree)
@@ -35,14 +34,14 @@ old_section base limits last before tree = do
   now ← flat_alone base limits (own_offset s) before members
   Ok (own_offset s, now)
 
--- The sections in turn, from number k on.
+-- The sections in turn, from index k on.
 unfoldable pub old_sections : Parts → Allowed → ℕ → Option Position → Listing → List Data → Checked Listing
 old_sections base limits k last before [] = Ok before
 old_sections base limits k last before (section ∷ sections) = do
   now ← of_section k (old_section base limits last before section)
   old_sections base limits (k + 1) (Some now.0) now.1 sections
 
--- The file beside the sections, and what they listed.
+-- The file next to the sections, and what they list.
 abbrev pub old_index_map : Parts → Allowed → Index Data → Checked ReadMap
 old_index_map base limits i = do
   listing ← old_sections base limits 0 None nothing i.sections
@@ -53,7 +52,7 @@ abbrev pub old_map_of : Parts → Allowed → MapMembers Data → Checked ReadMa
 old_map_of base limits (flat m) = flat_map base limits m
 old_map_of base limits (index i) = old_index_map base limits i
 
--- The file and the listing of a map text against a base URL under limits, or the first fault.
+-- The file and the listing of a map against a base URL under limits, or its first fault.
 unfoldable pub one_level_reading : Parts → Allowed → List ℕ → Checked ReadMap
 one_level_reading base limits bytes = do
   tree ← map_tree bytes

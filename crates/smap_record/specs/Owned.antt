@@ -1,4 +1,4 @@
--- For private clauses: contents as the code owns them, apart from the tree that they were taken out of.
+-- For private contracts: contents as the code owns them, apart from the tree that they were moved out of.
 use Rattle.std.specs.Prelude.{ℕ, List, [], ◌∷◌, map, Option, None, option_map, String, string_bytes, Result}
 use Rattle.std.specs.declared.alloc.Global.{Global}
 use Rattle.serde_json.specs.Data.{Data}
@@ -8,7 +8,7 @@ use Rattle.smap_record.specs.Record.{Parts, Allowed, ReadMap}
 use Rattle.smap_record.specs.Faults.{Checked, ◌>>=◌, of_shape}
 use Rattle.smap_record.specs.Reading.{map_of}
 
--- the texts, where there are texts
+-- the strings, where there are strings
 abbrev pub texts_of : List (Option (String Global)) → List (Option (List ℕ))
 texts_of contents = map (option_map string_bytes) contents
 
@@ -17,7 +17,7 @@ abbrev pub first_of : {A : Type 0} → List (Option A) → Option A
 first_of [] = None
 first_of (x ∷ xs) = x
 
--- The file and the listing that these members say, or the first fault.
+-- The file and the listing of these members, or the first fault.
 abbrev pub members_map : Parts → Allowed → Result (MapMembers Data) ShapeFault → Checked ReadMap
 members_map base limits members = do
   members ← of_shape members

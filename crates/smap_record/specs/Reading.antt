@@ -1,4 +1,4 @@
--- What a map text says, or its first fault.
+-- What a map says, or its first fault.
 use Rattle.std.specs.Prelude.{ℕ, ◌+◌, nat_eq, ◌==◌, List, drop, position, codes, Option, Some, None}
 use Rattle.std.specs.Prelude.{option_map}
 use Rattle.std.specs.Prelude.{if◌then◌else◌}
@@ -20,32 +20,33 @@ abbrev pub map_of : Parts → Allowed → MapMembers Data → Checked ReadMap
 map_of base limits (flat m) = flat_map base limits m
 map_of base limits (index i) = index_map base limits i
 
--- what follows the first line
+-- what is after the first line feed
 abbrev pub second_line_on : List ℕ → Option (List ℕ)
 second_line_on bytes = option_map (λ i. drop (i + 1) bytes) (position (λ b. b == 10) bytes)
 
--- What follows the first line, where the text begins with the four bytes that mark a line to leave out
--- (ECMA-426, prefix of a JSON response).
+-- The JSON text: what is after the first line feed if the input begins with the four bytes `)]}'` (ECMA-426
+-- allows such a line in a response; that a missing line feed is rejected is this project's own rule), and
+-- else the input.
 abbrev pub json_text : List ℕ → Option (List ℕ)
 json_text bytes = if starts_with nat_eq bytes (codes ")]}'") then second_line_on bytes else Some bytes
 
--- The tree of a JSON text (RFC 8259), which is UTF-8.
+-- The tree of a JSON text (RFC 8259) in UTF-8.
 abbrev pub tree_of : List ℕ → Option Data
 tree_of text = if is_utf8 text then read text else None
 
--- The tree of a map text.
+-- The tree of a map.
 abbrev pub map_tree : List ℕ → Checked Data
 map_tree bytes = do
   text ← or_fault Prefix (json_text bytes)
   or_fault Json (tree_of text)
 
--- The file and the listing that a tree says, or its first fault.
+-- The file and the listing of a tree, or its first fault.
 abbrev pub tree_map : Parts → Allowed → Data → Checked ReadMap
 tree_map base limits tree = do
   members ← of_shape (shape_of tree)
   map_of base limits members
 
--- The file and the listing of a map text against a base URL under limits, or the first fault.
+-- The file and the listing of a map against a base URL under limits, or its first fault.
 unfoldable pub reading : Parts → Allowed → List ℕ → Checked ReadMap
 reading base limits bytes = do
   tree ← map_tree bytes

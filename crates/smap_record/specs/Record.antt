@@ -1,4 +1,6 @@
--- What a source map says, apart from how it is spelled.
+-- What a source map means, however it is written. The record is ECMA-426's decoded source map, except for
+-- rules of this project's own: sources that are equal in URL, content and ignored flag are one, and
+-- mappings at one position keep their order.
 pub use Rattle.url.specs.Parts.{Parts}
 use Rattle.std.specs.Prelude.{ℕ, Bool, false, not, ◌&&◌, List, [], ◌∷◌, map, filter, bytes_eq, slice_get}
 use Rattle.std.specs.Prelude.{Option, None, unwrap_or, option_map, option_and_then}
@@ -7,27 +9,27 @@ use Rattle.std.proofs.Math.Bool.{beq}
 use Rattle.smap_mappings.specs.declared.token.Token.{Token}
 use Rattle.smap_mappings.specs.declared.token.Original.{Original}
 
--- A source: the text of its URL, its content, and whether it is ignored (ECMA-426, decoded source record).
+-- A source: its URL, its content, and whether it is ignored (ECMA-426, decoded source record).
 pub record Entry : Type 0 where
   pub url : Option (List ℕ)
   pub content : Option (List ℕ)
   pub ignored : Bool
 
--- Where a generated position comes from.
+-- The original of a generated position.
 pub record Origin : Type 0 where
   pub source : Entry
   pub line : ℕ
   pub column : ℕ
   pub name : Option (List ℕ)
 
--- A generated position, and where it comes from if that is told (ECMA-426, decoded mapping record).
+-- A generated position, and its original if it has one (ECMA-426, decoded mapping record).
 pub record Mapping : Type 0 where
   pub line : ℕ
   pub column : ℕ
   pub origin : Option Origin
 
--- The file, the distinct sources in order of first listing, and the mappings in order (ECMA-426, decoded
--- source map record).
+-- The file, the distinct sources in order of first listing, and the mappings sorted by position (ECMA-426,
+-- decoded source map record).
 pub record Record : Type 0 where
   pub file : Option (List ℕ)
   pub sources : List Entry
@@ -44,7 +46,8 @@ pub record ReadMap : Type 0 where
   pub file : Option (List ℕ)
   pub listing : Listing
 
--- How many sources and how many names may be listed, and how many generated lines there may be.
+-- Limits: how many sources, and how many names, may be listed (`items`), and how many generated lines there
+-- may be. This project's own.
 pub record Allowed : Type 0 where
   pub items : ℕ
   pub lines : ℕ
@@ -55,24 +58,24 @@ usual = record { items = 16777216; lines = 16777216 }
 
 -- ---- the record of a listing
 
--- texts are equal, or both are absent
+-- strings are equal, or both are absent
 abbrev pub same_text : Option (List ℕ) → Option (List ℕ) → Bool
 same_text = option_eq bytes_eq
 
--- Sources are one where their URLs, their contents and their ignored flags are equal.
+-- Sources are one source if their URLs, contents and ignored flags are equal.
 abbrev pub same_entry : Entry → Entry → Bool
 same_entry a b = same_text a.url b.url && (same_text a.content b.content && beq a.ignored b.ignored)
 
--- Each element once, in order of its first place.
+-- Each element once, in order of first occurrence.
 unfoldable pub distinct : {A : Type 0} → (A → A → Bool) → List A → List A
 distinct same [] = []
 distinct same (x ∷ xs) = x ∷ filter (λ y. not (same x y)) (distinct same xs)
 
--- what stands for a source where there is none
+-- stands in for a source where there is none
 abbrev pub no_entry : Entry
 no_entry = record { url = None; content = None; ignored = false }
 
--- where a token comes from: its source and its name in place of their indices
+-- the original of a token: its source and its name in place of their indices
 abbrev pub origin_of : Listing → Original → Origin
 origin_of l o = record {
   source = unwrap_or (slice_get l.sources o.source) no_entry;
@@ -81,11 +84,11 @@ origin_of l o = record {
   name = option_and_then (slice_get l.names) o.name;
 }
 
--- The mapping that a token says: its source and its name in place of their indices.
+-- The mapping of a token: its source and its name in place of their indices.
 abbrev pub mapping_of : Listing → Token → Mapping
 mapping_of l t = record { line = t.line; column = t.column; origin = option_map (origin_of l) t.original }
 
--- The record of a map text.
+-- The record of a map.
 abbrev pub record_of : ReadMap → Record
 record_of m = record {
   file = m.file;

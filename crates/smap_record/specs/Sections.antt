@@ -1,6 +1,6 @@
--- What an index map lists, or its first fault (ECMA-426, "Index source map").
--- An index map may stand in a section of another: the index map of the whole text has level 1, and one in a
--- section of an index map has one level more.
+-- What an index map lists, or its first fault (ECMA-426, "Index source map"). The outermost index map has
+-- level 1, and one in a section of an index map has one level more. This project's own rules: levels end at
+-- 8, a combined offset must be in range, and equal positions are in order.
 use Rattle.std.specs.Prelude.{ℕ, zero, suc, ◌+◌, ◌-◌, Bool, false, List, [], ◌∷◌, Option, Some, None, Ok}
 use Rattle.std.specs.List.{list_any}
 use Rattle.url.specs.Parts.{Parts}
@@ -15,33 +15,33 @@ use Rattle.smap_record.specs.Record.{Listing, ReadMap, Allowed}
 use Rattle.smap_record.specs.Faults.{Checked, ◌>>=◌, refuse_if, refuse, or_fault, of_shape, in_section}
 use Rattle.smap_record.specs.Flat.{start, nothing, listed_flat}
 
--- ---- where a section lies
+-- ---- where a section starts
 
--- the section's offset as it is written, from the start of the map that lists it
+-- the section's offset as written, which counts from the start of the map that lists it
 abbrev pub own_offset : Section Data → Position
 own_offset s = record { line = s.line; column = s.column }
 
--- Where a section starts whose own offset is placed in a map that starts at `outer`.
+-- Where a section with this own offset starts, in a map that starts at `outer`.
 abbrev pub combined : Position → Position → Option Position
 combined outer own = in_range (place outer own)
 
--- The offset lies before that of the section in front.
+-- The offset is before that of the previous section.
 abbrev pub falls : Option Position → Position → Bool
 falls None own = false
 falls (Some last) own = is_before own last
 
--- A mapping that was listed before lies after the position.
+-- A mapping that was listed before is after the position.
 abbrev pub overlaps : Listing → Position → Bool
 overlaps before offset = list_any (λ t. is_before offset (position_of t)) before.tokens
 
--- ---- the sections of one list
+-- ---- the sections of one array
 
--- What reads a section's map: it is placed from a position, after what is listed before it.
+-- Reads a section's map, which starts at a position, after what is listed before it.
 abbrev pub Inner : Type 0
 Inner = Position → Listing → MapMembers Data → Checked Listing
 
--- One section of an index map of a level that is placed from `outer`: after the own offset of the section in
--- front, and what is listed before. It gives its own offset, and what is listed now.
+-- One section of an index map of this level that starts at `outer`, after a section with the own offset
+-- `last`, and after what is listed before it. It gives its own offset, and what is listed now.
 abbrev pub listed_section : ℕ → Inner → Position → Option Position → Listing → Data
     → Checked (Position × Listing)
 listed_section level inner outer last before tree = do
@@ -53,7 +53,7 @@ listed_section level inner outer last before tree = do
   now ← inner offset before members
   Ok (own_offset s, now)
 
--- The sections in turn, from number k on. A fault in one of them is a fault in its number.
+-- The sections in turn, from index k on. A fault in one of them has its index in its path.
 unfoldable pub listed_sections : ℕ → Inner → Position → ℕ → Option Position → Listing → List Data
     → Checked Listing
 listed_sections level inner outer k last before [] = Ok before
@@ -63,9 +63,9 @@ listed_sections level inner outer k last before (section ∷ sections) = do
 
 -- ---- the map of a section
 
--- The map of a section of an index map below which n further levels may lie: a flat map as it is, an index
--- map by its sections, which are placed from where it starts. Where n is 0 no index map comes here, since
--- `section_of` has refused it: the line stands for the end of the recursion.
+-- The map of a section of an index map that may have n further levels in it: a flat map as it is, an index
+-- map by its sections. With n = 0 the map is never an index map, since `section_of` has rejected that: the
+-- line ends the recursion.
 unfoldable pub section_map : Parts → Allowed → ℕ → Inner
 section_map base limits zero offset before (flat m) = listed_flat base limits offset before m
 section_map base limits zero offset before (index i) = refuse Nested
@@ -75,7 +75,7 @@ section_map base limits (suc n) offset before (index i) =
 
 -- ---- the whole
 
--- The file beside the sections, and what they list.
+-- The file next to the sections, and what they list.
 abbrev pub index_map : Parts → Allowed → Index Data → Checked ReadMap
 index_map base limits i = do
   listing ← listed_sections 1 (section_map base limits (MAX_LEVEL - 1)) start 0 None nothing i.sections

@@ -1,4 +1,4 @@
--- What the views that are handed out say of the record.
+-- What the views that are handed out say about the record.
 use Rattle.std.specs.Prelude.{option_map, option_copied}
 use Rattle.smap_record.specs.declared.view.SourceView.{SourceView}
 use Rattle.smap_record.specs.declared.view.TokenView.{TokenView}
@@ -9,7 +9,7 @@ use Rattle.smap_record.specs.Record.{Entry, Origin, Mapping}
 abbrev pub entry_seen : SourceView → Entry
 entry_seen v = record { url = option_copied v.url; content = option_copied v.content; ignored = v.ignored }
 
--- where a mapping comes from
+-- the original of a mapping
 abbrev pub origin_seen : OriginalView → Origin
 origin_seen v = record {
   source = entry_seen v.source;

@@ -1,4 +1,4 @@
--- What is said of a fault.
+-- The message of a fault.
 use Rattle.std.specs.Prelude.{ℕ, List, [], ◌∷◌, ◌++◌, flat_map, codes, decimal, Option, Some, None}
 use Rattle.smap_vlq.specs.declared.number.NumberFault.{NumberFault}
 use Rattle.smap_vlq.specs.declared.number.NumberFault.TheVariants as number
@@ -7,14 +7,14 @@ use Rattle.smap_record.specs.declared.fault.Kind.{Kind}
 use Rattle.smap_record.specs.declared.fault.Kind.TheVariants as kind
 use Rattle.smap_record.specs.declared.fault.Fault.{Fault}
 
--- how a number is misspelled
+-- what is wrong with a number
 abbrev pub number_words : NumberFault → List ℕ
 number_words number.Unfinished = codes "unfinished"
 number_words number.Character = codes "bad character"
 number_words number.TooLarge = codes "too large"
 number_words number.NegativeZero = codes "negative zero"
 
--- what the fault is
+-- what is wrong
 abbrev pub kind_words : Kind → List ℕ
 kind_words kind.Prefix = codes "prefix without line feed"
 kind_words kind.Json = codes "not json"
@@ -48,11 +48,11 @@ kind_words kind.OriginalLine = codes "original line"
 kind_words kind.OriginalColumn = codes "original column"
 kind_words kind.Name = codes "name index"
 
--- the numbers of sections within a section, each after a dot
+-- the indices of sections within a section, each after a dot
 abbrev pub inner_words : List ℕ → List ℕ
 inner_words = flat_map (λ number. codes "." ++ decimal number)
 
--- a path: its numbers from the outermost in, with a dot between two
+-- a path: its indices from the outermost to the innermost, joined by dots
 abbrev pub path_words : List ℕ → List ℕ
 path_words [] = []
 path_words (number ∷ inner) = decimal number ++ inner_words inner
@@ -62,13 +62,13 @@ abbrev pub section_words : List ℕ → List ℕ
 section_words [] = []
 section_words (number ∷ inner) = codes "section " ++ (decimal number ++ (inner_words inner ++ codes ": "))
 
--- in which segment of the mappings text it is
+-- in which segment of the mappings string it is
 abbrev pub place_words : Option SegmentPlace → List ℕ
 place_words None = []
 place_words (Some place) =
     codes "line " ++ (decimal place.line ++ (codes " segment " ++ (decimal place.segment ++ codes ": ")))
 
--- What is said of a fault: its section and its place, where it has them, and the words of its kind. All
--- numbers but that of a number in its segment count from 0.
+-- The message of a fault: its section and its place, if it has them, and what is wrong. All numbers count
+-- from 0, except that of a number in its segment.
 unfoldable pub fault_words : Fault → List ℕ
 fault_words fault = section_words fault.section ++ (place_words fault.place ++ kind_words fault.kind)

@@ -1,22 +1,26 @@
-//! Why a map is refused: every kind of fault, in the order in which they are looked for, with its section and
-//! its place.
-ghost use Rattle.std.specs.Prelude.{◌≡◌};
+//! Why a map is rejected: every kind of fault, with its section and its place; and their words. Whoever prints
+//! a fault puts its own words before these.
+ghost use Rattle.std.specs.Prelude.{◌≡◌, Some};
 ghost use Rattle.smap_record.specs.Faults.{plain, segment_fault};
+ghost use Rattle.smap_record.specs.Words.{fault_words, kind_words, number_words, place_words, section_words};
 
 use crate::path::Path;
+use itoa::Buffer;
 use smap_mappings::{SegmentKind, SegmentPlace};
 use smap_shape::ShapeFault;
 use smap_vlq::NumberFault;
 use std::alloc::{AllocError, AllocFailed};
+use std::fmt;
 
-/// What is wrong with a map, in the order in which faults are looked for.
+/// What is wrong with a map. A map is rejected for the first fault that is met; `docs/FORMAT.md` has the
+/// order, and what to do about each fault is in `docs/OUTPUT.md`. `Display` writes its message.
 #[derive(Clone, Copy, Debug, PartialEq, Eq)]
 pub enum Kind {
-    /// The text begins with `)]}'` and has no line feed.
+    /// The input begins with `)]}'` and has no line feed.
     Prefix,
-    /// The text, after such a line, isn't JSON in UTF-8.
+    /// The input, after such a line, isn't JSON in UTF-8.
     Json,
-    /// A map or a section isn't an object.
+    /// The map, or a section, isn't an object.
     NotObject,
     /// `version` isn't the integer 3.
     Version,
@@ -32,71 +36,82 @@ pub enum Kind {
     SourcesContent,
     /// `names` is neither absent nor an array of strings.
     Names,
-    /// The list of ignored sources is neither absent nor an array of numbers of sources.
+    /// `ignoreList`, or in its absence `x_google_ignoreList`, is neither absent nor an array of indices of
+    /// sources.
     IgnoreList,
     /// `mappings` isn't a string.
     Mappings,
     /// `sections` isn't an array.
     Sections,
-    /// A section's `offset` isn't a line and a column of at most 2,147,483,647, or isn't once it is placed by
-    /// those of the sections around it.
+    /// A section's `offset` isn't a line and a column of at most 2,147,483,647, or isn't once those of the
+    /// sections around it are added.
     Offset,
-    /// A section's `map` isn't an object.
+    /// A section has no `map`, as where it has a `url` instead, or it isn't an object.
     SectionMap,
-    /// A section of an index map of level 8 has a map with sections.
+    /// A section of an index map of level 8 has an index map.
     Nested,
-    /// A section's own offset lies before that of the section before in its list.
+    /// A section's offset, as written, is before that of the previous section of its array.
     Order,
-    /// A mapping of a section earlier in the text, at any level, lies after a section's placed offset.
+    /// A mapping of an earlier section, at any level, is after the position where this section begins.
     Overlap,
     /// More sources or more names are listed than the limits allow.
     TooMany,
-    /// The source with this number, from 0, isn't a URL.
+    /// The source with this index, from 0, in its own map's `sources` can't be parsed as a URL.
     SourceUrl(usize),
-    /// The URL of the source with this number, from 0, isn't its own URL.
+    /// The URL of the source with this index, from 0, resolved again, is another one.
     UnstableUrl(usize),
-    /// A segment is empty.
+    /// A segment of the mappings string is empty.
     Empty,
-    /// A number of a segment is misspelled: which one, from 1 and at most 255, and how.
+    /// A number of a segment is invalid: which one, from 1, where 255 stands for 255 or more; and why.
     Number(u8, NumberFault),
-    /// A segment has so many numbers, at most 255, and not 1, 4 or 5.
+    /// A segment has this many numbers, not 1, 4 or 5; 255 stands for 255 or more.
     Count(u8),
-    /// A generated line isn't below the limit on lines.
+    /// A mapping's generated line isn't below the limit on lines.
     GeneratedLine,
-    /// A generated column is below 0 or above 2,147,483,647.
+    /// A generated column is negative, or above 2,147,483,647.
     Column,
-    /// A source index is below 0 or not below the number of sources.
+    /// A source index is negative, or not below the number of sources.
     Source,
-    /// An original line is below 0 or above 2,147,483,647.
+    /// An original line is negative, or above 2,147,483,647.
     OriginalLine,
-    /// An original column is below 0 or above 2,147,483,647.
+    /// An original column is negative, or above 2,147,483,647.
     OriginalColumn,
-    /// A name index is below 0 or not below the number of names.
+    /// A name index is negative, or not below the number of names.
     Name,
 }
 
-/// The first fault of a map: the path of its section, without numbers where it is in no section; the place of
-/// its segment, where a segment has it; and what it is.
+/// The first fault of a map: what is wrong, and where. `Display` writes the message that `docs/OUTPUT.md`
+/// gives, as in
+///
+/// ```
+/// section 0.2: line 0 segment 1: source index
+/// ```
 #[derive(Debug, Drop, PartialEq, Eq)]
 pub struct Fault {
+    /// Which section it is in; empty outside of sections.
     pub section: Path,
+    /// The segment that is invalid, in the mappings string of its own map; none for all other faults.
     pub place: Option<SegmentPlace>,
+    /// What is wrong.
     pub kind: Kind,
 }
 
-/// Why no map was read. `Memory`, for lack of memory or for a URL of 4 GB or more, may stand in place of any
-/// other answer.
+/// Why no map was read.
 #[derive(Debug, Drop, PartialEq, Eq)]
 pub enum ReadError {
+    /// The map has this fault, and no earlier one.
     Refused(Fault),
+    /// Out of memory, or a URL of 4 GiB or more. It may come in place of any other answer, and says nothing
+    /// about the map.
     Memory,
 }
 
-/// Why a text is no base. `Memory`, for lack of memory or for a URL of 4 GB or more, may stand in place of
-/// any other answer.
+/// Why there is no base.
 #[derive(Clone, Copy, Debug, PartialEq, Eq)]
 pub enum BaseFault {
+    /// The string isn't an absolute URL.
     NotUrl,
+    /// Out of memory, or a URL of 4 GiB or more.
     Memory,
 }
 
@@ -134,7 +149,7 @@ pub(crate) fn refused(kind: Kind) -> ReadError
 }
 
 impl Fault {
-    /// The fault of a segment, in no section.
+    /// The fault of a segment outside of sections.
     pub fn of_segment(place: SegmentPlace, kind: SegmentKind) -> Fault
         ensures { result ≡ segment_fault (place, kind) }
     {
@@ -190,5 +205,117 @@ impl From<SegmentKind> for Kind {
             SegmentKind::OriginalColumn => Kind::OriginalColumn,
             SegmentKind::Name => Kind::Name,
         }
+    }
+}
+
+/// How a number is misspelled.
+fn number_words(fault: NumberFault) -> &'static str
+    ensures { result.now ≡ number_words fault }
+{
+    match fault {
+        NumberFault::Unfinished => "unfinished",
+        NumberFault::Character => "bad character",
+        NumberFault::TooLarge => "too large",
+        NumberFault::NegativeZero => "negative zero",
+    }
+}
+
+impl fmt::Display for Kind {
+    ghost output = { λ kind. Some (kind_words kind) };
+
+    fn fmt<W: fmt::Write>(&self, f: &mut fmt::Formatter<W>) -> fmt::Result {
+        match *self {
+            Kind::Prefix => write!(f, "prefix without line feed"),
+            Kind::Json => write!(f, "not json"),
+            Kind::NotObject => write!(f, "not an object"),
+            Kind::Version => write!(f, "version"),
+            Kind::File => write!(f, "file"),
+            Kind::Both => write!(f, "sections beside mappings"),
+            Kind::SourceRoot => write!(f, "sourceRoot"),
+            Kind::Sources => write!(f, "sources"),
+            Kind::SourcesContent => write!(f, "sourcesContent"),
+            Kind::Names => write!(f, "names"),
+            Kind::IgnoreList => write!(f, "ignoreList"),
+            Kind::Mappings => write!(f, "mappings"),
+            Kind::Sections => write!(f, "sections"),
+            Kind::Offset => write!(f, "offset"),
+            Kind::SectionMap => write!(f, "map"),
+            Kind::Nested => write!(f, "nested sections"),
+            Kind::Order => write!(f, "order"),
+            Kind::Overlap => write!(f, "overlap"),
+            Kind::TooMany => write!(f, "too many sources or names"),
+            Kind::SourceUrl(i) => write!(f, "source {} is no URL", Buffer::new().format(i)),
+            Kind::UnstableUrl(i) => {
+                write!(f, "source {} has an unstable URL", Buffer::new().format(i))
+            }
+            Kind::Empty => write!(f, "empty segment"),
+            Kind::Number(which, fault) => {
+                write!(
+                    f,
+                    "number {}: {}",
+                    Buffer::new().format(which),
+                    number_words(fault)
+                )
+            }
+            Kind::Count(count) => write!(f, "{} numbers", Buffer::new().format(count)),
+            Kind::GeneratedLine => write!(f, "generated line"),
+            Kind::Column => write!(f, "generated column"),
+            Kind::Source => write!(f, "source index"),
+            Kind::OriginalLine => write!(f, "original line"),
+            Kind::OriginalColumn => write!(f, "original column"),
+            Kind::Name => write!(f, "name index"),
+        }
+    }
+}
+
+/// In which section a fault is, if it is in one.
+#[derive(Drop)]
+struct InSection<'a>(&'a Path);
+
+impl fmt::Display for InSection<'_> {
+    ghost output = { λ section. Some (section_words section.0.now) };
+
+    fn fmt<W: fmt::Write>(&self, f: &mut fmt::Formatter<W>) -> fmt::Result {
+        let path = self.0;
+        if path.numbers().is_empty() {
+            return Ok(());
+        }
+        write!(f, "section {path}: ")
+    }
+}
+
+/// In which segment of the mappings text a fault is, if it is in one.
+#[derive(Drop)]
+struct InSegment(Option<SegmentPlace>);
+
+impl fmt::Display for InSegment {
+    ghost output = { λ segment. Some (place_words segment.0) };
+
+    fn fmt<W: fmt::Write>(&self, f: &mut fmt::Formatter<W>) -> fmt::Result {
+        match self.0 {
+            None => Ok(()),
+            Some(SegmentPlace { line, segment }) => write!(
+                f,
+                "line {} segment {}: ",
+                Buffer::new().format(line),
+                Buffer::new().format(segment)
+            ),
+        }
+    }
+}
+
+/// Lines, segments, sections and sources count from 0, and the numbers of a segment from 1.
+impl fmt::Display for Fault {
+    ghost output = { λ fault. Some (fault_words fault) };
+
+    #[tactic(auto, unfolding(crate::specs::Words::fault_words))]
+    fn fmt<W: fmt::Write>(&self, f: &mut fmt::Formatter<W>) -> fmt::Result {
+        write!(
+            f,
+            "{}{}{}",
+            InSection(&self.section),
+            InSegment(self.place),
+            self.kind
+        )
     }
 }

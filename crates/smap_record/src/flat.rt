@@ -280,11 +280,11 @@ fn shift_all(tokens: &mut Vec<Token>, sources: usize, names: usize)
     }
 }
 
-/// Tokens after others. The first ones are not copied, unless there is room for more already.
+/// Tokens after others. Those of the first section are taken as they are.
 fn joined(mut front: Vec<Token>, mut back: Vec<Token>) -> Result<Vec<Token>, AllocError>
     ensures { IfOk result (λ v. v.items ≡ front.items ++ back.items) }
 {
-    if front.is_empty() && front.capacity() < back.len() {
+    if front.is_empty() {
         return Ok(back);
     }
     front.append(&mut back)?;

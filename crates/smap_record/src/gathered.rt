@@ -1,5 +1,5 @@
 //! What is listed so far. A flat map and each section of an index map are read into it, one after the other.
-ghost use Rattle.std.specs.Prelude.{◌≡◌, map, string_bytes, option_map, IfOk};
+ghost use Rattle.std.specs.Prelude.{◌≡◌, map, string_bytes, option_map};
 ghost use Rattle.smap_mappings.specs.Position.{position_of, NeverFalls};
 ghost use Rattle.smap_record.specs.Listed.{IsListing};
 ghost use Rattle.smap_record.specs.Flat.{nothing};
@@ -9,7 +9,7 @@ ghost use Rattle.smap_record.specs.Gathering.{gathered, any_after};
 use crate::map::SourceMap;
 use crate::sources::Sources;
 use smap_mappings::{Position, Token};
-use std::alloc::{AllocError, Global};
+use std::alloc::Global;
 
 /// Sources, names and tokens as they are listed so far.
 #[derive(Drop)]
@@ -29,18 +29,6 @@ impl Gathered {
             names: Vec::new(alloc),
             tokens: Vec::new(alloc),
         }
-    }
-
-    /// Nothing is listed, and there is room for so many tokens. Room that isn't used isn't touched.
-    pub(crate) fn with_capacity(alloc: Global, tokens: usize) -> Result<Gathered, AllocError>
-        ensures { IfOk result (λ g. gathered g ≡ nothing) }
-    {
-        let tokens = Vec::with_capacity(alloc, tokens)?;
-        Ok(Gathered {
-            sources: Sources::new(alloc),
-            names: Vec::new(alloc),
-            tokens,
-        })
     }
 
     /// The map with this file that lists this.

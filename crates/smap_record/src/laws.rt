@@ -1,13 +1,13 @@
 //! Laws on index maps within each other: each is a function with an empty body, whose contract is the law.
 ghost use Rattle.smap_record.specs.Laws.{PlacingIsAssociative, OldTexts};
 
-/// What is placed by an inner offset and then by an outer one is placed by both combined.
+/// A position placed by an inner offset and then by an outer one is placed by both offsets combined.
 pub fn placing_is_associative()
     ensures { PlacingIsAssociative }
 {}
 
-/// A text that was read while index maps couldn't nest is read as it was, and one that was refused has the
-/// fault that it had, unless that was nested sections.
+/// A map without nested index maps is read as by a reader that rejects these, and one that such a reader
+/// rejects has the same fault, unless that is nested sections.
 pub fn old_texts()
     ensures { OldTexts }
 {}

@@ -1,10 +1,12 @@
-//! What a source map says: its record and its listing, read from its bytes against a base URL under limits. A
-//! map is read in the order in which its faults are looked for: the prefix line, the JSON text, the shape of
-//! its tree, and of a flat map or of each section how much it lists, its sources, its mappings. The first
-//! fault is the answer, and no map is handed out then. A flat map, and each section of an index map, is read
-//! after what is listed before it; an index map in a section is read by its own sections, eight levels deep
-//! at most. Each source is resolved, and kept once in a hashed table. Names are copied out of the tree once,
-//! and so are contents of sections; those of a flat map are moved out of it.
+//! What a source map says: [`SourceMap::from_slice`] and [`SourceMap::from_vec`] read it from its bytes,
+//! against a [`Base`] and under [`Limits`].
+//!
+//! A map is read in the order in which its faults are looked for: the prefix line, the JSON text, the
+//! members, and of a flat map or of each section the number of sources and names, the sources, the
+//! mappings. The first fault is the answer, and no map is handed out then. Each section of an index map is
+//! read after what is listed before it; an index map in a section is read by its own sections, eight levels
+//! deep at most. Each source URL is resolved, and kept once in a hashed table. Names are copied out of the
+//! JSON tree once, and so are the contents of sections; those of a flat map are moved out of the tree.
 #![tactic(auto)]
 
 mod entry;
@@ -21,7 +23,6 @@ mod source;
 mod sources;
 mod text;
 mod view;
-mod words;
 
 pub use fault::{BaseFault, Fault, Kind, ReadError};
 pub use limits::Limits;

@@ -1,13 +1,13 @@
-//! How much a map may list, and how many generated lines it may have. A map that lists more is refused before
-//! any source is resolved or any name copied.
+//! Limits on what a map may list, and on its generated lines. A map that lists more is rejected before any
+//! of its sources is resolved or any name copied.
 ghost use Rattle.std.specs.Prelude.{◌≡◌, ◌≤◌, ◌↔◌, IsSome, IfSome};
 ghost use Rattle.smap_record.specs.Record.{usual};
 
 use smap_mappings::{MAX_LINES, MAX_POSITION};
 use std::marker::Model;
 
-/// How many sources may be listed, and as many names (`items`), and how many generated lines there may be
-/// (`lines`). What is read under limits stays within them: the record fits them.
+/// The greatest number of sources that a map may list, and likewise of names (`items`), and of generated
+/// lines (`lines`). This project's own limits; [`Limits::usual`] are those of the program.
 #[derive(Clone, Copy)]
 pub struct Limits {
     items: u32,
@@ -30,7 +30,7 @@ impl Model for Limits {
 }
 
 impl Limits {
-    /// These limits; none where `items` is above 2,147,483,647 or `lines` above 16,777,216.
+    /// These limits; none where `items` is above 2,147,483,647, or `lines` above 16,777,216.
     pub fn new(items: u32, lines: u32) -> Option<Limits>
         ensures valid { IsSome result ↔ ((items ≤ MAX_POSITION) × (lines ≤ MAX_LINES)) }
         ensures value { IfSome result (λ l. (l.items ≡ items) × (l.lines ≡ lines)) }
@@ -42,7 +42,7 @@ impl Limits {
         }
     }
 
-    /// 16,777,216 for both.
+    /// 16,777,216 sources, names and lines.
     pub fn usual() -> Limits
         ensures { result ≡ usual }
     {

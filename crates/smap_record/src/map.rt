@@ -1,4 +1,4 @@
-//! A source map that was read, and what it tells. Every getter takes constant time and no memory.
+//! A source map that was read. Every getter takes constant time and no memory.
 ghost use Rattle.std.specs.Prelude.{◌≡◌, ◌<◌, length, map, slice_get, Some, IfSome, option_map};
 ghost use Rattle.std.specs.Prelude.{option_copied, string_bytes};
 ghost use Rattle.smap_record.specs.Record.{record_of, origin_of};
@@ -10,9 +10,24 @@ use crate::view::{OriginalView, SourceView, TokenView};
 use smap_mappings::{Original, Token};
 use std::marker::Model;
 
-/// A source map that was read. A contract sees its file and its listing: the sources and the names as listed,
-/// and the tokens with indices into these, arranged by generated line and column. Its record is the file, the
-/// distinct sources, and each token with its source and its name in place of their indices.
+/// A source map that was read: its file, its sources and names as listed, and its mappings, sorted by
+/// generated line and column.
+///
+/// Two views of it have getters of their own. The *record* is what the map means, however it is written:
+/// the distinct sources ([`source_count`], [`source`]) and the mappings with their sources and names
+/// ([`token_count`], [`token`]). The *listing* is what the map lists: all sources and names, repeats
+/// included ([`listed_count`], [`listed`], [`name_count`], [`name`]), and the mappings by indices into
+/// these ([`listed_token`]).
+///
+/// [`source_count`]: SourceMap::source_count
+/// [`source`]: SourceMap::source
+/// [`token_count`]: SourceMap::token_count
+/// [`token`]: SourceMap::token
+/// [`listed_count`]: SourceMap::listed_count
+/// [`listed`]: SourceMap::listed
+/// [`name_count`]: SourceMap::name_count
+/// [`name`]: SourceMap::name
+/// [`listed_token`]: SourceMap::listed_token
 #[derive(Drop)]
 pub struct SourceMap {
     file: Option<String>,
@@ -62,7 +77,7 @@ impl SourceMap {
         }
     }
 
-    /// The name of the generated file.
+    /// The member `file`: the name of the generated file, if the map has one.
     pub fn file(&self) -> Option<&str>
         ensures { option_copied result ≡ self.now.file }
     {
@@ -72,7 +87,8 @@ impl SourceMap {
         }
     }
 
-    /// How many distinct sources there are: those with another URL, content or ignored flag.
+    /// The number of distinct sources: listed sources are one source if URL, content and ignored flag are
+    /// equal.
     pub fn source_count(&self) -> usize
         ensures { result ≡ length (record_of self.now).sources }
     {
@@ -80,7 +96,7 @@ impl SourceMap {
         sources.distinct_count()
     }
 
-    /// The i-th distinct source, in order of first listing.
+    /// The i-th distinct source, in order of first listing. `i` must be below `source_count`.
     pub fn source(&self, i: usize) -> SourceView<'_>
         requires { i < length (record_of self.now).sources }
         ensures { slice_get (record_of self.now).sources i ≡ Some (entry_seen result) }
@@ -89,7 +105,7 @@ impl SourceMap {
         sources.distinct(i)
     }
 
-    /// How many sources are listed, at most 2,147,483,647.
+    /// The number of listed sources, repeats and nulls included; at most 2,147,483,647.
     pub fn listed_count(&self) -> usize
         ensures { result ≡ length self.now.listing.sources }
     {
@@ -97,7 +113,7 @@ impl SourceMap {
         sources.listed_count()
     }
 
-    /// The number of the i-th listed source among the distinct ones.
+    /// The index, among the distinct sources, of the i-th listed source. `i` must be below `listed_count`.
     pub fn listed(&self, i: usize) -> usize
         requires { i < length self.now.listing.sources }
         ensures within { result < length (record_of self.now).sources }
@@ -108,14 +124,14 @@ impl SourceMap {
         sources.listed(i)
     }
 
-    /// How many names are listed, repeats and unused ones among them; at most 2,147,483,647.
+    /// The number of listed names, repeats and unused ones included; at most 2,147,483,647.
     pub fn name_count(&self) -> usize
         ensures { result ≡ length self.now.listing.names }
     {
         self.names.len()
     }
 
-    /// The i-th listed name.
+    /// The i-th listed name. `i` must be below `name_count`.
     pub fn name(&self, i: usize) -> &str
         requires { i < length self.now.listing.names }
         ensures { slice_get self.now.listing.names i ≡ Some result.now }
@@ -124,7 +140,7 @@ impl SourceMap {
         names[i].as_str()
     }
 
-    /// How many mappings there are.
+    /// The number of mappings.
     pub fn token_count(&self) -> usize
         ensures count { result ≡ length self.now.listing.tokens }
         ensures mappings { result ≡ length (record_of self.now).mappings }
@@ -133,7 +149,8 @@ impl SourceMap {
         self.tokens.len()
     }
 
-    /// The i-th mapping, in order of generated line and column, by indices into the listed sources and names.
+    /// The i-th mapping by generated line and column, with indices into the listed sources and names. `i`
+    /// must be below `token_count`.
     pub fn listed_token(&self, i: usize) -> Token
         requires { i < length self.now.listing.tokens }
         ensures { slice_get self.now.listing.tokens i ≡ Some result }
@@ -142,7 +159,8 @@ impl SourceMap {
         tokens[i]
     }
 
-    /// The i-th mapping of the record, in order of generated line and column. Lines and columns count from 0.
+    /// The i-th mapping by generated line and column, with its source and its name. Lines and columns count
+    /// from 0. `i` must be below `token_count`.
     pub fn token(&self, i: usize) -> TokenView<'_>
         requires { i < length self.now.listing.tokens }
         ensures mapping { slice_get (record_of self.now).mappings i ≡ Some (mapping_seen result) }

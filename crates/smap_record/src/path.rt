@@ -1,10 +1,12 @@
-//! Where a fault lies in index maps within each other: the number of a section at each level.
-ghost use Rattle.std.specs.Prelude.{◌≡◌, ◌≤◌, ◌<◌, ◌↔◌, ◌∷◌, length, nat_eq, IsSome, IfSome};
+//! Where a fault is in nested index maps: the index of a section at each level.
+ghost use Rattle.std.specs.Prelude.{◌≡◌, ◌≤◌, ◌<◌, ◌↔◌, ◌∷◌, length, nat_eq, Some, IsSome, IfSome};
 ghost use Rattle.std.specs.Cmp.{partial_equiv_from_equiv};
 ghost use Rattle.std.specs.Cmp.Lexicographic.{nat_list_eq_equiv, pointwise};
 ghost use Rattle.smap_record.specs.Faults.{outside};
+ghost use Rattle.smap_record.specs.Words.{path_words};
 
 use arrayvec::ArrayVec;
+use itoa::Buffer;
 use smap_shape::MAX_LEVEL;
 use std::fmt;
 use std::marker::Model;
@@ -12,8 +14,8 @@ use std::marker::Model;
 /// As many numbers as there are levels.
 const DEPTH: usize = MAX_LEVEL as usize;
 
-/// The numbers of sections, from the outermost in, at most eight; each counts from 0 in the list that it
-/// stands in. A path without numbers leads to no section.
+/// The indices of sections from the outermost to the innermost, at most eight, each from 0 in its own
+/// array. An empty path is outside of sections. `Display` joins the indices with dots.
 #[derive(Drop)]
 pub struct Path {
     numbers: ArrayVec<usize, DEPTH>,
@@ -31,7 +33,7 @@ impl Model for Path {
 }
 
 impl Path {
-    /// The path of these numbers; none for more than eight.
+    /// The path of these indices; none for more than eight.
     pub fn new(numbers: &[usize]) -> Option<Path>
         ensures few { IsSome result ↔ (length numbers.now ≤ MAX_LEVEL) }
         ensures numbers { IfSome result (λ p. p ≡ numbers.now) }
@@ -42,7 +44,7 @@ impl Path {
         }
     }
 
-    /// The numbers, from the outermost in.
+    /// The indices, from the outermost to the innermost.
     pub fn numbers(&self) -> &[usize]
         ensures numbers { result.now ≡ self.now }
         ensures few { length self.now ≤ MAX_LEVEL }
@@ -51,7 +53,7 @@ impl Path {
         numbers.as_slice()
     }
 
-    /// The path that leads to no section.
+    /// The empty path.
     pub fn outside() -> Path
         ensures { result ≡ outside }
     {
@@ -88,5 +90,22 @@ impl Eq for Path {
 impl fmt::Debug for Path {
     fn fmt<W: fmt::Write>(&self, f: &mut fmt::Formatter<W>) -> fmt::Result {
         f.debug_list().entries(self.numbers()).finish()
+    }
+}
+
+/// The numbers from the outermost in, with a dot between two, such as `0.2`; nothing without numbers.
+impl fmt::Display for Path {
+    ghost output = { λ path. Some (path_words path) };
+
+    fn fmt<W: fmt::Write>(&self, f: &mut fmt::Formatter<W>) -> fmt::Result {
+        let numbers = self.numbers();
+        if numbers.is_empty() {
+            return Ok(());
+        }
+        write!(f, "{}", Buffer::new().format(numbers[0]))?;
+        for number in &numbers[1..] {
+            write!(f, ".{}", Buffer::new().format(*number))?;
+        }
+        Ok(())
     }
 }

@@ -59,17 +59,26 @@ fn tree_map_of(
 }
 
 impl SourceMap {
-    /// The map that the bytes of a map text say against a base under limits, or its first fault. What it
-    /// lists can be read again under the same base and limits, and so can its record.
+    /// Reads a source map, flat or an index map, from its bytes. `base` is the URL of the map, against
+    /// which its sources are resolved; [`Limits::usual`] serve most callers.
     ///
-    /// The text is read into a tree. Contents are moved out of it, or copied where they are a section's, and
-    /// all else that the map keeps is copied. Want of memory, and a URL of 4 GB or more, are answered as
-    /// `ReadError::Memory`.
+    /// The bytes are parsed into a JSON tree. Contents are moved out of it, or copied where they are a
+    /// section's, and all else that the map keeps is copied.
     ///
-    /// Time is in the text's length, and besides in two products: each source takes the length of the root
-    /// that stands before it, and each source's URL that of the base. Where columns fall within a line the
-    /// tokens are sorted, which is their number times its logarithm. Equal sources are found in a hashed
-    /// table.
+    /// The time is linear in the length of the input, except for two products: each source takes the length
+    /// of its `sourceRoot`, and each source URL that of the base. Mappings are sorted only where columns
+    /// fall within a line.
+    ///
+    /// # Errors
+    ///
+    /// `Refused` with the first fault, in the order of `docs/FORMAT.md`; `Memory`.
+    ///
+    /// # Examples
+    ///
+    /// ```
+    /// let base = Base::new(alloc, "http://h/m/out.js.map")?;
+    /// let map = SourceMap::from_slice(alloc, bytes, &base, Limits::usual())?;
+    /// ```
     #[tactic(auto, unfolding(crate::specs::Reading::reading))]
     pub fn from_slice(
         alloc: Global,
@@ -85,8 +94,13 @@ impl SourceMap {
         tree_map_of(alloc, tree, base, limits)
     }
 
-    /// What `from_slice` answers, of bytes that are handed over: they are let go as soon as their tree is
-    /// there, so that the text isn't held beside the tree and the map.
+    /// Answers what [`from_slice`](SourceMap::from_slice) answers, for bytes that are handed over: they are
+    /// freed as soon as their JSON tree is there, so that the input isn't held next to the tree and the
+    /// map.
+    ///
+    /// # Errors
+    ///
+    /// Those of `from_slice`.
     #[tactic(auto, unfolding(crate::specs::Reading::reading))]
     pub fn from_vec(
         alloc: Global,

@@ -20,7 +20,7 @@ use crate::limits::Limits;
 use crate::map::SourceMap;
 use crate::source::Base;
 use serde_json::Value;
-use smap_mappings::{Position, count_segments};
+use smap_mappings::Position;
 use smap_shape::{IndexShape, MAX_LEVEL, Shape, section, shape};
 use std::alloc::Global;
 
@@ -140,22 +140,6 @@ fn with_sections(
     Ok(listed)
 }
 
-/// How many segments the sections' own mappings have: nearly always as many as the map has tokens. It serves
-/// as room, so what isn't as it should be counts nothing here, and is refused when it is read.
-fn segment_count(shape: &IndexShape<'_>) -> usize {
-    let mut sum: usize = 0;
-    for k in 0..shape.section_count() {
-        let map = shape.section_value(k).get("map");
-        if let Some(text) = map
-            .and_then(|map| map.get("mappings"))
-            .and_then(Value::as_str)
-        {
-            sum = sum.saturating_add(count_segments(text.as_bytes()));
-        }
-    }
-    sum
-}
-
 /// The map that the members say, or its first fault.
 pub(crate) fn index_map(
     alloc: Global,
@@ -168,7 +152,7 @@ pub(crate) fn index_map(
     ensures listing_fits { IfOk result (λ m. ListingFits base.now limits m.listing) }
 {
     let start = Position { line: 0, column: 0 };
-    let before = Gathered::with_capacity(alloc, segment_count(shape))?;
+    let before = Gathered::new(alloc);
     let listed = with_sections(alloc, before, shape, base, limits, start, 1)?;
     let file = copied(alloc, shape.file())?;
     Ok(listed.into_map(file))

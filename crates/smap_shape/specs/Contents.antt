@@ -4,12 +4,12 @@ use Rattle.serde_json.specs.Data.{Data}
 use Rattle.smap_shape.specs.Members.{Flat, MapMembers, flat, index, fitted}
 use Rattle.smap_shape.specs.Reading.{member_of, list_member, text_or_null}
 
--- the text of each entry of sourcesContent, where it is absent or a list of texts and nulls
+-- the entries of `sourcesContent`, if it is absent or an array of strings and nulls
 abbrev pub contents_member : Data → Option (List (Option (List ℕ)))
 contents_member tree = list_member text_or_null (member_of (codes "sourcesContent") tree)
 
--- The text of each entry of sourcesContent, also of those past the sources; none where the member is absent
--- or is no list of texts and nulls.
+-- The entries of `sourcesContent`, those after the last source included; none if the member is absent or
+-- isn't an array of strings and nulls.
 abbrev pub contents_of : Data → List (Option (List ℕ))
 contents_of tree = unwrap_or (contents_member tree) []
 
@@ -17,7 +17,7 @@ contents_of tree = unwrap_or (contents_member tree) []
 abbrev pub with_contents : List (Option (List ℕ)) → Flat → Flat
 with_contents contents m = record m { contents = fitted (length m.sources) contents }
 
--- A map with these contents, if it is flat.
+-- A map with these contents in place of its own, if it is flat.
 abbrev pub map_with_contents : {D : Type 0} → List (Option (List ℕ)) → MapMembers D → MapMembers D
 map_with_contents contents (flat m) = flat (with_contents contents m)
 map_with_contents contents (index i) = index i

@@ -1,4 +1,4 @@
--- What the fields of a flat shape stand for: it keeps lists as they stand in the tree.
+-- What the fields of a flat shape stand for: it keeps arrays as they are in the tree.
 use Rattle.std.specs.Prelude.{ℕ, ◌<◌, List, [], map, length, All, Option, option_copied, unwrap_or}
 use Rattle.serde_json.specs.Find.{as_str}
 use Rattle.serde_json.specs.View.{view}
@@ -7,15 +7,15 @@ use Rattle.smap_shape.specs.declared.flat.FlatShape.TheInside.{Inside}
 use Rattle.smap_shape.specs.Members.{Flat, fitted}
 use Rattle.smap_shape.specs.Reading.{whole}
 
--- the text of each entry, if it has one
+-- each entry's string, if it is one
 abbrev pub texts : List Value → List (Option (List ℕ))
 texts vs = map (λ v. as_str (view v)) vs
 
--- the text of each entry, where each has one
+-- each entry's string, if each is one
 abbrev pub sure_texts : List Value → List (List ℕ)
 sure_texts vs = map (λ v. unwrap_or (as_str (view v)) []) vs
 
--- the whole number of each entry, where each has one
+-- each entry's integer, if each is one
 abbrev pub numbers : List Value → List ℕ
 numbers vs = map (λ v. unwrap_or (whole (view v)) 0) vs
 

@@ -1,9 +1,10 @@
--- What a source map's JSON tree says, apart from how the tree is kept.
--- ECMA-426, "Source map format" and "Index source map".
+-- What a source map's JSON tree says, however the tree is kept (ECMA-426, "Source map format" and "Index
+-- source map").
 use Rattle.std.specs.Prelude.{ℕ, ◌-◌, List, ◌++◌, length, take, replicate, Option, None, Bool, ◌==◌}
 use Rattle.std.specs.List.{list_any}
 
--- The members of a flat map. An absent list is empty, and a text or an entry that is absent or null is None.
+-- The members of a flat map. An absent array is empty, and a string or an entry that is absent or null is
+-- None.
 pub record Flat : Type 0 where
   pub file : Option (List ℕ)
   -- sourceRoot
@@ -12,24 +13,24 @@ pub record Flat : Type 0 where
   -- sourcesContent, with one entry for each source
   pub contents : List (Option (List ℕ))
   pub names : List (List ℕ)
-  -- the numbers of ignored sources, as they are listed
+  -- the indices of ignored sources, as listed
   pub ignored : List ℕ
   pub mappings : List ℕ
 
--- whether the number is among those listed
+-- whether the index is among those listed
 abbrev pub is_listed : ℕ → List ℕ → Bool
 is_listed i numbers = list_any (λ n. n == i) numbers
 
--- as many entries as n: further ones are cut, and missing ones are None
+-- n entries: further ones are cut off, and missing ones are None
 abbrev pub fitted : {A : Type 0} → ℕ → List (Option A) → List (Option A)
 fitted n entries = take n (entries ++ replicate (n - length entries) None)
 
--- The members of an index map: its file, and its sections as they stand in the tree.
+-- The members of an index map: its file, and its sections as they are in the tree.
 pub record Index (D : Type 0) : Type 0 where
   pub file : Option (List ℕ)
   pub sections : List D
 
--- A section of an index map: the position where it begins, and its map as it stands in the tree.
+-- A section of an index map: its offset, and its map as it is in the tree.
 pub record Section (D : Type 0) : Type 0 where
   pub line : ℕ
   pub column : ℕ

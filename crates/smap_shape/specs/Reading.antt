@@ -1,7 +1,8 @@
--- Which members a JSON tree has, or the first fault of its shape (ECMA-426, "Source map format" and "Index
--- source map"): the lines of each `do` stand in the order of the faults.
--- The tree is RFC 8259's text as serde_json reads it: of two equal keys the last one's value stays, and a
--- number is whole where `Value::as_u64` answers.
+-- The members of a JSON tree, or its first fault (ECMA-426, "Source map format" and "Index source map"):
+-- the lines of each `do` are in the order in which faults are looked for. The tree is a JSON text (RFC
+-- 8259) as serde_json reads it: of two equal keys the last one's value counts, and an integer is a number
+-- that `Value::as_u64` accepts. That null counts as absent, and that a member of the wrong type is
+-- rejected, are this project's own rules.
 use Rattle.std.specs.Prelude.{ℕ, ◌+◌, nat_lt, List, [], ◌∷◌, length, codes, not, ◌&&◌, Bool, true, nat_eq}
 use Rattle.std.specs.Prelude.{false, Option, Some, None, is_some, is_none, option_and_then, option_map}
 use Rattle.std.specs.Prelude.{Result, Ok, Err, if◌then◌else◌}
@@ -18,12 +19,12 @@ use Rattle.smap_shape.specs.declared.fault.ShapeFault.TheVariants.{Nested}
 use Rattle.smap_shape.specs.declared.sections.TheConstants.{MAX_LEVEL}
 use Rattle.smap_shape.specs.Members.{Flat, Index, Section, MapMembers, flat, index, fitted}
 
--- the value where there is one, and else this fault
+-- the value if there is one, and else this fault
 abbrev pub or_fault : {A : Type 0} → ShapeFault → Option A → Result A ShapeFault
 or_fault fault None = Err fault
 or_fault fault (Some x) = Ok x
 
--- this fault where the test holds
+-- this fault if the test holds
 abbrev pub refuse_if : ShapeFault → Bool → Result (Unit {0}) ShapeFault
 refuse_if fault true = Err fault
 refuse_if fault false = Ok tt
@@ -34,7 +35,7 @@ refuse_if fault false = Ok tt
 abbrev pub if_present : Data → Option Data
 if_present d = if is_some (as_null d) then None else Some d
 
--- A member is present where it is there and not null.
+-- A member is present if it is there and not null.
 abbrev pub member_of : List ℕ → Data → Option Data
 member_of key tree = option_and_then if_present (get key tree)
 
@@ -42,30 +43,30 @@ member_of key tree = option_and_then if_present (get key tree)
 abbrev pub has : List ℕ → Data → Bool
 has key tree = is_some (member_of key tree)
 
--- the whole number that a value is: -1, 3.0 and -0 are none
+-- the integer that a value is: -1, 3.0 and -0 are none
 abbrev pub whole : Data → Option ℕ
 whole d = option_and_then as_u64 (as_number d)
 
--- nothing where the member is absent, and else what `read` gives of it
+-- nothing if the member is absent, and else what `read` gives for it
 abbrev pub optional : {A : Type 0} → (Data → Option A) → Option Data → Option (Option A)
 optional read None = Some None
 optional read (Some d) = option_map Some (read d)
 
--- what `read` gives of each entry of a list, if it gives something of each
+-- what `read` gives for each entry of an array, if it gives something for each
 abbrev pub each_item : {A : Type 0} → (Data → Option A) → Items → Option (List A)
 each_item read no_items = Some []
 each_item read (item d ds) = option_and_then (λ x. option_map (λ xs. x ∷ xs) (each_item read ds)) (read d)
 
--- the entries of the list that a member is, each by `read`; an absent list is empty
+-- the entries of the array that a member is, each by `read`; an absent array is empty
 abbrev pub list_member : {A : Type 0} → (Data → Option A) → Option Data → Option (List A)
 list_member read None = Some []
 list_member read (Some d) = option_and_then (each_item read) (as_array d)
 
--- a text or null
+-- a string or null
 abbrev pub text_or_null : Data → Option (Option (List ℕ))
 text_or_null d = optional as_str (if_present d)
 
--- a whole number below the count
+-- an integer below the count
 unfoldable pub number_below : ℕ → Data → Option ℕ
 number_below count d = option_and_then (λ n. if nat_lt n count then Some n else None) (whole d)
 
@@ -75,7 +76,7 @@ object_only d = if is_some (as_object d) then Some d else None
 
 -- ---- a map (ECMA-426, "Source map format")
 
--- version is the whole number 3
+-- `version` is the integer 3
 abbrev pub is_version_3 : Data → Bool
 is_version_3 tree = option_eq nat_eq (option_and_then whole (member_of (codes "version") tree)) (Some 3)
 
@@ -85,13 +86,13 @@ file_of tree = do
   _ ← refuse_if Version (not (is_version_3 tree))
   or_fault File (optional as_str (member_of (codes "file") tree))
 
--- ignoreList, and only where that isn't present its older name
+-- `ignoreList`, and only if that isn't present its older name
 abbrev pub ignored_member : Data → Option Data
 ignored_member tree =
     option_or (member_of (codes "ignoreList") tree) (member_of (codes "x_google_ignoreList") tree)
 
--- The members of a flat map with this file. Every entry of sourcesContent is judged, also one past the
--- sources.
+-- The members of a flat map with this file. Every entry of `sourcesContent` is checked, those after the
+-- last source included.
 abbrev pub flat_of : Option (List ℕ) → Data → Result Flat ShapeFault
 flat_of file tree = do
   root ← or_fault SourceRoot (optional as_str (member_of (codes "sourceRoot") tree))
@@ -110,13 +111,14 @@ flat_of file tree = do
     mappings = mappings;
   })
 
--- The members of an index map with this file (ECMA-426, "Index source map"). The sections aren't looked into.
+-- The members of an index map with this file (ECMA-426, "Index source map"). The sections aren't looked
+-- into.
 abbrev pub index_of : Option (List ℕ) → Data → Result (Index Data) ShapeFault
 index_of file sections = do
   ds ← or_fault Sections (list_member Some (Some sections))
   Ok (record { file = file; sections = ds })
 
--- A map in which sections is present is an index map, and any other is flat.
+-- A map in which `sections` is present is an index map, and any other is flat.
 abbrev pub flat_or_index : Option (List ℕ) → Option Data → Data → Result (MapMembers Data) ShapeFault
 flat_or_index file None tree = do
   members ← flat_of file tree
@@ -125,7 +127,7 @@ flat_or_index file (Some sections) tree = do
   members ← index_of file sections
   Ok (index members)
 
--- The members of a map, or the first fault of its shape.
+-- The members of a map, or its first fault.
 unfoldable pub shape_of : Data → Result (MapMembers Data) ShapeFault
 shape_of tree = do
   _ ← refuse_if NotObject (is_none (as_object tree))
@@ -135,11 +137,11 @@ shape_of tree = do
 
 -- ---- a section (ECMA-426, "Index source map")
 
--- a whole number up to the greatest position
+-- an integer up to the greatest position
 abbrev pub position_member : List ℕ → Data → Option ℕ
 position_member key d = option_and_then (number_below (MAX_POSITION + 1)) (member_of key d)
 
--- A section's offset and its map, or the first fault of its shape.
+-- A section's offset and its map, or its first fault.
 abbrev pub offset_and_map : Data → Result (Section Data) ShapeFault
 offset_and_map tree = do
   _ ← refuse_if NotObject (is_none (as_object tree))
@@ -149,8 +151,9 @@ offset_and_map tree = do
   map ← or_fault SectionMap (option_and_then object_only (member_of (codes "map") tree))
   Ok (record { line = line; column = column; map = map })
 
--- A section of an index map of this level: that of the whole text has level 1, and one in a section of an
--- index map has one level more. In one of the greatest level a section's map has no sections.
+-- A section of an index map of this level: the outermost one has level 1, and one in a section of an index
+-- map has one level more. At the greatest level a section's map must not have sections (this project's own
+-- rule).
 unfoldable pub section_of : ℕ → Data → Result (Section Data) ShapeFault
 section_of level tree = do
   s ← offset_and_map tree

@@ -11,7 +11,7 @@ use crate::member::{member, texts_or_nulls};
 use serde_json::Value;
 use std::alloc::{AllocError, Global};
 
-/// The text that a value is, moved out of it.
+/// The string that a value is, moved out of it.
 fn own_text(value: Value) -> Option<String>
     ensures { option_map string_bytes result ≡ as_str (view value) }
 {
@@ -21,7 +21,7 @@ fn own_text(value: Value) -> Option<String>
     }
 }
 
-/// The texts of a list, each moved out of it.
+/// The strings of an array, moved out of it.
 fn own_texts(alloc: Global, list: Vec<Value>) -> Result<Vec<Option<String>>, AllocError>
     ensures { IfOk result (λ v. map (option_map string_bytes) v.items ≡ texts list.items) }
 {
@@ -32,7 +32,7 @@ fn own_texts(alloc: Global, list: Vec<Value>) -> Result<Vec<Option<String>>, All
     Ok(own)
 }
 
-/// The texts of a member that is a list of texts and nulls; none of one that is null.
+/// The entries of a member that is an array of strings and nulls; none for one that is null.
 fn listed_texts(alloc: Global, member: Value) -> Result<Vec<Option<String>>, AllocError>
     ensures { IfOk result (λ v. IfSome (list_member text_or_null (if_present (view member)))
         (λ contents. map (option_map string_bytes) v.items ≡ contents)) }
@@ -43,14 +43,14 @@ fn listed_texts(alloc: Global, member: Value) -> Result<Vec<Option<String>>, All
     }
 }
 
-/// Whether the contents are a list of texts and nulls, or absent.
+/// Whether the contents are an array of strings and nulls, or absent.
 fn are_contents(tree: &Value) -> bool
     ensures { result ≡ is_some (contents_member (view tree.now)) }
 {
     texts_or_nulls(member(tree, "sourcesContent")).is_some()
 }
 
-/// What `split_contents` answers of a tree whose contents are such a list, or absent.
+/// What `split_contents` answers for a tree whose contents are such an array, or absent.
 fn split_tree(alloc: Global, tree: Value) -> Result<(Vec<Option<String>>, Value), AllocError>
     requires { IsSome (contents_member (view tree)) }
     ensures contents { IfOk result (λ r. map (option_map string_bytes) r.0.items ≡ contents_of (view tree)) }
@@ -69,11 +69,15 @@ fn split_tree(alloc: Global, tree: Value) -> Result<(Vec<Option<String>>, Value)
     }
 }
 
-/// The contents of a map, moved out of its tree, and the tree without them.
+/// Moves `sourcesContent` out of a map's tree, and answers its entries and the tree without them.
 ///
-/// The texts themselves are not copied: memory is taken for their list alone. The members of the map are
-/// those of the tree that is left, with these contents; so who wants to own the contents reads the members
-/// after this call. Where `sourcesContent` isn't a list of texts and nulls, the tree is answered as it was.
+/// The strings aren't copied: memory is taken only for the vector. The map's members are those of the
+/// remaining tree with these contents, so read the members after this call. Where `sourcesContent` isn't an
+/// array of strings and nulls, the tree is answered as it was, for [`shape`](crate::shape) to reject.
+///
+/// # Errors
+///
+/// `AllocError`.
 pub fn split_contents(
     alloc: Global,
     tree: Value,

@@ -1,41 +1,43 @@
-//! What can be wrong with the shape of a map or of a section, in the order in which it is looked for.
-/// What is wrong with the shape of a map or of a section.
+//! What can be wrong with the members of a map or of a section.
+
+/// What is wrong with the members of a map or of a section.
 ///
-/// `shape` answers the first fault in this order: NotObject, Version, File, Both; then of a flat
-/// map SourceRoot, Sources, SourcesContent, Names, IgnoreList, Mappings, and of an index map
-/// Sections. `section` answers the first of NotObject, Offset, SectionMap, Nested. A member that
-/// is null counts as absent everywhere.
+/// [`shape`](crate::shape) reports the first of NotObject, Version, File, Both; then of a flat map
+/// SourceRoot, Sources, SourcesContent, Names, IgnoreList, Mappings, and of an index map Sections.
+/// [`section`](crate::section) reports the first of NotObject, Offset, SectionMap, Nested. A member that is
+/// null counts as absent everywhere; that, and rejecting a map where the standard would skip a member of
+/// the wrong type, are this project's own rules.
 #[derive(Clone, Copy, Debug, PartialEq, Eq)]
 pub enum ShapeFault {
     /// The map, or the section, isn't an object.
     NotObject,
-    /// `version` isn't the whole number 3: it is absent, a text, `3.0` or another number.
+    /// `version` isn't the integer 3: it is absent, a string, `3.0` or another number.
     Version,
-    /// `file` is present and no text.
+    /// `file` is present, and not a string.
     File,
     /// `sections` and `mappings` are both present.
     Both,
-    /// `sourceRoot` is present and no text.
+    /// `sourceRoot` is present, and not a string.
     SourceRoot,
-    /// `sources` is present and no list of texts and nulls.
+    /// `sources` is present, and not an array of strings and nulls.
     Sources,
-    /// `sourcesContent` is present and no list of texts and nulls. Entries past the sources are
-    /// judged too.
+    /// `sourcesContent` is present, and not an array of strings and nulls. Entries beyond the last source
+    /// are checked too.
     SourcesContent,
-    /// `names` is present and no list of texts.
+    /// `names` is present, and not an array of strings.
     Names,
-    /// `ignoreList`, or `x_google_ignoreList` where that is read in its place, is present and no
-    /// list of whole numbers below the number of sources.
+    /// `ignoreList`, or in its absence `x_google_ignoreList`, is present, and not an array of integers
+    /// below the number of sources.
     IgnoreList,
-    /// `mappings` is no text, or absent.
+    /// `mappings` is absent, or not a string.
     Mappings,
-    /// `sections` is no list.
+    /// `sections` isn't an array.
     Sections,
-    /// A section's `offset` is no object with a `line` and a `column` that are whole numbers from
-    /// 0 to 2,147,483,647.
+    /// A section's `offset` isn't an object with a `line` and a `column`, both integers from 0 to
+    /// 2,147,483,647.
     Offset,
-    /// A section's `map` is no object, or absent, as where a `url` stands in its place.
+    /// A section's `map` is absent, as where it has a `url` instead, or isn't an object.
     SectionMap,
-    /// In the map of a section of an index map of level 8 `sections` is present.
+    /// The `map` of a section of an index map of level 8 has `sections`.
     Nested,
 }

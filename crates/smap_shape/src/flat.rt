@@ -1,4 +1,4 @@
-//! The members of a flat map: its lists are judged once, and kept as the slices of the tree that they are.
+//! The members of a flat map. Its arrays are checked once, and kept as slices of the tree.
 ghost use Rattle.std.specs.Prelude.{◌≡◌, ◌<◌, ◌==◌, length, slice_get, option_copied, Some, unwrap_or};
 ghost use Rattle.std.specs.List.{list_any};
 ghost use Rattle.serde_json.specs.View.{view};
@@ -12,8 +12,8 @@ use std::marker::Model;
 
 /// The members of a flat map (ECMA-426, "Source map format").
 ///
-/// Sources and names are numbered from 0, in the order of their lists. A list that is absent or
-/// null is empty.
+/// Sources and names are numbered from 0, in the order of their arrays. An array that is absent or null is
+/// empty.
 #[derive(Drop)]
 pub struct FlatShape<'a> {
     file: Option<&'a str>,
@@ -37,28 +37,29 @@ impl<'a> Model for FlatShape<'a> {
 }
 
 impl<'a> FlatShape<'a> {
-    /// The `file` member, if it is present.
+    /// The member `file`, if it is present.
     pub fn file(&self) -> Option<&str>
         ensures { option_copied result ≡ self.now.file }
     {
         self.file
     }
 
-    /// The `sourceRoot` member, if it is present; it may be empty.
+    /// The member `sourceRoot`, if it is present; it may be empty.
     pub fn root(&self) -> Option<&str>
         ensures { option_copied result ≡ self.now.root }
     {
         self.root
     }
 
-    /// How many sources are listed, nulls among them.
+    /// The number of entries of `sources`, nulls included.
     pub fn source_count(&self) -> usize
         ensures { result ≡ length self.now.sources }
     {
         self.sources.len()
     }
 
-    /// The text of a source as it is listed, without the `sourceRoot`; nothing for a null.
+    /// The i-th entry of `sources`, without the `sourceRoot`; none for a null. `i` must be below
+    /// `source_count`.
     pub fn source(&self, i: usize) -> Option<&str>
         requires { i < length self.now.sources }
         ensures { slice_get self.now.sources i ≡ Some (option_copied result) }
@@ -67,7 +68,8 @@ impl<'a> FlatShape<'a> {
         sources[i].as_str()
     }
 
-    /// The content of a source, if `sourcesContent` has one for it; it may be empty.
+    /// The content of the i-th source, if `sourcesContent` has one for it; it may be empty. `i` must be
+    /// below `source_count`.
     pub fn content(&self, i: usize) -> Option<&str>
         requires { i < length self.now.sources }
         ensures { slice_get self.now.contents i ≡ Some (option_copied result) }
@@ -80,10 +82,9 @@ impl<'a> FlatShape<'a> {
         }
     }
 
-    /// Whether a source is ignored.
-    ///
-    /// This goes through the ignore list from its start. Who asks for every source of a map reads
-    /// the list once instead, by `ignored_number`.
+    /// Whether the i-th source is in the ignore list, which is searched from its start: to ask for all
+    /// sources, go through [`ignored_number`](FlatShape::ignored_number) once instead. `i` must be below
+    /// `source_count`.
     #[tactic(auto, using(crate::proofs::ListLemmas::list_steps))]
     pub fn is_ignored(&self, i: usize) -> bool
         requires { i < length self.now.sources }
@@ -93,14 +94,14 @@ impl<'a> FlatShape<'a> {
         has_number(ignored, i)
     }
 
-    /// How many numbers the ignore list has, repeats among them.
+    /// The number of entries of the ignore list, repeats included.
     pub fn ignored_count(&self) -> usize
         ensures { result ≡ length self.now.ignored }
     {
         self.ignored.len()
     }
 
-    /// The number of an ignored source, in the order of the ignore list.
+    /// The i-th entry of the ignore list: an index of a source. `i` must be below `ignored_count`.
     pub fn ignored_number(&self, i: usize) -> usize
         requires { i < length self.now.ignored }
         ensures number { slice_get self.now.ignored i ≡ Some result }
@@ -110,28 +111,28 @@ impl<'a> FlatShape<'a> {
         ignored[i].as_u64().unwrap_or(0) as usize
     }
 
-    /// How many names are listed.
+    /// The number of names.
     pub fn name_count(&self) -> usize
         ensures { result ≡ length self.now.names }
     {
         self.names.len()
     }
 
-    /// A name, as it is listed.
+    /// The i-th name. `i` must be below `name_count`.
     pub fn name(&self, i: usize) -> &str
         requires { i < length self.now.names }
         ensures { slice_get self.now.names i ≡ Some result.now }
     {
         let names = self.names;
         let name = names[i].as_str();
-        // Every listed name is a text.
+        // Every listed name is a string.
         match name {
             Some(text) => text,
             None => "",
         }
     }
 
-    /// The text of the mappings, not looked into.
+    /// The member `mappings`, which isn't looked into.
     pub fn mappings(&self) -> &str
         ensures { result.now ≡ self.now.mappings }
     {

@@ -8,7 +8,7 @@ use crate::fault::ShapeFault;
 use serde_json::Value;
 use std::marker::Model;
 
-/// The members of an index map (ECMA-426, "Index source map"): its sections are numbered from 0.
+/// The members of an index map (ECMA-426, "Index source map"). Sections are numbered from 0.
 #[derive(Drop)]
 pub struct IndexShape<'a> {
     file: Option<&'a str>,
@@ -30,21 +30,21 @@ impl<'a> Model for IndexShape<'a> {
 }
 
 impl<'a> IndexShape<'a> {
-    /// The `file` member beside the sections, if it is present.
+    /// The member `file` next to the sections, if it is present.
     pub fn file(&self) -> Option<&str>
         ensures { option_copied result ≡ self.now.file }
     {
         self.file
     }
 
-    /// How many sections there are.
+    /// The number of sections.
     pub fn section_count(&self) -> usize
         ensures { result ≡ length self.now.sections }
     {
         self.sections.len()
     }
 
-    /// A section's tree as it is listed, for `section` to judge.
+    /// The tree of the i-th section, for [`section`](crate::section). `i` must be below `section_count`.
     pub fn section_value(&self, i: usize) -> &Value
         requires { i < length self.now.sections }
         ensures { slice_get self.now.sections i ≡ Some result.now }

@@ -1,14 +1,14 @@
-//! The members of a source map, borrowed from its JSON tree (ECMA-426, "Source map format" and
-//! "Index source map").
+//! The members of a source map, borrowed from its JSON tree (ECMA-426, "Source map format" and "Index
+//! source map").
 //!
-//! `shape` takes a `serde_json::Value` and answers the members of a flat or of an index map, and
-//! `section` those of one section, or the first fault of the shape. Each list is judged once, in
-//! full, and then kept as the slice of the tree that it is: nothing is copied, no such call takes
-//! memory, and a shape lives as long as its tree. So `shape` takes time in the entries of the
-//! map's lists, its accessors answer at once, and `is_ignored` alone goes through a list.
+//! [`shape`] takes a `serde_json::Value` and answers the members of a flat map or of an index map, and
+//! [`section`] those of one section, or the first fault. Each array is checked once, in full, and then kept
+//! as the slice of the tree that it is: nothing is copied, neither call takes memory, and a shape lives as
+//! long as its tree. So `shape` takes time linear in the entries of the map's arrays, and its accessors
+//! take constant time, except `is_ignored`.
 //!
-//! `split_contents` is for who has the tree and wants to keep the contents, the largest part of most
-//! maps: it moves them out of the tree, and answers the tree that is left.
+//! [`split_contents`] is for callers that own the tree and want to keep the contents, the largest part of
+//! most maps: it moves them out of the tree.
 #![tactic(auto)]
 
 mod contents;

@@ -1,4 +1,4 @@
-//! A map's tree: its version and its file, and then whether it is a flat map or an index map.
+//! A map's tree: its version and file, and whether it is a flat map or an index map.
 ghost use Rattle.std.specs.Prelude.{◌≡◌, option_copied};
 ghost use Rattle.serde_json.specs.View.{view};
 ghost use Rattle.smap_shape.specs.Reading.{file_of, shape_of};
@@ -22,14 +22,17 @@ fn file<'v>(tree: &'v Value) -> Result<Option<&'v str>, ShapeFault>
     optional_text(member(tree, "file")).ok_or(ShapeFault::File)
 }
 
-/// The members of a map, or the first fault of its shape (ECMA-426, "Source map format").
+/// The members of a map (ECMA-426, "Source map format", "Index source map").
 ///
-/// A member is present where it is there and not null. A number is whole where `Value::as_u64`
-/// answers. Of two equal keys the last one's value counts, since `serde_json` keeps no other. A
-/// map in which `sections` is present is an index map, and any other is flat; members with other
-/// names are ignored, and so are an index map's besides `version`, `file` and `sections`.
+/// A member is present if it is there and not null. An integer is a number that `Value::as_u64` accepts. Of
+/// two equal keys the last one's value counts, since `serde_json` keeps no other. Members with other names
+/// are ignored, and so are an index map's besides `version`, `file` and `sections`.
 ///
-/// This goes once through the lists of a flat map, and not through an index map's sections.
+/// This goes through the arrays of a flat map once, and not through an index map's sections.
+///
+/// # Errors
+///
+/// The first fault, in the order that [`ShapeFault`] gives.
 #[tactic(auto, unfolding(crate::specs::Reading::shape_of))]
 pub fn shape(tree: &Value) -> Result<Shape<'_>, ShapeFault>
     ensures { seen told result ≡ shape_of (view tree.now) }

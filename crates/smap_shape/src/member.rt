@@ -1,4 +1,4 @@
-//! One member of an object, read as a text, a list, a number or an object.
+//! One member of an object, read as a string, an array, a number or an object.
 
 ghost use Rattle.std.specs.Prelude.{◌≡◌, ◌<◌, All, IfSome, option_copied, option_map, option_and_then};
 ghost use Rattle.std.specs.Prelude.{is_some, ◌||◌};
@@ -19,7 +19,7 @@ pub(crate) fn member<'v>(tree: &'v Value, key: &str) -> Option<&'v Value>
     if found.is_null() { None } else { Some(found) }
 }
 
-/// A text, or nothing where the member is absent.
+/// A string, or nothing if the member is absent.
 pub(crate) fn optional_text<'v>(member: Option<&'v Value>) -> Option<Option<&'v str>>
     ensures { option_map option_copied result
         ≡ optional as_str (option_map (λ v. view v.now) member.entry) }
@@ -45,7 +45,7 @@ fn are_texts_or_nulls(list: &[Value]) -> bool
     list.iter().all(|v| v.is_null() || v.is_string())
 }
 
-/// A list of texts and nulls, empty where the member is absent.
+/// An array of strings and nulls, empty if the member is absent.
 #[tactic(auto, using(crate::proofs::ListLemmas::list_steps))]
 pub(crate) fn texts_or_nulls<'v>(member: Option<&'v Value>) -> Option<&'v [Value]>
     ensures { option_map (λ s. texts s.now) result
@@ -68,7 +68,7 @@ fn are_texts(list: &[Value]) -> bool
     list.iter().all(|v| v.is_string())
 }
 
-/// A list of texts, empty where the member is absent.
+/// An array of strings, empty if the member is absent.
 #[tactic(auto, using(crate::proofs::ListLemmas::list_steps))]
 pub(crate) fn texts_only<'v>(member: Option<&'v Value>) -> Option<&'v [Value]>
     ensures { option_map (λ s. sure_texts s.now) result
@@ -101,7 +101,7 @@ fn are_below(list: &[Value], count: usize) -> bool
     list.iter().all(|v| is_below(v, count))
 }
 
-/// A list of whole numbers below the count, empty where the member is absent.
+/// An array of integers below the count, empty if the member is absent.
 #[tactic(auto, using(crate::proofs::ListLemmas::list_steps))]
 pub(crate) fn numbers_below<'v>(member: Option<&'v Value>, count: usize) -> Option<&'v [Value]>
     ensures numbers { option_map (λ s. numbers s.now) result

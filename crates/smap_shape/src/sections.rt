@@ -1,4 +1,4 @@
-//! One section of an index map: where it begins, and the tree of its map.
+//! One section of an index map: its offset, and the tree of its map.
 ghost use Rattle.std.specs.Prelude.{◌≡◌, ◌≤◌, IfSome, IfOk};
 ghost use Rattle.serde_json.specs.View.{view};
 ghost use Rattle.smap_shape.specs.Reading.{section_of, position_member};
@@ -10,8 +10,8 @@ use serde_json::Value;
 use smap_vlq::MAX_POSITION;
 use std::marker::Model;
 
-/// The greatest level of an index map. The index map of the whole text has level 1, and one in a section of
-/// an index map has one level more.
+/// The greatest level of an index map. The outermost index map has level 1, and one in a section has one
+/// level more. This project's own limit.
 pub const MAX_LEVEL: u8 = 8;
 
 /// A section of an index map (ECMA-426, "Index source map").
@@ -36,21 +36,21 @@ impl<'a> Model for SectionShape<'a> {
 }
 
 impl<'a> SectionShape<'a> {
-    /// The generated line at which the section begins, counted from 0.
+    /// The generated line of the offset, from 0.
     pub fn line(&self) -> u32
         ensures { result ≡ self.now.line }
     {
         self.line
     }
 
-    /// The generated column at which the section begins on that line, counted from 0.
+    /// The generated column of the offset, from 0.
     pub fn column(&self) -> u32
         ensures { result ≡ self.now.column }
     {
         self.column
     }
 
-    /// The tree of the section's map, for `shape` to judge.
+    /// The tree of the section's map, for [`shape`](crate::shape).
     pub fn map(&self) -> &Value
         ensures { result.now ≡ self.now.map }
     {
@@ -71,12 +71,15 @@ fn position(tree: &Value, key: &str) -> Option<u32>
     }
 }
 
-/// The offset and the map of a section of an index map of this level, from 1 to 8, or the first fault of the
-/// section's shape (ECMA-426, "Index source map").
+/// The offset and the map of a section of an index map of this level (ECMA-426, "Index source map").
+/// `level` must be from 1 to 8.
 ///
-/// The offset's line and column are from 0 to 2,147,483,647. Of the map no more is judged than that it is an
-/// object, and at level 8 that `sections` isn't present in it; other members are ignored, a `url` beside the
-/// map among them.
+/// Line and column of the offset are from 0 to 2,147,483,647. The map is only checked to be an object, and
+/// at level 8 to have no `sections`. Other members are ignored, a `url` next to the map included.
+///
+/// # Errors
+///
+/// The first of NotObject, Offset, SectionMap and Nested.
 #[tactic(auto, unfolding(crate::specs::Reading::section_of))]
 pub fn section(tree: &Value, level: u8) -> Result<SectionShape<'_>, ShapeFault>
     requires first { 1 ≤ level }

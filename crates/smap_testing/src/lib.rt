@@ -1,8 +1,8 @@
-//! Readers and writers over memory for the tests of the other crates.
+//! Readers and writers over memory, for the tests of the other crates.
 //!
-//! What a clause can't see of a reader or a writer, a test can: how often it was called, what comes
-//! of a call that fails, and what was written by the time of a read. The fields tell, and a test
-//! compares them. Nothing of the program stands on this crate.
+//! Tests can see what no contract says of a reader or a writer: how often it was called, what comes of a
+//! call that fails, and what was written by the time of a read. The public fields show it. The program
+//! doesn't use this crate.
 #![tactic(auto)]
 
 mod slow_reader;

@@ -3,13 +3,15 @@ ghost use Rattle.std.specs.Prelude.{◌≡◌, ◌<◌, Some};
 
 use std::io::{self, ErrorKind, Read};
 
-/// Gives at most `step` bytes a call, at least one while some are left. The call of the number
-/// `fails_at`, from 1, is interrupted and gives nothing; 0 is no call.
+/// Gives at most `step` bytes a call, and at least one while there are some. Call number `fails_at`, from
+/// 1, is interrupted and gives nothing; 0 means none.
 #[derive(Drop)]
 pub struct SlowReader<'a> {
     /// What is left.
     pub rest: &'a [u8],
+    /// The most bytes of a call.
     pub step: usize,
+    /// The number of the call that fails, or 0.
     pub fails_at: u64,
     /// How many reads there were.
     pub calls: u64,
@@ -50,7 +52,7 @@ impl Read for SlowReader<'_> {
     }
 }
 
-/// Gives so many bytes, whatever lies in the buffer: an input that is longer than a test can hold.
+/// Gives this many bytes, without setting them: an input that is longer than a test can hold.
 #[derive(Drop)]
 pub struct LongReader {
     /// How many bytes are left.

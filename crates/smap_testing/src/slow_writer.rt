@@ -4,24 +4,26 @@ ghost use Rattle.std.specs.Prelude.{◌≡◌, Some, false, []};
 use std::alloc::Global;
 use std::io::{self, ErrorKind, Write};
 
-/// Takes at most `step` bytes a call, none where `step` is 0. The call of the number `fails_at`,
-/// from 1, is interrupted and takes nothing; 0 is no call. A flush is a call too.
+/// Takes at most `step` bytes a call, none where `step` is 0. Call number `fails_at`, from 1, is
+/// interrupted and takes nothing; 0 means none. A flush is a call too.
 #[derive(Drop)]
 pub struct SlowWriter {
     /// What was written.
     pub bytes: Vec<u8>,
+    /// The most bytes of a call.
     pub step: usize,
+    /// The number of the call that fails, or 0.
     pub fails_at: u64,
     /// How many writes and flushes there were.
     pub calls: u64,
     /// How many flushes there were.
     pub flushes: u64,
-    /// Whether a write came behind a flush.
+    /// Whether a write came after a flush.
     pub written_behind_flush: bool,
 }
 
 impl SlowWriter {
-    /// A writer that holds nothing and wasn't called yet.
+    /// A writer that holds nothing and hasn't been called yet.
     pub fn new(alloc: Global, step: usize, fails_at: u64) -> Self
         ensures bytes { result.bytes.items ≡ [] }
         ensures step { result.step ≡ step }

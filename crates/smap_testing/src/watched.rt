@@ -1,5 +1,5 @@
-//! A reader that sees how much a writer holds by the time of each read, as someone does who follows
-//! a log that still grows.
+//! A reader that sees how much a writer holds by the time of each read, as someone who follows a growing
+//! log does.
 
 use std::alloc::Global;
 use std::cell::Cell;

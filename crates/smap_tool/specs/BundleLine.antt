@@ -1,11 +1,11 @@
--- The line that says the first fault of a bundle.
+-- The error line of a bundle.
 use Rattle.std.specs.Prelude.{ℕ, List, ◌++◌, codes, decimal}
 use Rattle.smap_record.specs.Words.{fault_words}
 use Rattle.smap_bundle.specs.declared.fault.EntryFault.{EntryFault}
 use Rattle.smap_bundle.specs.declared.fault.EntryFault.TheVariants as wrong
 use Rattle.smap_bundle.specs.declared.fault.Refusal.{Refusal}
 
--- what is wrong with the entry of this number, from 0
+-- what is wrong with the entry with this index, from 0
 abbrev pub entry_line : ℕ → EntryFault → List ℕ
 entry_line i wrong.Header = codes "refused: bundle header " ++ decimal i
 entry_line i wrong.Repeated = codes "refused: map " ++ (decimal i ++ codes ": script repeated")
@@ -13,6 +13,6 @@ entry_line i wrong.Base = codes "refused: map " ++ (decimal i ++ codes ": base i
 entry_line i wrong.CutOff = codes "refused: map " ++ (decimal i ++ codes ": cut off")
 entry_line i (wrong.Map fault) = codes "refused: map " ++ (decimal i ++ (codes ": " ++ fault_words fault))
 
--- The line of a bundle's first fault, without its line feed.
+-- The line for a bundle's first fault, without a line feed.
 abbrev pub bundle_line : Refusal → List ℕ
 bundle_line r = entry_line r.entry r.fault

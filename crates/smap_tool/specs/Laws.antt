@@ -1,4 +1,4 @@
--- What holds of outputs.
+-- Laws about outputs.
 use Rattle.std.specs.Prelude.{◌≡◌, ◌↔◌, ℕ, List, Ok}
 use Rattle.smap_mappings.specs.declared.token.Token.{Token}
 use Rattle.smap_mappings.specs.Decoded.{decoded}
@@ -9,7 +9,7 @@ use Rattle.smap_tool.specs.Respell.{respell_bounds, respell_output}
 abbrev pub IsAccepted : List ℕ → List Token → Type 0
 IsAccepted input tokens = decoded respell_bounds (without_line_feed input) ≡ Ok tokens
 
--- Of two inputs that are accepted the outputs are equal exactly if the tokens are.
+-- The outputs for two inputs that are accepted are equal exactly if the tokens are.
 abbrev pub RespellDecides : Type 0
 RespellDecides = (a b : List ℕ) (s t : List Token) → IsAccepted a s → IsAccepted b t
     → (s ≡ t) ↔ ((respell_output a).0 ≡ (respell_output b).0)

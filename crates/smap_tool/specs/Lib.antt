@@ -6,6 +6,7 @@ pub mod Laws
 pub mod Lookup
 pub mod MapRun
 pub mod Respell
+pub mod RoundTrips
 pub mod Run
 pub mod SameTranslation
 pub mod Status

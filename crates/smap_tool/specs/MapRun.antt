@@ -13,6 +13,6 @@ abbrev pub map_answer : (ReadMap → List ℕ) → Checked ReadMap → List ℕ 
 map_answer text (Ok m) = (text m, Done)
 map_answer text (Err fault) = (fault_line fault ++ 10 ∷ [], Refused)
 
--- The text that is written for an input against a base, and the outcome.
+-- What is written for an input against a base, and the outcome.
 abbrev pub map_output : (Parts → ReadMap → List ℕ) → Parts → List ℕ → List ℕ × Outcome
 map_output text base input = map_answer (text base) (reading base usual input)

@@ -17,7 +17,7 @@ use Rattle.smap_tool.specs.declared.outcome.Outcome.TheVariants.{Refused}
 use Rattle.smap_tool.specs.declared.outcome.RunFault.{RunFault}
 use Rattle.smap_tool.specs.declared.outcome.RunFault.TheVariants as run
 
--- which fault the reader is to blame for, and which the writer
+-- whether the fault is a failure of the reader, and whether one of the writer
 abbrev pub is_read : RunFault → Bool
 is_read run.Read = true
 is_read e = false
@@ -26,14 +26,14 @@ abbrev pub is_write : RunFault → Bool
 is_write run.Write = true
 is_write e = false
 
--- ---- a run that reads one text to its end
+-- ---- a run that reads its input to the end
 
 -- The input was read to the end.
 abbrev pub HasReadAll : Streams → List ℕ → Type 0
 HasReadAll s input = HasRead s input × IsAtEnd s.read_after × (length input ≤ LIMIT)
 
--- What was written is what `output` says of what was read, and nothing else. A run that gave up has written
--- nothing, but after a failed write: then it wrote a prefix of its text.
+-- What was written is exactly what `output` gives for what was read. A run that gave up has written
+-- nothing, except after a failed write: then it has written a prefix.
 abbrev pub Answers : (List ℕ → List ℕ × Outcome) → Streams → Result Outcome RunFault → Type 0
 Answers output s (Ok outcome) = (input : List ℕ) × HasReadAll s input × HasWritten s (output input).0
     × (outcome ≡ (output input).1) × (s.ended ≡ true)
@@ -51,7 +51,7 @@ Answers output s (Err run.Write) =
 abbrev pub refused_base : List ℕ
 refused_base = codes "refused: base is no URL" ++ 10 ∷ []
 
--- The refusal of a base: its line is written, or a prefix of it where a call failed.
+-- The base is refused: its error line is written, or a prefix of it if a call failed.
 abbrev pub RefusesBase : Streams → Result Outcome RunFault → Type 0
 RefusesBase s (Ok outcome) = HasWritten s refused_base × (outcome ≡ Refused)
 RefusesBase s (Err run.Write) = (n : ℕ) × HasWritten s (take n refused_base)
@@ -59,7 +59,8 @@ RefusesBase s (Err run.Memory) = HasWrittenNothing s
 RefusesBase s (Err run.Read) = ⊥
 RefusesBase s (Err run.TooLong) = ⊥
 
--- With a base that is a URL, a run that reads one text; and else the base's refusal, before anything is read.
+-- With a base that is a URL, a run that reads its input; and else the base is refused before anything is
+-- read.
 abbrev pub AnswersAgainst : Parsed Parts → (Parts → List ℕ → List ℕ × Outcome) → Streams
     → Result Outcome RunFault → Type 0
 AnswersAgainst (Ok base) output s answer = Answers (output base) s answer
@@ -67,8 +68,8 @@ AnswersAgainst (Err e) output s answer = HasReadNothing s × RefusesBase s answe
 
 -- ---- a run
 
--- What a run promises of its two devices: `says` is what it says of what it has read and written, and Read
--- and Write come with a failure of their device.
+-- What every run promises: `says` is what it promises of what it has read and written; and Read and Write
+-- come exactly with a failure of their device.
 pub record Runs (says : Streams → Result Outcome RunFault → Type 0) (s : Streams)
     (result : Result Outcome RunFault) : Type 0 where
   pub answers : says s result
@@ -77,7 +78,7 @@ pub record Runs (says : Streams → Result Outcome RunFault → Type 0) (s : Str
 
 -- ---- the parts of a run
 
--- Reading to the end: the bytes that were read are the answer. It is TooLong where there were more than the
+-- Reading to the end: the bytes that were read are the answer, or TooLong if there were more than the
 -- limit.
 abbrev pub ReadsInput : {R : Type 0} → (R → Option (List ℕ)) → Device R → Device R
     → Result (Vec ℕ) RunFault → Type 0
@@ -94,7 +95,7 @@ ReadsInput remaining old new (Err run.Memory) =
     × (device_failures new ≡ device_failures old)
 ReadsInput remaining old new (Err run.Write) = ⊥
 
--- Writing the text of an answer: all of it, or a prefix of it where a call failed.
+-- Writing an answer: all of it, or a prefix of it if a call failed.
 abbrev pub WritesAnswer : {W : Type 0} → (W → Option (List ℕ)) → Device W → Device W → List ℕ → Outcome
     → Result Outcome RunFault → Type 0
 WritesAnswer contents old new text outcome (Ok answer) =

@@ -22,7 +22,7 @@ pub record IsReadFrom (r s : Record) : Type 0 where
 abbrev pub StandFor : Record → Record → Type 0
 StandFor r s = (r ≡ s) ⊎ (IsReadFrom r s ⊎ IsReadFrom s r)
 
--- The scripts agree place by place: equal URLs, and records that stand for one another.
+-- The scripts agree one by one: their URLs are equal, and their records stand for one another.
 abbrev pub Agree : List Script → List Script → Type 0
 Agree [] [] = Unit {0}
 Agree [] (t ∷ ts) = ⊥

@@ -1,4 +1,4 @@
--- What `translate` has read and written when it answers.
+-- What the run `translate` has read and written when it answers.
 use Rattle.std.specs.Prelude.{◌≡◌, ◌⊎◌, ℕ, ◌<◌, Bool, true, List, [], ◌∷◌, ◌++◌, take, Option, Result}
 use Rattle.std.specs.Prelude.{Ok, Err}
 use Rattle.std.specs.Io.KnownBytes.{IsAtEnd}
@@ -20,7 +20,7 @@ use Rattle.smap_bundle.specs.Reading.{MayFollow}
 use Rattle.smap_bundle.specs.declared.fault.Refusal.{Refusal}
 use Rattle.smap_tool.specs.BundleLine.{bundle_line}
 
--- The answer for what was read, and where the reader hasn't ended for each text that begins with it.
+-- The answer for what was read, and unless that was to the end, for every input that begins with it.
 abbrev pub Settles : Bool → Bool → List ℕ → Answer → Type 0
 Settles hide ended input answer = (more : List ℕ) → MayFollow ended more → Answers hide (input ++ more) answer
 
@@ -32,12 +32,12 @@ pub record BehindTrace (hide ended : Bool) (input front : List ℕ) : Type 0 whe
   pub reads : Reads input scripts (trace_line ++ trace)
   pub is_front : translation scripts hide (read_lines ended trace) ≡ front ++ rest
 
--- What a run that gave up has written of a bundle that isn't refused: nothing, until the line `trace` was
+-- What a run that gave up has written, unless the bundle has a fault: nothing until the line `trace` was
 -- read.
 abbrev pub IsFront : Bool → Bool → List ℕ → List ℕ → Type 0
 IsFront hide ended input front = (front ≡ []) ⊎ BehindTrace hide ended input front
 
--- What was read and written when a run gave up.
+-- What was read and written by a run that gave up.
 pub record GaveUp (hide : Bool) (s : Streams) : Type 0 where
   pub input : List ℕ
   pub front : List ℕ
@@ -45,7 +45,7 @@ pub record GaveUp (hide : Bool) (s : Streams) : Type 0 where
   pub written : HasWritten s front
   pub is_front : IsFront hide s.ended input front
 
--- What was read is refused, and a prefix of the line that says so was written.
+-- What was read has a fault, and a prefix of its error line was written.
 pub record FrontOfRefusal (hide : Bool) (s : Streams) : Type 0 where
   pub input : List ℕ
   pub refusal : Refusal
@@ -54,7 +54,7 @@ pub record FrontOfRefusal (hide : Bool) (s : Streams) : Type 0 where
   pub settles : Settles hide s.ended input (refused refusal)
   pub written : HasWritten s (take n (bundle_line refusal ++ 10 ∷ []))
 
--- What was written is what is said of what was read, and nothing else.
+-- What was written is exactly the answer for what was read.
 abbrev pub RunTranslates : Bool → Streams → Result Outcome RunFault → Type 0
 RunTranslates hide s (Ok Done) = (input text : List ℕ) × HasRead s input × IsAtEnd s.read_after
     × (s.ended ≡ true)
@@ -69,8 +69,8 @@ RunTranslates hide s (Err run.Read) = GaveUp hide s
 RunTranslates hide s (Err run.Memory) = GaveUp hide s
 RunTranslates hide s (Err run.Write) = GaveUp hide s ⊎ FrontOfRefusal hide s
 
--- What `translate` promises of its two devices. Read comes with a failure of the reader, or where too much
--- was read; Write with one of the writer; and nothing else comes with a failure.
+-- What the run promises. Read comes with a failure of the reader, or if the limit on reads may have been
+-- reached; Write with one of the writer; and no other answer comes with a failure.
 pub record RunsTranslate (hide : Bool) (s : Streams) (result : Result Outcome RunFault) : Type 0 where
   pub translates : RunTranslates hide s result
   pub reader_failures : ReaderFailsOrTires is_read s result
@@ -89,7 +89,7 @@ TranslatesTrace scripts hide s (Err run.Read) = WritesFront scripts hide s
 TranslatesTrace scripts hide s (Err run.Memory) = WritesFront scripts hide s
 TranslatesTrace scripts hide s (Err run.Write) = WritesFront scripts hide s
 
--- The line of a refusal was written, or a prefix of it where a call failed.
+-- The error line was written, or a prefix of it if a call failed.
 abbrev pub WritesRefusal : {W : Type 0} → (W → Option (List ℕ)) → Device W → Device W → List ℕ
     → Result Outcome RunFault → Type 0
 WritesRefusal contents old new text (Ok outcome) =

@@ -1,4 +1,4 @@
-//! The one line that says the first fault of a bundle.
+//! The error line of a rejected bundle.
 ghost use Rattle.std.specs.Prelude.{◌≡◌, ◌∷◌, ◌++◌, [], string_bytes, IfOk};
 ghost use Rattle.smap_tool.specs.BundleLine.{bundle_line};
 

@@ -1,10 +1,8 @@
-//! The run `check`: whether a map is accepted, and how much it holds.
-ghost use Rattle.std.specs.Prelude.{◌≡◌, ◌-◌, ◌^◌, ◌<◌, ◌++◌, None, false, IfOk, OnOk, length};
-ghost use Rattle.smap_canon.specs.Canonical.{canonical_mappings_text};
+//! The command `check`: validate a map.
+ghost use Rattle.std.specs.Prelude.{◌≡◌, ◌-◌, ◌^◌, ◌<◌, ◌++◌, None, false, OnOk};
 ghost use Rattle.smap_io.specs.Device.{device_failures, has_ended};
 ghost use Rattle.smap_io.specs.Streams.{streams};
 ghost use Rattle.smap_mappings.specs.Text.{line_count};
-ghost use Rattle.smap_record.specs.Record.{record_of};
 ghost use Rattle.smap_tool.specs.Check.{check_output, check_text, counts_line, length_line, most_bytes};
 ghost use Rattle.smap_tool.specs.Run.{AnswersAgainst, Runs};
 ghost use Rattle.url.specs.Parser.{parse_url};
@@ -12,7 +10,7 @@ ghost use Rattle.url.specs.Parser.{parse_url};
 use crate::map_run::{MapCommand, run_on_map};
 use crate::numbers::push_number;
 use crate::outcome::{Outcome, RunFault};
-use smap_canon::canonical_mappings;
+use smap_canon::canonical_mappings_len;
 use smap_io::Device;
 use smap_mappings::Memory;
 use smap_record::{Base, SourceMap};
@@ -30,7 +28,7 @@ fn line_count(map: &SourceMap) -> u32
     map.listed_token(count - 1).line + 1
 }
 
-/// Appends what the map holds, in one line, without its line feed.
+/// Appends the line of counts, without its line feed.
 #[tactic(auto, unfolding(crate::specs::Check::counts_line))]
 fn push_counts(text: &mut Vec<u8>, map: &SourceMap) -> Result<(), Memory>
     ensures { OnOk result (text.new.items ≡ text.old.items ++ counts_line map.now) }
@@ -43,27 +41,19 @@ fn push_counts(text: &mut Vec<u8>, map: &SourceMap) -> Result<(), Memory>
     Ok(())
 }
 
-/// How many bytes canonical mappings can have: 36 for each mapping, and one for each line.
+/// The most bytes of the canonical mappings string: 36 for each mapping, and one for each line.
 fn most_bytes(map: &SourceMap) -> u128
     ensures { result ≡ most_bytes map.now }
 {
     36 * map.token_count() as u128 + line_count(map) as u128
 }
 
-/// How many bytes the canonical mappings have.
-fn canonical_length(alloc: Global, map: &SourceMap) -> Result<usize, Memory>
-    ensures { IfOk result (λ n. n ≡ length (canonical_mappings_text (record_of map.now))) }
-{
-    let mappings = canonical_mappings(alloc, map)?;
-    Ok(mappings.len())
-}
-
-/// Appends how long the canonical mappings are and can be, in one line, without its line feed.
+/// Appends the line of lengths, without its line feed.
 #[tactic(auto, unfolding(crate::specs::Check::length_line))]
 fn push_length(alloc: Global, text: &mut Vec<u8>, map: &SourceMap) -> Result<(), Memory>
     ensures { OnOk result (text.new.items ≡ text.old.items ++ length_line map.now) }
 {
-    let len = canonical_length(alloc, map)?;
+    let len = canonical_mappings_len(alloc, map)?;
     push_number(text, "canonical mappings: ", len)?;
     push_number(text, " bytes, at most ", most_bytes(map))
 }
@@ -83,11 +73,19 @@ impl MapCommand for Check {
     }
 }
 
-/// Reads a map against a base, and writes `accepted: S sources, N names, M mappings, L lines` and
-/// `canonical mappings: B bytes, at most K`, or the line of its first fault (then it is `Refused`), each
-/// with a line feed. S counts the distinct sources, N the listed names, and L is one more than the line
-/// of the last mapping, or 0. B is the length of the canonical mappings text, and K is 36 for each
-/// mapping and one for each line. A base that is no URL is refused as such before anything is read.
+/// Reads a map, and writes `accepted: S sources, N names, M mappings, L lines` and
+/// `canonical mappings: B bytes, at most K`, or the line of its first fault (then the answer is `Refused`),
+/// each with a line feed.
+///
+/// S is the number of distinct sources, N that of listed names, and L one more than the line of the last
+/// mapping, or 0. B is the length of the canonical mappings string, and K is 36 for each mapping and one
+/// for each line.
+///
+/// A base that isn't an absolute URL is refused before anything is read.
+///
+/// # Errors
+///
+/// Those of [`run`](crate::run).
 pub fn run_check<R: Read, W: Write>(
     alloc: Global,
     base: &str,
@@ -98,8 +96,8 @@ pub fn run_check<R: Read, W: Write>(
     requires writer { device_failures writer.old < 2 ^ 64 - 1 }
     requires not_ended { has_ended reader.old ≡ false }
 
-    // What was written is what is said of what was read against the base; Read and Write come with a
-    // failure of their device, and no other answer does.
+    // What was written is what the definition gives for what was read against the base. Read and Write come
+    // with a failure of their device, and no other answer does.
     ensures { Runs (AnswersAgainst (parse_url None base.now) check_output)
         (streams R.remaining reader.old reader.new W.contents writer.old writer.new) result }
 {

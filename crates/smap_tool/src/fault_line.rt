@@ -1,4 +1,4 @@
-//! The one line that says the first fault of an input.
+//! The error line of a rejected input.
 ghost use Rattle.std.specs.Prelude.{◌≡◌, ◌∷◌, ◌++◌, [], string_bytes, IfOk};
 ghost use Rattle.smap_tool.specs.FaultLine.{fault_line};
 
@@ -6,7 +6,11 @@ use smap_mappings::Memory;
 use smap_record::Fault;
 use std::alloc::Global;
 
-/// The line of a fault, without its line feed.
+/// The error line of a fault, without a line feed: `refused: `, and then the `Display` of the fault.
+///
+/// # Errors
+///
+/// `Memory`.
 #[tactic(auto, unfolding(crate::specs::FaultLine::fault_line))]
 pub fn fault_text(alloc: Global, fault: &Fault) -> Result<String, Memory>
     ensures { IfOk result (λ line. string_bytes line ≡ fault_line fault.now) }

@@ -1,4 +1,4 @@
-//! The run `flatten`: a map as one flat map that lists what it lists.
+//! The command `flatten`: convert an index map to a flat map.
 ghost use Rattle.std.specs.Prelude.{◌≡◌, ◌-◌, ◌^◌, ◌<◌, None, false};
 ghost use Rattle.smap_io.specs.Device.{device_failures, has_ended};
 ghost use Rattle.smap_io.specs.Streams.{streams};
@@ -26,9 +26,14 @@ impl MapCommand for Flatten {
     }
 }
 
-/// Reads a map against a base, and writes its flat bytes and nothing after them, or the line of its
-/// first fault with a line feed (then it is `Refused`). A base that is no URL is refused as such before
-/// anything is read.
+/// Reads a map, and writes it as one flat map with nothing after it, or the line of its first fault with a
+/// line feed (then the answer is `Refused`).
+///
+/// A base that isn't an absolute URL is refused before anything is read.
+///
+/// # Errors
+///
+/// Those of [`run`](crate::run).
 pub fn run_flatten<R: Read, W: Write>(
     alloc: Global,
     base: &str,
@@ -39,8 +44,8 @@ pub fn run_flatten<R: Read, W: Write>(
     requires writer { device_failures writer.old < 2 ^ 64 - 1 }
     requires not_ended { has_ended reader.old ≡ false }
 
-    // What was written is what is said of what was read against the base; Read and Write come with a
-    // failure of their device, and no other answer does.
+    // What was written is what the definition gives for what was read against the base. Read and Write come
+    // with a failure of their device, and no other answer does.
     ensures { Runs (AnswersAgainst (parse_url None base.now) flatten_output)
         (streams R.remaining reader.old reader.new W.contents writer.old writer.new) result }
 {

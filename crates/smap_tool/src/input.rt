@@ -8,13 +8,13 @@ use smap_io::{Device, LIMIT, ReadFault, read_up_to};
 use std::alloc::Global;
 use std::io::Read;
 
-/// Reads to the end. What was read is lost where this fails: it is `TooLong` where there are more bytes
-/// than the limit, `Read` where a call of the reader failed, or `Memory`.
+/// Reads to the end. What was read is lost if this fails: with `TooLong` if there are more bytes than the
+/// limit, `Read` if a call of the reader failed, or `Memory`.
 pub fn read_input<R: Read>(alloc: Global, reader: &mut Device<R>) -> Result<Vec<u8>, RunFault>
     requires { device_failures reader.old < 2 ^ 64 - 1 }
     ensures { ReadsInput R.remaining reader.old reader.new result }
 {
-    // Each call brings at least one byte, so that these calls aren't spent before.
+    // Each call brings at least one byte, so that the calls can't be used up first.
     let mut calls = u64::MAX;
     match read_up_to(alloc, reader, &mut calls, LIMIT + 1) {
         Ok(input) if input.len() <= LIMIT => Ok(input),

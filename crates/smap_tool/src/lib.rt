@@ -1,11 +1,12 @@
-//! The runs of `smap`, one for each of its commands, as calls over a reader and a writer, and the run of a
-//! task. A run reads its input to the end, at most 268,435,456 bytes, writes what the command says of it, or
-//! the one line of its first fault, and flushes; `translate` writes line by line as its trace comes. What is
-//! written is a function of what was read (`specs/Respell.antt`, `specs/Check.antt`, `specs/Tidy.antt`,
-//! `specs/Flatten.antt`, `specs/Lookup.antt`; `specs/Translate.antt` over the bundle's definition), and the
-//! runs promise it in one shape, over what the reader had left and what the writer held, before and after
-//! (`Runs` in `specs/Run.antt`). What a run came to, its exit status and the line of a fault stand here too;
-//! the command line as a task is handed on from `smap_words`.
+//! The commands of `smap` as calls over a reader and a writer, and [`run`] for the task of a command line.
+//!
+//! A run reads its input to the end, at most 268,435,456 bytes, writes its answer or the one line of the
+//! input's first fault, and flushes; `translate` writes line by line as its trace comes. What is written is
+//! a function of what was read: `specs/Respell.antt`, `Check.antt`, `Tidy.antt`, `Flatten.antt` and
+//! `Lookup.antt` define it, and `Translate.antt` over the definition of the bundle. All runs promise it in
+//! one form (`Runs` in `specs/Run.antt`), over what the reader had left and what the writer held before and
+//! after. The outcome of a run, its exit status and the line of a fault are here too; the command line
+//! comes from `smap_words`.
 #![tactic(auto)]
 
 mod bundle_line;
@@ -20,6 +21,7 @@ mod numbers;
 mod outcome;
 mod output;
 mod respell;
+pub mod round_trips;
 mod runs;
 #[cfg(test)]
 mod tests;

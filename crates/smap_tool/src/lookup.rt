@@ -1,4 +1,4 @@
-//! The run `lookup`: where a position of the generated text comes from.
+//! The command `lookup`: find the original position of a generated position.
 ghost use Rattle.std.specs.Prelude.{◌≡◌, ◌-◌, ◌^◌, ◌<◌, ◌++◌, None, false, IfOk, OnOk, option_copied};
 ghost use Rattle.std.specs.Prelude.{option_map, string_bytes};
 ghost use Rattle.serde_json.specs.Data.{string};
@@ -32,7 +32,7 @@ fn url_text(url: Option<&str>) -> &str
     }
 }
 
-/// A name as compact JSON text.
+/// A name as a JSON string.
 fn json_text(alloc: Global, name: &str) -> Result<String, Memory>
     ensures { IfOk result (λ text. string_bytes text ≡ compact_text (string name.now)) }
 {
@@ -40,7 +40,7 @@ fn json_text(alloc: Global, name: &str) -> Result<String, Memory>
     value.to_string(alloc)
 }
 
-/// Appends a space and the name as compact JSON text, where there is a name.
+/// Appends a space and the name as a JSON string, if there is a name.
 fn push_name(alloc: Global, text: &mut Vec<u8>, name: Option<&str>) -> Result<(), Memory>
     ensures { OnOk result (text.new.items ≡ text.old.items ++ name_words (option_copied name.entry)) }
 {
@@ -51,7 +51,7 @@ fn push_name(alloc: Global, text: &mut Vec<u8>, name: Option<&str>) -> Result<()
     text.extend_from_slice(json_text(alloc, name)?.as_bytes())
 }
 
-/// Appends where a mapping comes from.
+/// Appends the original of a mapping.
 fn push_origin(
     alloc: Global,
     text: &mut Vec<u8>,
@@ -69,7 +69,7 @@ fn push_origin(
     push_name(alloc, text, original.name)
 }
 
-/// Appends a mapping's own position, and where it comes from.
+/// Appends a mapping's own position, and its original.
 #[tactic(auto, unfolding(crate::specs::Lookup::mapping_words))]
 fn push_mapping(
     alloc: Global,
@@ -88,7 +88,7 @@ fn push_mapping(
     push_origin(alloc, text, token.original)
 }
 
-/// The line of the mapping that a position falls to.
+/// The line for the mapping that a position has.
 fn lookup_text(alloc: Global, map: &SourceMap, line: u32, column: u32) -> Result<Vec<u8>, Memory>
     ensures { IfOk result (λ text. text.items ≡ lookup_text line column map.now) }
 {
@@ -114,12 +114,17 @@ impl MapCommand for Lookup {
     }
 }
 
-/// Reads a map against a base, and writes one line for the mapping that a generated position falls to: the
-/// last one of the line whose column isn't greater. It is `l:c URL:line:column`, with the mapping's own
-/// position before it, and a space and the name as JSON text after it where there is a name; a source without
-/// URL is `null`. It is `l:c unmapped` for a mapping that comes from nowhere, and `none` where there is
-/// none. All numbers count from 0. The line of the map's first fault is written in its place (then it is
-/// `Refused`). A base that is no URL is refused as such before anything is read.
+/// Reads a map, and writes one line for a generated position, whose line and column count from 0: `none`
+/// where it has no mapping, `l:c unmapped` where its mapping has no original, and else
+/// `l:c URL:line:column`, followed by a space and the name as a JSON string where there is a name. `l:c` is
+/// the mapping's own position, and a source without a URL is `null`. The line of the map's first fault is
+/// written instead if it has one (then the answer is `Refused`).
+///
+/// A base that isn't an absolute URL is refused before anything is read.
+///
+/// # Errors
+///
+/// Those of [`run`](crate::run).
 pub fn run_lookup<R: Read, W: Write>(
     alloc: Global,
     base: &str,
@@ -132,8 +137,8 @@ pub fn run_lookup<R: Read, W: Write>(
     requires writer { device_failures writer.old < 2 ^ 64 - 1 }
     requires not_ended { has_ended reader.old ≡ false }
 
-    // What was written is what is said of what was read against the base; Read and Write come with a
-    // failure of their device, and no other answer does.
+    // What was written is what the definition gives for what was read against the base. Read and Write come
+    // with a failure of their device, and no other answer does.
     ensures { Runs (AnswersAgainst (parse_url None base.now) (lookup_output line column))
         (streams R.remaining reader.old reader.new W.contents writer.old writer.new) result }
 {

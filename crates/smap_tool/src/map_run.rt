@@ -1,4 +1,4 @@
-//! The one shape of the runs that read a map against a base.
+//! The common part of the runs that read a map against a base.
 ghost use Rattle.std.specs.Prelude.{◌≡◌, ◌-◌, ◌^◌, ◌<◌, ℕ, List, None, IfOk, false};
 ghost use Rattle.smap_io.specs.Device.{device_failures, has_ended};
 ghost use Rattle.smap_io.specs.Streams.{streams};
@@ -27,7 +27,7 @@ pub(crate) trait MapCommand {
         ensures { IfOk result (λ text. text.items ≡ output self.now base.now map.now) };
 }
 
-/// The map of an input, which is let go.
+/// The map of an input, which is freed.
 fn map_of(alloc: Global, base: &Base, input: Vec<u8>) -> Result<SourceMap, ReadError>
     ensures { Gives (λ m. m) result (reading base.now usual input.items) }
 {
@@ -50,8 +50,8 @@ fn answer<C: MapCommand>(
     }
 }
 
-/// Reads a map against a base and writes what the command says of it, or the line of the map's first
-/// fault. A base that is no URL is refused before anything is read.
+/// Reads a map against a base and writes the command's output for it, or the line of the map's first fault.
+/// A base that isn't an absolute URL is refused before anything is read.
 pub(crate) fn run_on_map<C: MapCommand, R: Read, W: Write>(
     alloc: Global,
     command: &C,

@@ -1,10 +1,10 @@
-//! Whole numbers in the lines that are written.
+//! Integers in the lines that are written.
 ghost use Rattle.std.specs.Prelude.{◌≡◌, ◌++◌, OnOk};
 
 use itoa::{Buffer, Integer};
 use smap_mappings::Memory;
 
-/// Appends these words, and then the number in decimal digits.
+/// Appends a string, and then a number in decimal digits.
 pub(crate) fn push_number<N: Integer>(
     text: &mut Vec<u8>,
     words: &str,

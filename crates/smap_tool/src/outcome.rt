@@ -1,32 +1,32 @@
-//! What a run came to, and the exit status that says it.
+//! The outcome of a run, and its exit status.
 ghost use Rattle.std.specs.Prelude.{◌≡◌};
 ghost use Rattle.smap_tool.specs.Status.{status_of};
 
 use smap_mappings::Memory;
 use thiserror::Error;
 
-/// What a run that wrote its whole answer came to.
+/// The outcome of a run that wrote its whole answer.
 #[derive(Clone, Copy, Debug, PartialEq, Eq)]
 pub enum Outcome {
     /// The input was accepted.
     Done,
-    /// The input has a fault, and its line was written.
+    /// The input has a fault, and its error line was written.
     Refused,
 }
 
-/// Why a run gave up.
+/// Why a run was given up.
 #[derive(Clone, Copy, Debug, PartialEq, Eq, Error)]
 pub enum RunFault {
-    /// There were more than 268,435,456 bytes to read.
+    /// The input, or a map of a bundle, has more than 268,435,456 bytes.
     #[error("input too long")]
     TooLong,
-    /// A read failed.
+    /// A read failed, or too many reads didn't reach the end.
     #[error("read failed")]
     Read,
     /// A write or the flush failed.
     #[error("write failed")]
     Write,
-    /// There was no memory.
+    /// Out of memory.
     #[error("out of memory")]
     Memory,
 }
@@ -42,8 +42,8 @@ impl From<Memory> for RunFault {
     }
 }
 
-/// The exit status of a run: 0 where it is done, 1 where the input was refused, 3 where the input was
-/// too long or a device failed, and 4 without memory. (2 is for a wrong command line.)
+/// The exit status of the program after a run: 0 for `Done`, 1 for `Refused`, 3 for `TooLong`, `Read` and
+/// `Write`, and 4 for `Memory`. (A wrong command line has status 2.)
 pub fn status(answer: &Result<Outcome, RunFault>) -> u8
     ensures { result ≡ status_of answer.now }
 {

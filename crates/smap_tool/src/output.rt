@@ -1,4 +1,4 @@
-//! Writing the text of an answer.
+//! Writing an answer.
 ghost use Rattle.std.specs.Prelude.{◌-◌, ◌^◌, ◌<◌};
 ghost use Rattle.smap_io.specs.Device.{device_failures};
 ghost use Rattle.smap_tool.specs.Run.{WritesAnswer, refused_base};
@@ -8,7 +8,7 @@ use crate::outcome::{Outcome, RunFault};
 use smap_io::{Device, write_and_flush};
 use std::io::Write;
 
-/// Writes a text and then flushes, once. It answers the outcome, or `Write` where a call of the writer
+/// Writes a string and then flushes, once. It answers the outcome, or `Write` if a call of the writer
 /// failed.
 pub fn write_answer<W: Write>(
     writer: &mut Device<W>,
@@ -24,7 +24,7 @@ pub fn write_answer<W: Write>(
     Ok(outcome)
 }
 
-/// Refuses a base that is no URL.
+/// Refuses a base that isn't an absolute URL.
 pub fn write_refused_base<W: Write>(writer: &mut Device<W>) -> Result<Outcome, RunFault>
     requires { device_failures writer.old < 2 ^ 64 - 1 }
     ensures { WritesAnswer W.contents writer.old writer.new refused_base Refused result }

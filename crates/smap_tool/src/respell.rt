@@ -1,4 +1,4 @@
-//! The run `respell`: a bare mappings text in its shortest spellings.
+//! The command `respell`: re-encode a bare mappings string.
 ghost use Rattle.std.specs.Prelude.{◌≡◌, ◌-◌, ◌^◌, ◌<◌, false, IfOk};
 ghost use Rattle.smap_io.specs.Device.{device_failures, has_ended};
 ghost use Rattle.smap_io.specs.Streams.{streams};
@@ -18,7 +18,7 @@ use smap_record::Fault;
 use std::alloc::Global;
 use std::io::{Read, Write};
 
-/// The text without one last line feed, where it ends in one.
+/// The string without the line feed at its end, if it has one.
 fn without_line_feed(text: &[u8]) -> &[u8]
     ensures { result.now ≡ without_line_feed text.now }
 {
@@ -29,8 +29,8 @@ fn without_line_feed(text: &[u8]) -> &[u8]
     }
 }
 
-/// The tokens of an input, which is freed: only they are wanted for what is written. The text starts at line 0
-/// and column 0, and no list bounds its indices.
+/// The tokens of an input, which is freed: only they are needed for the output. The string starts at line 0
+/// and column 0, and its indices are only bounded by the greatest one.
 fn tokens_of(alloc: Global, input: Vec<u8>) -> Result<Vec<Token>, MappingsError>
     ensures says { Gives result (decoded respell_bounds (without_line_feed input.items)) }
     ensures encodable { IfOk result (λ tokens. IsEncodable tokens.items) }
@@ -56,10 +56,13 @@ fn respell(alloc: Global, input: Vec<u8>) -> Result<(Vec<u8>, Outcome), Memory>
     }
 }
 
-/// Writes the tokens of a mappings text by line and column in their shortest spellings, or the line of
-/// its first fault (then it is `Refused`), each with a line feed after it. One last line feed of the
-/// input isn't part of the text. The reader must not have ended, and both devices must be able to
-/// count one more failure.
+/// Reads a mappings string, and writes the canonical one with the same tokens, or the line of its first
+/// fault (then the answer is `Refused`), each with a line feed. One line feed at the end of the input isn't
+/// part of the string.
+///
+/// # Errors
+///
+/// Those of [`run`](crate::run).
 pub fn run_respell<R: Read, W: Write>(
     alloc: Global,
     reader: &mut Device<R>,
@@ -69,8 +72,8 @@ pub fn run_respell<R: Read, W: Write>(
     requires writer { device_failures writer.old < 2 ^ 64 - 1 }
     requires not_ended { has_ended reader.old ≡ false }
 
-    // What was written is what is said of what was read; Read and Write come with a failure of their
-    // device, and no other answer does.
+    // What was written is what the definition gives for what was read. Read and Write come with a failure
+    // of their device, and no other answer does.
     ensures { Runs (Answers respell_output)
         (streams R.remaining reader.old reader.new W.contents writer.old writer.new) result }
 {

@@ -16,10 +16,24 @@ use smap_words::Task;
 use std::alloc::Global;
 use std::io::{Read, Write};
 
-/// Runs a task: reads what its command reads, and writes what it says of that, with one flush at the end. It
-/// answers `Done`, or `Refused` where what was written is the one line of the first fault. It gives up with
-/// `TooLong` where there are more than 268,435,456 bytes to read, with `Read` or `Write` where a call of the
-/// reader or the writer failed, and with `Memory`.
+/// Runs the task of a command line: reads the input of its command, writes the output, and flushes once at
+/// the end. It answers `Done`, or `Refused` where the output is the one line of the input's first fault.
+///
+/// The reader's end must not have been seen yet, and fewer than 2^64 - 1 calls of either device may have
+/// failed. That holds for each run below too.
+///
+/// # Errors
+///
+/// `TooLong` where the input has more than 268,435,456 bytes, `Read` and `Write` where a call of the reader
+/// or the writer failed, and `Memory`. What was written is then a prefix of the output.
+///
+/// # Examples
+///
+/// ```
+/// let task = task_of(alloc, &["smap", "check", "http://h/m/out.js.map"])?;
+/// let answer = run(alloc, task, &mut reader, &mut writer);
+/// let code = status(&answer);
+/// ```
 pub fn run<R: Read, W: Write>(
     alloc: Global,
     task: Task<'_>,

@@ -1,14 +1,17 @@
-//! What no clause says: the rows of each command by name, and devices that fail.
+//! What no contract says: the rows of each command by name, devices that fail, and how many calls there were.
 mod bundle;
 mod check;
 mod devices;
+mod directly;
 mod flatten;
 mod library;
 mod lookup;
 mod respell;
+mod round_trips;
 mod sections;
 mod tidy;
 mod translate;
+mod words;
 
 use crate::{Outcome, Task, run};
 use smap_io::Device;
@@ -29,8 +32,8 @@ const TWO_SECTIONS: &str = concat!(
     r#""b.js"],"names":["n"],"mappings":"AAAAA;CCCC"}}]}"#,
 );
 
-/// For this input a task writes this output and flushes once, whether the bytes come and go one by one or
-/// at once.
+/// For this input, which is read to its end, a task writes this output and flushes once, whether the bytes
+/// come and go one by one or at once. One by one, each byte is a read call, and so is the end.
 fn writes(
     rt: &(impl Abort + AllocGlobal),
     task: Task<'_>,
@@ -44,6 +47,10 @@ fn writes(
         let answer = run(rt.alloc(), task, &mut reader, &mut writer);
         assert_eq!(rt; answer, Ok(outcome), "{task:?} of {input}");
         assert!(rt; reader.ended(), "{task:?} of {input}");
+        if step == 1 {
+            let calls = input.len() as u64 + 1;
+            assert_eq!(rt; reader.into_inner().calls, calls, "{task:?} of {input}");
+        }
         let written = writer.into_inner();
         assert_eq!(rt;
             written.bytes.as_slice(),

@@ -1,4 +1,4 @@
-//! The run `tidy`: the canonical form of a map.
+//! The command `tidy`: write a map in canonical form.
 ghost use Rattle.std.specs.Prelude.{◌≡◌, ◌-◌, ◌^◌, ◌<◌, None, false};
 ghost use Rattle.smap_io.specs.Device.{device_failures, has_ended};
 ghost use Rattle.smap_io.specs.Streams.{streams};
@@ -8,7 +8,7 @@ ghost use Rattle.url.specs.Parser.{parse_url};
 
 use crate::map_run::{MapCommand, run_on_map};
 use crate::outcome::{Outcome, RunFault};
-use smap_canon::{canonical, canonical_relative};
+use smap_canon::canonical_in;
 use smap_io::Device;
 use smap_mappings::Memory;
 use smap_record::{Base, SourceMap};
@@ -24,18 +24,19 @@ impl MapCommand for Tidy {
     ghost output = { λ tidy base m. tidy_text tidy.relative base m };
 
     fn text(&self, alloc: Global, base: &Base, map: &SourceMap) -> Result<Vec<u8>, Memory> {
-        if self.relative {
-            canonical_relative(alloc, map, base)
-        } else {
-            canonical(alloc, map)
-        }
+        canonical_in(alloc, map, base, self.relative)
     }
 }
 
-/// Reads a map against a base, and writes its canonical bytes, in the relative form where that is asked
-/// for, and nothing after them, or the line of its
-/// first fault with a line feed (then it is `Refused`). A base that is no URL is refused as such before
-/// anything is read.
+/// Reads a map, and writes its canonical form with nothing after it, or the line of its first fault with a
+/// line feed (then the answer is `Refused`). With `relative`, source URLs are relative to the base where
+/// that round-trips.
+///
+/// A base that isn't an absolute URL is refused before anything is read.
+///
+/// # Errors
+///
+/// Those of [`run`](crate::run).
 pub fn run_tidy<R: Read, W: Write>(
     alloc: Global,
     base: &str,
@@ -47,8 +48,8 @@ pub fn run_tidy<R: Read, W: Write>(
     requires writer { device_failures writer.old < 2 ^ 64 - 1 }
     requires not_ended { has_ended reader.old ≡ false }
 
-    // What was written is what is said of what was read against the base; Read and Write come with a
-    // failure of their device, and no other answer does.
+    // What was written is what the definition gives for what was read against the base. Read and Write come
+    // with a failure of their device, and no other answer does.
     ensures { Runs (AnswersAgainst (parse_url None base.now) (tidy_output relative))
         (streams R.remaining reader.old reader.new W.contents writer.old writer.new) result }
 {

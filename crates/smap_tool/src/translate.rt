@@ -1,11 +1,9 @@
-//! The run `translate`: a trace told in the positions of the sources, by the maps of a bundle.
+//! The command `translate`: translate the stack trace of a bundle to source positions.
 ghost use Rattle.std.specs.Prelude.{◌≡◌, ◌-◌, ◌^◌, ◌<◌, ◌++◌, ◌∷◌, [], false};
 ghost use Rattle.smap_io.specs.Device.{device_failures, has_ended};
 ghost use Rattle.smap_io.specs.Streams.{ReaderFailsOrTires, WriterFails, streams};
 ghost use Rattle.smap_tool.specs.Run.{is_read, is_write};
-ghost use Rattle.smap_trace.specs.Translation.{AreDistinct};
 ghost use Rattle.smap_tool.specs.Translate.{RunsTranslate, TranslatesTrace, WritesRefusal};
-ghost use Rattle.smap_bundle.specs.Scripts.{scripts_of};
 ghost use Rattle.smap_tool.specs.BundleLine.{bundle_line};
 
 use crate::bundle_line::bundle_refusal;
@@ -43,8 +41,7 @@ fn translate_trace<R: Read, W: Write>(
     requires reader { device_failures reader.old < 2 ^ 64 - 1 }
     requires writer { device_failures writer.old < 2 ^ 64 - 1 }
     requires not_ended { has_ended reader.old ≡ false }
-    requires distinct { AreDistinct (scripts_of bundle.now.scripts.entries) }
-    ensures translates { TranslatesTrace (scripts_of bundle.now.scripts.entries) hide
+    ensures translates { TranslatesTrace bundle.now hide
         (streams R.remaining reader.old reader.new W.contents writer.old writer.new) result }
     ensures reader_failures { ReaderFailsOrTires is_read
         (streams R.remaining reader.old reader.new W.contents writer.old writer.new) result }
@@ -62,15 +59,19 @@ fn translate_trace<R: Read, W: Write>(
     }
 }
 
-/// Reads a bundle, and writes the translation of its trace line by line as it comes, or the line of the
-/// bundle's first fault with a line feed (then it is `Refused`). With `hide`, a line whose source is ignored
-/// is dropped.
+/// Reads a bundle, and writes the translation of its trace, line by line as it comes, or the line of the
+/// bundle's first fault with a line feed (then the answer is `Refused`). With `hide`, frames in ignored
+/// sources are left out.
 ///
 /// Nothing after the line `trace` is read before the translation begins, and nothing is written before that
-/// but the line of a fault. It is `TooLong` where a header gives a map more than 268,435,456 bytes; the
-/// entries together have no limit. They are read by at most 4,294,967,296 calls; where these don't reach the
-/// line `trace`, the answer is `Read`. Where the answer is an error, what was written is a prefix of the
-/// translation of the complete lines that were read, or after `Write` a prefix of the line of the fault.
+/// except the line of a fault.
+///
+/// # Errors
+///
+/// Those of [`run`](crate::run). `TooLong` is for a single map: the entries together and the trace have no
+/// limit. The entries are read by at most 4,294,967,296 calls, and so is the trace; more are answered as
+/// `Read`. What was written is then a prefix of the translation of the complete lines that were read, or
+/// after `Write` perhaps of the line of the fault.
 pub fn run_translate<R: Read, W: Write>(
     alloc: Global,
     hide: bool,

@@ -6,6 +6,7 @@ use Rattle.std.proofs.lemmas.Fmt.{parse-decimal, IsAscii-decimal, decimal_is_IsN
 use Rattle.std.proofs.lemmas.Slice.Eq.{bytes_eq-Decides}
 use Rattle.std.proofs.lemmas.Bool.{lt-ltb, le-leb, ltb-true, leb-true}
 use Rattle.std.proofs.lemmas.Str.{IsUtf8-from_ascii}
+use Rattle.smap_mappings.specs.Position.{POSITIONS}
 use Rattle.smap_trace.specs.Frame.{IsPlace}
 use Rattle.smap_trace.specs.Reading.{place_of}
 
@@ -29,16 +30,16 @@ pub place_of-decimal : (n : ℕ) → IsPlace n → place_of (decimal n) ≡ Some
 place_of-decimal n is =
     let value : digits_value 10 (decimal n) ≡ n = (decimal_is_IsNumeral n (omega (arith, is.1))).1 in
     let low : nat_lt 0 n ≡ true = lt-ltb _ _ is.0 in
-    let high : nat_le n 2147483648 ≡ true = le-leb _ _ is.1 in
+    let high : nat_le n POSITIONS ≡ true = le-leb _ _ is.1 in
     let same : bytes_eq (decimal n) (decimal n) ≡ true = (bytes_eq-Decides (decimal n) (decimal n)).1 refl in
     rw (value, low, high, same) refl
 
 pub place_of-some : (t : List ℕ) (n : ℕ) → place_of t ≡ Some n → IsPlace n × (t ≡ decimal n)
 place_of-some t n h =
     let m = digits_value 10 t in
-    let g = guard (nat_lt 0 m && (nat_le m 2147483648 && bytes_eq (decimal m) t)) m n h in
-    let low = both (nat_lt 0 m) (nat_le m 2147483648 && bytes_eq (decimal m) t) g.0 in
-    let high = both (nat_le m 2147483648) (bytes_eq (decimal m) t) low.1 in
+    let g = guard (nat_lt 0 m && (nat_le m POSITIONS && bytes_eq (decimal m) t)) m n h in
+    let low = both (nat_lt 0 m) (nat_le m POSITIONS && bytes_eq (decimal m) t) g.0 in
+    let high = both (nat_le m POSITIONS) (bytes_eq (decimal m) t) low.1 in
     let same : decimal m ≡ t = (bytes_eq-Decides _ _).0 high.1 in
     let P : ℕ → Type 0 = λ k. IsPlace k × (t ≡ decimal k) in
     subst P g.1 ((ltb-true _ _ low.0, leb-true _ _ high.0), sym same)

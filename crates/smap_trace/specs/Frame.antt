@@ -1,9 +1,11 @@
--- The frames of a stack trace, as V8 and Firefox write them. Ours: no standard fixes their form.
+-- The frames of a stack trace, as V8, Firefox and Safari write them. This project's own rules: no standard
+-- fixes their form.
 use Rattle.std.specs.Prelude.{◌≡◌, ◌⊎◌, ℕ, ◌<◌, ◌≤◌, ◌==◌, Bool, true, not}
 use Rattle.std.specs.Prelude.{List, [], ◌∷◌, ◌++◌, length, codes, decimal}
 use Rattle.std.specs.List.{list_all, list_any}
+use Rattle.smap_mappings.specs.Position.{POSITIONS}
 
--- A frame: its URL, its line and its column, and what stands before and after these.
+-- A frame: its URL, its line and its column, and what is before and after these.
 pub record Parts : Type 0 where
   pub before : List ℕ
   pub url : List ℕ
@@ -15,17 +17,17 @@ pub record Parts : Type 0 where
 abbrev pub position : List ℕ → ℕ → ℕ → List ℕ
 position url line column = url ++ codes ":" ++ decimal line ++ codes ":" ++ decimal column
 
--- whether the byte stands nowhere in the text
+-- whether the byte doesn't occur
 abbrev pub lacks : ℕ → List ℕ → Bool
 lacks b text = not (list_any (λ c. c == b) text)
 
--- nothing but spaces, or nothing
+-- only spaces, or nothing
 abbrev pub AreSpaces : List ℕ → Type 0
 AreSpaces text = list_all (λ b. b == 32) text ≡ true
 
--- Lines and columns count from 1 in a trace.
+-- Lines and columns count from 1 in a trace: the greatest is one more than that of a map.
 abbrev pub IsPlace : ℕ → Type 0
-IsPlace n = (1 ≤ n) × (n ≤ 2147483648)
+IsPlace n = (1 ≤ n) × (n ≤ POSITIONS)
 
 -- nothing, or the carriage return that ends a line
 abbrev pub IsLineEnd : List ℕ → Type 0
@@ -40,8 +42,8 @@ pub record BeginsWithAt (line : List ℕ) : Type 0 where
   pub are_spaces : AreSpaces spaces
   pub whole : line ≡ spaces ++ codes "at " ++ rest
 
--- What leads from `at ` to the position, and what closes behind it, in each of the three forms:
--- `NAME (` and `)`
+-- What is between `at ` and the position, and what is after it, in each of the three forms: `NAME (` and
+-- `)`
 abbrev pub InParentheses : List ℕ → List ℕ → Type 0
 InParentheses lead close = (name : List ℕ) × (lead ≡ name ++ codes " (") × (close ≡ codes ")")
 
@@ -53,7 +55,8 @@ Alone lead close = (lead ≡ []) × (close ≡ [])
 abbrev pub BehindAsync : List ℕ → List ℕ → Type 0
 BehindAsync lead close = (lead ≡ codes "async ") × (close ≡ [])
 
--- `before` is spaces, `at ` and what leads; `after` is what closes, and the end of the line.
+-- `before` is spaces, `at ` and what is between; `after` is what is after the position, and the end of the
+-- line.
 pub record IsV8 (f : Parts) : Type 0 where
   pub spaces : List ℕ
   pub lead : List ℕ
@@ -76,7 +79,7 @@ pub record IsFirefox (f : Parts) : Type 0 where
 
 -- ---- either
 
--- The line, without its line feed, is this frame. A line that begins as V8's do isn't Firefox's.
+-- The line, without its line feed, is this frame. A line that begins as those of V8 isn't one of Firefox.
 pub record IsFrame (line : List ℕ) (f : Parts) : Type 0 where
   pub whole : line ≡ f.before ++ position f.url f.line f.column ++ f.after
   pub one_line : lacks 10 line ≡ true

@@ -1,10 +1,10 @@
--- The mapping that a generated position falls to. Ours: the standard leaves lookup open.
+-- The mapping that a generated position has. This project's own rule: the standard leaves lookup open.
 use Rattle.std.specs.Prelude.{◌≡◌, ℕ, ◌<◌, ◌≤◌, ◌==◌, ◌&&◌, Bool, List, [], ◌∷◌, ◌++◌, All, nat_le}
 use Rattle.std.specs.Prelude.{Option, Some, None, if◌then◌else◌}
 use Rattle.std.specs.Option.{option_or}
 use Rattle.smap_record.specs.Record.{Mapping}
 
--- if it is on that line, the mapping lies after the column
+-- if it is on that line, the mapping is after the column
 abbrev pub LiesAfter : ℕ → ℕ → Mapping → Type 0
 LiesAfter line column m = m.line ≡ line → column < m.column
 
@@ -19,7 +19,7 @@ FallsTo ms line column None = All (LiesAfter line column) ms
 abbrev pub is_within : ℕ → ℕ → Mapping → Bool
 is_within line column m = m.line == line && nat_le m.column column
 
--- The same, computed: the last on the line whose column isn't greater.
+-- The same as a function: the last one on the line whose column isn't greater.
 abbrev pub mapping_at : List Mapping → ℕ → ℕ → Option Mapping
 mapping_at [] line column = None
 mapping_at (m ∷ ms) line column =

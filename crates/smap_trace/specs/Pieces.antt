@@ -1,4 +1,4 @@
--- A trace in pieces: what the parts of `translate` do.
+-- For private contracts: a trace that comes in pieces.
 use Rattle.std.specs.Prelude.{◌≡◌, ◌⊎◌, ℕ, ◌+◌, ◌==◌, Bool, not, true}
 use Rattle.std.specs.Prelude.{List, [], ◌∷◌, ◌++◌}
 use Rattle.std.specs.List.{list_any}
@@ -8,29 +8,29 @@ use Rattle.smap_trace.specs.declared.outcome.LineOutcome.TheVariants.{Kept, Tran
 use Rattle.smap_trace.specs.Translation.{Script, fate, lines_of, translation}
 use Rattle.smap_trace.specs.Views.{at_most_u64, outcome_of}
 
--- one line more
+-- the counts with one line more
 abbrev pub count_line : Counts → LineOutcome → Counts
 count_line c Kept = record c { lines = at_most_u64 (c.lines + 1) }
 count_line c Translated =
     record c { lines = at_most_u64 (c.lines + 1); translated = at_most_u64 (c.translated + 1) }
 count_line c Dropped = record c { lines = at_most_u64 (c.lines + 1); dropped = at_most_u64 (c.dropped + 1) }
 
--- these lines more
+-- the counts with these lines more
 abbrev pub count_lines : List Script → Bool → Counts → List (List ℕ) → Counts
 count_lines scripts hide c [] = c
 count_lines scripts hide c (line ∷ lines) =
     count_lines scripts hide (count_line c (outcome_of (fate scripts hide line))) lines
 
--- nothing, or lines that have their line feed
+-- nothing, or whole lines with their line feed
 abbrev pub IsWhole : List ℕ → Type 0
 IsWhole text = (text ≡ []) ⊎ ((front : List ℕ) × (text ≡ front ++ 10 ∷ []))
 
--- the front of a line, as far as it was read
+-- the beginning of a line, as far as it was read
 abbrev pub HasNoFeed : List ℕ → Type 0
 HasNoFeed text = not (list_any (λ b. b == 10) text) ≡ true
 
--- A piece of the trace ended the lines `whole`, whose translation was given, and `rest` waits for the
--- end of its line. Before the piece, `line` did.
+-- A piece of the trace ends the lines `whole`, whose translation is appended, and `rest` waits for the end
+-- of its line. Before the piece, `line` was waiting.
 pub record Takes (scripts : List Script) (hide : Bool) (line piece rest old new : List ℕ)
     (counts_old counts_new : Counts) : Type 0 where
   pub whole : List ℕ

@@ -1,4 +1,4 @@
--- How many positions of a list aren't greater than one.
+-- How many positions of a list aren't after a given one.
 use Rattle.std.specs.Prelude.{ℕ, ◌+◌, ◌*◌, ◌^◌, ◌≤◌, not, Bool, List, count_by}
 use Rattle.smap_mappings.specs.declared.position.Position.{Position}
 use Rattle.smap_mappings.specs.Position.{is_before}

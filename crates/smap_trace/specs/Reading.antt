@@ -1,10 +1,11 @@
--- The frame of a line, computed. That it is the frame that the line is, is a law.
+-- The frame of a line, as a function. A law says that it is the one of the grammar.
 use Rattle.std.specs.Prelude.{ℕ, ◌+◌, ◌-◌, ◌==◌, ◌&&◌, Bool, nat_eq, nat_le, nat_lt, if◌then◌else◌}
 use Rattle.std.specs.Prelude.{List, length, take, drop, slice_range, codes, decimal, bytes_eq}
 use Rattle.std.specs.Prelude.{Option, Some, None, option_map, option_and_then}
 use Rattle.std.specs.List.{starts_with, ends_with, after_last, before_last, position_or_len, prefix_len}
 use Rattle.std.specs.Str.Lines.{strip_carriage_return}
 use Rattle.std.specs.Str.Parse.{digits_value}
+use Rattle.smap_mappings.specs.Position.{POSITIONS}
 use Rattle.smap_trace.specs.Frame.{Parts, lacks}
 
 abbrev pub is_colon : ℕ → Bool
@@ -13,16 +14,16 @@ is_colon b = b == 58
 abbrev pub is_space : ℕ → Bool
 is_space b = b == 32
 
--- the number, where the text is its one spelling and it is a place
+-- the number, if the string is its decimal form and it is in range
 abbrev pub place_of : List ℕ → Option ℕ
 place_of text = let n = digits_value 10 text in
-    if nat_lt 0 n && (nat_le n 2147483648 && bytes_eq (decimal n) text) then Some n else None
+    if nat_lt 0 n && (nat_le n POSITIONS && bytes_eq (decimal n) text) then Some n else None
 
--- some bytes and no space
+-- at least one byte, and no space
 abbrev pub is_url : List ℕ → Bool
 is_url url = nat_lt 0 (length url) && lacks 32 url
 
--- the frame whose position stands from `start` up to `end`
+-- the frame whose position is from `start` up to `end`
 abbrev pub framed : List ℕ → ℕ → ℕ → Option Parts
 framed line start end =
     let text = slice_range line start end in
@@ -36,7 +37,7 @@ framed line start end =
       after = drop end line;
     }) (place_of (after_last is_colon text))) (place_of (after_last is_colon rest)) else None
 
--- behind `at ` and before `)` the position follows the last space and `(`
+-- between `at ` and `)` the position follows the last ` (`
 abbrev pub in_parentheses : List ℕ → ℕ → ℕ → Option Parts
 in_parentheses line start end =
     let text = slice_range line start end in
@@ -44,7 +45,7 @@ in_parentheses line start end =
     if starts_with nat_eq last (codes "(") && nat_lt (length last) (length text)
     then framed line (end - length last + 1) end else None
 
--- the frame of what stands behind `at `
+-- the frame whose `at ` ends at `start`
 abbrev pub v8_frame : List ℕ → ℕ → ℕ → Option Parts
 v8_frame line start end =
     let text = slice_range line start end in
@@ -52,13 +53,13 @@ v8_frame line start end =
     else (if starts_with nat_eq text (codes "async ") then framed line (start + 6) end
     else framed line start end)
 
--- the frame behind the first `@`
+-- the frame whose position follows the first `@`
 abbrev pub firefox_frame : List ℕ → ℕ → Option Parts
 firefox_frame line end =
     let at = position_or_len (λ b. b == 64) (take end line) in
     if nat_lt at end then framed line (at + 1) end else None
 
--- the frame of a line that ends there, but for its carriage return
+-- the frame of a line of which only a carriage return is after `end`
 abbrev pub body_frame : List ℕ → ℕ → Option Parts
 body_frame line end =
     let spaces = prefix_len is_space (take end line) in

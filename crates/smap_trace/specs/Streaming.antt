@@ -1,4 +1,4 @@
--- What `translate` answers, and what it has then read and written.
+-- What `translate` answers, and what it has read and written then.
 use Rattle.std.specs.Prelude.{◌≡◌, ℕ, ◌==◌, Bool, true, false, List, [], ◌∷◌, ◌++◌}
 use Rattle.std.specs.Prelude.{Result, Ok, Err, if◌then◌else◌}
 use Rattle.std.specs.List.{list_any}
@@ -10,16 +10,16 @@ use Rattle.smap_trace.specs.declared.error.TraceError.TheVariants as error
 use Rattle.smap_trace.specs.Translation.{Script, translation}
 use Rattle.smap_trace.specs.Views.{counts_of}
 
--- The text up to the end of its last line that has a line feed.
+-- The bytes up to the last line feed, and nothing if there is none.
 abbrev pub complete_of : List ℕ → List ℕ
 complete_of [] = []
 complete_of (b ∷ bs) = if list_any (λ c. c == 10) (b ∷ bs) then b ∷ complete_of bs else []
 
--- The complete lines of what was read: once the end was read the last line is complete too.
+-- The complete lines of what was read. Once the end was read, the last line is complete too.
 abbrev pub read_lines : Bool → List ℕ → List ℕ
 read_lines ended text = if ended then text else complete_of text
 
--- which error the reader is to blame for, and which the writer
+-- whether the error is a failure of the reader, and whether one of the writer
 abbrev pub is_read : TraceError → Bool
 is_read error.Read = true
 is_read e = false
@@ -36,7 +36,7 @@ pub record WritesAll (scripts : List Script) (hide : Bool) (s : Streams) (counts
   pub written : HasWritten s (translation scripts hide bytes)
   pub counts_are : counts ≡ counts_of scripts hide bytes
 
--- Of what was read, a front of the translation of its complete lines was written.
+-- A prefix of the translation of the complete lines that were read was written.
 pub record WritesFront (scripts : List Script) (hide : Bool) (s : Streams) : Type 0 where
   pub bytes : List ℕ
   pub front : List ℕ
@@ -45,14 +45,14 @@ pub record WritesFront (scripts : List Script) (hide : Bool) (s : Streams) : Typ
   pub written : HasWritten s front
   pub is_front : translation scripts hide (read_lines s.ended bytes) ≡ front ++ rest
 
--- All is written where counts are answered, else a front.
+-- All is written if counts are answered, else a prefix.
 abbrev pub Translates : List Script → Bool → Streams → Result Counts TraceError → Type 0
 Translates scripts hide s (Ok counts) = WritesAll scripts hide s counts × (s.ended ≡ true)
 Translates scripts hide s (Err e) = WritesFront scripts hide s
 
 -- A trace was translated to its end, or a prefix of its translation was written. Read comes with a failure
--- of the reader, or where too much was read; Write with one of the writer; and nothing else comes with a
--- failure.
+-- of the reader, or if the limit on reads may have been reached; Write with one of the writer; and no other
+-- answer comes with a failure.
 pub record TranslatesTrace (scripts : List Script) (hide : Bool) (s : Streams)
     (result : Result Counts TraceError) : Type 0 where
   pub translates : Translates scripts hide s result

@@ -1,4 +1,5 @@
--- The translation of a trace: its frames told at the positions of the sources. Ours.
+-- The translation of a trace: the positions of its frames are replaced by those of the sources. This
+-- project's own rules.
 use Rattle.std.specs.Prelude.{◌≢◌, ℕ, ◌+◌, ◌-◌, ◌==◌, ◌&&◌, Bool, true, false, nat_eq, if◌then◌else◌}
 use Rattle.std.specs.Prelude.{List, [], ◌∷◌, ◌++◌, length, take, bytes_eq, find, flat_map, AllPairs}
 use Rattle.std.specs.Prelude.{Option, option_map, option_and_then}
@@ -9,7 +10,7 @@ use Rattle.smap_trace.specs.Lookup.{mapping_at}
 use Rattle.smap_trace.specs.Frame.{Parts, position}
 use Rattle.smap_trace.specs.Reading.{frame_of}
 
--- A script's URL, and what its map says.
+-- A script: its URL, and the record of its map.
 abbrev pub Script : Type 0
 Script = List ℕ × Record
 
@@ -17,23 +18,21 @@ Script = List ℕ × Record
 abbrev pub AreDistinct : List Script → Type 0
 AreDistinct scripts = AllPairs (λ s t. s.0 ≢ t.0) scripts
 
--- what the map of the script says that has this URL
+-- the record of the map of the script with this URL
 abbrev pub map_of : List Script → List ℕ → Option Record
 map_of scripts url = option_map (λ s. s.1) (find (λ s. bytes_eq s.0 url) scripts)
 
--- Where the mapping comes from that the frame's position falls to. A trace counts from 1, a map
--- from 0.
+-- The original of the mapping that the frame's position has. A trace counts from 1, a map from 0.
 abbrev pub origin_at : Record → Parts → Option Origin
 origin_at r f = option_and_then (λ m. m.origin) (mapping_at r.mappings (f.line - 1) (f.column - 1))
 
--- What becomes of a line: it is kept byte for byte, or its frame is told at another position, or it
--- is dropped.
+-- What becomes of a line: it is passed through unchanged, or its position is replaced, or it is left out.
 pub data Fate : Type 0 where
   kept : Fate
   translated : List ℕ → Fate
   dropped : Fate
 
--- of a frame whose mapping comes from there
+-- of a frame whose mapping has this original
 abbrev pub fate_at : Bool → Parts → Origin → Fate
 fate_at hide f o = if hide && o.source.ignored then dropped
     else option_map_or (λ url. translated (f.before ++ position url (o.line + 1) (o.column + 1) ++ f.after))
@@ -48,9 +47,9 @@ abbrev pub fate_of : List Script → Bool → List ℕ → Fate
 fate_of scripts hide text =
     option_map_or (λ f. option_map_or (fate_in hide f) (map_of scripts f.url) kept) (frame_of text) kept
 
--- ---- a line is taken with its line feed, where it has one
+-- ---- a line has its line feed, except perhaps the last
 
--- whether it ends in one
+-- whether it ends in a line feed
 abbrev pub has_line_feed : List ℕ → Bool
 has_line_feed line = ends_with nat_eq line (10 ∷ [])
 
@@ -66,24 +65,24 @@ feed_of line = if has_line_feed line then 10 ∷ [] else []
 abbrev pub fate : List Script → Bool → List ℕ → Fate
 fate scripts hide line = fate_of scripts hide (without_line_feed line)
 
--- what is written of it
+-- what is written for it
 abbrev pub written : Fate → List ℕ → List ℕ
 written kept line = line
 written (translated text) line = text ++ feed_of line
 written dropped line = []
 
--- The translation of a line. A line that holds a line feed before its end is no frame, and is kept.
+-- The translation of a line. One that holds a line feed before its end isn't a frame, and is kept.
 abbrev pub line_translation : List Script → Bool → List ℕ → List ℕ
 line_translation scripts hide line = written (fate scripts hide line) line
 
 -- ---- a trace
 
--- The lines, each with its line feed; a last rest is a line if it isn't empty.
+-- The lines, each with its line feed; what is after the last line feed is a line if it isn't empty.
 abbrev pub lines_of : List ℕ → List (List ℕ)
 lines_of [] = []
 lines_of (b ∷ bs) = if b == 10 then (10 ∷ []) ∷ lines_of bs else onto_first b (lines_of bs)
 
--- What its lines give, one after another.
+-- The translations of its lines, one after another.
 abbrev pub translation : List Script → Bool → List ℕ → List ℕ
 translation scripts hide trace = flat_map (line_translation scripts hide) (lines_of trace)
 

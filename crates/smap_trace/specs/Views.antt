@@ -15,18 +15,18 @@ script_in s = (s.0.now, record_of s.1.now)
 abbrev pub scripts_in : List (Bor (List ℕ) × Bor ReadMap) → List Script
 scripts_in scripts = map script_in scripts
 
--- how the code tells what became of a line
+-- what became of a line, as the code has it
 abbrev pub outcome_of : Fate → LineOutcome
 outcome_of kept = Kept
 outcome_of (translated text) = Translated
 outcome_of dropped = Dropped
 
--- the number, or the greatest of 64 bits
+-- the number, capped at the greatest `u64`
 abbrev pub at_most_u64 : ℕ → ℕ
 at_most_u64 n = min n (2 ^ 64 - 1)
 
--- The lines of a trace, and those of them that are translated and dropped; each number stays at the
--- greatest of 64 bits.
+-- The number of lines of a trace, and of those that are translated and left out, each capped at the
+-- greatest `u64`.
 abbrev pub counts_of : List Script → Bool → List ℕ → Counts
 counts_of scripts hide trace = record {
   lines = at_most_u64 (length (lines_of trace));

@@ -1,5 +1,5 @@
-//! The frames of a stack trace. A line is read from its marks: its leading spaces and `at `, or its first
-//! `@`, say where the position begins, and the last two colons where its numbers stand.
+//! The frames of a stack trace. Where the position of a frame begins is said by leading spaces and `at `,
+//! or by the first `@`; its line and its column follow the last two colons.
 ghost use Rattle.std.specs.Prelude.{◌≡◌, ℕ, ◌≤◌, ◌==◌, not, length, option_map, MatchOption, decimal};
 ghost use Rattle.std.specs.List.{suffix_len, prefix_len, position_or_len, list_any, before_last, after_last};
 ghost use Rattle.std.specs.Str.Lines.{strip_carriage_return};
@@ -9,11 +9,12 @@ ghost use Rattle.smap_trace.specs.FrameView.{parts_in};
 
 use crate::parts::Frame;
 use itoa::Buffer;
+use smap_mappings::MAX_POSITION;
 
 /// The greatest line and the greatest column of a trace, which counts them from 1.
-const MOST: u32 = 2_147_483_648;
+const MOST: u32 = MAX_POSITION + 1;
 
-/// The number from 1 to [`MOST`] of which the text is the one spelling.
+/// The number from 1 to [`MOST`] with this decimal form.
 fn place(text: &[u8]) -> Option<u32>
     ensures { MatchOption result ((n : ℕ) → IsPlace n → text.now ≡ decimal n → ⊥)
         (λ n. IsPlace n × (text.now ≡ decimal n)) }
@@ -27,7 +28,7 @@ fn place(text: &[u8]) -> Option<u32>
     }
 }
 
-/// How many bytes follow the last mark.
+/// How many bytes are after the last mark.
 fn len_after_last(text: &[u8], mark: u8) -> usize
     ensures value { result ≡ suffix_len (λ b. not (b == mark)) text.now }
     ensures within { result ≤ length text.now }
@@ -35,7 +36,7 @@ fn len_after_last(text: &[u8], mark: u8) -> usize
     text.iter().rev().take_while(|b| **b != mark).count()
 }
 
-/// What stands before and after the last mark, or nothing and all where there is none.
+/// What is before and after the last mark, or nothing and all if there is none.
 fn split_at_last<'a>(text: &'a [u8], mark: u8) -> (&'a [u8], &'a [u8])
     ensures before { result.0.now ≡ before_last (λ b. b == mark) text.now }
     ensures after { result.1.now ≡ after_last (λ b. b == mark) text.now }
@@ -44,7 +45,7 @@ fn split_at_last<'a>(text: &'a [u8], mark: u8) -> (&'a [u8], &'a [u8])
     (&text[..at.saturating_sub(1)], &text[at..])
 }
 
-/// How many bytes stand before the first mark, or all where there is none.
+/// How many bytes are before the first mark, or all if there is none.
 fn len_before_first(text: &[u8], mark: u8) -> usize
     ensures value { result ≡ position_or_len (λ b. b == mark) text.now }
     ensures within { result ≤ length text.now }
@@ -52,14 +53,14 @@ fn len_before_first(text: &[u8], mark: u8) -> usize
     text.iter().take_while(|b| **b != mark).count()
 }
 
-/// Whether the text may be a frame's URL: it isn't looked at further.
+/// Whether this may be a frame's URL: it isn't looked at any closer.
 fn is_url(text: &[u8]) -> bool
     ensures { result ≡ spec.is_url text.now }
 {
     !text.is_empty() && !text.contains(&b' ')
 }
 
-/// The frame whose position stands from `start` up to `end`.
+/// The frame whose position is from `start` up to `end`.
 fn framed<'a>(line: &'a [u8], start: usize, end: usize) -> Option<Frame<'a>>
     requires { (start ≤ end) × (end ≤ length line.now) }
     ensures { option_map parts_in result ≡ spec.framed line.now start end }
@@ -80,7 +81,7 @@ fn framed<'a>(line: &'a [u8], start: usize, end: usize) -> Option<Frame<'a>>
     })
 }
 
-/// How many spaces come first.
+/// The number of spaces at the start.
 fn space_count(text: &[u8]) -> usize
     ensures value { result ≡ prefix_len spec.is_space text.now }
     ensures within { result ≤ length text.now }
@@ -88,7 +89,7 @@ fn space_count(text: &[u8]) -> usize
     text.iter().take_while(|b| **b == b' ').count()
 }
 
-/// Behind `at ` and before `)` the position follows the last space and `(`.
+/// The frame whose position follows the last ` (` between `at ` and `)`.
 fn in_parentheses<'a>(line: &'a [u8], start: usize, end: usize) -> Option<Frame<'a>>
     requires { (start ≤ end) × (end ≤ length line.now) }
     ensures { option_map parts_in result ≡ spec.in_parentheses line.now start end }
@@ -157,10 +158,19 @@ fn body_len(line: &[u8]) -> usize
     }
 }
 
-/// The frame that the line is, if it is one: `NAME (URL:LINE:COLUMN)`, `URL:LINE:COLUMN` or
-/// `async URL:LINE:COLUMN` behind `at `, as V8 writes it, or `NAME@URL:LINE:COLUMN`, as Firefox does. The
-/// line is taken without its line feed; a carriage return at its end belongs to `after`. A line that
-/// holds a line feed is no frame. It takes no memory, and looks at each byte a few times.
+/// The frame that a line of a stack trace is, if it is one: after spaces and `at `, the form
+/// `NAME (URL:LINE:COLUMN)`, `URL:LINE:COLUMN` or `async URL:LINE:COLUMN`, as V8 writes them; else
+/// `NAME@URL:LINE:COLUMN`, as Firefox and Safari do. `docs/OUTPUT.md`, "Frames", has the grammar.
+///
+/// The line is passed without its line feed; a carriage return at its end belongs to `after`. A line that
+/// holds a line feed isn't a frame. It takes no memory, and time linear in the line.
+///
+/// # Examples
+///
+/// ```
+/// let found = frame(b"    at f (http://h/m/out.js:1:2)");
+/// // url: b"http://h/m/out.js", line: 1, column: 2, before: b"    at f (", after: b")"
+/// ```
 pub fn frame<'a>(line: &'a [u8]) -> Option<Frame<'a>>
     ensures is { MatchOption result ((f : Parts) → IsFrame line.now f → ⊥)
         (λ f. IsFrame line.now (parts_in f)) }

@@ -1,19 +1,18 @@
-//! What holds of the definitions. Each law is the contract of a function that does nothing.
+//! Laws about the definitions. Each is the contract of a function that does nothing.
 ghost use Rattle.smap_trace.specs.Laws.{FrameIsComputed, LookupIsComputed, OneReading};
 
-/// The frame that is computed of a line is the frame that the line is, and where none is computed the
-/// line is none.
+/// The function that finds frames finds exactly those of the grammar.
 pub fn frames_are_computed()
     ensures { FrameIsComputed }
 {}
 
-/// A line is at most one frame.
+/// A line is a frame in at most one way.
 pub fn one_reading()
     ensures { OneReading }
 {}
 
-/// The mapping that is computed of a position is the one that the position falls to, and so there is at
-/// most one.
+/// The function that looks a position up finds exactly the mapping that the definition gives it, so there
+/// is at most one.
 pub fn lookups_are_computed()
     ensures { LookupIsComputed }
 {}

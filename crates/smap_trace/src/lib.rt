@@ -1,10 +1,9 @@
-//! Stack traces, told in the positions of the sources.
+//! Lookup in source maps, and the translation of stack traces to source positions.
 //!
-//! [`lookup`] finds the mapping of a map that a generated position falls to, by halving ([`search`]).
-//! [`frame`] finds the frame that a line of a trace is, as V8 and Firefox write them.
-//! [`translate_line`] tells such a line at the source's position, where the frame's script has a map;
-//! [`translate`] does so for a whole trace, from a reader to a writer, as the lines come. Maps count
-//! lines and columns from 0, traces from 1.
+//! [`lookup`] finds the mapping for a generated position, by binary search ([`search`]). [`frame`]
+//! recognizes a line of a stack trace of V8 (Chrome, Edge, Node), Firefox or Safari. [`translate_line`]
+//! translates one line, and [`translate`] a whole trace from a reader to a writer, line by line as it
+//! comes. Maps count lines and columns from 0, traces from 1.
 #![tactic(auto)]
 
 mod error;

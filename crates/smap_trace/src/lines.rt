@@ -19,7 +19,7 @@ use smap_mappings::Memory;
 use smap_record::{OriginalView, SourceMap};
 use std::alloc::AllocError;
 
-/// Appends the frame's parts with another position. Without memory a front of that is appended.
+/// Appends the frame's parts with another position. If memory runs out, a prefix of that is appended.
 fn push_frame(
     out: &mut Vec<u8>,
     frame: &Frame,
@@ -42,9 +42,9 @@ fn push_frame(
     out.extend_from_slice(feed)
 }
 
-/// Appends the frame at a position of a source, which counts from 0, and the line feed where there is
-/// one; or leaves the bytes as they were.
-fn retell(
+/// Appends the frame with the position of a source, which counts from 0, and the line feed if there is one;
+/// or leaves the bytes as they were.
+fn push_translated(
     out: &mut Vec<u8>,
     frame: &Frame,
     url: &str,
@@ -73,7 +73,7 @@ fn retell(
     }
 }
 
-/// Where the frame's position comes from.
+/// The original of the frame's position.
 fn origin<'a>(map: &'a SourceMap, frame: &Frame) -> Option<OriginalView<'a>>
     requires { (0 < frame.now.line) × (0 < frame.now.column) }
     ensures { option_map origin_seen result ≡ spec.origin_at (record_of map.now) (parts_in frame.now) }
@@ -110,7 +110,7 @@ fn translate_frame(
         out.extend_from_slice(line)?;
         return Ok(LineOutcome::Kept);
     };
-    retell(out, frame, url, origin.line, origin.column, feed)?;
+    push_translated(out, frame, url, origin.line, origin.column, feed)?;
     Ok(LineOutcome::Translated)
 }
 
@@ -136,7 +136,7 @@ pub(crate) fn translate_by<M: Maps>(
     Ok(LineOutcome::Kept)
 }
 
-/// The line without its line feed, and the line feed where it has one.
+/// The line without its line feed, and the line feed if it has one.
 fn cut_feed<'a>(line: &'a [u8]) -> (&'a [u8], &'a [u8])
     ensures text { result.0.now ≡ spec.without_line_feed line.now }
     ensures feed { result.1.now ≡ spec.feed_of line.now }
@@ -148,20 +148,29 @@ fn cut_feed<'a>(line: &'a [u8]) -> (&'a [u8], &'a [u8])
     }
 }
 
-/// Appends the translation of a line, and answers what became of it.
+/// Appends the translation of one line to `out`, and answers what became of the line.
 ///
-/// The line has its line feed, where it has one. Where it is a frame whose URL is a script's, byte for
-/// byte, and the script's map has a mapping there with an original: the line is dropped if `hide` is set
-/// and the original's source is ignored; else, if that source has a URL, the frame's position becomes
-/// the original's. Every other line is kept byte for byte, also one that holds a line feed before its
-/// end. It asks that no two scripts have one URL, which [`distinct_scripts`] tests. It goes through the
-/// scripts one by one, and a lookup's probes are few.
+/// A script is the URL by which frames name it, and its map. If the line is a frame, its URL is that of a
+/// script, byte for byte, and the map has a mapping there with an original, then: with `hide`, if the
+/// source is ignored, nothing is appended; otherwise, if the source has a URL, the frame's position is
+/// replaced by the original one. Every other line is appended unchanged. The line is passed with its line
+/// feed, if it has one.
+///
+/// No two scripts may have the same URL, which [`distinct_scripts`] tests. Scripts are searched one by one.
 ///
 /// [`distinct_scripts`]: crate::distinct_scripts
 ///
 /// # Errors
 ///
-/// `Memory` where `out` finds no room; its bytes are then what they were.
+/// `Memory`, and `out` is as it was.
+///
+/// # Examples
+///
+/// ```
+/// let scripts = [("http://h/m/out.js", &map)];
+/// let outcome = translate_line(b"    at f (http://h/m/out.js:1:2)\n", &scripts, false, &mut out)?;
+/// // LineOutcome::Translated; `out` has `    at f (http://h/m/a.js:11:3)` and the line feed
+/// ```
 pub fn translate_line(
     line: &[u8],
     scripts: &[(&str, &SourceMap)],

@@ -1,4 +1,4 @@
-//! The mapping that a position falls to.
+//! The mapping for a position.
 ghost use Rattle.std.specs.Prelude.{◌≡◌, ◌<◌, ℕ, length, map, option_map, slice_get, Some};
 ghost use Rattle.std.specs.Prelude.{IfSome};
 ghost use Rattle.smap_record.specs.Fitting.{mapping_position};
@@ -10,7 +10,7 @@ ghost use Rattle.smap_trace.specs.Positions.{IsWithinBinaryDigits};
 use crate::searching::{Positions, search};
 use smap_record::{SourceMap, TokenView};
 
-/// The positions of a map's mappings, and how many were asked for.
+/// The positions of a map's mappings, and how often one was asked for.
 #[derive(Drop)]
 struct Places<'a> {
     map: &'a SourceMap,
@@ -33,12 +33,23 @@ impl Positions for Places<'_> {
     }
 }
 
-/// The mapping that a generated position falls to: the last of that line, in the map's order, whose
-/// column isn't greater; nothing where there is none, also if an earlier line has mappings. Line and
-/// column count from 0. It takes no memory.
+/// The mapping for a generated position: the last one on the same line, in the map's order, whose column
+/// isn't greater. There is none before the first mapping of a line, whatever earlier lines have. Line and
+/// column count from 0; the column is in the map's unit. That the last of several mappings at one position
+/// counts is this project's own rule.
 ///
-/// The second answer is the number of probes; a probe compares one mapping's position with the asked
-/// one. There are at most as many as `token_count` has binary digits, and 0 only for an empty map.
+/// The second value is the number of probes, each of which compares one mapping's position with the one
+/// asked for. It is at most the number of binary digits of `token_count`, and 0 only for a map without
+/// mappings. It takes no memory.
+///
+/// # Examples
+///
+/// ```
+/// let (found, _probes) = lookup(&map, 0, 7);
+/// if let Some(mapping) = found && let Some(original) = mapping.original {
+///     // original.source.url, original.line and original.column, both from 0, and original.name
+/// }
+/// ```
 pub fn lookup<'a>(map: &'a SourceMap, line: u32, column: u32) -> (Option<TokenView<'a>>, u32)
     ensures found { FallsTo (record_of map.now).mappings line column (option_map mapping_seen result.0) }
 

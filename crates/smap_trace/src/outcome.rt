@@ -3,19 +3,22 @@
 /// What became of a line.
 #[derive(Clone, Copy, Debug, PartialEq, Eq)]
 pub enum LineOutcome {
-    /// It stays byte for byte: it is no frame, or nothing is known of its position's source.
+    /// It was passed through unchanged: it isn't a frame, or its position has no known source.
     Kept,
-    /// Its frame is told at a position of a source.
+    /// The position of its frame was replaced by that of the source.
     Translated,
-    /// Nothing is written: its source is ignored, and such lines are hidden.
+    /// It was left out: its source is ignored, and frames in ignored sources are hidden.
     Dropped,
 }
 
-/// How many lines a trace had, and how many of these were translated and dropped. Each number stays at
-/// the greatest once it is there.
+/// How many lines a trace has, and what became of them. Each count stays at 18,446,744,073,709,551,615 once
+/// it is there.
 #[derive(Clone, Copy, Debug, PartialEq, Eq)]
 pub struct Counts {
+    /// All lines, a last one without a line feed included.
     pub lines: u64,
+    /// Lines whose position was replaced.
     pub translated: u64,
+    /// Lines that were left out.
     pub dropped: u64,
 }

@@ -1,4 +1,4 @@
-//! The scripts whose maps are at hand.
+//! The scripts that have maps.
 ghost use Rattle.std.specs.Prelude.{◌↔◌, ◌≡◌, List, IsTrue, IfOk, option_map};
 ghost use Rattle.smap_record.specs.Record.{record_of};
 ghost use Rattle.smap_trace.specs.Translation.{AreDistinct, Script, map_of};
@@ -8,8 +8,9 @@ use indexmap::IndexMap;
 use smap_record::SourceMap;
 use std::alloc::{AllocFailed, Global};
 
-/// Whether no two scripts have one URL, byte for byte. A script is its URL and its map. It takes no
-/// memory; the cost grows with the square of the number of scripts.
+/// Whether no two scripts have the same URL, byte for byte, as [`translate`](crate::translate) and
+/// [`translate_line`](crate::translate_line) require. It takes no memory, and time in the square of the
+/// number of scripts.
 pub fn distinct_scripts(scripts: &[(&str, &SourceMap)]) -> bool
     ensures { IsTrue result ↔ AreDistinct (scripts_in scripts.now) }
 {
@@ -33,7 +34,7 @@ pub(crate) trait Maps {
         ensures { option_map (λ m. record_of m.now) result ≡ map_of (scripts self.now) url.now };
 }
 
-/// The scripts as they are handed in, gone through one by one: it takes no memory.
+/// The scripts as they are passed in, searched one by one, which takes no memory.
 #[derive(Drop)]
 pub(crate) struct Listed<'a> {
     pub(crate) scripts: &'a [(&'a str, &'a SourceMap)],
@@ -52,7 +53,7 @@ impl Maps for Listed<'_> {
     }
 }
 
-/// The scripts in a table, so that one is found without going through all.
+/// The scripts in a hashed table by their URLs.
 #[derive(Drop)]
 pub(crate) struct Indexed<'a> {
     maps: IndexMap<&'a [u8], &'a SourceMap>,

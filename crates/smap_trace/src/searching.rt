@@ -1,4 +1,4 @@
-//! Search in a list of positions that never fall, by halving.
+//! Binary search in a sorted list of positions.
 ghost use Rattle.std.specs.Prelude.{◌≡◌, ℕ, ◌+◌, ◌<◌, ◌≤◌, List, length, slice_get, Some};
 ghost use Rattle.smap_mappings.specs.declared.position.Position.{Position as SpecPosition};
 ghost use Rattle.smap_mappings.specs.Position.{NeverFalls};
@@ -6,7 +6,7 @@ ghost use Rattle.smap_trace.specs.Positions.{count_at_most, position_in, IsWithi
 
 use smap_mappings::Position;
 
-/// A list of positions, each a line and a column, and a count of how often one was asked for.
+/// A sorted list of positions that counts how often one was asked for.
 pub trait Positions {
     // the list
     ghost positions: { Self → List SpecPosition };
@@ -14,12 +14,12 @@ pub trait Positions {
     // the count
     ghost probes: { Self → ℕ };
 
-    /// How many positions there are.
+    /// The number of positions.
     fn len(&self) -> usize
         ensures { result ≡ length (positions self.now) };
 
-    /// The position at `i`. The count rises by one, and nothing else changes. It asks that `i` is below
-    /// `len` and the count below 4,294,967,295.
+    /// The line and column of the i-th position. `i` must be below `len`, and the count below
+    /// 4,294,967,295; it rises by one.
     fn at(&mut self, i: usize) -> (u32, u32)
         requires within { i < length (positions self.old) }
         requires room { probes self.old < 4294967295 }
@@ -38,9 +38,9 @@ fn position_in(p: (u32, u32)) -> Position
     }
 }
 
-/// How many positions are at most this one, where positions never fall and none was asked for yet.
-/// The list stays; the count is then at most the number of binary digits of `len`, and at least 1 where
-/// `len` isn't 0.
+/// The number of positions that aren't after this line and column, by binary search. The positions must be
+/// sorted, and none asked for yet. The count is then at most the number of binary digits of `len`, and 0
+/// only where `len` is 0.
 pub fn search<P: Positions>(p: &mut P, line: u32, column: u32) -> usize
     requires sorted { NeverFalls (P.positions p.old) }
     requires none { P.probes p.old ≡ 0 }
@@ -51,7 +51,7 @@ pub fn search<P: Positions>(p: &mut P, line: u32, column: u32) -> usize
     ensures least { 0 < length (P.positions p.old) → 0 < P.probes p.new }
 {
     let asked = position_in((line, column));
-    // What stands before `low` isn't after it, what stands from `low + size` on is.
+    // What is before `low` isn't after it, and what is at `low + size` or later is.
     let mut low = 0;
     let mut size = p.len();
     while size > 0 {

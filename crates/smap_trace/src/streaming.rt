@@ -1,5 +1,5 @@
-//! The translation of a trace, from a reader to a writer: a piece is read, what the lines give that it
-//! ends is written, and only then is more read.
+//! The translation of a trace from a reader to a writer: a piece is read, the translation of the lines that
+//! it ends is written, and only then is more read.
 ghost use Rattle.std.specs.Prelude.{◌≡◌, ◌++◌, ◌-◌, ◌<◌, ◌^◌, IfOk, OnOk, OnErr, true, false, []};
 ghost use Rattle.smap_io.specs.Device.{device_failures, has_ended};
 ghost use Rattle.smap_io.specs.Streams.{ReaderFailsOrTires, Rises, WriterFails, fails_by, streams};
@@ -19,10 +19,10 @@ use smap_record::SourceMap;
 use std::alloc::{AllocError, Global};
 use std::io::{Read, Write};
 
-/// How many bytes are read at most at once.
+/// The most bytes of one read.
 const PIECE: usize = 65_536;
 
-/// So many scripts are found sooner one by one than in a table.
+/// Up to this many scripts are searched faster one by one than in a table.
 const FEW: usize = 4;
 
 /// The counts with one line more.
@@ -45,8 +45,8 @@ fn counted(counts: Counts, outcome: LineOutcome) -> Counts
     }
 }
 
-/// Appends what a line gives, and counts it. The line is what waits in `line`, and then these bytes, which
-/// end it.
+/// Appends the translation of a line, and counts it. The line is what waits in `line`, and then these
+/// bytes, which end it.
 fn take_line<M: Maps>(
     maps: &M,
     hide: bool,
@@ -61,7 +61,7 @@ fn take_line<M: Maps>(
     ensures counts { IfOk result (λ after. after
         ≡ count_line counts (outcome_of (fate (M.scripts maps.now) hide (line.old.items ++ end.now)))) }
 {
-    // Nearly all lines lie whole in a piece, and aren't copied.
+    // Nearly all lines are within one piece, and aren't copied.
     if line.is_empty() {
         let outcome = translate_by(end, maps, hide, out)?;
         return Ok(counted(counts, outcome));
@@ -72,7 +72,8 @@ fn take_line<M: Maps>(
     Ok(counted(counts, outcome))
 }
 
-/// Takes the next piece, and appends what the lines give that it ends. The rest of it waits in `line`.
+/// Takes the next piece, and appends the translation of the lines that it ends. The rest of it waits in
+/// `line`.
 fn take_piece<M: Maps>(
     maps: &M,
     hide: bool,
@@ -96,7 +97,7 @@ fn take_piece<M: Maps>(
     Ok(())
 }
 
-/// Appends what the last line gives, if there is one.
+/// Appends the translation of the last line, if there is one.
 fn end_line<M: Maps>(
     maps: &M,
     hide: bool,
@@ -117,7 +118,7 @@ fn end_line<M: Maps>(
     Ok(counted(counts, outcome))
 }
 
-/// Writes what the last line gives, if there is one, and flushes.
+/// Writes the translation of the last line, if there is one, and flushes.
 fn finish<M: Maps, W: Write>(
     maps: &M,
     hide: bool,
@@ -148,7 +149,7 @@ fn finish<M: Maps, W: Write>(
     Ok(after)
 }
 
-/// Reads to the end by the maps that are found, and writes what the lines give.
+/// Reads to the end, and writes the translation of the lines with these maps.
 fn translate_with<M: Maps, R: Read, W: Write>(
     alloc: Global,
     maps: &M,
@@ -192,17 +193,17 @@ fn translate_with<M: Maps, R: Read, W: Write>(
     Err(TraceError::Read)
 }
 
-/// Reads a trace to its end and writes its translation, line by line as [`translate_line`] tells it;
-/// answers how many lines there were, and how many of them were translated and dropped. A last line needs
-/// no line feed.
+/// Reads a stack trace to its end and writes its translation, line by line as by [`translate_line`]. A
+/// script is the URL by which frames name it, and its map. With `hide`, frames in ignored sources are left
+/// out.
 ///
-/// A read asks for up to 65,536 bytes. Before the next read all complete lines so far have been written,
-/// by one run of writes, so that a trace that still grows can be followed; one flush comes last. A script
-/// is found by its URL without going through all. Memory holds a table of the scripts, one piece, the
-/// line that waits for its end and what the piece gives.
+/// One read asks for up to 65,536 bytes. Before the next read, the translation of all complete lines so far
+/// has been written, so that a trace that still grows can be followed; it is flushed once, at the end.
+/// Memory holds a table of the scripts, one piece, the line that waits for its end, and the translation of
+/// one piece.
 ///
-/// It asks that the reader's end wasn't seen yet, that fewer than 2^64 - 1 calls of either device have
-/// failed, and that no two scripts have one URL, which [`distinct_scripts`] tests.
+/// The reader's end must not have been seen yet, fewer than 2^64 - 1 calls of either device may have
+/// failed, and no two scripts may have the same URL, which [`distinct_scripts`] tests.
 ///
 /// [`translate_line`]: crate::translate_line
 /// [`distinct_scripts`]: crate::distinct_scripts
@@ -210,7 +211,16 @@ fn translate_with<M: Maps, R: Read, W: Write>(
 /// # Errors
 ///
 /// `Read` where a read fails, or after 4,294,967,296 reads; `Write` where a write or the flush fails;
-/// `Memory`. What was written is then a front of the translation of the complete lines that were read.
+/// `Memory`. What was written is then a prefix of the translation of the complete lines that were read.
+///
+/// # Examples
+///
+/// ```
+/// let mut reader = Device::new(rt.reader());
+/// let mut writer = Device::new(io::writer(&rt));
+/// let scripts = [("http://h/m/out.js", &map)];
+/// let counts = translate(alloc, &mut reader, scripts.as_slice(), false, &mut writer)?;
+/// ```
 pub fn translate<R: Read, W: Write>(
     alloc: Global,
     reader: &mut Device<R>,
@@ -223,8 +233,8 @@ pub fn translate<R: Read, W: Write>(
     requires not_ended { has_ended reader.old ≡ false }
     requires distinct { AreDistinct (scripts_in scripts.now) }
 
-    // All was read, and what was written is its translation; or a front of it was written. Read and Write
-    // come with a failure of their device, and no other answer does.
+    // All was read, and its translation was written; or a prefix of it was written. Read and Write come
+    // with a failure of their device, and no other answer does.
     ensures { TranslatesTrace (scripts_in scripts.now) hide
         (streams R.remaining reader.old reader.new W.contents writer.old writer.new) result }
 {

@@ -1,5 +1,7 @@
 -- The table of digits is that of the definition.
-use Rattle.std.proofs.Common.{◌≡◌, ◌≢◌, ℕ, zero, suc, ◌+◌, ◌<◌, ◌≤◌, Bool, true, false, ltb, eqb, cond, List, [], ◌∷◌, map, length, get_or, Option, None, Some, ℤ, pos, ◌-ℤ◌, refl, sym, ap, ◌∙◌, arith}
+use Rattle.std.proofs.Common.{◌≡◌, ◌≢◌, ℕ, zero, suc, ◌+◌, ◌<◌, ◌≤◌, Bool, true, false, ltb, eqb, cond, List}
+use Rattle.std.proofs.Common.{[], ◌∷◌, map, length, get_or, Option, None, Some, ℤ, pos, ◌-ℤ◌, refl, sym, ap}
+use Rattle.std.proofs.Common.{◌∙◌, arith}
 use Rattle.smap_vlq.specs.declared.digit.TheConstants.{DIGITS, LONE_NUMBERS, BYTES}
 use Rattle.std.proofs.lemmas.Bool.{lt-ltb, le-ltb, ltb-true, eq-eqb, ne_eqb, false≢true}
 use Rattle.std.proofs.lemmas.List.{get_or-map}
@@ -20,10 +22,12 @@ head_is x y xs ys e = cc
 tail_is : (x y : Option ℕ) (xs ys : List (Option ℕ)) → x ∷ xs ≡ y ∷ ys → xs ≡ ys
 tail_is x y xs ys e = cc
 
-told_at : (b : ℕ) (ds : List ℕ) (k : ℕ) → digits_from b ds ≡ map digit_told ds → k < length ds → digit_of (b + k) ≡ digit_told (get_or ds k 0)
+told_at : (b : ℕ) (ds : List ℕ) (k : ℕ) → digits_from b ds ≡ map digit_told ds → k < length ds
+    → digit_of (b + k) ≡ digit_told (get_or ds k 0)
 told_at b [] k e lt = absurd (omega arith)
 told_at b (d ∷ ds) zero e lt = ap digit_of (omega arith) ∙ head_is _ _ _ _ e
-told_at b (d ∷ ds) (suc k) e lt = ap digit_of (omega arith) ∙ told_at (b + 1) ds k (tail_is _ _ _ _ e) (omega arith)
+told_at b (d ∷ ds) (suc k) e lt = ap digit_of (omega arith) ∙ told_at (b + 1) ds k (tail_is _ _ _ _ e)
+    (omega arith)
 
 table_is : digits_from 0 DIGITS ≡ map digit_told DIGITS
 unfolding digit_of
@@ -33,10 +37,12 @@ pub digit_is_told : (b : ℕ) → b < 256 → digit_of b ≡ digit_told (get_or 
 digit_is_told b lt = ap digit_of (omega arith) ∙ told_at 0 DIGITS b table_is lt
 
 pub is_digit : (b : ℕ) → b < 256 → get_or DIGITS b 0 < 64 → Some (get_or DIGITS b 0) ≡ digit_of b
-is_digit b lt small = sym (digit_is_told b lt ∙ ap (λ (t : Bool). cond t (Some (get_or DIGITS b 0)) None) (lt-ltb (get_or DIGITS b 0) 64 small))
+is_digit b lt small = sym (digit_is_told b lt ∙ ap (λ (t : Bool). cond t (Some (get_or DIGITS b 0)) None)
+    (lt-ltb (get_or DIGITS b 0) 64 small))
 
 pub is_none : (b : ℕ) → b < 256 → 64 ≤ get_or DIGITS b 0 → None ≡ digit_of b
-is_none b lt large = sym (digit_is_told b lt ∙ ap (λ (t : Bool). cond t (Some (get_or DIGITS b 0)) None) (le-ltb (get_or DIGITS b 0) 64 large))
+is_none b lt large = sym (digit_is_told b lt ∙ ap (λ (t : Bool). cond t (Some (get_or DIGITS b 0)) None)
+    (le-ltb (get_or DIGITS b 0) 64 large))
 
 -- ---- a digit that is a number by itself
 
@@ -51,7 +57,8 @@ lone_numbers = refl
 
 lone_is : (b : ℕ) → b < 256 → lone_told (get_or LONE_NUMBERS b 0) ≡ lone (get_or DIGITS b 0)
 lone_is b lt =
-    sym (get_or-map lone_told LONE_NUMBERS b 0 None lt) ∙ ap (λ (ns : List (Option ℤ)). get_or ns b None) lone_numbers
+    sym (get_or-map lone_told LONE_NUMBERS b 0 None lt) ∙ ap (λ (ns : List (Option ℤ)). get_or ns b None)
+    lone_numbers
     ∙ get_or-map lone DIGITS b 0 None lt
 
 some_lone : (d : ℕ) (n : ℤ) → lone d ≡ Some n → (d < 32) × (d ≢ 1) × (n ≡ signed d)
@@ -65,7 +72,8 @@ some_lone d n is = by_cases (ltb d 32) (eqb d 1) refl refl
     by_cases false t es et = absurd (let e : lone d ≡ None = rw es refl in let h = sym is ∙ e in cc)
 
 pub is_lone : (b : ℕ) → b < 256 → get_or LONE_NUMBERS b 0 ≢ 0
-    → (d : ℕ) × (digit_of b ≡ Some d) × (d < 32) × (d ≢ 1) × (pos (get_or LONE_NUMBERS b 0) -ℤ pos 16 ≡ signed d)
+    → (d : ℕ) × (digit_of b ≡ Some d) × (d < 32) × (d ≢ 1) × (pos (get_or LONE_NUMBERS b 0) -ℤ pos 16
+    ≡ signed d)
 is_lone b lt some =
     let d : ℕ = get_or DIGITS b 0 in
     let n : ℕ = get_or LONE_NUMBERS b 0 in
@@ -81,7 +89,8 @@ small_number b lt = by_test (ltb (get_or LONE_NUMBERS b 0) 32) refl
   where
     by_test : (t : Bool) → ltb (get_or LONE_NUMBERS b 0) 32 ≡ t → get_or LONE_NUMBERS b 0 < 32
     by_test true e = ltb-true (get_or LONE_NUMBERS b 0) 32 e
-    by_test false e = absurd (false≢true (sym (list_all_at (λ (n : ℕ). ltb n 32) LONE_NUMBERS b 0 lt e) ∙ small_numbers))
+    by_test false e = absurd (false≢true (sym (list_all_at (λ (n : ℕ). ltb n 32) LONE_NUMBERS b 0 lt e)
+        ∙ small_numbers))
 
 -- ---- the other way
 
@@ -95,10 +104,12 @@ first_is x y xs ys e = cc
 rest_is : (x y : ℕ) (xs ys : List ℕ) → x ∷ xs ≡ y ∷ ys → xs ≡ ys
 rest_is x y xs ys e = cc
 
-byte_at : (d : ℕ) (bs : List ℕ) (k : ℕ) → bytes_from d bs ≡ bs → k < length bs → digit_byte (d + k) ≡ get_or bs k 0
+byte_at : (d : ℕ) (bs : List ℕ) (k : ℕ) → bytes_from d bs ≡ bs → k < length bs
+    → digit_byte (d + k) ≡ get_or bs k 0
 byte_at d [] k e lt = absurd (omega arith)
 byte_at d (b ∷ bs) zero e lt = ap digit_byte (omega arith) ∙ first_is _ _ _ _ e
-byte_at d (b ∷ bs) (suc k) e lt = ap digit_byte (omega arith) ∙ byte_at (d + 1) bs k (rest_is _ _ _ _ e) (omega arith)
+byte_at d (b ∷ bs) (suc k) e lt = ap digit_byte (omega arith)
+    ∙ byte_at (d + 1) bs k (rest_is _ _ _ _ e) (omega arith)
 
 bytes_are : bytes_from 0 BYTES ≡ BYTES
 unfolding digit_byte

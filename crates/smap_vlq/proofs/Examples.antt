@@ -1,9 +1,11 @@
 -- Known answers, computed by the definitions, and texts that meet what the laws suppose.
 use Rattle.std.proofs.Common.{◌≡◌, ℕ, List, [], ◌∷◌, ◌++◌, Ok, Err, pos, negsuc, refl, lit<, lit≤}
 use Rattle.std.specs.Prelude.{codes}
-use Rattle.smap_vlq.specs.declared.number.NumberFault.TheVariants.{Unfinished, Character, TooLarge, NegativeZero}
+use Rattle.smap_vlq.specs.declared.number.NumberFault.TheVariants.{Unfinished, Character, TooLarge}
+use Rattle.smap_vlq.specs.declared.number.NumberFault.TheVariants.{NegativeZero}
 use Rattle.smap_vlq.specs.declared.segment.SegmentFault.TheVariants.{Empty, Number, Count}
-use Rattle.smap_vlq.specs.Number.{number_at, digit_of, digit_byte, spelling, shortest_digits, Spells, IsShortestSpelling, HasNumberFault}
+use Rattle.smap_vlq.specs.Number.{number_at, digit_of, digit_byte, spelling, shortest_digits, Spells}
+use Rattle.smap_vlq.specs.Number.{IsShortestSpelling, HasNumberFault}
 use Rattle.smap_vlq.specs.Segment.{segment_of, SpellsAll, HasSegmentFault}
 use Rattle.smap_vlq.proofs.NumberLemmas.{number_is_spelled, number_fault_is_decided}
 use Rattle.smap_vlq.proofs.ShortestLemmas.{has_one_shortest}
@@ -94,7 +96,13 @@ some_spelling = record { digits = 32 ∷ 1 ∷ []; spelled = refl; one_number = 
 
 a_longer_spelling : Spells (codes "ghA") (pos 16)
 unfolding digit_of
-a_longer_spelling = record { digits = 32 ∷ 33 ∷ 0 ∷ []; spelled = refl; one_number = (lit≤ tt, (lit≤ tt, lit< tt)); value = refl }
+a_longer_spelling = record {
+  digits = 32 ∷ 33 ∷ 0 ∷ [];
+  spelled = refl;
+  one_number =
+      (lit≤ tt, (lit≤ tt, lit< tt));
+  value = refl;
+}
 
 one_shortest : IsShortestSpelling (spelling (pos 16)) (pos 16)
 one_shortest = (has_one_shortest (pos 16) (lit≤ tt)).0
@@ -125,7 +133,8 @@ two_are_too_few = count_is_wrong (codes "gBgB") (pos 16 ∷ pos 16 ∷ []) two_s
 
 third_is_bad : segment_of (codes "gBgB" ++ codes "!AAA") ≡ Err (Number 3 Character)
 unfolding digit_of
-third_is_bad = segment_fault_is_first (codes "gBgB") (codes "!AAA") (pos 16 ∷ pos 16 ∷ []) Character two_spelled (λ e. absurd cc) refl
+third_is_bad = segment_fault_is_first (codes "gBgB") (codes "!AAA") (pos 16 ∷ pos 16 ∷ []) Character
+    two_spelled (λ e. absurd cc) refl
 
 has_a_fault : HasSegmentFault (codes "AA!") (Number 3 Character)
 has_a_fault = (segment_fault_is_decided (codes "AA!") (Number 3 Character)).0 AA!

@@ -19,17 +19,21 @@ tail_is x y xs ys e = cc
 head_is : (x y : Option ℕ) (xs ys : List (Option ℕ)) → x ∷ xs ≡ y ∷ ys → x ≡ y
 head_is x y xs ys e = cc
 
-none_begins : (a rest ds es : List ℕ) → map digit_of a ≡ map some ds → map digit_of (a ++ rest) ≡ map some es → AreNumberDigits ds → AreNumberDigits es → rest ≡ []
+none_begins : (a rest ds es : List ℕ) → map digit_of a ≡ map some ds
+    → map digit_of (a ++ rest) ≡ map some es → AreNumberDigits ds → AreNumberDigits es → rest ≡ []
 none_begins [] rest [] es p q h k = absurd h
 none_begins [] rest (d ∷ ds) es p q h k = absurd cc
 none_begins (x ∷ a) rest [] es p q h k = absurd h
 none_begins (x ∷ a) rest (d ∷ ds) [] p q h k = absurd k
 none_begins (x ∷ []) rest (d ∷ []) (e ∷ []) p q h k = none_of rest (tail_is _ _ _ _ q)
-none_begins (x ∷ []) rest (d ∷ []) (e ∷ f ∷ es) p q h k = let same = same_digit (digit_of x) d e (head_is _ _ _ _ p) (head_is _ _ _ _ q) in let large = k.0 in absurd (omega arith)
+none_begins (x ∷ []) rest (d ∷ []) (e ∷ f ∷ es) p q h k = let same = same_digit (digit_of x) d e
+    (head_is _ _ _ _ p) (head_is _ _ _ _ q) in let large = k.0 in absurd (omega arith)
 none_begins (x ∷ []) rest (d ∷ d2 ∷ ds) (e ∷ es) p q h k = absurd (let t = tail_is _ _ _ _ p in cc)
 none_begins (x ∷ y ∷ a) rest (d ∷ []) (e ∷ es) p q h k = absurd (let t = tail_is _ _ _ _ p in cc)
 none_begins (x ∷ y ∷ a) rest (d ∷ d2 ∷ ds) (e ∷ []) p q h k = absurd (let t = tail_is _ _ _ _ q in cc)
-none_begins (x ∷ y ∷ a) rest (d ∷ d2 ∷ ds) (e ∷ f ∷ es) p q h k = none_begins (y ∷ a) rest (d2 ∷ ds) (f ∷ es) (tail_is _ _ _ _ p) (tail_is _ _ _ _ q) h.1 k.1
+none_begins (x ∷ y ∷ a) rest (d ∷ d2 ∷ ds) (e ∷ f ∷ es) p q h k = none_begins (y ∷ a) rest (d2 ∷ ds)
+    (f ∷ es) (tail_is _ _ _ _ p) (tail_is _ _ _ _ q) h.1 k.1
 
 pub none_begins_another : NoneBeginsAnother
-none_begins_another a rest m n p q = none_begins a rest p.digits q.digits p.spelled q.spelled p.one_number q.one_number
+none_begins_another a rest m n p q = none_begins a rest p.digits q.digits p.spelled q.spelled p.one_number
+    q.one_number

@@ -1,10 +1,14 @@
 -- A loop over the digits of a number.
-use Rattle.std.proofs.Common.{◌≡◌, ◌≢◌, ℤ, ℕ, ◌+◌, ◌*◌, ◌%◌, ◌^◌, ◌<◌, ◌≤◌, min, List, [], ◌∷◌, ◌++◌, length, get_or, drop, Option, None, Some, Result, Ok, Err, refl, sym, ap, ◌∙◌, arith, append_assoc, length-append, drop-cons, add-one}
+use Rattle.std.proofs.Common.{◌≡◌, ◌≢◌, ℤ, ℕ, ◌+◌, ◌*◌, ◌%◌, ◌^◌, ◌<◌, ◌≤◌, min, List, [], ◌∷◌, ◌++◌, length}
+use Rattle.std.proofs.Common.{get_or, drop, Option, None, Some, Result, Ok, Err, refl, sym, ap, ◌∙◌, arith}
+use Rattle.std.proofs.Common.{append_assoc, length-append, drop-cons, add-one, subst}
+use Rattle.std.specs.Prelude.{IfOk}
 use Rattle.std.proofs.Math.ListN.{drop_of_length-le}
 use Rattle.std.proofs.lemmas.Bool.{lt-ltb, le-ltb, lt-leb, ne_eqb}
 use Rattle.smap_vlq.specs.declared.number.NumberFault.{NumberFault}
 use Rattle.smap_vlq.specs.declared.number.NumberFault.TheVariants.{Unfinished, Character}
-use Rattle.smap_vlq.specs.Number.{◌>>=◌, digit_of, then_digits, unsigned, signed, number_of, number_digits, number_at}
+use Rattle.smap_vlq.specs.Number.{◌>>=◌, digit_of, then_digits, unsigned, signed, number_of, number_digits}
+use Rattle.smap_vlq.specs.Number.{number_at, without_place}
 use Rattle.smap_vlq.proofs.UnsignedLemmas.{Stands, Stands-push, number_of-min}
 
 abbrev pub with_digits : List ℕ → Result (List ℕ) NumberFault → Result (List ℕ) NumberFault
@@ -21,7 +25,8 @@ with_digits-nil : (r : Result (List ℕ) NumberFault) → r ≡ with_digits [] r
 with_digits-nil (Ok ds) = refl
 with_digits-nil (Err e) = refl
 
-with_digits-push : (front : List ℕ) (d : ℕ) (r : Result (List ℕ) NumberFault) → with_digits front (r >>= λ ds. Ok (d ∷ ds)) ≡ with_digits (front ++ d ∷ []) r
+with_digits-push : (front : List ℕ) (d : ℕ) (r : Result (List ℕ) NumberFault)
+    → with_digits front (r >>= λ ds. Ok (d ∷ ds)) ≡ with_digits (front ++ d ∷ []) r
 with_digits-push front d (Ok ds) = ap (λ (l : List ℕ). Ok l) (sym (append_assoc front (d ∷ []) ds))
 with_digits-push front d (Err e) = refl
 
@@ -33,60 +38,124 @@ start text at = record {
   rest = with_digits-nil (number_digits (drop at text));
 }
 
-digits_there : (text : List ℕ) (place : ℕ) → place < length text → number_digits (drop place text) ≡ then_digits (digit_of (get_or text place 0)) (number_digits (drop (place + 1) text))
+digits_there : (text : List ℕ) (place : ℕ) → place < length text
+    → number_digits (drop place text) ≡ then_digits (digit_of (get_or text place 0))
+    (number_digits (drop (place + 1) text))
 digits_there text place lt = rw (drop-cons text place 0 lt, add-one) refl
 
 -- What the digit at the place makes of what is left.
-step : (text : List ℕ) (at place total weight d : ℕ) (p : Progress text at place total weight) → place < length text → digit_of (get_or text place 0) ≡ Some d
-    → number_digits (drop at text) ≡ with_digits p.digits (then_digits (Some d) (number_digits (drop (place + 1) text)))
-step text at place total weight d p lt is = p.rest ∙ ap (with_digits p.digits) (digits_there text place lt ∙ ap (λ (o : Option ℕ). then_digits o (number_digits (drop (place + 1) text))) is)
+step : (text : List ℕ) (at place total weight d : ℕ) (p : Progress text at place total weight)
+    → place < length text → digit_of (get_or text place 0) ≡ Some d
+    → number_digits (drop at text) ≡ with_digits p.digits (then_digits (Some d)
+    (number_digits (drop (place + 1) text)))
+step text at place total weight d p lt is = p.rest ∙ ap (with_digits p.digits)
+    (digits_there text place lt ∙ ap (λ (o : Option ℕ). then_digits o
+    (number_digits (drop (place + 1) text))) is)
 
 -- a continuation digit
-pub goes_on : (text : List ℕ) (at place total weight d t w : ℕ) → Progress text at place total weight → place < length text → digit_of (get_or text place 0) ≡ Some d → 32 ≤ d
-    → t ≡ min (total + d % 32 * weight) (2 ^ 32) → w ≡ min (weight * 32) (2 ^ 35) → Progress text at (place + 1) t w
+pub goes_on : (text : List ℕ) (at place total weight d t w : ℕ) → Progress text at place total weight
+    → place < length text → digit_of (get_or text place 0) ≡ Some d → 32 ≤ d
+    → t ≡ min (total + d % 32 * weight) (2 ^ 32) → w ≡ min (weight * 32) (2 ^ 35)
+    → Progress text at (place + 1) t w
 goes_on text at place total weight d t w p lt is large te we = record {
   digits = p.digits ++ d ∷ [];
   stands = rw (te, we) (Stands-push total weight p.digits d p.stands);
   place_is = omega (arith, p.place_is, length-append p.digits (d ∷ []));
-  rest = step text at place total weight d p lt is ∙ rw (le-ltb d 32 large) (with_digits-push p.digits d (number_digits (drop (place + 1) text)));
+  rest = step text at place total weight d p lt is ∙ rw (le-ltb d 32 large)
+      (with_digits-push p.digits d (number_digits (drop (place + 1) text)));
 }
 
 -- the last digit
-pub ends : (text : List ℕ) (at place total weight d t : ℕ) → Progress text at place total weight → place < length text → digit_of (get_or text place 0) ≡ Some d → d < 32
-    → t ≡ min (total + d % 32 * weight) (2 ^ 32) → number_at text at ≡ (number_of t >>= λ n. Ok (n, place + 1))
+pub ends : (text : List ℕ) (at place total weight d t : ℕ) → Progress text at place total weight
+    → place < length text → digit_of (get_or text place 0) ≡ Some d → d < 32
+    → t ≡ min (total + d % 32 * weight) (2 ^ 32)
+    → number_at text at ≡ (number_of t >>= λ n. Ok (n, place + 1))
 ends text at place total weight d t p lt is small te =
-    let found : number_digits (drop at text) ≡ Ok (p.digits ++ d ∷ []) = step text at place total weight d p lt is ∙ rw (lt-ltb d 32 small) refl in
-    let value : number_of (unsigned (p.digits ++ d ∷ [])) ≡ number_of t = rw (te, (Stands-push total weight p.digits d p.stands).total_is) (sym (number_of-min (unsigned (p.digits ++ d ∷ [])))) in
-    let behind : at + length (p.digits ++ d ∷ []) ≡ place + 1 = omega (arith, p.place_is, length-append p.digits (d ∷ [])) in
+    let found : number_digits (drop at text) ≡ Ok (p.digits ++ d ∷ []) = step text at place total weight d p
+    lt is ∙ rw (lt-ltb d 32 small) refl in
+    let value : number_of (unsigned (p.digits ++ d ∷ [])) ≡ number_of t = rw
+    (te, (Stands-push total weight p.digits d p.stands).total_is)
+    (sym (number_of-min (unsigned (p.digits ++ d ∷ [])))) in
+    let behind : at + length (p.digits ++ d ∷ []) ≡ place + 1 = omega
+    (arith, p.place_is, length-append p.digits (d ∷ [])) in
     rw (found, value, behind) refl
 
-pub bad_character : (text : List ℕ) (at place total weight : ℕ) → Progress text at place total weight → place < length text → digit_of (get_or text place 0) ≡ None → number_at text at ≡ Err Character
+pub bad_character : (text : List ℕ) (at place total weight : ℕ) → Progress text at place total weight
+    → place < length text → digit_of (get_or text place 0) ≡ None → number_at text at ≡ Err Character
 bad_character text at place total weight p lt is =
-    let found : number_digits (drop at text) ≡ Err Character = p.rest ∙ ap (with_digits p.digits) (digits_there text place lt ∙ ap (λ (o : Option ℕ). then_digits o (number_digits (drop (place + 1) text))) is) in
+    let found : number_digits (drop at text) ≡ Err Character = p.rest
+    ∙ ap (with_digits p.digits) (digits_there text place lt
+    ∙ ap (λ (o : Option ℕ). then_digits o (number_digits (drop (place + 1) text))) is) in
     rw found refl
 
-pub unfinished : (text : List ℕ) (at place total weight : ℕ) → Progress text at place total weight → length text ≤ place → number_at text at ≡ Err Unfinished
+pub unfinished : (text : List ℕ) (at place total weight : ℕ) → Progress text at place total weight
+    → length text ≤ place → number_at text at ≡ Err Unfinished
 unfinished text at place total weight p le =
-    let found : number_digits (drop at text) ≡ Err Unfinished = p.rest ∙ ap (λ (l : List ℕ). with_digits p.digits (number_digits l)) (drop_of_length-le text le) in
+    let found : number_digits (drop at text) ≡ Err Unfinished = p.rest
+    ∙ ap (λ (l : List ℕ). with_digits p.digits (number_digits l)) (drop_of_length-le text le) in
     rw found refl
+
+-- ---- a number and its place apart
 
 abbrev found : ℤ → ℕ → Result (ℤ × ℕ) NumberFault
 found n behind = Ok (n, behind)
+
+alone : (r : Result ℤ NumberFault) (behind : ℕ) → without_place (r >>= λ n. Ok (n, behind)) ≡ r
+alone (Ok n) behind = refl
+alone (Err fault) behind = refl
+
+abbrev EndsAt : ℕ → Result (ℤ × ℕ) NumberFault → Type 0
+EndsAt behind r = IfOk r (λ found. behind ≡ found.1)
+
+ends_there : (r : Result ℤ NumberFault) (behind : ℕ) → EndsAt behind (r >>= λ n. Ok (n, behind))
+ends_there (Ok n) behind = refl
+ends_there (Err fault) behind = tt
+
+pub number_alone : (text : List ℕ) (at behind : ℕ) (r value : Result ℤ NumberFault) → number_at text at ≡ (value >>= λ n. Ok (n, behind)) → r ≡ value → r ≡ without_place (number_at text at)
+number_alone text at behind r value is same = same ∙ sym (ap without_place is ∙ alone value behind)
+
+pub place_alone : (text : List ℕ) (at behind : ℕ) (value : Result ℤ NumberFault) → number_at text at ≡ (value >>= λ n. Ok (n, behind)) → EndsAt behind (number_at text at)
+place_alone text at behind value is = subst (EndsAt behind) (sym is) (ends_there value behind)
+
+-- what the text has at a place, from its number and from where that ends
+pub both_found : (r : Result (ℤ × ℕ) NumberFault) (n : ℤ) (behind : ℕ) → Ok n ≡ without_place r → EndsAt behind r → r ≡ found n behind
+both_found (Ok (m, place)) n behind same there = let is : n ≡ m = the_number n m same in sym (λ j. found (is j) (there j))
+  where
+    the_number : (n m : ℤ) → Ok n ≡ without_place (Ok (m, place)) → n ≡ m
+    the_number n m p = cc
+both_found (Err fault) n behind same there = absurd (no_number same)
+  where
+    no_number : Ok n ≡ without_place (Err fault) → ⊥
+    no_number p = cc
+
+pub both_fail : (r : Result (ℤ × ℕ) NumberFault) (fault : NumberFault) → Err fault ≡ without_place r → r ≡ Err fault
+both_fail (Ok (m, place)) fault same = absurd (some_number same)
+  where
+    some_number : Err fault ≡ without_place (Ok (m, place)) → ⊥
+    some_number p = cc
+both_fail (Err other) fault same = ap (λ (f : NumberFault). Err f) (the_fault same)
+  where
+    the_fault : Err fault ≡ without_place (Err other) → other ≡ fault
+    the_fault p = cc
 
 number_of-is : (u : ℕ) → u < 2 ^ 32 → u ≢ 1 → number_of u ≡ Ok (signed u)
 number_of-is u lt other = rw (lt-leb (2 ^ 32) u lt, ne_eqb u 1 other) refl
 
 -- a number of one digit
-pub one_digit : (text : List ℕ) (at d : ℕ) → at < length text → digit_of (get_or text at 0) ≡ Some d → d < 32 → d ≢ 1 → number_at text at ≡ Ok (signed d, at + 1)
+pub one_digit : (text : List ℕ) (at d : ℕ) → at < length text → digit_of (get_or text at 0) ≡ Some d
+    → d < 32 → d ≢ 1 → number_at text at ≡ Ok (signed d, at + 1)
 one_digit text at d lt is small other =
     ends text at at 0 1 d d (start text at) lt is small (omega arith)
     ∙ ap (λ (r : Result ℤ NumberFault). r >>= λ n. Ok (n, at + 1)) (number_of-is d (omega arith) other)
 
 -- a number of two digits
-pub two_digits : (text : List ℕ) (at d e u : ℕ) → at + 1 < length text → digit_of (get_or text at 0) ≡ Some d → 32 ≤ d → digit_of (get_or text (at + 1) 0) ≡ Some e → e < 32 → u ≡ d % 32 + 32 * e → u ≢ 1
+pub two_digits : (text : List ℕ) (at d e u : ℕ) → at + 1 < length text
+    → digit_of (get_or text at 0) ≡ Some d → 32 ≤ d → digit_of (get_or text (at + 1) 0) ≡ Some e → e < 32
+    → u ≡ d % 32 + 32 * e → u ≢ 1
     → number_at text at ≡ Ok (signed u, at + 2)
 two_digits text at d e u lt first large second small is other =
-    let p = goes_on text at at 0 1 d (d % 32) 32 (start text at) (omega arith) first large (omega arith) (omega arith) in
+    let p = goes_on text at at 0 1 d (d % 32) 32 (start text at) (omega arith) first large (omega arith)
+    (omega arith) in
     ends text at (at + 1) (d % 32) 32 e u p lt second small (omega arith)
     ∙ ap (λ (r : Result ℤ NumberFault). r >>= λ n. Ok (n, at + 1 + 1)) (number_of-is u (omega arith) other)
     ∙ ap (λ (k : ℕ). found (signed u) k) (omega arith)

@@ -1,13 +1,17 @@
 -- A text that spells numbers one behind another has these numbers.
-use Rattle.std.proofs.Common.{zero, suc, ◌%◌, ◌/◌, ◌≡◌, ℕ, ◌+◌, ◌<◌, ◌≤◌, Bool, true, false, cond, ltb, leb, List, [], ◌∷◌, ◌++◌, map, length, Option, Some, Result, Ok, ℤ, nat_abs, refl, sym, ap, subst, ◌∙◌, arith}
+use Rattle.std.proofs.Common.{zero, suc, ◌%◌, ◌/◌, ◌≡◌, ℕ, ◌+◌, ◌<◌, ◌≤◌, Bool, true, false, cond, ltb, leb}
+use Rattle.std.proofs.Common.{List, [], ◌∷◌, ◌++◌, map, length, Option, Some, Result, Ok, ℤ, nat_abs, refl}
+use Rattle.std.proofs.Common.{sym, ap, subst, ◌∙◌, arith}
 use Rattle.std.specs.Prelude.{flat_map}
 use Rattle.std.specs.List.{onto_first, AllByRecursion}
 use Rattle.std.specs.Option.{option_map_or}
 use Rattle.std.proofs.lemmas.Bool.{lt-leb, le-leb}
 use Rattle.smap_vlq.specs.declared.number.NumberFault.{NumberFault}
 use Rattle.smap_vlq.specs.declared.segment.SegmentFault.{SegmentFault}
-use Rattle.smap_vlq.specs.Number.{◌>>=◌, digit_of, digit_byte, number_digits, AreNumberDigits, number_of, unsigned, unsigned_of, Spells, spelling, shortest_digits}
-use Rattle.smap_vlq.specs.Segment.{SpellsAll, is_field_count, continues, number_texts, number_in, or_number_fault, numbers_from, counted, segment_of}
+use Rattle.smap_vlq.specs.Number.{◌>>=◌, digit_of, digit_byte, number_digits, AreNumberDigits, number_of}
+use Rattle.smap_vlq.specs.Number.{unsigned, unsigned_of, Spells, spelling, shortest_digits}
+use Rattle.smap_vlq.specs.Segment.{SpellsAll, is_field_count, continues, number_texts, number_in}
+use Rattle.smap_vlq.specs.Segment.{or_number_fault, numbers_from, counted, segment_of}
 use Rattle.std.proofs.lemmas.List.{append-nil}
 use Rattle.smap_vlq.proofs.NumberLemmas.{some, digits_are, digits_of_first}
 use Rattle.smap_vlq.proofs.ShortestLemmas.{has_one_shortest}
@@ -26,18 +30,22 @@ tail_is x y xs ys e = cc
 continues_is : (b d : ℕ) (t : Bool) → digit_of b ≡ some d → leb 32 d ≡ t → continues b ≡ t
 continues_is b d t e is = ap (λ (o : Option ℕ). option_map_or (leb 32) o false) e ∙ is
 
-cut_is : (b : ℕ) (bs : List ℕ) (t : Bool) → continues b ≡ t → number_texts (b ∷ bs) ≡ cond t (onto_first b (number_texts bs)) ((b ∷ []) ∷ number_texts bs)
+cut_is : (b : ℕ) (bs : List ℕ) (t : Bool) → continues b ≡ t
+    → number_texts (b ∷ bs) ≡ cond t (onto_first b (number_texts bs)) ((b ∷ []) ∷ number_texts bs)
 cut_is b bs t e = ap (λ (x : Bool). cond x (onto_first b (number_texts bs)) ((b ∷ []) ∷ number_texts bs)) e
 
-digits_read : (first ds : List ℕ) → map digit_of first ≡ map some ds → AreNumberDigits ds → number_digits first ≡ digits_are ds
+digits_read : (first ds : List ℕ) → map digit_of first ≡ map some ds → AreNumberDigits ds
+    → number_digits first ≡ digits_are ds
 digits_read first ds e h = ap number_digits (sym (append-nil first)) ∙ digits_of_first first [] ds e h
 
 -- the first text that a text is cut into
-pub cut_first : (first rest ds : List ℕ) → map digit_of first ≡ map some ds → AreNumberDigits ds → number_texts (first ++ rest) ≡ first ∷ number_texts rest
+pub cut_first : (first rest ds : List ℕ) → map digit_of first ≡ map some ds → AreNumberDigits ds
+    → number_texts (first ++ rest) ≡ first ∷ number_texts rest
 cut_first [] rest [] e h = absurd h
 cut_first [] rest (d ∷ ds) e h = absurd cc
 cut_first (b ∷ bs) rest [] e h = absurd h
-cut_first (b ∷ []) rest (d ∷ []) e h = cut_is b rest false (continues_is b d false (head_is _ _ _ _ e) (lt-leb 32 d h))
+cut_first (b ∷ []) rest (d ∷ []) e h = cut_is b rest false (continues_is b d false (head_is _ _ _ _ e)
+    (lt-leb 32 d h))
 cut_first (b ∷ []) rest (d ∷ f ∷ ds) e h = absurd (let t = tail_is _ _ _ _ e in cc)
 cut_first (b ∷ c ∷ bs) rest (d ∷ []) e h = absurd (let t = tail_is _ _ _ _ e in cc)
 cut_first (b ∷ c ∷ bs) rest (d ∷ f ∷ ds) e h =
@@ -48,12 +56,14 @@ abbrev number_is : ℤ → Result ℤ NumberFault
 number_is n = Ok n
 
 pub number_spelled : (first : List ℕ) (n : ℤ) → Spells first n → number_in first ≡ number_is n
-number_spelled first n s = ap (λ (r : Result (List ℕ) NumberFault). r >>= λ ds. number_of (unsigned ds)) (digits_read first s.digits s.spelled s.one_number) ∙ s.value
+number_spelled first n s = ap (λ (r : Result (List ℕ) NumberFault). r >>= λ ds. number_of (unsigned ds))
+    (digits_read first s.digits s.spelled s.one_number) ∙ s.value
 
 -- ---- a segment
 
 -- The numbers of a text are those that it spells.
-pub numbers_spelled : (text : List ℕ) (ns : List ℤ) (which : ℕ) → SpellsAll text ns → numbers_from which (number_texts text) ≡ numbers_are ns
+pub numbers_spelled : (text : List ℕ) (ns : List ℤ) (which : ℕ) → SpellsAll text ns
+    → numbers_from which (number_texts text) ≡ numbers_are ns
 numbers_spelled text [] which e = ap (λ (t : List ℕ). numbers_from which (number_texts t)) e
 numbers_spelled text (n ∷ ns) which h =
     let first : List ℕ = h.0 in
@@ -61,11 +71,14 @@ numbers_spelled text (n ∷ ns) which h =
     let s : Spells first n = h.3 in
     ap (λ (t : List ℕ). numbers_from which (number_texts t)) h.2
     ∙ ap (numbers_from which) (cut_first first rest s.digits s.spelled s.one_number)
-    ∙ ap (λ (r : Result ℤ NumberFault). or_number_fault which r >>= λ m. numbers_from (which + 1) (number_texts rest) >>= λ ms. numbers_are (m ∷ ms)) (number_spelled first n s)
-    ∙ ap (λ (r : Result (List ℤ) SegmentFault). r >>= λ ms. numbers_are (n ∷ ms)) (numbers_spelled rest ns (which + 1) h.4)
+    ∙ ap (λ (r : Result ℤ NumberFault). or_number_fault which r >>= λ m. numbers_from (which + 1)
+    (number_texts rest) >>= λ ms. numbers_are (m ∷ ms)) (number_spelled first n s)
+    ∙ ap (λ (r : Result (List ℤ) SegmentFault). r >>= λ ms. numbers_are (n ∷ ms))
+    (numbers_spelled rest ns (which + 1) h.4)
 
 -- A text that spells 1, 4 or 5 numbers is a segment of these.
-pub segment_spelled : (text : List ℕ) (ns : List ℤ) → SpellsAll text ns → is_field_count (length ns) ≡ true → segment_of text ≡ numbers_are ns
+pub segment_spelled : (text : List ℕ) (ns : List ℤ) → SpellsAll text ns → is_field_count (length ns) ≡ true
+    → segment_of text ≡ numbers_are ns
 unfolding segment_of
 segment_spelled [] ns h e = absurd (none_counted ns (numbers_spelled [] ns 1 h) e)
   where
@@ -87,12 +100,20 @@ segment_spelled (b ∷ bs) ns h e =
 pub spelling_spells : (n : ℤ) → nat_abs n ≤ 2147483647 → Spells (spelling n) n
 spelling_spells n le = (has_one_shortest n le).0.0
 
-pub spellings_spell : (ns : List ℤ) → AllByRecursion (λ n. nat_abs n ≤ 2147483647) ns → SpellsAll (flat_map spelling ns) ns
+pub spellings_spell : (ns : List ℤ) → AllByRecursion (λ n. nat_abs n ≤ 2147483647) ns
+    → SpellsAll (flat_map spelling ns) ns
 spellings_spell [] all = refl
-spellings_spell (n ∷ ns) all = (spelling n, flat_map spelling ns, refl, spelling_spells n all.0, spellings_spell ns all.1)
+spellings_spell (n ∷ ns) all = (
+  spelling n,
+  flat_map spelling ns,
+  refl,
+  spelling_spells n all.0,
+  spellings_spell ns all.1,
+)
 
 -- The numbers of their shortest spellings, one behind another.
-pub segment_of_spellings : (ns : List ℤ) → AllByRecursion (λ n. nat_abs n ≤ 2147483647) ns → is_field_count (length ns) ≡ true → segment_of (flat_map spelling ns) ≡ numbers_are ns
+pub segment_of_spellings : (ns : List ℤ) → AllByRecursion (λ n. nat_abs n ≤ 2147483647) ns
+    → is_field_count (length ns) ≡ true → segment_of (flat_map spelling ns) ≡ numbers_are ns
 segment_of_spellings ns all e = segment_spelled (flat_map spelling ns) ns (spellings_spell ns all) e
 
 -- ---- the bytes of what is spelled
@@ -119,9 +140,11 @@ Spells-some text n s = spelled_some text s.digits s.spelled s.one_number
 -- also behind one another
 pub SpellsAll-bytes : (text : List ℕ) (ns : List ℤ) → SpellsAll text ns → AllByRecursion IsDigitByte text
 SpellsAll-bytes text [] h = subst (AllByRecursion IsDigitByte) (sym h) tt
-SpellsAll-bytes text (n ∷ ns) h = subst (AllByRecursion IsDigitByte) (sym h.2) (both h.0 h.1 (Spells-bytes h.0 n h.3) (SpellsAll-bytes h.1 ns h.4))
+SpellsAll-bytes text (n ∷ ns) h = subst (AllByRecursion IsDigitByte) (sym h.2)
+    (both h.0 h.1 (Spells-bytes h.0 n h.3) (SpellsAll-bytes h.1 ns h.4))
   where
-    both : (xs ys : List ℕ) → AllByRecursion IsDigitByte xs → AllByRecursion IsDigitByte ys → AllByRecursion IsDigitByte (xs ++ ys)
+    both : (xs ys : List ℕ) → AllByRecursion IsDigitByte xs → AllByRecursion IsDigitByte ys
+        → AllByRecursion IsDigitByte (xs ++ ys)
     both [] ys a b = b
     both (x ∷ xs) ys a b = (a.0, both xs ys a.1 b)
 
@@ -132,7 +155,8 @@ unfolding shortest_digits
 digits_length zero u = omega arith
 digits_length (suc more) u = by_test (digits_length more (u / 32)) (ltb u 32)
   where
-    by_test : length (shortest_digits more (u / 32)) ≤ more → (t : Bool) → length (cond t (u ∷ []) ((u % 32 + 32) ∷ shortest_digits more (u / 32))) ≤ suc more
+    by_test : length (shortest_digits more (u / 32)) ≤ more → (t : Bool)
+        → length (cond t (u ∷ []) ((u % 32 + 32) ∷ shortest_digits more (u / 32))) ≤ suc more
     by_test rest true = omega arith
     by_test rest false = omega arith
 
@@ -142,4 +166,9 @@ bytes_length (d ∷ ds) = ap suc (bytes_length ds)
 
 pub spelling-length : (n : ℤ) → length (spelling n) ≤ 7
 unfolding spelling
-spelling-length n = omega (arith, bytes_length (shortest_digits 7 (unsigned_of n)), digits_length 7 (unsigned_of n))
+spelling-length n = omega (
+  arith,
+  bytes_length (shortest_digits 7 (unsigned_of n)),
+  digits_length 7
+      (unsigned_of n),
+)

@@ -1,10 +1,12 @@
 -- The unsigned value of digits, as it grows digit by digit.
-use Rattle.std.proofs.Common.{◌≡◌, ℕ, zero, suc, ◌+◌, ◌*◌, ◌^◌, ◌%◌, ◌<◌, ◌≤◌, min, List, [], ◌∷◌, ◌++◌, length, refl, ap, arith, inl, inr, length-append}
+use Rattle.std.proofs.Common.{◌≡◌, ℕ, zero, suc, ◌+◌, ◌*◌, ◌^◌, ◌%◌, ◌<◌, ◌≤◌, min, List, [], ◌∷◌, ◌++◌}
+use Rattle.std.proofs.Common.{length, refl, ap, arith, inl, inr, length-append}
 use Rattle.std.proofs.Math.Nat.{pow-succ'}
 use Rattle.std.proofs.lemmas.Bool.{cases_lt, le-leb}
 use Rattle.smap_vlq.specs.Number.{unsigned, number_of}
 
--- What a total and a weight say of the digits so far: their unsigned value up to 2 ^ 32, and what the next digit is worth up to 2 ^ 35.
+-- What a total and a weight say of the digits so far: their unsigned value up to 2 ^ 32, and what the next
+-- digit is worth up to 2 ^ 35.
 pub record Stands (total weight : ℕ) (digits : List ℕ) : Type 0 where
   pub total_is : total ≡ min (unsigned digits) (2 ^ 32)
   pub weight_is : weight ≡ min (32 ^ length digits) (2 ^ 35)
@@ -38,6 +40,9 @@ number_of-min u =
 pub Stands-push : (total weight : ℕ) (digits : List ℕ) (d : ℕ) → Stands total weight digits
     → Stands (min (total + (d % 32) * weight) (2 ^ 32)) (min (weight * 32) (2 ^ 35)) (digits ++ d ∷ [])
 Stands-push total weight digits d s = record {
-  total_is = rw (s.total_is, s.weight_is, unsigned-push digits d) (saturated (unsigned digits) (d % 32) (32 ^ length digits) (2 ^ 32) (2 ^ 35) (omega arith));
-  weight_is = let l : length (digits ++ d ∷ []) ≡ suc (length digits) = omega (arith, length-append digits (d ∷ [])) in rw (s.weight_is, l, pow-succ' 32 (length digits)) (omega arith);
+  total_is = rw (s.total_is, s.weight_is, unsigned-push digits d)
+      (saturated (unsigned digits) (d % 32) (32 ^ length digits) (2 ^ 32) (2 ^ 35) (omega arith));
+  weight_is = let l : length (digits ++ d ∷ []) ≡ suc (length digits) = omega
+      (arith, length-append digits (d ∷ [])) in rw (s.weight_is, l, pow-succ' 32 (length digits))
+      (omega arith);
 }

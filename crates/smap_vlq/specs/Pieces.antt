@@ -1,4 +1,4 @@
--- Which texts the state of a segment reader stands for.
+-- Which bytes the state of a segment reader stands for.
 use Rattle.std.specs.Prelude.{◌≡◌, ℕ, ◌+◌, ◌^◌, ◌≤◌, min, nat_lt, List, ◌++◌, map, length, take, Option, Some}
 use Rattle.std.specs.Prelude.{None, Err, ℤ}
 use Rattle.std.specs.List.{AllByRecursion}
@@ -8,7 +8,7 @@ use Rattle.smap_vlq.specs.declared.segment_reader.SegmentReader.{SegmentReader}
 use Rattle.smap_vlq.specs.Number.{digit_of, unsigned}
 use Rattle.smap_vlq.specs.Segment.{SpellsAll, segment_of, u8_count}
 
--- The text spells numbers, one behind another, up to a number whose last digit is still to come.
+-- The bytes are numbers, one after another, up to a number whose last digit is still to come.
 pub record IsRead (r : SegmentReader) (text : List ℕ) : Type 0 where
   pub front : List ℕ
   pub behind : List ℕ
@@ -30,6 +30,6 @@ StandsUnder r None text = IsRead r text
 StandsUnder r (Some fault) text = (rest : List ℕ)
     → segment_of (text ++ rest) ≡ Err (Number (u8_count (r.count + 1)) fault)
 
--- The state stands for the text: the bytes of a segment so far.
+-- The state stands for these bytes: those of the segment so far.
 abbrev pub StandsFor : SegmentReader → List ℕ → Type 0
 StandsFor r text = StandsUnder r r.fault text

@@ -2,8 +2,8 @@
 ghost use Rattle.std.specs.Prelude.{◌≡◌, ◌≢◌, ℕ, ◌<◌, Some, IfSome};
 ghost use Rattle.smap_vlq.specs.Number.{digit_of, digit_byte, signed};
 
-/// The digit of each byte, and 64 for a byte that is none. A look-up costs the same for each byte,
-/// where a `match` over the ranges costs a wrong guess of the processor for many.
+/// The digit of each byte, and 64 for a byte that is none. A look-up costs the same for each byte, where a
+/// `match` over the ranges costs a branch misprediction for many.
 #[rattlefmt::skip]
 const DIGITS: [u8; 256] = [
     64, 64, 64, 64, 64, 64, 64, 64, 64, 64, 64, 64, 64, 64, 64, 64,
@@ -33,8 +33,8 @@ pub fn digit_value(byte: u8) -> Option<u8>
     if digit < 64 { Some(digit) } else { None }
 }
 
-/// The number of each byte that is one by itself, a digit below 32 and not 1, plus 16; and 0 for all other
-/// bytes. Most numbers are such a byte, and one look-up and one comparison read it.
+/// For each byte that is a number by itself, a digit below 32 other than 1, that number plus 16; and 0 for
+/// all other bytes. Most numbers are such a byte, and are read with one look-up and one comparison.
 #[rattlefmt::skip]
 const LONE_NUMBERS: [u8; 256] = [
     0, 0, 0, 0, 0, 0, 0, 0, 0, 0, 0, 0, 0, 0, 0, 0,

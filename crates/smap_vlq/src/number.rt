@@ -1,45 +1,51 @@
-//! A number that stands in a text.
-ghost use Rattle.std.specs.Prelude.{◌≡◌, ◌+◌, ◌*◌, ◌%◌, ◌^◌, ◌<◌, ◌≤◌, min, length, Ok, IfSome};
-ghost use Rattle.smap_vlq.specs.Number.{signed, number_of, number_at};
+//! Reading a number.
+ghost use Rattle.std.specs.Prelude.{◌≡◌, ◌+◌, ◌*◌, ◌%◌, ◌^◌, ◌<◌, ◌≤◌, min, length, Ok, IfOk, IfSome};
+ghost use Rattle.smap_vlq.specs.Number.{signed, number_of, number_at, without_place};
 
 use crate::digit::{digit_value, lone_number};
 
-/// The greatest number that a text can spell, and so the greatest line, column or index of a map:
-/// 2^31 - 1. A bound of our own.
+/// The greatest number that can be encoded, and so the greatest line, column or index of a map: 2^31 - 1.
+/// This project's own bound; the standard has none for lines and columns.
 pub const MAX_POSITION: u32 = 2_147_483_647;
 
-/// Why no number stands at a place.
+/// Why no number can be read.
 #[derive(Clone, Copy, Debug, PartialEq, Eq)]
 pub enum NumberFault {
-    /// The text ends before a last digit.
+    /// The string ends before a digit without a continuation bit.
     Unfinished,
-    /// A byte is no digit.
+    /// A byte isn't a Base64 digit.
     Character,
-    /// The unsigned value is 2^32 or more.
+    /// The unsigned value is 2^32 or more. This project's own bound.
     TooLarge,
-    /// The unsigned value is 1: the sign of a negative number, and no magnitude.
+    /// The unsigned value is 1: a minus sign with magnitude 0. Rejecting it is this project's own rule.
     NegativeZero,
 }
 
-/// The number that starts at the place `at`, which counts from 0, and the place behind it.
+/// Reads the number that begins at index `at` of `text` (ECMA-426, "Base64 VLQ"), and answers it with the
+/// index after its last digit.
 ///
-/// The first place at or after `at` that holds no continuation digit decides. Past the end of the
-/// text, the number is unfinished; a byte there that is no digit is a bad character; else it is the
-/// last digit, and the unsigned value of the digits says whether there is a number. Numbers are
-/// those from -2,147,483,647 to 2,147,483,647, and may be padded with any number of zero digits
-/// (`gA` is 0). Costs a step a digit. (ECMA-426, "Base64 VLQ"; the bounds are our own.)
+/// Numbers are from -2,147,483,647 to 2,147,483,647. Redundant zero digits at the end, as in `gA` for 0,
+/// are accepted. The time is linear in the number of digits.
+///
+/// # Errors
+///
+/// The first byte from `at` on that isn't a continuation digit decides: past the end of `text` the number
+/// is `Unfinished`; a byte that isn't a digit is a `Character` fault; else the number ends there, and its
+/// unsigned value may be `TooLarge` or a `NegativeZero`.
 #[inline(always)]
 pub fn read_number(text: &[u8], at: usize) -> Result<(i32, usize), NumberFault>
     ensures { result ≡ number_at text.now at }
 {
-    // Most numbers have one digit or two: they are read where the caller is, all others out of line.
+    // Most numbers have one digit or two, and are read inline; all others are read out of line.
     if let Some(found) = read_short(text, at) {
         return Ok(found);
     }
-    read_long(text, at)
+    let mut end = at;
+    let number = read_long(text, &mut end)?;
+    Ok((number, end))
 }
 
-/// The number of one digit or two that starts at the place, if one does.
+/// The number of one digit or two at an index, if there is one.
 #[inline(always)]
 fn read_short(text: &[u8], at: usize) -> Option<(i32, usize)>
     ensures { IfSome result (λ found. Ok found ≡ number_at text.now at) }
@@ -53,7 +59,7 @@ fn read_short(text: &[u8], at: usize) -> Option<(i32, usize)>
     read_two(text, at)
 }
 
-/// The number of two digits at a place of the text, if one stands there.
+/// The number of two digits at an index, if there is one.
 #[inline(always)]
 fn read_two(text: &[u8], at: usize) -> Option<(i32, usize)>
     requires { at < length text.now }
@@ -71,29 +77,30 @@ fn read_two(text: &[u8], at: usize) -> Option<(i32, usize)>
     Some((of_unsigned(unsigned), at + 2))
 }
 
-/// The number at a place, digit by digit.
+/// The number at an index, digit by digit; the index is moved to the byte after it.
 #[inline(never)]
-fn read_long(text: &[u8], at: usize) -> Result<(i32, usize), NumberFault>
-    ensures { result ≡ number_at text.now at }
+fn read_long(text: &[u8], place: &mut usize) -> Result<i32, NumberFault>
+    ensures number { result ≡ without_place (number_at text.now place.old) }
+    ensures behind { IfOk (number_at text.now place.old) (λ found. place.new ≡ found.1) }
 {
     let mut unsigned = Unsigned::of_no_digits();
-    let mut place = at;
-    while place < text.len() {
-        let Some(digit) = digit_value(text[place]) else {
+    let mut at = *place;
+    while at < text.len() {
+        let Some(digit) = digit_value(text[at]) else {
             return Err(NumberFault::Character);
         };
         unsigned = unsigned.with_digit(digit);
-        place += 1;
+        at += 1;
         if digit < 32 {
-            let number = signed(unsigned.total)?;
-            return Ok((number, place));
+            *place = at;
+            return signed(unsigned.total);
         }
     }
     Err(NumberFault::Unfinished)
 }
 
-/// The unsigned value of the digits so far, and what the next digit is worth. Each stays where it
-/// is once it is past all that a number can be, so that padding can be of any length.
+/// The unsigned value of the digits so far, and what the next digit is worth. Both saturate above the range
+/// of numbers, so that there may be any number of redundant digits.
 #[derive(Clone, Copy)]
 pub(crate) struct Unsigned {
     pub(crate) total: u64,
@@ -125,7 +132,7 @@ impl Unsigned {
     }
 }
 
-/// The number of an unsigned value, or why it has none.
+/// The number with this unsigned value, or why there is none.
 pub(crate) fn signed(unsigned: u64) -> Result<i32, NumberFault>
     ensures { result ≡ number_of unsigned }
 {

@@ -1,4 +1,4 @@
-//! A segment read byte by byte, of a text that comes in pieces.
+//! Reading a segment byte by byte, for a mappings string that comes in pieces.
 ghost use Rattle.std.specs.Prelude.{◌≡◌, ◌-◌, List, ℕ, [], ◌∷◌, ◌++◌, take, length, replicate, pos};
 ghost use Rattle.smap_vlq.specs.Segment.{fields_in};
 ghost use Rattle.smap_vlq.specs.Pieces.{StandsFor};
@@ -8,9 +8,8 @@ use crate::number::{NumberFault, Unsigned, signed};
 use crate::segment::{Fields, SegmentFault, is_field_count};
 use arrayvec::ArrayVec;
 
-/// Reads a segment byte by byte, and stores none of its text: the first five numbers, how many
-/// there are, the unsigned value of the number that a last digit hasn't ended yet, and the first
-/// fault of spelling.
+/// Reads a segment byte by byte, and stores none of its bytes: only the first five numbers, how many there
+/// are, the unsigned value of an unfinished number, and the first fault.
 #[derive(Drop)]
 pub struct SegmentReader {
     numbers: ArrayVec<i32, 5>,
@@ -23,7 +22,7 @@ pub struct SegmentReader {
 }
 
 impl SegmentReader {
-    /// A reader in front of a segment.
+    /// A reader before the first byte of a segment.
     pub fn new() -> SegmentReader
         ensures { StandsFor result [] }
     {
@@ -36,7 +35,7 @@ impl SegmentReader {
         }
     }
 
-    /// Reads one byte more of the segment.
+    /// Takes the next byte of the segment. A fault is answered by [`SegmentReader::end`].
     pub fn byte(&mut self, byte: u8)
         ensures { (text : List ℕ) → StandsFor self.old text → StandsFor self.new (text ++ byte ∷ []) }
     {
@@ -64,9 +63,12 @@ impl SegmentReader {
         }
     }
 
-    /// The fields of the segment whose bytes were read since `new` or the last `end`, or its first
-    /// fault: what `read_segment` answers for them. The reader is in front of the next segment
-    /// then.
+    /// Ends the segment, and answers what [`read_segment`](crate::read_segment) answers for the bytes since
+    /// `new` or the last `end`. The reader is then ready for the next segment.
+    ///
+    /// # Errors
+    ///
+    /// Those of `read_segment`.
     pub fn end(&mut self) -> Result<Fields, SegmentFault>
         ensures answers { (text : List ℕ) → StandsFor self.old text → result ≡ fields_in text }
         ensures again { StandsFor self.new [] }
@@ -99,7 +101,7 @@ impl SegmentReader {
     }
 }
 
-/// Keeps a number, if there is a place for it.
+/// Keeps a number, if it is one of the first five.
 fn keep(numbers: &mut ArrayVec<i32, 5>, number: i32)
     ensures { numbers.new.items ≡ take 5 (numbers.old.items ++ number ∷ []) }
 {
@@ -108,7 +110,7 @@ fn keep(numbers: &mut ArrayVec<i32, 5>, number: i32)
     }
 }
 
-/// The numbers in five places, the others are 0.
+/// The numbers, followed by zeros up to five.
 fn padded(numbers: &ArrayVec<i32, 5>) -> [i32; 5]
     ensures { result ≡ numbers.now.items ++ replicate (5 - length numbers.now.items) (pos 0) }
 {

@@ -1,21 +1,25 @@
 -- What a reader of values makes of a flag's text and of a number's.
-use Rattle.std.proofs.Common.{◌≡◌, ◌==◌, ◌∙◌, ℕ, ◌<◌, ◌≤◌, ◌^◌, Bool, true, false, cond, List, [], ◌∷◌, Option, Some, None, IfSome, ap, refl, subst, codes, drop, unwrap_or, arith}
+use Rattle.std.proofs.Common.{◌≡◌, ◌==◌, ◌∙◌, ℕ, ◌<◌, ◌≤◌, ◌^◌, Bool, true, false, cond, List, [], ◌∷◌}
+use Rattle.std.proofs.Common.{Option, Some, None, IfSome, ap, refl, subst, codes, drop, unwrap_or, arith}
 use Rattle.std.specs.Prelude.{◌↔◌, IsSome, IsSomeAnd, IsTrue, Result, Ok, pos}
 use Rattle.std.proofs.lemmas.Bool.{ne_eqb}
 use Rattle.std.proofs.lemmas.Int.{ints}
 use Rattle.std.proofs.lemmas.Str.Parse.{digit_from_value}
-use Rattle.std.specs.Str.Parse.{IsNumeral, ParsesBool, ParsesUnsigned, digits_value, starts_with_minus, without_leading_plus}
+use Rattle.std.specs.Str.Parse.{IsNumeral, ParsesBool, ParsesUnsigned, digits_value, starts_with_minus}
+use Rattle.std.specs.Str.Parse.{without_leading_plus}
 use Rattle.clap.specs.Words.{IsSignedIn, ReadsOne, Text, without_minus}
 use Rattle.clap.proofs.CallerReads.{signed_reads}
 
 -- ---- flags
 
-read_flag : (E : Type 0) (text : Text) (o : Option Bool) → ReadsOne {T = Bool} {E = E} ParsesBool text o → IsTrue (unwrap_or o false) ↔ (Some text ≡ Some (codes "true"))
+read_flag : (E : Type 0) (text : Text) (o : Option Bool) → ReadsOne {T = Bool} {E = E} ParsesBool text o
+    → IsTrue (unwrap_or o false) ↔ (Some text ≡ Some (codes "true"))
 read_flag E text (Some true) h = (λ t. rw h refl, λ e. refl)
 read_flag E text (Some false) h = (λ t. absurd cc, λ e. absurd cc)
 read_flag E text None h = (λ t. absurd cc, λ e. absurd (h.1.0 cc))
 
-pub flag_reads : (E : Type 0) (text : Option Text) (o : Option Bool) → (text ≡ None → o ≡ None) → ((t : Text) → text ≡ Some t → ReadsOne {T = Bool} {E = E} ParsesBool t o)
+pub flag_reads : (E : Type 0) (text : Option Text) (o : Option Bool) → (text ≡ None → o ≡ None)
+    → ((t : Text) → text ≡ Some t → ReadsOne {T = Bool} {E = E} ParsesBool t o)
     → IsTrue (unwrap_or o false) ↔ (text ≡ Some (codes "true"))
 flag_reads E None o none some = rw (none refl) (λ t. absurd cc, λ e. absurd cc)
 flag_reads E (Some t) o none some = read_flag E t o (some t refl)
@@ -26,19 +30,22 @@ flag_reads E (Some t) o none some = read_flag E t o (some t refl)
 abbrev Spells : Text → ℕ → Type 0
 Spells text n = IsNumeral 10 (without_leading_plus text) × (n ≡ digits_value 10 (without_leading_plus text))
 
-module _ {E : Type 0} (G : List ℕ → Result ℕ E → Type 0) (parses : (t : Text) (r : Result ℕ E) → G t r → ParsesUnsigned 32 10 t r) where
+module _ {E : Type 0} (G : List ℕ → Result ℕ E → Type 0) (parses : (t : Text) (r : Result ℕ E) → G t r
+    → ParsesUnsigned 32 10 t r) where
   read_number : (text : Text) (o : Option ℕ) → ReadsOne G text o → IfSome o (Spells text)
   read_number text (Some n) h =
       let p = parses text (Ok n) h in
       (p.0.0, p.1)
   read_number text None h = tt
 
-  pub number_reads : (text : Option Text) (o : Option ℕ) → (text ≡ None → o ≡ None) → ((t : Text) → text ≡ Some t → ReadsOne G t o)
+  pub number_reads : (text : Option Text) (o : Option ℕ) → (text ≡ None → o ≡ None)
+      → ((t : Text) → text ≡ Some t → ReadsOne G t o)
       → IfSome o (λ n. IsSomeAnd text (λ t. Spells t n))
   number_reads None o none some = rw (none refl) tt
   number_reads (Some t) o none some = read_number t o (some t refl)
 
-  pub position_reads : (high : ℕ) → high < 2 ^ 32 → (text : Option Text) (o : Option ℕ) → ((t : Text) → text ≡ Some t → ReadsOne G t o)
+  pub position_reads : (high : ℕ) → high < 2 ^ 32 → (text : Option Text) (o : Option ℕ)
+      → ((t : Text) → text ≡ Some t → ReadsOne G t o)
       → (t : Text) → text ≡ Some (without_minus t) → IsSignedIn (pos 0) (pos high) t → IsSome o
   position_reads high small text o some t is passed =
       let got = signed_reads E G 32 0 high t o (some (without_minus t) is) parses small passed in
@@ -61,16 +68,20 @@ no_plus (d ∷ ds) h =
     ap (λ (b : Bool). drop (cond b 1 0) (d ∷ ds)) plus
 
 -- what is read of a text in the range is in the range
-pub in_range : (high n : ℕ) (t : Text) → IsSignedIn (pos 0) (pos high) t → n ≡ digits_value 10 (without_leading_plus (without_minus t)) → n ≤ high
+pub in_range : (high n : ℕ) (t : Text) → IsSignedIn (pos 0) (pos high) t
+    → n ≡ digits_value 10 (without_leading_plus (without_minus t)) → n ≤ high
 in_range high n t passed is =
-    go (starts_with_minus t) refl (subst (λ (u : Text). n ≡ digits_value 10 (without_leading_plus u)) (without_minus-cond t) is)
+    go (starts_with_minus t) refl (subst (λ (u : Text). n ≡ digits_value 10 (without_leading_plus u))
+    (without_minus-cond t) is)
   where
-    go : (b : Bool) → starts_with_minus t ≡ b → n ≡ digits_value 10 (without_leading_plus (cond (starts_with_minus t) (drop 1 t) t)) → n ≤ high
+    go : (b : Bool) → starts_with_minus t ≡ b → n ≡ digits_value 10
+        (without_leading_plus (cond (starts_with_minus t) (drop 1 t) t)) → n ≤ high
     go true minus e =
         let low_ok = rw minus at passed.2 in
         let numeral : IsNumeral 10 (drop 1 t) = rw minus at passed.0 in
         let value : n ≡ digits_value 10 (without_leading_plus (drop 1 t)) = rw minus at e in
-        let same : n ≡ digits_value 10 (drop 1 t) = value ∙ ap (digits_value 10) (no_plus (drop 1 t) numeral) in
+        let same : n ≡ digits_value 10 (drop 1 t) = value ∙ ap (digits_value 10)
+        (no_plus (drop 1 t) numeral) in
         omega (arith, ints)
     go false minus e =
         let high_ok = rw minus at passed.3 in

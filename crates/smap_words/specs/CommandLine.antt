@@ -1,29 +1,26 @@
--- The command line of `smap`, as a simple command of `clap`.
-use Rattle.std.specs.Prelude.{ℕ, Some, pos, true, codes}
+-- The command line of `smap`, as a simple command in the sense of `clap`'s specification.
+use Rattle.std.specs.Prelude.{Some, pos, true, codes}
 use Rattle.clap.specs.Words.{App, Rule, Text, new_app, new_rule, with_rule, with_subcommand}
 use Rattle.clap.specs.declared.builder.action.ArgAction.TheVariants.{SetTrue}
 use Rattle.clap.specs.declared.builder.value_parser.ValueParser.TheVariants as vp
+use Rattle.smap_vlq.specs.declared.number.TheConstants.{MAX_POSITION}
 
--- the greatest line, and the greatest column
-abbrev pub max_position : ℕ
-max_position = 2147483647
-
--- a word that has to be there
+-- a required argument
 abbrev pub wanted : Text → Rule
 wanted id = record (new_rule id) { required = true }
 
--- such a word that is a whole number from 0 to the greatest, by `clap`'s reader of whole numbers
+-- a required argument that is an integer from 0 to the greatest, by `clap`'s parser of integers
 abbrev pub position : Text → Rule
-position id = record (wanted id) { parser = Some (vp.Signed (pos 0) (pos max_position)) }
+position id = record (wanted id) { parser = Some (vp.Signed (pos 0) (pos MAX_POSITION)) }
 
--- a flag, which is there or not
+-- a flag without a value
 abbrev pub flag : Text → Rule
 flag name = record (new_rule name) { long = Some name; action = Some SetTrue }
 
 abbrev pub respell : App
 respell = new_app (codes "respell")
 
--- a command that takes BASE alone
+-- a command that takes only BASE
 abbrev pub on_base : Text → App
 on_base name = with_rule (new_app name) (wanted (codes "BASE"))
 
@@ -39,7 +36,7 @@ lookup = with_rule (with_rule (on_base (codes "lookup")) (position (codes "LINE"
 abbrev pub translate : App
 translate = with_rule (new_app (codes "translate")) (flag (codes "hide-ignored"))
 
--- `smap`, before its subcommands: one is wanted, and `help` is none of them
+-- `smap` without its subcommands: one is required, and there is no subcommand `help`
 abbrev pub smap_alone : App
 smap_alone = record (new_app (codes "smap")) {
   top = record (new_app (codes "smap")).top { subcommand_required = true; disable_help_subcommand = true };

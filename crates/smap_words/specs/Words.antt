@@ -1,21 +1,21 @@
--- Which task the words of a command line name.
+-- Which task the arguments of a command line name.
 use Rattle.std.specs.Prelude.{◌≡◌, ◌≢◌, ◌≤◌, ◌⊎◌, ◌↔◌, ℕ, Bool, List, Option, Some, codes, pos}
 use Rattle.std.specs.Prelude.{IsSome, IsSomeAnd, IsTrue}
 use Rattle.std.specs.Str.Parse.{IsNumeral, digits_value, without_leading_plus}
 use Rattle.clap.specs.Words.{IsAmong, IsSignedIn, Kinds, Row, Text, first_of, kind_of, one_of, without_minus}
 use Rattle.clap.specs.declared.error.kind.ErrorKind.{ErrorKind}
 use Rattle.clap.specs.declared.error.kind.ErrorKind.TheVariants.{OutOfMemory}
-use Rattle.smap_words.specs.CommandLine.{max_position}
+use Rattle.smap_vlq.specs.declared.number.TheConstants.{MAX_POSITION}
 use Rattle.smap_words.specs.declared.words.WordsFault.{WordsFault}
 use Rattle.smap_words.specs.declared.words.WordsFault.TheVariants as fault
 use Rattle.smap_words.specs.declared.words.Task.{Task}
 use Rattle.smap_words.specs.declared.words.Task.TheVariants.{Respell, Check, Tidy, Flatten, Lookup, Translate}
 
--- the text is the value of the argument
+-- the string is the value of the argument
 abbrev pub HasText : List Row → Text → Text → Type 0
 HasText rows id text = first_of id rows ≡ Some text
 
--- the number is the one that the value of the argument spells in decimal digits
+-- the value of the argument is this number in decimal digits, with a plus sign or without
 abbrev pub HasNumber : List Row → Text → ℕ → Type 0
 HasNumber rows id n = IsSomeAnd (one_of id rows) (λ text.
     IsNumeral 10 (without_leading_plus text) × (n ≡ digits_value 10 (without_leading_plus text)))
@@ -41,35 +41,35 @@ TaskGiven named task = IsSomeAnd named (λ m. IsTaskOf m task)
 
 -- The line and the column of a lookup are at most the greatest.
 abbrev pub IsInRange : Task → Type 0
-IsInRange (Lookup base line column) = (line ≤ max_position) × (column ≤ max_position)
+IsInRange (Lookup base line column) = (line ≤ MAX_POSITION) × (column ≤ MAX_POSITION)
 IsInRange task = Unit {0}
 
--- The argument has a value, and that is a whole number from 0 to the greatest.
+-- The argument has a value, and it is an integer from 0 to the greatest.
 abbrev pub HasPosition : List Row → Text → Type 0
 HasPosition rows id = (text : Text) × (one_of id rows ≡ Some (without_minus text))
-    × IsSignedIn (pos 0) (pos max_position) text
+    × IsSignedIn (pos 0) (pos MAX_POSITION) text
 
--- the name is one of the commands that take BASE, and no other value
+-- the name is that of a command that takes BASE and no other value
 abbrev pub IsOnBase : Text → Type 0
 IsOnBase name = (name ≡ codes "check") ⊎ ((name ≡ codes "tidy") ⊎ (name ≡ codes "flatten"))
 
--- BASE, LINE and COLUMN are there
+-- BASE, LINE and COLUMN have values
 abbrev pub HasLookupValues : List Row → Type 0
 HasLookupValues rows = IsSome (first_of (codes "BASE") rows)
     × HasPosition rows (codes "LINE") × HasPosition rows (codes "COLUMN")
 
--- A command that there is, with the values that it needs.
+-- The name is that of a command, and its required arguments have values.
 abbrev pub IsCommand : Text × List Row → Type 0
 IsCommand m = (m.0 ≡ codes "respell")
     ⊎ ((IsOnBase m.0 × IsSome (first_of (codes "BASE") m.1))
     ⊎ (((m.0 ≡ codes "lookup") × HasLookupValues m.1) ⊎ (m.0 ≡ codes "translate")))
 
--- the refusal of a parse whose error has this kind
+-- the error that is answered where `clap`'s error has this kind
 abbrev pub IsRefusalOf : ErrorKind → WordsFault → Type 0
 IsRefusalOf kind (fault.Words e) = (kind_of e ≡ kind) × (kind ≢ OutOfMemory)
 IsRefusalOf kind fault.Memory = kind ≡ OutOfMemory
 
--- The error is one of those that the words give, or memory ran out.
+-- The error is one of those that the arguments give, or memory ran out.
 abbrev pub IsRefusalBy : Kinds → WordsFault → Type 0
 IsRefusalBy kinds (fault.Words e) = IsAmong (kind_of e) kinds
 IsRefusalBy kinds fault.Memory = Unit {0}

@@ -1,6 +1,7 @@
-//! The command line of `smap` as a task: which command its words name, with which values. What `clap`
-//! takes and refuses is what its own definitions say of the command line that `specs/CommandLine.antt`
-//! defines; `specs/Words.antt` says which task that is.
+//! The command line of `smap`: from arguments to a task, which is a command with its values.
+//!
+//! `specs/CommandLine.antt` defines the command line, and `clap`'s own specification says which arguments it
+//! accepts; `specs/Words.antt` says which task they are.
 #![tactic(auto)]
 
 pub mod laws;

@@ -1,5 +1,5 @@
-//! The command line as a task. What `clap` takes and refuses is what its own definitions say of the
-//! command that is built here.
+//! From the arguments of a command line to a task. Which arguments `clap` accepts is defined by its own
+//! specification, for the command that is built here.
 ghost use Rattle.std.specs.Prelude.{◌≡◌, IfErr, IfOk, IfSome, IsSome, IsSomeAnd, OnOk, [], map, option_map};
 ghost use Rattle.std.specs.Prelude.{true, false};
 ghost use Rattle.clap.specs.Words.{app_of, fault_of, first_of, found_of, kind_of, rows_of, rule_of, shape_of};
@@ -12,55 +12,54 @@ ghost use Rattle.smap_words.specs.declared.words.WordsFault.TheVariants as fault
 
 use clap::error::ErrorKind;
 use clap::{Arg, ArgAction, ArgMatches, Command, Error};
+use smap_vlq::MAX_POSITION;
 use std::alloc::{AllocError, Global};
 
-/// The greatest line, and the greatest column.
-const MAX_POSITION: i64 = 2_147_483_647;
-
-/// What the words of a command line ask for.
+/// What a command line asks for: a command with its values.
 #[derive(Clone, Copy, Debug, PartialEq, Eq)]
 pub enum Task<'a> {
-    /// `respell`: a mappings text in its shortest spellings.
+    /// `respell`: re-encode a bare `mappings` string, sorted and as short as possible.
     Respell,
-    /// `check BASE`: whether a map is accepted, and how much it holds.
+    /// `check BASE`: validate a map, and print a summary or its first error.
     Check {
-        /// The URL against which the map's sources are resolved.
+        /// The URL of the map, against which its sources are resolved. It isn't parsed yet.
         base: &'a str,
     },
-    /// `tidy [--relative] BASE`: the canonical form of a map.
+    /// `tidy [--relative] BASE`: write a map in canonical form.
     Tidy {
-        /// The URL against which the map's sources are resolved.
+        /// The URL of the map, against which its sources are resolved. It isn't parsed yet.
         base: &'a str,
-        /// Whether sources are spelled relatively to the base, where that leads back to them.
+        /// Whether source URLs are written relative to the base, where that round-trips.
         relative: bool,
     },
-    /// `flatten BASE`: a map as one flat map, with its lists as they are.
+    /// `flatten BASE`: write a map as one flat map, with sources and names as listed.
     Flatten {
-        /// The URL against which the map's sources are resolved.
+        /// The URL of the map, against which its sources are resolved. It isn't parsed yet.
         base: &'a str,
     },
-    /// `lookup BASE LINE COLUMN`: where a position of the generated text comes from.
+    /// `lookup BASE LINE COLUMN`: find the original position of a generated position.
     Lookup {
-        /// The URL against which the map's sources are resolved.
+        /// The URL of the map, against which its sources are resolved. It isn't parsed yet.
         base: &'a str,
-        /// The generated line, counted from 0, at most 2,147,483,647.
+        /// The generated line, from 0 to 2,147,483,647.
         line: u32,
-        /// The generated column, counted from 0, at most 2,147,483,647.
+        /// The generated column, from 0 to 2,147,483,647.
         column: u32,
     },
-    /// `translate [--hide-ignored]`: a stack trace with the positions of the sources.
+    /// `translate [--hide-ignored]`: translate a stack trace to source positions.
     Translate {
-        /// Whether lines that come from ignored sources are left out.
+        /// Whether frames in ignored sources are left out.
         hide: bool,
     },
 }
 
-/// Why words name no task.
+/// Why there is no task.
 #[derive(Debug, Drop)]
 pub enum WordsFault {
-    /// They are none of the command line, or ask for help: the error prints either.
+    /// The arguments are wrong, or ask for help. The error prints itself, and knows its exit code: 2, or 0
+    /// for help.
     Words(Error),
-    /// There was no memory.
+    /// Out of memory.
     Memory,
 }
 
@@ -68,21 +67,23 @@ fn respell<'a>(alloc: Global) -> Command<'a>
     ensures shape { app_of result ≡ line.respell }
     ensures local { (fields_of result).has_globals ≡ false }
 {
-    Command::new(alloc, "respell").about("Write a mappings text in its shortest sorted spelling")
+    Command::new(alloc, "respell").about(
+        "Re-encode a \"mappings\" string: sorted, and as short as possible",
+    )
 }
 
-/// A command that takes a base.
+/// A command that takes BASE.
 fn on_base<'a>(alloc: Global, name: &'a str, about: &'a str) -> Result<Command<'a>, AllocError>
     ensures shape { IfOk result (λ c. app_of c ≡ line.on_base name.now) }
     ensures local { IfOk result (λ c. (fields_of c).has_globals ≡ false) }
 {
     let base = Arg::new(alloc, "BASE")
         .required(true)
-        .help("The URL against which the map's sources are resolved");
+        .help("URL of the map, against which its sources are resolved");
     Command::new(alloc, name).about(about).arg(base)
 }
 
-/// A flag, which is there or not.
+/// A flag without a value.
 fn flag<'a>(alloc: Global, name: &'a str, help: &'a str) -> Arg<'a>
     ensures rule { rule_of result ≡ line.flag name.now }
     ensures local { result.global ≡ false }
@@ -93,31 +94,31 @@ fn flag<'a>(alloc: Global, name: &'a str, help: &'a str) -> Arg<'a>
         .help(help)
 }
 
-/// The command that takes a base and a flag.
+/// The command that takes BASE and a flag.
 fn tidy<'a>(alloc: Global) -> Result<Command<'a>, AllocError>
     ensures shape { IfOk result (λ c. app_of c ≡ line.tidy) }
     ensures local { IfOk result (λ c. (fields_of c).has_globals ≡ false) }
 {
-    let command = on_base(alloc, "tidy", "Write the canonical form of a map")?;
+    let command = on_base(alloc, "tidy", "Write a map in canonical form")?;
     command.arg(flag(
         alloc,
         "relative",
-        "Spell sources relatively to the base where that leads back to them",
+        "Write source URLs relative to BASE where that round-trips",
     ))
 }
 
-/// A line or a column.
+/// A required line or column.
 fn position<'a>(alloc: Global, name: &'a str, help: &'a str) -> Arg<'a>
     ensures rule { rule_of result ≡ line.position name.now }
     ensures local { result.global ≡ false }
 {
     Arg::new(alloc, name)
         .required(true)
-        .value_parser(clap::value_parser!(u32).range(0..=MAX_POSITION))
+        .value_parser(clap::value_parser!(u32).range(0..=MAX_POSITION as i64))
         .help(help)
 }
 
-/// The command that takes a base and a position.
+/// The command that takes BASE and a position.
 fn lookup<'a>(alloc: Global) -> Result<Command<'a>, AllocError>
     ensures shape { IfOk result (λ c. app_of c ≡ line.lookup) }
     ensures local { IfOk result (λ c. (fields_of c).has_globals ≡ false) }
@@ -125,24 +126,20 @@ fn lookup<'a>(alloc: Global) -> Result<Command<'a>, AllocError>
     let command = on_base(
         alloc,
         "lookup",
-        "Say where a position of the generated text comes from",
+        "Find the original position of a generated position",
     )?;
-    let command = command.arg(position(alloc, "LINE", "The generated line, counted from 0"))?;
-    command.arg(position(alloc, "COLUMN", "The generated column, counted from 0"))
+    let command = command.arg(position(alloc, "LINE", "Generated line, counted from 0"))?;
+    command.arg(position(alloc, "COLUMN", "Generated column, counted from 0"))
 }
 
-/// The command that takes a flag alone.
+/// The command that takes only a flag.
 fn translate<'a>(alloc: Global) -> Result<Command<'a>, AllocError>
     ensures shape { IfOk result (λ c. app_of c ≡ line.translate) }
     ensures local { IfOk result (λ c. (fields_of c).has_globals ≡ false) }
 {
     Command::new(alloc, "translate")
-        .about("Write a stack trace with the positions of the sources")
-        .arg(flag(
-            alloc,
-            "hide-ignored",
-            "Leave out the lines that come from ignored sources",
-        ))
+        .about("Translate a stack trace to source positions")
+        .arg(flag(alloc, "hide-ignored", "Leave out frames in ignored sources"))
 }
 
 fn with<'a>(command: Command<'a>, sub: Command<'a>) -> Result<Command<'a>, AllocError>
@@ -160,24 +157,30 @@ fn alone<'a>(alloc: Global) -> Command<'a>
     ensures local { (fields_of result).has_globals ≡ false }
 {
     Command::new(alloc, "smap")
-        .about("Read source maps and stack traces from standard input")
+        .about(
+            "Validate and normalize source maps, and translate stack traces, read from standard input",
+        )
         .subcommand_required(true)
         .disable_help_subcommand(true)
 }
 
-/// With `check`, `tidy` and `flatten`.
+/// Adds `check`, `tidy` and `flatten`.
 fn with_base_commands<'a>(alloc: Global, command: Command<'a>) -> Result<Command<'a>, AllocError>
     requires { (fields_of command).has_globals ≡ false }
     ensures shape { IfOk result (λ c. app_of c ≡ line.with_base_commands (app_of command.entry)) }
     ensures local { IfOk result (λ c. (fields_of c).has_globals ≡ false) }
 {
-    let check = on_base(alloc, "check", "Say what a map holds, or its first fault")?;
+    let check = on_base(
+        alloc,
+        "check",
+        "Validate a map: print a summary, or its first error",
+    )?;
     let command = with(command, check)?;
     let command = with(command, tidy(alloc)?)?;
     let flatten = on_base(
         alloc,
         "flatten",
-        "Write a map as one flat map, its lists as they are",
+        "Convert an index map (with sections) to a flat map, with sources and names as listed",
     )?;
     with(command, flatten)
 }
@@ -212,7 +215,7 @@ fn is_set<'a>(matches: &ArgMatches<'a>, id: &str) -> bool
     matches.get_one::<bool>(id).unwrap_or(false)
 }
 
-/// The task of a command, by its name and what was matched for it.
+/// The task of the command with this name and these matches.
 fn task_named<'a>(name: &str, inner: &ArgMatches<'a>) -> Option<Task<'a>>
     ensures task { IfSome result (IsTaskOf (name.now, rows_of (found_of inner.now))) }
     ensures found { IsCommand (name.now, rows_of (found_of inner.now)) → IsSome result }
@@ -259,8 +262,19 @@ fn refusal(error: Error) -> WordsFault
     }
 }
 
-/// The task that the words name, of which the first is the program's name. Words that are refused come
-/// with `clap`'s error, and so does a wish for help: the error prints itself and knows its exit code.
+/// Parses a command line. The first argument is the name of the program, and isn't looked at.
+///
+/// # Errors
+///
+/// `WordsFault::Words` with `clap`'s error where the arguments are wrong or ask for help, and
+/// `WordsFault::Memory` where memory runs out.
+///
+/// # Examples
+///
+/// ```
+/// let task = task_of(alloc, &["smap", "tidy", "--relative", "http://h/m/out.js.map"])?;
+/// // Task::Tidy { base: "http://h/m/out.js.map", relative: true }
+/// ```
 pub fn task_of<'a>(alloc: Global, words: &'a [&'a str]) -> Result<Task<'a>, WordsFault>
     ensures task { IfOk result (TaskGiven (subcommand_of line.smap (map (λ w. w.now) words.now))) }
     ensures range { IfOk result IsInRange }
@@ -275,7 +289,7 @@ pub fn task_of<'a>(alloc: Global, words: &'a [&'a str]) -> Result<Task<'a>, Word
     match command.try_get_matches_from(words) {
         Ok(matches) => match task_in(&matches) {
             Some(task) => Ok(task),
-            // What `clap` matched is a command with its values.
+            // What `clap` matched is one of the commands, with its values.
             None => unreachable!(),
         },
         Err(error) => Err(refusal(error)),

@@ -1,5 +1,4 @@
-//! The base URL of a map, which its sources are resolved against. A base is parsed once and serves any number
-//! of maps.
+//! The base URL of a map. It is parsed once, and serves any number of maps.
 ghost use Rattle.std.specs.Prelude.{◌≡◌, None, Some, IfOk, option_map, string_bytes};
 ghost use Rattle.url.specs.Parser.{parse_url, Gives};
 ghost use Rattle.url.specs.Parts.{serialize};
@@ -11,7 +10,7 @@ use std::alloc::{AllocError, Global};
 use std::marker::Model;
 use url::{ParseError, ParseResult, Url};
 
-/// The URL against which sources are resolved: mostly that of the map itself.
+/// The URL against which a map's sources are resolved: usually that of the map itself.
 #[derive(Drop)]
 pub struct Base {
     url: Url,
@@ -28,8 +27,18 @@ impl Model for Base {
 }
 
 impl Base {
-    /// The base that the text is, parsed by the URL Standard without a base of its own. A base with an opaque
-    /// path, as `mailto:x`, is one too; only absolute sources have URLs against it.
+    /// Parses an absolute URL by the URL Standard. A URL with an opaque path, such as `mailto:x`, is a base
+    /// too; only absolute sources, and fragments, can be resolved against it.
+    ///
+    /// # Errors
+    ///
+    /// `NotUrl` where `text` isn't an absolute URL; `Memory`.
+    ///
+    /// # Examples
+    ///
+    /// ```
+    /// let base = Base::new(alloc, "http://h/m/out.js.map")?; // a source `a.js` is then http://h/m/a.js
+    /// ```
     pub fn new(alloc: Global, text: &str) -> Result<Base, BaseFault>
         ensures { GivesBase (λ b. b) result (parse_url None text.now) }
     {
@@ -56,7 +65,7 @@ impl Base {
         Ok(text)
     }
 
-    /// The text of the base's URL, as the URL Standard serializes it.
+    /// The URL, as the URL Standard serializes it.
     pub fn text(&self) -> &str
         ensures { result.now ≡ serialize self.now }
     {

@@ -31,12 +31,17 @@ fn relative_to(base: &Base, url: &str) -> Result<Option<String>, AllocError>
 }
 
 impl Base {
-    /// The relative spelling of a URL, such as `../a.js`, where it has one that leads back to it from here.
+    /// The relative form of an absolute URL, such as `../a.js`, if resolving it against this base gives the
+    /// URL again.
     ///
-    /// There is none where the text isn't its own URL against this base, where the scheme, the host or the
-    /// port are others, where the base has an opaque path, or where what the crate `url` makes
-    /// (`make_relative`) leads elsewhere, as for a name with a colon. The URL and its spelling are parsed
-    /// twice each.
+    /// There is none where `url`, resolved against this base, isn't itself, where scheme, host or port
+    /// differ, where the base has an opaque path, or where the relative URL leads elsewhere, as for a file
+    /// name with a colon. The rule is this project's own (`docs/FORMAT.md`, "Source URLs"). Both URLs are
+    /// parsed twice.
+    ///
+    /// # Errors
+    ///
+    /// `AllocError`, also for a URL of 4 GiB or more.
     #[tactic(auto, unfolding(crate::specs::Relative::relative))]
     pub fn relative(&self, alloc: Global, url: &str) -> Result<Option<String>, AllocError>
         ensures { IfOk result (λ text. option_map string_bytes text ≡ relative self.now url.now) }

@@ -39,7 +39,7 @@ const NULL: &str = r#"{"version":3,"sources":[null],"mappings":"AAAA"}"#;
 
 const NULL_IGNORED: &str = r#"{"version":3,"sources":[null],"ignoreList":[0],"mappings":"AAAA"}"#;
 
-/// The bundle of one script, with the map `map`, and the trace behind it.
+/// The bundle of one script, with the map `map`, and the trace after it.
 fn worked(rt: &impl AllocGlobal, map: &str, trace: &str) -> Result<String, Fail> {
     let bundle = format!(in rt.alloc();
         "map http://h/m/out.js http://h/m/out.js.map {}\n{}\ntrace\n{}",
@@ -242,7 +242,7 @@ fn a_length_above_the_limit_is_too_long(rt: HostRuntime) {
     );
 }
 
-/// The header of a script of so many bytes, whose map `{}` has no version.
+/// The header of a script with a map of this many bytes, whose map `{}` has no version.
 fn long_header(rt: &impl AllocGlobal, script: usize) -> Result<String, Fail> {
     let mut bundle = String::from_str(rt.alloc(), "map ")?;
     for _ in 0..script {
@@ -307,37 +307,40 @@ fn pieces_of_one_byte_change_nothing(rt: HostRuntime) -> Result<(), Fail> {
     Ok(())
 }
 
-/// Runs with a reader of 7 bytes a call and a writer of 5, of which a call fails.
+/// Runs with a reader of 7 bytes a call and a writer of 5, of which a call fails, and says how many reads
+/// there were.
 fn failing(
     rt: &(impl Abort + AllocGlobal),
     bundle: &[u8],
     read: u64,
     write: u64,
     whole: &[u8],
-) -> Result<Outcome, RunFault> {
+) -> (Result<Outcome, RunFault>, u64) {
     let mut reader = Device::new(SlowReader::new(bundle, 7, read));
     let mut writer = Device::new(SlowWriter::new(rt.alloc(), 5, write));
     let answer = run_translate(rt.alloc(), false, &mut reader, &mut writer);
     assert_eq!(rt; reader.failures() > 0, answer == Err(RunFault::Read));
     assert_eq!(rt; writer.failures() > 0, answer == Err(RunFault::Write));
     assert!(rt; whole.starts_with(writer.into_inner().bytes.as_slice()));
-    answer
+    (answer, reader.into_inner().calls)
 }
+
+/// How many reads of at most 7 bytes the worked bundle takes: the header and the line `trace` byte by byte,
+/// the map and its line feed in 8, the trace in 43, and its end.
+const READS: u64 = 47 + 8 + 6 + 43 + 1;
 
 #[test]
 fn the_kth_read_fails(rt: HostRuntime) -> Result<(), Fail> {
     let bundle = worked(&rt, MAP, TRACE)?;
-    // The header and the line `trace` byte by byte, the map and its line feed in 8 reads, the trace in
-    // 43, and its end.
-    let reads = 47 + 8 + 6 + 43 + 1;
-    for k in 1..reads + 2 {
-        let answer = failing(&rt, bundle.as_bytes(), k, 0, TOLD.as_bytes());
-        let expected = if k <= reads {
+    for k in 1..READS + 2 {
+        let (answer, reads) = failing(&rt, bundle.as_bytes(), k, 0, TOLD.as_bytes());
+        let expected = if k <= READS {
             Err(RunFault::Read)
         } else {
             Ok(Outcome::Done)
         };
         assert_eq!(rt; answer, expected);
+        assert_eq!(rt; reads, k.min(READS));
     }
     Ok(())
 }
@@ -348,13 +351,14 @@ fn the_kth_write_fails(rt: HostRuntime) -> Result<(), Fail> {
     // The lines that a read ends are written by fives, and then there is a flush.
     let writes = 62;
     for k in 1..writes + 2 {
-        let answer = failing(&rt, bundle.as_bytes(), 0, k, TOLD.as_bytes());
+        let (answer, reads) = failing(&rt, bundle.as_bytes(), 0, k, TOLD.as_bytes());
         let expected = if k <= writes {
             Err(RunFault::Write)
         } else {
             Ok(Outcome::Done)
         };
         assert_eq!(rt; answer, expected);
+        assert!(rt; reads == READS || k < writes);
     }
     Ok(())
 }
@@ -363,12 +367,51 @@ fn the_kth_write_fails(rt: HostRuntime) -> Result<(), Fail> {
 fn the_kth_write_of_a_refusal_fails(rt: HostRuntime) {
     let bundle = b"map u http://h/ 2\n{}\ntrace\n";
     for k in 1..8 {
-        let answer = failing(&rt, bundle, 0, k, b"refused: map 0: version\n");
+        let (answer, reads) = failing(&rt, bundle, 0, k, b"refused: map 0: version\n");
         let expected = if k <= 6 {
             Err(RunFault::Write)
         } else {
             Ok(Outcome::Refused)
         };
         assert_eq!(rt; answer, expected);
+        // The header byte by byte, and the map with its line feed.
+        assert_eq!(rt; reads, 18 + 1);
+    }
+}
+
+#[test]
+fn nothing_is_read_after_the_first_fault(rt: HostRuntime) {
+    let refused = Ok(Outcome::Refused);
+    let too_long = Err(RunFault::TooLong);
+    // A line up to its line feed byte by byte, and a map with its line feed by sevens.
+    for (bundle, answer, calls) in [
+        ("", refused, 1),
+        ("trace", refused, 6),
+        ("trace \n@u:1:1\n", refused, 7),
+        ("map u http://h/ 02\n{}\ntrace\n", refused, 19),
+        ("map u nobase 2\n{}\ntrace\n", refused, 15),
+        ("map u http://h/ 268435457\n{}\ntrace\n", too_long, 26),
+        ("map u http://h/ 2\n{}x\ntrace\n", refused, 19),
+        ("map u http://h/ 2\n{}\ntrace\n", refused, 19),
+        ("map u http://h/ 8\n{}\ntrace\n", refused, 20),
+        ("map u http://h/ 9\n{}\ntrace\n", refused, 21),
+    ] {
+        let mut reader = Device::new(SlowReader::new(bundle.as_bytes(), 7, 0));
+        let mut writer = Device::new(SlowWriter::new(rt.alloc(), 80, 0));
+        let found = run_translate(rt.alloc(), false, &mut reader, &mut writer);
+        assert_eq!(rt; found, answer, "{bundle:?}");
+        assert_eq!(rt; reader.into_inner().calls, calls, "{bundle:?}");
+    }
+}
+
+#[test]
+fn a_writer_that_takes_nothing_has_failed(rt: HostRuntime) {
+    for bundle in ["trace\nkept\n", "trace"] {
+        let mut reader = Device::new(SlowReader::new(bundle.as_bytes(), 80, 0));
+        let mut writer = Device::new(SlowWriter::new(rt.alloc(), 0, 0));
+        let answer = run_translate(rt.alloc(), false, &mut reader, &mut writer);
+        assert_eq!(rt; answer, Err(RunFault::Write), "{bundle:?}");
+        assert_eq!(rt; writer.failures(), 1, "{bundle:?}");
+        assert_eq!(rt; writer.into_inner().calls, 1, "{bundle:?}");
     }
 }

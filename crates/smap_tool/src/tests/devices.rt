@@ -4,14 +4,21 @@ use crate::{Outcome, RunFault, Task, run};
 use smap_io::Device;
 use smap_testing::{SlowReader, SlowWriter};
 
-/// Each command that reads to the end of one text, and an input of it.
-const TASKS: [(Task<'static>, &str); 5] = [
+/// Each command that reads its input to the end, and an input for it.
+const TASKS: [(Task<'static>, &str); 6] = [
     (Task::Respell, "gAAAAC,CAACD;;"),
     (Task::Check { base: BASE }, TWO_NAMES),
     (
         Task::Tidy {
             base: BASE,
             relative: false,
+        },
+        TWO_NAMES,
+    ),
+    (
+        Task::Tidy {
+            base: BASE,
+            relative: true,
         },
         TWO_NAMES,
     ),
@@ -30,7 +37,7 @@ const TASKS: [(Task<'static>, &str); 5] = [
 const STEP: usize = 5;
 
 #[test]
-fn each_read_that_fails_is_told_and_nothing_is_written(rt: HostRuntime) {
+fn each_read_that_fails_is_the_last_and_nothing_is_written(rt: HostRuntime) {
     for (task, input) in TASKS {
         // The last call finds the end.
         let calls = input.len().div_ceil(STEP) as u64 + 1;
@@ -40,6 +47,11 @@ fn each_read_that_fails_is_told_and_nothing_is_written(rt: HostRuntime) {
             let answer = run(rt.alloc(), task, &mut reader, &mut writer);
             assert_eq!(rt; answer, Err(RunFault::Read), "{task:?} at {fails_at}");
             assert_eq!(rt; reader.failures(), 1, "{task:?} at {fails_at}");
+            assert_eq!(rt;
+                reader.into_inner().calls,
+                fails_at,
+                "{task:?} at {fails_at}"
+            );
             assert_eq!(rt; writer.failures(), 0, "{task:?} at {fails_at}");
             let written = writer.into_inner();
             assert_eq!(rt; written.calls, 0, "{task:?} at {fails_at}");
@@ -54,6 +66,8 @@ fn each_write_or_flush_that_fails_is_told_behind_a_front_of_the_text(rt: HostRun
         let mut writer = Device::new(SlowWriter::new(rt.alloc(), STEP, 0));
         let answer = run(rt.alloc(), task, &mut reader, &mut writer);
         assert_eq!(rt; answer, Ok(Outcome::Done), "{task:?}");
+        let calls = input.len().div_ceil(STEP) as u64 + 1;
+        assert_eq!(rt; reader.into_inner().calls, calls, "{task:?}");
         let whole = writer.into_inner();
         for fails_at in 1..=whole.calls {
             let mut reader = Device::new(SlowReader::new(input.as_bytes(), STEP, 0));
@@ -80,6 +94,7 @@ fn a_writer_that_takes_nothing_has_failed(rt: HostRuntime) {
         let answer = run(rt.alloc(), task, &mut reader, &mut writer);
         assert_eq!(rt; answer, Err(RunFault::Write), "{task:?}");
         assert_eq!(rt; writer.failures(), 1, "{task:?}");
+        assert_eq!(rt; writer.into_inner().calls, 1, "{task:?}");
     }
 }
 
@@ -92,6 +107,10 @@ fn a_base_that_is_no_url_is_refused_before_anything_is_read(rt: HostRuntime) {
             Task::Tidy {
                 base,
                 relative: false,
+            },
+            Task::Tidy {
+                base,
+                relative: true,
             },
             Task::Flatten { base },
             Task::Lookup { base, line, column },

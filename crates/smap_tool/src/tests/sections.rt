@@ -24,7 +24,7 @@ const TIDY: [(&str, &str); 4] = [
         ),
         r#"{"mappings":"A,A","names":[],"sources":[],"version":3}"#,
     ),
-    // A section without mappings may stand behind the last line that a mapping can have.
+    // A section without mappings may start after the last line that a mapping can have.
     (
         concat!(
             r#"{"version":3,"sections":[{"offset":{"line":16777216,"column":0},"map":{"version":3,"#,

@@ -1,4 +1,4 @@
-//! Shortest spellings that are known.
+//! Known shortest encodings.
 use super::spell;
 
 #[test]

@@ -1,4 +1,4 @@
-//! Words and the tasks that they are.
+//! Arguments, and the tasks that they are.
 use super::{Task, WordsFault, task_of};
 use std::alloc::Global;
 
@@ -13,7 +13,7 @@ fn at(line: u32, column: u32) -> Task<'static> {
     }
 }
 
-/// Whether the words, after the program's name, are this task.
+/// Whether the arguments, after the program's name, are this task.
 fn is_task<'a>(alloc: Global, words: &'a [&'a str], expected: Task<'a>) -> bool {
     match task_of(alloc, words) {
         Ok(task) => task == expected,
@@ -21,7 +21,7 @@ fn is_task<'a>(alloc: Global, words: &'a [&'a str], expected: Task<'a>) -> bool 
     }
 }
 
-/// The exit code of a refusal as words.
+/// The exit code where the arguments are wrong, or ask for help.
 fn refused(alloc: Global, words: &[&str]) -> Option<i32> {
     match task_of(alloc, words) {
         Err(WordsFault::Words(error)) => Some(error.exit_code()),

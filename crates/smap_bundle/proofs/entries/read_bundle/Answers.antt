@@ -4,7 +4,7 @@ use Rattle.smap_io.specs.Reading.{Gave}
 use Rattle.smap_io.specs.declared.reading.TheConstants.{MOST_CALLS}
 use Rattle.smap_io.proofs.ReadingLemmas.{Gave-then}
 use Rattle.smap_trace.specs.Translation.{AreDistinct}
-use Rattle.smap_bundle.specs.Header.{longest_header, trace_line}
+use Rattle.smap_bundle.specs.Header.{LONGEST_HEADER, trace_line}
 use Rattle.smap_bundle.specs.Bundle.{Answers, AreEntries, FaultAt}
 use Rattle.smap_bundle.specs.Scripts.{scripts_of}
 use Rattle.smap_bundle.proofs.EntryLemmas.{answered, distinct_more, entries_more, line_read}
@@ -18,7 +18,7 @@ take_entry-requires-clause-line g c = rw c.as_slice-in-entries-2.ensures.value
 pub returns-in-Err-clause-stops : goal.returns-in-Err-clause-stops
 returns-in-Err-clause-stops g c = λ hide.
     let reads = c.entries.invariant.reads in
-    gave_up_stops g.R.Read.remaining c.args.reader.now c.entries.reader c.read_line.new.reader reads.0 (longest_header + 1) MOST_CALLS c.entries.calls c.in-Err.fault c.unread.result
+    gave_up_stops g.R.Read.remaining c.args.reader.now c.entries.reader c.read_line.new.reader reads.0 (LONGEST_HEADER + 1) MOST_CALLS c.entries.calls c.in-Err.fault c.unread.result
     (Answers hide) reads.1 c.entries.invariant.failures reads.3 c.in-Err.ensures.reads c.unread.ensures
 
 pub returns-then-eq-clause-takes : goal.returns-then-eq-clause-takes
@@ -29,8 +29,8 @@ returns-then-eq-clause-takes g c =
     record {
       entries = reads.0;
       gave = Gave-then g.R.Read.remaining c.args.reader.now c.entries.reader c.read_line.new.reader reads.0 trace_line reads.1 (subst (Gave g.R.Read.remaining c.entries.reader c.read_line.new.reader) is line.1);
-      are = reads.2;
-      distinct = c.entries.invariant.distinct;
+      are = subst (AreEntries reads.0) (sym c.new.ensures) reads.2;
+      distinct = subst AreDistinct (sym c.new.ensures) c.entries.invariant.distinct;
     }
 
 pub returns-in_err-take_entry-clause-stops : goal.returns-in_err-take_entry-clause-stops

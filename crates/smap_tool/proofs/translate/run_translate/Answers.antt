@@ -1,11 +1,10 @@
-use Rattle.smap_bundle.specs.Scripts.{scripts_of}
 use Rattle.smap_tool.proofs.TranslateLemmas.{memory_run, refused_run, too_long_run, unread_run, whole_run}
 use Rattle.smap_tool.proofs.translate.run_translate.Goals as goal
 
 pub returns-in-Ok : goal.returns-in-Ok
 returns-in-Ok g c =
     whole_run g.R.Read.remaining g.W.Write.contents c.args.hide c.args.reader.now c.read_bundle.new.reader c.translate_trace.new.reader c.args.writer.now c.translate_trace.new.writer
-    (scripts_of c.in-Ok.bundle.scripts.entries) c.in-Ok.ensures.takes c.in-Ok.ensures.failures c.translate_trace.result
+    c.in-Ok.bundle c.in-Ok.ensures.takes c.in-Ok.ensures.failures c.translate_trace.result
     c.translate_trace.ensures.translates c.translate_trace.ensures.reader_failures c.translate_trace.ensures.writer_failures
 
 pub returns-in-Err-Refused : goal.returns-in-Err-Refused

@@ -12,5 +12,11 @@ returns c =
     let k = is_lone c.args.byte (omega arith) c.if-number-eq0.false in
     let small : n < 32 = small_number c.args.byte (omega arith) in
     let read : to_z w32 n ≡ pos n = to_z_pos w32 n (omega arith) in
-    let fits : SFits w32 (pos n -ℤ pos 16) = search (rules, arith) in
-    (k.0, k.1, k.2, k.3, ap (λ (z : ℤ). to_z w32 (of_z w32 (z -ℤ pos 16))) read ∙ to_z-of_z w32 (pos n -ℤ pos 16) fits ∙ k.4)
+    let fits : SFits w32 (pos n -ℤ pos 16) = search (rules, arith) in (
+      k.0,
+      k.1,
+      k.2,
+      k.3,
+      ap (λ (z : ℤ). to_z w32 (of_z w32 (z -ℤ pos 16))) read
+          ∙ to_z-of_z w32 (pos n -ℤ pos 16) fits ∙ k.4,
+    )

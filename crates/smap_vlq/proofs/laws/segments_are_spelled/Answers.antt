@@ -1,4 +1,5 @@
-use Rattle.smap_vlq.proofs.SegmentLawLemmas.{segment_is_spelled, segment_fault_is_decided, segment_fault_is_first, count_is_wrong}
+use Rattle.smap_vlq.proofs.SegmentLawLemmas.{segment_is_spelled, segment_fault_is_decided}
+use Rattle.smap_vlq.proofs.SegmentLawLemmas.{segment_fault_is_first, count_is_wrong}
 use Rattle.smap_vlq.proofs.laws.segments_are_spelled.Goals as goal
 
 pub returns-clause-segment : goal.returns-clause-segment

@@ -7,4 +7,5 @@ use Rattle.smap_words.proofs.words.is_set.Goals as goal
 pub returns : goal.returns
 returns c =
     let same = one_text-rows (found_of c.args.matches.now) c.args.id.now in
-    rw c.unwrap_or.ensures (flag_reads _ _ c.get_one.result (λ e. c.get_one.ensures.none (same ∙ e)) (λ t e. c.get_one.ensures.value t (same ∙ e)))
+    rw c.unwrap_or.ensures (flag_reads _ _ c.get_one.result (λ e. c.get_one.ensures.none (same ∙ e))
+    (λ t e. c.get_one.ensures.value t (same ∙ e)))

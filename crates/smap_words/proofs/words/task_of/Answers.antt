@@ -16,21 +16,27 @@ memory_of k fault.Memory h is = refl
 pub returns-in-Err-clause-takes : goal.returns-in-Err-clause-takes
 returns-in-Err-clause-takes c = λ taken.
     memory_of _ c.refusal.result c.refusal.ensures
-    (c.in-Err.ensures.passes (ap (λ (a : App). takes a (map (λ w. w.now) c.args.words.now)) c.in-Ok.ensures.shape ∙ taken))
+    (c.in-Err.ensures.passes (ap (λ (a : App). takes a (map (λ w. w.now) c.args.words.now))
+    c.in-Ok.ensures.shape ∙ taken))
 
 pub returns-in-Some-clause-accepted : goal.returns-in-Some-clause-accepted
 returns-in-Some-clause-accepted c =
-    subst (λ (a : App). is_simple_and_free a ≡ true → fault_of a (map (λ w. w.now) c.args.words.now) ≡ []) c.in-Ok.ensures.shape c.in-Ok-try_get_matches_from.ensures.kinds is_free_line
+    subst (λ (a : App). is_simple_and_free a ≡ true → fault_of a (map (λ w. w.now) c.args.words.now) ≡ [])
+    c.in-Ok.ensures.shape c.in-Ok-try_get_matches_from.ensures.kinds is_free_line
 
 pub returns-in-Some-clause-range : goal.returns-in-Some-clause-range
 returns-in-Some-clause-range c =
     let parse = c.in-Ok-try_get_matches_from.ensures in
-    let met = met_command c.in-Ok.command (map (λ w. w.now) c.args.words.now) c.in-Ok-try_get_matches_from.matches c.in-Ok.ensures.shape c.in-Ok.ensures.local parse.parsed parse.matches parse.kinds in
+    let met = met_command c.in-Ok.command (map (λ w. w.now) c.args.words.now)
+    c.in-Ok-try_get_matches_from.matches c.in-Ok.ensures.shape c.in-Ok.ensures.local parse.parsed
+    parse.matches parse.kinds in
     task_in_range _ c.in-Some.task met c.in-Some.ensures.task
 
 pub unreachable-requires : goal.unreachable-requires
 unreachable-requires c =
     let parse = c.in-Ok-try_get_matches_from.ensures in
-    let met = met_command c.in-Ok.command (map (λ w. w.now) c.args.words.now) c.in-Ok-try_get_matches_from.matches c.in-Ok.ensures.shape c.in-Ok.ensures.local parse.parsed parse.matches parse.kinds in
+    let met = met_command c.in-Ok.command (map (λ w. w.now) c.args.words.now)
+    c.in-Ok-try_get_matches_from.matches c.in-Ok.ensures.shape c.in-Ok.ensures.local parse.parsed
+    parse.matches parse.kinds in
     let found : false ≡ true = c.in-None.ensures.found met in
     absurd cc

@@ -4,4 +4,4 @@ use Rattle.smap_bundle.specs.Scripts.{scripts_of}
 use Rattle.smap_bundle.proofs.bundle.Bundle.scripts.Given as goal
 
 abbrev pub invariant-loop-i : goal.invariant-loop-i
-invariant-loop-i l = scripts_in l.lent.items ≡ scripts_of (take l.i l.self.scripts.entries)
+invariant-loop-i l = scripts_in l.pairs.items ≡ scripts_of (take l.i l.scripts.entries)

@@ -1,0 +1,72 @@
+//! Maps that are read again from their canonical bytes.
+use super::{BASE, TWO_NAMES, TWO_SECTIONS};
+use crate::round_trips::read_again;
+use smap_canon::same;
+use smap_io::Device;
+use smap_record::{Base, Limits, ReadError, SourceMap};
+use smap_testing::{SlowReader, SlowWriter};
+use smap_trace::translate;
+use std::process::Abort;
+
+/// A script whose map is `TWO_NAMES`, one whose map is `TWO_SECTIONS`, and one without a map.
+const TRACE: &str =
+    "f@http://h/one.js:1:1\n    at g (http://h/two.js:2:5)\nh@http://h/three.js:1:1\n";
+
+/// The trace by the two maps.
+const TOLD: &str =
+    "f@http://h/m/a.js:1:1\n    at g (http://h/m/b.js:2:2)\nh@http://h/three.js:1:1\n";
+
+/// Both maps of a text that is accepted, the second from the canonical bytes of the first.
+fn both(
+    rt: &(impl Abort + AllocGlobal),
+    text: &str,
+    base: &Base,
+    relative: bool,
+) -> (SourceMap, SourceMap) {
+    let read = read_again(rt.alloc(), text.as_bytes(), base, Limits::usual(), relative);
+    assert!(rt; read.is_ok(), "{text}");
+    read.expect(rt, "the text is accepted")
+}
+
+/// By these two maps the trace is told so.
+fn tells(rt: &(impl Abort + AllocGlobal), one: &SourceMap, two: &SourceMap) {
+    let scripts = [("http://h/one.js", one), ("http://h/two.js", two)];
+    let mut reader = Device::new(SlowReader::new(TRACE.as_bytes(), 9, 0));
+    let mut writer = Device::new(SlowWriter::new(rt.alloc(), 9, 0));
+    let answer = translate(
+        rt.alloc(),
+        &mut reader,
+        scripts.as_slice(),
+        false,
+        &mut writer,
+    );
+    assert!(rt; answer.is_ok());
+    assert_eq!(rt; writer.into_inner().bytes.as_slice(), TOLD.as_bytes());
+}
+
+#[test]
+fn a_map_and_what_its_canonical_bytes_say_translate_alike(rt: HostRuntime) {
+    let base = Base::new(rt.alloc(), BASE).expect(&rt, "it is a URL");
+    for relative in [false, true] {
+        let (names, names_again) = both(&rt, TWO_NAMES, &base, relative);
+        let (sections, sections_again) = both(&rt, TWO_SECTIONS, &base, relative);
+        assert!(rt; same(&names, &names_again), "{relative}");
+        assert!(rt; same(&sections, &sections_again), "{relative}");
+        for one in [&names, &names_again] {
+            for two in [&sections, &sections_again] {
+                tells(&rt, one, two);
+            }
+        }
+    }
+}
+
+#[test]
+fn a_text_with_a_fault_is_refused(rt: HostRuntime) {
+    let base = Base::new(rt.alloc(), BASE).expect(&rt, "it is a URL");
+    for relative in [false, true] {
+        match read_again(rt.alloc(), b"[]", &base, Limits::usual(), relative) {
+            Ok(_maps) => assert!(rt; false, "it was read"),
+            Err(fault) => assert!(rt; matches!(fault, ReadError::Refused(_))),
+        }
+    }
+}
