@@ -1,0 +1,229 @@
+/* What C allows and a caller may get wrong has its code: closed handles, closing twice, room 0 and buffers
+ * that are too small, numbers past the end, texts that aren't UTF-8, NULL. And each call as it is meant. */
+#include "maps.h"
+
+static void closed_handles(void)
+{
+    smap_map closed = {0}, open = {0};
+    smap_bytes bytes = {0};
+    smap_mapping m = {0};
+    smap_listed_mapping listed;
+    smap_counts counts;
+    const uint8_t *at = NULL;
+    bool flag = true;
+    size_t len = 7, number;
+    uint32_t outcome;
+    CHECK(open_text(&open, text, NULL) == SMAP_OK);
+    CHECK(smap_lookup(&closed, 0, 0, &m) == SMAP_CLOSED);
+    CHECK(smap_token(&closed, 0, &m) == SMAP_CLOSED);
+    CHECK(smap_listed_token(&closed, 0, &listed) == SMAP_CLOSED);
+    CHECK(smap_listed_source(&closed, 0, &number) == SMAP_CLOSED);
+    CHECK(smap_listed_name(&closed, 0, NULL, 0, &len) == SMAP_CLOSED && len == 0);
+    CHECK(smap_count(&closed, &counts) == SMAP_CLOSED);
+    CHECK(smap_file(&closed, NULL, 0, NULL) == SMAP_CLOSED);
+    CHECK(smap_name_at(&closed, 0, 0, NULL, 0, &len) == SMAP_CLOSED && len == 0);
+    CHECK(smap_source_url(&closed, 0, NULL, 0, NULL) == SMAP_CLOSED);
+    CHECK(smap_source_content(&closed, 0, NULL, 0, NULL) == SMAP_CLOSED);
+    CHECK(smap_is_ignored(&closed, 0, &flag) == SMAP_CLOSED && flag);
+    CHECK(smap_canonical(&closed, &bytes) == SMAP_CLOSED);
+    CHECK(smap_canonical_relative(&closed, &bytes) == SMAP_CLOSED);
+    CHECK(smap_canonical_mappings(&closed, &bytes) == SMAP_CLOSED);
+    CHECK(smap_flatten(&closed, &bytes) == SMAP_CLOSED && !bytes.is_open);
+    CHECK(smap_translate_line(&closed, NULL, 0, NULL, 0, false, NULL, 0, NULL, &outcome) == SMAP_CLOSED);
+    CHECK(smap_share(&closed, &open) == SMAP_CLOSED && open.is_open);
+    CHECK(smap_same(&closed, &open, &flag) == SMAP_CLOSED && open.is_open);
+    CHECK(smap_same(&open, &closed, &flag) == SMAP_CLOSED && open.is_open && flag);
+    CHECK(smap_bytes_data(&bytes, &at, &len) == SMAP_CLOSED && len == 0 && at == NULL);
+    CHECK(smap_bytes_copy(&bytes, 0, NULL, 0) == 0);
+    smap_bytes_free(&bytes);
+    smap_close(&open);
+    smap_close(&open);
+    CHECK(!open.is_open);
+    CHECK(smap_lookup(&open, 0, 0, &m) == SMAP_CLOSED);
+}
+
+static void buffers(smap_map *map)
+{
+    char room[64];
+    size_t len;
+    memset(room, '.', sizeof room);
+    CHECK(smap_source_url(map, 0, NULL, 0, &len) == SMAP_OK && len == 15);
+    CHECK(smap_source_url(map, 0, room, 7, &len) == SMAP_OK && len == 15);
+    CHECK(memcmp(room, "http://....", 11) == 0);
+    CHECK(smap_source_url(map, 0, room, sizeof room, NULL) == SMAP_OK);
+    CHECK(memcmp(room, "http://h/m/a.js..", 17) == 0);
+    CHECK(smap_file(map, room, sizeof room, &len) == SMAP_OK && len == 6 && memcmp(room, "out.js/h", 8) == 0);
+    CHECK(smap_source_content(map, 0, room, sizeof room, &len) == SMAP_OK && len == 1 && room[0] == 'x');
+    CHECK(smap_name_at(map, 0, 1, room, 0, &len) == SMAP_OK && len == 1 && room[0] == 'x');
+    CHECK(smap_code_name(SMAP_MEMORY, room, 3) == 13 && memcmp(room, "out.js", 6) == 0);
+    CHECK(smap_code_name(SMAP_NONE + 100, NULL, 0) == 0);
+    for (uint32_t code = SMAP_OK; code <= SMAP_RANGE; code++) CHECK(smap_code_name(code, NULL, 0) > 3);
+}
+
+static void numbers(smap_map *map)
+{
+    smap_counts counts;
+    smap_mapping m = {0};
+    smap_listed_mapping listed;
+    bool flag;
+    size_t n = 9;
+    CHECK(smap_count(map, &counts) == SMAP_OK);
+    CHECK(counts.sources == 3 && counts.listed_sources == 4 && counts.names == 3);
+    CHECK(counts.mappings == 4 && counts.lines == 2);
+    CHECK(smap_token(map, 4, &m) == SMAP_RANGE && smap_token(map, SIZE_MAX, &m) == SMAP_RANGE && m.line == 0);
+    CHECK(smap_token(map, 2, &m) == SMAP_OK && m.line == 1 && m.source == 1 && m.has_name && m.is_ignored);
+    CHECK(smap_listed_token(map, 2, &listed) == SMAP_OK && listed.source == 1 && listed.name == 2);
+    CHECK(smap_listed_token(map, 3, &listed) == SMAP_OK && !listed.has_source && listed.column == 2);
+    CHECK(smap_listed_token(map, 4, &listed) == SMAP_RANGE);
+    CHECK(smap_listed_source(map, 2, &n) == SMAP_OK && n == 0);
+    CHECK(smap_listed_source(map, 3, &n) == SMAP_OK && n == 2);
+    CHECK(smap_listed_source(map, 4, &n) == SMAP_RANGE && n == 2);
+    CHECK(smap_listed_name(map, 2, NULL, 0, &n) == SMAP_OK && n == 1);
+    CHECK(smap_listed_name(map, 3, NULL, 0, &n) == SMAP_RANGE && n == 0);
+    CHECK(smap_source_url(map, 2, NULL, 0, NULL) == SMAP_NONE);
+    CHECK(smap_source_url(map, 3, NULL, 0, NULL) == SMAP_RANGE);
+    CHECK(smap_source_content(map, 1, NULL, 0, NULL) == SMAP_NONE);
+    CHECK(smap_source_content(map, 3, NULL, 0, NULL) == SMAP_RANGE);
+    CHECK(smap_is_ignored(map, 1, &flag) == SMAP_OK && flag);
+    CHECK(smap_is_ignored(map, 2, &flag) == SMAP_OK && !flag);
+    CHECK(smap_is_ignored(map, 3, &flag) == SMAP_RANGE);
+    CHECK(smap_lookup(map, 0, 4, &m) == SMAP_OK && m.column == 4 && m.source_line == 12 && !m.has_name);
+    CHECK(smap_lookup(map, UINT32_MAX, UINT32_MAX, &m) == SMAP_NONE);
+    CHECK(smap_lookup(map, 1, UINT32_MAX, &m) == SMAP_OK && !m.has_source);
+    CHECK(smap_name_at(map, 0, 4, NULL, 0, NULL) == SMAP_NONE);
+}
+
+static void faults(void)
+{
+    smap_map map = {0};
+    smap_fault fault = {0};
+    smap_limits limits = {2147483648u, 0};
+    smap_bytes bytes = {0};
+    const char no_url[] = "{\"version\":3,\"sources\":[\"a\",\"http://:\"],\"mappings\":\"\"}";
+    const char words[] = "section 0: line 1 segment 1: source index";
+    CHECK(open_text(&map, broken, &fault) == SMAP_REFUSED && !map.is_open);
+    CHECK(fault.kind == SMAP_FAULT_SOURCE && fault.has_place && fault.line == 1 && fault.segment == 1);
+    CHECK(fault.depth == 1 && fault.section[0] == 0 && fault.number == 0);
+    CHECK(fault.text_len == strlen(words) && strcmp(fault.text, words) == 0);
+    CHECK(open_text(&map, no_url, &fault) == SMAP_REFUSED);
+    CHECK(fault.kind == SMAP_FAULT_SOURCE_URL && fault.number == 1 && !fault.has_place && fault.depth == 0);
+    CHECK(open_text(&map, "", &fault) == SMAP_REFUSED && fault.kind == SMAP_FAULT_JSON);
+    CHECK(smap_open(&map, NULL, 0, base, strlen(base), NULL, NULL) == SMAP_REFUSED);
+    CHECK(smap_open(&map, text, strlen(text), NULL, 0, NULL, &fault) == SMAP_NOT_URL);
+    CHECK(smap_open(&map, text, strlen(text), "http://h/\xff", 10, NULL, &fault) == SMAP_NOT_URL);
+    CHECK(smap_open(&map, text, strlen(text), base, strlen(base), &limits, &fault) == SMAP_LIMITS);
+    limits.items = 0;
+    limits.lines = 16777217;
+    CHECK(smap_open(&map, text, strlen(text), base, strlen(base), &limits, &fault) == SMAP_LIMITS);
+    limits.lines = 1;
+    CHECK(smap_open(&map, text, strlen(text), base, strlen(base), &limits, &fault) == SMAP_REFUSED);
+    CHECK(fault.kind == SMAP_FAULT_GENERATED_LINE);
+    limits.items = 3;
+    CHECK(smap_open(&map, text, strlen(text), base, strlen(base), &limits, &fault) == SMAP_REFUSED);
+    CHECK(fault.kind == SMAP_FAULT_TOO_MANY && !map.is_open);
+    CHECK(smap_respell(NULL, 0, &bytes, NULL) == SMAP_OK && smap_bytes_copy(&bytes, 0, NULL, 0) == 0);
+    CHECK(smap_respell("A,BAAA", 6, &bytes, &fault) == SMAP_REFUSED && bytes.is_open);
+    CHECK(fault.kind == SMAP_FAULT_NEGATIVE_ZERO && fault.number == 1 && fault.segment == 1);
+    CHECK(smap_respell("AA", 2, &bytes, &fault) == SMAP_REFUSED);
+    CHECK(fault.kind == SMAP_FAULT_COUNT && fault.number == 2);
+    CHECK(smap_respell("E,D", 3, &bytes, &fault) == SMAP_OK && smap_bytes_copy(&bytes, 0, NULL, 0) == 3);
+    smap_bytes_free(&bytes);
+}
+
+static void bytes_of(smap_map *map)
+{
+    smap_bytes bytes = {0};
+    char room[8];
+    const uint8_t *at;
+    size_t len;
+    memset(room, '.', sizeof room);
+    CHECK(smap_canonical_mappings(map, &bytes) == SMAP_OK);
+    CHECK(smap_bytes_copy(&bytes, 0, NULL, 0) == 18);
+    CHECK(smap_bytes_data(&bytes, &at, &len) == SMAP_OK && len == 18);
+    CHECK(memcmp(at, "AAUEA,IAEA;ACAAA,E", 18) == 0);
+    CHECK(smap_bytes_copy(&bytes, 16, room, 8) == 18 && memcmp(room, at + 16, 2) == 0 && room[2] == '.');
+    CHECK(smap_bytes_copy(&bytes, 18, room, 8) == 18 && smap_bytes_copy(&bytes, SIZE_MAX, room, 8) == 18);
+    CHECK(memcmp(room + 2, "......", 6) == 0);
+    CHECK(smap_flatten(map, &bytes) == SMAP_OK && smap_bytes_copy(&bytes, 0, NULL, 0) > 18);
+    smap_bytes_free(&bytes);
+    smap_bytes_free(&bytes);
+}
+
+static void traces(smap_map *map)
+{
+    smap_frame_parts parts = {0};
+    char room[64];
+    size_t len;
+    uint32_t outcome = 9;
+    size_t n = strlen(frame_line), url = strlen(script);
+    CHECK(smap_frame(frame_line, n - 1, &parts) == SMAP_OK && parts.line == 1 && parts.column == 2);
+    CHECK(parts.url_len == url && memcmp(frame_line + parts.url_from, script, url) == 0);
+    CHECK(smap_frame(frame_line, n, &parts) == SMAP_NONE && smap_frame(NULL, 0, &parts) == SMAP_NONE);
+    CHECK(smap_translate_line(map, script, url, frame_line, n, false, room, 64, &len, &outcome) == SMAP_OK);
+    CHECK(outcome == SMAP_TRANSLATED && len == 32);
+    CHECK(memcmp(room, "    at f (http://h/m/a.js:11:3)\n", 32) == 0);
+    CHECK(smap_translate_line(map, "\xff", 1, frame_line, n, false, room, 64, &len, NULL) == SMAP_NOT_URL);
+    CHECK(smap_translate_line(map, "u", 1, frame_line, n, false, NULL, 0, &len, &outcome) == SMAP_OK);
+    CHECK(outcome == SMAP_KEPT && len == n);
+    CHECK(smap_translate_line(map, "u", 1, "@u:2:1", 6, true, NULL, 0, &len, &outcome) == SMAP_OK);
+    CHECK(outcome == SMAP_DROPPED && len == 0);
+    CHECK(smap_translate_line(map, NULL, 0, NULL, 0, true, NULL, 0, NULL, NULL) == SMAP_OK);
+}
+
+static void scripts_of(smap_map *map)
+{
+    smap_scripts scripts = {0};
+    smap_map closed = {0}, other = {0};
+    smap_bytes out = {0};
+    smap_trace_counts counts = {7, 7, 7};
+    const char trace[] = "Error\n@http://h/m/out.js:1:2\n@v:2:1\n@w:1:2";
+    const char told[] = "Error\n@http://h/m/a.js:11:3\n@w:1:2";
+    char room[64];
+    CHECK(smap_translate(&scripts, trace, strlen(trace), false, &out, &counts) == SMAP_CLOSED);
+    CHECK(counts.lines == 7 && !out.is_open);
+    CHECK(smap_add_script(&scripts, script, strlen(script), &closed) == SMAP_CLOSED && !scripts.is_open);
+    CHECK(smap_add_script(&scripts, "\xff", 1, map) == SMAP_NOT_URL && !scripts.is_open);
+    CHECK(smap_add_script(&scripts, script, strlen(script), map) == SMAP_OK && scripts.is_open);
+    CHECK(smap_share(map, &other) == SMAP_OK && smap_add_script(&scripts, "v", 1, &other) == SMAP_OK);
+    smap_close(&other);
+    CHECK(smap_add_script(&scripts, "v", 1, &closed) == SMAP_CLOSED && scripts.is_open);
+    CHECK(smap_translate(&scripts, trace, strlen(trace), true, &out, &counts) == SMAP_OK);
+    CHECK(counts.lines == 4 && counts.translated == 1 && counts.dropped == 1);
+    CHECK(smap_bytes_copy(&out, 0, room, sizeof room) == strlen(told));
+    CHECK(memcmp(room, told, strlen(told)) == 0);
+    CHECK(open_text(&other, "{\"version\":3,\"mappings\":\"\"}", NULL) == SMAP_OK);
+    CHECK(smap_add_script(&scripts, "v", 1, &other) == SMAP_OK);
+    CHECK(smap_translate(&scripts, trace, strlen(trace), true, &out, &counts) == SMAP_OK);
+    CHECK(counts.translated == 1 && counts.dropped == 0);
+    CHECK(smap_translate(&scripts, NULL, 0, false, &out, NULL) == SMAP_OK);
+    CHECK(smap_bytes_copy(&out, 0, NULL, 0) == 0);
+    CHECK(smap_add_script(&scripts, NULL, 0, map) == SMAP_OK);
+    smap_close_scripts(&scripts);
+    smap_close_scripts(&scripts);
+    CHECK(!scripts.is_open);
+    smap_close(&other);
+    smap_bytes_free(&out);
+}
+
+int main(void)
+{
+    smap_map map = {0}, other = {0};
+    bool same = false;
+    CHECK(smap_version() == SMAP_VERSION);
+    closed_handles();
+    CHECK(open_text(&map, text, NULL) == SMAP_OK);
+    buffers(&map);
+    numbers(&map);
+    bytes_of(&map);
+    traces(&map);
+    scripts_of(&map);
+    faults();
+    CHECK(smap_share(&map, &other) == SMAP_OK && smap_same(&map, &other, &same) == SMAP_OK && same);
+    CHECK(open_text(&other, "{\"version\":3,\"mappings\":\"\"}", NULL) == SMAP_OK);
+    CHECK(smap_same(&map, &other, &same) == SMAP_OK && !same);
+    CHECK(open_text(&other, broken, NULL) == SMAP_REFUSED && other.is_open);
+    smap_close(&map);
+    smap_close(&other);
+    printf("%d checks\n", checks);
+    return failures != 0;
+}

@@ -1,0 +1,115 @@
+"""Tests of the Python module."""
+
+import sys
+import threading
+import unittest
+from pathlib import Path
+
+sys.path.insert(0, str(Path(__file__).resolve().parent.parent / "python"))
+import smap  # noqa: E402
+
+BASE = "http://h/m/out.js.map"
+TEXT = (
+    b'{"version":3,"file":"out.js","sources":["a.js","b.js",null],"sourcesContent":["x\\ny",null],'
+    b'"ignoreList":[1],"names":["f"],"mappings":"AAUEA,IAEA;ACAA,E"}'
+)
+FRAME = b"    at f (http://h/m/out.js:1:2)\n"
+
+
+class ModuleTest(unittest.TestCase):
+    def setUp(self):
+        self.map = smap.Map.open(TEXT, BASE)
+
+    def test_a_lookup_has_its_url_and_its_name(self):
+        found = self.map.lookup(0, 3)
+        self.assertEqual((found.url, found.source_line, found.source_column), ("http://h/m/a.js", 10, 2))
+        self.assertEqual((found.name, found.is_ignored), ("f", False))
+        self.assertIsNone(self.map.lookup(0, 4).name)
+        self.assertIsNone(self.map.lookup(1, 2).source)
+        self.assertIsNone(self.map.lookup(2, 0))
+
+    def test_sources_and_mappings_go_by_number(self):
+        self.assertEqual(self.map.source(0), smap.Source("http://h/m/a.js", "x\ny", False))
+        self.assertEqual(self.map.source(1), smap.Source("http://h/m/b.js", None, True))
+        self.assertEqual(self.map.source(2), smap.Source(None, None, False))
+        with self.assertRaises(IndexError):
+            self.map.source(3)
+        self.assertEqual([m.column for m in self.map.mappings()], [0, 4, 0, 2])
+        self.assertEqual((self.map.file(), self.map.counts().names), ("out.js", 1))
+
+    def test_a_fault_has_its_fields(self):
+        with self.assertRaises(smap.Refused) as raised:
+            section = b'{"offset":{"line":0,"column":0},"map":' + TEXT[:-2] + b',"}}'
+            smap.Map.open(b'{"version":3,"sections":[' + section + b"]}", BASE)
+        fault = raised.exception
+        self.assertEqual(str(fault), "section 0: line 1 segment 2: empty segment")
+        self.assertEqual((fault.section, fault.line, fault.segment, fault.kind), ((0,), 1, 2, 22))
+        with self.assertRaises(smap.Refused) as raised:
+            smap.respell(b"A,B")
+        self.assertEqual(str(raised.exception), "line 0 segment 1: number 1: negative zero")
+
+    def test_other_errors_have_their_codes(self):
+        for words, code in [(["nobase"], 2), ([BASE, 1 << 31], 3), ([BASE, 0, 16777217], 3)]:
+            with self.assertRaises(smap.Error) as raised:
+                smap.Map.open(TEXT, *words)
+            self.assertEqual(raised.exception.code, code)
+        self.map.close()
+        self.map.close()
+        with self.assertRaisesRegex(smap.Error, "closed handle"):
+            self.map.lookup(0, 0)
+
+    def test_two_maps_may_say_the_same(self):
+        with smap.Map.open(self.map.canonical(), BASE) as tidied:
+            self.assertTrue(self.map.same(tidied) and self.map.same(self.map))
+            self.assertEqual(tidied.canonical(), self.map.canonical())
+            self.assertEqual(tidied.canonical_mappings(), b"AAUEA,IAEA;ACAA,E")
+        with smap.Map.open(b'{"version":3,"mappings":""}', BASE) as empty:
+            self.assertFalse(self.map.same(empty))
+
+    def test_a_trace_is_translated(self):
+        url = "http://h/m/out.js"
+        told = self.map.translate("Error\n" + FRAME.decode(), url)
+        self.assertEqual(told, "Error\n    at f (http://h/m/a.js:11:3)\n")
+        told = self.map.translate(b"\r\x85@u:2:1\r\n@u:2:1", "u")
+        self.assertEqual(told, b"\r\x85@http://h/m/b.js:13:3\r\n@http://h/m/b.js:13:3")
+        self.assertEqual(self.map.translate(b"@u:2:1\n@v:2:1\n", "u", hide=True), b"@v:2:1\n")
+        self.assertEqual(self.map.translate(b"", url), b"")
+
+    def test_scripts_translate_by_their_maps(self):
+        with smap.Scripts() as scripts:
+            self.assertEqual(scripts.translate(b"@u:2:1\nx")[0], b"@u:2:1\nx")
+            self.assertEqual(scripts.translate(b"@u:2:1\nx")[1].lines, 2)
+            scripts.add("u", self.map)
+            with smap.Map.open(b'{"version":3,"sources":["c.js"],"mappings":"AAAA"}', BASE) as other:
+                scripts.add("v", other)
+            told, counts = scripts.translate(b"@u:2:1\n@v:1:1\n", hide=True)
+            self.assertEqual(told, b"@http://h/m/c.js:1:1\n")
+            self.assertEqual((counts.lines, counts.translated, counts.dropped), (2, 1, 1))
+
+    def test_a_text_may_be_long(self):
+        name = "n" * 100000
+        text = '{"version":3,"sources":["a"],"names":["%s"],"mappings":"AAAAA"}' % name
+        with smap.Map.open(text.encode(), BASE) as m:
+            self.assertEqual(m.lookup(0, 0).name, name)
+
+    def test_threads_share_a_map(self):
+        wrong = []
+
+        def run(m):
+            for _ in range(200):
+                if m.lookup(0, 3).name != "f" or m.share().lookup(0, 5).source_line != 12:
+                    wrong.append(m)
+
+        threads = [threading.Thread(target=run, args=(self.map.share(),)) for _ in range(8)]
+        for thread in threads:
+            thread.start()
+        self.map.close()
+        for thread in threads:
+            thread.join()
+        self.assertEqual(wrong, [])
+
+    def test_the_version_has_three_numbers(self):
+        self.assertRegex(smap.version(), r"^[0-9]+\.[0-9]+\.[0-9]+$")
+
+
+unittest.main()

@@ -1,0 +1,151 @@
+/* Makes each call that takes memory with each of its growths refused in turn. The call is done, or answers
+ * that memory ran out and leaves its handles as they were; and once more it is done. Link it with
+ * -Wl,--wrap=malloc,--wrap=realloc. */
+#include "maps.h"
+
+static long left = -1;
+void *__real_malloc(size_t size);
+void *__real_realloc(void *old, size_t size);
+void *__wrap_malloc(size_t size);
+void *__wrap_realloc(void *old, size_t size);
+
+static bool is_refused(void)
+{
+    return left >= 0 && left-- == 0;
+}
+
+void *__wrap_malloc(size_t size)
+{
+    return is_refused() ? NULL : __real_malloc(size);
+}
+
+void *__wrap_realloc(void *old, size_t size)
+{
+    return is_refused() ? NULL : __real_realloc(old, size);
+}
+
+static smap_map map, other;
+static smap_bytes out;
+static smap_scripts scripts, empty;
+static smap_fault fault;
+static char room[256];
+static size_t len;
+static uint32_t outcome;
+
+static uint32_t open_map(void)
+{
+    return open_text(&other, text, &fault);
+}
+
+static uint32_t open_broken(void)
+{
+    return open_text(&other, broken, &fault);
+}
+
+static uint32_t share(void)
+{
+    return smap_share(&map, &other);
+}
+
+static uint32_t canonical(void)
+{
+    return smap_canonical(&map, &out);
+}
+
+static uint32_t relative(void)
+{
+    return smap_canonical_relative(&map, &out);
+}
+
+static uint32_t mappings(void)
+{
+    return smap_canonical_mappings(&map, &out);
+}
+
+static uint32_t flatten(void)
+{
+    return smap_flatten(&map, &out);
+}
+
+static uint32_t respell(void)
+{
+    return smap_respell("E,D", 3, &out, &fault);
+}
+
+static uint32_t respell_broken(void)
+{
+    return smap_respell("E,", 2, &out, &fault);
+}
+
+static uint32_t line(void)
+{
+    return smap_translate_line(&map, script, strlen(script), frame_line, strlen(frame_line), false, room,
+                               sizeof room, &len, &outcome);
+}
+
+static uint32_t add(void)
+{
+    return smap_add_script(&scripts, script, strlen(script), &map);
+}
+
+static uint32_t add_first(void)
+{
+    uint32_t code = smap_add_script(&empty, script, strlen(script), &map);
+    CHECK((code == SMAP_OK) == empty.is_open);
+    smap_close_scripts(&empty);
+    return code;
+}
+
+static uint32_t translate(void)
+{
+    return smap_translate(&scripts, frame_line, strlen(frame_line), false, &out, NULL);
+}
+
+/* Makes the call with the growth of each number refused, and counts them. */
+static void refuse(const char *name, uint32_t (*call)(void), uint32_t wanted)
+{
+    long n = 0, refused = 0;
+    for (bool all = false; !all; n++) {
+        smap_counts counts;
+        uint32_t code;
+        left = n;
+        code = call();
+        all = left >= 0;
+        left = -1;
+        refused += code == SMAP_MEMORY;
+        CHECK(code == wanted || (code == SMAP_MEMORY && !all && !out.is_open && !other.is_open));
+        CHECK(smap_count(&map, &counts) == SMAP_OK && counts.mappings == 4);
+        smap_bytes_free(&out);
+        smap_close(&other);
+        CHECK(call() == wanted);
+        smap_bytes_free(&out);
+        smap_close(&other);
+    }
+    CHECK(refused > 0);
+    printf("%s: %ld growths, %ld times out of memory\n", name, n - 1, refused);
+}
+
+int main(void)
+{
+    CHECK(open_text(&map, text, NULL) == SMAP_OK);
+    refuse("open", open_map, SMAP_OK);
+    refuse("open a broken map", open_broken, SMAP_REFUSED);
+    refuse("share", share, SMAP_OK);
+    refuse("canonical", canonical, SMAP_OK);
+    refuse("canonical, relative", relative, SMAP_OK);
+    refuse("canonical mappings", mappings, SMAP_OK);
+    refuse("flatten", flatten, SMAP_OK);
+    refuse("respell", respell, SMAP_OK);
+    refuse("respell a broken text", respell_broken, SMAP_REFUSED);
+    refuse("translate a line", line, SMAP_OK);
+    refuse("add the first script", add_first, SMAP_OK);
+    CHECK(smap_add_script(&scripts, "u", 1, &map) == SMAP_OK);
+    refuse("add a script", add, SMAP_OK);
+    CHECK(smap_add_script(&scripts, script, strlen(script), &map) == SMAP_OK);
+    refuse("translate", translate, SMAP_OK);
+    for (char url[] = "a"; url[0] < 'g'; url[0]++) CHECK(smap_add_script(&scripts, url, 1, &map) == SMAP_OK);
+    refuse("translate by many", translate, SMAP_OK);
+    smap_close_scripts(&scripts);
+    smap_close(&map);
+    return failures != 0;
+}

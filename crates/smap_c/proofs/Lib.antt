@@ -1,0 +1,10 @@
+pub mod LastLemmas
+pub mod LooseLemmas
+pub mod OpeningLemmas
+pub mod OwnedBytesLemmas
+pub mod OwnedMapLemmas
+pub mod OwnedScriptsLemmas
+pub mod PuttingLemmas
+pub mod RespellingLemmas
+pub mod ScriptLemmas
+pub mod TraceLemmas

@@ -1,0 +1,36 @@
+-- What a text is in its shortest spellings, by what it says.
+use Rattle.std.proofs.Common.{◌≡◌, ℕ, List, Option, Result, Ok, Err, ap, refl, inr}
+use Rattle.smap_mappings.specs.declared.token.Token.{Token}
+use Rattle.smap_mappings.specs.declared.token.TheConstants.{WIDEST}
+use Rattle.smap_mappings.specs.declared.error.SegmentPlace.{SegmentPlace}
+use Rattle.smap_mappings.specs.declared.error.SegmentKind.{SegmentKind}
+use Rattle.smap_mappings.specs.Tokens.{Fault as SegmentFault}
+use Rattle.smap_mappings.specs.Decoded.{decoded}
+use Rattle.smap_mappings.specs.Text.{mappings_text}
+use Rattle.smap_record.specs.declared.fault.Fault.{Fault}
+use Rattle.smap_record.specs.Faults.{Checked, segment_fault}
+use Rattle.smap_c.specs.Respelling.{respelled, respelling, RespellsAs}
+use Rattle.smap_c.specs.declared.codes.TheConstants.{MEMORY}
+use Rattle.smap_c.specs.declared.faults.SmapFault.{SmapFault}
+use Rattle.smap_c.specs.declared.written.Written.{Written}
+
+pub says : (text : List ℕ) (said : Result (List Token) SegmentFault) → decoded WIDEST text ≡ said
+    → respelling text ≡ respelled said
+unfolding respelling
+says text said is = ap respelled is
+
+pub says_tokens : (text : List ℕ) (tokens : List Token) (out : List ℕ) → decoded WIDEST text ≡ Ok tokens
+    → out ≡ mappings_text tokens → respelling text ≡ Ok out
+says_tokens text tokens out said spelled = rw spelled (says text (Ok tokens) said)
+
+pub says_fault : (text : List ℕ) (place p : SegmentPlace) (kind k : SegmentKind) (fault : Fault)
+    → decoded WIDEST text ≡ Err (place, kind) → p ≡ place → k ≡ kind → fault ≡ segment_fault (p, k)
+    → respelling text ≡ Err fault
+says_fault text place p kind k fault said same_place same_kind is =
+    rw (is, same_place, same_kind) (says text (Err (place, kind)) said)
+
+-- where memory runs out, that may stand for any answer
+pub no_memory : (said : Checked (List ℕ)) (old : Option Written) (before : SmapFault)
+    → RespellsAs said old old before before MEMORY
+no_memory (Ok text) old before = (inr (refl, refl), refl)
+no_memory (Err fault) old before = (inr (refl, refl), refl)

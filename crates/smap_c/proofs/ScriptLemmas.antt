@@ -1,0 +1,84 @@
+-- Scripts in a table by their URLs.
+use Rattle.std.proofs.Common.{◌≡◌, ◌∙◌, ℕ, zero, suc, ◌+◌, Bool, true, false, List, [], ◌∷◌, ◌++◌, map, take}
+use Rattle.std.proofs.Common.{get_or, length, Bor, String, Some, refl, sym, ap, arith, bytes_eq, string_bytes}
+use Rattle.std.specs.Prelude.{slice_get}
+use Rattle.std.specs.List.{AllByRecursion, IsDistinct}
+use Rattle.std.proofs.lemmas.List.{get_or-map, length-map, map-append, take_more}
+use Rattle.std.proofs.lemmas.Map.Made.{AllPairs-from_IsDistinct}
+use Rattle.std.proofs.lemmas.Option.{slice_get_within}
+use Rattle.std.proofs.lemmas.Slice.Eq.{bytes_eq-Decides}
+use Rattle.std.specs.Map.{keys_of}
+use Rattle.indexmap.specs.IndexMap.{insert_entry}
+use Rattle.smap_record.specs.Record.{ReadMap, record_of}
+use Rattle.smap_trace.specs.Translation.{AreDistinct, Script}
+use Rattle.smap_trace.specs.Views.{script_in, scripts_in}
+use Rattle.smap_c.specs.Scripting.{with_script}
+use Rattle.smap_c.specs.ScriptsView.{script_of, scripts_of}
+use Rattle.smap_c.specs.declared.opened.Shared.{Shared}
+
+abbrev pub same_key : {A : Type 0} → String A → String A → Bool
+same_key a b = bytes_eq (string_bytes a) (string_bytes b)
+
+-- a script is put where its URL's entry is
+pub put : {A : Type 0} (k : String A) (v : Shared) (es : List (String A × Shared))
+    → scripts_of (insert_entry same_key es k v)
+    ≡ with_script (string_bytes k) (record_of v.arc.value.map) (scripts_of es)
+put k v [] = refl
+put {A = A} k v (e ∷ es) = step (same_key k e.0) refl (put k v es)
+  where
+    step : (t : Bool) → same_key k e.0 ≡ t
+        → scripts_of (insert_entry same_key es k v)
+        ≡ with_script (string_bytes k) (record_of v.arc.value.map) (scripts_of es)
+        → scripts_of (insert_entry same_key (e ∷ es) k v)
+        ≡ with_script (string_bytes k) (record_of v.arc.value.map) (scripts_of (e ∷ es))
+    step true f more = rw f refl
+    step false f more = rw f (ap (λ (ss : List Script). script_of e ∷ ss) more)
+
+-- ---- no two scripts have one URL
+
+abbrev urls : List Script → List (List ℕ)
+urls ss = map (λ (s : Script). s.0) ss
+
+lacks : {A : Type 0} (k : String A) (es : List (String A × Shared))
+    → AllByRecursion (λ (y : String A). same_key k y ≡ false) (keys_of es)
+    → AllByRecursion (λ (u : List ℕ). bytes_eq (string_bytes k) u ≡ false) (urls (scripts_of es))
+lacks k [] none = none
+lacks k (e ∷ es) none = (none.0, lacks k es none.1)
+
+distinct_urls : {A : Type 0} (es : List (String A × Shared)) → IsDistinct same_key (keys_of es)
+    → IsDistinct bytes_eq (urls (scripts_of es))
+unfolding IsDistinct
+distinct_urls [] d = d
+distinct_urls (e ∷ es) d = (lacks e.0 es d.0, distinct_urls es d.1)
+
+pub distinct : {A : Type 0} (es : List (String A × Shared)) → IsDistinct same_key (keys_of es)
+    → AreDistinct (scripts_of es)
+distinct es d i j s lt within same =
+    let ss = scripts_of es in
+    let len : length (urls ss) ≡ length ss = length-map ss (λ (t : Script). t.0) in
+    AllPairs-from_IsDistinct bytes_eq-Decides (urls ss) (distinct_urls es d) i j s.0 lt
+    (omega (arith, within, len))
+    (get_or-map (λ (t : Script). t.0) ss i s s.0 (omega (arith, lt, within)) ∙ same
+    ∙ sym (get_or-map (λ (t : Script). t.0) ss j s s.0 within))
+
+-- ---- the scripts as they are lent
+
+found : {A : Type 0} (es : List A) (i : ℕ) (e : A) → slice_get es i ≡ Some e → get_or es i e ≡ e
+found [] i e h = cc
+found (x ∷ xs) zero e h = cc
+found (x ∷ xs) (suc i) e h = found xs i e h
+
+take_next : {A : Type 0} (es : List A) (i : ℕ) (e : A) → slice_get es i ≡ Some e
+    → take (i + 1) es ≡ take i es ++ e ∷ []
+take_next {A = A} es i e h =
+    take_more es i e (slice_get_within es i e h) ∙ ap (λ (x : A). take i es ++ x ∷ []) (found es i e h)
+
+pub next_lent : {A : Type 0} (xs : List (Bor (List ℕ) × Bor ReadMap)) (es : List (String A × Shared)) (i : ℕ)
+    (e : String A × Shared) (u : Bor (List ℕ)) (m : Bor ReadMap) → scripts_in xs ≡ scripts_of (take i es)
+    → slice_get es i ≡ Some e → u.now ≡ string_bytes e.0 → m.now ≡ e.1.arc.value.map
+    → scripts_in (xs ++ (u, m) ∷ []) ≡ scripts_of (take (i + 1) es)
+next_lent {A = A} xs es i e u m so_far at url is =
+    let last : ◌≡◌ {A = Script} (u.now, record_of m.now) (script_of e) = rw (url, is) refl in
+    map-append script_in xs ((u, m) ∷ []) ∙ ap (λ (ss : List Script). ss ++ (u.now, record_of m.now) ∷ []) so_far
+    ∙ ap (λ (s : Script). scripts_of (take i es) ++ s ∷ []) last
+    ∙ sym (map-append script_of (take i es) (e ∷ [])) ∙ ap scripts_of (sym (take_next es i e at))

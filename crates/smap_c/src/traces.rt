@@ -1,0 +1,132 @@
+//! The calls on the lines of a trace.
+ghost use Rattle.std.specs.Prelude.{◌≡◌, length};
+ghost use Rattle.smap_c.specs.Tracing.{FrameTold, LineTold, LineBy, TellsLine};
+ghost use Rattle.smap_c.specs.Held.{held};
+
+use crate::codes::{CLOSED, MEMORY, NONE, NOT_URL, OK};
+use crate::copying::copy_out;
+use crate::opened::{Opened, SmapMap};
+use smap_record::SourceMap;
+use smap_trace::{LineOutcome, frame, translate_line};
+use std::alloc::Global;
+use std::{mem, str};
+
+/// Where the parts of a frame lie in its line: the script's URL, and the position, which counts from 1.
+#[repr(C)]
+#[derive(Clone, Copy)]
+pub struct SmapFrame {
+    pub url_from: usize,
+    pub url_len: usize,
+    pub line: u32,
+    pub column: u32,
+}
+
+/// The frame that a line of a trace is, if it is one.
+#[unsafe(no_mangle)]
+pub extern "C" fn smap_frame(text: &[u8], out: &mut SmapFrame) -> u32
+    ensures { FrameTold text.now out.old out.new result }
+{
+    match frame(text) {
+        Some(frame) => {
+            *out = SmapFrame {
+                url_from: frame.before.len(),
+                url_len: frame.url.len(),
+                line: frame.line,
+                column: frame.column,
+            };
+            OK
+        }
+        None => NONE,
+    }
+}
+
+/// The translation of a line and what became of it: 0 kept, 1 translated, 2 dropped.
+fn line_of(
+    alloc: Global,
+    map: &SourceMap,
+    url: &str,
+    line: &[u8],
+    hide: bool,
+    out: &mut [u8],
+    len: &mut usize,
+    outcome: &mut u32,
+) -> u32
+    ensures { LineTold url.now map.now line.now hide out.old out.new len.new outcome.old outcome.new result }
+{
+    let mut text = Vec::new(alloc);
+    match translate_line(line, &[(url, map)], hide, &mut text) {
+        Ok(became) => {
+            *outcome = match became {
+                LineOutcome::Kept => 0,
+                LineOutcome::Translated => 1,
+                LineOutcome::Dropped => 2,
+            };
+            *len = copy_out(text.as_slice(), out);
+            OK
+        }
+        Err(_) => {
+            *len = 0;
+            MEMORY
+        }
+    }
+}
+
+/// The same of a URL that may be none, as it isn't UTF-8.
+fn line_by(
+    alloc: Global,
+    map: &SourceMap,
+    url: &[u8],
+    line: &[u8],
+    hide: bool,
+    out: &mut [u8],
+    len: &mut usize,
+    outcome: &mut u32,
+) -> u32
+    ensures { LineBy url.now map.now line.now hide out.old out.new len.new outcome.old outcome.new result }
+{
+    match str::from_utf8(url) {
+        Ok(text) => line_of(alloc, map, text, line, hide, out, len, outcome),
+        Err(_) => {
+            *len = 0;
+            NOT_URL
+        }
+    }
+}
+
+/// The translation of a line by the map of the script that has this URL.
+#[unsafe(no_mangle)]
+pub extern "C" fn smap_translate_line(
+    alloc: Global,
+    map: &mut SmapMap,
+    url: &[u8],
+    line: &[u8],
+    hide: bool,
+    out: &mut [u8],
+    len: &mut usize,
+    outcome: &mut u32,
+) -> u32
+    ensures told { TellsLine (held map.old.owner.value) url.now line.now hide out.old out.new len.new
+        outcome.old outcome.new result }
+    ensures same { map.new.owner.value ≡ map.old.owner.value }
+{
+    match mem::replace(map, SmapMap::closed(alloc)).into_box() {
+        None => {
+            *len = 0;
+            CLOSED
+        }
+        Some(held) => {
+            let code = line_by(
+                alloc,
+                &held.opened().map,
+                url,
+                line,
+                hide,
+                out,
+                len,
+                outcome,
+            );
+            *map = SmapMap::of(held);
+            code
+        }
+    }
+}

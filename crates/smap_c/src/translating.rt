@@ -1,0 +1,170 @@
+//! The calls on scripts, and the translation of a whole trace by them.
+ghost use Rattle.std.specs.Prelude.{◌≡◌, [], None, IfOk, string_bytes};
+ghost use Rattle.smap_record.specs.Record.{record_of};
+ghost use Rattle.smap_c.specs.Held.{held};
+ghost use Rattle.smap_c.specs.Scripting.{Adds, AddsScript, told_counts, told_trace, with_script};
+ghost use Rattle.smap_c.specs.Scripting.{TranslatesInto, TranslatesBy};
+
+use crate::codes::{CLOSED, MEMORY, NOT_URL, OK};
+use crate::opened::{Shared, SmapMap};
+use crate::scripts::{Scripts, SmapScripts};
+use crate::written::{SmapBytes, Written};
+use smap_io::Device;
+use smap_mappings::Memory;
+use smap_trace::{Counts, translate};
+use std::alloc::Global;
+use std::{mem, str};
+
+/// How many lines a trace has, and how many of them are translated and dropped.
+#[repr(C)]
+#[derive(Clone, Copy)]
+pub struct SmapTraceCounts {
+    pub lines: u64,
+    pub translated: u64,
+    pub dropped: u64,
+}
+
+/// A handle's worth of one script.
+fn first(alloc: Global, url: String, shared: Shared) -> Result<Box<Scripts>, Memory>
+    ensures { IfOk result (λ b. b.value
+        ≡ with_script (string_bytes url) (record_of shared.arc.value.map) []) }
+{
+    let scripts = Scripts::new(alloc, url, shared)?;
+    match Box::new(alloc, scripts) {
+        Ok(held) => Ok(held),
+        Err(_) => Err(Memory),
+    }
+}
+
+/// Puts a script among those of the handle, in place of one of the same URL.
+fn add(alloc: Global, scripts: &mut SmapScripts, url: String, shared: Shared) -> u32
+    ensures { Adds (string_bytes url) (record_of shared.arc.value.map)
+        scripts.old.owner.value scripts.new.owner.value result }
+{
+    let Some(mut held) = mem::replace(scripts, SmapScripts::closed(alloc)).into_box() else {
+        let Ok(held) = first(alloc, url, shared) else {
+            return MEMORY;
+        };
+        *scripts = SmapScripts::of(held);
+        return OK;
+    };
+    let answer = held.put(url, shared);
+    *scripts = SmapScripts::of(held);
+    match answer {
+        Ok(_) => OK,
+        Err(_) => MEMORY,
+    }
+}
+
+/// Adds a script.
+#[unsafe(no_mangle)]
+pub extern "C" fn smap_add_script(
+    alloc: Global,
+    scripts: &mut SmapScripts,
+    url: &[u8],
+    map: &mut SmapMap,
+) -> u32
+    ensures added { AddsScript url.now (held map.old.owner.value) scripts.old.owner.value
+        scripts.new.owner.value result }
+    ensures same { map.new.owner.value ≡ map.old.owner.value }
+{
+    let Ok(text) = str::from_utf8(url) else {
+        return NOT_URL;
+    };
+    let Some(it) = mem::replace(map, SmapMap::closed(alloc)).into_box() else {
+        return CLOSED;
+    };
+    let part = it.part();
+    *map = SmapMap::of(it);
+    let Ok(shared) = part else {
+        return MEMORY;
+    };
+    match String::from_str(alloc, text) {
+        Ok(url) => add(alloc, scripts, url, shared),
+        Err(_) => MEMORY,
+    }
+}
+
+/// Lets scripts go. A handle that is closed stays so.
+#[unsafe(no_mangle)]
+pub extern "C" fn smap_close_scripts(alloc: Global, scripts: &mut SmapScripts)
+    ensures { scripts.new.owner.value ≡ None }
+{
+    *scripts = SmapScripts::closed(alloc);
+}
+
+fn told_counts(counts: Counts) -> SmapTraceCounts
+    ensures { result ≡ told_counts counts }
+{
+    SmapTraceCounts {
+        lines: counts.lines,
+        translated: counts.translated,
+        dropped: counts.dropped,
+    }
+}
+
+/// The translation of a trace, and its counts.
+fn translated(
+    alloc: Global,
+    scripts: &Scripts,
+    trace: &[u8],
+    hide: bool,
+) -> Result<(Vec<u8>, Counts), Memory>
+    ensures { IfOk result (λ told. (told.0.items, told.1)
+        ≡ told_trace scripts.now hide trace.now) }
+{
+    let lent = scripts.lent(alloc)?;
+    let mut reader = Device::new(trace);
+    let mut writer = Device::new(Vec::new(alloc));
+    match translate(alloc, &mut reader, lent.as_slice(), hide, &mut writer) {
+        Ok(counts) => Ok((writer.into_inner(), counts)),
+        Err(_) => Err(Memory),
+    }
+}
+
+/// Puts the translation into a handle.
+fn translate_into(
+    alloc: Global,
+    scripts: &Scripts,
+    trace: &[u8],
+    hide: bool,
+    out: &mut SmapBytes,
+    counts: &mut SmapTraceCounts,
+) -> u32
+    ensures { TranslatesInto (told_trace scripts.now hide trace.now)
+        out.old.owner.value out.new.owner.value counts.old counts.new result }
+{
+    let Ok((bytes, told)) = translated(alloc, scripts, trace, hide) else {
+        return MEMORY;
+    };
+    let Ok(held) = Box::new(alloc, Written { bytes }) else {
+        return MEMORY;
+    };
+    *out = SmapBytes::of(held);
+    *counts = told_counts(told);
+    OK
+}
+
+/// The translation of a trace by scripts.
+#[unsafe(no_mangle)]
+pub extern "C" fn smap_translate(
+    alloc: Global,
+    scripts: &mut SmapScripts,
+    trace: &[u8],
+    hide: bool,
+    out: &mut SmapBytes,
+    counts: &mut SmapTraceCounts,
+) -> u32
+    ensures told { TranslatesBy scripts.old.owner.value trace.now hide
+        out.old.owner.value out.new.owner.value counts.old counts.new result }
+    ensures same { scripts.new.owner.value ≡ scripts.old.owner.value }
+{
+    match mem::replace(scripts, SmapScripts::closed(alloc)).into_box() {
+        None => CLOSED,
+        Some(held) => {
+            let code = translate_into(alloc, &held, trace, hide, out, counts);
+            *scripts = SmapScripts::of(held);
+            code
+        }
+    }
+}
