@@ -2,8 +2,8 @@
 //!
 //! [`decode`] reads it into tokens, [`encode`] writes tokens as their canonical string, and
 //! [`is_encodable`] says which tokens have one. [`MappingsReader`] reads a string that comes in pieces,
-//! [`Encoder`] writes one while its tokens come, and [`count_segments`] says how many tokens a string can
-//! have.
+//! [`Encoder`] writes one while its tokens come, and [`TextLength`] counts its bytes instead;
+//! [`count_segments`] says how many tokens a string can have.
 //!
 //! The numbers of a string are differences, so both directions carry five running values and make one pass:
 //! no string is split, and no segment is stored. Tokens are sorted only where a column falls. Memory is
