@@ -1,5 +1,6 @@
 -- Headers are read in one way.
-use Rattle.std.proofs.Common.{◌≡◌, ◌∙◌, ℕ, ◌==◌, Bool, true, false, List, [], ◌∷◌, ◌++◌, drop, get_or, codes, refl, sym, ap, arith, subst, append_assoc}
+use Rattle.std.proofs.Common.{◌≡◌, ◌∙◌, ℕ, ◌==◌, Bool, true, false, List, [], ◌∷◌, ◌++◌, drop, get_or, codes}
+use Rattle.std.proofs.Common.{refl, sym, ap, arith, subst, append_assoc}
 use Rattle.std.specs.Char.{is_ascii_digit}
 use Rattle.std.specs.List.{list_all}
 use Rattle.std.specs.Str.Parse.{digits_value}
@@ -46,43 +47,55 @@ words script base len = script ++ (codes " " ++ (base ++ (codes " " ++ len)))
 abbrev pub inside : List ℕ → List ℕ → List ℕ → List ℕ
 inside script base len = codes "map " ++ words script base len
 
-pub words_are : (script base len : List ℕ) → header script base len ≡ codes "map " ++ (words script base len ++ 10 ∷ [])
+pub words_are : (script base len : List ℕ)
+    → header script base len ≡ codes "map " ++ (words script base len ++ 10 ∷ [])
 words_are script base len = sym (
-    ap (λ (xs : List ℕ). codes "map " ++ xs) (append_assoc script (codes " " ++ (base ++ (codes " " ++ len))) (10 ∷ [])
+    ap (λ (xs : List ℕ). codes "map " ++ xs) (append_assoc script (codes " " ++ (base ++ (codes " " ++ len)))
+    (10 ∷ [])
     ∙ ap (λ (xs : List ℕ). script ++ (codes " " ++ xs)) (append_assoc base (codes " " ++ len) (10 ∷ []))))
 
 pub inside_is : (script base len : List ℕ) → header script base len ≡ inside script base len ++ 10 ∷ []
 inside_is script base len = words_are script base len
 
-pub inside_lacks : (line script base : List ℕ) (n : ℕ) (h : IsHeader line script base n) → lacks 10 (inside script base h.digits) ≡ true
+pub inside_lacks : (line script base : List ℕ) (n : ℕ) (h : IsHeader line script base n)
+    → lacks 10 (inside script base h.digits) ≡ true
 inside_lacks line script base n h =
     let len = h.digits in
     lacks_both 10 (codes "map ") (words script base len) refl
     (lacks_both 10 script (codes " " ++ (base ++ (codes " " ++ len))) h.script_word.no_feed
     (lacks_both 10 (codes " ") (base ++ (codes " " ++ len)) refl
-    (lacks_both 10 base (codes " " ++ len) h.base_word.no_feed (lacks_both 10 (codes " ") len refl (digits_lack len h.number.digits)))))
+    (lacks_both 10 base (codes " " ++ len) h.base_word.no_feed
+    (lacks_both 10 (codes " ") len refl (digits_lack len h.number.digits)))))
 
 -- The line of a header is what stands before its line feed, and that.
-pub line_is : (line script base : List ℕ) (n : ℕ) (h : IsHeader line script base n) → line ≡ inside script base h.digits ++ 10 ∷ []
+pub line_is : (line script base : List ℕ) (n : ℕ) (h : IsHeader line script base n)
+    → line ≡ inside script base h.digits ++ 10 ∷ []
 line_is line script base n h = h.whole ∙ inside_is script base h.digits
 
-pub begun : (text script base more : List ℕ) (n : ℕ) (b : BeginsWithHeader text script base n more) → text ≡ inside script base b.header.digits ++ 10 ∷ more
+pub begun : (text script base more : List ℕ) (n : ℕ) (b : BeginsWithHeader text script base n more)
+    → text ≡ inside script base b.header.digits ++ 10 ∷ more
 begun text script base more n b =
-    b.whole ∙ ap (λ (xs : List ℕ). xs ++ more) (line_is b.line script base n b.header) ∙ append_assoc (inside script base b.header.digits) (10 ∷ []) more
+    b.whole ∙ ap (λ (xs : List ℕ). xs ++ more) (line_is b.line script base n b.header)
+    ∙ append_assoc (inside script base b.header.digits) (10 ∷ []) more
 
 pub one_beginning : OneBeginning
 one_beginning text script base more other_script other_base other_more n m b d =
-    let cut = one_cut 10 (inside script base b.header.digits) (inside other_script other_base d.header.digits) more other_more refl
+    let cut = one_cut 10 (inside script base b.header.digits) (inside other_script other_base d.header.digits)
+    more other_more refl
     (inside_lacks b.line script base n b.header) (inside_lacks d.line other_script other_base m d.header)
     (sym (begun text script base more n b) ∙ begun text other_script other_base other_more m d) in
-    let lines : d.line ≡ b.line = line_is d.line other_script other_base m d.header ∙ ap (λ (xs : List ℕ). xs ++ 10 ∷ []) (sym cut.0)
+    let lines : d.line ≡ b.line = line_is d.line other_script other_base m d.header
+    ∙ ap (λ (xs : List ℕ). xs ++ 10 ∷ []) (sym cut.0)
     ∙ sym (line_is b.line script base n b.header) in
-    let same : IsHeader b.line other_script other_base m = subst (λ (l : List ℕ). IsHeader l other_script other_base m) lines d.header in
+    let same : IsHeader b.line other_script other_base m =
+    subst (λ (l : List ℕ). IsHeader l other_script other_base m) lines d.header in
     let one = one_header b.line script base other_script other_base n m b.header same in
     (one.0, one.1, one.2, cut.1)
 
 -- A header isn't the line `trace`.
-pub no_header_of_trace : (script base more trace : List ℕ) (n : ℕ) → BeginsWithHeader (trace_line ++ trace) script base n more → ⊥
+pub no_header_of_trace : (script base more trace : List ℕ) (n : ℕ)
+    → BeginsWithHeader (trace_line ++ trace) script base n more → ⊥
 no_header_of_trace script base more trace n b =
-    let first : 116 ≡ 109 = ap (λ (xs : List ℕ). get_or xs 0 0) (begun (trace_line ++ trace) script base more n b) in
+    let first : 116 ≡ 109 = ap (λ (xs : List ℕ). get_or xs 0 0)
+    (begun (trace_line ++ trace) script base more n b) in
     omega (arith, first)

@@ -6,3 +6,6 @@ pub mod ScriptLemmas
 pub mod EntryLemmas
 pub mod LawLemmas
 pub mod AnswerLemmas
+pub mod BeginningLemmas
+pub mod AnsweredLemmas
+mod Examples

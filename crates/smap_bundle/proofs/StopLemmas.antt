@@ -1,5 +1,7 @@
 -- Reading stops after what was read before.
-use Rattle.std.proofs.Common.{◌≡◌, ◌∙◌, ◌⊎◌, inl, inr, ℕ, ◌+◌, ◌<◌, ◌≤◌, List, ◌++◌, length, Option, Result, Ok, Err, IfErr, MatchResult, refl, sym, subst, append_assoc, length-append, arith}
+use Rattle.std.proofs.Common.{◌≡◌, ◌∙◌, ◌⊎◌, inl, inr, ℕ, ◌+◌, ◌<◌, ◌≤◌, List, ◌++◌, length, Option, Result}
+use Rattle.std.proofs.Common.{Ok, Err, IfErr, MatchResult, refl, sym, subst, append_assoc, length-append}
+use Rattle.std.proofs.Common.{arith}
 use Rattle.smap_io.specs.declared.device.Device.{Device}
 use Rattle.smap_io.specs.Device.{device_failures, has_ended}
 use Rattle.smap_io.specs.Reading.{Gave, GaveUp, SpentBy, failed_by}
@@ -14,24 +16,33 @@ use Rattle.smap_bundle.specs.Reading.{MayFollow}
 use Rattle.smap_bundle.specs.Stopping.{Says, Stops, unread}
 
 -- What is said is said in other words.
-pub says_as : (P Q : Answer → Type 0) → ((answer : Answer) → P answer → Q answer) → (s : BundleFault) → Says P s → Says Q s
+pub says_as : (P Q : Answer → Type 0) → ((answer : Answer) → P answer → Q answer) → (s : BundleFault)
+    → Says P s → Says Q s
 says_as P Q f (fault.Refused r) h = f (refused r) h
 says_as P Q f fault.TooLong h = f too_long h
 says_as P Q f fault.Memory h = tt
 says_as P Q f fault.Read h = absurd h
 
+-- What holds of every answer is said of this one.
+pub says_any : (P Q : Answer → Type 0) → ((answer : Answer) → Q answer) → (s : BundleFault) → Says P s
+    → Says Q s
+says_any P Q f s h = says_as P Q (λ answer p. f answer) s h
+
 -- The same of an answer that may be none.
-pub if_stops : {A : Type 0} (r : Result A BundleFault) (P Q : BundleFault → Type 0) → ((s : BundleFault) → P s → Q s) → IfErr r P → IfErr r Q
+pub if_stops : {A : Type 0} (r : Result A BundleFault) (P Q : BundleFault → Type 0)
+    → ((s : BundleFault) → P s → Q s) → IfErr r P → IfErr r Q
 if_stops (Ok x) P Q f h = tt
 if_stops (Err s) P Q f h = f s h
 
 -- What always holds, of an answer that may be none.
-pub match_any : {A : Type 0} (r : Result A BundleFault) (P : A → Type 0) (Q : BundleFault → Type 0) → ((x : A) → P x) → ((s : BundleFault) → Q s) → MatchResult r P Q
+pub match_any : {A : Type 0} (r : Result A BundleFault) (P : A → Type 0) (Q : BundleFault → Type 0)
+    → ((x : A) → P x) → ((s : BundleFault) → Q s) → MatchResult r P Q
 match_any (Ok x) P Q f g = f x
 match_any (Err s) P Q f g = g s
 
 -- one more failure, or too many bytes, after these
-blamed_after : (old mid new calls left n m : ℕ) → mid ≡ old → calls ≤ left + n → (mid < new) ⊎ ((new ≡ mid) × (left ≤ m)) → (old < new) ⊎ ((new ≡ old) × (calls ≤ n + m))
+blamed_after : (old mid new calls left n m : ℕ) → mid ≡ old → calls ≤ left + n → (mid < new)
+    ⊎ ((new ≡ mid) × (left ≤ m)) → (old < new) ⊎ ((new ≡ old) × (calls ≤ n + m))
 blamed_after old mid new calls left n m same counted (inl lt) = inl (omega (arith, lt, same))
 blamed_after old mid new calls left n m same counted (inr e) = inr (e.0 ∙ same, omega (arith, counted, e.1))
 
@@ -39,65 +50,95 @@ blamed_after old mid new calls left n m same counted (inr e) = inr (e.0 ∙ same
 pub refusal_isnt_read : (P : Answer → Type 0) (s : BundleFault) → Says P s → s ≡ fault.Read → ⊥
 refusal_isnt_read P s says is = subst (Says P) is says
 
-module _ {R : Type 0} (remaining : R → Option (List ℕ)) (a b : Device R) (bytes : List ℕ) (gave : Gave remaining a b bytes) (same : device_failures b ≡ device_failures a) where
+module _ {R : Type 0} (remaining : R → Option (List ℕ)) (a b : Device R) (bytes : List ℕ)
+    (gave : Gave remaining a b bytes) (same : device_failures b ≡ device_failures a) where
   -- An answer that stands whatever follows is where reading stops.
-  pub says_stops : (calls : ℕ) (P : List ℕ → Answer → Type 0) (s : BundleFault) → ((more : List ℕ) → Says (P (bytes ++ more)) s) → Stops remaining a b calls P s
-  says_stops calls P (fault.Refused r) says = (record { bytes = bytes; gave = gave; settled = λ more may. says more }, same)
-  says_stops calls P fault.TooLong says = (bytes, gave, says, same)
-  says_stops calls P fault.Memory says = (bytes, gave, same)
-  says_stops calls P fault.Read says = absurd (says bytes)
+  pub says_stops : (calls : ℕ) (P Within : List ℕ → Answer → Type 0) (s : BundleFault)
+      → ((more : List ℕ) → Says (P (bytes ++ more)) s) → Says (Within bytes) s
+      → Stops remaining a b calls P Within s
+  says_stops calls P Within (fault.Refused r) says within = (
+    record { bytes = bytes; gave = gave; settled = λ more may. says more; within = within },
+    same,
+  )
+  says_stops calls P Within fault.TooLong says within = (bytes, gave, says, within, same)
+  says_stops calls P Within fault.Memory says within = (bytes, gave, same)
+  says_stops calls P Within fault.Read says within = absurd (says bytes)
 
   -- One refusal, of what was read and what may follow it.
-  pub refusal_stops : (calls : ℕ) (r : Refusal) (P : List ℕ → Answer → Type 0) (s : BundleFault) → Says (λ answer. answer ≡ refused r) s
-      → ((more : List ℕ) → MayFollow (has_ended b) more → P (bytes ++ more) (refused r)) → Stops remaining a b calls P s
-  refusal_stops calls r P (fault.Refused told) says settled =
-      (record { bytes = bytes; gave = gave; settled = λ more may. subst (P (bytes ++ more)) (sym says) (settled more may) }, same)
-  refusal_stops calls r P fault.TooLong says settled = absurd (wrong says)
+  pub refusal_stops : (calls : ℕ) (r : Refusal) (P Within : List ℕ → Answer → Type 0) (s : BundleFault)
+      → Says (λ answer. answer ≡ refused r) s
+      → ((more : List ℕ) → MayFollow (has_ended b) more → P (bytes ++ more) (refused r))
+      → Within bytes (refused r) → Stops remaining a b calls P Within s
+  refusal_stops calls r P Within (fault.Refused told) says settled within = (
+    record {
+      bytes = bytes;
+      gave = gave;
+      settled = λ more may. subst (P (bytes ++ more)) (sym says) (settled more may);
+      within = subst (Within bytes) (sym says) within;
+    },
+    same,
+  )
+  refusal_stops calls r P Within fault.TooLong says settled within = absurd (wrong says)
     where
       wrong : too_long ≡ refused r → ⊥
       wrong e = let bad : ◌≡◌ {A = ℕ} 0 1 = cc in omega (arith, bad)
-  refusal_stops calls r P fault.Memory says settled = (bytes, gave, same)
-  refusal_stops calls r P fault.Read says settled = absurd says
+  refusal_stops calls r P Within fault.Memory says settled within = (bytes, gave, same)
+  refusal_stops calls r P Within fault.Read says settled within = absurd says
 
   -- There was no memory after what was read.
-  pub memory_stops : (calls : ℕ) (P : List ℕ → Answer → Type 0) (s : BundleFault) → s ≡ fault.Memory → Stops remaining a b calls P s
-  memory_stops calls P s is = subst (Stops remaining a b calls P) (sym is) (bytes, gave, same)
+  pub memory_stops : (calls : ℕ) (P Within : List ℕ → Answer → Type 0) (s : BundleFault)
+      → s ≡ fault.Memory → Stops remaining a b calls P Within s
+  memory_stops calls P Within s is = subst (Stops remaining a b calls P Within) (sym is) (bytes, gave, same)
 
   -- Reading stops after these bytes, by what is said of others after them.
-  pub stops_after : (c : Device R) (calls left : ℕ) (P Q : List ℕ → Answer → Type 0) (s : BundleFault) → (s ≡ fault.Read → calls ≤ left + length bytes)
-      → ((text : List ℕ) (answer : Answer) → P text answer → Q (bytes ++ text) answer) → Stops remaining b c left P s → Stops remaining a c calls Q s
-  stops_after c calls left P Q (fault.Refused r) counted f st = (
+  pub stops_after : (c : Device R) (calls left : ℕ) (P Q Near Far : List ℕ → Answer → Type 0)
+      (s : BundleFault) → (s ≡ fault.Read → calls ≤ left + length bytes)
+      → ((text : List ℕ) (answer : Answer) → P text answer → Q (bytes ++ text) answer)
+      → ((text : List ℕ) (answer : Answer) → Near text answer → Far (bytes ++ text) answer)
+      → Stops remaining b c left P Near s → Stops remaining a c calls Q Far s
+  stops_after c calls left P Q Near Far (fault.Refused r) counted f g st = (
     record {
       bytes = bytes ++ st.0.bytes;
       gave = Gave-then remaining a b c bytes st.0.bytes gave st.0.gave;
-      settled = λ more may. rw (append_assoc bytes st.0.bytes more) (f (st.0.bytes ++ more) (refused r) (st.0.settled more may));
+      settled = λ more may. rw (append_assoc bytes st.0.bytes more)
+          (f (st.0.bytes ++ more) (refused r) (st.0.settled more may));
+      within = g st.0.bytes (refused r) st.0.within;
     },
     st.1 ∙ same,
   )
-  stops_after c calls left P Q fault.TooLong counted f st = (
+  stops_after c calls left P Q Near Far fault.TooLong counted f g st = (
     bytes ++ st.0,
     Gave-then remaining a b c bytes st.0 gave st.1,
     λ more. rw (append_assoc bytes st.0 more) (f (st.0 ++ more) too_long (st.2 more)),
-    st.3 ∙ same,
+    g st.0 too_long st.3,
+    st.4 ∙ same,
   )
-  stops_after c calls left P Q fault.Memory counted f st = (bytes ++ st.0, Gave-then remaining a b c bytes st.0 gave st.1, st.2 ∙ same)
-  stops_after c calls left P Q fault.Read counted f st = (
+  stops_after c calls left P Q Near Far fault.Memory counted f g st =
+      (bytes ++ st.0, Gave-then remaining a b c bytes st.0 gave st.1, st.2 ∙ same)
+  stops_after c calls left P Q Near Far fault.Read counted f g st = (
     bytes ++ st.0,
     Gave-then remaining a b c bytes st.0 gave st.1,
-    rw (length-append bytes st.0) (blamed_after (device_failures a) (device_failures b) (device_failures c) calls left (length bytes) (length st.0) same (counted refl) st.2),
+    rw (length-append bytes st.0) (blamed_after (device_failures a) (device_failures b) (device_failures c)
+        calls left (length bytes) (length st.0) same (counted refl) st.2),
   )
 
 -- The calls of a reader gave up, after what was read.
-pub gave_up_stops : {R : Type 0} (remaining : R → Option (List ℕ)) (a b c : Device R) (bytes : List ℕ) (most calls left : ℕ) (e : ReadFault) (s : BundleFault)
-    (P : List ℕ → Answer → Type 0) → Gave remaining a b bytes → device_failures b ≡ device_failures a → calls ≤ left + length bytes
-    → GaveUp remaining b c most left e → s ≡ unread e → Stops remaining a c calls P s
-gave_up_stops remaining a b c bytes most calls left e s P gave same counted g is = rw is (told e g.spent g.failures)
+pub gave_up_stops : {R : Type 0} (remaining : R → Option (List ℕ)) (a b c : Device R) (bytes : List ℕ)
+    (most calls left : ℕ) (e : ReadFault) (s : BundleFault) (P Within : List ℕ → Answer → Type 0)
+    → Gave remaining a b bytes → device_failures b ≡ device_failures a → calls ≤ left + length bytes
+    → GaveUp remaining b c most left e → s ≡ unread e → Stops remaining a c calls P Within s
+gave_up_stops remaining a b c bytes most calls left e s P Within gave same counted g is =
+    rw is (told e g.spent g.failures)
   where
     read : List ℕ
     read = bytes ++ g.bytes
 
-    told : (e : ReadFault) → SpentBy e left (length g.bytes) → device_failures c ≡ failed_by e (device_failures b) → Stops remaining a c calls P (unread e)
-    told io.Failed spent failures = (read, Gave-then remaining a b c bytes g.bytes gave g.gave, inl (omega (arith, failures, same)))
+    all : Gave remaining a c read
+    all = Gave-then remaining a b c bytes g.bytes gave g.gave
+
+    told : (e : ReadFault) → SpentBy e left (length g.bytes)
+        → device_failures c ≡ failed_by e (device_failures b) → Stops remaining a c calls P Within (unread e)
+    told io.Failed spent failures = (read, all, inl (omega (arith, failures, same)))
     told io.Spent spent failures =
-        (read, Gave-then remaining a b c bytes g.bytes gave g.gave, inr (failures ∙ same, omega (arith, counted, spent, length-append bytes g.bytes)))
-    told io.Memory spent failures = (read, Gave-then remaining a b c bytes g.bytes gave g.gave, failures ∙ same)
+        (read, all, inr (failures ∙ same, omega (arith, counted, spent, length-append bytes g.bytes)))
+    told io.Memory spent failures = (read, all, failures ∙ same)

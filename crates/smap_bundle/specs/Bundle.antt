@@ -36,7 +36,7 @@ AreEntries text (s ∷ ss) =
     (entry : List ℕ) × (rest : List ℕ) × (text ≡ entry ++ rest) × IsEntry entry s × AreEntries rest ss
 
 -- The input is the entries of these scripts, no two of which have the same URL, and then this rest.
-pub record Reads (input : List ℕ) (scripts : List Script) (rest : List ℕ) : Type 0 where
+pub record BeginsWithEntries (input : List ℕ) (scripts : List Script) (rest : List ℕ) : Type 0 where
   pub entries : List ℕ
   pub whole : input ≡ entries ++ rest
   pub are : AreEntries entries scripts
@@ -91,10 +91,10 @@ FaultAt seen text answer = Where (HasNoHeader text) (answer ≡ refusal (length 
     × BeginsWithHeader text script base n more × FaultOfEntry seen script base n more answer)
 
 -- What `translate` answers for the input.
-pub record Answers (hide : Bool) (input : List ℕ) (answer : Answer) : Type 0 where
+pub record IsAnswer (hide : Bool) (input : List ℕ) (answer : Answer) : Type 0 where
   pub scripts : List Script
   pub rest : List ℕ
-  pub reads : Reads input scripts rest
+  pub reads : BeginsWithEntries input scripts rest
   pub is : ((trace : List ℕ) × (rest ≡ trace_line ++ trace)
       × (answer ≡ done (translation scripts hide trace)))
       ⊎ FaultAt scripts rest answer

@@ -2,7 +2,7 @@
 use Rattle.std.specs.Prelude.{◌≡◌, ℕ, Bool, List, [], codes}
 use Rattle.smap_bundle.specs.declared.fault.EntryFault.TheVariants as wrong
 use Rattle.smap_bundle.specs.Header.{BeginsWithHeader, IsHeader}
-use Rattle.smap_bundle.specs.Bundle.{Answer, Answers, done, refusal}
+use Rattle.smap_bundle.specs.Bundle.{Answer, IsAnswer, done, refusal}
 
 -- A line is a header in at most one way.
 abbrev pub OneHeader : Type 0
@@ -18,10 +18,14 @@ OneBeginning = (text script base more other_script other_base other_more : List 
 
 -- An input has at most one answer.
 abbrev pub OneAnswer : Type 0
-OneAnswer = (hide : Bool) (input : List ℕ) (a b : Answer) → Answers hide input a → Answers hide input b
+OneAnswer = (hide : Bool) (input : List ℕ) (a b : Answer) → IsAnswer hide input a → IsAnswer hide input b
     → a ≡ b
+
+-- An input has an answer.
+abbrev pub HasAnswer : Type 0
+HasAnswer = (hide : Bool) (input : List ℕ) → (answer : Answer) × IsAnswer hide input answer
 
 -- The shortest inputs: an empty one has no header, and a trace without entries and lines gives nothing.
 abbrev pub FirstRows : Type 0
 FirstRows = (hide : Bool)
-    → Answers hide [] (refusal 0 wrong.Header) × Answers hide (codes "trace\n") (done [])
+    → IsAnswer hide [] (refusal 0 wrong.Header) × IsAnswer hide (codes "trace\n") (done [])

@@ -23,24 +23,26 @@ unread io.Failed = fault.Read
 unread io.Spent = fault.Read
 unread io.Memory = fault.Memory
 
--- These bytes were read, and the answer for them is settled, whatever may follow.
+-- These bytes were read, no more than the answer takes, and it is settled for them, whatever may follow.
 pub record Settled {R : Type 0} (remaining : R → Option (List ℕ)) (old new : Device R)
-    (P : List ℕ → Answer → Type 0) (answer : Answer) : Type 0 where
+    (P Within : List ℕ → Answer → Type 0) (answer : Answer) : Type 0 where
   pub bytes : List ℕ
   pub gave : Gave remaining old new bytes
   pub settled : (more : List ℕ) → MayFollow (has_ended new) more → P (bytes ++ more) answer
+  pub within : Within bytes answer
 
 -- Reading with this many calls stopped: with an answer for what was read, or because a call failed, or the
--- calls were used up, or memory ran out.
+-- calls were used up, or memory ran out. P is said of the answer and what was read with what may follow,
+-- Within of the answer and what was read alone.
 abbrev pub Stops : {R : Type 0} → (R → Option (List ℕ)) → Device R → Device R → ℕ
-    → (List ℕ → Answer → Type 0) → BundleFault → Type 0
-Stops remaining old new calls P (fault.Refused refusal) =
-    Settled remaining old new P (refused refusal) × (device_failures new ≡ device_failures old)
-Stops remaining old new calls P fault.TooLong =
+    → (List ℕ → Answer → Type 0) → (List ℕ → Answer → Type 0) → BundleFault → Type 0
+Stops remaining old new calls P Within (fault.Refused refusal) =
+    Settled remaining old new P Within (refused refusal) × (device_failures new ≡ device_failures old)
+Stops remaining old new calls P Within fault.TooLong =
     (bytes : List ℕ) × Gave remaining old new bytes × ((more : List ℕ) → P (bytes ++ more) too_long)
-    × (device_failures new ≡ device_failures old)
-Stops remaining old new calls P fault.Memory =
+    × Within bytes too_long × (device_failures new ≡ device_failures old)
+Stops remaining old new calls P Within fault.Memory =
     (bytes : List ℕ) × Gave remaining old new bytes × (device_failures new ≡ device_failures old)
-Stops remaining old new calls P fault.Read = (bytes : List ℕ) × Gave remaining old new bytes
+Stops remaining old new calls P Within fault.Read = (bytes : List ℕ) × Gave remaining old new bytes
     × ((device_failures old < device_failures new)
     ⊎ ((device_failures new ≡ device_failures old) × (calls ≤ length bytes)))

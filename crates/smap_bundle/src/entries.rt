@@ -12,6 +12,7 @@ ghost use Rattle.smap_bundle.specs.Bundle as spec;
 ghost use Rattle.smap_bundle.specs.Bundle.{usual};
 ghost use Rattle.smap_bundle.specs.Entries.{TakesEntries, TakesEntry, TakesMap, UsesCalls, IsNew, cut_off};
 ghost use Rattle.smap_bundle.specs.Header.{trace_line};
+ghost use Rattle.smap_bundle.specs.Reach.{IsWithinEntry, IsWithinMap, ReadsNoMore};
 ghost use Rattle.smap_bundle.specs.Reading.{IsLine};
 ghost use Rattle.smap_bundle.specs.Scripts.{scripts_of};
 ghost use Rattle.smap_bundle.specs.Stopping as stopping;
@@ -86,7 +87,8 @@ fn bytes_of<R: Read>(
     ensures failures { OnOk result (device_failures reader.new ≡ device_failures reader.old) }
     ensures not_ended { OnOk result (has_ended reader.new ≡ false) }
     ensures calls { IfOk result (λ bytes. UsesCalls calls.old calls.new (bytes.items ++ 10 ∷ [])) }
-    ensures stops { IfErr result (Stops R.remaining reader.old reader.new calls.old (cut_off entry len)) }
+    ensures stops { IfErr result (Stops R.remaining reader.old reader.new calls.old (cut_off entry len)
+        (IsWithinMap len)) }
 {
     let mut bytes = match read_up_to(alloc, reader, calls, len + 1) {
         Ok(bytes) => bytes,
@@ -156,7 +158,8 @@ fn take_map<R: Read>(
     ensures not_ended { OnOk result (has_ended reader.new ≡ false) }
     ensures stops { (n : ℕ) → header.now.length ≡ min n (2 ^ 64 - 1)
         → IfErr result (Stops R.remaining reader.old reader.new calls.old
-        (spec.FaultOfEntry (scripts_of scripts.old.entries) header.now.script.now header.now.base.now n)) }
+        (spec.FaultOfEntry (scripts_of scripts.old.entries) header.now.script.now header.now.base.now n)
+        (IsWithinMap n)) }
 {
     let base = base_of(alloc, header, scripts)?;
     let entry = scripts.len();
@@ -181,7 +184,8 @@ fn take_entry<R: Read>(
     ensures failures { OnOk result (device_failures reader.new ≡ device_failures reader.old) }
     ensures not_ended { OnOk result (has_ended reader.new ≡ false) }
     ensures stops { IfErr result (Stops R.remaining reader.old reader.new calls.old
-        (λ more. spec.FaultAt (scripts_of scripts.old.entries) (line.now ++ more))) }
+        (λ more. spec.FaultAt (scripts_of scripts.old.entries) (line.now ++ more))
+        (IsWithinEntry line.now)) }
     ensures open { MatchResult result (λ _. has_ended reader.old ≡ false)
         (λ fault. fault ≡ BundleFault.Read → has_ended reader.old ≡ false) }
 {
@@ -192,7 +196,8 @@ fn take_entry<R: Read>(
 }
 
 /// Reads the entries of a bundle and the line `trace` after them, and nothing more: the reader is then at
-/// the first byte of the trace.
+/// the first byte of the trace. Where an entry has a fault, nothing after its line is read, or for a fault
+/// of its map nothing after the byte that follows the map.
 ///
 /// The reader's end must not have been seen yet, and fewer than 2^64 - 1 of its calls may have failed.
 ///
@@ -210,11 +215,12 @@ pub fn read_bundle<R: Read>(alloc: Global, reader: &mut Device<R>) -> Result<Bun
     ensures failures { OnOk result (device_failures reader.new ≡ device_failures reader.old) }
     ensures not_ended { OnOk result (has_ended reader.new ≡ false) }
 
-    // Refused and TooLong are the answer for what was read, whatever follows. Read comes with a failure of
-    // the reader, or if at least as many bytes as calls were read, and no other answer comes with a
-    // failure.
+    // Refused and TooLong are the answer for what was read, whatever follows, and nothing was read past what
+    // decides it: the line of the fault, or for a fault of a map the byte after the map. Read comes with a
+    // failure of the reader, or if at least as many bytes as calls were read, and no other answer comes with
+    // a failure.
     ensures stops { (hide : Bool) → IfErr result (Stops R.remaining reader.old reader.new MOST_CALLS
-        (spec.Answers hide)) }
+        (spec.IsAnswer hide) ReadsNoMore) }
 {
     let mut scripts = IndexMap::new(alloc);
     let mut calls = MOST_CALLS;

@@ -1,5 +1,5 @@
 //! Laws about bundles, for every input.
-ghost use Rattle.smap_bundle.specs.Laws.{FirstRows, OneAnswer, OneBeginning, OneHeader};
+ghost use Rattle.smap_bundle.specs.Laws.{FirstRows, HasAnswer, OneAnswer, OneBeginning, OneHeader};
 
 /// A line is a header in at most one way, and so is the beginning of an input; and what the shortest inputs
 /// are answered.
@@ -12,4 +12,9 @@ pub fn bundle_headers()
 /// An input has at most one answer: what is written for a bundle is a function of the bundle.
 pub fn one_answer()
     ensures { OneAnswer }
+{}
+
+/// Every input has an answer: the rules of the format leave none open.
+pub fn has_answer()
+    ensures { HasAnswer }
 {}

@@ -8,3 +8,4 @@ pub mod PuttingLemmas
 pub mod RespellingLemmas
 pub mod ScriptLemmas
 pub mod TraceLemmas
+pub mod WordsLemmas

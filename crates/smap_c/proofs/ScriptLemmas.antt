@@ -61,7 +61,7 @@ distinct es d i j s lt within same =
     (get_or-map (λ (t : Script). t.0) ss i s s.0 (omega (arith, lt, within)) ∙ same
     ∙ sym (get_or-map (λ (t : Script). t.0) ss j s s.0 within))
 
--- ---- the scripts as they are lent
+-- ---- the pairs of a URL and a map
 
 found : {A : Type 0} (es : List A) (i : ℕ) (e : A) → slice_get es i ≡ Some e → get_or es i e ≡ e
 found [] i e h = cc
@@ -73,12 +73,13 @@ take_next : {A : Type 0} (es : List A) (i : ℕ) (e : A) → slice_get es i ≡ 
 take_next {A = A} es i e h =
     take_more es i e (slice_get_within es i e h) ∙ ap (λ (x : A). take i es ++ x ∷ []) (found es i e h)
 
-pub next_lent : {A : Type 0} (xs : List (Bor (List ℕ) × Bor ReadMap)) (es : List (String A × Shared)) (i : ℕ)
+pub next_pair : {A : Type 0} (xs : List (Bor (List ℕ) × Bor ReadMap)) (es : List (String A × Shared)) (i : ℕ)
     (e : String A × Shared) (u : Bor (List ℕ)) (m : Bor ReadMap) → scripts_in xs ≡ scripts_of (take i es)
     → slice_get es i ≡ Some e → u.now ≡ string_bytes e.0 → m.now ≡ e.1.arc.value.map
     → scripts_in (xs ++ (u, m) ∷ []) ≡ scripts_of (take (i + 1) es)
-next_lent {A = A} xs es i e u m so_far at url is =
+next_pair {A = A} xs es i e u m so_far at url is =
     let last : ◌≡◌ {A = Script} (u.now, record_of m.now) (script_of e) = rw (url, is) refl in
-    map-append script_in xs ((u, m) ∷ []) ∙ ap (λ (ss : List Script). ss ++ (u.now, record_of m.now) ∷ []) so_far
+    map-append script_in xs ((u, m) ∷ [])
+    ∙ ap (λ (ss : List Script). ss ++ (u.now, record_of m.now) ∷ []) so_far
     ∙ ap (λ (s : Script). scripts_of (take i es) ++ s ∷ []) last
     ∙ sym (map-append script_of (take i es) (e ∷ [])) ∙ ap scripts_of (sym (take_next es i e at))

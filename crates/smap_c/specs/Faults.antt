@@ -1,5 +1,5 @@
 -- How faults are told to C.
-use Rattle.std.specs.Prelude.{◌≡◌, ◌⊎◌, ℕ, List, length, replicate, Option, Some, None}
+use Rattle.std.specs.Prelude.{◌≡◌, ◌<◌, ◌⊎◌, ℕ, List, length, replicate, Option, Some, None}
 use Rattle.std.specs.Option.{is_some}
 use Rattle.smap_vlq.specs.declared.number.NumberFault.{NumberFault}
 use Rattle.smap_vlq.specs.declared.number.NumberFault.TheVariants as number
@@ -53,9 +53,9 @@ code_and_number kind.OriginalLine = (codes.ORIGINAL_LINE, 0)
 code_and_number kind.OriginalColumn = (codes.ORIGINAL_COLUMN, 0)
 code_and_number kind.Name = (codes.NAME, 0)
 
--- as much of the text as 256 bytes take, and then zeros
+-- as much of the text as the field takes, and then zeros
 abbrev pub padded_words : List ℕ → List ℕ
-padded_words words = copied words (replicate 256 0)
+padded_words words = copied words (replicate 264 0)
 
 -- the numbers of a path, and then zeros, eight together
 abbrev pub padded_path : List ℕ → List ℕ
@@ -91,3 +91,7 @@ fault_told fault = told_with (fault_words fault) fault
 abbrev pub TellsFault : Fault → SmapFault → SmapFault → ℕ → Type 0
 TellsFault fault before after code =
     ((code ≡ REFUSED) × (after ≡ fault_told fault)) ⊎ ((code ≡ MEMORY) × (after ≡ before))
+
+-- A fault that is told has all of its words, and a zero after them.
+abbrev pub IsWhole : SmapFault → ℕ → Type 0
+IsWhole after code = code ≡ REFUSED → after.text_len < 264

@@ -4,7 +4,7 @@ use Rattle.std.specs.Option.{is_some}
 use Rattle.smap_record.specs.declared.view.TokenView.{TokenView}
 use Rattle.smap_record.specs.declared.view.OriginalView.{OriginalView}
 use Rattle.smap_record.specs.Record.{Record, ReadMap, record_of}
-use Rattle.smap_record.specs.Views.{entry_seen, mapping_seen}
+use Rattle.smap_record.specs.Views.{entry_of_view, mapping_of_view}
 use Rattle.smap_trace.specs.Lookup.{FallsTo}
 use Rattle.smap_c.specs.declared.codes.TheConstants as codes
 use Rattle.smap_c.specs.declared.finding.SmapMapping.{SmapMapping}
@@ -38,7 +38,7 @@ told t = told_from t.line t.column t.original
 
 -- its source's number is that of its source
 abbrev pub IsNumbered : Record → TokenView → Type 0
-IsNumbered r t = IfSome t.original (λ o. slice_get r.sources o.source_number ≡ Some (entry_seen o.source))
+IsNumbered r t = IfSome t.original (λ o. slice_get r.sources o.source_number ≡ Some (entry_of_view o.source))
 
 -- the code, and what is told
 abbrev pub IsTold : Option TokenView → SmapMapping → SmapMapping → ℕ → Type 0
@@ -48,7 +48,7 @@ IsTold (Some t) before after code = (code ≡ codes.OK) × (after ≡ told t)
 -- The mapping that the position falls to, by its numbers.
 abbrev pub Finds : ReadMap → ℕ → ℕ → SmapMapping → SmapMapping → ℕ → Type 0
 Finds m line column before after code = (t : Option TokenView)
-    × FallsTo (record_of m).mappings line column (option_map mapping_seen t)
+    × FallsTo (record_of m).mappings line column (option_map mapping_of_view t)
     × IfSome t (IsNumbered (record_of m)) × IsTold t before after code
 
 -- The same of a handle.

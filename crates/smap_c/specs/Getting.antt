@@ -2,7 +2,7 @@
 use Rattle.std.specs.Prelude.{◌≡◌, ℕ, Bool, Option, Some, None, IfSome, option_map, slice_get}
 use Rattle.smap_record.specs.declared.view.TokenView.{TokenView}
 use Rattle.smap_record.specs.Record.{Entry, ReadMap, record_of}
-use Rattle.smap_record.specs.Views.{mapping_seen}
+use Rattle.smap_record.specs.Views.{mapping_of_view}
 use Rattle.smap_c.specs.Finding.{IsNumbered, told}
 use Rattle.smap_c.specs.declared.codes.TheConstants as codes
 use Rattle.smap_c.specs.declared.finding.SmapMapping.{SmapMapping}
@@ -16,7 +16,7 @@ IsGot (Some t) before after code = (code ≡ codes.OK) × (after ≡ told t)
 -- the i-th mapping of the record, by its numbers
 abbrev pub TokenTold : ReadMap → ℕ → SmapMapping → SmapMapping → ℕ → Type 0
 TokenTold m i before after code = (t : Option TokenView)
-    × (slice_get (record_of m).mappings i ≡ option_map mapping_seen t)
+    × (slice_get (record_of m).mappings i ≡ option_map mapping_of_view t)
     × IfSome t (IsNumbered (record_of m)) × IsGot t before after code
 
 -- whether a source is ignored, or there is no such source

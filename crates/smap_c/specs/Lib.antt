@@ -1,6 +1,7 @@
 pub mod Comparing
 pub mod Copying
 pub mod Counting
+pub mod FaultBounds
 pub mod Faults
 pub mod Finding
 pub mod Getting

@@ -8,7 +8,8 @@ use denote.RawPtr.{Ptr}
 use Rattle.smap_c.specs.declared.opened.Shared.{Shared}
 use Rattle.smap_c.specs.contracts.opened.Shared.{the_row}
 
--- the value in the block at p of the allocator, and the right to free the block; nothing where there is no value
+-- the value in the block at p of the allocator, and the right to free the block; nothing where there is no
+-- value
 abbrev pub owned : Global → Ptr → Option Shared → Fml
 owned a p (Some x) = box_owns (ghosts.dealloc_token a) the_row p x
 owned a p None = ftrue

@@ -7,7 +7,7 @@ use Rattle.smap_mappings.specs.Tokens.{Fault as SegmentFault}
 use Rattle.smap_mappings.specs.Decoded.{decoded}
 use Rattle.smap_mappings.specs.Text.{mappings_text}
 use Rattle.smap_record.specs.declared.fault.ReadError.{ReadError}
-use Rattle.smap_record.specs.Answers.{Gives}
+use Rattle.smap_record.specs.Results.{Returns}
 use Rattle.smap_record.specs.Faults.{Checked, segment_fault}
 use Rattle.smap_c.specs.Faults.{TellsFault}
 use Rattle.smap_c.specs.Outputs.{Writes}
@@ -25,8 +25,8 @@ unfoldable pub respelling : List ℕ → Checked (List ℕ)
 respelling text = respelled (decoded WIDEST text)
 
 -- that text, or that fault, unless memory ran out
-abbrev pub GivesText : Result (Vec ℕ) ReadError → Checked (List ℕ) → Type 0
-GivesText answer said = Gives (λ v. v.items) answer said
+abbrev pub ReturnsText : Result (Vec ℕ) ReadError → Checked (List ℕ) → Type 0
+ReturnsText answer said = Returns (λ v. v.items) answer said
 
 -- the handle has the text, or the fault is told; or memory ran out
 abbrev pub RespellsAs : Checked (List ℕ) → Option Written → Option Written → SmapFault → SmapFault → ℕ

@@ -11,7 +11,7 @@ use Rattle.smap_c.specs.declared.opened.Opened.{Opened}
 use Rattle.smap_c.specs.declared.translating.SmapTraceCounts.{SmapTraceCounts}
 use Rattle.smap_c.specs.declared.written.Written.{Written}
 
--- the scripts with this one: in place of one with the same URL, or else behind the others
+-- the scripts with this one: in place of one with the same URL, or else after the others
 abbrev pub with_script : List ℕ → Record → List Script → List Script
 with_script url r [] = (url, r) ∷ []
 with_script url r (s ∷ ss) = if bytes_eq url s.0 then (s.0, r) ∷ ss else s ∷ with_script url r ss

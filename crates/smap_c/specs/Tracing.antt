@@ -1,7 +1,7 @@
 -- What the calls on the lines of a trace come to.
 use Rattle.std.specs.Prelude.{◌≡◌, ℕ, Bool, List, [], ◌∷◌, ◌⊎◌, length, Option, Some, None, IsUtf8}
 use Rattle.smap_record.specs.Record.{ReadMap, record_of}
-use Rattle.smap_trace.specs.Frame.{Parts}
+use Rattle.smap_trace.specs.Frame.{FrameParts}
 use Rattle.smap_trace.specs.Reading.{frame_of}
 use Rattle.smap_trace.specs.Translation.{Fate, kept, translated, dropped, fate, line_translation}
 use Rattle.smap_c.specs.Copying.{copied}
@@ -10,7 +10,7 @@ use Rattle.smap_c.specs.declared.opened.Opened.{Opened}
 use Rattle.smap_c.specs.declared.traces.SmapFrame.{SmapFrame}
 
 -- where the parts of the frame lie
-abbrev pub PartsTold : Option Parts → SmapFrame → SmapFrame → ℕ → Type 0
+abbrev pub PartsTold : Option FrameParts → SmapFrame → SmapFrame → ℕ → Type 0
 PartsTold None before after code = (code ≡ codes.NONE) × (after ≡ before)
 PartsTold (Some f) before after code = (code ≡ codes.OK) × (after ≡ record {
   url_from = length f.before;

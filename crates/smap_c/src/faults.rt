@@ -1,15 +1,19 @@
 //! Faults, as C sees them.
-ghost use Rattle.std.specs.Prelude.{◌≡◌, string_bytes, IfOk};
+ghost use Rattle.std.specs.Prelude.{◌≡◌, ◌<◌, ◌^◌, All, length, string_bytes, IfOk};
 ghost use Rattle.smap_record.specs.Words.{fault_words};
+ghost use Rattle.smap_c.specs.FaultBounds.{FaultFits, KindFits, PlaceFits};
 ghost use Rattle.smap_c.specs.Faults.{code_and_number, padded_path, padded_words, spelling_code};
-ghost use Rattle.smap_c.specs.Faults.{told_with, TellsFault};
+ghost use Rattle.smap_c.specs.Faults.{told_with, IsWhole, TellsFault};
 
 use crate::codes::{MEMORY, REFUSED};
 use crate::copying::copy_out;
 use crate::fault_codes as code;
-use smap_mappings::{Memory, NumberFault};
+use smap_mappings::{Memory, NumberFault, SegmentPlace};
 use smap_record::{Fault, Kind, Path};
 use std::alloc::Global;
+
+/// As many bytes as the words of any fault take, and at least one zero.
+const ROOM: usize = 264;
 
 /// The first fault of a map or of a mappings text. The place is that of its segment, where it has one, else
 /// 0; `depth` is how many numbers of `section` count; the text is followed by zeros.
@@ -24,7 +28,7 @@ pub struct SmapFault {
     pub depth: usize,
     pub section: [usize; 8],
     pub text_len: usize,
-    pub text: [u8; 256],
+    pub text: [u8; ROOM],
 }
 
 /// The code of a misspelled number.
@@ -77,23 +81,61 @@ fn code_and_number(kind: Kind) -> (u32, usize)
     }
 }
 
-/// The words of a fault.
-fn fault_text(alloc: Global, fault: &Fault) -> Result<String, Memory>
-    ensures { IfOk result (λ text. string_bytes text ≡ fault_words fault.now) }
+fn numbers_fit(numbers: &[usize])
+    ensures { All (λ number. number < 2 ^ 64) numbers.now }
 {
+    for i in 0..numbers.len() {
+        let _number = numbers[i];
+    }
+}
+
+fn place_fits(place: Option<SegmentPlace>)
+    ensures { PlaceFits place }
+{
+    if let Some(SegmentPlace { line, segment }) = place {
+        let _numbers = (line, segment);
+    }
+}
+
+fn kind_fits(kind: Kind)
+    ensures { KindFits kind }
+{
+    match kind {
+        Kind::SourceUrl(_) | Kind::UnstableUrl(_) => {}
+        Kind::Number(_, _) | Kind::Count(_) => {}
+        _ => {}
+    }
+}
+
+/// The numbers of a fault fit their types, which bounds its words. This does nothing when it runs.
+fn fault_fits(fault: &Fault)
+    ensures { FaultFits fault.now }
+{
+    numbers_fit(fault.section.numbers());
+    place_fits(fault.place);
+    kind_fits(fault.kind);
+}
+
+/// The words of a fault.
+#[tactic(auto, using(crate::proofs::WordsLemmas::words_are_short))]
+fn fault_text(alloc: Global, fault: &Fault) -> Result<String, Memory>
+    ensures words { IfOk result (λ text. string_bytes text ≡ fault_words fault.now) }
+    ensures short { length (fault_words fault.now) < 264 }
+{
+    fault_fits(fault);
     format!(in alloc; "{fault}")
 }
 
-/// The words at the front of zeros.
-fn padded(words: &[u8]) -> [u8; 256]
+/// The words, followed by zeros.
+fn padded(words: &[u8]) -> [u8; ROOM]
     ensures { result ≡ padded_words words.now }
 {
-    let mut text = [0; 256];
+    let mut text = [0; ROOM];
     copy_out(words, &mut text);
     text
 }
 
-/// The numbers of a path at the front of zeros.
+/// The numbers of a path, followed by zeros.
 fn padded_path(path: &Path) -> [usize; 8]
     ensures { result ≡ padded_path path.now }
 {
@@ -126,7 +168,8 @@ fn told(fault: &Fault, words: &[u8]) -> SmapFault
 
 /// Tells a fault, and answers that it is one; or that memory ran out.
 pub(crate) fn tell_fault(alloc: Global, fault: &Fault, out: &mut SmapFault) -> u32
-    ensures { TellsFault fault.now out.old out.new result }
+    ensures told { TellsFault fault.now out.old out.new result }
+    ensures whole { IsWhole out.new result }
 {
     match fault_text(alloc, fault) {
         Ok(words) => {

@@ -1,6 +1,7 @@
 //! The calls on a map's handle.
 ghost use Rattle.std.specs.Prelude.{◌≡◌, ◌∷◌, [], Option, Some, None, IfSome, MatchOption};
 ghost use Rattle.smap_c.specs.Opening.{OpensInto};
+ghost use Rattle.smap_c.specs.Faults.{IsWhole};
 ghost use Rattle.smap_c.specs.Finding.{LooksUp};
 ghost use Rattle.smap_c.specs.Held.{held};
 
@@ -23,8 +24,9 @@ pub extern "C" fn smap_open(
     limits: &SmapLimits,
     fault: &mut SmapFault,
 ) -> u32
-    ensures { OpensInto bytes.now base.now limits.now (held map.old.owner.value) (held map.new.owner.value)
-        fault.old fault.new result }
+    ensures opened { OpensInto bytes.now base.now limits.now (held map.old.owner.value)
+        (held map.new.owner.value) fault.old fault.new result }
+    ensures whole { IsWhole fault.new result }
 {
     match open(alloc, bytes, base, limits) {
         Ok(opened) => match Shared::new(alloc, opened) {

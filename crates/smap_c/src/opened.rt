@@ -17,14 +17,14 @@ pub struct Opened {
     pub map: SourceMap,
 }
 
-/// An owner of one, of which there may be several, in any threads.
+/// A share in one. There may be several, in any threads.
 #[derive(Drop)]
 pub struct Shared {
     pub arc: Arc<Opened>,
 }
 
 impl Shared {
-    /// The first owner.
+    /// The first share.
     pub(crate) fn new(alloc: Global, opened: Opened) -> Result<Box<Shared>, Memory>
         ensures { IfOk result (λ b. b.value.arc.value ≡ opened) }
     {
@@ -37,7 +37,7 @@ impl Shared {
         }
     }
 
-    /// One more part in what it owns.
+    /// One more share.
     pub(crate) fn part(&self) -> Result<Shared, Memory>
         ensures { IfOk result (λ part. part.arc.value ≡ self.now.arc.value) }
     {
@@ -47,7 +47,7 @@ impl Shared {
         }
     }
 
-    /// One more owner.
+    /// One more share, in a box.
     pub(crate) fn again(&self, alloc: Global) -> Result<Box<Shared>, Memory>
         ensures { IfOk result (λ b. b.value.arc.value ≡ self.now.arc.value) }
     {
@@ -73,8 +73,8 @@ impl Shared {
     }
 }
 
-/// Who owns such an owner, or nothing, behind a pointer that C carries. Its drop forgets what it owns, so it
-/// is let go only where that is nothing.
+/// Owns a share in a box, or nothing, through a pointer that C carries. Dropping it forgets what it owns, so
+/// it is dropped only when it owns nothing.
 #[repr(C)]
 #[derive(Drop)]
 pub struct MapOwner {

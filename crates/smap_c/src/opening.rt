@@ -7,7 +7,7 @@ use smap_record::{Base, BaseFault, Fault, ReadError, SourceMap};
 use std::alloc::Global;
 use std::str;
 
-/// Why no map was opened. Want of memory may stand in place of any other answer.
+/// Why no map was opened. `Memory` may come in place of any other answer.
 #[derive(Drop)]
 pub(crate) enum OpenFault {
     Refused(Fault),

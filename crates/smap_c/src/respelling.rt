@@ -1,9 +1,10 @@
 //! A mappings text in its shortest spellings.
 ghost use Rattle.std.specs.Prelude.{◌≡◌, IfOk};
-ghost use Rattle.smap_mappings.specs.Decoded.{Gives, decoded};
+ghost use Rattle.smap_mappings.specs.Decoded.{ReturnsTokens, decoded};
 ghost use Rattle.smap_mappings.specs.Text.{IsEncodable};
 ghost use Rattle.smap_mappings.specs.declared.token.TheConstants.{WIDEST};
-ghost use Rattle.smap_c.specs.Respelling.{respelling, Respells, GivesText};
+ghost use Rattle.smap_c.specs.Faults.{IsWhole};
+ghost use Rattle.smap_c.specs.Respelling.{respelling, Respells, ReturnsText};
 
 use crate::codes::MEMORY;
 use crate::faults::{SmapFault, tell_fault};
@@ -15,7 +16,7 @@ use std::alloc::Global;
 
 /// The tokens of a text that starts at line 0 and column 0; no list bounds its indices.
 fn tokens_of(alloc: Global, text: &[u8]) -> Result<Vec<Token>, MappingsError>
-    ensures says { Gives result (decoded WIDEST text.now) }
+    ensures says { ReturnsTokens result (decoded WIDEST text.now) }
     ensures encodable { IfOk result (λ tokens. IsEncodable tokens.items) }
 {
     decode(alloc, text, WIDEST)
@@ -23,7 +24,7 @@ fn tokens_of(alloc: Global, text: &[u8]) -> Result<Vec<Token>, MappingsError>
 
 /// The text of these tokens, or the first fault.
 fn respelled(alloc: Global, text: &[u8]) -> Result<Vec<u8>, ReadError>
-    ensures { GivesText result (respelling text.now) }
+    ensures { ReturnsText result (respelling text.now) }
 {
     match tokens_of(alloc, text) {
         Ok(tokens) => {
@@ -46,7 +47,8 @@ pub extern "C" fn smap_respell(
     out: &mut SmapBytes,
     fault: &mut SmapFault,
 ) -> u32
-    ensures { Respells text.now out.old.owner.value out.new.owner.value fault.old fault.new result }
+    ensures respelled { Respells text.now out.old.owner.value out.new.owner.value fault.old fault.new result }
+    ensures whole { IsWhole fault.new result }
 {
     match respelled(alloc, text) {
         Ok(spelled) => put(alloc, Ok(spelled), out),

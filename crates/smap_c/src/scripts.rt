@@ -46,7 +46,7 @@ impl Scripts {
         }
     }
 
-    /// Puts a script in place of the one with the same URL, or else behind the others.
+    /// Puts a script in place of the one with the same URL, or else after the others.
     pub(crate) fn put(&mut self, url: String, shared: Shared) -> Result<(), Memory>
         ensures ok { OnOk result (self.new
             ≡ with_script (string_bytes url) (record_of shared.arc.value.map) self.old) }
@@ -59,23 +59,23 @@ impl Scripts {
     }
 
     /// Each script's URL and map, as a trace is translated by them.
-    pub(crate) fn lent(&self, alloc: Global) -> Result<Vec<(&str, &SourceMap)>, Memory>
-        ensures lent { IfOk result (λ lent. scripts_in lent.items ≡ self.now) }
+    pub(crate) fn pairs(&self, alloc: Global) -> Result<Vec<(&str, &SourceMap)>, Memory>
+        ensures pairs { IfOk result (λ pairs. scripts_in pairs.items ≡ self.now) }
         ensures distinct { AreDistinct self.now }
     {
         let maps = &self.maps;
-        let mut lent = Vec::new(alloc);
+        let mut pairs = Vec::new(alloc);
         for i in 0..maps.len() {
             if let Some((url, shared)) = maps.get_index(i) {
-                lent.push((url.as_str(), shared.map()))?;
+                pairs.push((url.as_str(), shared.map()))?;
             }
         }
-        Ok(lent)
+        Ok(pairs)
     }
 }
 
-/// Who owns one, or nothing, behind a pointer that C carries. Its drop forgets what it owns, so it is let go
-/// only where that is nothing.
+/// Owns one in a box, or nothing, through a pointer that C carries. Dropping it forgets what it owns, so that
+/// happens only when it owns nothing.
 #[repr(C)]
 #[derive(Drop)]
 pub struct ScriptsOwner {
@@ -124,7 +124,7 @@ impl ScriptsOwner {
     }
 }
 
-/// The handle of bytes. C makes one by zeros, which is closed, and never writes into it nor copies it.
+/// The handle of scripts. C makes one by zeros, which is closed, and never writes into it nor copies it.
 #[repr(C)]
 pub struct SmapScripts {
     is_open: bool,

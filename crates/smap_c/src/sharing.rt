@@ -8,7 +8,7 @@ use crate::opened::{Shared, SmapMap};
 use std::alloc::Global;
 use std::mem;
 
-/// Makes the other handle one of the same map, as for another thread. What it had is let go.
+/// Makes the other handle one of the same map, as for another thread. What it had is freed.
 #[unsafe(no_mangle)]
 pub extern "C" fn smap_share(alloc: Global, map: &mut SmapMap, other: &mut SmapMap) -> u32
     ensures shared { Shares (held map.old.owner.value) (held other.old.owner.value)

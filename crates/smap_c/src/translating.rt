@@ -24,7 +24,7 @@ pub struct SmapTraceCounts {
     pub dropped: u64,
 }
 
-/// A handle's worth of one script.
+/// The scripts of a handle that had none.
 fn first(alloc: Global, url: String, shared: Shared) -> Result<Box<Scripts>, Memory>
     ensures { IfOk result (λ b. b.value
         ≡ with_script (string_bytes url) (record_of shared.arc.value.map) []) }
@@ -85,7 +85,7 @@ pub extern "C" fn smap_add_script(
     }
 }
 
-/// Lets scripts go. A handle that is closed stays so.
+/// Frees scripts. A handle that is closed stays so.
 #[unsafe(no_mangle)]
 pub extern "C" fn smap_close_scripts(alloc: Global, scripts: &mut SmapScripts)
     ensures { scripts.new.owner.value ≡ None }
@@ -113,10 +113,10 @@ fn translated(
     ensures { IfOk result (λ told. (told.0.items, told.1)
         ≡ told_trace scripts.now hide trace.now) }
 {
-    let lent = scripts.lent(alloc)?;
+    let pairs = scripts.pairs(alloc)?;
     let mut reader = Device::new(trace);
     let mut writer = Device::new(Vec::new(alloc));
-    match translate(alloc, &mut reader, lent.as_slice(), hide, &mut writer) {
+    match translate(alloc, &mut reader, pairs.as_slice(), hide, &mut writer) {
         Ok(counts) => Ok((writer.into_inner(), counts)),
         Err(_) => Err(Memory),
     }

@@ -12,8 +12,8 @@ pub struct Written {
     pub bytes: Vec<u8>,
 }
 
-/// Who owns one, or nothing, behind a pointer that C carries. Its drop forgets what it owns, so it is let go
-/// only where that is nothing.
+/// Owns one in a box, or nothing, through a pointer that C carries. Dropping it forgets what it owns, so that
+/// happens only when it owns nothing.
 #[repr(C)]
 #[derive(Drop)]
 pub struct BytesOwner {

@@ -1,9 +1,13 @@
 -- Names that are numbered one by one.
-use Rattle.std.proofs.Common.{◌≡◌, ◌≢◌, ℕ, ◌+◌, ◌<◌, ◌≤◌, List, [], ◌∷◌, ◌++◌, take, drop, set, length, get_or, Option, Some, None, ap, refl, ◌∙◌, sym, subst, Bool, true, false, cond, not, eqb, ◌||◌, true≢false, slice_get, replicate, append-nil, append_assoc, length-append, add-zero, arith}
+use Rattle.std.proofs.Common.{◌≡◌, ◌≢◌, ℕ, ◌+◌, ◌<◌, ◌≤◌, List, [], ◌∷◌, ◌++◌, take, drop, set, length}
+use Rattle.std.proofs.Common.{get_or, Option, Some, None, ap, refl, ◌∙◌, sym, subst, Bool, true, false, cond}
+use Rattle.std.proofs.Common.{not, eqb, ◌||◌, true≢false, slice_get, replicate, append-nil, append_assoc}
+use Rattle.std.proofs.Common.{length-append, add-zero, arith}
 use Rattle.std.specs.Prelude.{bytes_eq, option_map, option_and_then, IfSome}
 use Rattle.std.specs.List.{AllByRecursion, list_any, filter_map, cons_option, position_or_len}
 use Rattle.std.proofs.lemmas.Bool.{eqb-true, eq-eqb}
-use Rattle.std.proofs.lemmas.List.{take-append-drop, get_or-set_other, get_or-set_same, get_or-replicate, length-set, length-replicate}
+use Rattle.std.proofs.lemmas.List.{take-append-drop, get_or-set_other, get_or-set_same, get_or-replicate}
+use Rattle.std.proofs.lemmas.List.{length-set, length-replicate}
 use Rattle.std.proofs.lemmas.List.Elements.{filter_map-append}
 use Rattle.std.proofs.lemmas.List.Sums.{prefix_len-le-length}
 use Rattle.std.proofs.lemmas.Option.{slice_get_within, slice_get-get_or}
@@ -26,37 +30,49 @@ use Rattle.smap_canon.specs.declared.numbering.TheConstants.{UNUSED}
 abbrev pub same_key : Bor (List ℕ) → Bor (List ℕ) → Bool
 same_key a b = bytes_eq a.now b.now
 
-any_key : (k : Bor (List ℕ)) (ks : List (Bor (List ℕ))) → list_any (same_key k) ks ≡ list_any (bytes_eq k.now) (texts_of ks)
+any_key : (k : Bor (List ℕ)) (ks : List (Bor (List ℕ)))
+    → list_any (same_key k) ks ≡ list_any (bytes_eq k.now) (texts_of ks)
 any_key k [] = refl
 any_key k (x ∷ xs) = ap (λ b. bytes_eq k.now x.now || b) (any_key k xs)
 
-pub texts-insert_key : (ks : List (Bor (List ℕ))) (k : Bor (List ℕ)) → texts_of (insert_key same_key ks k) ≡ insert_key bytes_eq (texts_of ks) k.now
+pub texts-insert_key : (ks : List (Bor (List ℕ))) (k : Bor (List ℕ))
+    → texts_of (insert_key same_key ks k) ≡ insert_key bytes_eq (texts_of ks) k.now
 texts-insert_key ks k = by (list_any (same_key k) ks) refl
   where
-    by : (b : Bool) → list_any (same_key k) ks ≡ b → texts_of (cond b ks (ks ++ k ∷ [])) ≡ insert_key bytes_eq (texts_of ks) k.now
+    by : (b : Bool) → list_any (same_key k) ks ≡ b
+        → texts_of (cond b ks (ks ++ k ∷ [])) ≡ insert_key bytes_eq (texts_of ks) k.now
     by true e = ap (λ b. cond b (texts_of ks) (texts_of ks ++ k.now ∷ [])) (sym e ∙ any_key k ks)
-    by false e = map-push (λ t. t.now) ks k ∙ ap (λ b. cond b (texts_of ks) (texts_of ks ++ k.now ∷ [])) (sym e ∙ any_key k ks)
+    by false e = map-push (λ t. t.now) ks k
+        ∙ ap (λ b. cond b (texts_of ks) (texts_of ks ++ k.now ∷ [])) (sym e ∙ any_key k ks)
 
-pub place-key : (k : Bor (List ℕ)) (ks : List (Bor (List ℕ))) → position_or_len (same_key k) ks ≡ position_or_len (bytes_eq k.now) (texts_of ks)
+pub place-key : (k : Bor (List ℕ)) (ks : List (Bor (List ℕ)))
+    → position_or_len (same_key k) ks ≡ position_or_len (bytes_eq k.now) (texts_of ks)
 place-key k [] = refl
 place-key k (x ∷ xs) = ap (λ n. cond (not (bytes_eq k.now x.now)) (1 + n) 0) (place-key k xs)
 
 -- ---- one name more
 
-used-next : (ms : List Mapping) (i : ℕ) (m : Mapping) → slice_get ms i ≡ Some m → filter_map name_of (take (i + 1) ms) ≡ filter_map name_of (take i ms) ++ cons_option (name_of m) []
-used-next ms i m at = ap (filter_map name_of) (take_next ms i m at) ∙ filter_map-append name_of (take i ms) (m ∷ [])
+used-next : (ms : List Mapping) (i : ℕ) (m : Mapping) → slice_get ms i ≡ Some m
+    → filter_map name_of (take (i + 1) ms) ≡ filter_map name_of (take i ms) ++ cons_option (name_of m) []
+used-next ms i m at =
+    ap (filter_map name_of) (take_next ms i m at) ∙ filter_map-append name_of (take i ms) (m ∷ [])
 
 -- the names that the mappings so far use, and the next one's
-pub used-with_name : (ms : List Mapping) (i : ℕ) (m : Mapping) → slice_get ms i ≡ Some m → with_name (name_of m) (names_used (take i ms)) ≡ names_used (take (i + 1) ms)
+pub used-with_name : (ms : List Mapping) (i : ℕ) (m : Mapping) → slice_get ms i ≡ Some m
+    → with_name (name_of m) (names_used (take i ms)) ≡ names_used (take (i + 1) ms)
 used-with_name ms i m at = by (name_of m) refl
   where
-    by : (o : Option (List ℕ)) → name_of m ≡ o → with_name o (names_used (take i ms)) ≡ names_used (take (i + 1) ms)
-    by None e = ap (distinct bytes_eq) (sym (append-nil (filter_map name_of (take i ms))) ∙ ap (λ o. filter_map name_of (take i ms) ++ cons_option o []) (sym e) ∙ sym (used-next ms i m at))
+    by : (o : Option (List ℕ)) → name_of m ≡ o
+        → with_name o (names_used (take i ms)) ≡ names_used (take (i + 1) ms)
+    by None e = ap (distinct bytes_eq) (sym (append-nil (filter_map name_of (take i ms)))
+        ∙ ap (λ o. filter_map name_of (take i ms) ++ cons_option o []) (sym e) ∙ sym (used-next ms i m at))
     by (Some n) e =
         sym (distinct-push bytes_eq same_bytes own_bytes (filter_map name_of (take i ms)) n)
-        ∙ ap (distinct bytes_eq) (ap (λ o. filter_map name_of (take i ms) ++ cons_option o []) (sym e) ∙ sym (used-next ms i m at))
+        ∙ ap (distinct bytes_eq)
+        (ap (λ o. filter_map name_of (take i ms) ++ cons_option o []) (sym e) ∙ sym (used-next ms i m at))
 
-pub used-start : (ks : List (Bor (List ℕ))) (ms : List Mapping) → ks ≡ [] → texts_of ks ≡ names_used (take 0 ms)
+pub used-start : (ks : List (Bor (List ℕ))) (ms : List Mapping)
+    → ks ≡ [] → texts_of ks ≡ names_used (take 0 ms)
 unfolding distinct
 used-start ks ms e = ap texts_of e ∙ sym (ap (λ xs. names_used xs) (take-zero ms))
   where
@@ -66,52 +82,65 @@ used-start ks ms e = ap texts_of e ∙ sym (ap (λ xs. names_used xs) (take-zero
 
 -- ---- a place stays
 
-place-front : {A : Type 0} (p : A → Bool) (xs ys : List A) → list_any p xs ≡ true → position_or_len p (xs ++ ys) ≡ position_or_len p xs
+place-front : {A : Type 0} (p : A → Bool) (xs ys : List A) → list_any p xs ≡ true
+    → position_or_len p (xs ++ ys) ≡ position_or_len p xs
 place-front p [] ys h = absurd (true≢false (sym h))
 place-front p (x ∷ xs) ys h = by (p x) (place-front p xs ys) h
   where
-    by : (b : Bool) → (list_any p xs ≡ true → position_or_len p (xs ++ ys) ≡ position_or_len p xs) → (b || list_any p xs) ≡ true
+    by : (b : Bool) → (list_any p xs ≡ true → position_or_len p (xs ++ ys) ≡ position_or_len p xs)
+        → (b || list_any p xs) ≡ true
         → cond (not b) (1 + position_or_len p (xs ++ ys)) 0 ≡ cond (not b) (1 + position_or_len p xs) 0
     by true more h = refl
     by false more h = ap (λ n. 1 + n) (more h)
 
-any-front : {A : Type 0} (p : A → Bool) (xs ys : List A) → list_any p xs ≡ true → list_any p (xs ++ ys) ≡ true
-any-front p xs ys h = list_any-append p xs ys ∙ ap (λ b. b || list_any p ys) h
+any_front : {A : Type 0} (p : A → Bool) (xs ys : List A) → list_any p xs ≡ true → list_any p (xs ++ ys) ≡ true
+any_front p xs ys h = list_any-append p xs ys ∙ ap (λ b. b || list_any p ys) h
 
 -- a name that is used stays where it is when another comes
-kept-any : (used : List (List ℕ)) (n k : List ℕ) → list_any (bytes_eq n) used ≡ true → list_any (bytes_eq n) (insert_key bytes_eq used k) ≡ true
+kept-any : (used : List (List ℕ)) (n k : List ℕ) → list_any (bytes_eq n) used ≡ true
+    → list_any (bytes_eq n) (insert_key bytes_eq used k) ≡ true
 kept-any used n k h = by (list_any (bytes_eq k) used)
   where
     by : (b : Bool) → list_any (bytes_eq n) (cond b used (used ++ k ∷ [])) ≡ true
     by true = h
-    by false = any-front (bytes_eq n) used (k ∷ []) h
+    by false = any_front (bytes_eq n) used (k ∷ []) h
 
-kept-place : (used : List (List ℕ)) (n k : List ℕ) → list_any (bytes_eq n) used ≡ true → position_or_len (bytes_eq n) (insert_key bytes_eq used k) ≡ position_or_len (bytes_eq n) used
+kept-place : (used : List (List ℕ)) (n k : List ℕ) → list_any (bytes_eq n) used ≡ true
+    → position_or_len (bytes_eq n) (insert_key bytes_eq used k) ≡ position_or_len (bytes_eq n) used
 kept-place used n k h = by (list_any (bytes_eq k) used)
   where
-    by : (b : Bool) → position_or_len (bytes_eq n) (cond b used (used ++ k ∷ [])) ≡ position_or_len (bytes_eq n) used
+    by : (b : Bool)
+        → position_or_len (bytes_eq n) (cond b used (used ++ k ∷ [])) ≡ position_or_len (bytes_eq n) used
     by true = refl
     by false = place-front (bytes_eq n) used (k ∷ []) h
 
 -- the name that comes is there
-own-any : (used : List (List ℕ)) (n : List ℕ) → list_any (bytes_eq n) (insert_key bytes_eq used n) ≡ true
-own-any used n = by (list_any (bytes_eq n) used) refl
+own_any : (used : List (List ℕ)) (n : List ℕ) → list_any (bytes_eq n) (insert_key bytes_eq used n) ≡ true
+own_any used n = by (list_any (bytes_eq n) used) refl
   where
-    by : (b : Bool) → list_any (bytes_eq n) used ≡ b → list_any (bytes_eq n) (cond b used (used ++ n ∷ [])) ≡ true
+    by : (b : Bool) → list_any (bytes_eq n) used ≡ b
+        → list_any (bytes_eq n) (cond b used (used ++ n ∷ [])) ≡ true
     by true e = e
-    by false e = list_any-append (bytes_eq n) used (n ∷ []) ∙ ap (λ b. b || list_any (bytes_eq n) (n ∷ [])) e ∙ ap (λ b. b || false) (own_bytes n)
+    by false e = list_any-append (bytes_eq n) used (n ∷ []) ∙ ap (λ b. b || list_any (bytes_eq n) (n ∷ [])) e
+        ∙ ap (λ b. b || false) (own_bytes n)
 
 -- its place is the one that it had, or else the end
-pub own-place : (used : List (List ℕ)) (n : List ℕ) → position_or_len (bytes_eq n) (insert_key bytes_eq used n) ≡ position_or_len (bytes_eq n) used
-own-place used n = by (list_any (bytes_eq n) used)
+pub own_place : (used : List (List ℕ)) (n : List ℕ)
+    → position_or_len (bytes_eq n) (insert_key bytes_eq used n) ≡ position_or_len (bytes_eq n) used
+own_place used n = by (list_any (bytes_eq n) used)
   where
-    last : (b : Bool) → eqb (position_or_len (bytes_eq n) used) (length used) ≡ b → cond b (length used + cond (bytes_eq n n) 0 1) (position_or_len (bytes_eq n) used) ≡ position_or_len (bytes_eq n) used
-    last true e = ap (λ b. length used + cond b 0 1) (own_bytes n) ∙ add-zero (length used) ∙ sym (eqb-true _ _ e)
+    last : (b : Bool) → eqb (position_or_len (bytes_eq n) used) (length used) ≡ b
+        → cond b (length used + cond (bytes_eq n n) 0 1) (position_or_len (bytes_eq n) used)
+        ≡ position_or_len (bytes_eq n) used
+    last true e =
+        ap (λ b. length used + cond b 0 1) (own_bytes n) ∙ add-zero (length used) ∙ sym (eqb-true _ _ e)
     last false e = refl
 
-    by : (b : Bool) → position_or_len (bytes_eq n) (cond b used (used ++ n ∷ [])) ≡ position_or_len (bytes_eq n) used
+    by : (b : Bool)
+        → position_or_len (bytes_eq n) (cond b used (used ++ n ∷ [])) ≡ position_or_len (bytes_eq n) used
     by true = refl
-    by false = position_or_len_push (bytes_eq n) used n ∙ last (eqb (position_or_len (bytes_eq n) used) (length used)) refl
+    by false = position_or_len_push (bytes_eq n) used n
+        ∙ last (eqb (position_or_len (bytes_eq n) used) (length used)) refl
 
 pub place-within : {A : Type 0} (p : A → Bool) (xs : List A) → position_or_len p xs ≤ length xs
 place-within p xs = prefix_len-le-length (λ x. not (p x)) xs
@@ -119,21 +148,30 @@ place-within p xs = prefix_len-le-length (λ x. not (p x)) xs
 -- ---- the numbers of listed names
 
 -- one name more has a number
-pub numbers-set : (listed used : List (List ℕ)) (numbers : List ℕ) (i : ℕ) (n : List ℕ) → AreNumbers listed used numbers → slice_get listed i ≡ Some n
+pub numbers-set : (listed used : List (List ℕ)) (numbers : List ℕ) (i : ℕ) (n : List ℕ)
+    → AreNumbers listed used numbers → slice_get listed i ≡ Some n
     → AreNumbers listed (insert_key bytes_eq used n) (set numbers i (position_or_len (bytes_eq n) used))
-numbers-set listed used numbers i n h at = record { count = length-set numbers i _ ∙ h.count; each = λ k name found numbered. by k name found numbered (eqb k i) refl }
+numbers-set listed used numbers i n h at = record {
+  count = length-set numbers i _ ∙ h.count;
+  each = λ k name found numbered. by k name found numbered (eqb k i) refl;
+}
   where
     below : i < length numbers
     below = subst (λ len. i < len) (sym h.count) (slice_get_within listed i n at)
 
-    by : (k : ℕ) (name : List ℕ) → slice_get listed k ≡ Some name → get_or (set numbers i (position_or_len (bytes_eq n) used)) k 0 ≢ UNUSED → (b : Bool) → eqb k i ≡ b
-        → (list_any (bytes_eq name) (insert_key bytes_eq used n) ≡ true) × (get_or (set numbers i (position_or_len (bytes_eq n) used)) k 0 ≡ position_or_len (bytes_eq name) (insert_key bytes_eq used n))
+    by : (k : ℕ) (name : List ℕ) → slice_get listed k ≡ Some name
+        → get_or (set numbers i (position_or_len (bytes_eq n) used)) k 0 ≢ UNUSED → (b : Bool) → eqb k i ≡ b
+        → (list_any (bytes_eq name) (insert_key bytes_eq used n) ≡ true)
+        × (get_or (set numbers i (position_or_len (bytes_eq n) used)) k 0
+        ≡ position_or_len (bytes_eq name) (insert_key bytes_eq used n))
     by k name found numbered true e =
         let here : k ≡ i = eqb-true k i e in
         let same : n ≡ name = some-same (sym at ∙ ap (slice_get listed) (sym here) ∙ found) in (
-          subst (λ x. list_any (bytes_eq x) (insert_key bytes_eq used n) ≡ true) same (own-any used n),
-          ap (λ j. get_or (set numbers i (position_or_len (bytes_eq n) used)) j 0) here ∙ get_or-set_same numbers i _ 0 below
-              ∙ sym (own-place used n) ∙ ap (λ x. position_or_len (bytes_eq x) (insert_key bytes_eq used n)) same,
+          subst (λ x. list_any (bytes_eq x) (insert_key bytes_eq used n) ≡ true) same (own_any used n),
+          ap (λ j. get_or (set numbers i (position_or_len (bytes_eq n) used)) j 0) here
+              ∙ get_or-set_same numbers i _ 0 below
+              ∙ sym (own_place used n)
+              ∙ ap (λ x. position_or_len (bytes_eq x) (insert_key bytes_eq used n)) same,
         )
       where
         some-same : {x y : List ℕ} → Some x ≡ Some y → x ≡ y
@@ -145,32 +183,46 @@ numbers-set listed used numbers i n h at = record { count = length-set numbers i
         (kept-any used name n old.0, stays ∙ old.1 ∙ sym (kept-place used name n old.0))
 
 -- a name that came has its number, and the others keep theirs
-pub numbers-put : (listed used new : List (List ℕ)) (numbers : List ℕ) (i number : ℕ) (n : List ℕ) → AreNumbers listed used numbers → slice_get listed i ≡ Some n
-    → new ≡ insert_key bytes_eq used n → number ≡ position_or_len (bytes_eq n) used → AreNumbers listed new (set numbers i number)
+pub numbers-put : (listed used new : List (List ℕ)) (numbers : List ℕ) (i number : ℕ) (n : List ℕ)
+    → AreNumbers listed used numbers → slice_get listed i ≡ Some n
+    → new ≡ insert_key bytes_eq used n → number ≡ position_or_len (bytes_eq n) used
+    → AreNumbers listed new (set numbers i number)
 numbers-put listed used new numbers i number n h at grown placed =
     subst (λ ns. AreNumbers listed ns (set numbers i number)) (sym grown)
-    (subst (λ k. AreNumbers listed (insert_key bytes_eq used n) (set numbers i k)) (sym placed) (numbers-set listed used numbers i n h at))
+    (subst (λ k. AreNumbers listed (insert_key bytes_eq used n) (set numbers i k)) (sym placed)
+    (numbers-set listed used numbers i n h at))
 
 -- no name has a number at first
-pub numbers-none : (listed used : List (List ℕ)) (numbers : List ℕ) → numbers ≡ replicate (length listed) UNUSED → AreNumbers listed used numbers
+pub numbers-none : (listed used : List (List ℕ)) (numbers : List ℕ)
+    → numbers ≡ replicate (length listed) UNUSED → AreNumbers listed used numbers
 numbers-none listed used numbers none = record {
   count = ap length none ∙ length-replicate (length listed) UNUSED;
-  each = λ i name found numbered. absurd (numbered (ap (λ ns. get_or ns i 0) none ∙ get_or-replicate (length listed) i UNUSED 0 (slice_get_within listed i name found)));
+  each = λ i name found numbered. absurd (numbered (ap (λ ns. get_or ns i 0) none
+      ∙ get_or-replicate (length listed) i UNUSED 0 (slice_get_within listed i name found)));
 }
 
 -- the name that comes has a number: a place among fewer names than the greatest position
-pub own-numbered : (used : List (List ℕ)) (numbers : List ℕ) (i number : ℕ) (n : List ℕ) → i < length numbers → number ≡ position_or_len (bytes_eq n) used → length used < POSITIONS
+pub own_numbered : (used : List (List ℕ)) (numbers : List ℕ) (i number : ℕ) (n : List ℕ)
+    → i < length numbers → number ≡ position_or_len (bytes_eq n) used → length used < POSITIONS
     → get_or (set numbers i number) i 0 ≢ UNUSED
-own-numbered used numbers i number n below placed few = λ none.
-    absurd (omega (arith, sym (get_or-set_same numbers i number 0 below) ∙ none, placed, place-within (bytes_eq n) used, few))
+own_numbered used numbers i number n below placed few = λ none.
+    absurd (omega (
+      arith,
+      sym (get_or-set_same numbers i number 0 below) ∙ none,
+      placed,
+      place-within (bytes_eq n) used,
+      few,
+    ))
 
 -- and the others keep theirs
-pub still-numbered : (numbers : List ℕ) (i number k : ℕ) → get_or (set numbers i number) i 0 ≢ UNUSED → get_or numbers k 0 ≢ UNUSED → get_or (set numbers i number) k 0 ≢ UNUSED
-still-numbered numbers i number k own h = by (eqb k i) refl
+pub still_numbered : (numbers : List ℕ) (i number k : ℕ) → get_or (set numbers i number) i 0 ≢ UNUSED
+    → get_or numbers k 0 ≢ UNUSED → get_or (set numbers i number) k 0 ≢ UNUSED
+still_numbered numbers i number k own h = by (eqb k i) refl
   where
     by : (b : Bool) → eqb k i ≡ b → get_or (set numbers i number) k 0 ≢ UNUSED
     by true e = subst (λ j. get_or (set numbers i number) j 0 ≢ UNUSED) (sym (eqb-true k i e)) own
-    by false e = subst (λ x. x ≢ UNUSED) (sym (get_or-set_other numbers i k number 0 (λ same. absurd (true≢false (sym (eq-eqb k i same) ∙ e))))) h
+    by false e = subst (λ x. x ≢ UNUSED) (sym
+        (get_or-set_other numbers i k number 0 (λ same. absurd (true≢false (sym (eq-eqb k i same) ∙ e))))) h
 
 -- ---- the numbers of tokens' names
 
@@ -183,44 +235,60 @@ module _ (old new : List ℕ) (kept : (n : ℕ) → get_or old n 0 ≢ UNUSED �
       by (Some n) h = kept n h
 
   -- one token more
-  pub numbered-next : (ts : List Token) (i : ℕ) (t : Token) → slice_get ts i ≡ Some t → AllByRecursion (IsNumbered old) (take i ts) → IsNumbered new t → AllByRecursion (IsNumbered new) (take (i + 1) ts)
+  pub numbered-next : (ts : List Token) (i : ℕ) (t : Token)
+      → slice_get ts i ≡ Some t → AllByRecursion (IsNumbered old) (take i ts) → IsNumbered new t
+      → AllByRecursion (IsNumbered new) (take (i + 1) ts)
   numbered-next ts i t at so_far own = subst (AllByRecursion (IsNumbered new)) (sym (take_next ts i t at))
-      (all_append (IsNumbered new) (take i ts) (t ∷ []) (all_weaker (IsNumbered old) (IsNumbered new) still (take i ts) so_far) (own, tt))
+      (all_append (IsNumbered new) (take i ts) (t ∷ [])
+      (all_weaker (IsNumbered old) (IsNumbered new) still (take i ts) so_far) (own, tt))
 
 -- the place of a listed name among those that are used
-pub number-there : (listed used : List (List ℕ)) (numbers : List ℕ) (i : ℕ) → AreNumbers listed used numbers → i < length listed → get_or numbers i 0 ≢ UNUSED
+pub number-there : (listed used : List (List ℕ)) (numbers : List ℕ) (i : ℕ)
+    → AreNumbers listed used numbers → i < length listed → get_or numbers i 0 ≢ UNUSED
     → Some (get_or numbers i 0) ≡ option_map (λ n. position_or_len (bytes_eq n) used) (slice_get listed i)
 number-there listed used numbers i h below numbered =
     let found = slice_get-get_or listed i [] below in
-    ap Some (h.each i (get_or listed i []) found numbered).1 ∙ sym (ap (option_map (λ n. position_or_len (bytes_eq n) used)) found)
+    ap Some (h.each i (get_or listed i []) found numbered).1
+    ∙ sym (ap (option_map (λ n. position_or_len (bytes_eq n) used)) found)
 
 -- ---- names so far, and all names
 
-module _ {A : Type 0} (same : A → A → Bool) (equal : (x y : A) → same x y ≡ true → x ≡ y) (own : (x : A) → same x x ≡ true) where
+module _ {A : Type 0} (same : A → A → Bool) (equal : (x y : A) → same x y ≡ true → x ≡ y)
+    (own : (x : A) → same x x ≡ true) where
   -- the elements of the front stand in front
   distinct-front : (xs ys : List A) → (zs : List A) × (distinct same (xs ++ ys) ≡ distinct same xs ++ zs)
   distinct-front xs [] = ([], ap (distinct same) (append-nil xs) ∙ sym (append-nil (distinct same xs)))
-  distinct-front xs (y ∷ ys) = by (list_any (same y) (distinct same xs)) refl (distinct-front (xs ++ y ∷ []) ys)
+  distinct-front xs (y ∷ ys) =
+      by (list_any (same y) (distinct same xs)) refl (distinct-front (xs ++ y ∷ []) ys)
     where
-      by : (b : Bool) → list_any (same y) (distinct same xs) ≡ b → ((zs : List A) × (distinct same ((xs ++ y ∷ []) ++ ys) ≡ distinct same (xs ++ y ∷ []) ++ zs))
+      by : (b : Bool) → list_any (same y) (distinct same xs) ≡ b
+          → ((zs : List A) × (distinct same ((xs ++ y ∷ []) ++ ys) ≡ distinct same (xs ++ y ∷ []) ++ zs))
           → (zs : List A) × (distinct same (xs ++ y ∷ ys) ≡ distinct same xs ++ zs)
       by true e more = (
         more.0,
         ap (distinct same) (sym (append_assoc xs (y ∷ []) ys)) ∙ more.1
-            ∙ ap (λ ds. ds ++ more.0) (distinct-push same equal own xs y ∙ ap (λ b. cond b (distinct same xs) (distinct same xs ++ y ∷ [])) e),
+            ∙ ap (λ ds. ds ++ more.0) (distinct-push same equal own xs y
+            ∙ ap (λ b. cond b (distinct same xs) (distinct same xs ++ y ∷ [])) e),
       )
       by false e more = (
         y ∷ more.0,
         ap (distinct same) (sym (append_assoc xs (y ∷ []) ys)) ∙ more.1
-            ∙ ap (λ ds. ds ++ more.0) (distinct-push same equal own xs y ∙ ap (λ b. cond b (distinct same xs) (distinct same xs ++ y ∷ [])) e)
+            ∙ ap (λ ds. ds ++ more.0) (distinct-push same equal own xs y
+            ∙ ap (λ b. cond b (distinct same xs) (distinct same xs ++ y ∷ [])) e)
             ∙ append_assoc (distinct same xs) (y ∷ []) more.0,
       )
 
-used-front : (ms : List Mapping) (i : ℕ) → (zs : List (List ℕ)) × (names_used ms ≡ names_used (take i ms) ++ zs)
+used-front : (ms : List Mapping) (i : ℕ)
+    → (zs : List (List ℕ)) × (names_used ms ≡ names_used (take i ms) ++ zs)
 used-front ms i =
-    let front = distinct-front bytes_eq same_bytes own_bytes (filter_map name_of (take i ms)) (filter_map name_of (drop i ms)) in
-    (front.0, ap (distinct bytes_eq) (ap (filter_map name_of) (sym (take-append-drop i ms)) ∙ filter_map-append name_of (take i ms) (drop i ms)) ∙ front.1)
+    let front = distinct-front bytes_eq same_bytes own_bytes (filter_map name_of (take i ms))
+    (filter_map name_of (drop i ms)) in (
+      front.0,
+      ap (distinct bytes_eq) (ap (filter_map name_of) (sym (take-append-drop i ms))
+          ∙ filter_map-append name_of (take i ms) (drop i ms)) ∙ front.1,
+    )
 
 -- no more names are used so far than in all
 pub few-used : (ms : List Mapping) (i : ℕ) → length (names_used (take i ms)) ≤ length (names_used ms)
-few-used ms i = let front = used-front ms i in omega (arith, ap length front.1, length-append (names_used (take i ms)) front.0)
+few-used ms i = let front = used-front ms i in
+    omega (arith, ap length front.1, length-append (names_used (take i ms)) front.0)

@@ -1,5 +1,6 @@
 -- What is written of a layout is read back as that layout.
-use Rattle.std.proofs.Common.{◌≡◌, ℕ, ◌<◌, ◌≤◌, ◌^◌, suc, List, [], ◌∷◌, length, map, Option, Some, None, ap, ap₂, refl, ◌∙◌, sym, Bool, true, false, cond, max, arith, append-nil}
+use Rattle.std.proofs.Common.{◌≡◌, ℕ, ◌<◌, ◌≤◌, ◌^◌, suc, List, [], ◌∷◌, length, map, Option, Some, None, ap}
+use Rattle.std.proofs.Common.{ap₂, refl, ◌∙◌, sym, Bool, true, false, cond, max, arith, append-nil}
 use Rattle.std.specs.Prelude.{codes, option_map, option_and_then, IfSome, IsUtf8}
 use Rattle.std.specs.List.{AllByRecursion}
 use Rattle.json.specs.Token.{Token}
@@ -9,7 +10,8 @@ use Rattle.json.proofs.Printed.Tokens.{tokens-print}
 use Rattle.json.specs.Json as json
 use Rattle.json.specs.Tree as tree
 use Rattle.json.proofs.Printed.Trees.{value-json_tokens, ArePrintable-json_tokens}
-use Rattle.serde_json.specs.Data.{Data, null, boolean, number, string, array, object, Items, no_items, item, Members, no_members, member}
+use Rattle.serde_json.specs.Data.{Data, null, boolean, number, string, array, object, Items, no_items, item}
+use Rattle.serde_json.specs.Data.{Members, no_members, member}
 use Rattle.serde_json.specs.Data.{depth, items_depth, members_depth}
 use Rattle.serde_json.specs.Read.{of_json, of_items, of_members, max_depth}
 use Rattle.serde_json.specs.View.{items_of}
@@ -18,7 +20,8 @@ use Rattle.serde_json.proofs.Numbers.{number_of-decimal}
 use Rattle.serde_json.proofs.Texts.{print-outline}
 use Rattle.smap_mappings.specs.Text.{mappings_text}
 use Rattle.smap_record.specs.Record.{Entry, ReadMap}
-use Rattle.smap_canon.specs.Layout.{layout, layout_text, list_of, or_null, whole_number, ignored_from, unless_empty, optional_member}
+use Rattle.smap_canon.specs.Layout.{layout, layout_text, list_of, or_null, whole_number, ignored_from}
+use Rattle.smap_canon.specs.Layout.{unless_empty, optional_member}
 use Rattle.smap_canon.specs.Layout.{has_content, written_contents, ReadsBack}
 use Rattle.smap_canon.proofs.EntryLemmas.{ignored_below}
 use Rattle.smap_canon.proofs.TreeLemmas.{layout_depth, layout_number, parts_float}
@@ -46,13 +49,16 @@ number_said n few = ap (option_map number) (number_of-decimal n few)
 one_said : (d : Data) (ds : Items) → IsSaid d → AreSaid ds → AreSaid (item d ds)
 one_said d ds one rest = rw (one, rest) refl
 
-each_said : {A : Type 0} (write : A → Data) → ((x : A) → IsSaid (write x)) → (xs : List A) → AreSaid (items_of (map write xs))
+each_said : {A : Type 0} (write : A → Data) → ((x : A) → IsSaid (write x)) → (xs : List A)
+    → AreSaid (items_of (map write xs))
 each_said write said [] = refl
-each_said write said (x ∷ xs) = one_said (write x) (items_of (map write xs)) (said x) (each_said write said xs)
+each_said write said (x ∷ xs) =
+    one_said (write x) (items_of (map write xs)) (said x) (each_said write said xs)
 
 numbers_said : (ns : List ℕ) → AllByRecursion (λ n. n < 2 ^ 64) ns → AreSaid (items_of (map whole_number ns))
 numbers_said [] few = refl
-numbers_said (n ∷ ns) few = one_said (whole_number n) (items_of (map whole_number ns)) (number_said n few.0) (numbers_said ns few.1)
+numbers_said (n ∷ ns) few =
+    one_said (whole_number n) (items_of (map whole_number ns)) (number_said n few.0) (numbers_said ns few.1)
 
 list_said : (ds : List Data) → AreSaid (items_of ds) → IsSaid (list_of ds)
 list_said ds said = ap (option_map array) said
@@ -67,7 +73,8 @@ contents_said : (es : List Entry) → IfSome (written_contents es) IsSaid
 contents_said es = by (has_content es)
   where
     all : IsSaid (list_of (map (λ (e : Entry). or_null e.content) es))
-    all = list_said (map (λ (e : Entry). or_null e.content) es) (each_said (λ (e : Entry). or_null e.content) (λ e. or_null_said e.content) es)
+    all = list_said (map (λ (e : Entry). or_null e.content) es)
+        (each_said (λ (e : Entry). or_null e.content) (λ e. or_null_said e.content) es)
 
     by : (b : Bool) → IfSome (cond b (Some (list_of (map (λ (e : Entry). or_null e.content) es))) None) IsSaid
     by true = all
@@ -87,28 +94,41 @@ the_members file ignored contents text names urls =
     (optional_member (codes "sourcesContent") contents
     (member (codes "version") (whole_number 3) no_members))))))
 
-members_said : (file ignored contents : Option Data) (text names urls : Data) → IfSome file IsSaid → IfSome ignored IsSaid → IfSome contents IsSaid → IsSaid text → IsSaid names → IsSaid urls
-    → of_members (members_outline (the_members file ignored contents text names urls)) no_members ≡ Some (the_members file ignored contents text names urls)
+members_said : (file ignored contents : Option Data) (text names urls : Data) → IfSome file IsSaid
+    → IfSome ignored IsSaid → IfSome contents IsSaid → IsSaid text → IsSaid names → IsSaid urls
+    → of_members (members_outline (the_members file ignored contents text names urls)) no_members
+    ≡ Some (the_members file ignored contents text names urls)
 members_said None None None text names urls f i c t n u = rw (t, n, u, number_said 3 (omega arith)) refl
-members_said None None (Some d) text names urls f i c t n u = rw (t, n, u, c, number_said 3 (omega arith)) refl
-members_said None (Some d) None text names urls f i c t n u = rw (t, n, u, i, number_said 3 (omega arith)) refl
-members_said None (Some d) (Some e) text names urls f i c t n u = rw (t, n, u, i, c, number_said 3 (omega arith)) refl
-members_said (Some a) None None text names urls f i c t n u = rw (f, t, n, u, number_said 3 (omega arith)) refl
-members_said (Some a) None (Some d) text names urls f i c t n u = rw (f, t, n, u, c, number_said 3 (omega arith)) refl
-members_said (Some a) (Some d) None text names urls f i c t n u = rw (f, t, n, u, i, number_said 3 (omega arith)) refl
-members_said (Some a) (Some d) (Some e) text names urls f i c t n u = rw (f, t, n, u, i, c, number_said 3 (omega arith)) refl
+members_said None None (Some d) text names urls f i c t n u =
+    rw (t, n, u, c, number_said 3 (omega arith)) refl
+members_said None (Some d) None text names urls f i c t n u =
+    rw (t, n, u, i, number_said 3 (omega arith)) refl
+members_said None (Some d) (Some e) text names urls f i c t n u =
+    rw (t, n, u, i, c, number_said 3 (omega arith)) refl
+members_said (Some a) None None text names urls f i c t n u =
+    rw (f, t, n, u, number_said 3 (omega arith)) refl
+members_said (Some a) None (Some d) text names urls f i c t n u =
+    rw (f, t, n, u, c, number_said 3 (omega arith)) refl
+members_said (Some a) (Some d) None text names urls f i c t n u =
+    rw (f, t, n, u, i, number_said 3 (omega arith)) refl
+members_said (Some a) (Some d) (Some e) text names urls f i c t n u =
+    rw (f, t, n, u, i, c, number_said 3 (omega arith)) refl
 
-layout_said : (spell : List ℕ → List ℕ) (m : ReadMap) → length m.listing.sources ≤ 2 ^ 64 → IsSaid (layout spell m)
+layout_said : (spell : List ℕ → List ℕ) (m : ReadMap) → length m.listing.sources ≤ 2 ^ 64
+    → IsSaid (layout spell m)
 unfolding layout
 layout_said spell m few =
     let es = m.listing.sources in
     let ignored = unless_empty (map whole_number (ignored_from 0 es)) in
     let names = list_of (map string m.listing.names) in
     let urls = list_of (map (λ (e : Entry). or_null (option_map spell e.url)) es) in
-    let i = unless_empty_said (map whole_number (ignored_from 0 es)) (numbers_said (ignored_from 0 es) (ignored_below 0 (2 ^ 64) es (omega (arith, few)))) in
+    let i = unless_empty_said (map whole_number (ignored_from 0 es))
+    (numbers_said (ignored_from 0 es) (ignored_below 0 (2 ^ 64) es (omega (arith, few)))) in
     let n = list_said (map string m.listing.names) (each_said string (λ s. refl) m.listing.names) in
-    let u = list_said (map (λ (e : Entry). or_null (option_map spell e.url)) es) (each_said (λ (e : Entry). or_null (option_map spell e.url)) (λ e. or_null_said (option_map spell e.url)) es) in
-    ap (option_map object) (members_said (option_map string m.file) ignored (written_contents es) (string (mappings_text m.listing.tokens)) names urls (file_said m.file) i (contents_said es) refl n u)
+    let u = list_said (map (λ (e : Entry). or_null (option_map spell e.url)) es) (each_said
+    (λ (e : Entry). or_null (option_map spell e.url)) (λ e. or_null_said (option_map spell e.url)) es) in
+    ap (option_map object) (members_said (option_map string m.file) ignored (written_contents es)
+    (string (mappings_text m.listing.tokens)) names urls (file_said m.file) i (contents_said es) refl n u)
 
 -- ---- the text
 
@@ -129,24 +149,31 @@ mutual
   same_members_depth no_members = refl
   same_members_depth (member k d ms) = ap₂ max (same_depth d) (same_members_depth ms)
 
--- the value of the JSON that was read, if nothing stands behind it
+-- the value of the JSON that was read, if nothing stands after it
 abbrev read_whole : Option (json.Json × List Token) → Option Data
 read_whole o = option_and_then of_json (option_and_then (λ p. json.if_last p.0 p.1) o)
 
 -- a layout's text is read as that layout
-pub compact_back : (spell : List ℕ → List ℕ) (m : ReadMap) → length m.listing.sources ≤ 2 ^ 64 → IsUtf8 (compact_text (layout spell m)) → ReadsBack (layout spell m)
+pub compact_back : (spell : List ℕ → List ℕ) (m : ReadMap) → length m.listing.sources ≤ 2 ^ 64
+    → IsUtf8 (compact_text (layout spell m)) → ReadsBack (layout spell m)
 compact_back spell m few utf8 =
     let d = layout spell m in
     let ts = json_tokens (outline d) in
     let below = ignored_below 0 (2 ^ 64) m.listing.sources (omega (arith, few)) in
-    let same : tokens (compact_text d) ≡ ts = ap tokens (sym (print-outline d)) ∙ tokens-print ts (ArePrintable-json_tokens (outline d) (layout_number spell m below)) in
+    let same : tokens (compact_text d) ≡ ts = ap tokens (sym (print-outline d))
+    ∙ tokens-print ts (ArePrintable-json_tokens (outline d) (layout_number spell m below)) in
     record {
       utf8 = utf8;
-      same = ap read_whole (ap (json.value max_depth) (same ∙ sym (append-nil ts)) ∙ value-json_tokens (outline d) max_depth [] (omega (arith, same_depth d, layout_depth spell m))) ∙ layout_said spell m few;
+      same = ap read_whole (ap (json.value max_depth) (same ∙ sym (append-nil ts))
+          ∙ value-json_tokens (outline d) max_depth [] (omega (arith, same_depth d, layout_depth spell m)))
+          ∙ layout_said spell m few;
     }
 
 -- what is sent for it has its text
-pub sent-text : (spell : List ℕ → List ℕ) (m : ReadMap) (log : Log) (bytes : List ℕ) → SendsValue (layout spell m) (Some []) log → IsTextOf log bytes → bytes ≡ layout_text spell m
+pub sent_text : (spell : List ℕ → List ℕ) (m : ReadMap) (log : Log) (bytes : List ℕ)
+    → SendsValue (layout spell m) (Some []) log → IsTextOf log bytes → bytes ≡ layout_text spell m
 unfolding layout
-sent-text spell m log bytes sent is =
-    text_of_value (layout spell m) log bytes sent is (parts_float spell m.file (ignored_from 0 m.listing.sources) (mappings_text m.listing.tokens) m.listing.names m.listing.sources (has_content m.listing.sources))
+sent_text spell m log bytes sent is =
+    text_of_value (layout spell m) log bytes sent is
+    (parts_float spell m.file (ignored_from 0 m.listing.sources) (mappings_text m.listing.tokens)
+    m.listing.names m.listing.sources (has_content m.listing.sources))

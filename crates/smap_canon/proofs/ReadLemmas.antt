@@ -1,5 +1,6 @@
 -- The bytes of a listing are read as that listing.
-use Rattle.std.proofs.Common.{◌≡◌, ℕ, ◌≤◌, ◌+◌, List, [], ◌∷◌, length, map, Option, Some, None, Ok, ap, refl, ◌∙◌, true, false, cond, arith}
+use Rattle.std.proofs.Common.{◌≡◌, ℕ, ◌≤◌, ◌+◌, List, [], ◌∷◌, length, map, Option, Some, None, Ok, ap, refl}
+use Rattle.std.proofs.Common.{◌∙◌, true, false, cond, arith}
 use Rattle.std.specs.Prelude.{nat_lt, option_map}
 use Rattle.std.specs.List.{AllByRecursion}
 use Rattle.std.specs.Str.{is_utf8}
@@ -25,7 +26,13 @@ use Rattle.smap_canon.proofs.EntryLemmas.{LeadsBack, entries_same, ignored_below
 
 -- the bounds of a flat map that lists this
 abbrev pub flat_bounds : Allowed → Listing → Bounds
-flat_bounds limits l = record { start_line = 0; start_column = 0; sources = length l.sources; names = length l.names; lines = limits.lines }
+flat_bounds limits l = record {
+  start_line = 0;
+  start_column = 0;
+  sources = length l.sources;
+  names = length l.names;
+  lines = limits.lines;
+}
 
 -- a listing that is read again from its bytes, where its URLs are so spelled
 pub record IsReadable (base : Parts) (limits : Allowed) (spell : List ℕ → List ℕ) (l : Listing) : Type 0 where
@@ -43,29 +50,51 @@ shifted-zero t = (λ i. record t { original = by t.original i })
 
     by : (o : Option Original) → option_map (shifted_original 0 0) o ≡ o
     by None = refl
-    by (Some o) = let source : 0 + o.source ≡ o.source = omega arith in ap Some (λ i. record o { source = source i; name = name o.name i })
+    by (Some o) = let source : 0 + o.source ≡ o.source = omega arith in
+        ap Some (λ i. record o { source = source i; name = name o.name i })
 
 shifted-all : (ts : List Token) → map (shifted 0 0) ts ≡ ts
 shifted-all [] = refl
 shifted-all (t ∷ ts) = (λ i. shifted-zero t i ∷ shifted-all ts i)
 
-pub flat_read : (base : Parts) (limits : Allowed) (spell : List ℕ → List ℕ) (file : Option (List ℕ)) (l : Listing) → IsReadable base limits spell l
-    → listed_flat base limits start nothing (flat_of_parts spell file (ignored_from 0 l.sources) (mappings_text l.tokens) l.names l.sources (has_content l.sources)) ≡ Ok l
+pub flat_read : (base : Parts) (limits : Allowed) (spell : List ℕ → List ℕ) (file : Option (List ℕ))
+    (l : Listing) → IsReadable base limits spell l
+    → listed_flat base limits start nothing (flat_of_parts spell file (ignored_from 0 l.sources)
+    (mappings_text l.tokens) l.names l.sources (has_content l.sources)) ≡ Ok l
 unfolding listed_flat
 flat_read base limits spell file l h =
-    let few : nat_lt limits.items (0 + length (map (λ (e : Entry). option_map spell e.url) l.sources)) ≡ false = le-ltb _ _ (omega (arith, length-map l.sources (λ e. option_map spell e.url), h.few_sources)) in
+    let few : nat_lt limits.items (0 + length (map (λ (e : Entry). option_map spell e.url) l.sources))
+    ≡ false = le-ltb _ _ (omega (arith, length-map l.sources (λ e. option_map spell e.url), h.few_sources)) in
     let some : nat_lt limits.items (0 + length l.names) ≡ false = le-ltb _ _ (omega (arith, h.few_names)) in
-    rw (few, some, length-map l.sources (λ e. option_map spell e.url), contents_same l.sources, entries_same base spell 0 [] l.sources tt h.urls, h.decodes, shifted-all l.tokens) refl
+    rw (
+      few,
+      some,
+      length-map l.sources (λ e. option_map spell e.url),
+      contents_same l.sources,
+      entries_same base spell 0 [] l.sources tt h.urls,
+      h.decodes,
+      shifted-all l.tokens,
+    ) refl
 
-tree_read : (bytes : List ℕ) (tree : Data) → is_utf8 bytes ≡ true → read bytes ≡ Some tree → tree_of bytes ≡ Some tree
+tree_read : (bytes : List ℕ) (tree : Data) → is_utf8 bytes ≡ true → read bytes ≡ Some tree
+    → tree_of bytes ≡ Some tree
 tree_read bytes tree utf8 same = ap (λ b. cond b (read bytes) None) utf8 ∙ same
 
 -- The bytes of a listing are read as that listing.
-pub reading-layout : (base : Parts) (limits : Allowed) (spell : List ℕ → List ℕ) (m : ReadMap) → IsReadable base limits spell m.listing → ReadsBack (layout spell m) → reading base limits (layout_text spell m) ≡ Ok m
+pub reading-layout : (base : Parts) (limits : Allowed) (spell : List ℕ → List ℕ) (m : ReadMap)
+    → IsReadable base limits spell m.listing → ReadsBack (layout spell m)
+    → reading base limits (layout_text spell m) ≡ Ok m
 unfolding reading layout
 reading-layout base limits spell m h back =
     let es = m.listing.sources in
-    let shape = shape_of-parts spell m.file (ignored_from 0 es) (mappings_text m.listing.tokens) m.listing.names es (has_content es) (ignored_below 0 (length (map (λ (e : Entry). option_map spell e.url) es)) es (omega (arith, length-map es (λ e. option_map spell e.url)))) in
-    ap (λ t. or_fault Json t >>= λ tree. of_shape (shape_of tree) >>= λ members. map_of base limits members) (tree_read (layout_text spell m) (layout spell m) (is_utf8-from_IsUtf8 _ back.utf8) back.same)
+    let shape =
+    shape_of-parts spell m.file (ignored_from 0 es) (mappings_text m.listing.tokens) m.listing.names es
+    (has_content es) (ignored_below 0 (length (map (λ (e : Entry). option_map spell e.url) es)) es (omega (
+      arith,
+      length-map es (λ e. option_map spell e.url),
+    ))) in
+    ap (λ t. or_fault Json t >>= λ tree. of_shape (shape_of tree) >>= λ members. map_of base limits members)
+    (tree_read (layout_text spell m) (layout spell m) (is_utf8-from_IsUtf8 _ back.utf8) back.same)
     ∙ ap (λ s. of_shape s >>= λ members. map_of base limits members) shape
-    ∙ ap (λ l. l >>= λ listing. Ok (record { file = m.file; listing = listing })) (flat_read base limits spell m.file m.listing h)
+    ∙ ap (λ l. l >>= λ listing. Ok (record { file = m.file; listing = listing }))
+    (flat_read base limits spell m.file m.listing h)

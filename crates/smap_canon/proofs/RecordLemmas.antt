@@ -2,60 +2,80 @@
 use Rattle.std.proofs.Common.{◌≡◌, ℕ, List, [], ◌∷◌, map, Option, Some, None, ap, refl, true, ◌||◌, slice_get}
 use Rattle.std.specs.Prelude.{IfSome, option_map, option_and_then, bytes_eq, unwrap_or}
 use Rattle.std.specs.List.{AllByRecursion, list_any, filter_map, position_or_len, cons_option}
-use Rattle.smap_record.specs.Record.{Parts, Origin, Mapping, Record, Listing, Allowed, record_of, mapping_of, origin_of, no_entry, distinct, same_entry}
+use Rattle.smap_record.specs.Record.{Parts, Origin, Mapping, Record, Listing, Allowed, record_of, mapping_of}
+use Rattle.smap_record.specs.Record.{origin_of, no_entry, distinct, same_entry}
 use Rattle.smap_record.specs.Fitting.{Fits, IsMappingOf, IsOriginOf, names_used}
 use Rattle.smap_canon.specs.Numbering.{name_of, HasName}
 use Rattle.smap_canon.specs.Canonical.{canonical_map, canonical_listing, token_of, original_of}
 use Rattle.smap_record.proofs.EqualLemmas.{same_bytes, own_bytes, same_entries, own_entry}
-use Rattle.smap_canon.proofs.ListLemmas.{or-true, distinct-once, at_place, any-distinct, any-Contains}
+use Rattle.smap_canon.proofs.ListLemmas.{or_true, distinct-once, at_place, any_distinct, any_Contains}
 
-weaker : (x : List ℕ) (names : List (List ℕ)) (ms : List Mapping) → AllByRecursion (HasName names) ms → AllByRecursion (HasName (x ∷ names)) ms
+weaker : (x : List ℕ) (names : List (List ℕ)) (ms : List Mapping) → AllByRecursion (HasName names) ms
+    → AllByRecursion (HasName (x ∷ names)) ms
 weaker x names [] h = tt
 weaker x names (m ∷ ms) h = (by (name_of m) h.0, weaker x names ms h.1)
   where
-    by : (o : Option (List ℕ)) → IfSome o (λ n. list_any (bytes_eq n) names ≡ true) → IfSome o (λ n. list_any (bytes_eq n) (x ∷ names) ≡ true)
+    by : (o : Option (List ℕ)) → IfSome o (λ n. list_any (bytes_eq n) names ≡ true)
+        → IfSome o (λ n. list_any (bytes_eq n) (x ∷ names) ≡ true)
     by None h = tt
-    by (Some n) h = or-true (bytes_eq n x) (list_any (bytes_eq n) names) h
+    by (Some n) h = or_true (bytes_eq n x) (list_any (bytes_eq n) names) h
 
 listed_names : (ms : List Mapping) → AllByRecursion (HasName (filter_map name_of ms)) ms
 listed_names [] = tt
 listed_names (m ∷ ms) = by (name_of m) (listed_names ms)
   where
-    by : (o : Option (List ℕ)) → AllByRecursion (HasName (filter_map name_of ms)) ms → IfSome o (λ n. list_any (bytes_eq n) (cons_option o (filter_map name_of ms)) ≡ true) × AllByRecursion (HasName (cons_option o (filter_map name_of ms))) ms
+    by : (o : Option (List ℕ)) → AllByRecursion (HasName (filter_map name_of ms)) ms
+        → IfSome o (λ n. list_any (bytes_eq n) (cons_option o (filter_map name_of ms)) ≡ true)
+        × AllByRecursion (HasName (cons_option o (filter_map name_of ms))) ms
     by None rest = (tt, rest)
-    by (Some n) rest = (ap (λ b. b || list_any (bytes_eq n) (filter_map name_of ms)) (own_bytes n), weaker n (filter_map name_of ms) ms rest)
+    by (Some n) rest = (
+      ap (λ b. b || list_any (bytes_eq n) (filter_map name_of ms)) (own_bytes n),
+      weaker n (filter_map name_of ms) ms rest,
+    )
 
-once : (names : List (List ℕ)) (ms : List Mapping) → AllByRecursion (HasName names) ms → AllByRecursion (HasName (distinct bytes_eq names)) ms
+once : (names : List (List ℕ)) (ms : List Mapping) → AllByRecursion (HasName names) ms
+    → AllByRecursion (HasName (distinct bytes_eq names)) ms
 once names [] h = tt
 once names (m ∷ ms) h = (by (name_of m) h.0, once names ms h.1)
   where
-    by : (o : Option (List ℕ)) → IfSome o (λ n. list_any (bytes_eq n) names ≡ true) → IfSome o (λ n. list_any (bytes_eq n) (distinct bytes_eq names) ≡ true)
+    by : (o : Option (List ℕ)) → IfSome o (λ n. list_any (bytes_eq n) names ≡ true)
+        → IfSome o (λ n. list_any (bytes_eq n) (distinct bytes_eq names) ≡ true)
     by None h = tt
-    by (Some n) h = any-distinct bytes_eq same_bytes own_bytes n names h
+    by (Some n) h = any_distinct bytes_eq same_bytes own_bytes n names h
 
 pub used_names : (ms : List Mapping) → AllByRecursion (HasName (names_used ms)) ms
 used_names ms = once (filter_map name_of ms) ms (listed_names ms)
 
 -- a mapping by its places, seen in the lists, is the mapping
-mapping_same : (lines : ℕ) (l : Listing) (m : Mapping) → IsMappingOf lines l.sources m → HasName l.names m → mapping_of l (token_of l.sources l.names m) ≡ m
+mapping_same : (lines : ℕ) (l : Listing) (m : Mapping) → IsMappingOf lines l.sources m → HasName l.names m
+    → mapping_of l (token_of l.sources l.names m) ≡ m
 mapping_same lines l m fits named = (λ i. record m { origin = by m.origin fits.origin named i })
   where
-    name : (o : Option (List ℕ)) → IfSome o (λ n. list_any (bytes_eq n) l.names ≡ true) → option_and_then (slice_get l.names) (option_map (λ n. position_or_len (bytes_eq n) l.names) o) ≡ o
+    name : (o : Option (List ℕ)) → IfSome o (λ n. list_any (bytes_eq n) l.names ≡ true)
+        → option_and_then (slice_get l.names) (option_map (λ n. position_or_len (bytes_eq n) l.names) o) ≡ o
     name None h = refl
     name (Some n) h = at_place bytes_eq same_bytes own_bytes n l.names h
 
-    by : (o : Option Origin) → IfSome o (IsOriginOf l.sources) → IfSome (option_and_then (λ o. o.name) o) (λ n. list_any (bytes_eq n) l.names ≡ true) → option_map (origin_of l) (option_map (original_of l.sources l.names) o) ≡ o
+    by : (o : Option Origin) → IfSome o (IsOriginOf l.sources)
+        → IfSome (option_and_then (λ o. o.name) o) (λ n. list_any (bytes_eq n) l.names ≡ true)
+        → option_map (origin_of l) (option_map (original_of l.sources l.names) o) ≡ o
     by None known named = refl
     by (Some o) known named =
-        let source = ap (λ e. unwrap_or e no_entry) (at_place same_entry same_entries own_entry o.source l.sources (any-Contains same_entry same_entries own_entry l.sources o.source known.known)) in
+        let source = ap (λ e. unwrap_or e no_entry) (at_place same_entry same_entries own_entry o.source
+        l.sources (any_Contains same_entry same_entries own_entry l.sources o.source known.known)) in
         ap Some (λ i. record o { source = source i; name = name o.name named i })
 
-mappings_same : (lines : ℕ) (l : Listing) (ms : List Mapping) → AllByRecursion (IsMappingOf lines l.sources) ms → AllByRecursion (HasName l.names) ms → map (mapping_of l) (map (token_of l.sources l.names) ms) ≡ ms
+mappings_same : (lines : ℕ) (l : Listing) (ms : List Mapping)
+    → AllByRecursion (IsMappingOf lines l.sources) ms → AllByRecursion (HasName l.names) ms
+    → map (mapping_of l) (map (token_of l.sources l.names) ms) ≡ ms
 mappings_same lines l [] fits named = refl
-mappings_same lines l (m ∷ ms) fits named = (λ i. mapping_same lines l m fits.0 named.0 i ∷ mappings_same lines l ms fits.1 named.1 i)
+mappings_same lines l (m ∷ ms) fits named =
+    (λ i. mapping_same lines l m fits.0 named.0 i ∷ mappings_same lines l ms fits.1 named.1 i)
 
-pub record_of-canonical_map : (base : Parts) (limits : Allowed) (r : Record) → Fits base limits r → record_of (canonical_map r) ≡ r
+pub record_of-canonical_map : (base : Parts) (limits : Allowed) (r : Record)
+    → Fits base limits r → record_of (canonical_map r) ≡ r
 record_of-canonical_map base limits r fits = (λ i. record r {
   sources = distinct-once same_entry r.sources fits.distinct_sources i;
-  mappings = mappings_same limits.lines (canonical_listing r) r.mappings fits.mappings (used_names r.mappings) i;
+  mappings =
+      mappings_same limits.lines (canonical_listing r) r.mappings fits.mappings (used_names r.mappings) i;
 })

@@ -28,12 +28,11 @@ abbrev pub IsReadAgainIn : Form → Parts → Record → Type 0
 IsReadAgainIn form base r = (limits : Allowed) → Fits base limits r
     → ReadAs base limits (canonical_text_in form base r) r
 
--- The same of the relative form.
+-- The same in the relative form.
 abbrev pub IsReadAgainFrom : Parts → Record → Type 0
 IsReadAgainFrom base r = IsReadAgainIn relative_form base r
 
--- Under each base and limits that the map's listing fits, its flat bytes are a map without a fault: this
--- one.
+-- Under each base and limits that the map's listing fits, its flat bytes are accepted as this same map.
 abbrev pub IsFlatReadAgain : ReadMap → Type 0
 IsFlatReadAgain m = (base : Parts) (limits : Allowed) → ListingFits base limits m.listing
     → reading base limits (flat_text m) ≡ Ok m

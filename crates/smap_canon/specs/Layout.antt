@@ -1,4 +1,4 @@
--- The one layout of canonical and of flat bytes.
+-- The layout that canonical and flat bytes share.
 use Rattle.std.specs.Prelude.{◌≡◌, ℕ, ◌+◌, List, [], ◌∷◌, map, codes, Bool, true, false}
 use Rattle.std.specs.Prelude.{if◌then◌else◌, IsUtf8}
 use Rattle.std.specs.Prelude.{Option, Some, None, is_some, option_map}
@@ -44,7 +44,7 @@ has_content es = list_any (λ e. is_some e.content) es
 abbrev pub written_contents : List Entry → Option Data
 written_contents es = if has_content es then Some (list_of (map (λ e. or_null e.content) es)) else None
 
--- How a source's URL is written: as it is.
+-- Writes a source's URL as it is.
 abbrev pub absolute : List ℕ → List ℕ
 absolute url = url
 
@@ -58,7 +58,7 @@ abbrev pub spelling_in : Form → Parts → List ℕ → List ℕ
 spelling_in absolute_form base = absolute
 spelling_in relative_form base = relatively base
 
--- the relative form if it is asked for
+-- the relative form if the flag is set, and else the absolute one
 abbrev pub form_asked : Bool → Form
 form_asked true = relative_form
 form_asked false = absolute_form

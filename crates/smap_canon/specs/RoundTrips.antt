@@ -1,4 +1,4 @@
--- Reading and writing together.
+-- Reading and writing put together.
 use Rattle.std.specs.Prelude.{◌≡◌, ◌↔◌, ℕ, List, Bool, IsTrue, bytes_eq, Ok}
 use Rattle.smap_record.specs.Record.{Parts, Allowed, ReadMap, record_of}
 use Rattle.smap_record.specs.Faults.{Checked, ◌>>=◌}
@@ -42,7 +42,8 @@ equal_texts form base limits one other = do
   Ok (bytes_eq a b)
 
 -- Both are accepted, and the answer is whether their records are equal.
-pub record TellsTexts (base : Parts) (limits : Allowed) (one other : List ℕ) (answer : Bool) : Type 0 where
+pub record DecidesEquality (base : Parts) (limits : Allowed) (one other : List ℕ) (answer : Bool)
+    : Type 0 where
   pub one_map : ReadMap
   pub other_map : ReadMap
   pub one_accepted : reading base limits one ≡ Ok one_map

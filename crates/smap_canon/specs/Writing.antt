@@ -7,7 +7,7 @@ use Rattle.serde_json.specs.Data.{Data, string}
 use Rattle.smap_mappings.specs.declared.token.Token.{Token}
 use Rattle.smap_mappings.specs.Text.{mappings_text}
 use Rattle.smap_record.specs.Record.{Entry, ReadMap, record_of}
-use Rattle.smap_canon.specs.declared.listed.Listed.{Listed}
+use Rattle.smap_canon.specs.declared.listing_to_write.ListingToWrite.{ListingToWrite}
 use Rattle.smap_canon.specs.declared.layout.Names.{Names}
 use Rattle.smap_canon.specs.declared.layout.Mappings.{Mappings}
 use Rattle.smap_canon.specs.declared.layout.Urls.{Urls}
@@ -21,17 +21,18 @@ use Rattle.smap_canon.specs.Spelling.{spelling_of}
 
 -- ---- what is listed: by a record, or by a map as it is
 
-abbrev pub sources_of : Listed → List Entry
+abbrev pub sources_of : ListingToWrite → List Entry
 sources_of l = if is_some l.names then (record_of l.map.now).sources else l.map.now.listing.sources
 
-abbrev pub names_of : Listed → List (List ℕ)
-names_of l = if is_some l.names then (canonical_listing (record_of l.map.now)).names else l.map.now.listing.names
+abbrev pub names_of : ListingToWrite → List (List ℕ)
+names_of l = if is_some l.names then (canonical_listing (record_of l.map.now)).names
+    else l.map.now.listing.names
 
-abbrev pub tokens_of : Listed → List Token
+abbrev pub tokens_of : ListingToWrite → List Token
 tokens_of l = if is_some l.names then (canonical_listing (record_of l.map.now)).tokens
     else l.map.now.listing.tokens
 
-abbrev pub map_of : Listed → ReadMap
+abbrev pub map_of : ListingToWrite → ReadMap
 map_of l = record {
   file = l.map.now.file;
   listing = record { sources = sources_of l; names = names_of l; tokens = tokens_of l };
@@ -66,7 +67,7 @@ flat_tree m = layout (spelling_of m.spelling) (map_of m.listed)
 abbrev pub SendsMember : (Log → Log → Type 0) → List ℕ → Log → Log → Type 0
 SendsMember value name old new = (named : Log) × Logs old named (field_key name AsIs) × value named new
 
--- so if there is a value, and else nothing
+-- the same if there is a value, and else nothing
 abbrev pub SendsOptional : {A : Type 0} → (A → Log → Log → Type 0) → Option A → List ℕ → Log → Log → Type 0
 SendsOptional value None name old new = new ≡ old
 SendsOptional value (Some x) name old new = SendsMember (value x) name old new

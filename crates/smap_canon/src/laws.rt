@@ -1,8 +1,8 @@
-//! What holds of canonical bytes, over the definitions alone. Each law is the contract of a function that
-//! does nothing.
+//! Laws about canonical bytes. Each is the contract of a function that does nothing, and is about the
+//! definitions only.
 //!
-//! Both have one premise beside those that they name: the compact text of the canonical tree reads back as
-//! that tree. `canonical` promises it of what it writes.
+//! Both have the premise that the compact text of the canonical JSON tree reads back as that tree. It is a
+//! promise of `canonical`.
 ghost use Rattle.smap_canon.specs.Laws.{CanonicalBytesAreAFixedPoint, EqualBytesForEqualRecordsOnly};
 
 /// Canonical bytes are a fixed point: those of a record that fits a base and limits are accepted under

@@ -1,5 +1,5 @@
-//! A layout as serde sees it: a flat map, whose members are borrowed from a map that was read, or made when
-//! their turn comes. No tree is made.
+//! The flat map that is written, as serde sees it: members are borrowed from a map that was read, or made
+//! when they are serialized. No JSON tree is built.
 ghost use Rattle.std.specs.Prelude.{◌≡◌, IfOk, OnOk, length, map as mapped, option_map, string_bytes};
 ghost use Rattle.serde_json.specs.Data.{string};
 ghost use Rattle.serde_json.specs.Events.{SendsValue};
@@ -11,7 +11,7 @@ ghost use Rattle.smap_canon.specs.Writing.{SendsMember, SendsOptional, sources_o
 ghost use Rattle.smap_canon.specs.Writing.{mappings_tree, names_tree, urls_tree};
 ghost use Rattle.smap_canon.specs.Writing.{contents_tree, ignored_tree, flat_tree};
 
-use crate::listed::Listed;
+use crate::listing_to_write::ListingToWrite;
 use crate::numbering::{listed_mappings, numbered_mappings};
 use crate::sources::{source_at, source_count};
 use crate::spelling::{SpelledUrl, Spelling};
@@ -20,7 +20,7 @@ use smap_mappings::Memory;
 use smap_record::SourceMap;
 use std::alloc::Global;
 
-/// A member.
+/// Sends a member.
 fn member<T: Serialize, S: Serializer>(out: &mut S, name: &str, value: &T) -> Result<(), S::Error>
     ensures { OnOk result
         (SendsMember (T.writes value.now) name.now (S.written out.old) (S.written out.new)) }
@@ -29,7 +29,7 @@ fn member<T: Serialize, S: Serializer>(out: &mut S, name: &str, value: &T) -> Re
     value.serialize(out)
 }
 
-/// A member, where there is a value.
+/// Sends a member if there is a value.
 fn optional_member<T: Serialize, S: Serializer>(
     out: &mut S,
     name: &str,
@@ -44,13 +44,13 @@ fn optional_member<T: Serialize, S: Serializer>(
     }
 }
 
-/// The mappings text.
+/// The mappings string.
 ///
-/// It is made when its turn comes, and let go once it is written.
+/// It is made when it is serialized, and freed once it is written.
 #[derive(Clone, Copy)]
 struct Mappings<'a> {
     alloc: Global,
-    listed: Listed<'a>,
+    listed: ListingToWrite<'a>,
 }
 
 impl Described for Mappings<'_> {
@@ -66,14 +66,14 @@ impl Serialize for Mappings<'_> {
     }
 }
 
-fn mappings_of(alloc: Global, listed: Listed<'_>) -> Result<String, Memory>
+fn mappings_of(alloc: Global, listed: ListingToWrite<'_>) -> Result<String, Memory>
     ensures { IfOk result (λ text. string_bytes text ≡ mappings_text (tokens_of listed.entry)) }
 {
     let text = mappings_bytes(alloc, listed)?;
     Ok(String::from_utf8(text).unwrap())
 }
 
-fn mappings_bytes(alloc: Global, listed: Listed<'_>) -> Result<Vec<u8>, Memory>
+fn mappings_bytes(alloc: Global, listed: ListingToWrite<'_>) -> Result<Vec<u8>, Memory>
     ensures { IfOk result (λ text. text.items ≡ mappings_text (tokens_of listed.entry)) }
 {
     match listed.names {
@@ -82,10 +82,10 @@ fn mappings_bytes(alloc: Global, listed: Listed<'_>) -> Result<Vec<u8>, Memory>
     }
 }
 
-/// The names: those that the mappings use, in order of first use, or as they are listed.
+/// The names: those that the mappings use in order of first use, or all as listed.
 #[derive(Clone, Copy)]
 struct Names<'a> {
-    listed: Listed<'a>,
+    listed: ListingToWrite<'a>,
 }
 
 impl Described for Names<'_> {
@@ -101,7 +101,7 @@ impl Serialize for Names<'_> {
     }
 }
 
-/// The names as they are listed.
+/// Sends the names as listed.
 fn listed_names<S: Serializer>(out: &mut S, map: &SourceMap) -> Result<(), S::Error>
     ensures { OnOk result (SendsValue (list_of (mapped string map.now.listing.names))
         (S.written out.old) (S.written out.new)) }
@@ -113,11 +113,11 @@ fn listed_names<S: Serializer>(out: &mut S, map: &SourceMap) -> Result<(), S::Er
     out.end_seq()
 }
 
-/// The URLs of the sources, so spelled.
+/// The URLs of the sources, absolute or relative.
 #[derive(Clone, Copy)]
 struct Urls<'a> {
     alloc: Global,
-    listed: Listed<'a>,
+    listed: ListingToWrite<'a>,
     spelling: Spelling<'a>,
 }
 
@@ -144,7 +144,7 @@ impl Serialize for Urls<'_> {
 /// The contents of the sources.
 #[derive(Clone, Copy)]
 struct Contents<'a> {
-    listed: Listed<'a>,
+    listed: ListingToWrite<'a>,
 }
 
 impl Described for Contents<'_> {
@@ -162,7 +162,7 @@ impl Serialize for Contents<'_> {
     }
 }
 
-fn has_content(listed: Listed<'_>) -> bool
+fn has_content(listed: ListingToWrite<'_>) -> bool
     ensures { result ≡ has_content (sources_of listed.entry) }
 {
     for i in 0..source_count(listed) {
@@ -173,8 +173,8 @@ fn has_content(listed: Listed<'_>) -> bool
     false
 }
 
-/// The contents of the sources, where some source has one.
-fn contents_of(listed: Listed<'_>) -> Option<Contents<'_>>
+/// The contents of the sources, if any source has one.
+fn contents_of(listed: ListingToWrite<'_>) -> Option<Contents<'_>>
     ensures { option_map contents_tree result ≡ written_contents (sources_of listed.entry) }
 {
     if has_content(listed) {
@@ -184,10 +184,10 @@ fn contents_of(listed: Listed<'_>) -> Option<Contents<'_>>
     }
 }
 
-/// The numbers of the ignored sources, rising.
+/// The indices of the ignored sources, rising.
 #[derive(Clone, Copy)]
 struct Ignored<'a> {
-    listed: Listed<'a>,
+    listed: ListingToWrite<'a>,
 }
 
 impl Described for Ignored<'_> {
@@ -208,7 +208,7 @@ impl Serialize for Ignored<'_> {
 }
 
 /// How many sources are ignored.
-fn ignored_count(listed: Listed<'_>) -> usize
+fn ignored_count(listed: ListingToWrite<'_>) -> usize
     ensures { result ≡ length (ignored_from 0 (sources_of listed.entry)) }
 {
     let mut count: usize = 0;
@@ -221,8 +221,8 @@ fn ignored_count(listed: Listed<'_>) -> usize
     count
 }
 
-/// The numbers of the ignored sources, where there is one.
-fn ignored_of(listed: Listed<'_>) -> Option<Ignored<'_>>
+/// The indices of the ignored sources, if there are any.
+fn ignored_of(listed: ListingToWrite<'_>) -> Option<Ignored<'_>>
     ensures { option_map ignored_tree result
         ≡ unless_empty (mapped whole_number (ignored_from 0 (sources_of listed.entry))) }
 {
@@ -233,11 +233,11 @@ fn ignored_of(listed: Listed<'_>) -> Option<Ignored<'_>>
     }
 }
 
-/// A flat map: that of a record, or the listing of a map as it stands. Its URLs are so spelled.
+/// The flat map of a record, or of a map's listing, with absolute or relative URLs.
 #[derive(Clone, Copy)]
 pub(crate) struct FlatMap<'a> {
     pub(crate) alloc: Global,
-    pub(crate) listed: Listed<'a>,
+    pub(crate) listed: ListingToWrite<'a>,
     pub(crate) spelling: Spelling<'a>,
 }
 

@@ -14,7 +14,7 @@
 
 pub mod laws;
 mod layout;
-mod listed;
+mod listing_to_write;
 mod numbering;
 pub mod round_trips;
 mod sameness;

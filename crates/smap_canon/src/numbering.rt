@@ -1,11 +1,11 @@
-//! The mappings of a record by their places: sources by the record's numbers, names by first use; or the
-//! tokens of a map as they are listed.
+//! The mappings string of a record, with indices into the distinct sources and the names in order of first
+//! use; and that of a map's tokens as listed.
 ghost use Rattle.std.specs.Prelude.{◌≡◌, ◌≢◌, ◌<◌, ℕ, [], length, slice_get, replicate, bytes_eq, get_or};
 ghost use Rattle.std.specs.Prelude.{IfOk, IfSome, OnOk, option_map};
 ghost use Rattle.smap_mappings.specs.Position.{POSITIONS};
 ghost use Rattle.smap_mappings.specs.Text.{mappings_text};
 ghost use Rattle.smap_record.specs.Record.{record_of, mapping_of, origin_of};
-ghost use Rattle.smap_record.specs.Listed.{IsListing, IsListedOriginal, IsListedToken};
+ghost use Rattle.smap_record.specs.Listings.{IsListing, IsListedOriginal, IsListedToken};
 ghost use Rattle.smap_canon.specs.Canonical.{canonical_mappings_text, original_of, token_of};
 ghost use Rattle.smap_canon.specs.Numbering.{AreNumbers, AreUsedNames, IsNumbered};
 ghost use Rattle.smap_canon.specs.Numbering.{name_of, used_in, with_name};
@@ -15,12 +15,11 @@ use smap_mappings::{Encoder, Memory, Original, TextLength, Token};
 use smap_record::SourceMap;
 use std::alloc::{AllocError, Global};
 
-/// Stands for the number of a listed name that no mapping has used yet.
+/// In place of the index of a listed name that no mapping has used yet.
 const UNUSED: u32 = u32::MAX;
 
-/// The names that were used so far, each once, in order of first use. Beside them stands, for each name that
-/// the map lists, its place among these, or `UNUSED`: so a name's text is looked up once, however many
-/// mappings use it.
+/// The names that were used so far, each once, in order of first use; and for each listed name its index
+/// among these, or `UNUSED`. So a listed name is looked up in the table once, however many mappings use it.
 #[derive(Drop)]
 pub(crate) struct UsedNames<'a> {
     pub(crate) used: IndexSet<&'a str>,
@@ -39,7 +38,7 @@ fn no_names<'a>(alloc: Global, map: &'a SourceMap) -> Result<UsedNames<'a>, Allo
     })
 }
 
-/// A listed name is used from now on.
+/// Notes that a listed name is used.
 fn use_listed<'a>(names: &mut UsedNames<'a>, map: &'a SourceMap, listed: u32) -> Result<(), Memory>
     requires listed { listed < length map.now.listing.names }
     requires numbers { AreNumbers map.now.listing.names (used_in names.old) names.old.numbers.items }
@@ -60,7 +59,7 @@ fn use_listed<'a>(names: &mut UsedNames<'a>, map: &'a SourceMap, listed: u32) ->
     Ok(())
 }
 
-/// The name of a listed token, where it has one, is used from now on.
+/// Notes that the name of a listed token, if it has one, is used.
 fn use_name<'a>(names: &mut UsedNames<'a>, map: &'a SourceMap, token: Token) -> Result<(), Memory>
     requires listed { IsListedToken map.now.listing token }
     requires numbers { AreNumbers map.now.listing.names (used_in names.old) names.old.numbers.items }
@@ -93,7 +92,7 @@ pub(crate) fn used_names(alloc: Global, map: &SourceMap) -> Result<UsedNames<'_>
     Ok(names)
 }
 
-/// An original position by the places of its source and of its name.
+/// An original position with the indices of the distinct source and of the used name.
 fn original_by(names: &UsedNames<'_>, map: &SourceMap, original: Original) -> Original
     requires listed { IsListedOriginal map.now.listing original }
     requires few_sources { length map.now.listing.sources < POSITIONS }
@@ -114,7 +113,7 @@ fn original_by(names: &UsedNames<'_>, map: &SourceMap, original: Original) -> Or
     }
 }
 
-/// A listed token by the places of its source and of its name.
+/// A listed token with the indices of the distinct source and of the used name.
 fn token_by(names: &UsedNames<'_>, map: &SourceMap, token: Token) -> Token
     requires listed { IsListedToken map.now.listing token }
     requires few_sources { length map.now.listing.sources < POSITIONS }
@@ -134,8 +133,7 @@ fn token_by(names: &UsedNames<'_>, map: &SourceMap, token: Token) -> Token
     }
 }
 
-/// The mappings text by the places of sources and names, in one pass over the mappings. No other list of them
-/// is made.
+/// The mappings string with these indices, in one pass over the mappings. No second array of them is made.
 pub(crate) fn numbered_mappings(
     alloc: Global,
     map: &SourceMap,
@@ -152,7 +150,7 @@ pub(crate) fn numbered_mappings(
     Ok(encoder.finish())
 }
 
-/// How many bytes that mappings text has: it is counted, and not made.
+/// The length of that mappings string, which isn't made for it.
 pub(crate) fn numbered_length(map: &SourceMap, names: &UsedNames<'_>) -> u128
     requires { AreUsedNames map.now names.now }
     ensures { result ≡ length (canonical_mappings_text (record_of map.now)) }
@@ -164,7 +162,7 @@ pub(crate) fn numbered_length(map: &SourceMap, names: &UsedNames<'_>) -> u128
     text.len()
 }
 
-/// The mappings text of the tokens as they are listed.
+/// The mappings string of the tokens as listed.
 pub(crate) fn listed_mappings(alloc: Global, map: &SourceMap) -> Result<Vec<u8>, Memory>
     ensures { IfOk result (λ text. text.items ≡ mappings_text map.now.listing.tokens) }
 {

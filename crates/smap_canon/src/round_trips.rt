@@ -1,17 +1,17 @@
 //! Reading and writing in one call, with contracts that say what the two promise together.
 ghost use Rattle.std.specs.Prelude.{IfOk};
-ghost use Rattle.smap_record.specs.Answers.{Gives};
+ghost use Rattle.smap_record.specs.Results.{Returns};
 ghost use Rattle.smap_canon.specs.Layout.{form_asked};
 ghost use Rattle.smap_canon.specs.RoundTrips.{tidied_text, IsTidied, flattened_text, IsFlattened};
-ghost use Rattle.smap_canon.specs.RoundTrips.{equal_texts, TellsTexts};
+ghost use Rattle.smap_canon.specs.RoundTrips.{equal_texts, DecidesEquality};
 
 use crate::writing::{canonical_in, flatten};
 use smap_record::{Base, Limits, ReadError, SourceMap};
 use std::alloc::Global;
 
-/// The canonical form of the map that these bytes are, with source URLs relative to the base if that is asked
-/// for: [`SourceMap::from_slice`], then [`crate::canonical_in`]. Under the same base and limits it is accepted
-/// with the same record, and is its own canonical form.
+/// The canonical form of the map that these bytes are, with source URLs relative to the base if `relative`
+/// is set: [`SourceMap::from_slice`], then [`crate::canonical_in`]. Under the same base and limits it is
+/// accepted with the same record, and is its own canonical form.
 ///
 /// # Errors
 ///
@@ -29,7 +29,7 @@ pub fn tidied(
     limits: Limits,
     relative: bool,
 ) -> Result<Vec<u8>, ReadError>
-    ensures gives { Gives (λ v. v.items) result
+    ensures gives { Returns (λ v. v.items) result
         (tidied_text (form_asked relative) base.now limits bytes.now) }
     ensures stays { IfOk result (λ v. IsTidied (form_asked relative) base.now limits bytes.now v.items) }
 {
@@ -52,7 +52,7 @@ pub fn flattened(
     base: &Base,
     limits: Limits,
 ) -> Result<Vec<u8>, ReadError>
-    ensures gives { Gives (λ v. v.items) result (flattened_text base.now limits bytes.now) }
+    ensures gives { Returns (λ v. v.items) result (flattened_text base.now limits bytes.now) }
     ensures stays { IfOk result (λ v. IsFlattened base.now limits bytes.now v.items) }
 {
     let map = SourceMap::from_slice(alloc, bytes, base, limits)?;
@@ -76,9 +76,9 @@ pub fn have_equal_bytes(
     limits: Limits,
     relative: bool,
 ) -> Result<bool, ReadError>
-    ensures gives { Gives (λ equal. equal) result
+    ensures gives { Returns (λ equal. equal) result
         (equal_texts (form_asked relative) base.now limits one.now other.now) }
-    ensures tells { IfOk result (TellsTexts base.now limits one.now other.now) }
+    ensures tells { IfOk result (DecidesEquality base.now limits one.now other.now) }
 {
     let first = tidied(alloc, one, base, limits, relative)?;
     let second = tidied(alloc, other, base, limits, relative)?;

@@ -2,18 +2,18 @@
 ghost use Rattle.std.specs.Prelude.{◌≡◌, ◌↔◌, IsTrue};
 ghost use Rattle.std.specs.Option.{option_eq};
 ghost use Rattle.smap_record.specs.Record.{record_of, same_entry};
-ghost use Rattle.smap_record.specs.Views.{entry_seen};
+ghost use Rattle.smap_record.specs.Views.{entry_of_view};
 ghost use Rattle.smap_canon.specs.Sameness.{same_numbered, same_view};
 
 use smap_record::{OriginalView, SourceMap, SourceView, TokenView};
 
 fn same_source(a: SourceView<'_>, b: SourceView<'_>) -> bool
-    ensures { result ≡ same_entry (entry_seen a.entry) (entry_seen b.entry) }
+    ensures { result ≡ same_entry (entry_of_view a.entry) (entry_of_view b.entry) }
 {
     a.url == b.url && (a.content == b.content && a.ignored == b.ignored)
 }
 
-/// The source numbers stand for the sources, where both are numbers in one list.
+/// Compares the indices of the sources in place of the sources, for two maps with the same distinct sources.
 fn same_original(a: OriginalView<'_>, b: OriginalView<'_>) -> bool
     ensures { result ≡ same_numbered a.entry b.entry }
 {
@@ -51,7 +51,7 @@ fn same_sources(a: &SourceMap, b: &SourceMap) -> bool
     true
 }
 
-/// Whether the mappings are equal, where the sources are.
+/// Whether the mappings are equal, given that the sources are.
 fn same_mappings(a: &SourceMap, b: &SourceMap) -> bool
     requires { (record_of a.now).sources ≡ (record_of b.now).sources }
     ensures { IsTrue result ↔ ((record_of a.now).mappings ≡ (record_of b.now).mappings) }

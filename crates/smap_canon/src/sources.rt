@@ -1,13 +1,13 @@
-//! The sources that a layout lists: those of a record, each once, or as a map lists them.
+//! The sources to write: the distinct ones of a record, or all as a map lists them.
 ghost use Rattle.std.specs.Prelude.{◌≡◌, ◌<◌, length, slice_get, Some};
-ghost use Rattle.smap_record.specs.Views.{entry_seen};
+ghost use Rattle.smap_record.specs.Views.{entry_of_view};
 ghost use Rattle.smap_canon.specs.Writing.{sources_of};
 
-use crate::listed::Listed;
+use crate::listing_to_write::ListingToWrite;
 use smap_record::SourceView;
 
-/// How many sources are listed.
-pub(crate) fn source_count(listed: Listed<'_>) -> usize
+/// How many sources are written.
+pub(crate) fn source_count(listed: ListingToWrite<'_>) -> usize
     ensures { result ≡ length (sources_of listed.entry) }
 {
     if listed.names.is_some() {
@@ -17,10 +17,10 @@ pub(crate) fn source_count(listed: Listed<'_>) -> usize
     }
 }
 
-/// The source at a place.
-pub(crate) fn source_at(listed: Listed<'_>, i: usize) -> SourceView<'_>
+/// The i-th of them.
+pub(crate) fn source_at(listed: ListingToWrite<'_>, i: usize) -> SourceView<'_>
     requires { i < length (sources_of listed) }
-    ensures { slice_get (sources_of listed.entry) i ≡ Some (entry_seen result) }
+    ensures { slice_get (sources_of listed.entry) i ≡ Some (entry_of_view result) }
 {
     let map = listed.map;
     let number = if listed.names.is_some() {

@@ -2,9 +2,9 @@
 ghost use Rattle.std.specs.Prelude.{◌≡◌, ◌≤◌, ◌+◌, ◌*◌, length, IfOk, OnOk};
 ghost use Rattle.smap_mappings.specs.Text.{line_count};
 ghost use Rattle.smap_record.specs.Record.{record_of};
-ghost use Rattle.smap_record.specs.Listed.{IsListing};
-ghost use Rattle.smap_canon.specs.Layout.{absolute, form_asked, relative_form, spelling_in, layout, layout_text};
-ghost use Rattle.smap_canon.specs.Layout.{flat_text, ReadsBack};
+ghost use Rattle.smap_record.specs.Listings.{IsListing};
+ghost use Rattle.smap_canon.specs.Layout.{absolute, form_asked, relative_form, spelling_in};
+ghost use Rattle.smap_canon.specs.Layout.{layout, layout_text, flat_text, ReadsBack};
 ghost use Rattle.smap_canon.specs.Canonical.{canonical_map, canonical_text, canonical_text_in};
 ghost use Rattle.smap_canon.specs.Canonical.{canonical_mappings_text};
 ghost use Rattle.smap_canon.specs.Laws.{IsReadAgain, IsReadAgainFrom, IsReadAgainIn, IsFlatReadAgain};
@@ -13,24 +13,28 @@ ghost use Rattle.smap_canon.specs.Spelling.{spelling_of};
 ghost use Rattle.smap_canon.specs.Writing.{map_of};
 
 use crate::layout::FlatMap;
-use crate::listed::Listed;
+use crate::listing_to_write::ListingToWrite;
 use crate::numbering::{UsedNames, numbered_length, numbered_mappings, used_names};
 use crate::spelling::Spelling;
 use smap_mappings::Memory;
 use smap_record::{Base, SourceMap};
 use std::alloc::Global;
 
-/// The text of what is listed, its URLs so spelled.
+/// The bytes of what is listed, with its URLs in this form.
 ///
-/// The writer fails only without memory: no key but a text is written, nothing is flattened, and there is no
-/// float. A member that finds no memory while it is made fails as a value of its own.
-fn written(alloc: Global, listed: Listed<'_>, spelling: Spelling<'_>) -> Result<Vec<u8>, Memory>
+/// Every error of `serde_json` means that memory ran out, in its writer or while a member was made: all keys
+/// are strings, nothing is flattened, and there are no floats.
+fn written(
+    alloc: Global,
+    listed: ListingToWrite<'_>,
+    spelling: Spelling<'_>,
+) -> Result<Vec<u8>, Memory>
     ensures text { IfOk result (λ bytes. bytes.items
         ≡ layout_text (spelling_of spelling.entry) (map_of listed.entry)) }
     ensures back { OnOk result (ReadsBack (layout (spelling_of spelling.entry) (map_of listed.entry))) }
     ensures listing { IsListing listed.entry.map.now.listing }
 {
-    // Its contract says what every listing keeps to.
+    // Called for its contract, which promises what holds for every listing.
     let _ = listed.map.token_count();
     let flat = FlatMap {
         alloc,
@@ -43,7 +47,7 @@ fn written(alloc: Global, listed: Listed<'_>, spelling: Spelling<'_>) -> Result<
     }
 }
 
-/// The canonical bytes of the map's record by the names that its mappings use, its URLs so spelled.
+/// The canonical bytes of the map's record, given the names that its mappings use, with URLs in this form.
 fn canonical_by(
     alloc: Global,
     map: &SourceMap,
@@ -57,14 +61,14 @@ fn canonical_by(
         (layout (spelling_of spelling.entry) (canonical_map (record_of map.now)))) }
     ensures listing { IsListing map.now.listing }
 {
-    let listed = Listed {
+    let listed = ListingToWrite {
         map,
         names: Some(names),
     };
     written(alloc, listed, spelling)
 }
 
-/// The canonical bytes of the map's record, its URLs so spelled.
+/// The canonical bytes of the map's record, with URLs in this form.
 fn canonical_spelled(
     alloc: Global,
     map: &SourceMap,
@@ -89,7 +93,7 @@ fn canonical_spelled(
 /// `Memory`.
 pub fn canonical_mappings(alloc: Global, map: &SourceMap) -> Result<Vec<u8>, Memory>
     ensures text { IfOk result (λ text. text.items ≡ canonical_mappings_text (record_of map.now)) }
-    // At most 36 bytes for each mapping, and one for each line up to the last with a mapping.
+    // At most 36 bytes for each mapping, and one for each line up to the last one with a mapping.
     ensures short { IfOk result (λ text. length text.items
         ≤ 36 * length map.now.listing.tokens + line_count map.now.listing.tokens) }
 {
@@ -128,9 +132,9 @@ pub fn canonical_mappings_len(alloc: Global, map: &SourceMap) -> Result<u128, Me
 /// ```
 pub fn canonical(alloc: Global, map: &SourceMap) -> Result<Vec<u8>, Memory>
     ensures text { IfOk result (λ bytes. bytes.items ≡ canonical_text (record_of map.now)) }
-    // As JSON they say the canonical tree.
+    // Parsed as JSON, the bytes are the canonical tree.
     ensures back { OnOk result (ReadsBack (layout absolute (canonical_map (record_of map.now)))) }
-    // As a map text they have no fault and the same record.
+    // Read as a map, they have no fault, and the same record.
     ensures read_again { OnOk result (IsReadAgain (record_of map.now)) }
 {
     let bytes = canonical_spelled(alloc, map, Spelling::Absolute)?;
@@ -156,10 +160,10 @@ pub fn canonical(alloc: Global, map: &SourceMap) -> Result<Vec<u8>, Memory>
 pub fn canonical_relative(alloc: Global, map: &SourceMap, base: &Base) -> Result<Vec<u8>, Memory>
     ensures text { IfOk result (λ bytes. bytes.items
         ≡ canonical_text_in relative_form base.now (record_of map.now)) }
-    // As JSON they say the canonical tree, its URLs so spelled.
+    // Parsed as JSON, the bytes are the canonical tree with relative URLs.
     ensures back { OnOk result (ReadsBack
         (layout (spelling_in relative_form base.now) (canonical_map (record_of map.now)))) }
-    // As a map text against this base they have no fault and the same record.
+    // Read as a map with this base, they have no fault, and the same record.
     ensures read_again { OnOk result (IsReadAgainFrom base.now (record_of map.now)) }
 {
     let bytes = canonical_spelled(alloc, map, Spelling::Relative(base))?;
@@ -196,12 +200,12 @@ pub fn canonical_in(
 /// `Memory`.
 pub fn flatten(alloc: Global, map: &SourceMap) -> Result<Vec<u8>, Memory>
     ensures text { IfOk result (λ bytes. bytes.items ≡ flat_text map.now) }
-    // As JSON they say the layout of the listing.
+    // Parsed as JSON, the bytes are the layout of the listing.
     ensures back { OnOk result (ReadsBack (layout absolute map.now)) }
-    // As a map text, under a base and limits that the listing fits, they have no fault and say the same map.
+    // Read as a map with a base and limits that the listing fits, they have no fault, and are the same map.
     ensures read_again { OnOk result (IsFlatReadAgain map.now) }
 {
-    let listed = Listed { map, names: None };
+    let listed = ListingToWrite { map, names: None };
     let bytes = written(alloc, listed, Spelling::Absolute)?;
     Ok(bytes)
 }

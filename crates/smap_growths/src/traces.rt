@@ -32,7 +32,7 @@ fn map(alloc: Global, text: &[u8]) -> Result<Option<SourceMap>, Memory> {
     }
 }
 
-/// Behind bytes that have to stay where memory runs out.
+/// After bytes that have to stay where memory runs out.
 pub(crate) fn line(alloc: Global, text: &[u8]) -> Answer {
     let Some(map) = map(alloc, text)? else {
         return said(alloc, b"refused");

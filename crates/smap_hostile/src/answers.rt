@@ -1,4 +1,4 @@
-//! What a run answers for an input in memory, and inputs that are made of repeated pieces.
+//! The result of a run for an input in memory, and inputs that are made of repeated pieces.
 use smap_io::Device;
 use smap_tool::{Outcome, RunFault, run_check, run_respell, run_tidy};
 use std::alloc::{AllocError, Global};
@@ -52,7 +52,7 @@ pub(crate) fn assert_respelled(rt: &(impl Abort + AllocGlobal), input: &[u8], ou
     assert_answer(rt, answer, Outcome::Done, output);
 }
 
-/// Asserts that a mappings string is refused with this line.
+/// Asserts that a mappings string is rejected with this line.
 pub(crate) fn assert_no_mappings(rt: &(impl Abort + AllocGlobal), input: &[u8], line: &str) {
     let answer = respelled(rt.alloc(), input);
     assert_answer(rt, answer, Outcome::Refused, line.as_bytes());
@@ -64,7 +64,7 @@ pub(crate) fn assert_tidied(rt: &(impl Abort + AllocGlobal), input: &[u8], outpu
     assert_answer(rt, answer, Outcome::Done, output);
 }
 
-/// Asserts that a map is refused with this line, by each run that reads a map.
+/// Asserts that a map is rejected with this line, by each run that reads a map.
 pub(crate) fn assert_refused(rt: &(impl Abort + AllocGlobal), input: &[u8], line: &str) {
     let answer = checked(rt.alloc(), input);
     assert_answer(rt, answer, Outcome::Refused, line.as_bytes());

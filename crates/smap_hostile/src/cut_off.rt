@@ -19,7 +19,7 @@ const MAPS: [&str; 9] = [
     r#"{"version":3,"file":"x\/y\u0009\u000b","mappings":""}"#,
 ];
 
-/// A map that is refused even if it is whole.
+/// A map that is rejected even if it is complete.
 const REFUSED: &str = r#"{"version":3,"sources":["a.js","b.js"],"ignoreList":[2],"mappings":""}"#;
 
 /// Asserts that a map isn't JSON if it is cut off anywhere.

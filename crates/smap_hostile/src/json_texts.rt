@@ -21,7 +21,7 @@ fn lists_nest_127_deep(rt: HostRuntime) -> Result<(), Fail> {
 
 #[test]
 fn members_nest_127_deep_with_the_map_around_them(rt: HostRuntime) -> Result<(), Fail> {
-    // What stands in front, the opening and the closing of one level, and the answer at 126 levels.
+    // What comes first, the opening and the closing of one level, and the result at 126 levels.
     let rows = [
         (
             r#"{"version":3,"sections":"#,
@@ -70,7 +70,7 @@ fn an_ignored_member_may_nest_as_deep(rt: HostRuntime) -> Result<(), Fail> {
 #[test]
 fn bytes_that_are_no_text_are_not_json(rt: HostRuntime) {
     let rows = [
-        // A byte order mark, half of a surrogate pair, and bytes that are no UTF-8.
+        // A byte order mark, half a surrogate pair, and bytes that aren't UTF-8.
         b"\xef\xbb\xbf{\"version\":3,\"mappings\":\"\"}".as_slice(),
         b"{\"version\":3,\"file\":\"\\ud800\",\"mappings\":\"\"}".as_slice(),
         b"{\"version\":3,\"file\":\"\\udc00\\ud800\",\"mappings\":\"\"}".as_slice(),
@@ -79,7 +79,7 @@ fn bytes_that_are_no_text_are_not_json(rt: HostRuntime) {
         b"{\"version\":3,\"file\":\"\xed\xa0\x80\",\"mappings\":\"\"}".as_slice(),
         b"{\"version\":3,\"file\":\"\xf4\x90\x80\x80\",\"mappings\":\"\"}".as_slice(),
         b"{\"version\":3,\"file\":\"\xe2\x82\",\"mappings\":\"\"}".as_slice(),
-        // A control byte in a text, and two values.
+        // A control character in a string, and two values.
         b"{\"version\":3,\"file\":\"\x00\",\"mappings\":\"\"}".as_slice(),
         b"{\"version\":3,\"mappings\":\"\"}{}".as_slice(),
         b"{\"version\":3,\"mappings\":\"\"}\x00".as_slice(),
@@ -135,7 +135,7 @@ fn the_version_is_the_whole_number_3(rt: HostRuntime) -> Result<(), Fail> {
 
 #[test]
 fn a_json_number_may_have_a_million_digits(rt: HostRuntime) -> Result<(), Fail> {
-    // A fraction is a number, however long; a number of 10^308 and more is none that JSON's reader has.
+    // A fraction may have any length; a number that overflows a double isn't read by `serde_json`.
     let front = r#"{"version":3,"mappings":"","x":0."#;
     let fraction = around(rt.alloc(), front, "5", 1_000_000, "}")?;
     assert_tidied(&rt, fraction.as_slice(), EMPTY_TIDY.as_bytes());

@@ -110,7 +110,7 @@ fn one_name_of_a_million_bytes_may_be_used_often(rt: HostRuntime) -> Result<(), 
 
 #[test]
 fn a_hundred_thousand_names_may_be_one_text(rt: HostRuntime) -> Result<(), Fail> {
-    // Each mapping uses the next of the listed names, all of which are one.
+    // Each mapping uses the next of the listed names, all of which are equal.
     let front = r#"{"version":3,"sources":[null],"names":["n""#;
     let mut text = around(
         rt.alloc(),
@@ -129,7 +129,7 @@ fn a_hundred_thousand_names_may_be_one_text(rt: HostRuntime) -> Result<(), Fail>
 
 #[test]
 fn a_source_may_have_a_million_bytes(rt: HostRuntime) -> Result<(), Fail> {
-    // Pieces of a source, and what each is in its URL.
+    // Pieces of a source, and what each becomes in its URL.
     let rows = [
         ("a", "http://h/m/", "a"),
         ("a/", "http://h/m/", "a/"),
@@ -196,7 +196,7 @@ fn every_source_may_be_ignored(rt: HostRuntime) -> Result<(), Fail> {
     push_times(&mut text, r#"],"ignoreList":[0"#, 1)?;
     let mut tidy = around(rt.alloc(), r#"{"ignoreList":[0"#, "", 0, "")?;
     for i in 1..100_000 {
-        // The list falls, and the canonical one rises.
+        // The listed indices fall, and the canonical ones rise.
         text.push(b',')?;
         push_number(rt.alloc(), &mut text, 100_000 - i)?;
         tidy.push(b',')?;

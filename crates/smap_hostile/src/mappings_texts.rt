@@ -58,9 +58,9 @@ fn the_last_line_has_the_number_16777215(rt: HostRuntime) -> Result<(), Fail> {
     let last = around(rt.alloc(), "", ";", 16_777_215, "A")?;
     let written = around(rt.alloc(), "", ";", 16_777_215, "A\n")?;
     assert_respelled(&rt, last.as_slice(), written.as_slice());
-    let behind = around(rt.alloc(), "", ";", 16_777_216, "A")?;
+    let after = around(rt.alloc(), "", ";", 16_777_216, "A")?;
     let line = "refused: line 16777216 segment 0: generated line\n";
-    assert_no_mappings(&rt, behind.as_slice(), line);
+    assert_no_mappings(&rt, after.as_slice(), line);
     Ok(())
 }
 

@@ -8,14 +8,14 @@ use std::test::Fail;
 
 const MAP: &str = r#"{"version":3,"sources":["a.js"],"names":["x","y"],"mappings":"AAAAC,CAACD"}"#;
 
-/// What stands as itself in a JSON text: ASCII but the controls, `"` and `\`.
+/// Bytes that a JSON string may hold unescaped: ASCII except control characters, `"` and `\`.
 const TEXT: &str =
     " !#$%&'()*+,-./0123456789:;<=>?@ABCDEFGHIJKLMNOPQRSTUVWXYZ[]^_`abcdefghijklmnopqrstuvwxyz{|}~\x7f";
-/// What is written by `%` and two hexadecimal digits in a path.
+/// Bytes that are percent-encoded in a path.
 const ESCAPED: &str = " <>^`{}\x7f";
 /// Neither digits of numbers nor separators.
 const NO_DIGIT: &str = " !#$%&'()*-.:<=>?@[]^_`{|}~\x7f";
-/// The digits behind which a number ends, and those behind which it goes on.
+/// The digits that end a number, and those that continue it.
 const ENDS: &str = "ABCDEFGHIJKLMNOPQRSTUVWXYZabcdef";
 
 const GOES_ON: &str = "ghijklmnopqrstuvwxyz0123456789+/";
@@ -128,7 +128,7 @@ const TABLE: &str = r#"2 | 8 | TEXT | refused: version
 72 | 72 | ; | AAAAA,CAAC "y" http://h/m/a.js
 72 | 72 | A | AAAAA,CAACA "y" http://h/m/a.js"#;
 
-/// Whether a byte is among those that a row means.
+/// Whether a byte is among those of a row.
 fn is_meant(bytes: &str, byte: u8) -> bool {
     match bytes {
         "TEXT" => TEXT.as_bytes().contains(&byte),
@@ -201,7 +201,7 @@ fn canonical(alloc: Global, record: &[u8], byte: u8) -> Result<Vec<u8>, AllocErr
     Ok(text)
 }
 
-/// What `tidy` comes to for the map with a byte at a place, and what it writes.
+/// The outcome of `tidy` for the map with this byte at this place, and what it writes.
 fn expected(alloc: Global, place: usize, byte: u8) -> Result<(Outcome, Vec<u8>), AllocError> {
     let answer = if MAP.as_bytes().get(place) == Some(&byte) {
         b"AAAAA,CAACC \"y\",\"x\" http://h/m/a.js".as_slice()

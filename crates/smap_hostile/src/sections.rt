@@ -154,8 +154,8 @@ fn the_last_of_ten_thousand_sections_may_be_at_fault(rt: HostRuntime) -> Result<
 }
 
 #[test]
-fn a_mapping_of_the_first_section_may_lie_behind_the_last(rt: HostRuntime) -> Result<(), Fail> {
-    // The first section's mapping is at column 10,000, and the last of the others stands at 9,999.
+fn a_mapping_of_the_first_section_may_lie_after_the_last(rt: HostRuntime) -> Result<(), Fail> {
+    // The first section's mapping is at column 10,000, and the last of the others is at 9,999.
     let mut text = around(rt.alloc(), r#"{"version":3,"sections":["#, "", 0, "")?;
     push_section(rt.alloc(), &mut text, 0, 0, "gxT")?;
     push_times(&mut text, ",", 1)?;

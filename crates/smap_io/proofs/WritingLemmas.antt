@@ -6,25 +6,25 @@ use Rattle.std.specs.Io.KnownBytes.{Keeps}
 use Rattle.std.proofs.KnownBytes.{Appends-kept, Appends-nil, Appends-trans}
 use Rattle.smap_io.specs.declared.device.Device.{Device}
 use Rattle.smap_io.specs.declared.device.Failed.{Failed}
-use Rattle.smap_io.specs.Writing.{Took, TookFront, WritesText}
+use Rattle.smap_io.specs.Writing.{Took, TookPrefix, WritesText}
 
 pub Took-none : {W : Type 0} (contents : W → Option (List ℕ)) (a : Device W) → Took contents a a []
 Took-none contents a = Appends-nil (contents a.inner)
 
-pub TookFront-none : {W : Type 0} (contents : W → Option (List ℕ)) (a : Device W) (text : List ℕ)
-    → TookFront contents a a text
-TookFront-none contents a text = (0, Took-none contents a)
+pub TookPrefix-none : {W : Type 0} (contents : W → Option (List ℕ)) (a : Device W) (text : List ℕ)
+    → TookPrefix contents a a text
+TookPrefix-none contents a text = (0, Took-none contents a)
 
 pub Took-then : {W : Type 0} (contents : W → Option (List ℕ)) (a b c : Device W) (xs ys : List ℕ)
     → Took contents a b xs → Took contents b c ys → Took contents a c (xs ++ ys)
 Took-then contents a b c xs ys p q = Appends-trans (contents a.inner) (contents b.inner) (contents c.inner)
     xs ys p q
 
--- A front was written, and then n bytes of what is left behind it.
-pub Took-behind : {W : Type 0} (contents : W → Option (List ℕ)) (a b c : Device W) (text : List ℕ) (at n : ℕ)
+-- A front was written, and then n bytes of what is left after it.
+pub Took-after : {W : Type 0} (contents : W → Option (List ℕ)) (a b c : Device W) (text : List ℕ) (at n : ℕ)
     → Took contents a b (take at text) → Took contents b c (take n (take (length text - at) (drop at text)))
     → Took contents a c (take (at + n) text)
-Took-behind contents a b c text at n front more =
+Took-after contents a b c text at n front more =
     let whole : take (length text - at) (drop at text) ≡ drop at text = rw (← length-drop at text)
     (take-length (drop at text)) in
     rw (take-add at n text) (rw whole at (Took-then contents a b c _ _ front more))

@@ -25,7 +25,8 @@ pub record ReadsUpTo {R : Type 0} (remaining : R → Option (List ℕ)) (old new
   pub full : length bytes ≡ most → has_ended new ≡ has_ended old
   pub short : length bytes < most → IsAtItsEnd remaining new
 
--- At least one call was made, if any bytes were wanted; and unless the end was seen, at most one for each byte.
+-- At least one call was made, if any bytes were wanted; and unless the end was seen, at most one for each
+-- byte.
 pub record TakesCalls {R : Type 0} (new : Device R) (most calls_old calls_new : ℕ) (bytes : List ℕ)
     : Type 0 where
   pub some : 0 < most → calls_new < calls_old

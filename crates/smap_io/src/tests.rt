@@ -167,6 +167,6 @@ fn a_text_is_flushed_once_where_it_was_written(rt: HostRuntime) {
             text.as_bytes().starts_with(writer.bytes.as_slice()),
             "{text:?}, {fails_at}"
         );
-        assert!(rt; !writer.written_behind_flush, "{text:?}, {fails_at}");
+        assert!(rt; !writer.written_after_flush, "{text:?}, {fails_at}");
     }
 }

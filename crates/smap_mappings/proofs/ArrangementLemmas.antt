@@ -1,5 +1,6 @@
 -- A sorted list in which ties keep their order is the arrangement.
-use Rattle.std.proofs.Common.{◌≡◌, ℕ, suc, ◌<◌, ◌≤◌, Bool, true, false, cond, List, [], ◌∷◌, length, get_or, map, filter, refl, sym, ap, ◌∙◌, arith, None}
+use Rattle.std.proofs.Common.{◌≡◌, ℕ, suc, ◌<◌, ◌≤◌, Bool, true, false, cond, List, [], ◌∷◌, length, get_or}
+use Rattle.std.proofs.Common.{map, filter, refl, sym, ap, ◌∙◌, arith, None}
 use Rattle.std.specs.Cmp.{IsStrictWeakOrder}
 use Rattle.std.specs.List.{AllByRecursion}
 use Rattle.std.specs.List.Sorted.{IsSortedBy, IsStableBy, ties}
@@ -35,13 +36,14 @@ module _ {X : Type 0} (lt : X → X → Bool) (o : IsStrictWeakOrder lt) where
   no_tie : (x y : X) → lt x y ≡ true → ties lt x y ≡ false
   no_tie x y p = rw p refl
 
-  no_tie_behind : (x y : X) → lt y x ≡ true → ties lt x y ≡ false
-  no_tie_behind x y p = rw (o.one_way y x p, p) refl
+  no_tie_after : (x y : X) → lt y x ≡ true → ties lt x y ≡ false
+  no_tie_after x y p = rw (o.one_way y x p, p) refl
 
   -- what stands after y, where nothing of the list stands before z, and y before z
   none_ties : (y z : X) (zs : List X) → lt y z ≡ true → NoneBefore z zs → filter (ties lt y) zs ≡ []
   none_ties y z [] before none = refl
-  none_ties y z (w ∷ ws) before none = rw (no_tie y w (far y z w before none.0)) (none_ties y z ws before none.1)
+  none_ties y z (w ∷ ws) before none =
+      rw (no_tie y w (far y z w before none.0)) (none_ties y z ws before none.1)
     where
       far : (y z w : X) → lt y z ≡ true → lt w z ≡ false → lt y w ≡ true
       far y z w before none = by_test (lt y w) refl
@@ -50,15 +52,19 @@ module _ {X : Type 0} (lt : X → X → Bool) (o : IsStrictWeakOrder lt) where
           by_test true e = e
           by_test false e = absurd (let k = sym before ∙ o.chain y w z e none in cc)
 
-  drop_first : (x y z : X) (ys zs : List X) → y ≡ z → filter (ties lt x) (y ∷ ys) ≡ filter (ties lt x) (z ∷ zs) → filter (ties lt x) ys ≡ filter (ties lt x) zs
+  drop_first : (x y z : X) (ys zs : List X) → y ≡ z → filter (ties lt x) (y ∷ ys)
+      ≡ filter (ties lt x) (z ∷ zs) → filter (ties lt x) ys ≡ filter (ties lt x) zs
   drop_first x y z ys zs e h = by_test (ties lt x y) refl
     where
       tail_is : (us vs : List X) (u v : X) → u ∷ us ≡ v ∷ vs → us ≡ vs
       tail_is us vs u v e = cc
 
       by_test : (t : Bool) → ties lt x y ≡ t → filter (ties lt x) ys ≡ filter (ties lt x) zs
-      by_test true t = tail_is (filter (ties lt x) ys) (filter (ties lt x) zs) y z (let l : filter (ties lt x) (y ∷ ys) ≡ y ∷ filter (ties lt x) ys = rw t refl in let r : filter (ties lt x) (z ∷ zs) ≡ z ∷ filter (ties lt x) zs = rw (← e, t) refl in sym l ∙ h ∙ r)
-      by_test false t = let l : filter (ties lt x) (y ∷ ys) ≡ filter (ties lt x) ys = rw t refl in let r : filter (ties lt x) (z ∷ zs) ≡ filter (ties lt x) zs = rw (← e, t) refl in sym l ∙ h ∙ r
+      by_test true t = tail_is (filter (ties lt x) ys) (filter (ties lt x) zs) y z
+          (let l : filter (ties lt x) (y ∷ ys) ≡ y ∷ filter (ties lt x) ys = rw t refl in
+          let r : filter (ties lt x) (z ∷ zs) ≡ z ∷ filter (ties lt x) zs = rw (← e, t) refl in sym l ∙ h ∙ r)
+      by_test false t = let l : filter (ties lt x) (y ∷ ys) ≡ filter (ties lt x) ys = rw t refl in
+          let r : filter (ties lt x) (z ∷ zs) ≡ filter (ties lt x) zs = rw (← e, t) refl in sym l ∙ h ∙ r
 
   abbrev pub SameTies : List X → List X → Type 0
   SameTies ys zs = (x : X) → filter (ties lt x) ys ≡ filter (ties lt x) zs
@@ -66,7 +72,8 @@ module _ {X : Type 0} (lt : X → X → Bool) (o : IsStrictWeakOrder lt) where
   first_ties : (y : X) (ys : List X) → filter (ties lt y) (y ∷ ys) ≡ y ∷ filter (ties lt y) ys
   first_ties y ys = rw (ties_itself y) refl
 
-  not_first : (y z : X) (ys zs : List X) → NoneBefore z zs → filter (ties lt y) (y ∷ ys) ≡ filter (ties lt y) (z ∷ zs) → lt y z ≡ false
+  not_first : (y z : X) (ys zs : List X) → NoneBefore z zs
+      → filter (ties lt y) (y ∷ ys) ≡ filter (ties lt y) (z ∷ zs) → lt y z ≡ false
   not_first y z ys zs none h = by_test (lt y z) refl
     where
       by_test : (t : Bool) → lt y z ≡ t → lt y z ≡ false
@@ -76,7 +83,8 @@ module _ {X : Type 0} (lt : X → X → Bool) (o : IsStrictWeakOrder lt) where
           absurd (let k = sym l ∙ h ∙ r in cc)
       by_test false e = e
 
-  same_first : (y z : X) (ys zs : List X) → lt y z ≡ false → lt z y ≡ false → filter (ties lt y) (y ∷ ys) ≡ filter (ties lt y) (z ∷ zs) → y ≡ z
+  same_first : (y z : X) (ys zs : List X) → lt y z ≡ false → lt z y ≡ false
+      → filter (ties lt y) (y ∷ ys) ≡ filter (ties lt y) (z ∷ zs) → y ≡ z
   same_first y z ys zs p q h =
       let l = first_ties y ys in
       let r : filter (ties lt y) (z ∷ zs) ≡ z ∷ filter (ties lt y) zs = rw (ties_are y z p q) refl in
@@ -97,11 +105,16 @@ module _ {X : Type 0} (lt : X → X → Bool) (o : IsStrictWeakOrder lt) where
       ap (λ (u : X). u ∷ ys) e ∙ ap (λ (us : List X). z ∷ us) rest
 
   -- a list in order, index by index
-  rises_from : (xs : List X) → ((i j : ℕ) (d : X) → i ≤ j → j < length xs → lt (get_or xs j d) (get_or xs i d) ≡ false) → Rises xs
+  rises_from : (xs : List X)
+      → ((i j : ℕ) (d : X) → i ≤ j → j < length xs → lt (get_or xs j d) (get_or xs i d) ≡ false) → Rises xs
   rises_from [] h = tt
-  rises_from (x ∷ xs) h = (none_from x xs (λ j d lt. h 0 (suc j) d (omega arith) (omega arith)), rises_from xs (λ i j d le lt. h (suc i) (suc j) d (omega arith) (omega arith)))
+  rises_from (x ∷ xs) h = (
+    none_from x xs (λ j d lt. h 0 (suc j) d (omega arith) (omega arith)),
+    rises_from xs (λ i j d le lt. h (suc i) (suc j) d (omega arith) (omega arith)),
+  )
     where
-      none_from : (x : X) (xs : List X) → ((j : ℕ) (d : X) → j < length xs → lt (get_or xs j d) x ≡ false) → NoneBefore x xs
+      none_from : (x : X) (xs : List X) → ((j : ℕ) (d : X) → j < length xs → lt (get_or xs j d) x ≡ false)
+          → NoneBefore x xs
       none_from x [] h = tt
       none_from x (y ∷ ys) h = (h 0 y (omega arith), none_from x ys (λ j d lt. h (suc j) d (omega arith)))
 
@@ -125,43 +138,55 @@ before_order = record {
     chain : (x y z : Token) → before x y ≡ false → before y z ≡ false → before x z ≡ false
     chain x y z p q = grind (arith, nat_tests)
 
-none_before_inserted : (x t : Token) (us : List Token) → before t x ≡ false → AllByRecursion (λ u. before u x ≡ false) us → AllByRecursion (λ u. before u x ≡ false) (insert_token t us)
+none_before_inserted : (x t : Token) (us : List Token)
+    → before t x ≡ false → AllByRecursion (λ u. before u x ≡ false) us
+    → AllByRecursion (λ u. before u x ≡ false) (insert_token t us)
 none_before_inserted x t [] e all = (e, tt)
 none_before_inserted x t (u ∷ us) e all = by_test (none_before_inserted x t us e all.1) (before u t) refl
   where
-    by_test : AllByRecursion (λ w. before w x ≡ false) (insert_token t us) → (b : Bool) → before u t ≡ b → AllByRecursion (λ w. before w x ≡ false) (insert_token t (u ∷ us))
+    by_test : AllByRecursion (λ w. before w x ≡ false) (insert_token t us)
+        → (b : Bool) → before u t ≡ b → AllByRecursion (λ w. before w x ≡ false) (insert_token t (u ∷ us))
     by_test rest true q = rw q (all.0, rest)
     by_test rest false q = rw q (e, all)
 
-none_before_behind : (t u : Token) (us : List Token) → before u t ≡ false → AllByRecursion (λ w. before w u ≡ false) us → AllByRecursion (λ w. before w t ≡ false) us
-none_before_behind t u [] e all = tt
-none_before_behind t u (w ∷ ws) e all = (before_order.chain w u t all.0 e, none_before_behind t u ws e all.1)
+none_before_after : (t u : Token) (us : List Token) → before u t ≡ false
+    → AllByRecursion (λ w. before w u ≡ false) us → AllByRecursion (λ w. before w t ≡ false) us
+none_before_after t u [] e all = tt
+none_before_after t u (w ∷ ws) e all = (before_order.chain w u t all.0 e, none_before_after t u ws e all.1)
 
-rises_inserted : (t : Token) (us : List Token) → Rises before before_order us → Rises before before_order (insert_token t us)
+rises_inserted : (t : Token) (us : List Token) → Rises before before_order us
+    → Rises before before_order (insert_token t us)
 rises_inserted t [] r = (tt, tt)
 rises_inserted t (u ∷ us) r = by_test (rises_inserted t us r.1) (before u t) refl
   where
-    by_test : Rises before before_order (insert_token t us) → (b : Bool) → before u t ≡ b → Rises before before_order (insert_token t (u ∷ us))
+    by_test : Rises before before_order (insert_token t us) → (b : Bool) → before u t ≡ b
+        → Rises before before_order (insert_token t (u ∷ us))
     by_test rest true q = rw q (none_before_inserted u t us (before_order.one_way u t q) r.0, rest)
-    by_test rest false q = rw q ((q, none_before_behind t u us q r.0), r)
+    by_test rest false q = rw q ((q, none_before_after t u us q r.0), r)
 
 not_both : (x u t : Token) → before u t ≡ true → ties before x u ≡ true → ties before x t ≡ true → ⊥
 not_both x u t q a b = grind (arith, nat_tests)
 
-swapped : (x u t : Token) (ws : List Token) → before u t ≡ true → filter (ties before x) (u ∷ t ∷ ws) ≡ filter (ties before x) (t ∷ u ∷ ws)
+swapped : (x u t : Token) (ws : List Token) → before u t ≡ true
+    → filter (ties before x) (u ∷ t ∷ ws) ≡ filter (ties before x) (t ∷ u ∷ ws)
 swapped x u t ws q = by_tests (ties before x u) refl (ties before x t) refl
   where
-    by_tests : (a : Bool) → ties before x u ≡ a → (b : Bool) → ties before x t ≡ b → filter (ties before x) (u ∷ t ∷ ws) ≡ filter (ties before x) (t ∷ u ∷ ws)
+    by_tests : (a : Bool) → ties before x u ≡ a → (b : Bool) → ties before x t ≡ b
+        → filter (ties before x) (u ∷ t ∷ ws) ≡ filter (ties before x) (t ∷ u ∷ ws)
     by_tests true e true f = absurd (not_both x u t q e f)
     by_tests true e false f = rw (e, f) refl
     by_tests false e b f = rw (e) refl
 
-ties_inserted : (x t : Token) (us : List Token) → filter (ties before x) (insert_token t us) ≡ filter (ties before x) (t ∷ us)
+ties_inserted : (x t : Token) (us : List Token)
+    → filter (ties before x) (insert_token t us) ≡ filter (ties before x) (t ∷ us)
 ties_inserted x t [] = refl
 ties_inserted x t (u ∷ us) = by_test (ties_inserted x t us) (before u t) refl
   where
-    by_test : filter (ties before x) (insert_token t us) ≡ filter (ties before x) (t ∷ us) → (b : Bool) → before u t ≡ b → filter (ties before x) (insert_token t (u ∷ us)) ≡ filter (ties before x) (t ∷ u ∷ us)
-    by_test rest true q = rw q (ap (λ (ws : List Token). cond (ties before x u) (u ∷ ws) ws) rest ∙ swapped x u t us q)
+    by_test : filter (ties before x) (insert_token t us) ≡ filter (ties before x) (t ∷ us)
+        → (b : Bool) → before u t ≡ b
+        → filter (ties before x) (insert_token t (u ∷ us)) ≡ filter (ties before x) (t ∷ u ∷ us)
+    by_test rest true q =
+        rw q (ap (λ (ws : List Token). cond (ties before x u) (u ∷ ws) ws) rest ∙ swapped x u t us q)
     by_test rest false q = rw q refl
 
 pub rises_arranged : (ts : List Token) → Rises before before_order (arranged ts)
@@ -170,12 +195,15 @@ rises_arranged (t ∷ ts) = rises_inserted t (arranged ts) (rises_arranged ts)
 
 pub ties_arranged : (ts : List Token) → SameTies before before_order (arranged ts) ts
 ties_arranged [] x = refl
-ties_arranged (t ∷ ts) x = ties_inserted x t (arranged ts) ∙ ap (λ (ws : List Token). cond (ties before x t) (t ∷ ws) ws) (ties_arranged ts x)
+ties_arranged (t ∷ ts) x = ties_inserted x t (arranged ts)
+    ∙ ap (λ (ws : List Token). cond (ties before x t) (t ∷ ws) ws) (ties_arranged ts x)
 
 -- What a stable sort makes is the arrangement.
-pub arranged_is : (ts sorted : List Token) → IsSortedBy before sorted → IsStableBy before ts sorted → sorted ≡ arranged ts
+pub arranged_is : (ts sorted : List Token) → IsSortedBy before sorted → IsStableBy before ts sorted
+    → sorted ≡ arranged ts
 arranged_is ts sorted up stable =
-    same_list before before_order sorted (arranged ts) (rises-from_sorted before before_order sorted up) (rises_arranged ts) (λ x. stable x ∙ sym (ties_arranged ts x))
+    same_list before before_order sorted (arranged ts) (rises-from_sorted before before_order sorted up)
+    (rises_arranged ts) (λ x. stable x ∙ sym (ties_arranged ts x))
 
 -- ---- the arrangement by its property
 
@@ -187,7 +215,7 @@ never_falls (t ∷ u ∷ us) r = (r.0.0, never_falls (u ∷ us) r.1)
 pub rises : (ts : List Token) → NeverFalls (map position_of ts) → Rises before before_order ts
 rises [] h = tt
 rises (t ∷ []) h = (tt, tt)
-rises (t ∷ u ∷ us) h = let r = rises (u ∷ us) h.1 in ((h.0, none_before_behind t u us h.0 r.0), r)
+rises (t ∷ u ∷ us) h = let r = rises (u ∷ us) h.1 in ((h.0, none_before_after t u us h.0 r.0), r)
 
 -- tokens that tie stand at one position
 ties_at : (x t : Token) → ties before x t ≡ is_at x.line x.column t
@@ -195,20 +223,23 @@ ties_at x t = grind (arith, nat_tests)
 
 same_filter : (p q : Token → Bool) → ((t : Token) → p t ≡ q t) → (ts : List Token) → filter p ts ≡ filter q ts
 same_filter p q h [] = refl
-same_filter p q h (t ∷ ts) = rw (h t) (ap (λ (us : List Token). cond (q t) (t ∷ us) us) (same_filter p q h ts))
+same_filter p q h (t ∷ ts) =
+    rw (h t) (ap (λ (us : List Token). cond (q t) (t ∷ us) us) (same_filter p q h ts))
 
 pub is_arranged : (ts : List Token) → IsArranged ts (arranged ts)
 is_arranged ts = record {
   in_order = never_falls (arranged ts) (rises_arranged ts);
   same = λ line column.
       let x : Token = record { line = line; column = column; original = None } in
-      sym (same_filter (ties before x) (is_at line column) (ties_at x) (arranged ts)) ∙ ties_arranged ts x ∙ same_filter (ties before x) (is_at line column) (ties_at x) ts;
+      sym (same_filter (ties before x) (is_at line column) (ties_at x) (arranged ts)) ∙ ties_arranged ts x
+      ∙ same_filter (ties before x) (is_at line column) (ties_at x) ts;
 }
 
 pub one_arrangement : (old new : List Token) → IsArranged old new → new ≡ arranged old
 one_arrangement old new h =
     same_list before before_order new (arranged old) (rises new h.in_order) (rises_arranged old)
-    (λ x. same_filter (ties before x) (is_at x.line x.column) (ties_at x) new ∙ h.same x.line x.column ∙ sym (same_filter (ties before x) (is_at x.line x.column) (ties_at x) old) ∙ sym (ties_arranged old x))
+    (λ x. same_filter (ties before x) (is_at x.line x.column) (ties_at x) new ∙ h.same x.line x.column
+    ∙ sym (same_filter (ties before x) (is_at x.line x.column) (ties_at x) old) ∙ sym (ties_arranged old x))
 
 -- a list in order is left as it is
 pub arranged-in_order : (ts : List Token) → NeverFalls (map position_of ts) → arranged ts ≡ ts

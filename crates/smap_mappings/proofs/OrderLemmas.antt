@@ -1,5 +1,6 @@
 -- Tokens in order, index by index.
-use Rattle.std.proofs.Common.{◌≡◌, ℕ, zero, suc, ◌+◌, ◌<◌, ◌≤◌, Bool, true, false, not, ◌&&◌, refl, List, [], ◌∷◌, ◌++◌, length, map, get_or, sym, ◌∙◌, arith}
+use Rattle.std.proofs.Common.{◌≡◌, ℕ, zero, suc, ◌+◌, ◌<◌, ◌≤◌, Bool, true, false, not, ◌&&◌, refl, List, []}
+use Rattle.std.proofs.Common.{◌∷◌, ◌++◌, length, map, get_or, sym, ◌∙◌, arith}
 use Rattle.smap_mappings.specs.declared.token.Token.{Token}
 use Rattle.smap_mappings.specs.declared.position.Position.{Position}
 use Rattle.smap_mappings.specs.Position.{is_before, position_of, NeverFalls}
@@ -10,19 +11,25 @@ use Rattle.smap_mappings.proofs.ArrangementLemmas.{before}
 abbrev pub InOrderBelow : List Token → ℕ → Type 0
 InOrderBelow ts n = (j k : ℕ) (d : Token) → j ≡ k + 1 → j < n → before (get_or ts j d) (get_or ts k d) ≡ false
 
-pub never_falls_below : (ts : List Token) (n : ℕ) → length ts ≤ n → InOrderBelow ts n → NeverFalls (map position_of ts)
+pub never_falls_below : (ts : List Token) (n : ℕ) → length ts ≤ n → InOrderBelow ts n
+    → NeverFalls (map position_of ts)
 never_falls_below [] n le h = tt
 never_falls_below (t ∷ []) n le h = tt
 never_falls_below (t ∷ u ∷ us) zero le h = absurd (omega arith)
-never_falls_below (t ∷ u ∷ us) (suc n) le h = (h 1 0 t (omega arith) (omega arith), never_falls_below (u ∷ us) n (omega arith) (λ j k d e lt. h (suc j) (suc k) d (omega arith) (omega arith)))
+never_falls_below (t ∷ u ∷ us) (suc n) le h = (
+  h 1 0 t (omega arith) (omega arith),
+  never_falls_below (u ∷ us) n (omega arith) (λ j k d e lt. h (suc j) (suc k) d (omega arith) (omega arith)),
+)
 
-pub one_falls : (ts : List Token) (j k : ℕ) (d : Token) → j ≡ suc k → j < length ts → before (get_or ts j d) (get_or ts k d) ≡ true → NeverFalls (map position_of ts) → ⊥
+pub one_falls : (ts : List Token) (j k : ℕ) (d : Token) → j ≡ suc k → j < length ts
+    → before (get_or ts j d) (get_or ts k d) ≡ true → NeverFalls (map position_of ts) → ⊥
 one_falls [] j k d is lt e h = absurd (omega arith)
 one_falls (t ∷ us) zero k d is lt e h = absurd (omega arith)
 one_falls (t ∷ []) (suc j) k d is lt e h = absurd (omega arith)
 one_falls (t ∷ u ∷ us) (suc zero) zero d is lt e h = absurd (let x = sym e ∙ h.0 in cc)
 one_falls (t ∷ u ∷ us) (suc (suc j)) zero d is lt e h = absurd (omega arith)
-one_falls (t ∷ u ∷ us) (suc j) (suc k) d is lt e h = one_falls (u ∷ us) j k d (omega arith) (omega arith) e h.1
+one_falls (t ∷ u ∷ us) (suc j) (suc k) d is lt e h =
+    one_falls (u ∷ us) j k d (omega arith) (omega arith) e h.1
 
 -- ---- the test of order
 
@@ -33,10 +40,13 @@ both false b e = (refl, e)
 pub in_order-is : (ps : List Position) → in_order ps ≡ true → NeverFalls ps
 in_order-is [] e = tt
 in_order-is (p ∷ []) e = tt
-in_order-is (p ∷ q ∷ qs) e = let h = both (is_before q p) (in_order (q ∷ qs)) e in (h.0, in_order-is (q ∷ qs) h.1)
+in_order-is (p ∷ q ∷ qs) e = let h = both (is_before q p) (in_order (q ∷ qs)) e in
+    (h.0, in_order-is (q ∷ qs) h.1)
 
 -- one token more, which doesn't lie before the last
-pub in_order-more : (ts : List Token) (t : Token) (k : ℕ) (d : Token) → length ts ≡ k + 1 → before t (get_or ts k d) ≡ false → in_order (map position_of ts) ≡ true → in_order (map position_of (ts ++ t ∷ [])) ≡ true
+pub in_order-more : (ts : List Token) (t : Token) (k : ℕ) (d : Token)
+    → length ts ≡ k + 1 → before t (get_or ts k d) ≡ false → in_order (map position_of ts) ≡ true
+    → in_order (map position_of (ts ++ t ∷ [])) ≡ true
 in_order-more [] t k d len e h = absurd (omega arith)
 in_order-more (u ∷ []) t zero d len e h = rw e refl
 in_order-more (u ∷ []) t (suc k) d len e h = absurd (omega arith)
@@ -45,6 +55,7 @@ in_order-more (u ∷ v ∷ us) t (suc k) d len e h =
     let b = both (is_before (position_of v) (position_of u)) (in_order (map position_of (v ∷ us))) h in
     rw (b.0, in_order-more (v ∷ us) t k d (omega arith) e b.1) refl
 
-pub in_order-first : (ts : List Token) (t : Token) → length ts ≡ 0 → in_order (map position_of (ts ++ t ∷ [])) ≡ true
+pub in_order-first : (ts : List Token) (t : Token)
+    → length ts ≡ 0 → in_order (map position_of (ts ++ t ∷ [])) ≡ true
 in_order-first [] t len = refl
 in_order-first (u ∷ us) t len = absurd (omega arith)

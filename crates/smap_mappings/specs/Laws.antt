@@ -4,7 +4,7 @@ use Rattle.std.specs.List.{AllByRecursion}
 use Rattle.smap_mappings.specs.declared.token.Token.{Token}
 use Rattle.smap_mappings.specs.declared.token.Bounds.{Bounds}
 use Rattle.smap_mappings.specs.Lines.{segments_of}
-use Rattle.smap_mappings.specs.Tokens.{tokens_behind}
+use Rattle.smap_mappings.specs.Tokens.{tokens_after}
 use Rattle.smap_mappings.specs.Arrangement.{arranged, IsArranged}
 use Rattle.smap_mappings.specs.Decoded.{decoded, IsWithin}
 use Rattle.smap_mappings.specs.Text.{IsEncodable, line_count, mappings_text}
@@ -21,8 +21,7 @@ abbrev pub TextReadsBack : Type 0
 TextReadsBack = (bounds : Bounds) (tokens : List Token) → AreFor bounds tokens
     → decoded bounds (mappings_text tokens) ≡ Ok tokens
 
--- A list is the arrangement of another exactly if positions never fall in it, and tokens at one position
--- keep their order.
+-- The function `arranged` computes what the relation `IsArranged` says.
 abbrev pub ArrangedByPosition : Type 0
 ArrangedByPosition = (old new : List Token) → (new ≡ arranged old) ↔ IsArranged old new
 
@@ -34,7 +33,7 @@ TextIsShort = (tokens : List Token) → IsEncodable tokens
 -- The string has no fault under these bounds, and the tokens of its segments, in the order of the string,
 -- are these.
 abbrev pub Says : Bounds → List ℕ → List Token → Type 0
-Says bounds text tokens = tokens_behind bounds [] (segments_of text) ≡ Ok tokens
+Says bounds text tokens = tokens_after bounds [] (segments_of text) ≡ Ok tokens
 
 -- Of all strings that say such tokens, their canonical string is the shortest: it is one of them, and every
 -- other one is longer.

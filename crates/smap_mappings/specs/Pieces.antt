@@ -1,5 +1,6 @@
--- A mappings string that comes in pieces: which of its segments have ended, and which strings the state of
--- a reader stands for.
+-- A mappings string that is passed in pieces: which of its segments have ended, and which string the state
+-- of a reader stands for. A caller can take `StandsFor` as opaque: by the contracts, `new` gives it for the
+-- empty string, `feed` for the string with the piece appended, and `finish` returns what that string says.
 use Rattle.std.specs.Prelude.{◌≡◌, ℕ, ◌-◌, ◌<◌, ◌≤◌, ◌⊎◌, nat_lt, List, [], ◌∷◌, ◌++◌, length, take}
 use Rattle.std.specs.Prelude.{slice_range, slice_index, Option, Some, None, Result, Ok, Err, IsOk, IsTrue, ℤ}
 use Rattle.std.specs.Prelude.{vec_capacity}
@@ -13,7 +14,7 @@ use Rattle.smap_mappings.specs.declared.cursor.Cursor.{Cursor}
 use Rattle.smap_mappings.specs.declared.token.Bounds.{Bounds}
 use Rattle.smap_mappings.specs.declared.token.Token.{Token}
 use Rattle.smap_mappings.specs.Lines.{SegmentText, segments_of}
-use Rattle.smap_mappings.specs.Tokens.{Segment, Fault, u32_count, tokens_behind}
+use Rattle.smap_mappings.specs.Tokens.{Segment, Fault, u32_count, tokens_after}
 use Rattle.smap_mappings.specs.Steps.{Sums, walk, with_tokens}
 
 -- The segments that a separator has ended: all those of the string with one byte more, except the one that
@@ -21,31 +22,33 @@ use Rattle.smap_mappings.specs.Steps.{Sums, walk, with_tokens}
 abbrev pub ended_segments : List ℕ → List SegmentText
 ended_segments text = take (length (segments_of (text ++ 65 ∷ [])) - 1) (segments_of (text ++ 65 ∷ []))
 
--- What `feed` answers for segments: the first fault if there is one, or memory ran out.
-abbrev pub Tells : Result (Unit {0}) MappingsError → Result (List Token) Fault → Type 0
-Tells (Ok _) said = IsOk said
-Tells (Err (errors.Fault place kind)) said = said ≡ Err (place, kind)
-Tells (Err errors.Memory) said = Unit {0}
+-- What `feed` returns for the segments that have ended: their first fault if there is one, unless memory ran
+-- out.
+abbrev pub ReturnsFirstFault : Result (Unit {0}) MappingsError → Result (List Token) Fault → Type 0
+ReturnsFirstFault (Ok _) said = IsOk said
+ReturnsFirstFault (Err (errors.Fault place kind)) said = said ≡ Err (place, kind)
+ReturnsFirstFault (Err errors.Memory) said = Unit {0}
 
 -- The tokens of the segments before the first fault, or of some of these.
-pub record ReadsInFront (bounds : Bounds) (texts : List SegmentText) (tokens : List Token) : Type 0 where
+pub record ReadsPrefix (bounds : Bounds) (texts : List SegmentText) (tokens : List Token) : Type 0 where
   pub front : List SegmentText
   pub rest : List SegmentText
   pub whole : texts ≡ front ++ rest
-  pub read : tokens_behind bounds [] front ≡ Ok tokens
+  pub read : tokens_after bounds [] front ≡ Ok tokens
 
 -- There are at most this many tokens before the first fault.
 abbrev pub Fits : Bounds → List SegmentText → ℕ → Type 0
-Fits bounds texts room = (tokens : List Token) → ReadsInFront bounds texts tokens → length tokens ≤ room
+Fits bounds texts room = (tokens : List Token) → ReadsPrefix bounds texts tokens → length tokens ≤ room
 
--- ---- the state
+-- ---- how the reader's private fields stand for the bytes so far: callers don't need this
 
--- The cursor counts a segment's line, and its index on the line, capped at the greatest `u32`.
+-- The cursor has a segment's line and its index on the line, each capped at the greatest `u32`.
 pub record IsAt (cursor : Cursor) (line index : ℕ) : Type 0 where
   pub line_is : cursor.line ≡ u32_count line
   pub index_is : cursor.index ≡ u32_count index
 
--- These tokens of the string were read, up to the bytes of a segment that hasn't ended.
+-- The string was read, without a fault, up to the bytes of a segment that hasn't ended, and gave these
+-- tokens.
 pub record IsReadTo (bounds : Bounds) (text : List ℕ) (tokens : List Token) (cursor : Cursor)
     (current : List ℕ) : Type 0 where
   pub ended : List SegmentText
@@ -56,7 +59,7 @@ pub record IsReadTo (bounds : Bounds) (text : List ℕ) (tokens : List Token) (c
   pub sums : Sums cursor.running before line
   pub segments : (rest : List ℕ) → segments_of (text ++ rest) ≡ ended ++ walk line index current rest
   pub read : (rest : List SegmentText)
-      → tokens_behind bounds [] (ended ++ rest) ≡ with_tokens tokens (tokens_behind bounds before rest)
+      → tokens_after bounds [] (ended ++ rest) ≡ with_tokens tokens (tokens_after bounds before rest)
 
 pub record IsRead (r : MappingsReader) (bounds : Bounds) (text : List ℕ) : Type 0 where
   pub fine : r.failed ≡ None
@@ -66,26 +69,29 @@ pub record IsRead (r : MappingsReader) (bounds : Bounds) (text : List ℕ) : Typ
   pub segment : SegmentStandsFor r.segment current
   pub reads : IsReadTo bounds text r.tokens.list.items r.cursor current
 
--- The error is that of the string, whatever follows: of the segments that have ended, and of all.
+-- The fault is that of the string, whatever follows: of the segments that have ended, and of all.
 abbrev pub HasFailed : Bounds → List ℕ → MappingsError → Type 0
 HasFailed bounds text (errors.Fault place kind) = (rest : List ℕ)
-    → (tokens_behind bounds [] (ended_segments (text ++ rest)) ≡ Err (place, kind))
-    × (tokens_behind bounds [] (segments_of (text ++ rest)) ≡ Err (place, kind))
+    → (tokens_after bounds [] (ended_segments (text ++ rest)) ≡ Err (place, kind))
+    × (tokens_after bounds [] (segments_of (text ++ rest)) ≡ Err (place, kind))
 HasFailed bounds text errors.Memory = Unit {0}
 
+-- Either no fault was met and the bytes were read, or the error that was met is that of the string.
 abbrev pub StandsUnder : MappingsReader → Option MappingsError → Bounds → List ℕ → Type 0
 StandsUnder r None bounds text = IsRead r bounds text
 StandsUnder r (Some error) bounds text = HasFailed bounds text error
 
--- The state stands for the string of all bytes so far, under these bounds.
+-- ---- the state, for callers
+
+-- The state stands for the string of all bytes so far, read under these bounds.
 abbrev pub StandsFor : MappingsReader → Bounds → List ℕ → Type 0
 StandsFor r bounds text = StandsUnder r r.failed bounds text
 
--- the error that each later call answers
+-- the error that each later call returns
 abbrev pub failure : MappingsReader → Option MappingsError
 failure r = r.failed
 
--- the number of tokens that the reader has memory for
+-- the number of tokens for which the reader has memory
 abbrev pub room : MappingsReader → ℕ
 room r = vec_capacity r.tokens.list
 
@@ -93,25 +99,25 @@ room r = vec_capacity r.tokens.list
 
 -- There are more tokens before the first fault than there is room for.
 abbrev pub Overflows : Bounds → List SegmentText → ℕ → Type 0
-Overflows bounds texts most = (tokens : List Token) × ReadsInFront bounds texts tokens
+Overflows bounds texts most = (tokens : List Token) × ReadsPrefix bounds texts tokens
     × (most < length tokens)
 
--- An error, and why.
+-- Which error is returned, and why: a fault of the string, or more tokens than there is room for.
 abbrev pub Fails : Bounds → List ℕ → ℕ → MappingsError → Type 0
 Fails bounds text most (errors.Fault place kind) = HasFailed bounds text (errors.Fault place kind)
 Fails bounds text most errors.Memory = (rest : List ℕ) → Overflows bounds (ended_segments (text ++ rest)) most
 
--- The string was read to its end, or has failed.
-abbrev pub Reads : MappingsReader → Bounds → List ℕ → ℕ → Result (Unit {0}) MappingsError → Type 0
-Reads r bounds text most (Ok _) = IsRead r bounds text
-Reads r bounds text most (Err error) = Fails bounds text most error
+-- The string was read to its end, or an error was returned.
+abbrev pub ReadsOrFails : MappingsReader → Bounds → List ℕ → ℕ → Result (Unit {0}) MappingsError → Type 0
+ReadsOrFails r bounds text most (Ok _) = IsRead r bounds text
+ReadsOrFails r bounds text most (Err error) = Fails bounds text most error
 
 -- Segments of the piece were read, up to an index between segments.
 abbrev pub ReadsSome : Bounds → List ℕ → List ℕ → ℕ → List Token → Result (Cursor × ℕ) MappingsError → Type 0
 ReadsSome bounds text piece most tokens (Ok x) = IsReadTo bounds (text ++ take x.1 piece) tokens x.0 []
 ReadsSome bounds text piece most tokens (Err error) = Fails bounds (text ++ piece) most error
 
--- The bytes between are a segment with these fields, and a separator ends it.
+-- The bytes between the indices are a segment with these fields, and a separator ends it.
 pub record IsWhole (text : List ℕ) (start : ℕ) (fields : Fields) (end : ℕ) : Type 0 where
   pub le : start ≤ end
   pub within : end < length text

@@ -14,7 +14,7 @@ POSITIONS = MAX_POSITION + 1
 abbrev pub LINES : ℕ
 LINES = MAX_LINES
 
--- Its line and its column are in range.
+-- The line and the column are in range.
 pub record IsPosition (p : Position) : Type 0 where
   pub line : p.line < POSITIONS
   pub column : p.column < POSITIONS
@@ -29,7 +29,7 @@ place o p = if p.line == 0 then record { line = o.line; column = o.column + p.co
 abbrev pub in_range : Position → Option Position
 in_range p = if nat_lt MAX_POSITION p.line || nat_lt MAX_POSITION p.column then None else Some p
 
--- By line, and on one line by column.
+-- Positions are ordered by line, and on one line by column.
 abbrev pub is_before : Position → Position → Bool
 is_before p q = nat_lt p.line q.line || (p.line == q.line && nat_lt p.column q.column)
 

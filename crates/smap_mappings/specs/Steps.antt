@@ -20,7 +20,7 @@ use Rattle.smap_mappings.specs.declared.position.Position.{Position}
 use Rattle.smap_mappings.specs.Position.{POSITIONS, is_before}
 use Rattle.smap_mappings.specs.Tokens.{Segment, below, placed, generated_column, source_index}
 use Rattle.smap_mappings.specs.Tokens.{original_line, original_column, name_index, kind_of, Fault}
-use Rattle.smap_mappings.specs.Tokens.{tokens_behind}
+use Rattle.smap_mappings.specs.Tokens.{tokens_after}
 
 -- These are the absolute values after the segments, on a line that none of them is after.
 pub record Sums (r : Running) (before : List Segment) (line : ℕ) : Type 0 where
@@ -31,7 +31,7 @@ pub record Sums (r : Running) (before : List Segment) (line : ℕ) : Type 0 wher
   pub name : name_index before ≡ pos r.name
   pub not_past : AllByRecursion (λ s. s.line ≤ line) before
 
--- before the first segment
+-- the values before the first segment
 abbrev pub at_start : Running
 at_start = record { column = 0; source = 0; original_line = 0; original_column = 0; name = 0 }
 
@@ -90,7 +90,7 @@ ending line zero [] = []
 ending line zero (b ∷ bs) = text_at line 0 (b ∷ bs) ∷ []
 ending line (suc index) current = text_at line (suc index) current ∷ []
 
--- the segments from the middle of a segment on
+-- the segments from within a segment on, whose bytes so far are given
 abbrev pub walk : ℕ → ℕ → List ℕ → List ℕ → List SegmentText
 walk line index current [] = ending line index current
 walk line index current (b ∷ bs) =
@@ -105,14 +105,14 @@ with_tokens front read = read >>= λ tokens. Ok (front ++ tokens)
 -- than there is room for.
 abbrev pub Continues : Bounds → List Segment → ℕ → List SegmentText → ℕ → List Token → List Token
     → Result Running MappingsError → Type 0
-Continues bounds before line texts room old new (Ok r) = (behind : List Segment) × Sums r behind line
+Continues bounds before line texts room old new (Ok r) = (after : List Segment) × Sums r after line
     × ((rest : List SegmentText)
-    → with_tokens old (tokens_behind bounds before (texts ++ rest))
-    ≡ with_tokens new (tokens_behind bounds behind rest))
+    → with_tokens old (tokens_after bounds before (texts ++ rest))
+    ≡ with_tokens new (tokens_after bounds after rest))
 Continues bounds before line texts room old new (Err (errors.Fault place kind)) = (rest : List SegmentText)
-    → tokens_behind bounds before (texts ++ rest) ≡ Err (place, kind)
+    → tokens_after bounds before (texts ++ rest) ≡ Err (place, kind)
 Continues bounds before line texts room old new (Err errors.Memory) = (tokens : List Token)
-    × (tokens_behind bounds before texts ≡ Ok tokens) × (room < length old + length tokens)
+    × (tokens_after bounds before texts ≡ Ok tokens) × (room < length old + length tokens)
 
 -- ---- order
 
@@ -124,12 +124,13 @@ in_order (p ∷ q ∷ qs) = not (is_before q p) && in_order (q ∷ qs)
 
 -- ---- counting
 
--- One for a comma, and one for the first byte of a line.
+-- What a byte adds to the number of segments, given the byte before it: one for a comma, and one for the
+-- first byte of a line.
 abbrev pub mark : ℕ → ℕ → ℕ
 mark previous byte =
     (if byte == 44 then 1 else 0) + (if previous == 59 then (if byte == 59 then 0 else 1) else 0)
 
--- those of bytes that follow a byte
+-- what bytes add, given the byte before them
 abbrev pub marks : ℕ → List ℕ → ℕ
 marks previous [] = 0
 marks previous (b ∷ bs) = mark previous b + marks b bs
@@ -138,7 +139,7 @@ marks previous (b ∷ bs) = mark previous b + marks b bs
 abbrev pub commas_in : List ℕ → ℕ
 commas_in bytes = count_by (λ b. b == 44) bytes
 
--- the bytes that begin a line, by the bytes before each of them
+-- how many bytes are the first of a line, given the byte before each
 abbrev pub starts_in : List ℕ → List ℕ → ℕ
 starts_in (p ∷ ps) (b ∷ bs) = (if p == 59 then (if b == 59 then 0 else 1) else 0) + starts_in ps bs
 starts_in ps bs = 0

@@ -11,31 +11,31 @@ use Rattle.smap_mappings.specs.Position.{POSITIONS, LINES, position_of, NeverFal
 
 -- ---- which tokens have a string
 
--- Each number is in range.
+-- Each number of the original is in range.
 pub record IsOriginal (o : Original) : Type 0 where
   pub source : o.source < POSITIONS
   pub line : o.line < POSITIONS
   pub column : o.column < POSITIONS
   pub name : IfSome o.name (λ n. n < POSITIONS)
 
--- Each number is in range, and the line is below the greatest limit on lines.
+-- Each number of the token is in range, and its line is below the greatest limit on lines.
 pub record IsPlaced (t : Token) : Type 0 where
   pub line : t.line < LINES
   pub column : t.column < POSITIONS
   pub original : IfSome t.original IsOriginal
 
--- Tokens that have a string: positions never fall, and each number is in range.
+-- Tokens that have a mappings string: no position is before the previous one, and each number is in range.
 abbrev pub IsEncodable : List Token → Type 0
 IsEncodable tokens = NeverFalls (map position_of tokens) × AllByRecursion IsPlaced tokens
 
 -- ---- the string
 
--- the last of a list
+-- the last element of a list
 abbrev pub last_or : {A : Type 0} → A → List A → A
 last_or d [] = d
 last_or d (x ∷ xs) = last_or x xs
 
--- the column of the last of these tokens, if it is on the line
+-- the column of the last of these tokens if it is on the line, and else 0
 abbrev pub column_before : List Token → ℕ → ℕ
 column_before before line = last_or 0 (map (λ t. t.column) (filter (λ t. t.line == line) before))
 
@@ -65,14 +65,14 @@ abbrev pub differences : List Token → Token → List ℤ
 differences before t = difference (column_before before t.line) t.column
     ∷ original_differences before t.original
 
--- its segment
+-- the bytes of that segment
 abbrev pub segment_text : List Token → Token → List ℕ
 segment_text before t = flat_map spelling (differences before t)
 
--- Each token's line and segment.
-abbrev pub segments_behind : List Token → List Token → List (ℕ × List ℕ)
-segments_behind before [] = []
-segments_behind before (t ∷ ts) = (t.line, segment_text before t) ∷ segments_behind (before ++ t ∷ []) ts
+-- Each token's line, with its segment.
+abbrev pub segments_after : List Token → List Token → List (ℕ × List ℕ)
+segments_after before [] = []
+segments_after before (t ∷ ts) = (t.line, segment_text before t) ∷ segments_after (before ++ t ∷ []) ts
 
 -- the segments of a line, joined by commas
 abbrev pub line_text : List (ℕ × List ℕ) → ℕ → List ℕ
@@ -90,4 +90,4 @@ line_count tokens = last_or 0 (map (λ t. t.line + 1) tokens)
 -- The lines up to the last one with a token, joined by semicolons.
 unfoldable pub mappings_text : List Token → List ℕ
 mappings_text tokens =
-    join_with_byte 59 (map (line_text (segments_behind [] tokens)) (below_count (line_count tokens)))
+    join_with_byte 59 (map (line_text (segments_after [] tokens)) (below_count (line_count tokens)))

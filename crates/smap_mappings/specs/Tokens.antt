@@ -33,7 +33,7 @@ total (n ∷ ns) = n +ℤ total ns
 abbrev pub sum_of : ℕ → List Segment → ℤ
 sum_of which segments = total (map (λ s. slice_index_or s.numbers which (pos 0)) segments)
 
--- those of a line
+-- the segments of a line
 abbrev pub on_line : ℕ → List Segment → List Segment
 on_line line segments = filter (λ s. s.line == line) segments
 
@@ -132,8 +132,8 @@ read_in bounds before text = do
   Ok (record { line = text.line; numbers = numbers }, token)
 
 -- The tokens of segments that follow these, or the first fault with its place.
-abbrev pub tokens_behind : Bounds → List Segment → List SegmentText → Result (List Token) Fault
-tokens_behind bounds before [] = Ok []
-tokens_behind bounds before (text ∷ texts) =
-    at_place text (read_in bounds before text) >>= λ x. tokens_behind bounds (before ++ x.0 ∷ []) texts
+abbrev pub tokens_after : Bounds → List Segment → List SegmentText → Result (List Token) Fault
+tokens_after bounds before [] = Ok []
+tokens_after bounds before (text ∷ texts) =
+    at_place text (read_in bounds before text) >>= λ x. tokens_after bounds (before ++ x.0 ∷ []) texts
     >>= λ tokens. Ok (x.1 ∷ tokens)

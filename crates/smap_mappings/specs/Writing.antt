@@ -8,7 +8,7 @@ use Rattle.smap_mappings.specs.declared.running.Running.{Running}
 use Rattle.smap_mappings.specs.Position.{POSITIONS}
 use Rattle.smap_mappings.specs.Text.{difference}
 
--- The running values are in range.
+-- The running values are in range, so that their differences can be encoded.
 pub record IsRunning (r : Running) : Type 0 where
   pub column : r.column < POSITIONS
   pub source : r.source < POSITIONS
@@ -28,17 +28,17 @@ original_from r (Some o) = difference r.source o.source ∷ difference r.origina
 abbrev pub segment_from : Running → Token → List ℕ
 segment_from r t = flat_map spelling (difference r.column t.column ∷ original_from r t.original)
 
-abbrev pub original_behind : Running → Option Original → Running
-original_behind r None = r
-original_behind r (Some o) = record r {
+abbrev pub original_after : Running → Option Original → Running
+original_after r None = r
+original_after r (Some o) = record r {
   source = o.source;
   original_line = o.line;
   original_column = o.column;
   name = unwrap_or o.name r.name;
 }
 
-abbrev pub running_behind : Running → Token → Running
-running_behind r t = original_behind (record r { column = t.column }) t.original
+abbrev pub running_after : Running → Token → Running
+running_after r t = original_after (record r { column = t.column }) t.original
 
 -- the separators before the segment of a token on a line, after this many lines
 abbrev pub separator : ℕ → ℕ → List ℕ

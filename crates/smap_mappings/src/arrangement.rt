@@ -1,4 +1,4 @@
-//! Tokens by generated line, and on one line by column.
+//! Sorting tokens by generated line and column.
 ghost use Rattle.std.specs.Prelude.{◌≡◌, ◌↔◌, IsTrue, IsOk, OnOk, map};
 ghost use Rattle.smap_mappings.specs.Position.{NeverFalls, position_of};
 ghost use Rattle.smap_mappings.specs.Arrangement.{arranged};
@@ -6,7 +6,7 @@ ghost use Rattle.smap_mappings.specs.Arrangement.{arranged};
 use crate::error::Memory;
 use crate::token::Token;
 
-/// Whether no token lies before the one in front of it.
+/// Whether no token is before the previous one.
 pub(crate) fn never_falls(tokens: &[Token]) -> bool
     ensures { IsTrue result ↔ NeverFalls (map position_of tokens.now) }
 {
@@ -18,8 +18,8 @@ pub(crate) fn never_falls(tokens: &[Token]) -> bool
     true
 }
 
-/// Sorts the tokens, ties in the order in which they come. Most texts are in order: they need no
-/// sort, and no memory for it.
+/// Sorts the tokens, keeping the order of those at one position. Most strings are in order already: they need
+/// no sort, and no memory for it.
 pub(crate) fn arrange(tokens: &mut Vec<Token>) -> Result<(), Memory>
     ensures arranged { OnOk result (tokens.new.items ≡ arranged tokens.old.items) }
     ensures fits { NeverFalls (map position_of tokens.old.items) → IsOk result }

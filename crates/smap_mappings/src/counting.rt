@@ -1,11 +1,11 @@
-//! How many segments a text has.
+//! How many segments a mappings string has.
 ghost use Rattle.std.specs.Prelude.{◌≡◌, ◌+◌, ◌-◌, ◌<◌, ◌≤◌, length, drop, slice_index};
 ghost use Rattle.smap_mappings.specs.Lines.{segments_of};
 ghost use Rattle.smap_mappings.specs.Steps.{mark, marks, commas_in, starts_in};
 
 use std::simd::prelude::*;
 
-/// What a byte after another adds to the number of segments: one for a comma, and one for the
+/// What a byte adds to the number of segments, given the byte before it: one for a comma, and one for the
 /// first byte of a line.
 #[inline(always)]
 fn mark(previous: u8, byte: u8) -> usize
@@ -14,7 +14,7 @@ fn mark(previous: u8, byte: u8) -> usize
     (byte == b',') as usize + (previous == b';' && byte != b';') as usize
 }
 
-/// The commas of 32 bytes.
+/// How many of 32 bytes are commas.
 #[inline(always)]
 fn commas(lanes: u8x32) -> u32
     requires { length lanes ≡ 32 }
@@ -23,22 +23,22 @@ fn commas(lanes: u8x32) -> u32
     lanes.simd_eq(u8x32::splat(b',')).to_bitmask().count_ones()
 }
 
-/// The first bytes of lines among 32 bytes, by the 32 bytes that stand one place before.
+/// How many of 32 bytes are the first of a line. `after` has the byte before each.
 #[inline(always)]
-fn starts(behind: u8x32, lanes: u8x32) -> u32
-    requires behind { length behind ≡ 32 }
+fn starts(after: u8x32, lanes: u8x32) -> u32
+    requires after { length after ≡ 32 }
     requires lanes { length lanes ≡ 32 }
-    ensures { result ≡ starts_in behind lanes }
+    ensures { result ≡ starts_in after lanes }
 {
     let semicolons = u8x32::splat(b';');
-    let behind_semicolons = behind.simd_eq(semicolons).select(lanes, semicolons);
-    behind_semicolons
+    let after_semicolons = after.simd_eq(semicolons).select(lanes, semicolons);
+    after_semicolons
         .simd_ne(semicolons)
         .to_bitmask()
         .count_ones()
 }
 
-/// What 32 bytes add.
+/// What 32 bytes add to the number of segments.
 fn block(text: &[u8], at: usize) -> u32
     requires some { 0 < at }
     requires within { at + 32 ≤ length text.now }
@@ -46,8 +46,8 @@ fn block(text: &[u8], at: usize) -> u32
         ≡ marks (slice_index text.now (at - 1)) (drop at text.now) }
 {
     let lanes = u8x32::from_slice(&text[at..]);
-    let behind = u8x32::from_slice(&text[at - 1..]);
-    commas(lanes) + starts(behind, lanes)
+    let after = u8x32::from_slice(&text[at - 1..]);
+    commas(lanes) + starts(after, lanes)
 }
 
 /// The number of segments of a mappings string, valid or not: each line that isn't empty has one more than

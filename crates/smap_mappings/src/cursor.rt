@@ -1,12 +1,12 @@
-//! Where a text is read: the running numbers, and the place of the segment that is next.
+//! Where a mappings string is being read: the running values, and the place of the next segment.
 ghost use Rattle.std.specs.Prelude.{◌≡◌, ◌+◌, ◌<◌};
 ghost use Rattle.smap_mappings.specs.Steps.{at_start};
 ghost use Rattle.smap_mappings.specs.Tokens.{u32_count};
 
 use crate::running::Running;
 
-/// The running numbers in front of a segment, and its place. The line and the number of the segment
-/// in it stay at the greatest `u32` once they are there.
+/// The running values before a segment, and its place. The line, and the index of the segment on it, stay at
+/// the greatest `u32` once they are there.
 #[derive(Clone, Copy)]
 pub(crate) struct Cursor {
     pub(crate) running: Running,
@@ -15,7 +15,7 @@ pub(crate) struct Cursor {
 }
 
 impl Cursor {
-    /// In front of the first segment.
+    /// Before the first segment.
     pub(crate) fn new() -> Cursor
         ensures { result ≡ record { running = at_start; line = 0; index = 0 } }
     {
@@ -26,9 +26,9 @@ impl Cursor {
         }
     }
 
-    /// After a comma: the values are those of the segment in front of it.
+    /// After a comma: the values are those of the segment before it.
     #[inline(always)]
-    pub(crate) fn behind_comma(self, running: Running) -> Cursor
+    pub(crate) fn after_comma(self, running: Running) -> Cursor
         ensures { result
             ≡ record { running = running; line = self.line; index = u32_count (self.index + 1) } }
     {
@@ -39,9 +39,9 @@ impl Cursor {
         }
     }
 
-    /// After a semicolon: the generated column alone starts again on a further line.
+    /// After a semicolon: only the generated column starts again on a new line.
     #[inline(always)]
-    pub(crate) fn behind_semicolon(self, running: Running) -> Cursor
+    pub(crate) fn after_semicolon(self, running: Running) -> Cursor
         ensures { result
             ≡ record {
               running = record running { column = 0 };

@@ -1,7 +1,7 @@
-//! Reading a mappings text.
+//! Decoding a mappings string.
 ghost use Rattle.std.specs.Prelude.{◌≡◌, ◌≢◌, [], Err, IfOk};
 ghost use Rattle.std.specs.List.{AllByRecursion};
-ghost use Rattle.smap_mappings.specs.Decoded.{Gives, AreBounds, IsWithin, IsFromStart, decoded};
+ghost use Rattle.smap_mappings.specs.Decoded.{ReturnsTokens, AreBounds, IsWithin, IsFromStart, decoded};
 ghost use Rattle.smap_mappings.specs.Text.{IsEncodable};
 ghost use Rattle.smap_mappings.specs.Lines.{segments_of};
 ghost use Rattle.smap_mappings.specs.declared.error.MappingsError.TheVariants as errors;
@@ -32,14 +32,14 @@ use std::alloc::Global;
 /// // tokens[1]: line 0, column 4, original source 0, line 12, column 2
 /// ```
 pub fn decode(alloc: Global, text: &[u8], bounds: Bounds) -> Result<Vec<Token>, MappingsError>
-    ensures says { Gives result (decoded bounds text.now) }
+    ensures says { ReturnsTokens result (decoded bounds text.now) }
 
-    // What is read can be written, lies within the bounds, and not before their start.
+    // What was decoded can be encoded, is within the bounds, and not before their start.
     ensures encodable { AreBounds bounds → IfOk result (λ v. IsEncodable v.items) }
     ensures within { IfOk result (λ v. AllByRecursion (IsWithin bounds) v.items) }
     ensures from_start { IfOk result (λ v. AllByRecursion (IsFromStart bounds) v.items) }
 
-    // A text without a segment takes no memory.
+    // A string without a segment takes no memory.
     ensures empty { segments_of text.now ≡ [] → result ≢ Err errors.Memory }
 {
     let mut reader = MappingsReader::new(alloc, bounds, count_segments(text))?;

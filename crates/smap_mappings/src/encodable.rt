@@ -1,4 +1,4 @@
-//! Which tokens have a mappings text.
+//! Which tokens have a mappings string.
 ghost use Rattle.std.specs.Prelude.{◌≡◌, ◌↔◌, IsTrue};
 ghost use Rattle.smap_mappings.specs.Text.{IsEncodable, IsOriginal, IsPlaced};
 

@@ -1,4 +1,4 @@
-//! Writing a mappings text token by token.
+//! Encoding a mappings string token by token.
 ghost use Rattle.std.specs.Prelude.{◌≡◌, ◌≢◌, ◌+◌, ◌-◌, ◌<◌, ◌≤◌, ◌++◌, ◌∷◌, [], List, IfOk, OnOk, Some};
 ghost use Rattle.std.specs.Prelude.{length};
 ghost use Rattle.std.specs.Prelude.{take, vec_len, flat_map};
@@ -6,8 +6,8 @@ ghost use Rattle.smap_vlq.specs.Number.{spelling};
 ghost use Rattle.smap_mappings.specs.declared.token.Token.{Token as SpecToken};
 ghost use Rattle.smap_mappings.specs.Position.{POSITIONS, LINES};
 ghost use Rattle.smap_mappings.specs.Text.{IsEncodable, IsPlaced, IsOriginal, difference, mappings_text};
-ghost use Rattle.smap_mappings.specs.Writing.{IsRunning, original_from, segment_from, running_behind};
-ghost use Rattle.smap_mappings.specs.Writing.{original_behind, separator, at_line};
+ghost use Rattle.smap_mappings.specs.Writing.{IsRunning, original_from, segment_from, running_after};
+ghost use Rattle.smap_mappings.specs.Writing.{original_after, separator, at_line};
 
 use crate::error::Memory;
 use crate::running::Running;
@@ -15,7 +15,7 @@ use crate::token::{Original, Token};
 use smap_vlq::spell_at;
 use std::alloc::Global;
 
-/// Writes the difference of two positions.
+/// Writes the difference of two numbers.
 #[inline(always)]
 fn put_difference(out: &mut [u8], at: usize, old: u32, new: u32) -> usize
     requires old { old < POSITIONS }
@@ -65,10 +65,10 @@ fn put_segment(out: &mut [u8], at: usize, running: Running, token: Token) -> usi
     }
 }
 
-/// The values after an original position.
+/// The running values after an original position.
 #[inline(always)]
-fn behind_original(running: Running, o: Original) -> Running
-    ensures { result ≡ original_behind running (Some o) }
+fn after_original(running: Running, o: Original) -> Running
+    ensures { result ≡ original_after running (Some o) }
 {
     Running {
         source: o.source,
@@ -79,10 +79,10 @@ fn behind_original(running: Running, o: Original) -> Running
     }
 }
 
-/// The values after a token's segment.
+/// The running values after a token's segment.
 #[inline(always)]
-pub(crate) fn behind(running: Running, token: Token) -> Running
-    ensures { result ≡ running_behind running token }
+pub(crate) fn after(running: Running, token: Token) -> Running
+    ensures { result ≡ running_after running token }
 {
     let running = Running {
         column: token.column,
@@ -90,11 +90,11 @@ pub(crate) fn behind(running: Running, token: Token) -> Running
     };
     match token.original {
         None => running,
-        Some(original) => behind_original(running, original),
+        Some(original) => after_original(running, original),
     }
 }
 
-/// The values in front of the next token's segment: the column starts again on a further line.
+/// The running values before the next token's segment: the column starts again on a new line.
 #[inline(always)]
 pub(crate) fn on_line(running: Running, lines: u32, line: u32) -> Running
     requires { line < LINES }
@@ -118,17 +118,13 @@ fn put_semicolons(out: &mut [u8], at: usize, lines: u32, line: u32) -> usize
     ensures place { result ≤ at + (line + 1 - lines) }
     ensures room { length out.new ≡ length out.old }
 {
-    let mut at = at;
-    // The first line is reached without a semicolon.
-    for _ in lines.max(1)..line + 1 {
-        out[at] = b';';
-        at += 1;
-    }
-    at
+    // No semicolon precedes the first line.
+    let end = at + (line + 1).saturating_sub(lines.max(1)) as usize;
+    out[at..end].fill(b';');
+    end
 }
 
-/// Writes what leads from the lines so far to the next token's segment: a comma on the same line,
-/// else semicolons.
+/// Writes the separators before the next token's segment: a comma on the same line, and else semicolons.
 #[inline(always)]
 fn put_separator(out: &mut [u8], at: usize, lines: u32, line: u32) -> usize
     requires line { line < LINES }
@@ -144,7 +140,7 @@ fn put_separator(out: &mut [u8], at: usize, lines: u32, line: u32) -> usize
     put_semicolons(out, at, lines, line)
 }
 
-/// Writes what leads to a token's segment, and the segment.
+/// Writes the separators before a token's segment, and the segment.
 #[inline(always)]
 fn put_token(out: &mut [u8], at: usize, lines: u32, running: Running, token: Token) -> usize
     requires token { IsPlaced token }
@@ -159,14 +155,14 @@ fn put_token(out: &mut [u8], at: usize, lines: u32, running: Running, token: Tok
     put_segment(out, at, running, token)
 }
 
-/// How many bytes of the room are filled at a time. The vector doubles its capacity when it has to, but what
-/// isn't filled is never touched.
+/// How many bytes of the buffer are filled with zeros at a time. The vector doubles its capacity when it has
+/// to, but capacity that isn't filled is never touched.
 const PIECE: usize = 65_536;
 
-/// As many bytes as the segment of a token seldom takes with its separator.
+/// Most segments, with their separator, have at most this many bytes.
 const USUAL: usize = 8;
 
-/// Makes room for so many bytes more.
+/// Makes room for this many more bytes.
 fn grow(room: &mut Vec<u8>, at: usize, more: usize) -> Result<(), Memory>
     requires at { at ≤ vec_len room.old }
     ensures front { take at room.new.items ≡ take at room.old.items }
@@ -194,7 +190,7 @@ pub struct Encoder {
     room: Vec<u8>,
     at: usize,
     running: Running,
-    // One more than the last line that was written.
+    // One more than the line of the last token.
     lines: u32,
     ghost inside: { at ≤ vec_len room },
     ghost running_is: { IsRunning running },
@@ -258,7 +254,7 @@ impl Encoder {
             running,
             token,
         );
-        self.running = behind(running, token);
+        self.running = after(running, token);
         self.lines = token.line + 1;
         Ok(())
     }

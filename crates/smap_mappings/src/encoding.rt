@@ -1,4 +1,4 @@
-//! Writing a mappings text.
+//! Encoding tokens as a mappings string.
 ghost use Rattle.std.specs.Prelude.{◌≡◌, IfOk};
 ghost use Rattle.smap_mappings.specs.Text.{IsEncodable, mappings_text};
 

@@ -1,4 +1,4 @@
-//! Why a mappings text is refused, and lack of memory.
+//! Why a mappings string is rejected, and running out of memory.
 ghost use Rattle.std.specs.Prelude.{◌≡◌};
 
 use smap_vlq::NumberFault;

@@ -1,4 +1,4 @@
-//! What holds of mappings texts. Each law is the contract of a function that does nothing.
+//! Laws about mappings strings. Each is the contract of a function that does nothing.
 ghost use Rattle.smap_mappings.specs.Laws.{ArrangedByPosition, TextReadsBack, TextIsShort, TextIsLeast};
 
 /// The tokens of a string are sorted by position, and tokens at one position keep the order of the string.

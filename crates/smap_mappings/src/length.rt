@@ -1,17 +1,18 @@
-//! How long a mappings text is, without the text.
-ghost use Rattle.std.specs.Prelude.{◌≡◌, ◌-◌, ◌^◌, ◌<◌, ◌≤◌, ◌++◌, ◌∷◌, [], List, OnOk, Some, flat_map, length, min};
+//! The length of a mappings string that isn't written.
+ghost use Rattle.std.specs.Prelude.{◌≡◌, ◌-◌, ◌^◌, ◌<◌, ◌≤◌, ◌++◌, ◌∷◌, [], List, OnOk, Some};
+ghost use Rattle.std.specs.Prelude.{flat_map, length, min};
 ghost use Rattle.smap_vlq.specs.Number.{spelling};
 ghost use Rattle.smap_mappings.specs.declared.token.Token.{Token as SpecToken};
 ghost use Rattle.smap_mappings.specs.Position.{POSITIONS, LINES};
 ghost use Rattle.smap_mappings.specs.Text.{IsEncodable, IsPlaced, IsOriginal, difference, mappings_text};
 ghost use Rattle.smap_mappings.specs.Writing.{IsRunning, original_from, segment_from, separator};
 
-use crate::encoder::{behind, on_line};
+use crate::encoder::{after, on_line};
 use crate::running::Running;
 use crate::token::{Original, Token};
 use smap_vlq::spelled_len;
 
-/// How many bytes the difference of two positions has.
+/// How many bytes the encoding of the difference of two numbers has.
 #[inline(always)]
 fn difference_len(old: u32, new: u32) -> usize
     requires old { old < POSITIONS }
@@ -54,7 +55,7 @@ fn segment_len(running: Running, token: Token) -> usize
     }
 }
 
-/// How many bytes lead from the lines so far to the next token's segment: one comma, or semicolons.
+/// How many separators precede the next token's segment: one comma, or semicolons.
 #[inline(always)]
 fn separator_len(lines: u32, line: u32) -> u32
     requires { line < LINES }
@@ -66,12 +67,12 @@ fn separator_len(lines: u32, line: u32) -> u32
     (line + 1).saturating_sub(lines.max(1))
 }
 
-/// Counts the bytes of a mappings text while its tokens come, and takes no memory.
+/// Counts the bytes of the mappings string of tokens that are passed one by one, and takes no memory.
 #[derive(Drop)]
 pub struct TextLength {
     len: u128,
     running: Running,
-    // One more than the last line that was counted.
+    // One more than the line of the last token.
     lines: u32,
     ghost running_is: { IsRunning running },
     ghost lines_are: { lines ≤ LINES },
@@ -80,7 +81,7 @@ pub struct TextLength {
 impl TextLength {
     ghost use Rattle.smap_mappings.specs.Feeding.{Measures};
 
-    /// The length of the text of no tokens yet.
+    /// The length for no tokens yet, which is 0.
     pub fn new() -> TextLength
         ensures { Measures result [] }
     {
@@ -91,7 +92,7 @@ impl TextLength {
         }
     }
 
-    /// Counts the segment of one token more, and what leads to it.
+    /// Counts the segment of the next token, and the separators before it.
     #[inline(always)]
     pub fn push(&mut self, token: Token)
         requires { IsPlaced token }
@@ -101,11 +102,11 @@ impl TextLength {
         let running = on_line(self.running, self.lines, token.line);
         let more = separator_len(self.lines, token.line) as usize + segment_len(running, token);
         self.len = self.len.saturating_add(more as u128);
-        self.running = behind(running, token);
+        self.running = after(running, token);
         self.lines = token.line + 1;
     }
 
-    /// How many bytes the text of the tokens has, at most 2^128 - 1.
+    /// The length in bytes of the canonical mappings string of the tokens, capped at 2^128 - 1.
     pub fn len(&self) -> u128
         ensures { (tokens : List SpecToken) → Measures self.now tokens
             → result ≡ min (length (mappings_text tokens)) (2 ^ 128 - 1) }

@@ -18,7 +18,6 @@ mod encodable;
 mod encoder;
 mod encoding;
 mod error;
-mod gathered;
 pub mod laws;
 mod length;
 mod position;
@@ -26,6 +25,7 @@ mod reader;
 mod running;
 mod segment;
 mod token;
+mod token_list;
 mod whole;
 
 pub use counting::count_segments;

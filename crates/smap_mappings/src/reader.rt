@@ -1,23 +1,24 @@
-//! Reading a mappings text in pieces.
+//! Reading a mappings string in pieces.
 ghost use Rattle.std.specs.Prelude.{◌≡◌, ◌≢◌, vec_capacity, map, IsOk, ◌+◌, ◌<◌, ◌≤◌, nat_lt, ℕ, List, []};
 ghost use Rattle.std.specs.Prelude.{◌∷◌, ◌++◌, take, length, Ok, Err, Some, None, IfOk, OnOk, IfErr};
 ghost use Rattle.smap_vlq.specs.Segment.{fields_in};
 ghost use Rattle.smap_vlq.specs.Pieces.{StandsFor as SegmentStandsFor};
-ghost use Rattle.smap_mappings.specs.Tokens.{Segment, tokens_behind};
+ghost use Rattle.smap_mappings.specs.Tokens.{Segment, tokens_after};
 ghost use Rattle.smap_mappings.specs.declared.error.MappingsError.TheVariants as errors;
-ghost use Rattle.smap_mappings.specs.Decoded.{Gives, decoded};
+ghost use Rattle.smap_mappings.specs.Decoded.{ReturnsTokens, decoded};
 ghost use Rattle.smap_mappings.specs.Steps.{Sums, Continues, text_at, ending};
-ghost use Rattle.smap_mappings.specs.Pieces.{ended_segments, Tells, IsAt, IsReadTo, IsRead, Fits, StandsFor};
-ghost use Rattle.smap_mappings.specs.Pieces.{failure, room as room_of, Reads, ReadsSome};
+ghost use Rattle.smap_mappings.specs.Pieces.{ended_segments, ReturnsFirstFault, IsAt, IsReadTo, IsRead};
+ghost use Rattle.smap_mappings.specs.Pieces.{Fits, StandsFor};
+ghost use Rattle.smap_mappings.specs.Pieces.{failure, room as room_of, ReadsOrFails, ReadsSome};
 ghost use Rattle.smap_mappings.specs.Lines.{segments_of};
 ghost use Rattle.smap_mappings.specs.Position.{NeverFalls, position_of};
 
 use crate::cursor::Cursor;
 use crate::error::{MappingsError, Memory, SegmentKind, SegmentPlace};
-use crate::gathered::Gathered;
 use crate::running::Running;
 use crate::segment::{kind_of, token_at};
 use crate::token::{Bounds, Token};
+use crate::token_list::TokenList;
 use crate::whole::whole_segment;
 use smap_vlq::{Fields, SegmentReader};
 use std::alloc::Global;
@@ -36,10 +37,10 @@ use std::alloc::Global;
 #[derive(Drop)]
 pub struct MappingsReader {
     bounds: Bounds,
-    tokens: Gathered,
+    tokens: TokenList,
     cursor: Cursor,
     segment: SegmentReader,
-    /// Whether the segment has a byte.
+    /// Whether the current segment has a byte.
     begun: bool,
     failed: Option<MappingsError>,
 }
@@ -58,7 +59,7 @@ impl MappingsReader {
     {
         Ok(MappingsReader {
             bounds,
-            tokens: Gathered::with_capacity(alloc, room)?,
+            tokens: TokenList::with_capacity(alloc, room)?,
             cursor: Cursor::new(),
             segment: SegmentReader::new(),
             begun: false,
@@ -76,12 +77,12 @@ impl MappingsReader {
         ensures stands { (bounds : Bounds) (text : List ℕ) → StandsFor self.old bounds text
             → StandsFor self.new bounds (text ++ piece.now) }
         ensures tells { (bounds : Bounds) (text : List ℕ) → StandsFor self.old bounds text
-            → Tells result (tokens_behind bounds [] (ended_segments (text ++ piece.now))) }
+            → ReturnsFirstFault result (tokens_after bounds [] (ended_segments (text ++ piece.now))) }
         ensures fails { IfErr result (λ error. failure self.new ≡ Some error) }
         ensures fine { OnOk result (failure self.new ≡ None) }
         ensures stays { (error : MappingsError) → failure self.old ≡ Some error → result ≡ Err error }
 
-        // No memory is taken while the tokens fit.
+        // No memory is taken as long as the tokens fit.
         ensures fits { (bounds : Bounds) (text : List ℕ) → StandsFor self.old bounds text
             → failure self.old ≢ Some errors.Memory
             → Fits bounds (ended_segments (text ++ piece.now)) (room_of self.old)
@@ -100,17 +101,18 @@ impl MappingsReader {
         }
     }
 
-    /// Reads a piece: whole segments at once, and byte by byte what a piece's end cuts.
+    /// Reads a piece: segments that are entirely within it at once, and those that are cut by its end byte by
+    /// byte.
     fn read(&mut self, piece: &[u8]) -> Result<(), MappingsError>
         ensures room { room_of self.old ≤ room_of self.new }
         ensures same { failure self.new ≡ failure self.old }
         ensures reads { (bounds : Bounds) (text : List ℕ) → IsRead self.old bounds text
-            → Reads self.new bounds (text ++ piece.now) (room_of self.old) result }
+            → ReadsOrFails self.new bounds (text ++ piece.now) (room_of self.old) result }
     {
         let mut place = 0;
         while place < piece.len() {
             if !self.begun {
-                let (cursor, behind) = read_whole(
+                let (cursor, after) = read_whole(
                     &mut self.tokens,
                     self.bounds,
                     self.cursor,
@@ -118,7 +120,7 @@ impl MappingsReader {
                     place,
                 )?;
                 self.cursor = cursor;
-                place = behind;
+                place = after;
             }
             if place < piece.len() {
                 self.read_byte(piece[place])?;
@@ -128,12 +130,12 @@ impl MappingsReader {
         Ok(())
     }
 
-    /// Reads one byte more.
+    /// Reads one more byte.
     fn read_byte(&mut self, byte: u8) -> Result<(), MappingsError>
         ensures room { room_of self.old ≤ room_of self.new }
         ensures same { failure self.new ≡ failure self.old }
         ensures reads { (bounds : Bounds) (text : List ℕ) → IsRead self.old bounds text
-            → Reads self.new bounds (text ++ byte ∷ []) (room_of self.old) result }
+            → ReadsOrFails self.new bounds (text ++ byte ∷ []) (room_of self.old) result }
     {
         match byte {
             b',' => {
@@ -143,7 +145,7 @@ impl MappingsReader {
                     self.cursor,
                     &mut self.segment,
                 )?;
-                self.cursor = self.cursor.behind_comma(running);
+                self.cursor = self.cursor.after_comma(running);
                 self.begun = false;
             }
             b';' => {
@@ -154,7 +156,7 @@ impl MappingsReader {
                     &mut self.segment,
                     self.begun,
                 )?;
-                self.cursor = self.cursor.behind_semicolon(running);
+                self.cursor = self.cursor.after_semicolon(running);
                 self.begun = false;
             }
             _ => {
@@ -173,14 +175,14 @@ impl MappingsReader {
     /// `Memory`.
     pub fn finish(self) -> Result<Vec<Token>, MappingsError>
         ensures says { (bounds : Bounds) (text : List ℕ) → StandsFor self bounds text
-            → Gives result (decoded bounds text) }
+            → ReturnsTokens result (decoded bounds text) }
         ensures stays { (error : MappingsError) → failure self ≡ Some error → result ≡ Err error }
 
-        // No memory is taken where the tokens fit, and no column falls.
+        // No memory is taken if the tokens fit and came in order.
         ensures fits { (bounds : Bounds) (text : List ℕ) → StandsFor self bounds text
             → failure self ≢ Some errors.Memory
             → Fits bounds (segments_of text) (room_of self)
-            → ((tokens : List Token) → tokens_behind bounds [] (segments_of text) ≡ Ok tokens
+            → ((tokens : List Token) → tokens_after bounds [] (segments_of text) ≡ Ok tokens
             → NeverFalls (map position_of tokens))
             → result ≢ Err errors.Memory }
     {
@@ -201,9 +203,10 @@ impl MappingsReader {
     }
 }
 
-/// Reads the segments of a piece from a place on that lie whole in it, and answers the place of what is left.
+/// Reads the segments from an index of a piece on that are entirely within it, and returns the index of what
+/// is left.
 fn read_whole(
-    tokens: &mut Gathered,
+    tokens: &mut TokenList,
     bounds: Bounds,
     cursor: Cursor,
     piece: &[u8],
@@ -220,8 +223,8 @@ fn read_whole(
     let mut place = start;
     while place < piece.len() {
         if piece[place] == b';' && cursor.index == 0 {
-            // A line without a segment.
-            cursor = cursor.behind_semicolon(cursor.running);
+            // An empty line.
+            cursor = cursor.after_semicolon(cursor.running);
             place += 1;
             continue;
         }
@@ -230,16 +233,16 @@ fn read_whole(
         };
         let running = add(tokens, bounds, cursor, &fields)?;
         if piece[end] == b',' {
-            cursor = cursor.behind_comma(running);
+            cursor = cursor.after_comma(running);
         } else {
-            cursor = cursor.behind_semicolon(running);
+            cursor = cursor.after_semicolon(running);
         }
         place = end + 1;
     }
     Ok((cursor, place))
 }
 
-/// The answer to a segment with a fault.
+/// The error for an invalid segment.
 fn refusal(cursor: Cursor, kind: SegmentKind) -> MappingsError
     ensures { result ≡ errors.Fault (record { line = cursor.line; segment = cursor.index }) kind }
 {
@@ -250,10 +253,10 @@ fn refusal(cursor: Cursor, kind: SegmentKind) -> MappingsError
     MappingsError::Fault(place, kind)
 }
 
-/// Reads one more segment, of these fields.
+/// Reads one more segment, which has these fields.
 #[inline(always)]
 fn add(
-    tokens: &mut Gathered,
+    tokens: &mut TokenList,
     bounds: Bounds,
     cursor: Cursor,
     fields: &Fields,
@@ -266,9 +269,9 @@ fn add(
         (vec_capacity tokens.old.list) tokens.old.list.items tokens.new.list.items result }
 {
     match token_at(bounds, cursor.running, cursor.line as usize, fields) {
-        Ok((behind, token)) => {
+        Ok((after, token)) => {
             tokens.push(token)?;
-            Ok(behind)
+            Ok(after)
         }
         Err(kind) => Err(refusal(cursor, kind)),
     }
@@ -276,7 +279,7 @@ fn add(
 
 /// Ends a segment that was read byte by byte.
 fn end_segment(
-    tokens: &mut Gathered,
+    tokens: &mut TokenList,
     bounds: Bounds,
     cursor: Cursor,
     segment: &mut SegmentReader,
@@ -295,9 +298,9 @@ fn end_segment(
     }
 }
 
-/// Ends a line: with a last segment, unless the line is empty.
+/// Ends a line, and its last segment unless the line is empty.
 fn end_line(
-    tokens: &mut Gathered,
+    tokens: &mut TokenList,
     bounds: Bounds,
     cursor: Cursor,
     segment: &mut SegmentReader,

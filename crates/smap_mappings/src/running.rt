@@ -1,14 +1,15 @@
-//! The five numbers that run through a mappings text.
+//! The five running values of a mappings string.
 ghost use Rattle.std.specs.Prelude.{◌≡◌};
 ghost use Rattle.smap_mappings.specs.Steps.{at_start};
 
 use smap_vlq::MAX_POSITION;
 
-/// One more than the greatest column, original line or index: a difference of two such numbers has
-/// a spelling.
+/// One more than the greatest column, original line or index, so that the difference of any two of them can
+/// be encoded.
 pub(crate) const POSITION_LIMIT: u32 = MAX_POSITION + 1;
 
-/// The absolute values at the last segment: the numbers of the next one are differences to these.
+/// The absolute values at the last segment. The numbers of the next one are differences from these (ECMA-426,
+/// "Mappings structure").
 #[derive(Clone, Copy)]
 pub(crate) struct Running {
     pub(crate) column: u32,
@@ -19,7 +20,7 @@ pub(crate) struct Running {
 }
 
 impl Running {
-    /// The values in front of the first segment.
+    /// The values before the first segment.
     pub(crate) fn new() -> Running
         ensures { result ≡ at_start }
     {

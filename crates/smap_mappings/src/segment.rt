@@ -1,4 +1,4 @@
-//! One segment: its token by the absolute values in front of it, or its first fault.
+//! One segment: its token, by the absolute values before it, or its first fault.
 ghost use Rattle.std.specs.Prelude.{◌≡◌, pos, ◌+ℤ◌};
 ghost use Rattle.smap_mappings.specs.Tokens.{below, kind_of};
 ghost use Rattle.smap_mappings.specs.Steps.{name_step, original_step, column_step, token_step};
@@ -8,7 +8,7 @@ use crate::running::{POSITION_LIMIT, Running};
 use crate::token::{Bounds, Original, Token};
 use smap_vlq::{Fields, SegmentFault};
 
-/// A position moved by a difference, where it is from 0 to below the limit then.
+/// A number plus a difference; none unless the sum is from 0 to below the limit.
 #[inline(always)]
 fn moved(position: u32, difference: i32, limit: u32) -> Option<u32>
     ensures { result ≡ below limit (pos position +ℤ difference) }
@@ -20,7 +20,7 @@ fn moved(position: u32, difference: i32, limit: u32) -> Option<u32>
     Some(moved as u32)
 }
 
-/// The last name after the segment, and the segment's own.
+/// The last name index after the segment, and the segment's own.
 #[inline(always)]
 fn name_at(bounds: Bounds, last: u32, fields: &Fields) -> Result<(u32, Option<u32>), SegmentKind>
     ensures { result ≡ name_step bounds last fields.now }
@@ -32,7 +32,7 @@ fn name_at(bounds: Bounds, last: u32, fields: &Fields) -> Result<(u32, Option<u3
     Ok((name, Some(name)))
 }
 
-/// The values after the segment, the column apart, and the segment's original position.
+/// The running values after the segment, except for the column, and the segment's original position.
 #[inline(always)]
 fn original_at(
     bounds: Bounds,
@@ -54,7 +54,7 @@ fn original_at(
         SegmentKind::OriginalColumn,
     )?;
     let (last_name, name) = name_at(bounds, running.name, fields)?;
-    let behind = Running {
+    let after = Running {
         source,
         original_line: line,
         original_column: column,
@@ -67,10 +67,10 @@ fn original_at(
         column,
         name,
     };
-    Ok((behind, Some(original)))
+    Ok((after, Some(original)))
 }
 
-/// The column after the segment, and where it is placed.
+/// The column after the segment, and that column after placing.
 #[inline(always)]
 fn column_at(bounds: Bounds, line: usize, column: u32, difference: i32) -> Option<(u32, u32)>
     ensures { result ≡ column_step bounds line (pos column +ℤ difference) }
@@ -87,7 +87,7 @@ fn column_at(bounds: Bounds, line: usize, column: u32, difference: i32) -> Optio
     Some((moved as u32, placed as u32))
 }
 
-/// The values after the segment, and its token.
+/// The running values after the segment, and its token.
 #[inline(always)]
 pub(crate) fn token_at(
     bounds: Bounds,
@@ -99,24 +99,24 @@ pub(crate) fn token_at(
 {
     let lines = bounds.lines as usize;
     let start = bounds.start_line as usize;
-    // The sum below is small once the line is: a text can have more lines than a `usize` can bear
-    // on top of a start.
+    // The line is tested first, so that the sum below can't overflow: `line` may be as large as a `usize` can
+    // be.
     if line >= lines || start + line >= lines {
         return Err(SegmentKind::GeneratedLine);
     }
     let (column, placed) = column_at(bounds, line, running.column, fields.numbers[0]).ok_or(
         SegmentKind::Column,
     )?;
-    let (behind, original) = original_at(bounds, running, fields)?;
+    let (after, original) = original_at(bounds, running, fields)?;
     let token = Token {
         line: (start + line) as u32,
         column: placed,
         original,
     };
-    Ok((Running { column, ..behind }, token))
+    Ok((Running { column, ..after }, token))
 }
 
-/// The fault of a segment's spelling or count, as one of a mappings text.
+/// The fault of a segment's numbers or of their count, as one of a mappings string.
 pub(crate) fn kind_of(fault: SegmentFault) -> SegmentKind
     ensures { result ≡ kind_of fault }
 {

@@ -1,10 +1,10 @@
-//! Segments that lie whole in a text.
+//! Segments that are entirely within a piece.
 ghost use Rattle.std.specs.Prelude.{◌≡◌, ◌<◌, ◌⊎◌, IfSome, IsTrue, length, slice_index};
 ghost use Rattle.smap_mappings.specs.Pieces.{IsWhole};
 
 use smap_vlq::{Fields, read_number};
 
-/// Whether a separator stands at the place.
+/// Whether the byte at this index is a separator.
 #[inline(always)]
 fn ends_at(text: &[u8], place: usize) -> bool
     ensures within { IsTrue result → place < length text.now }
@@ -14,9 +14,9 @@ fn ends_at(text: &[u8], place: usize) -> bool
     place < text.len() && (text[place] == b',' || text[place] == b';')
 }
 
-/// The segment at a place, and the separator that ends it: the short way to read a segment. It
-/// answers nothing for what is to be read byte by byte: a segment with a fault, one that the text's
-/// end cuts, and an empty line.
+/// The segment that starts at an index, and the index of the separator that ends it: the fast way to read a
+/// segment. None for what has to be read byte by byte: an invalid segment, one that is cut by the end of the
+/// piece, and an empty line.
 #[inline(always)]
 pub(crate) fn whole_segment(text: &[u8], start: usize) -> Option<(Fields, usize)>
     ensures { IfSome result (λ x. IsWhole text.now start x.0 x.1) }

@@ -1,4 +1,4 @@
-//! Mappings texts: segments counted, texts decoded at once and in pieces, and encoded.
+//! Mappings strings: counting their segments, decoding them at once and in pieces, and encoding.
 mod counting;
 mod decoding;
 mod encodable;
@@ -7,7 +7,7 @@ mod pieces;
 
 use smap_mappings::Bounds;
 
-/// As wide as bounds may be.
+/// The widest bounds.
 const WIDE: Bounds = Bounds {
     start_line: 0,
     start_column: 0,

@@ -1,5 +1,6 @@
-//! Maps that are read or refused. What reading comes to is told in words: all that a map tells by its getters,
-//! or where and why it is refused. A row of a table gives these words, found by hand.
+//! Maps that are accepted or rejected. The result of reading is written as a line of text: everything that
+//! the map's getters return, or where and why it is rejected. Each row of a table has that line, which was
+//! found by hand.
 mod limits;
 mod maps;
 mod refusals;
@@ -12,18 +13,18 @@ use std::alloc::AllocError;
 use std::process::Abort;
 use std::test::Fail;
 
-/// The base that a text is.
+/// The base of this URL.
 fn base_of(rt: &(impl Abort + AllocGlobal), text: &str) -> Base {
     Base::new(rt.alloc(), text).expect(rt, "a base is a URL")
 }
 
-/// The base that a row is read against where it names none.
+/// The base of a row that names none.
 fn usual_base(rt: &(impl Abort + AllocGlobal)) -> Base {
     base_of(rt, "http://h/m/out.js.map")
 }
 
-/// The distinct sources, each with its content and whether it is ignored, and the number among these of each
-/// listed one.
+/// The distinct sources, each with its content and whether it is ignored, and for each listed one its index
+/// among these.
 fn push_sources(
     rt: &(impl Abort + AllocGlobal),
     text: &mut String,
@@ -64,8 +65,9 @@ fn push_names(
     Ok(())
 }
 
-/// A mapping: its line and column; the number of its source in the list and, between brackets, among the
-/// distinct ones; the line and column there; and the number of its name in the list, with that name.
+/// A mapping: its line and column; the index of its source among the listed ones and, in brackets, among the
+/// distinct ones; its original line and column; and the index of its name among the listed ones, with the
+/// name itself.
 fn push_mapping(
     rt: &(impl Abort + AllocGlobal),
     text: &mut String,
@@ -98,7 +100,7 @@ fn push_mapping(
     Ok(())
 }
 
-/// Where a mapping comes from is the distinct source that has its number.
+/// The source of each mapping is the distinct source with its index.
 fn has_its_source(rt: &impl Abort, map: &SourceMap, i: usize) {
     assert!(rt; i < map.token_count());
     if let Some(original) = map.token(i).original {
@@ -110,7 +112,7 @@ fn has_its_source(rt: &impl Abort, map: &SourceMap, i: usize) {
     }
 }
 
-/// All that a map tells.
+/// Everything that a map's getters return.
 fn told(rt: &(impl Abort + AllocGlobal), map: &SourceMap) -> Result<String, AllocError> {
     let mut text = String::from_str(rt.alloc(), "read")?;
     if let Some(file) = map.file() {
@@ -127,7 +129,7 @@ fn told(rt: &(impl Abort + AllocGlobal), map: &SourceMap) -> Result<String, Allo
     Ok(text)
 }
 
-/// The section and the segment of a fault, each where it has one, and its kind.
+/// The section and the segment of a fault, if it has them, and its kind.
 fn refusal(rt: &(impl Abort + AllocGlobal), fault: &Fault) -> Result<String, AllocError> {
     let mut text = String::from_str(rt.alloc(), "refused")?;
     if !fault.section.numbers().is_empty() {
@@ -143,7 +145,7 @@ fn refusal(rt: &(impl Abort + AllocGlobal), fault: &Fault) -> Result<String, All
     Ok(text)
 }
 
-/// What a reading came to.
+/// The result of reading, as text.
 fn outcome(
     rt: &(impl Abort + AllocGlobal),
     read: Result<SourceMap, ReadError>,
@@ -155,7 +157,7 @@ fn outcome(
     }
 }
 
-/// Bytes are answered so, also where they are handed over.
+/// Asserts the result of reading these bytes, by `from_slice` and by `from_vec`.
 fn is_answered(
     rt: &(impl Abort + AllocGlobal),
     name: &str,
@@ -174,16 +176,34 @@ fn is_answered(
     Ok(())
 }
 
-/// Each row of a table, `what it shows | a map | its answer`, is answered so.
+/// The rows of a table. A line that begins with a space goes on with the row before it.
+fn rows(rt: &(impl Abort + AllocGlobal), table: &str) -> Result<Vec<String>, AllocError> {
+    let mut rows: Vec<String> = Vec::new(rt.alloc());
+    for line in table.lines() {
+        match rows.last_mut() {
+            Some(row) if line.starts_with(' ') => row.push_str(line.trim_start())?,
+            _ => rows.push(String::from_str(rt.alloc(), line)?)?,
+        }
+    }
+    Ok(rows)
+}
+
+/// What stands before the first bar of a row, and what stands after it.
+fn parts(row: &str) -> Result<(&str, &str), &'static str> {
+    let (first, rest) = row.split_once("| ").ok_or("a row has its parts")?;
+    Ok((first.trim_end(), rest))
+}
+
+/// Asserts the result of each row of a table: `what it shows | a map | the result`.
 fn are_answered(
     rt: &(impl Abort + AllocGlobal),
     table: &str,
     base: &Base,
     limits: Limits,
 ) -> Result<(), Fail> {
-    for row in table.lines() {
-        let (name, rest) = row.split_once(" | ").ok_or("a row has three parts")?;
-        let (text, want) = rest.split_once(" | ").ok_or("a row has three parts")?;
+    for row in rows(rt, table)? {
+        let (name, rest) = parts(row.as_str())?;
+        let (text, want) = parts(rest)?;
         is_answered(rt, name, text.as_bytes(), base, limits, want)?;
     }
     Ok(())

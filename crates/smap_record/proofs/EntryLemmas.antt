@@ -1,5 +1,7 @@
 -- Sources that are resolved and listed one by one.
-use Rattle.std.proofs.Common.{◌≡◌, ℕ, ◌+◌, ◌≤◌, List, [], ◌∷◌, ◌++◌, length, drop, Option, Some, Ok, Err, ap, refl, ◌∙◌, append_assoc, append-nil, sym, slice_get}
+use Rattle.std.proofs.Common.{◌≡◌, ◌∙◌, ℕ, ◌+◌, ◌-◌, ◌≤◌, Bool, List, [], ◌∷◌, ◌++◌, length, drop, slice_get}
+use Rattle.std.proofs.Common.{Option, Some, None, Ok, Err, ap, arith, refl, sym}
+use Rattle.std.proofs.Common.{append_assoc, append-nil, length-append}
 use Rattle.std.proofs.Math.ListN.{drop_of_length-le}
 use Rattle.url.specs.Parts.{Parts}
 use Rattle.smap_shape.specs.Members.{is_listed}
@@ -7,40 +9,101 @@ use Rattle.smap_record.specs.declared.fault.Fault.{Fault}
 use Rattle.smap_record.specs.declared.fault.ReadError.{ReadError}
 use Rattle.smap_record.specs.declared.fault.ReadError.TheVariants.{Refused, Memory}
 use Rattle.smap_record.specs.Record.{Entry}
-use Rattle.smap_record.specs.Answers.{Fails}
+use Rattle.smap_record.specs.Results.{Fails}
 use Rattle.smap_record.specs.Faults.{Checked, ◌>>=◌}
-use Rattle.smap_record.specs.Flat.{source_entry, entries_from}
-use Rattle.smap_record.specs.Steps.{behind}
+use Rattle.smap_record.specs.Flat.{source_at, source_entry, source_url, entries_from}
+use Rattle.smap_record.specs.Source.{Resolved, no_url, unstable, resolved, resolve}
+use Rattle.smap_record.specs.Steps.{after, FollowsSource}
 use Rattle.smap_record.proofs.ListLemmas.{drop_next}
 
-module _ (base : Parts) (root : Option (List ℕ)) (ignored : List ℕ) (sources contents : List (Option (List ℕ))) where
-  module _ (i : ℕ) (source content : Option (List ℕ)) (at_source : slice_get sources i ≡ Some source) (at_content : slice_get contents i ≡ Some content) where
+module _ (base : Parts) (root : Option (List ℕ)) (ignored : List ℕ)
+    (sources contents : List (Option (List ℕ))) where
+  module _ (i : ℕ) (source content : Option (List ℕ)) (at_source : slice_get sources i ≡ Some source)
+      (at_content : slice_get contents i ≡ Some content) where
     -- the next is looked at
     next : (read : Checked Entry) → source_entry base root i source content (is_listed i ignored) ≡ read
-        → entries_from base root ignored i (drop i sources) (drop i contents) ≡ (read >>= λ entry. entries_from base root ignored (i + 1) (drop (i + 1) sources) (drop (i + 1) contents) >>= λ entries. Ok (entry ∷ entries))
+        → entries_from base root ignored i (drop i sources) (drop i contents)
+        ≡ (read >>= λ entry. entries_from base root ignored (i + 1) (drop (i + 1) sources)
+        (drop (i + 1) contents) >>= λ entries. Ok (entry ∷ entries))
     unfolding entries_from
     next read same =
-        (λ j. entries_from base root ignored i (drop_next sources i source at_source j) (drop_next contents i content at_content j))
-        ∙ ap (λ r. r >>= λ entry. entries_from base root ignored (i + 1) (drop (i + 1) sources) (drop (i + 1) contents) >>= λ entries. Ok (entry ∷ entries)) same
+        (λ j. entries_from base root ignored i (drop_next sources i source at_source j)
+        (drop_next contents i content at_content j))
+        ∙ ap (λ r. r >>= λ entry. entries_from base root ignored (i + 1) (drop (i + 1) sources)
+        (drop (i + 1) contents) >>= λ entries. Ok (entry ∷ entries)) same
 
     -- one more is listed
-    pub entries_more : (front : List Entry) (entry : Entry) → source_entry base root i source content (is_listed i ignored) ≡ Ok entry
-        → behind front (entries_from base root ignored i (drop i sources) (drop i contents)) ≡ behind (front ++ entry ∷ []) (entries_from base root ignored (i + 1) (drop (i + 1) sources) (drop (i + 1) contents))
-    entries_more front entry ok = ap (behind front) (next (Ok entry) ok) ∙ by (entries_from base root ignored (i + 1) (drop (i + 1) sources) (drop (i + 1) contents))
+    pub entries_more : (front : List Entry) (entry : Entry)
+        → source_entry base root i source content (is_listed i ignored) ≡ Ok entry
+        → after front (entries_from base root ignored i (drop i sources) (drop i contents))
+        ≡ after (front ++ entry ∷ [])
+        (entries_from base root ignored (i + 1) (drop (i + 1) sources) (drop (i + 1) contents))
+    entries_more front entry ok = ap (after front) (next (Ok entry) ok)
+        ∙ by (entries_from base root ignored (i + 1) (drop (i + 1) sources) (drop (i + 1) contents))
       where
-        by : (r : Checked (List Entry)) → behind front (r >>= λ entries. Ok (entry ∷ entries)) ≡ behind (front ++ entry ∷ []) r
+        by : (r : Checked (List Entry))
+            → after front (r >>= λ entries. Ok (entry ∷ entries)) ≡ after (front ++ entry ∷ []) r
         by (Ok entries) = ap Ok (sym (append_assoc front (entry ∷ []) entries))
         by (Err e) = refl
 
     -- one has a fault
-    pub entries_fault : (front : List Entry) (fault : Fault) → source_entry base root i source content (is_listed i ignored) ≡ Err fault
-        → behind front (entries_from base root ignored i (drop i sources) (drop i contents)) ≡ Err fault
-    entries_fault front fault err = ap (behind front) (next (Err fault) err)
+    pub entries_fault : (front : List Entry) (fault : Fault)
+        → source_entry base root i source content (is_listed i ignored) ≡ Err fault
+        → after front (entries_from base root ignored i (drop i sources) (drop i contents)) ≡ Err fault
+    entries_fault front fault err = ap (after front) (next (Err fault) err)
 
   -- all are listed
-  pub entries_all : (i : ℕ) (front : List Entry) → length sources ≤ i → behind front (entries_from base root ignored i (drop i sources) (drop i contents)) ≡ Ok front
+  pub entries_all : (i : ℕ) (front : List Entry) → length sources ≤ i
+      → after front (entries_from base root ignored i (drop i sources) (drop i contents)) ≡ Ok front
   unfolding entries_from
-  entries_all i front end = ap (λ ss. behind front (entries_from base root ignored i ss (drop i contents))) (drop_of_length-le sources end) ∙ ap Ok (append-nil front)
+  entries_all i front end = ap (λ ss. after front (entries_from base root ignored i ss (drop i contents)))
+      (drop_of_length-le sources end) ∙ ap Ok (append-nil front)
+
+-- what one entry has to do with the source after it
+module _ (base : Parts) (root : Option (List ℕ)) where
+  -- a URL is the same at each index
+  url_at_each : (i k : ℕ) (source url : Option (List ℕ)) → source_url base root i source ≡ Ok url
+      → source_url base root k source ≡ Ok url
+  unfolding source_url
+  url_at_each i k None url is = is
+  url_at_each i k (Some source) url is = go (resolve base root source) is
+    where
+      go : (r : Resolved) → (source_at i r >>= λ text. Ok (Some text)) ≡ Ok url
+          → (source_at k r >>= λ text. Ok (Some text)) ≡ Ok url
+      go no_url same = cc
+      go unstable same = cc
+      go (resolved text) same = same
+
+  url_of : (i : ℕ) (source content : Option (List ℕ)) (ignored : Bool) (entry : Entry)
+      → source_entry base root i source content ignored ≡ Ok entry
+      → source_url base root i source ≡ Ok entry.url
+  url_of i source content ignored entry is = go (source_url base root i source) is
+    where
+      go : (r : Checked (Option (List ℕ)))
+          → (r >>= λ url. Ok (record { url = url; content = content; ignored = ignored })) ≡ Ok entry
+          → r ≡ Ok entry.url
+      go (Ok url) same = cc
+      go (Err fault) same = cc
+
+  at_end : (front : List Entry) (entry : Entry) → slice_get (front ++ entry ∷ []) (length front) ≡ Some entry
+  at_end [] entry = refl
+  at_end (e ∷ es) entry = at_end es entry
+
+  pub follows : (sources : List (Option (List ℕ))) (i : ℕ) (source content : Option (List ℕ))
+      (ignored : Bool) (front : List Entry) (entry : Entry)
+      → slice_get sources i ≡ Some source → source_entry base root i source content ignored ≡ Ok entry
+      → FollowsSource base root sources (i + 1) (front ++ entry ∷ [])
+  follows sources i source content ignored front entry at is _ =
+      let counted = length-append front (entry ∷ []) in
+      let last : length (front ++ entry ∷ []) - 1 ≡ length front = omega (arith, counted) in
+      let back : i + 1 - 1 ≡ i = omega arith in (
+        entry,
+        ap (slice_get (front ++ entry ∷ [])) last ∙ at_end front entry,
+        λ other here k.
+            let same : Some source ≡ Some other = sym at ∙ ap (slice_get sources) (sym back) ∙ here in
+            let is_same : other ≡ source = cc in
+            rw is_same (url_at_each i k source entry.url (url_of i source content ignored entry is)),
+      )
 
 -- a fault of a step is the fault of the whole
 pub passes_on : {Y V : Type 0} (error : ReadError) (step : Checked Y) (whole : Checked V)

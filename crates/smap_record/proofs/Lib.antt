@@ -18,3 +18,4 @@ pub mod DepthLemmas
 pub mod OneLevelLemmas
 mod Examples
 pub mod StabilityLemmas
+pub mod LevelLemmas

@@ -1,5 +1,7 @@
 -- Contents that are handed over one by one.
-use Rattle.std.proofs.Common.{◌≡◌, ℕ, zero, suc, ◌+◌, ◌-◌, ◌<◌, List, [], ◌∷◌, ◌++◌, length, take, drop, replicate, Option, Some, None, Ok, slice_get, ap, refl, sym, ◌∙◌, arith, append-nil}
+use Rattle.std.proofs.Common.{◌≡◌, ℕ, zero, suc, ◌+◌, ◌-◌, ◌<◌, List, [], ◌∷◌, ◌++◌, length, take, drop}
+use Rattle.std.proofs.Common.{replicate, Option, Some, None, Ok, slice_get, ap, refl, sym, ◌∙◌, arith}
+use Rattle.std.proofs.Common.{append-nil}
 use Rattle.std.proofs.Math.Seq.{take-length}
 use Rattle.std.proofs.lemmas.Option.{slice_get-get_or}
 use Rattle.std.proofs.lemmas.List.{get_or-replicate, length-replicate}
@@ -22,15 +24,22 @@ taken_at [] (suc n) i h = refl
 taken_at (x ∷ xs) (suc n) zero h = refl
 taken_at (x ∷ xs) (suc n) (suc i) h = taken_at xs n i (omega (arith, h))
 
-padded_at : {A : Type 0} (xs : List (Option A)) (k i : ℕ) → i < length xs + k → slice_get (xs ++ replicate k None) i ≡ Some (first_of (drop i xs))
-padded_at {A} [] k zero h = let none : Option A = None in slice_get-get_or (replicate k None) zero None (omega (arith, h, length-replicate k none)) ∙ ap Some (get_or-replicate k zero None None (omega (arith, h)))
-padded_at {A} [] k (suc i) h = let none : Option A = None in slice_get-get_or (replicate k None) (suc i) None (omega (arith, h, length-replicate k none)) ∙ ap Some (get_or-replicate k (suc i) None None (omega (arith, h)))
+padded_at : {A : Type 0} (xs : List (Option A)) (k i : ℕ)
+    → i < length xs + k → slice_get (xs ++ replicate k None) i ≡ Some (first_of (drop i xs))
+padded_at {A} [] k zero h = let none : Option A = None in
+    slice_get-get_or (replicate k None) zero None (omega (arith, h, length-replicate k none))
+    ∙ ap Some (get_or-replicate k zero None None (omega (arith, h)))
+padded_at {A} [] k (suc i) h = let none : Option A = None in
+    slice_get-get_or (replicate k None) (suc i) None (omega (arith, h, length-replicate k none))
+    ∙ ap Some (get_or-replicate k (suc i) None None (omega (arith, h)))
 padded_at (x ∷ xs) k zero h = refl
 padded_at (x ∷ xs) k (suc i) h = padded_at xs k i (omega (arith, h))
 
 -- the content of a source is the first of those that are left
-pub fitted_at : {A : Type 0} (xs : List (Option A)) (n i : ℕ) → i < n → slice_get (fitted n xs) i ≡ Some (first_of (drop i xs))
-fitted_at xs n i h = taken_at (xs ++ replicate (n - length xs) None) n i h ∙ padded_at xs (n - length xs) i (omega (arith, h))
+pub fitted_at : {A : Type 0} (xs : List (Option A)) (n i : ℕ)
+    → i < n → slice_get (fitted n xs) i ≡ Some (first_of (drop i xs))
+fitted_at xs n i h =
+    taken_at (xs ++ replicate (n - length xs) None) n i h ∙ padded_at xs (n - length xs) i (omega (arith, h))
 
 drop_one : {A : Type 0} (xs : List A) (i : ℕ) → drop 1 (drop i xs) ≡ drop (suc i) xs
 drop_one [] zero = refl
@@ -40,27 +49,34 @@ drop_one (x ∷ xs) (suc i) = drop_one xs i
 
 -- one less is left
 pub one_less : {A : Type 0} (xs ys : List A) (i : ℕ) → ys ≡ drop i xs → drop 1 ys ≡ drop (i + 1) xs
-one_less xs ys i same = let next : suc i ≡ i + 1 = omega arith in ap (drop 1) same ∙ drop_one xs i ∙ ap (λ n. drop n xs) next
+one_less xs ys i same = let next : suc i ≡ i + 1 = omega arith in
+    ap (drop 1) same ∙ drop_one xs i ∙ ap (λ n. drop n xs) next
 
 -- ---- contents that are copied
 
 -- as many as there are sources are read
-enough : (base : Parts) (root : Option (List ℕ)) (ignored : List ℕ) (i : ℕ) (ss cs : List (Option (List ℕ))) → entries_from base root ignored i ss (take (length ss) cs) ≡ entries_from base root ignored i ss cs
+enough : (base : Parts) (root : Option (List ℕ)) (ignored : List ℕ) (i : ℕ) (ss cs : List (Option (List ℕ)))
+    → entries_from base root ignored i ss (take (length ss) cs) ≡ entries_from base root ignored i ss cs
 unfolding entries_from
 enough base root ignored i [] [] = refl
 enough base root ignored i [] (c ∷ cs) = refl
 enough base root ignored i (s ∷ ss) [] = refl
 enough base root ignored i (s ∷ ss) (c ∷ cs) =
-    ap (λ (more : Checked (List Entry)). source_entry base root i s c (is_listed i ignored) >>= λ entry. more >>= λ entries. Ok (entry ∷ entries)) (enough base root ignored (i + 1) ss cs)
+    ap (λ (more : Checked (List Entry)). source_entry base root i s c (is_listed i ignored) >>= λ entry.
+    more >>= λ entries. Ok (entry ∷ entries)) (enough base root ignored (i + 1) ss cs)
 
 fitted_whole : {A : Type 0} (n : ℕ) (xs : List (Option A)) → length xs ≡ n → fitted n xs ≡ xs
 fitted_whole n xs long =
     let none : n - length xs ≡ zero = omega (arith, long) in
-    ap (λ k. take n (xs ++ replicate k None)) none ∙ ap (take n) (append-nil xs) ∙ ap (λ k. take k xs) (sym long) ∙ take-length xs
+    ap (λ k. take n (xs ++ replicate k None)) none ∙ ap (take n) (append-nil xs)
+    ∙ ap (λ k. take k xs) (sym long) ∙ take-length xs
 
 -- A map with as many of its own contents as it has sources lists what the map lists.
-pub listed_copied : (base : Parts) (limits : Allowed) (offset : Position) (before : Listing) (m : Flat) (copied : List (Option (List ℕ))) → copied ≡ take (length m.sources) m.contents → length copied ≡ length m.sources
+pub listed_copied : (base : Parts) (limits : Allowed) (offset : Position) (before : Listing)
+    (m : Flat) (copied : List (Option (List ℕ))) → copied ≡ take (length m.sources) m.contents
+    → length copied ≡ length m.sources
     → listed_flat base limits offset before (with_contents copied m) ≡ listed_flat base limits offset before m
 listed_copied base limits offset before m copied same count =
     same_entries base limits offset before m (fitted (length m.sources) copied)
-    (ap (entries_from base m.root m.ignored 0 m.sources) (fitted_whole (length m.sources) copied count ∙ same) ∙ enough base m.root m.ignored 0 m.sources m.contents)
+    (ap (entries_from base m.root m.ignored 0 m.sources) (fitted_whole (length m.sources) copied count ∙ same)
+    ∙ enough base m.root m.ignored 0 m.sources m.contents)

@@ -1,5 +1,6 @@
 -- What a relative spelling leads to.
-use Rattle.std.proofs.Common.{◌≡◌, ℕ, List, Option, Some, None, ap, ◌∙◌, sym, refl, Bool, true, false, cond, not, ◌&&◌, eqb, true≢false}
+use Rattle.std.proofs.Common.{◌≡◌, ℕ, List, Option, Some, None, ap, ◌∙◌, sym, refl, Bool, true, false, cond}
+use Rattle.std.proofs.Common.{not, ◌&&◌, eqb, true≢false}
 use Rattle.std.specs.Prelude.{bytes_eq, unwrap_or}
 use Rattle.std.specs.Option.{option_eq}
 use Rattle.std.proofs.lemmas.Bool.{eqb-true, eq-eqb}
@@ -9,20 +10,21 @@ use Rattle.url.specs.Parts.{Parts, cannot_be_a_base, host_or_empty}
 use Rattle.url.specs.Parser.{parse_url}
 use Rattle.url.specs.Relative.{relative_text, CanRelate, IsRelative}
 use Rattle.smap_record.specs.Source.{Resolved, no_url, unstable, resolved, resolve}
-use Rattle.smap_record.specs.Relative.{same_host, relative_url, relative_to, is_resolved, leads_to, if_leads_to, relative, relatively}
+use Rattle.smap_record.specs.Relative.{same_host, relative_url, relative_to, is_resolved, leads_to}
+use Rattle.smap_record.specs.Relative.{if_leads_to, relative, relatively}
 
 -- ---- the relative URL
 
-and-left : (a b : Bool) → (a && b) ≡ true → a ≡ true
-and-left true b h = refl
-and-left false b h = h
+and_left : (a b : Bool) → (a && b) ≡ true → a ≡ true
+and_left true b h = refl
+and_left false b h = h
 
-and-right : (a b : Bool) → (a && b) ≡ true → b ≡ true
-and-right true b h = h
-and-right false b h = absurd (true≢false (sym h))
+and_right : (a b : Bool) → (a && b) ≡ true → b ≡ true
+and_right true b h = h
+and_right false b h = absurd (true≢false (sym h))
 
-and-both : (a b : Bool) → a ≡ true → b ≡ true → (a && b) ≡ true
-and-both a b e f = ap (λ c. c && b) e ∙ f
+and_both : (a b : Bool) → a ≡ true → b ≡ true → (a && b) ≡ true
+and_both a b e f = ap (λ c. c && b) e ∙ f
 
 not-true : (a : Bool) → not a ≡ true → a ≡ false
 not-true true h = absurd (true≢false (sym h))
@@ -38,37 +40,46 @@ same_port None (Some n) h = absurd (true≢false (sym h))
 same_port (Some m) None h = absurd (true≢false (sym h))
 same_port (Some m) (Some n) h = ap Some (eqb-true m n h)
 
-can-true : (base url : Parts) → CanRelate base url → (not (cannot_be_a_base base) && same_host base url) ≡ true
-can-true base url h =
+can_true : (base url : Parts) → CanRelate base url
+    → (not (cannot_be_a_base base) && same_host base url) ≡ true
+can_true base url h =
     let host = h.1 in
-    and-both _ _ (ap not h.0)
-    (and-both _ _ ((bytes_eq-Decides base.scheme url.scheme).1 host.0)
-    (and-both _ _ ((bytes_eq-Decides (host_text (host_or_empty base)) (host_text (host_or_empty url))).1 host.1)
+    and_both _ _ (ap not h.0)
+    (and_both _ _ ((bytes_eq-Decides base.scheme url.scheme).1 host.0)
+    (and_both _ _
+    ((bytes_eq-Decides (host_text (host_or_empty base)) (host_text (host_or_empty url))).1 host.1)
     (ap (λ p. option_eq eqb p url.port) host.2 ∙ own_port url.port)))
 
-true-can : (base url : Parts) → (not (cannot_be_a_base base) && same_host base url) ≡ true → CanRelate base url
+true-can : (base url : Parts) → (not (cannot_be_a_base base) && same_host base url) ≡ true
+    → CanRelate base url
 true-can base url h =
-    let hosts = and-right (not (cannot_be_a_base base)) (same_host base url) h in
-    let rest = and-right (bytes_eq base.scheme url.scheme) _ hosts in (
-      not-true (cannot_be_a_base base) (and-left (not (cannot_be_a_base base)) (same_host base url) h),
+    let hosts = and_right (not (cannot_be_a_base base)) (same_host base url) h in
+    let rest = and_right (bytes_eq base.scheme url.scheme) _ hosts in (
+      not-true (cannot_be_a_base base) (and_left (not (cannot_be_a_base base)) (same_host base url) h),
       (
-        (bytes_eq-Decides base.scheme url.scheme).0 (and-left (bytes_eq base.scheme url.scheme) _ hosts),
-        (bytes_eq-Decides (host_text (host_or_empty base)) (host_text (host_or_empty url))).0 (and-left (bytes_eq (host_text (host_or_empty base)) (host_text (host_or_empty url))) _ rest),
-        same_port base.port url.port (and-right (bytes_eq (host_text (host_or_empty base)) (host_text (host_or_empty url))) _ rest),
+        (bytes_eq-Decides base.scheme url.scheme).0 (and_left (bytes_eq base.scheme url.scheme) _ hosts),
+        (bytes_eq-Decides (host_text (host_or_empty base)) (host_text (host_or_empty url))).0
+            (and_left (bytes_eq (host_text (host_or_empty base)) (host_text (host_or_empty url))) _ rest),
+        same_port base.port url.port
+            (and_right (bytes_eq (host_text (host_or_empty base)) (host_text (host_or_empty url))) _ rest),
       ),
     )
 
-pub relative_url-is : (base url : Parts) (r : Option (List ℕ)) → IsRelative base url r → r ≡ relative_url base url
+pub relative_url-is : (base url : Parts) (r : Option (List ℕ))
+    → IsRelative base url r → r ≡ relative_url base url
 relative_url-is base url None h = by (not (cannot_be_a_base base) && same_host base url) refl
   where
-    by : (b : Bool) → (not (cannot_be_a_base base) && same_host base url) ≡ b → None ≡ cond b (Some (relative_text base url)) None
+    by : (b : Bool) → (not (cannot_be_a_base base) && same_host base url) ≡ b
+        → None ≡ cond b (Some (relative_text base url)) None
     by true e = absurd (h (true-can base url e))
     by false e = refl
-relative_url-is base url (Some text) h = ap Some h.1 ∙ sym (ap (λ b. cond b (Some (relative_text base url)) None) (can-true base url h.0))
+relative_url-is base url (Some text) h =
+    ap Some h.1 ∙ sym (ap (λ b. cond b (Some (relative_text base url)) None) (can_true base url h.0))
 
 -- ---- leading back
 
-leads : (base : Parts) (source url : List ℕ) → leads_to base source url ≡ true → resolve base None source ≡ resolved url
+leads : (base : Parts) (source url : List ℕ) → leads_to base source url ≡ true
+    → resolve base None source ≡ resolved url
 leads base source url h = by (resolve base None source) h
   where
     by : (r : Resolved) → is_resolved r url ≡ true → r ≡ resolved url
@@ -77,11 +88,13 @@ leads base source url h = by (resolve base None source) h
     by (resolved text) h = ap resolved ((bytes_eq-Decides text url).0 h)
 
 -- A URL that is its own is what its relative spelling leads to.
-pub relatively-leads : (base : Parts) (url : List ℕ) → resolve base None url ≡ resolved url → resolve base None (relatively base url) ≡ resolved url
+pub relatively-leads : (base : Parts) (url : List ℕ) → resolve base None url ≡ resolved url
+    → resolve base None (relatively base url) ≡ resolved url
 unfolding relative
 relatively-leads base url own = whole (leads_to base url url)
   where
-    of : (text : List ℕ) (b : Bool) → leads_to base text url ≡ b → resolve base None (unwrap_or (cond b (Some text) None) url) ≡ resolved url
+    of : (text : List ℕ) (b : Bool) → leads_to base text url ≡ b
+        → resolve base None (unwrap_or (cond b (Some text) None) url) ≡ resolved url
     of text true e = leads base text url e
     of text false e = own
 
@@ -89,6 +102,8 @@ relatively-leads base url own = whole (leads_to base url url)
     by None = own
     by (Some text) = of text (leads_to base text url) refl
 
-    whole : (b : Bool) → resolve base None (unwrap_or (cond b (if_leads_to base url (relative_to base (parse_url (Some base) url))) None) url) ≡ resolved url
+    whole : (b : Bool) → resolve base None
+        (unwrap_or (cond b (if_leads_to base url (relative_to base (parse_url (Some base) url))) None) url)
+        ≡ resolved url
     whole true = by (relative_to base (parse_url (Some base) url))
     whole false = own

@@ -1,11 +1,11 @@
--- For private contracts: a source as the code keeps it.
+-- For private contracts: a source as the hashed table keeps it.
 use Rattle.std.specs.Prelude.{Bool, ◌&&◌, option_map, string_bytes, string_eq}
 use Rattle.std.specs.Option.{option_eq}
 use Rattle.std.proofs.Math.Bool.{beq}
 use Rattle.smap_record.specs.declared.entry.SourceEntry.{SourceEntry}
 use Rattle.smap_record.specs.Record.{Entry}
 
--- a source of the code, as a source
+-- the source that an entry of the table is
 abbrev pub entry_of : SourceEntry → Entry
 entry_of e = record {
   url = option_map string_bytes e.url;
@@ -13,7 +13,7 @@ entry_of e = record {
   ignored = e.ignored;
 }
 
--- what the derived comparison answers
+-- what the derived comparison returns
 abbrev pub same_key : SourceEntry → SourceEntry → Bool
 same_key a b =
     option_eq string_eq a.url b.url

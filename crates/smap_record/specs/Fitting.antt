@@ -1,5 +1,5 @@
--- Which records and listings a map can have that is read against a base under limits. This project's own
--- notion: it is the premise of the laws on canonical bytes.
+-- Which records and listings a map can have that is read against a base under limits. This is the premise of
+-- the laws on canonical bytes.
 use Rattle.std.specs.Prelude.{◌≡◌, ℕ, ◌<◌, ◌≤◌, List, length, map, bytes_eq, None, IfSome, option_and_then}
 use Rattle.std.specs.Prelude.{Contains}
 use Rattle.std.specs.List.{AllByRecursion, filter_map, IsDistinct}
@@ -7,7 +7,7 @@ use Rattle.url.specs.Parts.{Parts}
 use Rattle.smap_mappings.specs.declared.position.Position.{Position}
 use Rattle.smap_mappings.specs.Position.{POSITIONS, NeverFalls}
 use Rattle.smap_record.specs.Record.{Entry, Origin, Mapping, Record, Listing, Allowed, same_entry, distinct}
-use Rattle.smap_record.specs.Listed.{IsListing}
+use Rattle.smap_record.specs.Listings.{IsListing}
 use Rattle.smap_record.specs.Source.{resolve, resolved}
 
 -- The names that the mappings use, each once, in order of first use.
@@ -30,11 +30,11 @@ pub record IsMappingOf (lines : ℕ) (sources : List Entry) (m : Mapping) : Type
   pub column : m.column < POSITIONS
   pub origin : IfSome m.origin (IsOriginOf sources)
 
--- The URL, resolved against the base without a `sourceRoot`, is itself.
+-- The URL resolves to itself against the base, without a `sourceRoot`.
 abbrev pub IsOwnUrl : Parts → List ℕ → Type 0
 IsOwnUrl base text = resolve base None text ≡ resolved text
 
--- The source has no URL, or one that is itself.
+-- The source has no URL, or one that resolves to itself.
 abbrev pub HasOwnUrl : Parts → Entry → Type 0
 HasOwnUrl base e = IfSome e.url (IsOwnUrl base)
 

@@ -1,4 +1,4 @@
--- What a flat map lists, or its first fault.
+-- What a flat map lists, or its first fault (ECMA-426, "Source map format", "Decoding source maps").
 use Rattle.std.specs.Prelude.{ℕ, ◌+◌, nat_lt, Bool, ◌||◌, List, [], ◌∷◌, ◌++◌, length, map, Option, Some}
 use Rattle.std.specs.Prelude.{None, option_map, Ok}
 use Rattle.url.specs.Parts.{Parts}
@@ -75,7 +75,7 @@ start = record { line = 0; column = 0 }
 abbrev pub nothing : Listing
 nothing = record { sources = []; names = []; tokens = [] }
 
--- Together with those listed before, its sources or its names exceed the limit.
+-- With the map's sources or names, more would be listed than the limit allows.
 abbrev pub is_too_many : Allowed → Listing → Flat → Bool
 is_too_many limits before m =
     nat_lt limits.items (length before.sources + length m.sources)

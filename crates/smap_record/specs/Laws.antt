@@ -1,17 +1,35 @@
 -- Laws about nested index maps.
-use Rattle.std.specs.Prelude.{◌≡◌, ◌≢◌, ℕ, List, Ok, Err}
+use Rattle.std.specs.Prelude.{◌≡◌, ◌≢◌, ℕ, ◌+◌, ◌<◌, List, None, Ok, Err}
 use Rattle.url.specs.Parts.{Parts}
+use Rattle.serde_json.specs.Data.{Data}
 use Rattle.smap_mappings.specs.declared.position.Position.{Position}
 use Rattle.smap_mappings.specs.Position.{place}
+use Rattle.smap_shape.specs.declared.sections.TheConstants.{MAX_LEVEL}
+use Rattle.smap_shape.specs.Members.{Index, Section, index}
+use Rattle.smap_shape.specs.Reading.{shape_of, section_of}
 use Rattle.smap_record.specs.declared.fault.Fault.{Fault}
 use Rattle.smap_record.specs.declared.fault.Kind.TheVariants.{Nested}
-use Rattle.smap_record.specs.Record.{ReadMap, Allowed}
+use Rattle.smap_record.specs.Record.{Listing, ReadMap, Allowed}
+use Rattle.smap_record.specs.Sections.{listed_sections, map_at_level}
 use Rattle.smap_record.specs.Reading.{reading}
 use Rattle.smap_record.specs.OneLevel.{one_level_reading}
 
 -- A position placed by an inner offset and then by an outer one is placed by both combined.
 abbrev pub PlacingIsAssociative : Type 0
 PlacingIsAssociative = (a b p : Position) → place a (place b p) ≡ place (place a b) p
+
+-- At every level but the last, an index map in a section is added by its sections, which are those of an
+-- index map of the next level.
+abbrev pub SectionsByLevel : Type 0
+SectionsByLevel = (base : Parts) (limits : Allowed) (level : ℕ) (offset : Position) (before : Listing)
+    (i : Index Data) → level < MAX_LEVEL
+    → map_at_level base limits level offset before (index i)
+    ≡ listed_sections (level + 1) (map_at_level base limits (level + 1)) offset 0 None before i.sections
+
+-- At the last level the map of a section that is accepted is never an index map.
+abbrev pub NoneBelowLastLevel : Type 0
+NoneBelowLastLevel = (tree : Data) (s : Section Data) (i : Index Data) → section_of MAX_LEVEL tree ≡ Ok s
+    → shape_of s.map ≢ Ok (index i)
 
 -- Against reading without nested index maps: an input that is accepted there has the same file and listing,
 -- and so the same record; one that is rejected there has the same fault, unless that is nested sections.

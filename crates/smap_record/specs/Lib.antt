@@ -8,8 +8,8 @@ pub mod Reading
 pub mod OneLevel
 pub mod Laws
 pub mod Fitting
-pub mod Listed
-pub mod Answers
+pub mod Listings
+pub mod Results
 pub mod Views
 pub mod Resolving
 pub mod Entries
@@ -17,6 +17,6 @@ pub mod Numbered
 pub mod SourcesView
 pub mod MapView
 pub mod Steps
-pub mod Gathering
+pub mod Building
 pub mod Owned
 pub mod Words

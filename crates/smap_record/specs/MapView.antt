@@ -2,7 +2,7 @@
 use Rattle.std.specs.Prelude.{map, option_map, string_bytes}
 use Rattle.smap_record.specs.declared.map.SourceMap.TheInside.{Inside}
 use Rattle.smap_record.specs.Record.{Listing, ReadMap}
-use Rattle.smap_record.specs.Listed.{IsListing}
+use Rattle.smap_record.specs.Listings.{IsListing}
 
 -- what the fields list
 abbrev pub listing_of : Inside → Listing

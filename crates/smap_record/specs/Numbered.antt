@@ -1,4 +1,4 @@
--- For private contracts: listed sources as indices into a list that has each once.
+-- For private contracts: listed sources as indices into the list of distinct ones.
 use Rattle.std.specs.Prelude.{◌≡◌, ℕ, ◌<◌, List, map, length, slice_get, unwrap_or}
 use Rattle.std.specs.List.{AllByRecursion}
 use Rattle.indexmap.specs.IndexSet.{insert_key}

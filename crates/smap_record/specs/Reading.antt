@@ -1,4 +1,4 @@
--- What a map says, or its first fault.
+-- What a map says, or its first fault (ECMA-426, "Decoding source maps").
 use Rattle.std.specs.Prelude.{ℕ, ◌+◌, nat_eq, ◌==◌, List, drop, position, codes, Option, Some, None}
 use Rattle.std.specs.Prelude.{option_map}
 use Rattle.std.specs.Prelude.{if◌then◌else◌}

@@ -1,4 +1,5 @@
--- The relative form of a URL with respect to a base. This project's own rule.
+-- The relative form of a URL with respect to a base. This project's own rule; relative URLs are resolved as
+-- the URL Standard says.
 use Rattle.std.specs.Prelude.{ℕ, ◌==◌, Bool, false, not, ◌&&◌, List, bytes_eq}
 use Rattle.std.specs.Prelude.{Option, Some, None, Ok, Err, unwrap_or, if◌then◌else◌}
 use Rattle.std.specs.Option.{option_eq}
@@ -25,7 +26,7 @@ abbrev pub relative_to : Parts → Parsed Parts → Option (List ℕ)
 relative_to base (Ok url) = relative_url base url
 relative_to base (Err e) = None
 
--- whether this URL was resolved
+-- whether resolving gave this URL
 abbrev pub is_resolved : Resolved → List ℕ → Bool
 is_resolved no_url url = false
 is_resolved unstable url = false

@@ -1,4 +1,4 @@
--- For private contracts: the answers of resolving.
+-- For private contracts: what resolving returns.
 use Rattle.std.specs.Prelude.{◌≡◌, String, string_bytes, Result, Ok, Err}
 use Rattle.smap_record.specs.declared.source.resolve.SourceFault.{SourceFault}
 use Rattle.smap_record.specs.declared.source.resolve.SourceFault.TheVariants.{NoUrl, Unstable, Memory}

@@ -36,12 +36,12 @@ overlaps before offset = list_any (λ t. is_before offset (position_of t)) befor
 
 -- ---- the sections of one array
 
--- Reads a section's map, which starts at a position, after what is listed before it.
+-- How the map of a section, which starts at a position, is added to what is listed before it.
 abbrev pub Inner : Type 0
 Inner = Position → Listing → MapMembers Data → Checked Listing
 
 -- One section of an index map of this level that starts at `outer`, after a section with the own offset
--- `last`, and after what is listed before it. It gives its own offset, and what is listed now.
+-- `last`, and after what is listed before it: its own offset, and what is listed once its map is added.
 abbrev pub listed_section : ℕ → Inner → Position → Option Position → Listing → Data
     → Checked (Position × Listing)
 listed_section level inner outer last before tree = do
@@ -63,9 +63,9 @@ listed_sections level inner outer k last before (section ∷ sections) = do
 
 -- ---- the map of a section
 
--- The map of a section of an index map that may have n further levels in it: a flat map as it is, an index
--- map by its sections. With n = 0 the map is never an index map, since `section_of` has rejected that: the
--- line ends the recursion.
+-- The map of a section of an index map that may have n further levels in it. The recursion is over n, since
+-- levels rise; by levels it reads as the laws `SectionsByLevel` and `NoneBelowLastLevel` say, and the second
+-- of these says that the line with `refuse Nested` is never reached.
 unfoldable pub section_map : Parts → Allowed → ℕ → Inner
 section_map base limits zero offset before (flat m) = listed_flat base limits offset before m
 section_map base limits zero offset before (index i) = refuse Nested
@@ -73,10 +73,15 @@ section_map base limits (suc n) offset before (flat m) = listed_flat base limits
 section_map base limits (suc n) offset before (index i) =
     listed_sections (MAX_LEVEL - n) (section_map base limits n) offset 0 None before i.sections
 
+-- The map of a section of an index map of this level: a flat map is added by itself, an index map by its
+-- sections, which are those of an index map of the next level.
+abbrev pub map_at_level : Parts → Allowed → ℕ → Inner
+map_at_level base limits level = section_map base limits (MAX_LEVEL - level)
+
 -- ---- the whole
 
 -- The file next to the sections, and what they list.
 abbrev pub index_map : Parts → Allowed → Index Data → Checked ReadMap
 index_map base limits i = do
-  listing ← listed_sections 1 (section_map base limits (MAX_LEVEL - 1)) start 0 None nothing i.sections
+  listing ← listed_sections 1 (map_at_level base limits 1) start 0 None nothing i.sections
   Ok (record { file = i.file; listing = listing })

@@ -1,13 +1,23 @@
--- For private contracts: what a loop has done, and what is still to come.
-use Rattle.std.specs.Prelude.{◌≡◌, ℕ, ◌<◌, Bool, List, ◌++◌, slice_get, Some, Ok, Err}
+-- For private contracts: what a loop has done, and what is left to do.
+use Rattle.std.specs.Prelude.{◌≡◌, ℕ, ◌-◌, ◌<◌, Bool, List, ◌++◌, length, slice_get, Option, Some, Ok, Err}
+use Rattle.url.specs.Parts.{Parts}
 use Rattle.smap_shape.specs.Members.{is_listed}
 use Rattle.smap_record.specs.Faults.{Checked}
+use Rattle.smap_record.specs.Flat.{source_url}
+use Rattle.smap_record.specs.Record.{Entry}
 
--- these, followed by those that are still to come
-abbrev pub behind : {A : Type 0} → List A → Checked (List A) → Checked (List A)
-behind front (Ok rest) = Ok (front ++ rest)
-behind front (Err e) = Err e
+-- what is done, followed by what is left, if that has no fault
+abbrev pub after : {A : Type 0} → List A → Checked (List A) → Checked (List A)
+after front (Ok rest) = Ok (front ++ rest)
+after front (Err e) = Err e
 
 -- for each index below the count, whether it is listed
 abbrev pub AreFlags : ℕ → List ℕ → List Bool → Type 0
 AreFlags count numbers flags = (i : ℕ) → i < count → slice_get flags i ≡ Some (is_listed i numbers)
+
+-- The entry listed last has the URL of the source before index i, if there is one.
+abbrev pub FollowsSource : Parts → Option (List ℕ) → List (Option (List ℕ)) → ℕ → List Entry → Type 0
+FollowsSource base root sources i entries = 0 < i → (last : Entry)
+    × (slice_get entries (length entries - 1) ≡ Some last)
+    × ((source : Option (List ℕ)) → slice_get sources (i - 1) ≡ Some source
+    → (k : ℕ) → source_url base root k source ≡ Ok last.url)

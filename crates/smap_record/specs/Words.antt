@@ -57,12 +57,12 @@ abbrev pub path_words : List ℕ → List ℕ
 path_words [] = []
 path_words (number ∷ inner) = decimal number ++ inner_words inner
 
--- in which section it is, if it is in one
+-- the section that a fault is in, if it is in one
 abbrev pub section_words : List ℕ → List ℕ
 section_words [] = []
 section_words (number ∷ inner) = codes "section " ++ (decimal number ++ (inner_words inner ++ codes ": "))
 
--- in which segment of the mappings string it is
+-- the segment of the mappings string that a fault is in, if it is in one
 abbrev pub place_words : Option SegmentPlace → List ℕ
 place_words None = []
 place_words (Some place) =

@@ -1,5 +1,5 @@
-//! Why a map is rejected: every kind of fault, with its section and its place; and their words. Whoever prints
-//! a fault puts its own words before these.
+//! Why a map is rejected: every kind of fault with its section, its place and its message. Whoever prints a
+//! fault adds words such as `refused: ` before the message.
 ghost use Rattle.std.specs.Prelude.{◌≡◌, Some};
 ghost use Rattle.smap_record.specs.Faults.{plain, segment_fault};
 ghost use Rattle.smap_record.specs.Words.{fault_words, kind_words, number_words, place_words, section_words};
@@ -137,7 +137,7 @@ impl<T: Drop> From<AllocFailed<T>> for ReadError {
     }
 }
 
-/// A refusal that names no section and no segment.
+/// The error for a fault that is in no section and no segment.
 pub(crate) fn refused(kind: Kind) -> ReadError
     ensures { result ≡ ReadError.Refused (plain kind) }
 {
@@ -208,7 +208,7 @@ impl From<SegmentKind> for Kind {
     }
 }
 
-/// How a number is misspelled.
+/// What is wrong with a number.
 fn number_words(fault: NumberFault) -> &'static str
     ensures { result.now ≡ number_words fault }
 {
@@ -268,7 +268,7 @@ impl fmt::Display for Kind {
     }
 }
 
-/// In which section a fault is, if it is in one.
+/// The section that a fault is in, if it is in one, as its message has it.
 #[derive(Drop)]
 struct InSection<'a>(&'a Path);
 
@@ -284,7 +284,7 @@ impl fmt::Display for InSection<'_> {
     }
 }
 
-/// In which segment of the mappings text a fault is, if it is in one.
+/// The segment that a fault is in, if it is in one, as its message has it.
 #[derive(Drop)]
 struct InSegment(Option<SegmentPlace>);
 

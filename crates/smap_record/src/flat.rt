@@ -1,8 +1,10 @@
-//! A flat map, read from its members after what is listed before it: how much it lists, then each source in
-//! turn, then its mappings. Names are copied last, when nothing can be refused any more. A section's
-//! contents are copied, and those of a map that is no section are handed over.
+//! A flat map, read from its members and added to what is listed before it: first its counts are compared
+//! with the limits, then its sources are resolved in turn, then its mappings are decoded. Names are copied
+//! last, when the map can't be rejected any more. The contents of a section are copied, and those of a map
+//! that isn't in a section are passed in by value.
 ghost use Rattle.std.specs.Prelude.{◌≡◌, ◌+◌, ◌<◌, ◌++◌, nat_lt, length, map, Some, IfOk, IfSome, false};
-ghost use Rattle.std.specs.Prelude.{option_map, option_copied, string_bytes, take, drop};
+ghost use Rattle.std.specs.Prelude.{ℕ, List, Option, slice_get, option_map, option_copied, string_bytes};
+ghost use Rattle.std.specs.Prelude.{take, drop};
 ghost use Rattle.std.specs.Vec.Iter.{into_iter_items};
 ghost use Rattle.std.specs.List.{AllByRecursion};
 ghost use Rattle.smap_mappings.specs.Position.{POSITIONS, IsPosition};
@@ -18,16 +20,16 @@ ghost use Rattle.smap_record.specs.Flat.{source_at, source_url as source_url_of,
 ghost use Rattle.smap_record.specs.Flat.{is_too_many, bounds_of, shifted as shifted_by, listed_flat};
 ghost use Rattle.smap_record.specs.Flat.{flat_map as flat_map_of};
 ghost use Rattle.smap_record.specs.Fitting.{Fits, ListingFits};
-ghost use Rattle.smap_record.specs.Answers.{Gives};
+ghost use Rattle.smap_record.specs.Results.{Returns};
 ghost use Rattle.smap_record.specs.Entries.{entry_of};
 ghost use Rattle.smap_record.specs.Owned.{texts_of, first_of};
-ghost use Rattle.smap_record.specs.Steps.{behind, AreFlags};
-ghost use Rattle.smap_record.specs.Gathering.{gathered, any_after};
+ghost use Rattle.smap_record.specs.Steps.{after, AreFlags, FollowsSource};
+ghost use Rattle.smap_record.specs.Building.{listing_so_far, any_after};
 
 use crate::entry::SourceEntry;
 use crate::fault::{Fault, Kind, ReadError, refused};
-use crate::gathered::Gathered;
 use crate::limits::Limits;
+use crate::listing_builder::ListingBuilder;
 use crate::map::SourceMap;
 use crate::source::{Base, SourceFault, resolve};
 use crate::sources::Sources;
@@ -36,7 +38,7 @@ use smap_shape::FlatShape;
 use std::alloc::{AllocError, Global};
 use std::vec::IntoIter;
 
-/// The URL of a source, or the fault of the source with this number.
+/// The URL of a source, or the fault of the source with this index.
 fn url_at(
     alloc: Global,
     base: &Base,
@@ -44,7 +46,7 @@ fn url_at(
     i: usize,
     source: &str,
 ) -> Result<String, ReadError>
-    ensures { Gives string_bytes result
+    ensures { Returns string_bytes result
         (source_at i (url_of base.now (option_copied root.entry) source.now)) }
 {
     match resolve(alloc, base, root, source) {
@@ -64,7 +66,7 @@ fn source_url(
     i: usize,
     source: Option<&str>,
 ) -> Result<Option<String>, ReadError>
-    ensures { Gives (option_map string_bytes) result
+    ensures { Returns (option_map string_bytes) result
         (source_url_of base.now (option_copied root.entry) i (option_copied source.entry)) }
 {
     match source {
@@ -76,7 +78,7 @@ fn source_url(
     }
 }
 
-/// A text of the tree, copied.
+/// A copy of a string of the tree.
 pub(crate) fn copied(alloc: Global, text: Option<&str>) -> Result<Option<String>, AllocError>
     ensures { IfOk result (λ s. option_map string_bytes s ≡ option_copied text.entry) }
 {
@@ -86,21 +88,45 @@ pub(crate) fn copied(alloc: Global, text: Option<&str>) -> Result<Option<String>
     Ok(Some(String::from_str(alloc, text)?))
 }
 
-/// The i-th source with its content.
+/// The URL of the i-th source. One that is spelled like the source before it isn't resolved again: its URL
+/// is that of the entry listed last.
+fn next_url(
+    alloc: Global,
+    before: &Sources,
+    base: &Base,
+    shape: &FlatShape<'_>,
+    i: usize,
+) -> Result<Option<String>, ReadError>
+    requires within { i < length shape.now.sources }
+    requires last { FollowsSource base.now shape.now.root shape.now.sources i before.now }
+    ensures { (source : Option (List ℕ)) → slice_get shape.now.sources i ≡ Some source
+        → Returns (option_map string_bytes) result (source_url_of base.now shape.now.root i source) }
+{
+    let source = shape.source(i);
+    if i > 0 && source == shape.source(i - 1) {
+        let last = before.distinct(before.listed(before.listed_count() - 1));
+        return Ok(copied(alloc, last.url)?);
+    }
+    source_url(alloc, base, shape.root(), i, source)
+}
+
+/// The i-th source with its content, after those that are listed before it.
 fn entry(
     alloc: Global,
+    before: &Sources,
     base: &Base,
-    root: Option<&str>,
+    shape: &FlatShape<'_>,
     i: usize,
-    source: Option<&str>,
     content: Option<String>,
     ignored: bool,
 ) -> Result<SourceEntry, ReadError>
-    ensures { Gives entry_of result
-        (source_entry base.now (option_copied root.entry) i (option_copied source.entry)
+    requires within { i < length shape.now.sources }
+    requires last { FollowsSource base.now shape.now.root shape.now.sources i before.now }
+    ensures { (source : Option (List ℕ)) → slice_get shape.now.sources i ≡ Some source
+        → Returns entry_of result (source_entry base.now shape.now.root i source
         (option_map string_bytes content) ignored) }
 {
-    let url = source_url(alloc, base, root, i, source)?;
+    let url = next_url(alloc, before, base, shape, i)?;
     Ok(SourceEntry {
         url,
         content,
@@ -108,7 +134,7 @@ fn entry(
     })
 }
 
-/// Whether each source is ignored. The list of ignored numbers may be long, so it is gone through once.
+/// Whether each source is ignored. The ignore list may be long, so it is read once.
 fn ignored_flags(alloc: Global, shape: &FlatShape<'_>) -> Result<Vec<bool>, AllocError>
     ensures count { IfOk result (λ flags. length flags.items ≡ length shape.now.sources) }
     ensures flags { IfOk result (λ flags. AreFlags (length shape.now.sources) shape.now.ignored flags.items) }
@@ -120,7 +146,7 @@ fn ignored_flags(alloc: Global, shape: &FlatShape<'_>) -> Result<Vec<bool>, Allo
     Ok(flags)
 }
 
-/// The contents of the map's sources, copied.
+/// Copies of the contents of the map's sources.
 fn copied_contents(alloc: Global, shape: &FlatShape<'_>) -> Result<Vec<Option<String>>, AllocError>
     ensures copied { IfOk result (λ v.
         texts_of v.items ≡ take (length shape.now.sources) shape.now.contents) }
@@ -133,7 +159,7 @@ fn copied_contents(alloc: Global, shape: &FlatShape<'_>) -> Result<Vec<Option<St
     Ok(contents)
 }
 
-/// The next source's content. Those past the last one have none.
+/// The next source's content; none after the last entry.
 fn next_content(rest: &mut IntoIter<Option<String>>) -> Option<String>
     ensures first { option_map string_bytes result ≡ first_of (texts_of (into_iter_items rest.old)) }
     ensures rest { texts_of (into_iter_items rest.new) ≡ drop 1 (texts_of (into_iter_items rest.old)) }
@@ -144,7 +170,7 @@ fn next_content(rest: &mut IntoIter<Option<String>>) -> Option<String>
     }
 }
 
-/// The map's sources with these contents, after those that are listed before it.
+/// The sources listed before the map, followed by its own with these contents.
 fn with_sources(
     alloc: Global,
     before: Sources,
@@ -152,24 +178,23 @@ fn with_sources(
     shape: &FlatShape<'_>,
     contents: Vec<Option<String>>,
 ) -> Result<Sources, ReadError>
-    ensures lists { Gives (λ s. s) result
-        (behind before (entries_from base.now shape.now.root shape.now.ignored 0
+    ensures lists { Returns (λ s. s) result
+        (after before (entries_from base.now shape.now.root shape.now.ignored 0
         shape.now.sources (fitted (length shape.now.sources) (texts_of contents.items)))) }
     ensures count { IfOk result (λ s. length s ≡ length before + length shape.now.sources) }
 {
     let ignored = ignored_flags(alloc, shape)?;
-    let root = shape.root();
     let mut rest = contents.into_iter();
     let mut sources = before;
     for i in 0..shape.source_count() {
         let content = next_content(&mut rest);
-        let entry = entry(alloc, base, root, i, shape.source(i), content, ignored[i])?;
+        let entry = entry(alloc, &sources, base, shape, i, content, ignored[i])?;
         sources = sources.with(entry)?;
     }
     Ok(sources)
 }
 
-/// The map's names, copied after those that are listed before it.
+/// The names listed before the map, followed by copies of its own.
 fn with_names(
     alloc: Global,
     before: Vec<String>,
@@ -185,23 +210,23 @@ fn with_names(
     Ok(names)
 }
 
-/// Whether so many more are too many. The sum isn't taken, which could be past the greatest `usize`.
+/// Whether this many more are too many. The sum isn't computed, since it could overflow.
 fn is_beyond(most: usize, before: usize, more: usize) -> bool
     ensures { result ≡ nat_lt most (before + more) }
 {
     more > most || before > most - more
 }
 
-/// What the map's mappings text is read under, unless with those listed before too much is listed.
+/// The bounds of the map's mappings string, unless more is listed with the map than the limits allow.
 fn bounds(
-    before: &Gathered,
+    before: &ListingBuilder,
     shape: &FlatShape<'_>,
     limits: Limits,
     offset: Position,
 ) -> Result<Bounds, ReadError>
     requires { IsPosition offset }
-    ensures few { Gives (λ _. tt) result
-        (refuse_if TooMany (is_too_many limits (gathered before.now) shape.now)) }
+    ensures few { Returns (λ _. tt) result
+        (refuse_if TooMany (is_too_many limits (listing_so_far before.now) shape.now)) }
     ensures bounds { IfOk result (λ b. b ≡ bounds_of limits offset shape.now) }
     ensures are { IfOk result AreBounds }
     ensures items { limits.items < POSITIONS }
@@ -223,10 +248,10 @@ fn bounds(
     })
 }
 
-/// The tokens of a mappings text.
+/// The tokens of a mappings string.
 fn own_tokens(alloc: Global, text: &str, bounds: Bounds) -> Result<Vec<Token>, ReadError>
     requires { AreBounds bounds }
-    ensures says { Gives (λ v. v.items) result (of_segments (decoded bounds text.now)) }
+    ensures says { Returns (λ v. v.items) result (of_segments (decoded bounds text.now)) }
     ensures encodable { IfOk result (λ v. IsEncodable v.items) }
     ensures within { IfOk result (λ v. AllByRecursion (IsWithin bounds) v.items) }
     ensures from_start { IfOk result (λ v. AllByRecursion (IsFromStart bounds) v.items) }
@@ -240,7 +265,7 @@ fn own_tokens(alloc: Global, text: &str, bounds: Bounds) -> Result<Vec<Token>, R
     }
 }
 
-/// A token, with indices into lists that begin with so many sources and names.
+/// A token whose indices count from this many sources and names of earlier sections.
 fn shifted(token: Token, sources: usize, names: usize) -> Token
     requires sources { sources < POSITIONS }
     requires names { names < POSITIONS }
@@ -265,7 +290,7 @@ fn shifted(token: Token, sources: usize, names: usize) -> Token
     }
 }
 
-/// All tokens, with such indices, each in its place.
+/// Shifts the indices of all tokens in place.
 fn shift_all(tokens: &mut Vec<Token>, sources: usize, names: usize)
     requires sources { sources < POSITIONS }
     requires names { names < POSITIONS }
@@ -280,7 +305,7 @@ fn shift_all(tokens: &mut Vec<Token>, sources: usize, names: usize)
     }
 }
 
-/// Tokens after others. Those of the first section are taken as they are.
+/// Appends tokens to those of earlier sections. If there are none, the vector is kept as it is.
 fn joined(mut front: Vec<Token>, mut back: Vec<Token>) -> Result<Vec<Token>, AllocError>
     ensures { IfOk result (λ v. v.items ≡ front.items ++ back.items) }
 {
@@ -291,28 +316,28 @@ fn joined(mut front: Vec<Token>, mut back: Vec<Token>) -> Result<Vec<Token>, All
     Ok(front)
 }
 
-/// What is listed with a map that starts at an offset, after what is listed before it; or the map's first
-/// fault. The map's contents are these, in place of those of its shape. No token before it lies after the
-/// offset.
+/// What is listed once a map that starts at an offset is added to what is listed before it, or the map's
+/// first fault. The map's contents are passed in, in place of those of its members. No earlier token is after
+/// the offset.
 fn with_contents(
     alloc: Global,
-    before: Gathered,
+    before: ListingBuilder,
     shape: &FlatShape<'_>,
     contents: Vec<Option<String>>,
     base: &Base,
     limits: Limits,
     offset: Position,
-) -> Result<Gathered, ReadError>
+) -> Result<ListingBuilder, ReadError>
     requires offset { IsPosition offset }
     requires none_after { any_after offset before.tokens.items ≡ false }
-    requires fits { ListingFits base.now limits (gathered before) }
-    ensures reads { Gives gathered result
-        (listed_flat base.now limits offset (gathered before)
+    requires fits { ListingFits base.now limits (listing_so_far before) }
+    ensures reads { Returns listing_so_far result
+        (listed_flat base.now limits offset (listing_so_far before)
         (flat_with (texts_of contents.items) shape.now)) }
-    ensures fits { IfOk result (λ g. ListingFits base.now limits (gathered g)) }
+    ensures fits { IfOk result (λ g. ListingFits base.now limits (listing_so_far g)) }
 {
     let bounds = bounds(&before, shape, limits, offset)?;
-    let Gathered {
+    let ListingBuilder {
         sources: first_sources,
         names: first_names,
         tokens: first_tokens,
@@ -324,29 +349,29 @@ fn with_contents(
     shift_all(&mut own, source_count, name_count);
     let tokens = joined(first_tokens, own)?;
     let names = with_names(alloc, first_names, shape)?;
-    Ok(Gathered {
+    Ok(ListingBuilder {
         sources,
         names,
         tokens,
     })
 }
 
-/// What is listed with a map that starts at an offset, after what is listed before it; or the map's first
-/// fault. The map's contents are copied. No token before it lies after the offset.
+/// What is listed once a map that starts at an offset is added to what is listed before it, or the map's
+/// first fault. The map's contents are copied. No earlier token is after the offset.
 pub(crate) fn with_flat(
     alloc: Global,
-    before: Gathered,
+    before: ListingBuilder,
     shape: &FlatShape<'_>,
     base: &Base,
     limits: Limits,
     offset: Position,
-) -> Result<Gathered, ReadError>
+) -> Result<ListingBuilder, ReadError>
     requires offset { IsPosition offset }
     requires none_after { any_after offset before.tokens.items ≡ false }
-    requires fits { ListingFits base.now limits (gathered before) }
-    ensures reads { Gives gathered result
-        (listed_flat base.now limits offset (gathered before) shape.now) }
-    ensures fits { IfOk result (λ g. ListingFits base.now limits (gathered g)) }
+    requires fits { ListingFits base.now limits (listing_so_far before) }
+    ensures reads { Returns listing_so_far result
+        (listed_flat base.now limits offset (listing_so_far before) shape.now) }
+    ensures fits { IfOk result (λ g. ListingFits base.now limits (listing_so_far g)) }
 {
     let contents = copied_contents(alloc, shape)?;
     match with_contents(alloc, before, shape, contents, base, limits, offset) {
@@ -355,7 +380,7 @@ pub(crate) fn with_flat(
     }
 }
 
-/// The map that the members say with these contents, or its first fault.
+/// The map that has these members and these contents, or its first fault.
 pub(crate) fn flat_map(
     alloc: Global,
     shape: &FlatShape<'_>,
@@ -363,13 +388,13 @@ pub(crate) fn flat_map(
     base: &Base,
     limits: Limits,
 ) -> Result<SourceMap, ReadError>
-    ensures reads { Gives (λ m. m) result
+    ensures reads { Returns (λ m. m) result
         (flat_map_of base.now limits (flat_with (texts_of contents.items) shape.now)) }
     ensures fits { IfOk result (λ m. Fits base.now limits (record_of m)) }
     ensures listing_fits { IfOk result (λ m. ListingFits base.now limits m.listing) }
 {
     let start = Position { line: 0, column: 0 };
-    let before = Gathered::new(alloc);
+    let before = ListingBuilder::new(alloc);
     let listed = with_contents(alloc, before, shape, contents, base, limits, start)?;
     let file = copied(alloc, shape.file())?;
     Ok(listed.into_map(file))

@@ -12,9 +12,9 @@
 mod entry;
 mod fault;
 mod flat;
-mod gathered;
 pub mod laws;
 mod limits;
+mod listing_builder;
 mod map;
 mod path;
 mod reading;

@@ -2,8 +2,8 @@
 ghost use Rattle.std.specs.Prelude.{◌≡◌, ◌<◌, length, map, slice_get, Some, IfSome, option_map};
 ghost use Rattle.std.specs.Prelude.{option_copied, string_bytes};
 ghost use Rattle.smap_record.specs.Record.{record_of, origin_of};
-ghost use Rattle.smap_record.specs.Listed.{IsListing, IsListedOriginal};
-ghost use Rattle.smap_record.specs.Views.{entry_seen, origin_seen, mapping_seen};
+ghost use Rattle.smap_record.specs.Listings.{IsListing, IsListedOriginal};
+ghost use Rattle.smap_record.specs.Views.{entry_of_view, origin_of_view, mapping_of_view};
 
 use crate::sources::Sources;
 use crate::view::{OriginalView, SourceView, TokenView};
@@ -99,7 +99,7 @@ impl SourceMap {
     /// The i-th distinct source, in order of first listing. `i` must be below `source_count`.
     pub fn source(&self, i: usize) -> SourceView<'_>
         requires { i < length (record_of self.now).sources }
-        ensures { slice_get (record_of self.now).sources i ≡ Some (entry_seen result) }
+        ensures { slice_get (record_of self.now).sources i ≡ Some (entry_of_view result) }
     {
         let sources = &self.sources;
         sources.distinct(i)
@@ -163,9 +163,9 @@ impl SourceMap {
     /// from 0. `i` must be below `token_count`.
     pub fn token(&self, i: usize) -> TokenView<'_>
         requires { i < length self.now.listing.tokens }
-        ensures mapping { slice_get (record_of self.now).mappings i ≡ Some (mapping_seen result) }
+        ensures mapping { slice_get (record_of self.now).mappings i ≡ Some (mapping_of_view result) }
         ensures number { IfSome result.original (λ o.
-            slice_get (record_of self.now).sources o.source_number ≡ Some (entry_seen o.source)) }
+            slice_get (record_of self.now).sources o.source_number ≡ Some (entry_of_view o.source)) }
     {
         let _ = &self.file;
         let token = self.listed_token(i);
@@ -178,9 +178,9 @@ impl SourceMap {
 
     fn original(&self, original: Option<Original>) -> Option<OriginalView<'_>>
         requires { IfSome original (IsListedOriginal self.now.listing) }
-        ensures origin { option_map origin_seen result ≡ option_map (origin_of self.now.listing) original }
+        ensures origin { option_map origin_of_view result ≡ option_map (origin_of self.now.listing) original }
         ensures number { IfSome result (λ o.
-            slice_get (record_of self.now).sources o.source_number ≡ Some (entry_seen o.source)) }
+            slice_get (record_of self.now).sources o.source_number ≡ Some (entry_of_view o.source)) }
     {
         let original = original?;
         let source_number = self.listed(original.source as usize);

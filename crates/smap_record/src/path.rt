@@ -11,7 +11,7 @@ use smap_shape::MAX_LEVEL;
 use std::fmt;
 use std::marker::Model;
 
-/// As many numbers as there are levels.
+/// As many indices as there are levels of index maps.
 const DEPTH: usize = MAX_LEVEL as usize;
 
 /// The indices of sections from the outermost to the innermost, at most eight, each from 0 in its own
@@ -62,7 +62,7 @@ impl Path {
         }
     }
 
-    /// The path that leads into the section with this number, and there on.
+    /// The path with the index of one more section before it.
     pub(crate) fn within(self, k: usize) -> Path
         requires { length self < MAX_LEVEL }
         ensures { result ≡ k ∷ self }
@@ -93,7 +93,8 @@ impl fmt::Debug for Path {
     }
 }
 
-/// The numbers from the outermost in, with a dot between two, such as `0.2`; nothing without numbers.
+/// Joins the indices from the outermost to the innermost with dots, as in `0.2`; writes nothing for the empty
+/// path.
 impl fmt::Display for Path {
     ghost output = { λ path. Some (path_words path) };
 

@@ -1,15 +1,16 @@
-//! From bytes to a source map: the tree of the JSON text after the prefix line, its shape, the map.
-//! The contents are moved out of the tree; what else the map keeps is copied out of it, and the tree is let
-//! go at the end, so a map is read in a few times its size.
+//! From bytes to a source map: the JSON text after the prefix line is parsed into a tree, then the tree's
+//! members are read, then the map they describe. The contents are moved out of the tree, everything else that
+//! the map keeps is copied, and the tree is freed at the end. So reading takes a few times the memory of the
+//! input.
 ghost use Rattle.std.specs.Prelude.{IfOk};
 ghost use Rattle.serde_json.specs.View.{view};
 ghost use Rattle.smap_shape.specs.Contents.{map_with_contents};
 ghost use Rattle.smap_shape.specs.Reading.{shape_of};
-ghost use Rattle.smap_shape.specs.Views.{seen};
+ghost use Rattle.smap_shape.specs.Views.{map_value};
 ghost use Rattle.smap_record.specs.Record.{record_of};
 ghost use Rattle.smap_record.specs.Reading.{reading, tree_map};
 ghost use Rattle.smap_record.specs.Fitting.{Fits, ListingFits};
-ghost use Rattle.smap_record.specs.Answers.{Gives};
+ghost use Rattle.smap_record.specs.Results.{Returns};
 ghost use Rattle.smap_record.specs.Owned.{texts_of, members_map};
 
 use crate::fault::{Kind, ReadError, refused};
@@ -23,7 +24,7 @@ use serde_json::Value;
 use smap_shape::{Shape, shape, split_contents};
 use std::alloc::Global;
 
-/// The map that a tree says with these contents, or its first fault.
+/// The map of a JSON tree with these contents, or its first fault.
 fn split_map_of(
     alloc: Global,
     contents: Vec<Option<String>>,
@@ -31,8 +32,8 @@ fn split_map_of(
     base: &Base,
     limits: Limits,
 ) -> Result<SourceMap, ReadError>
-    ensures reads { Gives (λ m. m) result (members_map base.now limits
-        (seen (map_with_contents (texts_of contents.items)) (shape_of (view tree.now)))) }
+    ensures reads { Returns (λ m. m) result (members_map base.now limits
+        (map_value (map_with_contents (texts_of contents.items)) (shape_of (view tree.now)))) }
     ensures fits { IfOk result (λ m. Fits base.now limits (record_of m)) }
     ensures listing_fits { IfOk result (λ m. ListingFits base.now limits m.listing) }
 {
@@ -43,14 +44,14 @@ fn split_map_of(
     }
 }
 
-/// The map that a tree says, or its first fault. Its contents are moved out of the tree.
+/// The map of a JSON tree, or its first fault. Its contents are moved out of the tree.
 fn tree_map_of(
     alloc: Global,
     tree: Value,
     base: &Base,
     limits: Limits,
 ) -> Result<SourceMap, ReadError>
-    ensures reads { Gives (λ m. m) result (tree_map base.now limits (view tree)) }
+    ensures reads { Returns (λ m. m) result (tree_map base.now limits (view tree)) }
     ensures fits { IfOk result (λ m. Fits base.now limits (record_of m)) }
     ensures listing_fits { IfOk result (λ m. ListingFits base.now limits m.listing) }
 {
@@ -86,7 +87,7 @@ impl SourceMap {
         base: &Base,
         limits: Limits,
     ) -> Result<SourceMap, ReadError>
-        ensures reads { Gives (λ m. m) result (reading base.now limits bytes.now) }
+        ensures reads { Returns (λ m. m) result (reading base.now limits bytes.now) }
         ensures fits { IfOk result (λ m. Fits base.now limits (record_of m)) }
         ensures listing_fits { IfOk result (λ m. ListingFits base.now limits m.listing) }
     {
@@ -108,7 +109,7 @@ impl SourceMap {
         base: &Base,
         limits: Limits,
     ) -> Result<SourceMap, ReadError>
-        ensures reads { Gives (λ m. m) result (reading base.now limits bytes.items) }
+        ensures reads { Returns (λ m. m) result (reading base.now limits bytes.items) }
         ensures fits { IfOk result (λ m. Fits base.now limits (record_of m)) }
         ensures listing_fits { IfOk result (λ m. ListingFits base.now limits m.listing) }
     {

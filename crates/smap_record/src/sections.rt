@@ -1,22 +1,22 @@
-//! An index map, read section by section in one pass: what one lists comes after what all before it list. A
-//! section whose map is an index map is read by that map's sections, each placed by both offsets; index maps
-//! within each other are eight levels deep at most, so however deep the JSON text nests, the stack doesn't
-//! grow with it.
-ghost use Rattle.std.specs.Prelude.{◌≡◌, ◌≤◌, ◌-◌, IfOk, None, map as mapped};
+//! An index map, read section by section in one pass: what a section lists is added to what those before it
+//! list. If the map of a section is an index map, its sections are read in turn, each placed by both offsets.
+//! At most eight levels of index maps are read, so the depth of recursion is bounded, however deep the JSON
+//! text nests (ECMA-426, "Index source map").
+ghost use Rattle.std.specs.Prelude.{◌≡◌, ◌≤◌, IfOk, None, map as mapped};
 ghost use Rattle.serde_json.specs.View.{view};
-ghost use Rattle.smap_shape.specs.Views.{index_told};
+ghost use Rattle.smap_shape.specs.Views.{index_members};
 ghost use Rattle.smap_record.specs.Record.{record_of};
-ghost use Rattle.smap_record.specs.Sections.{section_map, listed_section, listed_sections};
+ghost use Rattle.smap_record.specs.Sections.{map_at_level, listed_section, listed_sections};
 ghost use Rattle.smap_record.specs.Sections.{index_map as index_map_of};
 ghost use Rattle.smap_record.specs.Fitting.{Fits, ListingFits};
-ghost use Rattle.smap_record.specs.Answers.{Gives};
+ghost use Rattle.smap_record.specs.Results.{Returns};
 ghost use Rattle.smap_mappings.specs.Position.{IsPosition};
-ghost use Rattle.smap_record.specs.Gathering.{gathered, error_in, both, HasRoom};
+ghost use Rattle.smap_record.specs.Building.{listing_so_far, error_in, both, HasRoom};
 
 use crate::fault::{Fault, Kind, ReadError, refused};
 use crate::flat::{copied, with_flat};
-use crate::gathered::{Gathered, falls, overlaps};
 use crate::limits::Limits;
+use crate::listing_builder::{ListingBuilder, falls, overlaps};
 use crate::map::SourceMap;
 use crate::source::Base;
 use serde_json::Value;
@@ -24,7 +24,7 @@ use smap_mappings::Position;
 use smap_shape::{IndexShape, MAX_LEVEL, Shape, section, shape};
 use std::alloc::Global;
 
-/// A refusal as one in the section with this number.
+/// An error as one in the section with this index.
 fn in_section(k: usize, error: ReadError) -> ReadError
     requires { HasRoom error }
     ensures { result ≡ error_in k error }
@@ -46,27 +46,28 @@ fn in_section(k: usize, error: ReadError) -> ReadError
     }
 }
 
-/// What is listed with one section of an index map of a level that starts at `outer`, after what is listed
-/// before it, and the section's own offset; or its first fault. `last` is that of the section in front of it.
+/// What is listed once one section of an index map of this level, which starts at `outer`, is added to what
+/// is listed before it, and the section's own offset; or the section's first fault. `last` is the own offset
+/// of the previous section.
 #[cycle(nested)]
 fn with_section(
     alloc: Global,
-    before: Gathered,
+    before: ListingBuilder,
     last: Option<Position>,
     tree: &Value,
     base: &Base,
     limits: Limits,
     outer: Position,
     level: u8,
-) -> Result<(Position, Gathered), ReadError>
+) -> Result<(Position, ListingBuilder), ReadError>
     requires first { 1 ≤ level }
     requires last { level ≤ MAX_LEVEL }
     requires outer { IsPosition outer }
-    requires fits { ListingFits base.now limits (gathered before) }
-    ensures reads { Gives both result
-        (listed_section level (section_map base.now limits (MAX_LEVEL - level)) outer last
-        (gathered before) (view tree.now)) }
-    ensures fits { IfOk result (λ r. ListingFits base.now limits (gathered r.1)) }
+    requires fits { ListingFits base.now limits (listing_so_far before) }
+    ensures reads { Returns both result
+        (listed_section level (map_at_level base.now limits level) outer last
+        (listing_so_far before) (view tree.now)) }
+    ensures fits { IfOk result (λ r. ListingFits base.now limits (listing_so_far r.1)) }
 {
     let section = match section(tree, level) {
         Ok(section) => section,
@@ -91,7 +92,7 @@ fn with_section(
             Err(error) => Err(error),
         },
         Ok(Shape::Index(members)) => {
-            // `section` has refused this already. The test is here for the end of the recursion.
+            // `section` has rejected this already. The test shows the prover that the recursion ends.
             if level == MAX_LEVEL {
                 return Err(refused(Kind::Nested));
             }
@@ -104,26 +105,26 @@ fn with_section(
     }
 }
 
-/// What all sections of an index map of a level that starts at `outer` list, after what is listed before it;
-/// or the first fault.
+/// What is listed once all sections of an index map of this level, which starts at `outer`, are added to what
+/// is listed before it; or the first fault.
 #[cycle(nested)]
 fn with_sections(
     alloc: Global,
-    before: Gathered,
+    before: ListingBuilder,
     shape: &IndexShape<'_>,
     base: &Base,
     limits: Limits,
     outer: Position,
     level: u8,
-) -> Result<Gathered, ReadError>
+) -> Result<ListingBuilder, ReadError>
     requires first { 1 ≤ level }
     requires last { level ≤ MAX_LEVEL }
     requires outer { IsPosition outer }
-    requires fits { ListingFits base.now limits (gathered before) }
-    ensures reads { Gives gathered result
-        (listed_sections level (section_map base.now limits (MAX_LEVEL - level)) outer 0 None
-        (gathered before) (mapped view shape.now.sections)) }
-    ensures fits { IfOk result (λ g. ListingFits base.now limits (gathered g)) }
+    requires fits { ListingFits base.now limits (listing_so_far before) }
+    ensures reads { Returns listing_so_far result
+        (listed_sections level (map_at_level base.now limits level) outer 0 None
+        (listing_so_far before) (mapped view shape.now.sections)) }
+    ensures fits { IfOk result (λ g. ListingFits base.now limits (listing_so_far g)) }
 {
     let mut last = None;
     let mut listed = before;
@@ -140,19 +141,19 @@ fn with_sections(
     Ok(listed)
 }
 
-/// The map that the members say, or its first fault.
+/// The map that has these members, or its first fault.
 pub(crate) fn index_map(
     alloc: Global,
     shape: &IndexShape<'_>,
     base: &Base,
     limits: Limits,
 ) -> Result<SourceMap, ReadError>
-    ensures reads { Gives (λ m. m) result (index_map_of base.now limits (index_told shape.now)) }
+    ensures reads { Returns (λ m. m) result (index_map_of base.now limits (index_members shape.now)) }
     ensures fits { IfOk result (λ m. Fits base.now limits (record_of m)) }
     ensures listing_fits { IfOk result (λ m. ListingFits base.now limits m.listing) }
 {
     let start = Position { line: 0, column: 0 };
-    let before = Gathered::new(alloc);
+    let before = ListingBuilder::new(alloc);
     let listed = with_sections(alloc, before, shape, base, limits, start, 1)?;
     let file = copied(alloc, shape.file())?;
     Ok(listed.into_map(file))

@@ -1,11 +1,10 @@
-//! The sources of a map. Distinct ones are kept once, in a hashed table, and the list of all is a list of
-//! their numbers.
+//! The sources of a map. Distinct ones are kept once, in a hashed table; the listed ones are indices into it.
 ghost use Rattle.std.specs.Prelude.{◌≡◌, ◌<◌, ◌++◌, ◌∷◌, [], length, slice_get, Some, IfOk, IfErr};
 ghost use Rattle.smap_record.specs.declared.fault.ReadError.TheVariants.{Memory};
 ghost use Rattle.smap_record.specs.Record.{distinct as each_once, same_entry};
 ghost use Rattle.smap_record.specs.Numbered.{Numbers};
 ghost use Rattle.smap_record.specs.Entries.{entry_of};
-ghost use Rattle.smap_record.specs.Views.{entry_seen};
+ghost use Rattle.smap_record.specs.Views.{entry_of_view};
 
 use crate::entry::SourceEntry;
 use crate::fault::ReadError;
@@ -14,7 +13,7 @@ use indexmap::IndexSet;
 use std::alloc::Global;
 use std::marker::Model;
 
-/// Sources as listed. Those that are equal are kept once, and listed by their number among the distinct ones.
+/// Sources as listed. Equal ones are kept once, and each listed one by its index among the distinct ones.
 #[derive(Drop)]
 pub(crate) struct Sources {
     distinct: IndexSet<SourceEntry>,
@@ -34,7 +33,7 @@ impl Model for Sources {
     ghost invariant = { AreSources };
 }
 
-/// The entry's number in the set, which has it at its end where it lacked it.
+/// The entry's index in the set, to which it is appended if it isn't in it yet.
 fn numbered(
     mut distinct: IndexSet<SourceEntry>,
     entry: SourceEntry,
@@ -56,7 +55,7 @@ impl Sources {
         }
     }
 
-    /// One more source is listed.
+    /// Lists one more source.
     pub(crate) fn with(self, entry: SourceEntry) -> Result<Sources, ReadError>
         ensures lists { IfOk result (λ s. s ≡ self ++ entry_of entry ∷ []) }
         ensures refused { IfErr result (λ e. e ≡ Memory) }
@@ -78,11 +77,11 @@ impl Sources {
 
     pub(crate) fn distinct(&self, i: usize) -> SourceView<'_>
         requires { i < length (each_once same_entry self.now) }
-        ensures { slice_get (each_once same_entry self.now) i ≡ Some (entry_seen result) }
+        ensures { slice_get (each_once same_entry self.now) i ≡ Some (entry_of_view result) }
     {
         let distinct = &self.distinct;
         let entry = &distinct[i];
-        entry.seen()
+        entry.as_view()
     }
 
     pub(crate) fn listed_count(&self) -> usize
@@ -91,7 +90,7 @@ impl Sources {
         self.listed.len()
     }
 
-    /// The number, among the distinct sources, of the i-th listed one.
+    /// The index, among the distinct sources, of the i-th listed one.
     pub(crate) fn listed(&self, i: usize) -> usize
         requires { i < length self.now }
         ensures within { result < length (each_once same_entry self.now) }

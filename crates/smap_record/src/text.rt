@@ -1,10 +1,10 @@
-//! From bytes to a JSON tree: the line to leave out, and the text after it.
+//! From bytes to a JSON tree: the prefix line is skipped, and the text after it is parsed.
 ghost use Rattle.std.specs.Prelude.{◌≡◌, ◌<◌, ◌==◌, position, length, IfSome};
 ghost use Rattle.serde_json.specs.View.{view};
 ghost use Rattle.smap_record.specs.declared.fault.Kind.TheVariants.{Prefix, Json};
 ghost use Rattle.smap_record.specs.Faults.{or_fault};
 ghost use Rattle.smap_record.specs.Reading.{json_text, tree_of, map_tree};
-ghost use Rattle.smap_record.specs.Answers.{Gives};
+ghost use Rattle.smap_record.specs.Results.{Returns};
 
 use crate::fault::{Kind, ReadError, refused};
 use serde_json::Value;
@@ -17,9 +17,9 @@ fn line_feed(bytes: &[u8]) -> Option<usize>
     bytes.iter().position(|b| *b == 10)
 }
 
-/// What follows the line to leave out, where the bytes begin with its mark.
+/// What follows the prefix line, if the bytes begin with `)]}'`, and else all bytes.
 fn after_prefix(bytes: &[u8]) -> Result<&[u8], ReadError>
-    ensures { Gives (λ t. t.now) result (or_fault Prefix (json_text bytes.now)) }
+    ensures { Returns (λ t. t.now) result (or_fault Prefix (json_text bytes.now)) }
 {
     if !bytes.starts_with(b")]}'") {
         return Ok(bytes);
@@ -30,9 +30,9 @@ fn after_prefix(bytes: &[u8]) -> Result<&[u8], ReadError>
     }
 }
 
-/// The tree of a JSON text.
+/// The tree of a JSON text (RFC 8259).
 fn tree(alloc: Global, text: &[u8]) -> Result<Value, ReadError>
-    ensures { Gives view result (or_fault Json (tree_of text.now)) }
+    ensures { Returns view result (or_fault Json (tree_of text.now)) }
 {
     match Value::from_slice(alloc, text) {
         Ok(value) => Ok(value),
@@ -46,9 +46,9 @@ fn tree(alloc: Global, text: &[u8]) -> Result<Value, ReadError>
     }
 }
 
-/// The tree of a map text: of what follows the line to leave out.
+/// The tree of a map: of what follows the prefix line.
 pub(crate) fn map_tree_of(alloc: Global, bytes: &[u8]) -> Result<Value, ReadError>
-    ensures { Gives view result (map_tree bytes.now) }
+    ensures { Returns view result (map_tree bytes.now) }
 {
     let text = after_prefix(bytes)?;
     match tree(alloc, text) {

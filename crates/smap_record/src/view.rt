@@ -1,4 +1,4 @@
-//! What a source map hands out: views that borrow its texts.
+//! What the getters of a source map return: views that borrow its strings.
 /// A source of a map.
 #[derive(Clone, Copy)]
 pub struct SourceView<'a> {

@@ -5,7 +5,9 @@ use Rattle.serde_json.proofs.OnLiterals.{serde_json_on_literals}
 use Rattle.serde_json.specs.Data.{Data, object, no_members}
 use Rattle.serde_json.specs.Read.{read}
 use Rattle.smap_shape.specs.declared.fault.ShapeFault.{ShapeFault}
-use Rattle.smap_shape.specs.declared.fault.ShapeFault.TheVariants.{NotObject, Version, File, Both, SourceRoot, SourcesContent, IgnoreList, Mappings, Sections, Offset, SectionMap, Nested}
+use Rattle.smap_shape.specs.declared.fault.ShapeFault.TheVariants.{NotObject, Version, File, Both, SourceRoot}
+use Rattle.smap_shape.specs.declared.fault.ShapeFault.TheVariants.{SourcesContent, IgnoreList, Mappings}
+use Rattle.smap_shape.specs.declared.fault.ShapeFault.TheVariants.{Sections, Offset, SectionMap, Nested}
 use Rattle.smap_shape.specs.Members.{Flat, Section, MapMembers, flat, is_listed}
 use Rattle.smap_shape.specs.Reading.{shape_of, section_of, number_below}
 
@@ -19,11 +21,13 @@ section_of_text text = option_map (section_of 8) (read text)
 
 -- a flat map without sources and names
 abbrev empty : Flat
-empty = record { file = None; root = None; sources = []; contents = []; names = []; ignored = []; mappings = [] }
+empty =
+    record { file = None; root = None; sources = []; contents = []; names = []; ignored = []; mappings = [] }
 
 -- a flat map with one source
 abbrev one_source : Option (List ℕ) → List ℕ → Flat
-one_source content ignored = record empty { sources = Some (codes "a") ∷ []; contents = content ∷ []; ignored = ignored }
+one_source content ignored =
+    record empty { sources = Some (codes "a") ∷ []; contents = content ∷ []; ignored = ignored }
 
 pub no_object : of_text (codes "[]") ≡ Some (Err NotObject)
 unfolding serde_json_on_literals shape_of number_below
@@ -37,7 +41,8 @@ pub other_version : of_text (codes "{\"version\":4,\"file\":7}") ≡ Some (Err V
 unfolding serde_json_on_literals shape_of number_below
 other_version = refl
 
-pub file_before_both : of_text (codes "{\"version\":3,\"file\":7,\"sections\":[],\"mappings\":\"\"}") ≡ Some (Err File)
+pub file_before_both : of_text (codes "{\"version\":3,\"file\":7,\"sections\":[],\"mappings\":\"\"}")
+    ≡ Some (Err File)
 unfolding serde_json_on_literals shape_of number_below
 file_before_both = refl
 
@@ -49,7 +54,8 @@ pub no_list : of_text (codes "{\"version\":3,\"sections\":{}}") ≡ Some (Err Se
 unfolding serde_json_on_literals shape_of number_below
 no_list = refl
 
-pub root_before_sources : of_text (codes "{\"version\":3,\"sourceRoot\":1,\"sources\":\"a\"}") ≡ Some (Err SourceRoot)
+pub root_before_sources : of_text (codes "{\"version\":3,\"sourceRoot\":1,\"sources\":\"a\"}")
+    ≡ Some (Err SourceRoot)
 unfolding serde_json_on_literals shape_of number_below
 root_before_sources = refl
 
@@ -61,47 +67,64 @@ pub later_version : of_text (codes "{\"version\":2,\"version\":3,\"mappings\":\"
 unfolding serde_json_on_literals shape_of number_below
 later_version = refl
 
-pub bad_content : of_text (codes "{\"version\":3,\"sources\":[\"a\"],\"sourcesContent\":[\"t\",null,7],\"mappings\":\"\"}") ≡ Some (Err SourcesContent)
+pub bad_content : of_text
+    (codes "{\"version\":3,\"sources\":[\"a\"],\"sourcesContent\":[\"t\",null,7],\"mappings\":\"\"}")
+    ≡ Some (Err SourcesContent)
 unfolding serde_json_on_literals shape_of number_below
 bad_content = refl
 
-pub further_content : of_text (codes "{\"version\":3,\"sources\":[\"a\"],\"sourcesContent\":[\"t\",\"u\"],\"mappings\":\"\"}") ≡ Some (Ok (flat (one_source (Some (codes "t")) [])))
+pub further_content : of_text
+    (codes "{\"version\":3,\"sources\":[\"a\"],\"sourcesContent\":[\"t\",\"u\"],\"mappings\":\"\"}")
+    ≡ Some (Ok (flat (one_source (Some (codes "t")) [])))
 unfolding serde_json_on_literals shape_of number_below
 further_content = refl
 
-pub hidden_list : of_text (codes "{\"version\":3,\"sources\":[\"a\"],\"ignoreList\":[],\"x_google_ignoreList\":[0],\"mappings\":\"\"}") ≡ Some (Ok (flat (one_source None [])))
+pub hidden_list : of_text (codes
+    "{\"version\":3,\"sources\":[\"a\"],\"ignoreList\":[],\"x_google_ignoreList\":[0],\"mappings\":\"\"}")
+    ≡ Some (Ok (flat (one_source None [])))
 unfolding serde_json_on_literals shape_of number_below
 hidden_list = refl
 
-pub older_list : of_text (codes "{\"version\":3,\"sources\":[\"a\"],\"ignoreList\":null,\"x_google_ignoreList\":[0],\"mappings\":\"\"}") ≡ Some (Ok (flat (one_source None (0 ∷ []))))
+pub older_list : of_text (codes
+    "{\"version\":3,\"sources\":[\"a\"],\"ignoreList\":null,\"x_google_ignoreList\":[0],\"mappings\":\"\"}")
+    ≡ Some (Ok (flat (one_source None (0 ∷ []))))
 unfolding serde_json_on_literals shape_of number_below
 older_list = refl
 
-pub hidden_fault : of_text (codes "{\"version\":3,\"sources\":[\"a\"],\"ignoreList\":[],\"x_google_ignoreList\":\"no\",\"mappings\":\"\"}") ≡ Some (Ok (flat (one_source None [])))
+pub hidden_fault : of_text (codes
+    "{\"version\":3,\"sources\":[\"a\"],\"ignoreList\":[],\"x_google_ignoreList\":\"no\",\"mappings\":\"\"}")
+    ≡ Some (Ok (flat (one_source None [])))
 unfolding serde_json_on_literals shape_of number_below
 hidden_fault = refl
 
-pub bad_list : of_text (codes "{\"version\":3,\"sources\":[\"a\"],\"ignoreList\":[1],\"mappings\":\"\"}") ≡ Some (Err IgnoreList)
+pub bad_list : of_text (codes "{\"version\":3,\"sources\":[\"a\"],\"ignoreList\":[1],\"mappings\":\"\"}")
+    ≡ Some (Err IgnoreList)
 unfolding serde_json_on_literals shape_of number_below
 bad_list = refl
 
-pub greatest_column : section_of_text (codes "{\"offset\":{\"line\":0,\"column\":2147483647},\"map\":{}}") ≡ Some (Ok (record { line = 0; column = 2147483647; map = object no_members }))
+pub greatest_column : section_of_text (codes "{\"offset\":{\"line\":0,\"column\":2147483647},\"map\":{}}")
+    ≡ Some (Ok (record { line = 0; column = 2147483647; map = object no_members }))
 unfolding serde_json_on_literals section_of number_below
 greatest_column = refl
 
-pub further_column : section_of_text (codes "{\"offset\":{\"line\":0,\"column\":2147483648},\"map\":{}}") ≡ Some (Err Offset)
+pub further_column : section_of_text (codes "{\"offset\":{\"line\":0,\"column\":2147483648},\"map\":{}}")
+    ≡ Some (Err Offset)
 unfolding serde_json_on_literals section_of number_below
 further_column = refl
 
-pub list_for_map : section_of_text (codes "{\"offset\":{\"line\":0,\"column\":0},\"map\":[]}") ≡ Some (Err SectionMap)
+pub list_for_map : section_of_text (codes "{\"offset\":{\"line\":0,\"column\":0},\"map\":[]}")
+    ≡ Some (Err SectionMap)
 unfolding serde_json_on_literals section_of number_below
 list_for_map = refl
 
-pub nested : section_of_text (codes "{\"offset\":{\"line\":0,\"column\":0},\"map\":{\"sections\":[]}}") ≡ Some (Err Nested)
+pub nested : section_of_text (codes "{\"offset\":{\"line\":0,\"column\":0},\"map\":{\"sections\":[]}}")
+    ≡ Some (Err Nested)
 unfolding serde_json_on_literals section_of number_below
 nested = refl
 
-pub nested_below : option_map (section_of 7) (read (codes "{\"offset\":{\"line\":0,\"column\":1},\"map\":{\"sections\":null}}")) ≡ section_of_text (codes "{\"offset\":{\"line\":0,\"column\":1},\"map\":{\"sections\":null}}")
+pub nested_below : option_map (section_of 7)
+    (read (codes "{\"offset\":{\"line\":0,\"column\":1},\"map\":{\"sections\":null}}"))
+    ≡ section_of_text (codes "{\"offset\":{\"line\":0,\"column\":1},\"map\":{\"sections\":null}}")
 unfolding serde_json_on_literals section_of number_below
 nested_below = refl
 

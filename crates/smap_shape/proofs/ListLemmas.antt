@@ -1,4 +1,5 @@
-use Rattle.std.proofs.Common.{◌≡◌, ℕ, ◌<◌, List, [], ◌∷◌, length, map, get_or, Option, Some, None, ap, refl, ◌∙◌, slice_get, Bool, true, false, cond, ◌||◌, ◌&&◌}
+use Rattle.std.proofs.Common.{◌≡◌, ℕ, ◌<◌, List, [], ◌∷◌, length, map, get_or, Option, Some, None, ap, refl}
+use Rattle.std.proofs.Common.{◌∙◌, slice_get, Bool, true, false, cond, ◌||◌, ◌&&◌}
 use Rattle.std.proofs.lemmas.Option.{slice_get-map, slice_get-get_or}
 use Rattle.std.specs.Prelude.{option_map, option_and_then, is_some}
 use Rattle.std.specs.List.{list_any, list_all}
@@ -15,26 +16,33 @@ use Rattle.std.proofs.lemmas.List.{get_or-map, length-map}
 use Rattle.std.proofs.lemmas.List.Elements.{All-nil, All-cons, All-get_or}
 
 -- what stands in a mapped list
-pub slice_get-map_within : {A B : Type 0} (f : A → B) (xs : List A) (i : ℕ) (d : A) → i < length xs → slice_get (map f xs) i ≡ Some (f (get_or xs i d))
+pub slice_get-map_within : {A B : Type 0} (f : A → B) (xs : List A) (i : ℕ) (d : A)
+    → i < length xs → slice_get (map f xs) i ≡ Some (f (get_or xs i d))
 slice_get-map_within f xs i d h = slice_get-map f xs i ∙ ap (option_map f) (slice_get-get_or xs i d h)
 
-pub list_any-map : {A B : Type 0} (f : A → B) (p : B → Bool) (xs : List A) → list_any p (map f xs) ≡ list_any (λ x. p (f x)) xs
+pub list_any-map : {A B : Type 0} (f : A → B) (p : B → Bool) (xs : List A)
+    → list_any p (map f xs) ≡ list_any (λ x. p (f x)) xs
 list_any-map f p [] = refl
 list_any-map f p (x ∷ xs) = ap (λ b. p (f x) || b) (list_any-map f p xs)
 
 -- a list in which each entry passes is read whole, and any other isn't read
 pub each_item-items_of : {A : Type 0} (read : Data → Option A) (p : Data → Bool) (f : Data → A)
     → ((d : Data) → read d ≡ cond (p d) (Some (f d)) None)
-    → (vs : List Value) → each_item read (items_view vs) ≡ cond (list_all (λ v. p (view v)) vs) (Some (map (λ v. f (view v)) vs)) None
+    → (vs : List Value) → each_item read (items_view vs)
+    ≡ cond (list_all (λ v. p (view v)) vs) (Some (map (λ v. f (view v)) vs)) None
 each_item-items_of read p f reads [] = refl
-each_item-items_of read p f reads (v ∷ vs) = rw (reads (view v), each_item-items_of read p f reads vs) (by (p (view v)) (list_all (λ v. p (view v)) vs))
+each_item-items_of read p f reads (v ∷ vs) = rw (reads (view v), each_item-items_of read p f reads vs)
+    (by (p (view v)) (list_all (λ v. p (view v)) vs))
   where
-    by : (b c : Bool) → option_and_then (λ x. option_map (λ xs. x ∷ xs) (cond c (Some (map (λ v. f (view v)) vs)) None)) (cond b (Some (f (view v))) None) ≡ cond (b && c) (Some (f (view v) ∷ map (λ v. f (view v)) vs)) None
+    by : (b c : Bool)
+        → option_and_then (λ x. option_map (λ xs. x ∷ xs) (cond c (Some (map (λ v. f (view v)) vs)) None))
+        (cond b (Some (f (view v))) None) ≡ cond (b && c) (Some (f (view v) ∷ map (λ v. f (view v)) vs)) None
     by true true = refl
     by true false = refl
     by false c = refl
 
-pub text_or_null-cases : (d : Data) → text_or_null d ≡ cond (is_some (as_null d) || is_some (as_str d)) (Some (as_str d)) None
+pub text_or_null-cases : (d : Data)
+    → text_or_null d ≡ cond (is_some (as_null d) || is_some (as_str d)) (Some (as_str d)) None
 text_or_null-cases null = refl
 text_or_null-cases (boolean b) = refl
 text_or_null-cases (number n) = refl
@@ -43,17 +51,21 @@ text_or_null-cases (array ds) = refl
 text_or_null-cases (object ms) = refl
 
 -- the texts and nulls of a list
-pub texts_read : (vs : List Value) → each_item text_or_null (items_view vs) ≡ cond (list_all (λ v. is_some (as_null (view v)) || is_some (as_str (view v))) vs) (Some (map (λ v. as_str (view v)) vs)) None
-texts_read vs = each_item-items_of text_or_null (λ d. is_some (as_null d) || is_some (as_str d)) as_str text_or_null-cases vs
+pub texts_read : (vs : List Value) → each_item text_or_null (items_view vs)
+    ≡ cond (list_all (λ v. is_some (as_null (view v)) || is_some (as_str (view v))) vs)
+    (Some (map (λ v. as_str (view v)) vs)) None
+texts_read vs = each_item-items_of text_or_null (λ d. is_some (as_null d) || is_some (as_str d)) as_str
+    text_or_null-cases vs
 
-sure_text-cases : (d : Data) → as_str d ≡ cond (is_some (as_str d)) (Some (unwrap_or (as_str d) [])) None
-sure_text-cases d = by (as_str d)
+sure_text_cases : (d : Data) → as_str d ≡ cond (is_some (as_str d)) (Some (unwrap_or (as_str d) [])) None
+sure_text_cases d = by (as_str d)
   where
     by : (o : Option (List ℕ)) → o ≡ cond (is_some o) (Some (unwrap_or o [])) None
     by None = refl
     by (Some s) = refl
 
-number_below-cases : (count : ℕ) (d : Data) → number_below count d ≡ cond (is_some (number_below count d)) (Some (unwrap_or (whole d) 0)) None
+number_below-cases : (count : ℕ) (d : Data)
+    → number_below count d ≡ cond (is_some (number_below count d)) (Some (unwrap_or (whole d) 0)) None
 unfolding number_below
 number_below-cases count d = by (whole d)
   where
@@ -61,23 +73,32 @@ number_below-cases count d = by (whole d)
     at n true = refl
     at n false = refl
 
-    by : (o : Option ℕ) → option_and_then (λ n. cond (nat_lt n count) (Some n) None) o ≡ cond (is_some (option_and_then (λ n. cond (nat_lt n count) (Some n) None) o)) (Some (unwrap_or o 0)) None
+    by : (o : Option ℕ) → option_and_then (λ n. cond (nat_lt n count) (Some n) None) o
+        ≡ cond (is_some (option_and_then (λ n. cond (nat_lt n count) (Some n) None) o)) (Some (unwrap_or o 0))
+        None
     by None = refl
     by (Some n) = at n (nat_lt n count)
 
-pub sure_texts_read : (vs : List Value) → each_item as_str (items_view vs) ≡ cond (list_all (λ v. is_some (as_str (view v))) vs) (Some (sure_texts vs)) None
-sure_texts_read vs = each_item-items_of as_str (λ d. is_some (as_str d)) (λ d. unwrap_or (as_str d) []) sure_text-cases vs
+pub sure_texts_read : (vs : List Value) → each_item as_str (items_view vs)
+    ≡ cond (list_all (λ v. is_some (as_str (view v))) vs) (Some (sure_texts vs)) None
+sure_texts_read vs =
+    each_item-items_of as_str (λ d. is_some (as_str d)) (λ d. unwrap_or (as_str d) []) sure_text_cases vs
 
-pub numbers_read : (count : ℕ) (vs : List Value) → each_item (number_below count) (items_view vs) ≡ cond (list_all (λ v. is_some (number_below count (view v))) vs) (Some (numbers vs)) None
-numbers_read count vs = each_item-items_of (number_below count) (λ d. is_some (number_below count d)) (λ d. unwrap_or (whole d) 0) (number_below-cases count) vs
+pub numbers_read : (count : ℕ) (vs : List Value) → each_item (number_below count) (items_view vs)
+    ≡ cond (list_all (λ v. is_some (number_below count (view v))) vs) (Some (numbers vs)) None
+numbers_read count vs = each_item-items_of (number_below count) (λ d. is_some (number_below count d))
+    (λ d. unwrap_or (whole d) 0) (number_below-cases count) vs
 
 pub ruleset list_steps = (list_any-map, texts_read, sure_texts_read, numbers_read)
 
 -- the list of the member is read as numbers, or not at all
-pub numbers_listed : (count : ℕ) (m : Option Data) (d : Data) (vs : List Value) (b : Bool) → m ≡ Some d → as_array d ≡ Some (items_view vs)
-    → list_all (λ v. is_some (number_below count (view v))) vs ≡ b → list_member (number_below count) m ≡ cond b (Some (numbers vs)) None
+pub numbers_listed : (count : ℕ) (m : Option Data) (d : Data) (vs : List Value) (b : Bool)
+    → m ≡ Some d → as_array d ≡ Some (items_view vs)
+    → list_all (λ v. is_some (number_below count (view v))) vs ≡ b
+    → list_member (number_below count) m ≡ cond b (Some (numbers vs)) None
 numbers_listed count m d vs b at lists all =
-    ap (list_member (number_below count)) at ∙ ap (option_and_then (each_item (number_below count))) lists ∙ numbers_read count vs ∙ ap (λ c. cond c (Some (numbers vs)) None) all
+    ap (list_member (number_below count)) at ∙ ap (option_and_then (each_item (number_below count))) lists
+    ∙ numbers_read count vs ∙ ap (λ c. cond c (Some (numbers vs)) None) all
 
 -- any list is read as its items
 pub each_item-any : (vs : List Value) → each_item Some (items_view vs) ≡ Some (map view vs)
@@ -91,7 +112,8 @@ both true b h = (refl, h)
 both false b h = (cc, cc)
 
 -- a number that is_some of number_below says to be there is below the count
-number_below-within : (count : ℕ) (d : Data) → is_some (number_below count d) ≡ true → unwrap_or (whole d) 0 < count
+number_below-within : (count : ℕ) (d : Data) → is_some (number_below count d) ≡ true
+    → unwrap_or (whole d) 0 < count
 unfolding number_below
 number_below-within count d = by (whole d)
   where
@@ -99,19 +121,25 @@ number_below-within count d = by (whole d)
     passes n true h = refl
     passes n false h = h
 
-    by : (o : Option ℕ) → is_some (option_and_then (λ n. cond (nat_lt n count) (Some n) None) o) ≡ true → unwrap_or o 0 < count
+    by : (o : Option ℕ) → is_some (option_and_then (λ n. cond (nat_lt n count) (Some n) None) o) ≡ true
+        → unwrap_or o 0 < count
     by None h = absurd (cc)
     by (Some n) h = ltb-true n count (passes n (nat_lt n count) h)
 
 -- the numbers of a list in which each entry is a whole number below the count are below the count
-pub numbers-within : (count : ℕ) (vs : List Value) → list_all (λ v. is_some (number_below count (view v))) vs ≡ true → All (λ n. n < count) (numbers vs)
+pub numbers-within : (count : ℕ) (vs : List Value)
+    → list_all (λ v. is_some (number_below count (view v))) vs ≡ true → All (λ n. n < count) (numbers vs)
 numbers-within count [] h = All-nil (λ n. n < count)
 numbers-within count (v ∷ vs) h =
-    let p = both (is_some (number_below count (view v))) (list_all (λ v. is_some (number_below count (view v))) vs) h in
-    All-cons (λ n. n < count) (unwrap_or (whole (view v)) 0) (numbers vs) (number_below-within count (view v) p.0) (numbers-within count vs p.1)
+    let p = both (is_some (number_below count (view v)))
+    (list_all (λ v. is_some (number_below count (view v))) vs) h in
+    All-cons (λ n. n < count) (unwrap_or (whole (view v)) 0) (numbers vs)
+    (number_below-within count (view v) p.0) (numbers-within count vs p.1)
 
 -- one number of a list in which each is below the count
-pub numbers-at : (count : ℕ) (vs : List Value) (i : ℕ) (d : Value) → i < length vs → All (λ n. n < count) (numbers vs) → unwrap_or (whole (view (get_or vs i d))) 0 < count
+pub numbers-at : (count : ℕ) (vs : List Value) (i : ℕ) (d : Value)
+    → i < length vs → All (λ n. n < count) (numbers vs) → unwrap_or (whole (view (get_or vs i d))) 0 < count
 numbers-at count vs i d h all =
     let P : ℕ → Type 0 = λ n. n < count in
-    subst P (get_or-map (λ v. unwrap_or (whole (view v)) 0) vs i d 0 h) (All-get_or P (numbers vs) i 0 (omega (arith, length-map vs (λ v. unwrap_or (whole (view v)) 0))) all)
+    subst P (get_or-map (λ v. unwrap_or (whole (view v)) 0) vs i d 0 h)
+    (All-get_or P (numbers vs) i 0 (omega (arith, length-map vs (λ v. unwrap_or (whole (view v)) 0))) all)

@@ -1,4 +1,4 @@
--- The contents of a flat map apart from its other members.
+-- The contents of a flat map apart from its other members (ECMA-426, "Source map format").
 use Rattle.std.specs.Prelude.{ℕ, List, [], length, codes, Option, unwrap_or}
 use Rattle.serde_json.specs.Data.{Data}
 use Rattle.smap_shape.specs.Members.{Flat, MapMembers, flat, index, fitted}

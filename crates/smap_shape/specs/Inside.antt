@@ -1,4 +1,4 @@
--- What the fields of a flat shape stand for: it keeps arrays as they are in the tree.
+-- Which members the fields of a `FlatShape` stand for: it keeps arrays as they are in the JSON tree.
 use Rattle.std.specs.Prelude.{ℕ, ◌<◌, List, [], map, length, All, Option, option_copied, unwrap_or}
 use Rattle.serde_json.specs.Find.{as_str}
 use Rattle.serde_json.specs.View.{view}
@@ -31,6 +31,6 @@ flat_view s = record {
   mappings = s.mappings.now;
 }
 
--- each ignored number is that of a source
+-- each ignored index is that of a source
 abbrev pub IgnoresSources : Inside → Type 0
 IgnoresSources s = All (λ n. n < length s.sources.now) (numbers s.ignored.now)

@@ -47,7 +47,7 @@ has key tree = is_some (member_of key tree)
 abbrev pub whole : Data → Option ℕ
 whole d = option_and_then as_u64 (as_number d)
 
--- nothing if the member is absent, and else what `read` gives for it
+-- no value if the member is absent, and else the one that `read` gives, if it gives one
 abbrev pub optional : {A : Type 0} → (Data → Option A) → Option Data → Option (Option A)
 optional read None = Some None
 optional read (Some d) = option_map Some (read d)

@@ -1,11 +1,11 @@
-//! The contents of a map, moved out of its tree.
+//! Moving the contents of a map out of its JSON tree.
 ghost use Rattle.std.specs.Prelude.{◌≡◌, map, option_map, string_bytes, IfOk, IfSome, IsSome, is_some};
 ghost use Rattle.serde_json.specs.Find.{as_str};
 ghost use Rattle.serde_json.specs.View.{view};
 ghost use Rattle.smap_shape.specs.Reading.{shape_of, list_member, text_or_null, if_present};
 ghost use Rattle.smap_shape.specs.Contents.{contents_member, contents_of, map_with_contents};
 ghost use Rattle.smap_shape.specs.Inside.{texts};
-ghost use Rattle.smap_shape.specs.Views.{seen};
+ghost use Rattle.smap_shape.specs.Views.{map_value};
 
 use crate::member::{member, texts_or_nulls};
 use serde_json::Value;
@@ -50,12 +50,13 @@ fn are_contents(tree: &Value) -> bool
     texts_or_nulls(member(tree, "sourcesContent")).is_some()
 }
 
-/// What `split_contents` answers for a tree whose contents are such an array, or absent.
+/// What `split_contents` returns for a tree whose contents are such an array, or absent.
 fn split_tree(alloc: Global, tree: Value) -> Result<(Vec<Option<String>>, Value), AllocError>
     requires { IsSome (contents_member (view tree)) }
     ensures contents { IfOk result (λ r. map (option_map string_bytes) r.0.items ≡ contents_of (view tree)) }
     ensures members { IfOk result (λ r.
-        shape_of (view tree) ≡ seen (map_with_contents (contents_of (view tree))) (shape_of (view r.1))) }
+        shape_of (view tree)
+        ≡ map_value (map_with_contents (contents_of (view tree))) (shape_of (view r.1))) }
 {
     match tree {
         Value::Object(members) => {
@@ -84,7 +85,8 @@ pub fn split_contents(
 ) -> Result<(Vec<Option<String>>, Value), AllocError>
     ensures contents { IfOk result (λ r. map (option_map string_bytes) r.0.items ≡ contents_of (view tree)) }
     ensures members { IfOk result (λ r.
-        shape_of (view tree) ≡ seen (map_with_contents (contents_of (view tree))) (shape_of (view r.1))) }
+        shape_of (view tree)
+        ≡ map_value (map_with_contents (contents_of (view tree))) (shape_of (view r.1))) }
 {
     if are_contents(&tree) {
         split_tree(alloc, tree)

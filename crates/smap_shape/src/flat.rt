@@ -125,7 +125,7 @@ impl<'a> FlatShape<'a> {
     {
         let names = self.names;
         let name = names[i].as_str();
-        // Every listed name is a string.
+        // The shape's invariant: every entry of `names` is a string.
         match name {
             Some(text) => text,
             None => "",

@@ -2,7 +2,7 @@
 ghost use Rattle.std.specs.Prelude.{◌≡◌, ◌<◌, length, slice_get, option_copied, Some};
 ghost use Rattle.serde_json.specs.View.{view};
 ghost use Rattle.smap_shape.specs.Reading.{index_of};
-ghost use Rattle.smap_shape.specs.Views.{index_told, seen};
+ghost use Rattle.smap_shape.specs.Views.{index_members, map_value};
 
 use crate::fault::ShapeFault;
 use serde_json::Value;
@@ -60,7 +60,7 @@ pub(crate) fn index<'v>(
     file: Option<&'v str>,
     sections: &'v Value,
 ) -> Result<IndexShape<'v>, ShapeFault>
-    ensures { seen index_told result ≡ index_of (option_copied file.entry) (view sections.now) }
+    ensures { map_value index_members result ≡ index_of (option_copied file.entry) (view sections.now) }
 {
     let list = sections.as_array().ok_or(ShapeFault::Sections)?;
     Ok(IndexShape {

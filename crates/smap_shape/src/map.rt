@@ -2,7 +2,7 @@
 ghost use Rattle.std.specs.Prelude.{◌≡◌, option_copied};
 ghost use Rattle.serde_json.specs.View.{view};
 ghost use Rattle.smap_shape.specs.Reading.{file_of, shape_of};
-ghost use Rattle.smap_shape.specs.Views.{told, seen};
+ghost use Rattle.smap_shape.specs.Views.{shape_members, map_value};
 
 use crate::fault::ShapeFault;
 use crate::flat::flat;
@@ -13,7 +13,7 @@ use serde_json::Value;
 
 /// The file of a map whose version is 3.
 fn file<'v>(tree: &'v Value) -> Result<Option<&'v str>, ShapeFault>
-    ensures { seen option_copied result ≡ file_of (view tree.now) }
+    ensures { map_value option_copied result ≡ file_of (view tree.now) }
 {
     let version = member(tree, "version").and_then(Value::as_u64);
     if version != Some(3) {
@@ -35,7 +35,7 @@ fn file<'v>(tree: &'v Value) -> Result<Option<&'v str>, ShapeFault>
 /// The first fault, in the order that [`ShapeFault`] gives.
 #[tactic(auto, unfolding(crate::specs::Reading::shape_of))]
 pub fn shape(tree: &Value) -> Result<Shape<'_>, ShapeFault>
-    ensures { seen told result ≡ shape_of (view tree.now) }
+    ensures { map_value shape_members result ≡ shape_of (view tree.now) }
 {
     if !tree.is_object() {
         return Err(ShapeFault::NotObject);

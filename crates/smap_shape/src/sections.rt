@@ -2,7 +2,7 @@
 ghost use Rattle.std.specs.Prelude.{◌≡◌, ◌≤◌, IfSome, IfOk};
 ghost use Rattle.serde_json.specs.View.{view};
 ghost use Rattle.smap_shape.specs.Reading.{section_of, position_member};
-ghost use Rattle.smap_shape.specs.Views.{section_told, seen};
+ghost use Rattle.smap_shape.specs.Views.{section_members, map_value};
 
 use crate::fault::ShapeFault;
 use crate::member::{member, object};
@@ -59,7 +59,7 @@ impl<'a> SectionShape<'a> {
 }
 
 #[tactic(auto, unfolding(crate::specs::Reading::number_below))]
-fn position(tree: &Value, key: &str) -> Option<u32>
+fn position_member(tree: &Value, key: &str) -> Option<u32>
     ensures value { result ≡ position_member key.now (view tree.now) }
     ensures most { IfSome result (λ n. n ≤ MAX_POSITION) }
 {
@@ -84,7 +84,7 @@ fn position(tree: &Value, key: &str) -> Option<u32>
 pub fn section(tree: &Value, level: u8) -> Result<SectionShape<'_>, ShapeFault>
     requires first { 1 ≤ level }
     requires last { level ≤ MAX_LEVEL }
-    ensures says { seen section_told result ≡ section_of level (view tree.now) }
+    ensures says { map_value section_members result ≡ section_of level (view tree.now) }
     ensures line { IfOk result (λ s. s.line ≤ MAX_POSITION) }
     ensures column { IfOk result (λ s. s.column ≤ MAX_POSITION) }
 {
@@ -92,8 +92,8 @@ pub fn section(tree: &Value, level: u8) -> Result<SectionShape<'_>, ShapeFault>
         return Err(ShapeFault::NotObject);
     }
     let offset = object(tree, "offset").ok_or(ShapeFault::Offset)?;
-    let line = position(offset, "line").ok_or(ShapeFault::Offset)?;
-    let column = position(offset, "column").ok_or(ShapeFault::Offset)?;
+    let line = position_member(offset, "line").ok_or(ShapeFault::Offset)?;
+    let column = position_member(offset, "column").ok_or(ShapeFault::Offset)?;
     let map = object(tree, "map").ok_or(ShapeFault::SectionMap)?;
     if level == MAX_LEVEL && member(map, "sections").is_some() {
         return Err(ShapeFault::Nested);

@@ -19,7 +19,7 @@ pub struct SlowWriter {
     /// How many flushes there were.
     pub flushes: u64,
     /// Whether a write came after a flush.
-    pub written_behind_flush: bool,
+    pub written_after_flush: bool,
 }
 
 impl SlowWriter {
@@ -30,7 +30,7 @@ impl SlowWriter {
         ensures fails_at { result.fails_at ≡ fails_at }
         ensures calls { result.calls ≡ 0 }
         ensures flushes { result.flushes ≡ 0 }
-        ensures order { result.written_behind_flush ≡ false }
+        ensures order { result.written_after_flush ≡ false }
     {
         SlowWriter {
             bytes: Vec::new(alloc),
@@ -38,7 +38,7 @@ impl SlowWriter {
             fails_at,
             calls: 0,
             flushes: 0,
-            written_behind_flush: false,
+            written_after_flush: false,
         }
     }
 
@@ -57,7 +57,7 @@ impl Write for SlowWriter {
     ghost contents = { λ w. Some w.bytes.items };
 
     fn write(&mut self, buf: &[u8]) -> io::Result<usize> {
-        self.written_behind_flush |= self.flushes > 0;
+        self.written_after_flush |= self.flushes > 0;
         self.count_call()?;
         let n = self.step.min(buf.len());
         self.bytes.extend_from_slice(&buf[..n])?;

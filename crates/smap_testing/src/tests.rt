@@ -28,11 +28,11 @@ fn a_slow_writer_takes_step_by_step_and_fails_once(rt: HostRuntime) -> Result<()
     assert!(rt; writer.write(b"c").is_err());
     assert_eq!(rt; writer.write(b"c")?, 1);
     writer.flush()?;
-    assert!(rt; !writer.written_behind_flush);
+    assert!(rt; !writer.written_after_flush);
     assert_eq!(rt; writer.bytes.as_slice(), b"abc".as_slice());
     assert_eq!(rt; (writer.calls, writer.flushes), (4, 1));
     assert_eq!(rt; writer.write(b"d")?, 1);
-    assert!(rt; writer.written_behind_flush);
+    assert!(rt; writer.written_after_flush);
     assert_eq!(rt; SlowWriter::new(rt.alloc(), 0, 0).write(b"a")?, 0);
     assert!(rt; SlowWriter::new(rt.alloc(), 1, 1).flush().is_err());
     Ok(())

@@ -1,5 +1,6 @@
 -- The law of `respell`, from the law that the text of tokens reads back as these tokens.
-use Rattle.std.proofs.Common.{◌≡◌, ℕ, ◌-◌, List, [], ◌∷◌, ◌++◌, length, Ok, refl, sym, ap, ◌∙◌, arith, lit<, lit≤, length-append}
+use Rattle.std.proofs.Common.{◌≡◌, ℕ, ◌-◌, List, [], ◌∷◌, ◌++◌, length, Ok, refl, sym, ap, ◌∙◌, arith, lit<}
+use Rattle.std.proofs.Common.{lit≤, length-append}
 use Rattle.std.proofs.Math.Seq.{take-append_seam}
 use Rattle.std.proofs.lemmas.List.{drop_at}
 use Rattle.smap_mappings.specs.declared.token.Token.{Token}
@@ -27,7 +28,13 @@ same_front a b same = sym (without-append a) ∙ ap without_line_feed same ∙ w
 -- the tokens of an accepted input can be written, under the bounds of `respell`
 pub accepted_for : (a : List ℕ) (s : List Token) → IsAccepted a s → AreFor respell_bounds s
 accepted_for a s is =
-    let are : AreBounds respell_bounds = record { start_line = lit< tt; start_column = lit< tt; sources = lit< tt; names = lit< tt; lines = lit≤ tt } in
+    let are : AreBounds respell_bounds = record {
+      start_line = lit< tt;
+      start_column = lit< tt;
+      sources = lit< tt;
+      names = lit< tt;
+      lines = lit≤ tt;
+    } in
     record {
       line_start = refl;
       column_start = refl;
@@ -35,10 +42,12 @@ accepted_for a s is =
       within = decoded-within respell_bounds (without_line_feed a) s is;
     }
 
-pub output_of : (a : List ℕ) (s : List Token) → IsAccepted a s → (respell_output a).0 ≡ mappings_text s ++ 10 ∷ []
+pub output_of : (a : List ℕ) (s : List Token) → IsAccepted a s
+    → (respell_output a).0 ≡ mappings_text s ++ 10 ∷ []
 output_of a s is = ap (λ p. p.0) (says a (Ok s) is)
 
-pub output_accepted : TextReadsBack → (a : List ℕ) (s : List Token) → IsAccepted a s → IsAccepted (respell_output a).0 s
+pub output_accepted : TextReadsBack → (a : List ℕ) (s : List Token) → IsAccepted a s
+    → IsAccepted (respell_output a).0 s
 output_accepted back a s is =
     rw (output_of a s is, without-append (mappings_text s)) (back respell_bounds s (accepted_for a s is))
 
@@ -46,7 +55,8 @@ pub decides : TextReadsBack → RespellDecides
 decides back a b s t is_s is_t = (
   λ same. output_of a s is_s ∙ ap (λ ts. mappings_text ts ++ 10 ∷ []) same ∙ sym (output_of b t is_t),
   λ same.
-      let texts : mappings_text s ≡ mappings_text t = same_front _ _ (sym (output_of a s is_s) ∙ same ∙ output_of b t is_t) in
+      let texts : mappings_text s ≡ mappings_text t = same_front _ _ (sym (output_of a s is_s)
+      ∙ same ∙ output_of b t is_t) in
       let first = back respell_bounds s (accepted_for a s is_s) in
       let second = back respell_bounds t (accepted_for b t is_t) in
       let both : Ok s ≡ Ok t = sym first ∙ ap (decoded respell_bounds) texts ∙ second in

@@ -5,3 +5,4 @@ pub mod RoundTripLemmas
 pub mod SameTranslationLemmas
 pub mod RunLemmas
 pub mod TranslateLemmas
+mod Examples

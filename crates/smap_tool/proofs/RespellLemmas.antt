@@ -13,14 +13,19 @@ use Rattle.smap_tool.specs.FaultLine.{fault_line}
 use Rattle.smap_trace.specs.Translation.{without_line_feed}
 use Rattle.smap_tool.specs.Respell.{respell_bounds, respelled, respell_output}
 
-pub says : (input : List ℕ) (said : Result (List Token) Fault) → decoded respell_bounds (without_line_feed input) ≡ said → respell_output input ≡ respelled said
+pub says : (input : List ℕ) (said : Result (List Token) Fault)
+    → decoded respell_bounds (without_line_feed input) ≡ said → respell_output input ≡ respelled said
 unfolding respell_output
 says input said is = ap respelled is
 
-pub says_tokens : (input : List ℕ) (tokens : List Token) → decoded respell_bounds (without_line_feed input) ≡ Ok tokens
-    → (out new : List ℕ) → out ≡ mappings_text tokens → new ≡ out ++ 10 ∷ [] → (let p : List ℕ × Outcome = (new, Done) in p ≡ respell_output input)
+pub says_tokens : (input : List ℕ) (tokens : List Token)
+    → decoded respell_bounds (without_line_feed input) ≡ Ok tokens
+    → (out new : List ℕ) → out ≡ mappings_text tokens → new ≡ out ++ 10 ∷ []
+    → (let p : List ℕ × Outcome = (new, Done) in p ≡ respell_output input)
 says_tokens input tokens said out new written more = rw (more, written) (sym (says input (Ok tokens) said))
 
-pub says_fault : (input : List ℕ) (place : SegmentPlace) (kind : SegmentKind) → decoded respell_bounds (without_line_feed input) ≡ Err (place, kind)
-    → (new : List ℕ) → new ≡ fault_line (segment_fault (place, kind)) ++ 10 ∷ [] → (let p : List ℕ × Outcome = (new, Refused) in p ≡ respell_output input)
+pub says_fault : (input : List ℕ) (place : SegmentPlace) (kind : SegmentKind)
+    → decoded respell_bounds (without_line_feed input) ≡ Err (place, kind)
+    → (new : List ℕ) → new ≡ fault_line (segment_fault (place, kind)) ++ 10 ∷ []
+    → (let p : List ℕ × Outcome = (new, Refused) in p ≡ respell_output input)
 says_fault input place kind said new written = rw written (sym (says input (Err (place, kind)) said))

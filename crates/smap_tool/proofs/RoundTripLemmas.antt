@@ -2,7 +2,7 @@
 use Rattle.std.proofs.Common.{◌≡◌, ℕ, List, ◌∷◌, ◌++◌, Ok, Err, sym, ap, ◌∙◌}
 use Rattle.smap_record.specs.declared.fault.ReadError.{ReadError}
 use Rattle.smap_record.specs.declared.fault.ReadError.TheVariants as errors
-use Rattle.smap_record.specs.Answers.{Fails}
+use Rattle.smap_record.specs.Results.{Fails}
 use Rattle.smap_record.specs.Faults.{Checked}
 use Rattle.smap_record.specs.Reading.{reading}
 use Rattle.smap_record.specs.Record.{Parts, Record, Allowed, ReadMap, record_of}
@@ -11,19 +11,26 @@ use Rattle.smap_trace.specs.Translation.{translation}
 use Rattle.smap_tool.specs.RoundTrips.{TranslateAlike}
 
 -- what is read of bytes that are read as this record has it
-read_same : (base : Parts) (limits : Allowed) (a b : List ℕ) (r : Record) (n : ReadMap) → ReadAs base limits a r → b ≡ a → reading base limits b ≡ Ok n → r ≡ record_of n
+read_same : (base : Parts) (limits : Allowed) (a b : List ℕ) (r : Record) (n : ReadMap)
+    → ReadAs base limits a r → b ≡ a → reading base limits b ≡ Ok n → r ≡ record_of n
 read_same base limits a b r n one same read =
-    let both : ◌≡◌ {A = Checked ReadMap} (Ok one.0) (Ok n) = sym one.1 ∙ sym (ap (reading base limits) same) ∙ read in
+    let both : ◌≡◌ {A = Checked ReadMap} (Ok one.0) (Ok n) = sym one.1 ∙ sym (ap (reading base limits) same)
+    ∙ read in
     let maps : one.0 ≡ n = cc in
     sym one.2 ∙ ap record_of maps
 
-pub alike : (base : Parts) (limits : Allowed) (a b : List ℕ) (r : Record) (n : ReadMap) → ReadAs base limits a r → b ≡ a → reading base limits b ≡ Ok n → TranslateAlike r (record_of n)
+pub alike : (base : Parts) (limits : Allowed) (a b : List ℕ) (r : Record) (n : ReadMap)
+    → ReadAs base limits a r → b ≡ a → reading base limits b ≡ Ok n → TranslateAlike r (record_of n)
 alike base limits a b r n one same read before after url distinct hide trace =
-    ap (λ (x : Record). translation (before ++ (url, x) ∷ after) hide trace) (read_same base limits a b r n one same read)
+    ap (λ (x : Record). translation (before ++ (url, x) ∷ after) hide trace)
+    (read_same base limits a b r n one same read)
 
 -- reading them fails for want of memory alone
-pub only_memory : {Y : Type 0} (base : Parts) (limits : Allowed) (a b : List ℕ) (r : Record) (e : ReadError) (expected : Checked Y) → ReadAs base limits a r → b ≡ a → Fails e (reading base limits b) → Fails e expected
+pub only_memory : {Y : Type 0} (base : Parts) (limits : Allowed) (a b : List ℕ) (r : Record) (e : ReadError)
+    (expected : Checked Y) → ReadAs base limits a r → b ≡ a → Fails e (reading base limits b)
+    → Fails e expected
 only_memory base limits a b r (errors.Refused fault) expected one same fails =
-    let both : ◌≡◌ {A = Checked ReadMap} (Ok one.0) (Err fault) = sym one.1 ∙ sym (ap (reading base limits) same) ∙ fails in
+    let both : ◌≡◌ {A = Checked ReadMap} (Ok one.0) (Err fault) = sym one.1
+    ∙ sym (ap (reading base limits) same) ∙ fails in
     absurd cc
 only_memory base limits a b r errors.Memory expected one same fails = tt

@@ -8,7 +8,8 @@ use Rattle.smap_tool.specs.SameTranslation.{Agree, IsReadFrom, SameTranslation, 
 
 read_same : (r s : Record) → IsReadFrom r s → r ≡ s
 read_same r s f =
-    read_once f.base f.limits (canonical_text_in f.form f.base r) (canonical_text_in f.form f.base r) r s (is_fixed_point f.form f.base f.limits r f.are_limits f.fits f.reads_back) f.read refl
+    read_once f.base f.limits (canonical_text_in f.form f.base r) (canonical_text_in f.form f.base r) r s
+    (is_fixed_point f.form f.base f.limits r f.are_limits f.fits f.reads_back) f.read refl
 
 one : (r s : Record) → StandFor r s → r ≡ s
 one r s (inl e) = e
@@ -27,4 +28,5 @@ all_equal (s ∷ ss) (t ∷ ts) h =
     both a b e f = λ i. (e i, f i)
 
 pub same : SameTranslation
-same scripts others distinct also agree hide trace = ap (λ (xs : List Script). translation xs hide trace) (all_equal scripts others agree)
+same scripts others distinct also agree hide trace = ap (λ (xs : List Script). translation xs hide trace)
+    (all_equal scripts others agree)

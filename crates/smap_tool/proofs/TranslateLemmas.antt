@@ -1,5 +1,7 @@
 -- A run from its parts.
-use Rattle.std.proofs.Common.{◌≡◌, ◌∙◌, ◌⊎◌, inl, inr, ℕ, ◌<◌, ◌≤◌, Bool, true, false, List, [], ◌∷◌, ◌++◌, length, Option, Result, Ok, Err, refl, sym, subst, arith, append_assoc, length-append}
+use Rattle.std.proofs.Common.{◌≡◌, ◌∙◌, ◌⊎◌, inl, inr, ℕ, ◌<◌, ◌≤◌, Bool, true, false, List, [], ◌∷◌, ◌++◌}
+use Rattle.std.proofs.Common.{length, Option, Result, Ok, Err, refl, sym, subst, arith, append_assoc}
+use Rattle.std.proofs.Common.{length-append}
 use Rattle.std.proofs.KnownBytes.{Keeps-refl}
 use Rattle.smap_io.specs.declared.device.Device.{Device}
 use Rattle.smap_io.specs.Device.{device_failures}
@@ -12,11 +14,12 @@ use Rattle.smap_tool.specs.declared.outcome.Outcome.{Outcome}
 use Rattle.smap_tool.specs.declared.outcome.Outcome.TheVariants.{Done, Refused}
 use Rattle.smap_tool.specs.declared.outcome.RunFault.{RunFault}
 use Rattle.smap_tool.specs.declared.outcome.RunFault.TheVariants as run
-use Rattle.smap_trace.specs.Streaming.{WritesFront}
+use Rattle.smap_trace.specs.Streaming.{WritesPrefix}
 use Rattle.smap_trace.specs.Translation.{Script, translation}
 use Rattle.smap_bundle.specs.Header.{trace_line}
-use Rattle.smap_bundle.specs.Bundle.{Answers, Reads, refused}
+use Rattle.smap_bundle.specs.Bundle.{IsAnswer, BeginsWithEntries, refused}
 use Rattle.smap_bundle.specs.Entries.{TakesEntries}
+use Rattle.smap_bundle.specs.Reach.{ReadsNoMore}
 use Rattle.smap_tool.specs.Translate.{GaveUp, RunTranslates, RunsTranslate, TranslatesTrace, WritesRefusal}
 use Rattle.smap_bundle.specs.Stopping.{Settled, Stops}
 use Rattle.smap_bundle.specs.declared.fault.BundleFault.TheVariants as fault
@@ -24,22 +27,39 @@ use Rattle.smap_bundle.specs.declared.fault.Refusal.{Refusal}
 use Rattle.smap_io.specs.declared.reading.TheConstants.{MOST_CALLS}
 use Rattle.smap_tool.specs.BundleLine.{bundle_line}
 
-module _ {R W : Type 0} (remaining : R → Option (List ℕ)) (contents : W → Option (List ℕ)) (hide : Bool) (ro rm rn : Device R) (wo wn : Device W)
-    (scripts : List Script) (t : TakesEntries remaining ro rm scripts) (same : device_failures rm ≡ device_failures ro) where
+module _ {R W : Type 0} (remaining : R → Option (List ℕ)) (contents : W → Option (List ℕ)) (hide : Bool)
+    (ro rm rn : Device R) (wo wn : Device W)
+    (scripts : List Script) (t : TakesEntries remaining ro rm scripts)
+    (same : device_failures rm ≡ device_failures ro) where
   -- after the entries of a bundle comes its trace
-  reads_all : (trace : List ℕ) → Reads ((t.entries ++ trace_line) ++ trace) scripts (trace_line ++ trace)
-  reads_all trace = record { entries = t.entries; whole = append_assoc t.entries trace_line trace; are = t.are; distinct = t.distinct }
+  reads_all : (trace : List ℕ)
+      → BeginsWithEntries ((t.entries ++ trace_line) ++ trace) scripts (trace_line ++ trace)
+  reads_all trace = record {
+    entries = t.entries;
+    whole = append_assoc t.entries trace_line trace;
+    are = t.are;
+    distinct = t.distinct;
+  }
 
-  gave_up : WritesFront scripts hide (streams remaining rm rn contents wo wn) → GaveUp hide (streams remaining ro rn contents wo wn)
+  gave_up : WritesPrefix scripts hide (streams remaining rm rn contents wo wn)
+      → GaveUp hide (streams remaining ro rn contents wo wn)
   gave_up w = record {
     input = (t.entries ++ trace_line) ++ w.bytes;
     front = w.front;
     read = Gave-then remaining ro rm rn (t.entries ++ trace_line) w.bytes t.gave w.read;
     written = w.written;
-    is_front = inr (record { scripts = scripts; trace = w.bytes; rest = w.rest; reads = reads_all w.bytes; is_front = w.is_front });
+    is_front = inr (record {
+      scripts = scripts;
+      trace = w.bytes;
+      rest = w.rest;
+      reads = reads_all w.bytes;
+      is_front = w.is_front;
+    });
   }
 
-  told : (r : Result Outcome RunFault) → TranslatesTrace scripts hide (streams remaining rm rn contents wo wn) r → RunTranslates hide (streams remaining ro rn contents wo wn) r
+  told : (r : Result Outcome RunFault)
+      → TranslatesTrace scripts hide (streams remaining rm rn contents wo wn) r
+      → RunTranslates hide (streams remaining ro rn contents wo wn) r
   told (Ok Done) w = (
     (t.entries ++ trace_line) ++ w.0,
     translation scripts hide w.0,
@@ -55,50 +75,115 @@ module _ {R W : Type 0} (remaining : R → Option (List ℕ)) (contents : W → 
   told (Err run.Memory) w = gave_up w
   told (Err run.Write) w = inl (gave_up w)
 
-  tired : (b : Bool) → RisesOr (ReadsTooMuch (streams remaining rm rn contents wo wn)) b (device_failures rm) (device_failures rn)
-      → RisesOr (ReadsTooMuch (streams remaining ro rn contents wo wn)) b (device_failures ro) (device_failures rn)
+  tired : (b : Bool) → RisesOr (ReadsTooMuch (streams remaining rm rn contents wo wn)) b (device_failures rm)
+      (device_failures rn)
+      → RisesOr (ReadsTooMuch (streams remaining ro rn contents wo wn)) b (device_failures ro)
+      (device_failures rn)
   tired true (inl lt) = inl (omega (arith, lt, same))
   tired true (inr e) =
       let sum = length-append (t.entries ++ trace_line) e.1.0 in
-      inr (e.0 ∙ same, ((t.entries ++ trace_line) ++ e.1.0, Gave-then remaining ro rm rn (t.entries ++ trace_line) e.1.0 t.gave e.1.1, omega (arith, sum, e.1.2)))
+      inr (
+        e.0 ∙ same,
+        (
+          (t.entries ++ trace_line) ++ e.1.0,
+          Gave-then remaining ro rm rn (t.entries ++ trace_line)
+              e.1.0 t.gave e.1.1,
+          omega (arith, sum, e.1.2),
+        ),
+      )
   tired false e = e ∙ same
 
   -- a bundle without a fault
-  pub whole_run : (r : Result Outcome RunFault) → TranslatesTrace scripts hide (streams remaining rm rn contents wo wn) r
-      → ReaderFailsOrTires is_read (streams remaining rm rn contents wo wn) r → WriterFails is_write (streams remaining rm rn contents wo wn) r
+  pub whole_run : (r : Result Outcome RunFault)
+      → TranslatesTrace scripts hide (streams remaining rm rn contents wo wn) r
+      → ReaderFailsOrTires is_read (streams remaining rm rn contents wo wn) r
+      → WriterFails is_write (streams remaining rm rn contents wo wn) r
       → RunsTranslate hide (streams remaining ro rn contents wo wn) r
-  whole_run r w reads writes = record { translates = told r w; reader_failures = tired (fails_by is_read r) reads; writer_failures = writes }
+  whole_run r w reads writes = record {
+    translates = told r w;
+    reader_failures = tired (fails_by is_read r) reads;
+    writer_failures = writes;
+  }
 
-module _ {R W : Type 0} (remaining : R → Option (List ℕ)) (contents : W → Option (List ℕ)) (hide : Bool) (ro rn : Device R) where
-  nothing_written : (w : Device W) (bytes : List ℕ) → Gave remaining ro rn bytes → GaveUp hide (streams remaining ro rn contents w w)
-  nothing_written w bytes gave = record { input = bytes; front = []; read = gave; written = Took-none contents w; is_front = inl refl }
+module _ {R W : Type 0} (remaining : R → Option (List ℕ)) (contents : W → Option (List ℕ)) (hide : Bool)
+    (ro rn : Device R) where
+  nothing_written : (w : Device W) (bytes : List ℕ) → Gave remaining ro rn bytes
+      → GaveUp hide (streams remaining ro rn contents w w)
+  nothing_written w bytes gave = record {
+    input = bytes;
+    front = [];
+    read = gave;
+    written = Took-none contents w;
+    is_front = inl refl;
+  }
 
   -- a bundle that is refused
-  pub refused_run : (wo wn : Device W) (refusal : Refusal) (r : Result Outcome RunFault) → Settled remaining ro rn (Answers hide) (refused refusal)
-      → device_failures rn ≡ device_failures ro → WritesRefusal contents wo wn (bundle_line refusal ++ 10 ∷ []) r → RunsTranslate hide (streams remaining ro rn contents wo wn) r
+  pub refused_run : (wo wn : Device W) (refusal : Refusal) (r : Result Outcome RunFault)
+      → Settled remaining ro rn (IsAnswer hide) ReadsNoMore
+      (refused refusal)
+      → device_failures rn ≡ device_failures ro
+      → WritesRefusal contents wo wn (bundle_line refusal ++ 10 ∷ []) r
+      → RunsTranslate hide (streams remaining ro rn contents wo wn) r
   refused_run wo wn refusal (Ok Done) s same w = absurd (let is = w.1 in cc)
-  refused_run wo wn refusal (Ok Refused) s same w = record { translates = (s.bytes, refusal, s.gave, s.settled, w.0); reader_failures = same; writer_failures = w.2 }
+  refused_run wo wn refusal (Ok Refused) s same w =
+      record {
+        translates = (s.bytes, refusal, s.gave, s.settled, s.within, w.0);
+        reader_failures = same;
+        writer_failures = w.2;
+      }
   refused_run wo wn refusal (Err run.TooLong) s same w = absurd w
   refused_run wo wn refusal (Err run.Read) s same w = absurd w
-  refused_run wo wn refusal (Err run.Memory) s same w = subst (λ (x : Device W). RunsTranslate hide (streams remaining ro rn contents wo x) (Err run.Memory)) (sym w)
-      (record { translates = nothing_written wo s.bytes s.gave; reader_failures = same; writer_failures = refl })
+  refused_run wo wn refusal (Err run.Memory) s same w =
+      subst (λ (x : Device W). RunsTranslate hide (streams remaining ro rn contents wo x) (Err run.Memory))
+      (sym w)
+      (record {
+        translates = nothing_written wo s.bytes s.gave;
+        reader_failures = same;
+        writer_failures = refl;
+      })
   refused_run wo wn refusal (Err run.Write) s same w = record {
-    translates = inr (record { input = s.bytes; refusal = refusal; n = w.0.0; read = s.gave; settles = s.settled; written = w.0.1 });
+    translates = inr (record {
+      input = s.bytes;
+      refusal = refusal;
+      n = w.0.0;
+      read = s.gave;
+      settles = s.settled;
+      no_more = s.within;
+      written = w.0.1;
+    });
     reader_failures = same;
     writer_failures = w.1;
   }
 
   -- a run that gave up before
-  pub too_long_run : (w : Device W) → Stops remaining ro rn MOST_CALLS (Answers hide) fault.TooLong → RunsTranslate hide (streams remaining ro rn contents w w) (Err run.TooLong)
-  too_long_run w s = record { translates = (s.0, s.1, s.2, Keeps-refl (streams remaining ro rn contents w w).written_before); reader_failures = s.3; writer_failures = refl }
+  pub too_long_run : (w : Device W)
+      → Stops remaining ro rn MOST_CALLS (IsAnswer hide) ReadsNoMore fault.TooLong
+      → RunsTranslate hide (streams remaining ro rn contents w w) (Err run.TooLong)
+  too_long_run w s = record {
+    translates = (s.0, s.1, s.2, s.3, Keeps-refl (streams remaining ro rn contents w w).written_before);
+    reader_failures = s.4;
+    writer_failures = refl;
+  }
 
-  pub unread_run : (w : Device W) → Stops remaining ro rn MOST_CALLS (Answers hide) fault.Read → RunsTranslate hide (streams remaining ro rn contents w w) (Err run.Read)
-  unread_run w s = record { translates = nothing_written w s.0 s.1; reader_failures = blamed s.2; writer_failures = refl }
+  pub unread_run : (w : Device W) → Stops remaining ro rn MOST_CALLS (IsAnswer hide) ReadsNoMore fault.Read
+      → RunsTranslate hide (streams remaining ro rn contents w w) (Err run.Read)
+  unread_run w s = record {
+    translates = nothing_written w s.0 s.1;
+    reader_failures = blamed s.2;
+    writer_failures = refl;
+  }
     where
-      blamed : (device_failures ro < device_failures rn) ⊎ ((device_failures rn ≡ device_failures ro) × (MOST_CALLS ≤ length s.0))
-          → (device_failures ro < device_failures rn) ⊎ ((device_failures rn ≡ device_failures ro) × ReadsTooMuch (streams remaining ro rn contents w w))
+      blamed : (device_failures ro < device_failures rn) ⊎ ((device_failures rn ≡ device_failures ro)
+          × (MOST_CALLS ≤ length s.0))
+          → (device_failures ro < device_failures rn) ⊎ ((device_failures rn ≡ device_failures ro)
+          × ReadsTooMuch (streams remaining ro rn contents w w))
       blamed (inl lt) = inl lt
       blamed (inr e) = inr (e.0, (s.0, s.1, e.1))
 
-  pub memory_run : (w : Device W) → Stops remaining ro rn MOST_CALLS (Answers hide) fault.Memory → RunsTranslate hide (streams remaining ro rn contents w w) (Err run.Memory)
-  memory_run w s = record { translates = nothing_written w s.0 s.1; reader_failures = s.2; writer_failures = refl }
+  pub memory_run : (w : Device W) → Stops remaining ro rn MOST_CALLS (IsAnswer hide) ReadsNoMore fault.Memory
+      → RunsTranslate hide (streams remaining ro rn contents w w) (Err run.Memory)
+  memory_run w s = record {
+    translates = nothing_written w s.0 s.1;
+    reader_failures = s.2;
+    writer_failures = refl;
+  }

@@ -10,7 +10,7 @@ use Rattle.smap_io.specs.Device.{device_failures}
 use Rattle.smap_io.specs.Reading.{Gave, IsAtItsEnd}
 use Rattle.smap_io.specs.Streams.{HasRead, HasReadNothing, HasWritten, HasWrittenNothing, ReaderFails}
 use Rattle.smap_io.specs.Streams.{Streams, WriterFails}
-use Rattle.smap_io.specs.Writing.{Took, TookFront}
+use Rattle.smap_io.specs.Writing.{Took, TookPrefix}
 use Rattle.smap_io.specs.declared.reading.TheConstants.{LIMIT}
 use Rattle.smap_tool.specs.declared.outcome.Outcome.{Outcome}
 use Rattle.smap_tool.specs.declared.outcome.Outcome.TheVariants.{Refused}
@@ -34,16 +34,16 @@ HasReadAll s input = HasRead s input × IsAtEnd s.read_after × (length input �
 
 -- What was written is exactly what `output` gives for what was read. A run that gave up has written
 -- nothing, except after a failed write: then it has written a prefix.
-abbrev pub Answers : (List ℕ → List ℕ × Outcome) → Streams → Result Outcome RunFault → Type 0
-Answers output s (Ok outcome) = (input : List ℕ) × HasReadAll s input × HasWritten s (output input).0
+abbrev pub WritesOutput : (List ℕ → List ℕ × Outcome) → Streams → Result Outcome RunFault → Type 0
+WritesOutput output s (Ok outcome) = (input : List ℕ) × HasReadAll s input × HasWritten s (output input).0
     × (outcome ≡ (output input).1) × (s.ended ≡ true)
-Answers output s (Err run.TooLong) =
+WritesOutput output s (Err run.TooLong) =
     (input : List ℕ) × HasRead s input × (LIMIT < length input) × HasWrittenNothing s
-Answers output s (Err run.Read) =
+WritesOutput output s (Err run.Read) =
     (input : List ℕ) × HasRead s input × (length input ≤ LIMIT) × HasWrittenNothing s
-Answers output s (Err run.Memory) =
+WritesOutput output s (Err run.Memory) =
     (input : List ℕ) × HasRead s input × (length input ≤ LIMIT) × HasWrittenNothing s
-Answers output s (Err run.Write) =
+WritesOutput output s (Err run.Write) =
     (input : List ℕ) × (n : ℕ) × HasReadAll s input × HasWritten s (take n (output input).0)
 
 -- ---- a run against a base
@@ -61,10 +61,10 @@ RefusesBase s (Err run.TooLong) = ⊥
 
 -- With a base that is a URL, a run that reads its input; and else the base is refused before anything is
 -- read.
-abbrev pub AnswersAgainst : Parsed Parts → (Parts → List ℕ → List ℕ × Outcome) → Streams
+abbrev pub WritesOutputAgainst : Parsed Parts → (Parts → List ℕ → List ℕ × Outcome) → Streams
     → Result Outcome RunFault → Type 0
-AnswersAgainst (Ok base) output s answer = Answers (output base) s answer
-AnswersAgainst (Err e) output s answer = HasReadNothing s × RefusesBase s answer
+WritesOutputAgainst (Ok base) output s answer = WritesOutput (output base) s answer
+WritesOutputAgainst (Err e) output s answer = HasReadNothing s × RefusesBase s answer
 
 -- ---- a run
 
@@ -101,7 +101,7 @@ abbrev pub WritesAnswer : {W : Type 0} → (W → Option (List ℕ)) → Device 
 WritesAnswer contents old new text outcome (Ok answer) =
     Took contents old new text × (answer ≡ outcome) × (device_failures new ≡ device_failures old)
 WritesAnswer contents old new text outcome (Err run.Write) =
-    TookFront contents old new text × (device_failures old < device_failures new)
+    TookPrefix contents old new text × (device_failures old < device_failures new)
 WritesAnswer contents old new text outcome (Err run.Read) = ⊥
 WritesAnswer contents old new text outcome (Err run.Memory) = ⊥
 WritesAnswer contents old new text outcome (Err run.TooLong) = ⊥

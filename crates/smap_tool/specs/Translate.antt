@@ -6,8 +6,8 @@ use Rattle.smap_io.specs.declared.device.Device.{Device}
 use Rattle.smap_io.specs.Device.{device_failures}
 use Rattle.smap_io.specs.Streams.{HasRead, HasWritten, HasWrittenNothing, ReaderFailsOrTires, Streams}
 use Rattle.smap_io.specs.Streams.{WriterFails}
-use Rattle.smap_io.specs.Writing.{Took, TookFront}
-use Rattle.smap_trace.specs.Streaming.{WritesFront, read_lines}
+use Rattle.smap_io.specs.Writing.{Took, TookPrefix}
+use Rattle.smap_trace.specs.Streaming.{WritesPrefix, read_lines}
 use Rattle.smap_trace.specs.Translation.{Script, translation}
 use Rattle.smap_tool.specs.Run.{is_read, is_write}
 use Rattle.smap_tool.specs.declared.outcome.Outcome.{Outcome}
@@ -15,27 +15,29 @@ use Rattle.smap_tool.specs.declared.outcome.Outcome.TheVariants.{Done, Refused}
 use Rattle.smap_tool.specs.declared.outcome.RunFault.{RunFault}
 use Rattle.smap_tool.specs.declared.outcome.RunFault.TheVariants as run
 use Rattle.smap_bundle.specs.Header.{trace_line}
-use Rattle.smap_bundle.specs.Bundle.{Answer, Answers, Reads, done, refused, too_long}
+use Rattle.smap_bundle.specs.Bundle.{Answer, IsAnswer, BeginsWithEntries, done, refused, too_long}
+use Rattle.smap_bundle.specs.Reach.{ReadsNoMore}
 use Rattle.smap_bundle.specs.Reading.{MayFollow}
 use Rattle.smap_bundle.specs.declared.fault.Refusal.{Refusal}
 use Rattle.smap_tool.specs.BundleLine.{bundle_line}
 
 -- The answer for what was read, and unless that was to the end, for every input that begins with it.
 abbrev pub Settles : Bool → Bool → List ℕ → Answer → Type 0
-Settles hide ended input answer = (more : List ℕ) → MayFollow ended more → Answers hide (input ++ more) answer
+Settles hide ended input answer =
+    (more : List ℕ) → MayFollow ended more → IsAnswer hide (input ++ more) answer
 
 -- A prefix of the translation of the complete lines that were read after the line `trace`.
-pub record BehindTrace (hide ended : Bool) (input front : List ℕ) : Type 0 where
+pub record AfterTrace (hide ended : Bool) (input front : List ℕ) : Type 0 where
   pub scripts : List Script
   pub trace : List ℕ
   pub rest : List ℕ
-  pub reads : Reads input scripts (trace_line ++ trace)
+  pub reads : BeginsWithEntries input scripts (trace_line ++ trace)
   pub is_front : translation scripts hide (read_lines ended trace) ≡ front ++ rest
 
 -- What a run that gave up has written, unless the bundle has a fault: nothing until the line `trace` was
 -- read.
-abbrev pub IsFront : Bool → Bool → List ℕ → List ℕ → Type 0
-IsFront hide ended input front = (front ≡ []) ⊎ BehindTrace hide ended input front
+abbrev pub IsWrittenPrefix : Bool → Bool → List ℕ → List ℕ → Type 0
+IsWrittenPrefix hide ended input front = (front ≡ []) ⊎ AfterTrace hide ended input front
 
 -- What was read and written by a run that gave up.
 pub record GaveUp (hide : Bool) (s : Streams) : Type 0 where
@@ -43,31 +45,33 @@ pub record GaveUp (hide : Bool) (s : Streams) : Type 0 where
   pub front : List ℕ
   pub read : HasRead s input
   pub written : HasWritten s front
-  pub is_front : IsFront hide s.ended input front
+  pub is_front : IsWrittenPrefix hide s.ended input front
 
--- What was read has a fault, and a prefix of its error line was written.
-pub record FrontOfRefusal (hide : Bool) (s : Streams) : Type 0 where
+-- What was read has a fault, nothing was read past it, and a prefix of its error line was written.
+pub record PrefixOfRefusal (hide : Bool) (s : Streams) : Type 0 where
   pub input : List ℕ
   pub refusal : Refusal
   pub n : ℕ
   pub read : HasRead s input
   pub settles : Settles hide s.ended input (refused refusal)
+  pub no_more : ReadsNoMore input (refused refusal)
   pub written : HasWritten s (take n (bundle_line refusal ++ 10 ∷ []))
 
--- What was written is exactly the answer for what was read.
+-- What was written is exactly the answer for what was read. Where the bundle has a fault or a map is too
+-- long, nothing was read past the line that shows it, or for a fault of a map past the byte after the map.
 abbrev pub RunTranslates : Bool → Streams → Result Outcome RunFault → Type 0
 RunTranslates hide s (Ok Done) = (input text : List ℕ) × HasRead s input × IsAtEnd s.read_after
     × (s.ended ≡ true)
-    × Answers hide input (done text) × HasWritten s text
+    × IsAnswer hide input (done text) × HasWritten s text
 RunTranslates hide s (Ok Refused) =
     (input : List ℕ) × (refusal : Refusal) × HasRead s input × Settles hide s.ended input (refused refusal)
-    × HasWritten s (bundle_line refusal ++ 10 ∷ [])
+    × ReadsNoMore input (refused refusal) × HasWritten s (bundle_line refusal ++ 10 ∷ [])
 RunTranslates hide s (Err run.TooLong) =
-    (input : List ℕ) × HasRead s input × ((more : List ℕ) → Answers hide (input ++ more) too_long)
-    × HasWrittenNothing s
+    (input : List ℕ) × HasRead s input × ((more : List ℕ) → IsAnswer hide (input ++ more) too_long)
+    × ReadsNoMore input too_long × HasWrittenNothing s
 RunTranslates hide s (Err run.Read) = GaveUp hide s
 RunTranslates hide s (Err run.Memory) = GaveUp hide s
-RunTranslates hide s (Err run.Write) = GaveUp hide s ⊎ FrontOfRefusal hide s
+RunTranslates hide s (Err run.Write) = GaveUp hide s ⊎ PrefixOfRefusal hide s
 
 -- What the run promises. Read comes with a failure of the reader, or if the limit on reads may have been
 -- reached; Write with one of the writer; and no other answer comes with a failure.
@@ -85,9 +89,9 @@ TranslatesTrace scripts hide s (Ok Done) =
     (translation scripts hide trace)
 TranslatesTrace scripts hide s (Ok Refused) = ⊥
 TranslatesTrace scripts hide s (Err run.TooLong) = ⊥
-TranslatesTrace scripts hide s (Err run.Read) = WritesFront scripts hide s
-TranslatesTrace scripts hide s (Err run.Memory) = WritesFront scripts hide s
-TranslatesTrace scripts hide s (Err run.Write) = WritesFront scripts hide s
+TranslatesTrace scripts hide s (Err run.Read) = WritesPrefix scripts hide s
+TranslatesTrace scripts hide s (Err run.Memory) = WritesPrefix scripts hide s
+TranslatesTrace scripts hide s (Err run.Write) = WritesPrefix scripts hide s
 
 -- The error line was written, or a prefix of it if a call failed.
 abbrev pub WritesRefusal : {W : Type 0} → (W → Option (List ℕ)) → Device W → Device W → List ℕ
@@ -95,7 +99,7 @@ abbrev pub WritesRefusal : {W : Type 0} → (W → Option (List ℕ)) → Device
 WritesRefusal contents old new text (Ok outcome) =
     Took contents old new text × (outcome ≡ Refused) × (device_failures new ≡ device_failures old)
 WritesRefusal contents old new text (Err run.Write) =
-    TookFront contents old new text × (device_failures old < device_failures new)
+    TookPrefix contents old new text × (device_failures old < device_failures new)
 WritesRefusal contents old new text (Err run.Memory) = new ≡ old
 WritesRefusal contents old new text (Err run.Read) = ⊥
 WritesRefusal contents old new text (Err run.TooLong) = ⊥

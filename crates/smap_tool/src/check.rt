@@ -4,7 +4,7 @@ ghost use Rattle.smap_io.specs.Device.{device_failures, has_ended};
 ghost use Rattle.smap_io.specs.Streams.{streams};
 ghost use Rattle.smap_mappings.specs.Text.{line_count};
 ghost use Rattle.smap_tool.specs.Check.{check_output, check_text, counts_line, length_line, most_bytes};
-ghost use Rattle.smap_tool.specs.Run.{AnswersAgainst, Runs};
+ghost use Rattle.smap_tool.specs.Run.{WritesOutputAgainst, Runs};
 ghost use Rattle.url.specs.Parser.{parse_url};
 
 use crate::map_run::{MapCommand, run_on_map};
@@ -98,7 +98,7 @@ pub fn run_check<R: Read, W: Write>(
 
     // What was written is what the definition gives for what was read against the base. Read and Write come
     // with a failure of their device, and no other answer does.
-    ensures { Runs (AnswersAgainst (parse_url None base.now) check_output)
+    ensures { Runs (WritesOutputAgainst (parse_url None base.now) check_output)
         (streams R.remaining reader.old reader.new W.contents writer.old writer.new) result }
 {
     run_on_map(alloc, &Check, base, reader, writer)

@@ -2,7 +2,7 @@
 ghost use Rattle.std.specs.Prelude.{◌≡◌, ◌-◌, ◌^◌, ◌<◌, None, false};
 ghost use Rattle.smap_io.specs.Device.{device_failures, has_ended};
 ghost use Rattle.smap_io.specs.Streams.{streams};
-ghost use Rattle.smap_tool.specs.Run.{AnswersAgainst, Runs};
+ghost use Rattle.smap_tool.specs.Run.{WritesOutputAgainst, Runs};
 ghost use Rattle.smap_canon.specs.Layout.{flat_text};
 ghost use Rattle.smap_tool.specs.Flatten.{flatten_output};
 ghost use Rattle.url.specs.Parser.{parse_url};
@@ -46,7 +46,7 @@ pub fn run_flatten<R: Read, W: Write>(
 
     // What was written is what the definition gives for what was read against the base. Read and Write come
     // with a failure of their device, and no other answer does.
-    ensures { Runs (AnswersAgainst (parse_url None base.now) flatten_output)
+    ensures { Runs (WritesOutputAgainst (parse_url None base.now) flatten_output)
         (streams R.remaining reader.old reader.new W.contents writer.old writer.new) result }
 {
     run_on_map(alloc, &Flatten, base, reader, writer)

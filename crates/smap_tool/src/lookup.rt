@@ -5,8 +5,8 @@ ghost use Rattle.serde_json.specs.Data.{string};
 ghost use Rattle.serde_json.specs.Written.{compact_text};
 ghost use Rattle.smap_io.specs.Device.{device_failures, has_ended};
 ghost use Rattle.smap_io.specs.Streams.{streams};
-ghost use Rattle.smap_record.specs.Views.{mapping_seen, origin_seen};
-ghost use Rattle.smap_tool.specs.Run.{AnswersAgainst, Runs};
+ghost use Rattle.smap_record.specs.Views.{mapping_of_view, origin_of_view};
+ghost use Rattle.smap_tool.specs.Run.{WritesOutputAgainst, Runs};
 ghost use Rattle.smap_tool.specs.Lookup.{lookup_output, lookup_text, mapping_words, name_words};
 ghost use Rattle.smap_tool.specs.Lookup.{origin_words, url_words};
 ghost use Rattle.url.specs.Parser.{parse_url};
@@ -58,7 +58,7 @@ fn push_origin(
     original: Option<OriginalView<'_>>,
 ) -> Result<(), Memory>
     ensures { OnOk result (text.new.items
-        ≡ text.old.items ++ origin_words (option_map origin_seen original.entry)) }
+        ≡ text.old.items ++ origin_words (option_map origin_of_view original.entry)) }
 {
     let Some(original) = original else {
         return text.extend_from_slice(b"unmapped");
@@ -77,7 +77,7 @@ fn push_mapping(
     token: Option<TokenView<'_>>,
 ) -> Result<(), Memory>
     ensures { OnOk result (text.new.items
-        ≡ text.old.items ++ mapping_words (option_map mapping_seen token.entry)) }
+        ≡ text.old.items ++ mapping_words (option_map mapping_of_view token.entry)) }
 {
     let Some(token) = token else {
         return text.extend_from_slice(b"none");
@@ -139,7 +139,7 @@ pub fn run_lookup<R: Read, W: Write>(
 
     // What was written is what the definition gives for what was read against the base. Read and Write come
     // with a failure of their device, and no other answer does.
-    ensures { Runs (AnswersAgainst (parse_url None base.now) (lookup_output line column))
+    ensures { Runs (WritesOutputAgainst (parse_url None base.now) (lookup_output line column))
         (streams R.remaining reader.old reader.new W.contents writer.old writer.new) result }
 {
     run_on_map(alloc, &Lookup { line, column }, base, reader, writer)

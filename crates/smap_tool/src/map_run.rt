@@ -2,10 +2,10 @@
 ghost use Rattle.std.specs.Prelude.{◌≡◌, ◌-◌, ◌^◌, ◌<◌, ℕ, List, None, IfOk, false};
 ghost use Rattle.smap_io.specs.Device.{device_failures, has_ended};
 ghost use Rattle.smap_io.specs.Streams.{streams};
-ghost use Rattle.smap_record.specs.Answers.{Gives};
+ghost use Rattle.smap_record.specs.Results.{Returns};
 ghost use Rattle.smap_record.specs.Reading.{reading};
 ghost use Rattle.smap_record.specs.Record.{Parts, ReadMap, usual};
-ghost use Rattle.smap_tool.specs.Run.{AnswersAgainst, Runs};
+ghost use Rattle.smap_tool.specs.Run.{WritesOutputAgainst, Runs};
 ghost use Rattle.smap_tool.specs.MapRun.{map_output};
 ghost use Rattle.url.specs.Parser.{parse_url};
 
@@ -29,7 +29,7 @@ pub(crate) trait MapCommand {
 
 /// The map of an input, which is freed.
 fn map_of(alloc: Global, base: &Base, input: Vec<u8>) -> Result<SourceMap, ReadError>
-    ensures { Gives (λ m. m) result (reading base.now usual input.items) }
+    ensures { Returns (λ m. m) result (reading base.now usual input.items) }
 {
     SourceMap::from_vec(alloc, input, base, Limits::usual())
 }
@@ -62,7 +62,7 @@ pub(crate) fn run_on_map<C: MapCommand, R: Read, W: Write>(
     requires reader { device_failures reader.old < 2 ^ 64 - 1 }
     requires writer { device_failures writer.old < 2 ^ 64 - 1 }
     requires not_ended { has_ended reader.old ≡ false }
-    ensures { Runs (AnswersAgainst (parse_url None base.now) (map_output (C.output command.now)))
+    ensures { Runs (WritesOutputAgainst (parse_url None base.now) (map_output (C.output command.now)))
         (streams R.remaining reader.old reader.new W.contents writer.old writer.new) result }
 {
     let base = match Base::new(alloc, base) {

@@ -2,11 +2,11 @@
 ghost use Rattle.std.specs.Prelude.{◌≡◌, ◌-◌, ◌^◌, ◌<◌, false, IfOk};
 ghost use Rattle.smap_io.specs.Device.{device_failures, has_ended};
 ghost use Rattle.smap_io.specs.Streams.{streams};
-ghost use Rattle.smap_mappings.specs.Decoded.{Gives, decoded};
+ghost use Rattle.smap_mappings.specs.Decoded.{ReturnsTokens, decoded};
 ghost use Rattle.smap_mappings.specs.Text.{IsEncodable};
 ghost use Rattle.smap_trace.specs.Translation.{without_line_feed};
 ghost use Rattle.smap_tool.specs.Respell.{respell_bounds, respell_output};
-ghost use Rattle.smap_tool.specs.Run.{Answers, Runs};
+ghost use Rattle.smap_tool.specs.Run.{WritesOutput, Runs};
 
 use crate::fault_line::refusal;
 use crate::input::read_input;
@@ -32,7 +32,7 @@ fn without_line_feed(text: &[u8]) -> &[u8]
 /// The tokens of an input, which is freed: only they are needed for the output. The string starts at line 0
 /// and column 0, and its indices are only bounded by the greatest one.
 fn tokens_of(alloc: Global, input: Vec<u8>) -> Result<Vec<Token>, MappingsError>
-    ensures says { Gives result (decoded respell_bounds (without_line_feed input.items)) }
+    ensures says { ReturnsTokens result (decoded respell_bounds (without_line_feed input.items)) }
     ensures encodable { IfOk result (λ tokens. IsEncodable tokens.items) }
 {
     decode(alloc, without_line_feed(input.as_slice()), WIDEST)
@@ -74,7 +74,7 @@ pub fn run_respell<R: Read, W: Write>(
 
     // What was written is what the definition gives for what was read. Read and Write come with a failure
     // of their device, and no other answer does.
-    ensures { Runs (Answers respell_output)
+    ensures { Runs (WritesOutput respell_output)
         (streams R.remaining reader.old reader.new W.contents writer.old writer.new) result }
 {
     let input = read_input(alloc, reader)?;

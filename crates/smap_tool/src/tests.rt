@@ -58,6 +58,6 @@ fn writes(
             "{task:?} of {input}"
         );
         assert_eq!(rt; written.flushes, 1, "{task:?} of {input}");
-        assert!(rt; !written.written_behind_flush, "{task:?} of {input}");
+        assert!(rt; !written.written_after_flush, "{task:?} of {input}");
     }
 }

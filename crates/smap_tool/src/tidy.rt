@@ -2,7 +2,7 @@
 ghost use Rattle.std.specs.Prelude.{◌≡◌, ◌-◌, ◌^◌, ◌<◌, None, false};
 ghost use Rattle.smap_io.specs.Device.{device_failures, has_ended};
 ghost use Rattle.smap_io.specs.Streams.{streams};
-ghost use Rattle.smap_tool.specs.Run.{AnswersAgainst, Runs};
+ghost use Rattle.smap_tool.specs.Run.{WritesOutputAgainst, Runs};
 ghost use Rattle.smap_tool.specs.Tidy.{tidy_output, tidy_text};
 ghost use Rattle.url.specs.Parser.{parse_url};
 
@@ -50,7 +50,7 @@ pub fn run_tidy<R: Read, W: Write>(
 
     // What was written is what the definition gives for what was read against the base. Read and Write come
     // with a failure of their device, and no other answer does.
-    ensures { Runs (AnswersAgainst (parse_url None base.now) (tidy_output relative))
+    ensures { Runs (WritesOutputAgainst (parse_url None base.now) (tidy_output relative))
         (streams R.remaining reader.old reader.new W.contents writer.old writer.new) result }
 {
     run_on_map(alloc, &Tidy { relative }, base, reader, writer)

@@ -64,7 +64,8 @@ fn translate_trace<R: Read, W: Write>(
 /// sources are left out.
 ///
 /// Nothing after the line `trace` is read before the translation begins, and nothing is written before that
-/// except the line of a fault.
+/// except the line of a fault. A fault is answered without reading on: as soon as its line was read, or for
+/// a map as many bytes as its header announces and one more.
 ///
 /// # Errors
 ///
@@ -82,8 +83,9 @@ pub fn run_translate<R: Read, W: Write>(
     requires writer { device_failures writer.old < 2 ^ 64 - 1 }
     requires not_ended { has_ended reader.old ≡ false }
 
-    // What was written is the translation of the bundle's trace, or the line of its first fault. Read and
-    // Write come with a failure of their device, and no other answer does.
+    // What was written is the translation of the bundle's trace, or the line of its first fault; nothing
+    // was read past what shows this fault. Read and Write come with a failure of their device, and no other
+    // answer does.
     ensures { RunsTranslate hide
         (streams R.remaining reader.old reader.new W.contents writer.old writer.new) result }
 {

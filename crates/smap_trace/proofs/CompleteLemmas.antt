@@ -1,5 +1,8 @@
 -- What is a frame of a line is read as that frame.
-use Rattle.std.proofs.Common.{◌≡◌, ◌≢◌, ◌∙◌, ◌⊎◌, inl, inr, ℕ, suc, ◌+◌, ◌-◌, ◌<◌, ◌==◌, Bool, true, false, not, cond, ◌&&◌, List, [], ◌∷◌, ◌++◌, length, take, drop, Some, None, refl, sym, ap, subst, arith, append_assoc, append-nil, slice_range, slice_index, nat_eq, nat_lt, length-take, length-append, codes, get_or}
+use Rattle.std.proofs.Common.{◌≡◌, ◌≢◌, ◌∙◌, ◌⊎◌, inl, inr, ℕ, suc, ◌+◌, ◌-◌, ◌<◌, ◌==◌, Bool, true, false}
+use Rattle.std.proofs.Common.{not, cond, ◌&&◌, List, [], ◌∷◌, ◌++◌, length, take, drop, Some, None, refl, sym}
+use Rattle.std.proofs.Common.{ap, subst, arith, append_assoc, append-nil, slice_range, slice_index, nat_eq}
+use Rattle.std.proofs.Common.{nat_lt, length-take, length-append, codes, get_or}
 use Rattle.std.specs.List.{starts_with, ends_with, after_last, prefix_len, position_or_len, list_all}
 use Rattle.std.specs.Str.Lines.{strip_carriage_return}
 use Rattle.std.proofs.Math.Seq.{take-append_seam, get_or-append_seam}
@@ -7,82 +10,108 @@ use Rattle.std.proofs.lemmas.Bool.{lt-ltb, ne_eqb}
 use Rattle.std.proofs.lemmas.List.{take-append-drop}
 use Rattle.std.proofs.lemmas.Slice.Eq.{ends_is}
 use Rattle.std.proofs.lemmas.Bool.Decides.{Decides-eqb}
-use Rattle.smap_trace.specs.Frame.{Parts, AreSpaces, IsLineEnd, InParentheses, Alone, BehindAsync, BeginsWithAt, IsV8, IsFirefox, IsFrame, lacks, position}
+use Rattle.smap_trace.specs.Frame.{FrameParts, AreSpaces, IsLineEnd, InParentheses, Alone, AfterAsync}
+use Rattle.smap_trace.specs.Frame.{BeginsWithAt, IsV8, IsFirefox, IsFrame, lacks, position_text}
 use Rattle.smap_trace.specs.Reading.{body_frame, frame_of, framed, in_parentheses, is_space, is_url, v8_frame}
 use Rattle.smap_trace.proofs.CutLemmas.{begins, begins_with, middle_part}
-use Rattle.smap_trace.proofs.ReadingLemmas.{after_mark, framed-position}
+use Rattle.smap_trace.proofs.ReadingLemmas.{after_mark, framed-position_text}
 use Rattle.smap_trace.proofs.SoundLemmas.{at_found, front_all, front_passes}
-use Rattle.smap_trace.proofs.TextLemmas.{EndsIn, ends_not, lacks_all, longer, no_async, position_ends, position_lacks}
+use Rattle.smap_trace.proofs.TextLemmas.{EndsIn, ends_not, lacks_all, longer, no_async, position_text_ends}
+use Rattle.smap_trace.proofs.TextLemmas.{position_text_lacks}
 
 -- ---- V8, step by step
 
-v8_closed : (line : List ℕ) (start end : ℕ) → ends_with nat_eq (slice_range line start end) (codes ")") ≡ true → v8_frame line start end ≡ in_parentheses line start (end - 1)
+v8_closed : (line : List ℕ) (start end : ℕ) → ends_with nat_eq (slice_range line start end) (codes ")") ≡ true
+    → v8_frame line start end ≡ in_parentheses line start (end - 1)
 v8_closed line start end h = rw h refl
 
 v8_led : (line : List ℕ) (start end : ℕ) → ends_with nat_eq (slice_range line start end) (codes ")") ≡ false
-    → starts_with nat_eq (slice_range line start end) (codes "async ") ≡ true → v8_frame line start end ≡ framed line (start + 6) end
+    → starts_with nat_eq (slice_range line start end) (codes "async ") ≡ true
+    → v8_frame line start end ≡ framed line (start + 6) end
 v8_led line start end h k = rw (h, k) refl
 
 v8_bare : (line : List ℕ) (start end : ℕ) → ends_with nat_eq (slice_range line start end) (codes ")") ≡ false
-    → starts_with nat_eq (slice_range line start end) (codes "async ") ≡ false → v8_frame line start end ≡ framed line start end
+    → starts_with nat_eq (slice_range line start end) (codes "async ") ≡ false
+    → v8_frame line start end ≡ framed line start end
 v8_bare line start end h k = rw (h, k) refl
 
-opens : (line last : List ℕ) (start end : ℕ) → after_last is_space (slice_range line start end) ≡ last → starts_with nat_eq last (codes "(") ≡ true
-    → nat_lt (length last) (length (slice_range line start end)) ≡ true → in_parentheses line start end ≡ framed line (end - length last + 1) end
+opens : (line last : List ℕ) (start end : ℕ) → after_last is_space (slice_range line start end) ≡ last
+    → starts_with nat_eq last (codes "(") ≡ true
+    → nat_lt (length last) (length (slice_range line start end)) ≡ true
+    → in_parentheses line start end ≡ framed line (end - length last + 1) end
 opens line last start end l h k = rw (l, h, k) refl
 
 -- the middle of a line, by its places
-middle : (line a t b : List ℕ) (start end : ℕ) → line ≡ a ++ (t ++ b) → start ≡ length a → end ≡ length a + length t → slice_range line start end ≡ t
+middle : (line a t b : List ℕ) (start end : ℕ) → line ≡ a ++ (t ++ b) → start ≡ length a
+    → end ≡ length a + length t → slice_range line start end ≡ t
 middle line a t b start end whole s e =
     ap (λ (xs : List ℕ). slice_range xs start end) whole ∙ ap (λ n. slice_range (a ++ (t ++ b)) n end) s
     ∙ ap (λ n. slice_range (a ++ (t ++ b)) (length a) n) e ∙ middle_part a t b
 
--- Of what follows `at `, all but the lead and what closes is looked at as a position.
-pub v8_alone : (line front pos last : List ℕ) (x : ℕ) → line ≡ front ++ (pos ++ last) → EndsIn pos x → x ≢ 41 → list_all (λ b. not (b == 32)) pos ≡ true
-    → v8_frame line (length front) (length front + length pos) ≡ framed line (length front) (length front + length pos)
+-- What follows `at `, without the lead and what closes it, is read as a position.
+pub v8_alone : (line front pos last : List ℕ) (x : ℕ) → line ≡ front ++ (pos ++ last) → EndsIn pos x → x ≢ 41
+    → list_all (λ b. not (b == 32)) pos ≡ true
+    → v8_frame line (length front) (length front + length pos)
+    ≡ framed line (length front) (length front + length pos)
 v8_alone line front pos last x whole ends ne free =
     let text = middle line front pos last (length front) (length front + length pos) whole refl refl in
     v8_bare line (length front) (length front + length pos)
     (ap (λ (xs : List ℕ). ends_with nat_eq xs (codes ")")) text ∙ ends_not pos x 41 ends ne)
     (ap (λ (xs : List ℕ). starts_with nat_eq xs (codes "async ")) text ∙ no_async pos free)
 
-pub v8_async : (line front pos last : List ℕ) (x : ℕ) → line ≡ front ++ ((codes "async " ++ pos) ++ last) → EndsIn pos x → x ≢ 41
-    → v8_frame line (length front) (length front + length (codes "async " ++ pos)) ≡ framed line (length front + 6) (length front + length (codes "async " ++ pos))
+pub v8_async : (line front pos last : List ℕ) (x : ℕ) → line ≡ front ++ ((codes "async " ++ pos) ++ last)
+    → EndsIn pos x → x ≢ 41
+    → v8_frame line (length front) (length front + length (codes "async " ++ pos))
+    ≡ framed line (length front + 6) (length front + length (codes "async " ++ pos))
 v8_async line front pos last x whole ends ne =
-    let text = middle line front (codes "async " ++ pos) last (length front) (length front + length (codes "async " ++ pos)) whole refl refl in
+    let text = middle line front (codes "async " ++ pos) last (length front)
+    (length front + length (codes "async " ++ pos)) whole refl refl in
     v8_led line (length front) (length front + length (codes "async " ++ pos))
-    (ap (λ (xs : List ℕ). ends_with nat_eq xs (codes ")")) text ∙ ends_not (codes "async " ++ pos) x 41 (longer (codes "async ") pos x ends) ne)
+    (ap (λ (xs : List ℕ). ends_with nat_eq xs (codes ")")) text
+    ∙ ends_not (codes "async " ++ pos) x 41 (longer (codes "async ") pos x ends) ne)
     (ap (λ (xs : List ℕ). starts_with nat_eq xs (codes "async ")) text ∙ begins_with (codes "async ") pos)
 
-pub v8_parens : (line front name pos last : List ℕ) → line ≡ front ++ ((name ++ 32 ∷ (40 ∷ pos)) ++ (41 ∷ last)) → list_all (λ b. not (b == 32)) pos ≡ true
+pub v8_parens : (line front name pos last : List ℕ)
+    → line ≡ front ++ ((name ++ 32 ∷ (40 ∷ pos)) ++ (41 ∷ last)) → list_all (λ b. not (b == 32)) pos ≡ true
     → (start end : ℕ) → start ≡ length front → end ≡ length front + length (name ++ 32 ∷ (40 ∷ pos)) + 1
-    → v8_frame line start end ≡ framed line (length front + (length name + 2)) (length front + (length name + 2) + length pos)
+    → v8_frame line start end ≡ framed line (length front + (length name + 2))
+    (length front + (length name + 2) + length pos)
 v8_parens line front name pos last whole free start end s e =
     let inner = name ++ 32 ∷ (40 ∷ pos) in
-    let whole' : line ≡ front ++ ((inner ++ 41 ∷ []) ++ last) = whole ∙ ap (λ (xs : List ℕ). front ++ xs) (sym (append_assoc inner (41 ∷ []) last)) in
+    let whole' : line ≡ front ++ ((inner ++ 41 ∷ []) ++ last) = whole
+    ∙ ap (λ (xs : List ℕ). front ++ xs) (sym (append_assoc inner (41 ∷ []) last)) in
     let closed_len : length (inner ++ 41 ∷ []) ≡ length inner + 1 = length-append inner (41 ∷ []) in
-    let text : slice_range line start end ≡ inner ++ 41 ∷ [] = middle line front (inner ++ 41 ∷ []) last start end whole' s (omega (arith, e, closed_len)) in
+    let text : slice_range line start end ≡ inner ++ 41 ∷ [] =
+    middle line front (inner ++ 41 ∷ []) last start end whole' s (omega (arith, e, closed_len)) in
     let closed : ends_with nat_eq (slice_range line start end) (codes ")") ≡ true =
-    (ends_is Decides-eqb (slice_range line start end) (codes ")") (ends_with nat_eq (slice_range line start end) (codes ")")) refl).1 inner text in
+    (ends_is Decides-eqb (slice_range line start end) (codes ")")
+    (ends_with nat_eq (slice_range line start end) (codes ")")) refl).1 inner text in
     let end' : end - 1 ≡ length front + length inner = omega (arith, e) in
-    let inner_is : slice_range line start (end - 1) ≡ inner = middle line front inner (41 ∷ last) start (end - 1) whole s end' in
+    let inner_is : slice_range line start (end - 1) ≡ inner =
+    middle line front inner (41 ∷ last) start (end - 1) whole s end' in
     let last_is : after_last is_space (slice_range line start (end - 1)) ≡ 40 ∷ pos =
     ap (after_last is_space) inner_is ∙ after_mark is_space name 32 (40 ∷ pos) free refl in
-    let inner_len : length inner ≡ length name + suc (suc (length pos)) = length-append name (32 ∷ 40 ∷ pos) in
+    let inner_len : length inner ≡ length name + suc (suc (length pos)) =
+    length-append name (32 ∷ 40 ∷ pos) in
     let here_len : length (slice_range line start (end - 1)) ≡ length inner = ap length inner_is in
-    let shorter : suc (length pos) < length (slice_range line start (end - 1)) = omega (arith, here_len, inner_len) in
-    let start' : end - 1 - suc (length pos) + 1 ≡ length front + (length name + 2) = omega (arith, end', inner_len) in
+    let shorter : suc (length pos) < length (slice_range line start (end - 1)) =
+    omega (arith, here_len, inner_len) in
+    let start' : end - 1 - suc (length pos) + 1 ≡ length front + (length name + 2) =
+    omega (arith, end', inner_len) in
     let end'' : end - 1 ≡ length front + (length name + 2) + length pos = omega (arith, end', inner_len) in
     v8_closed line start end closed
-    ∙ opens line (40 ∷ pos) start (end - 1) last_is refl (lt-ltb (suc (length pos)) (length (slice_range line start (end - 1))) shorter)
-    ∙ ap (λ n. framed line n (end - 1)) start' ∙ ap (λ n. framed line (length front + (length name + 2)) n) end''
+    ∙ opens line (40 ∷ pos) start (end - 1) last_is refl
+    (lt-ltb (suc (length pos)) (length (slice_range line start (end - 1))) shorter)
+    ∙ ap (λ n. framed line n (end - 1)) start' ∙ ap (λ n. framed line (length front + (length name + 2)) n)
+    end''
 
 -- ---- the body of a line
 
 strip_none : (xs : List ℕ) → (slice_index xs (length xs - 1) == 13) ≡ false → strip_carriage_return xs ≡ xs
 strip_none xs h = rw h refl
 
-strip_one : (xs : List ℕ) → (slice_index xs (length xs - 1) == 13) ≡ true → strip_carriage_return xs ≡ take (length xs - 1) xs
+strip_one : (xs : List ℕ) → (slice_index xs (length xs - 1) == 13) ≡ true
+    → strip_carriage_return xs ≡ take (length xs - 1) xs
 strip_one xs h = rw h refl
 
 last_byte : (front : List ℕ) (x : ℕ) → slice_index (front ++ x ∷ []) (length (front ++ x ∷ []) - 1) ≡ x
@@ -90,11 +119,14 @@ last_byte front x =
     let len : length (front ++ x ∷ []) - 1 ≡ length front = omega (arith, length-append front (x ∷ [])) in
     ap (λ n. get_or (front ++ x ∷ []) n 0) len ∙ get_or-append_seam front x [] 0
 
-pub body_len : (line body last : List ℕ) (x : ℕ) → line ≡ body ++ last → EndsIn body x → x ≢ 13 → IsLineEnd last → length (strip_carriage_return line) ≡ length body
+pub body_len : (line body last : List ℕ) (x : ℕ) → line ≡ body ++ last → EndsIn body x → x ≢ 13
+    → IsLineEnd last → length (strip_carriage_return line) ≡ length body
 body_len line body last x whole ends ne (inl e) =
-    let same : line ≡ ends.front ++ x ∷ [] = whole ∙ ap (λ (xs : List ℕ). body ++ xs) e ∙ append-nil body ∙ ends.whole in
+    let same : line ≡ ends.front ++ x ∷ [] = whole ∙ ap (λ (xs : List ℕ). body ++ xs) e ∙ append-nil body
+    ∙ ends.whole in
     let other : (slice_index line (length line - 1) == 13) ≡ false =
-    ap (λ (xs : List ℕ). slice_index xs (length xs - 1) == 13) same ∙ ap (λ b. b == 13) (last_byte ends.front x) ∙ ne_eqb x 13 ne in
+    ap (λ (xs : List ℕ). slice_index xs (length xs - 1) == 13) same
+    ∙ ap (λ b. b == 13) (last_byte ends.front x) ∙ ne_eqb x 13 ne in
     ap length (strip_none line other ∙ same ∙ sym ends.whole)
 body_len line body last x whole ends ne (inr e) =
     let same : line ≡ body ++ 13 ∷ [] = whole ∙ ap (λ (xs : List ℕ). body ++ xs) e in
@@ -103,17 +135,22 @@ body_len line body last x whole ends ne (inr e) =
     let len : length line ≡ length body + 1 = ap length same ∙ length-append body (13 ∷ []) in
     ap length (strip_one line is) ∙ omega (arith, len, length-take (length line - 1) line)
 
-one_line_frame : (line : List ℕ) (n : ℕ) → lacks 10 line ≡ true → length (strip_carriage_return line) ≡ n → frame_of line ≡ body_frame line n
+one_line_frame : (line : List ℕ) (n : ℕ) → lacks 10 line ≡ true → length (strip_carriage_return line) ≡ n
+    → frame_of line ≡ body_frame line n
 unfolding frame_of
-one_line_frame line n h e = ap (λ t. cond t (body_frame line (length (strip_carriage_return line))) None) h ∙ ap (body_frame line) e
+one_line_frame line n h e = ap (λ t. cond t (body_frame line (length (strip_carriage_return line))) None) h
+    ∙ ap (body_frame line) e
 
-body_v8 : (line : List ℕ) (end n : ℕ) → prefix_len is_space (take end line) ≡ n → starts_with nat_eq (drop n (take end line)) (codes "at ") ≡ true
+body_v8 : (line : List ℕ) (end n : ℕ) → prefix_len is_space (take end line) ≡ n
+    → starts_with nat_eq (drop n (take end line)) (codes "at ") ≡ true
     → body_frame line end ≡ v8_frame line (n + 3) end
 body_v8 line end n h k = rw (h, k) refl
 
-to_v8 : (line spaces rest last : List ℕ) (x : ℕ) → AreSpaces spaces → IsLineEnd last → EndsIn rest x → x ≢ 13 → lacks 10 line ≡ true
+to_v8 : (line spaces rest last : List ℕ) (x : ℕ) → AreSpaces spaces → IsLineEnd last → EndsIn rest x → x ≢ 13
+    → lacks 10 line ≡ true
     → line ≡ (spaces ++ codes "at ") ++ (rest ++ last)
-    → frame_of line ≡ v8_frame line (length (spaces ++ codes "at ")) (length (spaces ++ codes "at ") + length rest)
+    → frame_of line ≡ v8_frame line (length (spaces ++ codes "at "))
+    (length (spaces ++ codes "at ") + length rest)
 to_v8 line spaces rest last x are line_end ends ne one whole =
     let front = spaces ++ codes "at " in
     let body = front ++ rest in
@@ -121,11 +158,16 @@ to_v8 line spaces rest last x are line_end ends ne one whole =
     let len : length (strip_carriage_return line) ≡ length front + length rest =
     body_len line body last x whole' (longer front rest x ends) ne line_end ∙ length-append front rest in
     let taken : take (length front + length rest) line ≡ body =
-    ap (λ n. take n line) (sym (length-append front rest)) ∙ ap (take (length body)) whole' ∙ take-append_seam body last in
+    ap (λ n. take n line) (sym (length-append front rest)) ∙ ap (take (length body)) whole'
+    ∙ take-append_seam body last in
     let found = at_found spaces rest are in
-    let spaces_len : prefix_len is_space (take (length front + length rest) line) ≡ length spaces = ap (prefix_len is_space) taken ∙ found.0 in
-    let starts : starts_with nat_eq (drop (length spaces) (take (length front + length rest) line)) (codes "at ") ≡ true =
-    ap (λ (xs : List ℕ). starts_with nat_eq (drop (length spaces) xs) (codes "at ")) taken ∙ ap (λ (xs : List ℕ). starts_with nat_eq xs (codes "at ")) found.1 ∙ begins_with (codes "at ") rest in
+    let spaces_len : prefix_len is_space (take (length front + length rest) line) ≡ length spaces =
+    ap (prefix_len is_space) taken ∙ found.0 in
+    let starts : starts_with nat_eq (drop (length spaces) (take (length front + length rest) line))
+    (codes "at ") ≡ true =
+    ap (λ (xs : List ℕ). starts_with nat_eq (drop (length spaces) xs) (codes "at ")) taken
+    ∙ ap (λ (xs : List ℕ). starts_with nat_eq xs (codes "at ")) found.1
+    ∙ begins_with (codes "at ") rest in
     let place : length spaces + 3 ≡ length front = sym (length-append spaces (codes "at ")) in
     one_line_frame line (length front + length rest) one len
     ∙ body_v8 line (length front + length rest) (length spaces) spaces_len starts
@@ -133,54 +175,72 @@ to_v8 line spaces rest last x are line_end ends ne one whole =
 
 -- ---- V8, from the line
 
--- What is looked at as a position.
+-- The part of the line that is read as a position.
 abbrev LooksAt : List ℕ → List ℕ → List ℕ → Type 0
 LooksAt line before pos = frame_of line ≡ framed line (length before) (length before + length pos)
 
-looks_alone : (line spaces pos last : List ℕ) (x : ℕ) → AreSpaces spaces → IsLineEnd last → EndsIn pos x → x ≢ 13 → x ≢ 41 → list_all (λ b. not (b == 32)) pos ≡ true
-    → lacks 10 line ≡ true → line ≡ (spaces ++ codes "at " ++ []) ++ (pos ++ ([] ++ last)) → LooksAt line (spaces ++ codes "at " ++ []) pos
+looks_alone : (line spaces pos last : List ℕ) (x : ℕ) → AreSpaces spaces → IsLineEnd last → EndsIn pos x
+    → x ≢ 13 → x ≢ 41 → list_all (λ b. not (b == 32)) pos ≡ true
+    → lacks 10 line ≡ true → line ≡ (spaces ++ codes "at " ++ []) ++ (pos ++ ([] ++ last))
+    → LooksAt line (spaces ++ codes "at " ++ []) pos
 looks_alone line spaces pos last x are line_end ends no_cr no_paren free one whole =
     let front = spaces ++ codes "at " in
     let none : front ++ [] ≡ front = append-nil front in
     let whole' : line ≡ front ++ (pos ++ last) = whole ∙ ap (λ (xs : List ℕ). xs ++ (pos ++ last)) none in
-    to_v8 line spaces pos last x are line_end ends no_cr one whole' ∙ v8_alone line front pos last x whole' ends no_paren free
+    to_v8 line spaces pos last x are line_end ends no_cr one whole'
+    ∙ v8_alone line front pos last x whole' ends no_paren free
     ∙ ap (λ (xs : List ℕ). framed line (length xs) (length xs + length pos)) (sym none)
 
-looks_async : (line spaces pos last : List ℕ) (x : ℕ) → AreSpaces spaces → IsLineEnd last → EndsIn pos x → x ≢ 13 → x ≢ 41
-    → lacks 10 line ≡ true → line ≡ (spaces ++ codes "at " ++ codes "async ") ++ (pos ++ ([] ++ last)) → LooksAt line (spaces ++ codes "at " ++ codes "async ") pos
+looks_async : (line spaces pos last : List ℕ) (x : ℕ) → AreSpaces spaces → IsLineEnd last → EndsIn pos x
+    → x ≢ 13 → x ≢ 41
+    → lacks 10 line ≡ true → line ≡ (spaces ++ codes "at " ++ codes "async ") ++ (pos ++ ([] ++ last))
+    → LooksAt line (spaces ++ codes "at " ++ codes "async ") pos
 looks_async line spaces pos last x are line_end ends no_cr no_paren one whole =
     let front = spaces ++ codes "at " in
     let rest = codes "async " ++ pos in
     let whole' : line ≡ front ++ (rest ++ last) = whole ∙ append_assoc front (codes "async ") (pos ++ last) in
-    let start : length front + 6 ≡ length (front ++ codes "async ") = sym (length-append front (codes "async ")) in
+    let start : length front + 6 ≡ length (front ++ codes "async ") =
+    sym (length-append front (codes "async ")) in
     let rest_len : length rest ≡ 6 + length pos = length-append (codes "async ") pos in
-    let end : length front + length rest ≡ length (front ++ codes "async ") + length pos = omega (arith, start, rest_len) in
-    to_v8 line spaces rest last x are line_end (longer (codes "async ") pos x ends) no_cr one whole' ∙ v8_async line front pos last x whole' ends no_paren
-    ∙ ap (λ n. framed line n (length front + length rest)) start ∙ ap (λ n. framed line (length (front ++ codes "async ")) n) end
+    let end : length front + length rest ≡ length (front ++ codes "async ") + length pos =
+    omega (arith, start, rest_len) in
+    to_v8 line spaces rest last x are line_end (longer (codes "async ") pos x ends) no_cr one whole'
+    ∙ v8_async line front pos last x whole' ends no_paren
+    ∙ ap (λ n. framed line n (length front + length rest)) start
+    ∙ ap (λ n. framed line (length (front ++ codes "async ")) n) end
 
-looks_parens : (line spaces name pos last : List ℕ) → AreSpaces spaces → IsLineEnd last → list_all (λ b. not (b == 32)) pos ≡ true
-    → lacks 10 line ≡ true → line ≡ (spaces ++ codes "at " ++ (name ++ codes " (")) ++ (pos ++ (codes ")" ++ last)) → LooksAt line (spaces ++ codes "at " ++ (name ++ codes " (")) pos
+looks_parens : (line spaces name pos last : List ℕ) → AreSpaces spaces → IsLineEnd last
+    → list_all (λ b. not (b == 32)) pos ≡ true
+    → lacks 10 line ≡ true → line ≡ (spaces ++ codes "at " ++ (name ++ codes " ("))
+    ++ (pos ++ (codes ")" ++ last)) → LooksAt line (spaces ++ codes "at " ++ (name ++ codes " (")) pos
 looks_parens line spaces name pos last are line_end free one whole =
     let front = spaces ++ codes "at " in
     let lead = name ++ codes " (" in
     let inner = name ++ 32 ∷ (40 ∷ pos) in
     let inner_is : lead ++ pos ≡ inner = append_assoc name (codes " (") pos in
     let whole' : line ≡ front ++ (inner ++ (41 ∷ last)) =
-    whole ∙ append_assoc front lead (pos ++ (codes ")" ++ last)) ∙ ap (λ (xs : List ℕ). front ++ xs) (sym (append_assoc lead pos (codes ")" ++ last)) ∙ ap (λ (xs : List ℕ). xs ++ 41 ∷ last) inner_is) in
+    whole ∙ append_assoc front lead (pos ++ (codes ")" ++ last))
+    ∙ ap (λ (xs : List ℕ). front ++ xs) (sym (append_assoc lead pos (codes ")" ++ last))
+    ∙ ap (λ (xs : List ℕ). xs ++ 41 ∷ last) inner_is) in
     let rest = inner ++ 41 ∷ [] in
-    let whole'' : line ≡ front ++ (rest ++ last) = whole' ∙ ap (λ (xs : List ℕ). front ++ xs) (sym (append_assoc inner (41 ∷ []) last)) in
+    let whole'' : line ≡ front ++ (rest ++ last) = whole'
+    ∙ ap (λ (xs : List ℕ). front ++ xs) (sym (append_assoc inner (41 ∷ []) last)) in
     let rest_len : length rest ≡ length inner + 1 = length-append inner (41 ∷ []) in
     let lead_len : length lead ≡ length name + 2 = length-append name (codes " (") in
     let before_len : length (front ++ lead) ≡ length front + length lead = length-append front lead in
-    let place : length front + (length name + 2) ≡ length (front ++ lead) = omega (arith, lead_len, before_len) in
+    let place : length front + (length name + 2) ≡ length (front ++ lead) =
+    omega (arith, lead_len, before_len) in
     let ends : EndsIn rest 41 = record { front = inner; whole = refl } in
     to_v8 line spaces rest last 41 are line_end ends (λ e. omega (arith, e)) one whole''
-    ∙ v8_parens line front name pos last whole' free (length front) (length front + length rest) refl (omega (arith, rest_len))
+    ∙ v8_parens line front name pos last whole' free (length front) (length front + length rest) refl
+    (omega (arith, rest_len))
     ∙ ap (λ n. framed line n (n + length pos)) place
 
-looks_v8 : (line spaces lead pos close last : List ℕ) (x : ℕ) → AreSpaces spaces → InParentheses lead close ⊎ (Alone lead close ⊎ BehindAsync lead close) → IsLineEnd last
+looks_v8 : (line spaces lead pos close last : List ℕ) (x : ℕ) → AreSpaces spaces
+    → InParentheses lead close ⊎ (Alone lead close ⊎ AfterAsync lead close) → IsLineEnd last
     → EndsIn pos x → x ≢ 13 → x ≢ 41 → list_all (λ b. not (b == 32)) pos ≡ true → lacks 10 line ≡ true
-    → line ≡ (spaces ++ codes "at " ++ lead) ++ (pos ++ (close ++ last)) → LooksAt line (spaces ++ codes "at " ++ lead) pos
+    → line ≡ (spaces ++ codes "at " ++ lead) ++ (pos ++ (close ++ last))
+    → LooksAt line (spaces ++ codes "at " ++ lead) pos
 looks_v8 line spaces lead pos close last x are (inl (name, e, d)) line_end ends no_cr no_paren free one =
     rw (e, d) (looks_parens line spaces name pos last are line_end free one)
 looks_v8 line spaces lead pos close last x are (inr (inl (e, d))) line_end ends no_cr no_paren free one =
@@ -190,15 +250,20 @@ looks_v8 line spaces lead pos close last x are (inr (inr (e, d))) line_end ends 
 
 -- ---- Firefox, from the line
 
-body_firefox : (line : List ℕ) (end n : ℕ) → starts_with nat_eq (drop (prefix_len is_space (take end line)) (take end line)) (codes "at ") ≡ false
-    → position_or_len (λ b. b == 64) (take end line) ≡ n → nat_lt n end ≡ true → body_frame line end ≡ framed line (n + 1) end
+body_firefox : (line : List ℕ) (end n : ℕ) → starts_with nat_eq
+    (drop (prefix_len is_space (take end line)) (take end line)) (codes "at ") ≡ false
+    → position_or_len (λ b. b == 64) (take end line) ≡ n → nat_lt n end ≡ true
+    → body_frame line end ≡ framed line (n + 1) end
 body_firefox line end n h k l = rw (h, k, l) refl
 
--- A body does not begin as V8's do where its line doesn't.
-no_start : (line body last : List ℕ) → line ≡ body ++ last → (BeginsWithAt line → ⊥) → starts_with nat_eq (drop (prefix_len is_space body) body) (codes "at ") ≡ false
-no_start line body last whole not_at = go (starts_with nat_eq (drop (prefix_len is_space body) body) (codes "at ")) refl
+-- If a line doesn't begin as V8's do, neither does its body.
+no_start : (line body last : List ℕ) → line ≡ body ++ last → (BeginsWithAt line → ⊥)
+    → starts_with nat_eq (drop (prefix_len is_space body) body) (codes "at ") ≡ false
+no_start line body last whole not_at = go (starts_with nat_eq (drop (prefix_len is_space body) body)
+    (codes "at ")) refl
   where
-    begun : drop (prefix_len is_space body) body ≡ codes "at " ++ drop 3 (drop (prefix_len is_space body) body) → BeginsWithAt line
+    begun : drop (prefix_len is_space body) body ≡ codes "at "
+        ++ drop 3 (drop (prefix_len is_space body) body) → BeginsWithAt line
     begun cut =
         let spaces = take (prefix_len is_space body) body in
         let rest = drop 3 (drop (prefix_len is_space body) body) in
@@ -206,56 +271,76 @@ no_start line body last whole not_at = go (starts_with nat_eq (drop (prefix_len 
           spaces = spaces;
           rest = rest ++ last;
           are_spaces = front_all is_space body;
-          whole = whole ∙ ap (λ (xs : List ℕ). xs ++ last) (sym (take-append-drop (prefix_len is_space body) body) ∙ ap (λ (xs : List ℕ). spaces ++ xs) cut)
-              ∙ append_assoc spaces (codes "at " ++ rest) last ∙ sym (append_assoc spaces (codes "at ") (rest ++ last));
+          whole = whole ∙ ap (λ (xs : List ℕ). xs ++ last)
+              (sym (take-append-drop (prefix_len is_space body) body)
+              ∙ ap (λ (xs : List ℕ). spaces ++ xs) cut)
+              ∙ append_assoc spaces (codes "at " ++ rest) last
+              ∙ sym (append_assoc spaces (codes "at ") (rest ++ last));
         }
 
-    go : (t : Bool) → starts_with nat_eq (drop (prefix_len is_space body) body) (codes "at ") ≡ t → starts_with nat_eq (drop (prefix_len is_space body) body) (codes "at ") ≡ false
+    go : (t : Bool) → starts_with nat_eq (drop (prefix_len is_space body) body) (codes "at ") ≡ t
+        → starts_with nat_eq (drop (prefix_len is_space body) body) (codes "at ") ≡ false
     go false h = h
     go true h = absurd (not_at (begun (begins (drop (prefix_len is_space body) body) (codes "at ") h)))
 
-looks_firefox : (line name pos last : List ℕ) (x : ℕ) → (BeginsWithAt line → ⊥) → lacks 64 name ≡ true → IsLineEnd last → EndsIn pos x → x ≢ 13
-    → lacks 10 line ≡ true → line ≡ (name ++ codes "@") ++ (pos ++ last) → LooksAt line (name ++ codes "@") pos
+looks_firefox : (line name pos last : List ℕ) (x : ℕ) → (BeginsWithAt line → ⊥) → lacks 64 name ≡ true
+    → IsLineEnd last → EndsIn pos x → x ≢ 13
+    → lacks 10 line ≡ true → line ≡ (name ++ codes "@") ++ (pos ++ last)
+    → LooksAt line (name ++ codes "@") pos
 looks_firefox line name pos last x not_at lacks_at line_end ends no_cr one whole =
     let front = name ++ codes "@" in
     let body = front ++ pos in
     let whole' : line ≡ body ++ last = whole ∙ sym (append_assoc front pos last) in
     let end = length front + length pos in
-    let len : length (strip_carriage_return line) ≡ end = body_len line body last x whole' (longer front pos x ends) no_cr line_end ∙ length-append front pos in
-    let taken : take end line ≡ body = ap (λ n. take n line) (sym (length-append front pos)) ∙ ap (take (length body)) whole' ∙ take-append_seam body last in
+    let len : length (strip_carriage_return line) ≡ end =
+    body_len line body last x whole' (longer front pos x ends) no_cr line_end ∙ length-append front pos in
+    let taken : take end line ≡ body = ap (λ n. take n line) (sym (length-append front pos))
+    ∙ ap (take (length body)) whole' ∙ take-append_seam body last in
     let at : position_or_len (λ b. b == 64) (take end line) ≡ length name =
-    ap (position_or_len (λ b. b == 64)) (taken ∙ append_assoc name (codes "@") pos) ∙ front_passes (λ b. not (b == 64)) name 64 pos (lacks_all 64 name lacks_at) refl in
+    ap (position_or_len (λ b. b == 64)) (taken ∙ append_assoc name (codes "@") pos)
+    ∙ front_passes (λ b. not (b == 64)) name 64 pos (lacks_all 64 name lacks_at) refl in
     let front_len : length front ≡ length name + 1 = length-append name (codes "@") in
     let below : length name < end = omega (arith, front_len) in
     one_line_frame line end one len
-    ∙ body_firefox line end (length name) (no_start line (take end line) last (whole' ∙ ap (λ (xs : List ℕ). xs ++ last) (sym taken)) not_at) at (lt-ltb (length name) end below)
+    ∙ body_firefox line end (length name) (no_start line (take end line) last
+    (whole' ∙ ap (λ (xs : List ℕ). xs ++ last) (sym taken)) not_at) at (lt-ltb (length name) end below)
     ∙ ap (λ n. framed line n end) (sym front_len)
 
 -- ---- the frame
 
-pub complete : (line : List ℕ) (f : Parts) → IsFrame line f → frame_of line ≡ Some f
+pub complete : (line : List ℕ) (f : FrameParts) → IsFrame line f → frame_of line ≡ Some f
 complete line f is =
-    let pos = position f.url f.line f.column in
-    let d = position_ends f.url f.line f.column is.column_place in
+    let pos = position_text f.url f.line f.column in
+    let d = position_text_ends f.url f.line f.column is.column_place in
     let no_cr : d.0 ≢ 13 = λ e. omega (arith, e, d.1) in
     let no_paren : d.0 ≢ 41 = λ e. omega (arith, e, d.1) in
-    let free = position_lacks f.url f.line f.column is.no_space is.line_place is.column_place in
-    let url : is_url f.url ≡ true = ap (λ t. t && lacks 32 f.url) (lt-ltb 0 (length f.url) is.some_url) ∙ is.no_space in
+    let free = position_text_lacks f.url f.line f.column is.no_space is.line_place is.column_place in
+    let url : is_url f.url ≡ true = ap (λ t. t && lacks 32 f.url) (lt-ltb 0 (length f.url) is.some_url)
+    ∙ is.no_space in
     let whole : line ≡ f.before ++ (pos ++ f.after) = is.whole ∙ append_assoc f.before pos f.after in
     looks f.before whole is.form d.0 d.3 no_cr no_paren free
     ∙ ap (λ (xs : List ℕ). framed xs (length f.before) (length f.before + length pos)) is.whole
-    ∙ framed-position f.before f.url f.after f.line f.column url is.line_place is.column_place
+    ∙ framed-position_text f.before f.url f.after f.line f.column url is.line_place is.column_place
   where
-    looks : (before : List ℕ) → line ≡ f.before ++ (position f.url f.line f.column ++ f.after) → IsV8 f ⊎ ((BeginsWithAt line → ⊥) × IsFirefox f)
-        → (x : ℕ) → EndsIn (position f.url f.line f.column) x → x ≢ 13 → x ≢ 41 → list_all (λ b. not (b == 32)) (position f.url f.line f.column) ≡ true
-        → LooksAt line f.before (position f.url f.line f.column)
+    looks : (before : List ℕ) → line ≡ f.before ++ (position_text f.url f.line f.column ++ f.after)
+        → IsV8 f ⊎ ((BeginsWithAt line → ⊥) × IsFirefox f)
+        → (x : ℕ) → EndsIn (position_text f.url f.line f.column) x → x ≢ 13 → x ≢ 41
+        → list_all (λ b. not (b == 32)) (position_text f.url f.line f.column) ≡ true
+        → LooksAt line f.before (position_text f.url f.line f.column)
     looks before whole (inl v) x ends no_cr no_paren free =
-        let whole' : line ≡ (v.spaces ++ codes "at " ++ v.lead) ++ (position f.url f.line f.column ++ (v.close ++ v.line_end)) =
-        whole ∙ ap (λ (xs : List ℕ). xs ++ (position f.url f.line f.column ++ f.after)) v.before_is
-        ∙ ap (λ (xs : List ℕ). (v.spaces ++ codes "at " ++ v.lead) ++ (position f.url f.line f.column ++ xs)) v.after_is in
-        subst (λ (xs : List ℕ). LooksAt line xs (position f.url f.line f.column)) (sym v.before_is)
-        (looks_v8 line v.spaces v.lead (position f.url f.line f.column) v.close v.line_end x v.are_spaces v.form v.ends ends no_cr no_paren free is.one_line whole')
+        let whole' : line ≡ (v.spaces ++ codes "at " ++ v.lead)
+        ++ (position_text f.url f.line f.column ++ (v.close ++ v.line_end)) =
+        whole ∙ ap (λ (xs : List ℕ). xs ++ (position_text f.url f.line f.column ++ f.after)) v.before_is
+        ∙ ap
+        (λ (xs : List ℕ). (v.spaces ++ codes "at " ++ v.lead) ++ (position_text f.url f.line f.column ++ xs))
+        v.after_is in
+        subst (λ (xs : List ℕ). LooksAt line xs (position_text f.url f.line f.column)) (sym v.before_is)
+        (looks_v8 line v.spaces v.lead (position_text f.url f.line f.column) v.close v.line_end x v.are_spaces
+        v.form v.ends ends no_cr no_paren free is.one_line whole')
     looks before whole (inr (not_at, v)) x ends no_cr no_paren free =
-        let whole' : line ≡ (v.name ++ codes "@") ++ (position f.url f.line f.column ++ f.after) = whole ∙ ap (λ (xs : List ℕ). xs ++ (position f.url f.line f.column ++ f.after)) v.before_is in
-        subst (λ (xs : List ℕ). LooksAt line xs (position f.url f.line f.column)) (sym v.before_is)
-        (looks_firefox line v.name (position f.url f.line f.column) f.after x not_at v.no_at v.ends ends no_cr is.one_line whole')
+        let whole' : line ≡ (v.name ++ codes "@") ++ (position_text f.url f.line f.column ++ f.after) = whole
+        ∙ ap (λ (xs : List ℕ). xs ++ (position_text f.url f.line f.column ++ f.after)) v.before_is in
+        subst (λ (xs : List ℕ). LooksAt line xs (position_text f.url f.line f.column)) (sym v.before_is)
+        (looks_firefox line v.name (position_text f.url f.line f.column) f.after x not_at v.no_at v.ends ends
+        no_cr
+        is.one_line whole')

@@ -1,9 +1,11 @@
 -- Lines counted one by one.
-use Rattle.std.proofs.Common.{◌≡◌, ◌∙◌, ℕ, ◌+◌, ◌-◌, ◌^◌, Bool, true, false, cond, List, [], ◌∷◌, length, min, count_by, refl, ap, arith}
+use Rattle.std.proofs.Common.{◌≡◌, ◌∙◌, ℕ, ◌+◌, ◌-◌, ◌^◌, Bool, true, false, cond, List, [], ◌∷◌, length, min}
+use Rattle.std.proofs.Common.{count_by, refl, ap, arith}
 use Rattle.std.proofs.lemmas.List.Sums.{sum_by-cons}
 use Rattle.smap_trace.specs.declared.outcome.Counts.{Counts}
 use Rattle.smap_trace.specs.Pieces.{count_line, count_lines}
-use Rattle.smap_trace.specs.Translation.{Fate, Script, dropped, fate, is_dropped, is_translated, kept, lines_of, translated}
+use Rattle.smap_trace.specs.Translation.{Fate, Script, dropped, fate, is_dropped, is_translated, kept}
+use Rattle.smap_trace.specs.Translation.{lines_of, translated}
 use Rattle.smap_trace.specs.Views.{at_most_u64, counts_of, outcome_of}
 
 abbrev counts : ℕ → ℕ → ℕ → Counts
@@ -22,18 +24,22 @@ bit false = 0
 same : (a b d x y z : ℕ) → a ≡ x → b ≡ y → d ≡ z → counts a b d ≡ counts x y z
 same a b d x y z e f g = rw (e, f, g) refl
 
-same_counts : (a b d x y z : ℕ) → a ≡ x → b ≡ y → d ≡ z → ◌≡◌ {A = Counts} (record { lines = a; translated = b; dropped = d }) (record { lines = x; translated = y; dropped = z })
+same_counts : (a b d x y z : ℕ) → a ≡ x → b ≡ y → d ≡ z
+    → ◌≡◌ {A = Counts} (record { lines = a; translated = b; dropped = d })
+    (record { lines = x; translated = y; dropped = z })
 same_counts a b d x y z e f g = rw (e, f, g) refl
 
 no_more : (n : ℕ) → at_most_u64 n ≡ at_most_u64 (n + 0)
 no_more n = ap at_most_u64 (omega arith)
 
-line_counted : (f : Fate) (a b d : ℕ) → count_line (counts a b d) (outcome_of f) ≡ counts (a + 1) (b + bit (is_translated f)) (d + bit (is_dropped f))
+line_counted : (f : Fate) (a b d : ℕ) → count_line (counts a b d) (outcome_of f)
+    ≡ counts (a + 1) (b + bit (is_translated f)) (d + bit (is_dropped f))
 line_counted kept a b d = same_counts _ _ _ _ _ _ (one_more a) (no_more b) (no_more d)
 line_counted (translated text) a b d = same_counts _ _ _ _ _ _ (one_more a) (one_more b) (no_more d)
 line_counted dropped a b d = same_counts _ _ _ _ _ _ (one_more a) (no_more b) (one_more d)
 
-count_by-cons : (p : List ℕ → Bool) (x : List ℕ) (xs : List (List ℕ)) → count_by p (x ∷ xs) ≡ bit (p x) + count_by p xs
+count_by-cons : (p : List ℕ → Bool) (x : List ℕ) (xs : List (List ℕ))
+    → count_by p (x ∷ xs) ≡ bit (p x) + count_by p xs
 count_by-cons p x xs = sum_by-cons (λ y. cond (p y) 1 0) x xs ∙ ap (λ n. n + count_by p xs) (go (p x))
   where
     go : (t : Bool) → cond t 1 0 ≡ bit t
@@ -47,17 +53,23 @@ module _ (scripts : List Script) (hide : Bool) where
   abbrev is_left : List ℕ → Bool
   is_left line = is_dropped (fate scripts hide line)
 
-  all_counted : (ls : List (List ℕ)) (a b d : ℕ) → count_lines scripts hide (counts a b d) ls ≡ counts (a + length ls) (b + count_by is_told ls) (d + count_by is_left ls)
+  all_counted : (ls : List (List ℕ)) (a b d : ℕ)
+      → count_lines scripts hide (counts a b d) ls ≡ counts (a + length ls) (b + count_by is_told ls)
+      (d + count_by is_left ls)
   all_counted [] a b d = same_counts _ _ _ _ _ _ (no_more a) (no_more b) (no_more d)
   all_counted (l ∷ ls) a b d =
       let t = bit (is_told l) in
       let u = bit (is_left l) in
       let one : a + 1 + length ls ≡ a + length (l ∷ ls) = omega arith in
-      let two : b + t + count_by is_told ls ≡ b + count_by is_told (l ∷ ls) = omega (arith, count_by-cons is_told l ls) in
-      let three : d + u + count_by is_left ls ≡ d + count_by is_left (l ∷ ls) = omega (arith, count_by-cons is_left l ls) in
-      ap (λ (k : Counts). count_lines scripts hide k ls) (line_counted (fate scripts hide l) a b d) ∙ all_counted ls (a + 1) (b + t) (d + u)
+      let two : b + t + count_by is_told ls ≡ b + count_by is_told (l ∷ ls) =
+      omega (arith, count_by-cons is_told l ls) in
+      let three : d + u + count_by is_left ls ≡ d + count_by is_left (l ∷ ls) =
+      omega (arith, count_by-cons is_left l ls) in
+      ap (λ (k : Counts). count_lines scripts hide k ls) (line_counted (fate scripts hide l) a b d)
+      ∙ all_counted ls (a + 1) (b + t) (d + u)
       ∙ same _ _ _ _ _ _ one two three
 
-  pub counted_all : (trace : List ℕ) → count_lines scripts hide (record { lines = 0; translated = 0; dropped = 0 }) (lines_of trace) ≡ counts_of scripts hide trace
+  pub counted_all : (trace : List ℕ) → count_lines scripts hide
+      (record { lines = 0; translated = 0; dropped = 0 }) (lines_of trace) ≡ counts_of scripts hide trace
   counted_all trace =
       all_counted (lines_of trace) 0 0 0 ∙ same _ _ _ _ _ _ (omega arith) (omega arith) (omega arith)

@@ -1,5 +1,7 @@
--- Cuts of a line.
-use Rattle.std.proofs.Common.{◌≡◌, ◌∙◌, ℕ, suc, ◌+◌, ◌-◌, ◌<◌, ◌≤◌, ◌==◌, Bool, true, false, not, ◌&&◌, ◌||◌, List, ◌∷◌, ◌++◌, length, take, drop, reverse, get_or, refl, sym, ap, arith, slice_range, nat_eq, length-take}
+-- Lines cut into parts.
+use Rattle.std.proofs.Common.{◌≡◌, ◌∙◌, ℕ, suc, ◌+◌, ◌-◌, ◌<◌, ◌≤◌, ◌==◌, Bool, true, false, not, ◌&&◌, ◌||◌}
+use Rattle.std.proofs.Common.{List, ◌∷◌, ◌++◌, length, take, drop, reverse, get_or, refl, sym, ap, arith}
+use Rattle.std.proofs.Common.{slice_range, nat_eq, length-take}
 use Rattle.std.specs.List.{starts_with, suffix_len, before_last, after_last, list_any}
 use Rattle.std.proofs.Math.Seq.{split_at, take-append_seam, drop-append_seam}
 use Rattle.std.proofs.lemmas.Bool.Decides.{Decides-eqb}
@@ -29,13 +31,16 @@ first_part a t b = take-append_seam a (t ++ b)
 pub middle_part : (a t b : List ℕ) → slice_range (a ++ (t ++ b)) (length a) (length a + length t) ≡ t
 middle_part a t b =
     let len : length a + length t - length a ≡ length t = omega arith in
-    ap (λ n. take n (drop (length a) (a ++ (t ++ b)))) len ∙ ap (take (length t)) (drop-append_seam a (t ++ b)) ∙ take-append_seam t b
+    ap (λ n. take n (drop (length a) (a ++ (t ++ b)))) len
+    ∙ ap (take (length t)) (drop-append_seam a (t ++ b)) ∙ take-append_seam t b
 
-pub begins : (xs needle : List ℕ) → starts_with nat_eq xs needle ≡ true → xs ≡ needle ++ drop (length needle) xs
+pub begins : (xs needle : List ℕ) → starts_with nat_eq xs needle ≡ true
+    → xs ≡ needle ++ drop (length needle) xs
 begins xs needle h = (starts_is Decides-eqb xs needle (starts_with nat_eq xs needle) refl).0 h
 
 pub begins_with : (needle more : List ℕ) → starts_with nat_eq (needle ++ more) needle ≡ true
-begins_with needle more = (starts_is Decides-eqb (needle ++ more) needle (starts_with nat_eq (needle ++ more) needle) refl).1 more refl
+begins_with needle more = (starts_is Decides-eqb (needle ++ more) needle
+    (starts_with nat_eq (needle ++ more) needle) refl).1 more refl
 
 is_not : (x c : ℕ) → not (x == c) ≡ false → x ≡ c
 is_not x c h = go (x == c) refl h
@@ -45,7 +50,8 @@ is_not x c h = go (x == c) refl h
     go false e f = cc
 
 -- A text that has the mark is what stands before the last one, the mark, and what stands after it.
-pub last_cut : (c : ℕ) (xs : List ℕ) → suffix_len (λ b. not (b == c)) xs < length xs → xs ≡ before_last (λ b. b == c) xs ++ c ∷ after_last (λ b. b == c) xs
+pub last_cut : (c : ℕ) (xs : List ℕ) → suffix_len (λ b. not (b == c)) xs < length xs
+    → xs ≡ before_last (λ b. b == c) xs ++ c ∷ after_last (λ b. b == c) xs
 last_cut c xs lt =
     let q : ℕ → Bool = λ b. not (b == c) in
     let n = suffix_len (λ b. not (b == c)) xs in
@@ -54,7 +60,8 @@ last_cut c xs lt =
     let below : n < length (reverse xs) = omega arith in
     let stops : not (get_or (reverse xs) n 0 == c) ≡ false = prefix_len_stops q (reverse xs) 0 below in
     let place : length xs - 1 - n ≡ i = omega arith in
-    let which : get_or (reverse xs) n 0 ≡ get_or xs i 0 = get_or-reverse xs n 0 lt ∙ ap (λ k. get_or xs k 0) place in
+    let which : get_or (reverse xs) n 0 ≡ get_or xs i 0 = get_or-reverse xs n 0 lt
+    ∙ ap (λ k. get_or xs k 0) place in
     let is : get_or xs i 0 ≡ c = sym which ∙ is_not (get_or (reverse xs) n 0) c stops in
     let next : suc i ≡ length xs - n = omega arith in
     split_at xs i 0 (omega arith)
@@ -62,11 +69,14 @@ last_cut c xs lt =
     ∙ ap (λ k. take i xs ++ c ∷ drop k xs) next
 
 -- The same, where something stands before the last mark.
-pub some_before : (c : ℕ) (xs : List ℕ) → 0 < length (before_last (λ b. b == c) xs) → suffix_len (λ b. not (b == c)) xs < length xs
+pub some_before : (c : ℕ) (xs : List ℕ) → 0 < length (before_last (λ b. b == c) xs)
+    → suffix_len (λ b. not (b == c)) xs < length xs
 some_before c xs h = omega (arith, h, length-take {A = ℕ})
 
-pub lacks-append : (c : ℕ) (xs ys : List ℕ) → lacks c (xs ++ ys) ≡ true → (lacks c xs ≡ true) × (lacks c ys ≡ true)
-lacks-append c xs ys h = go (list_any (λ b. b == c) xs) (list_any (λ b. b == c) ys) (ap not (sym (list_any-append (λ b. b == c) xs ys)) ∙ h)
+pub lacks-append : (c : ℕ) (xs ys : List ℕ) → lacks c (xs ++ ys) ≡ true
+    → (lacks c xs ≡ true) × (lacks c ys ≡ true)
+lacks-append c xs ys h = go (list_any (λ b. b == c) xs) (list_any (λ b. b == c) ys)
+    (ap not (sym (list_any-append (λ b. b == c) xs ys)) ∙ h)
   where
     go : (s t : Bool) → not (s || t) ≡ true → (not s ≡ true) × (not t ≡ true)
     go false false e = (refl, refl)

@@ -1,5 +1,7 @@
 -- Scripts in a table by their URLs.
-use Rattle.std.proofs.Common.{◌≡◌, ◌∙◌, ℕ, zero, suc, ◌+◌, ◌<◌, Bool, true, false, ◌||◌, List, [], ◌∷◌, ◌++◌, length, map, take, Bor, get_or, option_map, refl, sym, ap, arith, bytes_eq, length-take}
+use Rattle.std.proofs.Common.{◌≡◌, ◌∙◌, ℕ, zero, suc, ◌+◌, ◌<◌, Bool, true, false, ◌||◌, List, [], ◌∷◌, ◌++◌}
+use Rattle.std.proofs.Common.{length, map, take, Bor, get_or, option_map, refl, sym, ap, arith, bytes_eq}
+use Rattle.std.proofs.Common.{length-take}
 use Rattle.std.specs.List.{list_any, take-map}
 use Rattle.std.specs.Map.{lookup}
 use Rattle.std.proofs.lemmas.List.{get_or-map, get_or-take, length-map, map-append, take_more}
@@ -23,25 +25,35 @@ bytes_flip a b = go (bytes_eq a b) refl (bytes_eq b a) refl
     go false e true f = (bytes_eq-Decides a b).1 (sym ((bytes_eq-Decides b a).0 f)) ∙ sym f
 
 -- what the table finds
-pub found_in : (url : List ℕ) (es : List Given) → option_map (λ (m : Bor ReadMap). record_of m.now) (lookup (λ (k : Bor (List ℕ)). bytes_eq url k.now) es) ≡ map_of (scripts_in es) url
+pub found_in : (url : List ℕ) (es : List Given)
+    → option_map (λ (m : Bor ReadMap). record_of m.now) (lookup (λ (k : Bor (List ℕ)). bytes_eq url k.now) es)
+    ≡ map_of (scripts_in es) url
 found_in url [] = refl
 found_in url (e ∷ es) = step (bytes_eq e.0.now url) (bytes_flip url e.0.now) refl (found_in url es)
   where
     step : (t : Bool) → bytes_eq url e.0.now ≡ bytes_eq e.0.now url → bytes_eq e.0.now url ≡ t
-        → option_map (λ (m : Bor ReadMap). record_of m.now) (lookup (λ (k : Bor (List ℕ)). bytes_eq url k.now) es) ≡ map_of (scripts_in es) url
-        → option_map (λ (m : Bor ReadMap). record_of m.now) (lookup (λ (k : Bor (List ℕ)). bytes_eq url k.now) (e ∷ es)) ≡ map_of (scripts_in (e ∷ es)) url
+        → option_map (λ (m : Bor ReadMap). record_of m.now)
+        (lookup (λ (k : Bor (List ℕ)). bytes_eq url k.now) es) ≡ map_of (scripts_in es) url
+        → option_map (λ (m : Bor ReadMap). record_of m.now)
+        (lookup (λ (k : Bor (List ℕ)). bytes_eq url k.now) (e ∷ es)) ≡ map_of (scripts_in (e ∷ es)) url
     step true f g more = rw (f, g) refl
     step false f g more = rw (f, g) more
 
 -- a script whose URL is new goes last
-insert_new : (k : Bor (List ℕ)) (v : Bor ReadMap) (es : List Given) → list_any (λ (s : Script). bytes_eq k.now s.0) (scripts_in es) ≡ false
-    → scripts_in (insert_entry (λ (a b : Bor (List ℕ)). bytes_eq a.now b.now) es k v) ≡ scripts_in es ++ (k.now, record_of v.now) ∷ []
+insert_new : (k : Bor (List ℕ)) (v : Bor ReadMap) (es : List Given)
+    → list_any (λ (s : Script). bytes_eq k.now s.0) (scripts_in es) ≡ false
+    → scripts_in (insert_entry (λ (a b : Bor (List ℕ)). bytes_eq a.now b.now) es k v)
+    ≡ scripts_in es ++ (k.now, record_of v.now) ∷ []
 insert_new k v [] h = refl
 insert_new k v (e ∷ es) h = step (bytes_eq k.now e.0.now) refl h (insert_new k v es)
   where
-    step : (t : Bool) → bytes_eq k.now e.0.now ≡ t → (t || list_any (λ (s : Script). bytes_eq k.now s.0) (scripts_in es)) ≡ false
-        → (list_any (λ (s : Script). bytes_eq k.now s.0) (scripts_in es) ≡ false → scripts_in (insert_entry (λ (a b : Bor (List ℕ)). bytes_eq a.now b.now) es k v) ≡ scripts_in es ++ (k.now, record_of v.now) ∷ [])
-        → scripts_in (insert_entry (λ (a b : Bor (List ℕ)). bytes_eq a.now b.now) (e ∷ es) k v) ≡ scripts_in (e ∷ es) ++ (k.now, record_of v.now) ∷ []
+    step : (t : Bool) → bytes_eq k.now e.0.now ≡ t
+        → (t || list_any (λ (s : Script). bytes_eq k.now s.0) (scripts_in es)) ≡ false
+        → (list_any (λ (s : Script). bytes_eq k.now s.0) (scripts_in es) ≡ false
+        → scripts_in (insert_entry (λ (a b : Bor (List ℕ)). bytes_eq a.now b.now) es k v)
+        ≡ scripts_in es ++ (k.now, record_of v.now) ∷ [])
+        → scripts_in (insert_entry (λ (a b : Bor (List ℕ)). bytes_eq a.now b.now) (e ∷ es) k v)
+        ≡ scripts_in (e ∷ es) ++ (k.now, record_of v.now) ∷ []
     step true f g more = cc
     step false f g more = rw f (ap (λ (xs : List Script). script_in e ∷ xs) (more g))
 
@@ -50,32 +62,43 @@ any_default [] n x y less = absurd (omega (arith, less))
 any_default (z ∷ zs) zero x y less = refl
 any_default (z ∷ zs) (suc n) x y less = any_default zs n x y (omega (arith, less))
 
-absent : (ss : List Script) (i : ℕ) (d : Script) → AreDistinct ss → i < length ss → list_any (λ (s : Script). bytes_eq (get_or ss i d).0 s.0) (take i ss) ≡ false
+absent : (ss : List Script) (i : ℕ) (d : Script) → AreDistinct ss → i < length ss
+    → list_any (λ (s : Script). bytes_eq (get_or ss i d).0 s.0) (take i ss) ≡ false
 absent ss i d distinct lt = list_any_none (λ (s : Script). bytes_eq (get_or ss i d).0 s.0) (take i ss) each
   where
-    each : (k : ℕ) (e : Script) → k < length (take i ss) → bytes_eq (get_or ss i d).0 (get_or (take i ss) k e).0 ≡ false
+    each : (k : ℕ) (e : Script) → k < length (take i ss)
+        → bytes_eq (get_or ss i d).0 (get_or (take i ss) k e).0 ≡ false
     each k e within =
         let below : k < i = omega (arith, within, length-take i ss) in
         go (bytes_eq (get_or ss i d).0 (get_or (take i ss) k e).0) refl below
       where
-        go : (t : Bool) → bytes_eq (get_or ss i d).0 (get_or (take i ss) k e).0 ≡ t → k < i → bytes_eq (get_or ss i d).0 (get_or (take i ss) k e).0 ≡ false
+        go : (t : Bool) → bytes_eq (get_or ss i d).0 (get_or (take i ss) k e).0 ≡ t → k < i
+            → bytes_eq (get_or ss i d).0 (get_or (take i ss) k e).0 ≡ false
         go false f below = f
         go true f below =
             let same : (get_or ss i d).0 ≡ (get_or (take i ss) k e).0 = (bytes_eq-Decides _ _).0 f in
             absurd (distinct k i e below lt
-            (ap (λ (s : Script). s.0) (sym (get_or-take i ss k e below)) ∙ sym same ∙ ap (λ (s : Script). s.0) (any_default ss i d e lt)))
+            (ap (λ (s : Script). s.0) (sym (get_or-take i ss k e below)) ∙ sym same
+            ∙ ap (λ (s : Script). s.0) (any_default ss i d e lt)))
 
 -- one script more in the table
-pub one_more : (es xs : List Given) (i : ℕ) (d : Given) (k : Bor (List ℕ)) (v : Bor ReadMap) → i < length xs → scripts_in es ≡ scripts_in (take i xs) → AreDistinct (scripts_in xs)
+pub one_more : (es xs : List Given) (i : ℕ) (d : Given) (k : Bor (List ℕ)) (v : Bor ReadMap) → i < length xs
+    → scripts_in es ≡ scripts_in (take i xs) → AreDistinct (scripts_in xs)
     → k.now ≡ (get_or xs i d).0.now → v.now ≡ (get_or xs i d).1.now
-    → scripts_in (insert_entry (λ (a b : Bor (List ℕ)). bytes_eq a.now b.now) es k v) ≡ scripts_in (take (i + 1) xs)
+    → scripts_in (insert_entry (λ (a b : Bor (List ℕ)). bytes_eq a.now b.now) es k v)
+    ≡ scripts_in (take (i + 1) xs)
 one_more es xs i d k v lt so_far distinct key value =
     let len : length (scripts_in xs) ≡ length xs = length-map xs script_in in
-    let here : get_or (scripts_in xs) i (script_in d) ≡ script_in (get_or xs i d) = get_or-map script_in xs i d (script_in d) lt in
+    let here : get_or (scripts_in xs) i (script_in d) ≡ script_in (get_or xs i d) =
+    get_or-map script_in xs i d (script_in d) lt in
     let none : list_any (λ (s : Script). bytes_eq k.now s.0) (scripts_in es) ≡ false =
-    ap (λ (ss : List Script). list_any (λ (s : Script). bytes_eq k.now s.0) ss) (so_far ∙ sym (take-map script_in i xs))
-    ∙ ap (λ (u : List ℕ). list_any (λ (s : Script). bytes_eq u s.0) (take i (scripts_in xs))) (key ∙ ap (λ (s : Script). s.0) (sym here))
+    ap (λ (ss : List Script). list_any (λ (s : Script). bytes_eq k.now s.0) ss)
+    (so_far ∙ sym (take-map script_in i xs))
+    ∙ ap (λ (u : List ℕ). list_any (λ (s : Script). bytes_eq u s.0) (take i (scripts_in xs)))
+    (key ∙ ap (λ (s : Script). s.0) (sym here))
     ∙ absent (scripts_in xs) i (script_in d) distinct (omega (arith, len, lt)) in
     let last : ◌≡◌ {A = Script} (k.now, record_of v.now) (script_in (get_or xs i d)) = rw (key, value) refl in
-    insert_new k v es none ∙ ap (λ (ss : List Script). ss ++ (k.now, record_of v.now) ∷ []) so_far ∙ ap (λ (s : Script). scripts_in (take i xs) ++ s ∷ []) last
-    ∙ sym (map-append script_in (take i xs) (get_or xs i d ∷ [])) ∙ ap (map script_in) (sym (take_more xs i d lt))
+    insert_new k v es none ∙ ap (λ (ss : List Script). ss ++ (k.now, record_of v.now) ∷ []) so_far
+    ∙ ap (λ (s : Script). scripts_in (take i xs) ++ s ∷ []) last
+    ∙ sym (map-append script_in (take i xs) (get_or xs i d ∷ []))
+    ∙ ap (map script_in) (sym (take_more xs i d lt))

@@ -8,6 +8,7 @@ pub mod IndexedLemmas
 pub mod LawLemmas
 pub mod LineLemmas
 pub mod LookupLemmas
+pub mod MarkLemmas
 pub mod PlaceLemmas
 pub mod PushLemmas
 pub mod ReadingLemmas

@@ -1,14 +1,89 @@
--- The one spelling of a place.
-use Rattle.std.proofs.Common.{◌≡◌, ◌∙◌, ℕ, Bool, true, false, cond, ◌&&◌, List, Option, Some, None, Result, Ok, MatchOption, arith, decimal, bytes_eq, nat_lt, nat_le, refl, sym, ap, subst}
-use Rattle.std.specs.Str.Parse.{ParsesUnsigned, digits_value}
-use Rattle.std.specs.Prelude.{IsUtf8}
-use Rattle.std.proofs.lemmas.Fmt.{parse-decimal, IsAscii-decimal, decimal_is_IsNumeral}
-use Rattle.std.proofs.lemmas.Slice.Eq.{bytes_eq-Decides}
+-- The decimal form of a place, read digit by digit.
+use Rattle.std.proofs.Common.{◌≡◌, ◌∙◌, ℕ, suc, ◌+◌, ◌*◌, ◌^◌, ◌<◌, ◌≤◌, Bool, true, false, cond, ◌&&◌}
+use Rattle.std.proofs.Common.{List, [], ◌∷◌, length, drop, get_or, Option, Some, None, MatchOption}
+use Rattle.std.proofs.Common.{arith, rules, codes, decimal, bytes_eq, nat_eq, nat_lt, nat_le}
+use Rattle.std.proofs.Common.{refl, sym, ap, subst}
+use Rattle.std.specs.Char.{IsNotAsciiDigit, digit_value}
+use Rattle.std.specs.List.{starts_with}
+use Rattle.std.specs.Str.Parse.{AllDigits, IsNumeral, digits_value, digits_value_after}
+use Rattle.std.proofs.Math.Seq.{drop-cons}
 use Rattle.std.proofs.lemmas.Bool.{lt-ltb, le-leb, ltb-true, leb-true}
-use Rattle.std.proofs.lemmas.Str.{IsUtf8-from_ascii}
+use Rattle.std.proofs.lemmas.Fmt.{decimal-digits_value, decimal_is_IsNumeral, first_decimal}
+use Rattle.std.proofs.lemmas.List.{drop_all}
+use Rattle.std.proofs.lemmas.Slice.Eq.{bytes_eq-Decides}
+use Rattle.std.proofs.lemmas.Str.Parse.{digit_from_value, numerals_by_value, tells_digits}
 use Rattle.smap_mappings.specs.Position.{POSITIONS}
 use Rattle.smap_trace.specs.Frame.{IsPlace}
 use Rattle.smap_trace.specs.Reading.{place_of}
+
+-- The text is the digits of `number`, and then `rest`.
+pub record IsReadTo (text : List ℕ) (number : ℕ) (rest : List ℕ) : Type 0 where
+  pub onward : AllDigits 10 rest → AllDigits 10 text
+  pub back : AllDigits 10 text → AllDigits 10 rest
+  pub value : digits_value_after 10 number rest ≡ digits_value 10 text
+
+-- The text is the decimal form of no place.
+abbrev pub IsNoPlace : List ℕ → Type 0
+IsNoPlace text = (n : ℕ) → IsPlace n → text ≡ decimal n → ⊥
+
+at_least : (n : ℕ) (rest : List ℕ) → n ≤ digits_value_after 10 n rest
+at_least n [] = omega arith
+at_least n (c ∷ cs) = omega (arith, at_least (n * 10 + digit_value c) cs)
+
+written : (text : List ℕ) (n : ℕ) → IsPlace n → text ≡ decimal n
+    → IsNumeral 10 text × (digits_value 10 text ≡ n)
+written text n is e = rw e (decimal_is_IsNumeral n (omega (arith, is.1)))
+
+pub not_digit : (text : List ℕ) (number i : ℕ) → i < length text → IsReadTo text number (drop i text)
+    → IsNotAsciiDigit (get_or text i 0) → IsNoPlace text
+not_digit text number i lt r other n is e =
+    let read = rw (drop-cons text i 0 lt) at r in
+    omega (arith, other, digit_from_value (get_or text i 0) (read.back (written text n is e).0.1).0)
+
+-- A number grows with each digit.
+pub too_large : (text : List ℕ) (number i : ℕ) → i < length text → IsReadTo text number (drop i text)
+    → 214748364 < number → IsNoPlace text
+too_large text number i lt r large n is e =
+    let read = rw (drop-cons text i 0 lt) at r in
+    let grown = number * 10 + digit_value (get_or text i 0) in
+    let value : digits_value_after 10 grown (drop (suc i) text) ≡ digits_value 10 text = read.value in
+    omega (arith, is.1, at_least grown (drop (suc i) text), value, (written text n is e).1)
+
+pub other_number : (text : List ℕ) (number i : ℕ) → length text ≤ i → IsReadTo text number (drop i text)
+    → (IsPlace number → ⊥) → IsNoPlace text
+other_number text number i past r other n is e =
+    let read = rw (drop_all i text past) at r in
+    let same : n ≡ number = omega (arith, read.value, (written text n is e).1) in
+    other (subst IsPlace same is)
+
+pub zero_first : (text : List ℕ) → starts_with nat_eq text (codes "0") ≡ true → IsNoPlace text
+zero_first [] zero n is e = cc
+zero_first (c ∷ cs) zero n is e =
+    let above = first_decimal n is.0 (omega (arith, is.1)) in
+    let first : 48 < get_or (c ∷ cs) 0 0 = subst (λ (t : List ℕ). 48 < get_or t 0 0) (sym e) above in
+    let same : c ≡ 48 = search (rules, zero) in
+    omega (arith, first, same)
+
+other_first : (text : List ℕ) → starts_with nat_eq text (codes "0") ≡ false → get_or text 0 0 ≡ 48 → ⊥
+other_first [] other zero = cc
+other_first (c ∷ cs) other zero = absurd (search (rules, zero, other))
+
+some_digit : (text : List ℕ) → 1 ≤ digits_value 10 text → 0 < length text
+some_digit [] some = omega arith
+some_digit (c ∷ cs) some = omega arith
+
+pub is_number : (text : List ℕ) (number i : ℕ) → length text ≤ i → IsReadTo text number (drop i text)
+    → IsPlace number → starts_with nat_eq text (codes "0") ≡ false → text ≡ decimal number
+is_number text number i past r is other =
+    let read = rw (drop_all i text past) at r in
+    let some = some_digit text (omega (arith, is.0, read.value)) in
+    let small : digits_value 10 text < 2 ^ 64 = omega (arith, is.1, read.value) in
+    let numerals = numerals_by_value (AllDigits 10) tells_digits in
+    sym (decimal-digits_value numerals text (read.onward tt) some
+    (λ zero. absurd (other_first text other zero)) small)
+    ∙ ap decimal (sym read.value)
+
+-- ---- the same, as a function
 
 guard : {X : Type 0} (b : Bool) (x y : X) → cond b (Some x) None ≡ Some y → (b ≡ true) × (x ≡ y)
 guard true x y h = (refl, cc)
@@ -17,13 +92,6 @@ guard false x y h = cc
 both : (a b : Bool) → (a && b) ≡ true → (a ≡ true) × (b ≡ true)
 both true b h = (refl, h)
 both false b h = cc
-
--- what is parsed of it
-pub reads : {E : Type 0} (text digits : List ℕ) (r : Result ℕ E) (n : ℕ) → IsPlace n → digits ≡ text → text ≡ decimal n → ParsesUnsigned 32 10 digits r → r ≡ Ok n
-reads text digits r n is e f parsed = parse-decimal 32 n digits r (omega (arith, is.1)) (omega (arith, is.1)) (e ∙ f) parsed
-
-pub is_text : (n : ℕ) → IsPlace n → IsUtf8 (decimal n)
-is_text n is = IsUtf8-from_ascii (decimal n) (IsAscii-decimal n (omega (arith, is.1)))
 
 -- `place_of` answers the number of which the text is the one spelling
 pub place_of-decimal : (n : ℕ) → IsPlace n → place_of (decimal n) ≡ Some n
@@ -44,7 +112,8 @@ place_of-some t n h =
     let P : ℕ → Type 0 = λ k. IsPlace k × (t ≡ decimal k) in
     subst P g.1 ((ltb-true _ _ low.0, leb-true _ _ high.0), sym same)
 
-pub place_is : (t : List ℕ) (r : Option ℕ) → MatchOption r ((n : ℕ) → IsPlace n → t ≡ decimal n → ⊥) (λ n. IsPlace n × (t ≡ decimal n)) → r ≡ place_of t
+pub place_is : (t : List ℕ) (r : Option ℕ)
+    → MatchOption r (IsNoPlace t) (λ n. IsPlace n × (t ≡ decimal n)) → r ≡ place_of t
 place_is t (Some n) h = sym (ap place_of h.1 ∙ place_of-decimal n h.0)
 place_is t None h = go (place_of t) refl
   where

@@ -1,5 +1,7 @@
 -- What was read and written, over a whole run.
-use Rattle.std.proofs.Common.{◌≡◌, ◌∙◌, ℕ, ◌==◌, Bool, true, false, ◌||◌, List, [], ◌∷◌, ◌++◌, take, drop, Option, refl, sym, ap, subst, inl, inr, append_assoc, append-nil, Result, Ok, Err, OnOk, OnErr, IfOk}
+use Rattle.std.proofs.Common.{◌≡◌, ◌∙◌, ℕ, ◌==◌, Bool, true, false, ◌||◌, List, [], ◌∷◌, ◌++◌, take, drop}
+use Rattle.std.proofs.Common.{Option, refl, sym, ap, subst, inl, inr, append_assoc, append-nil, Result, Ok}
+use Rattle.std.proofs.Common.{Err, OnOk, OnErr, IfOk}
 use Rattle.std.specs.List.{list_any}
 use Rattle.std.proofs.lemmas.List.Folds.{list_any-append}
 use Rattle.std.proofs.lemmas.List.{take-append-drop}
@@ -7,14 +9,14 @@ use Rattle.smap_io.specs.declared.device.Device.{Device}
 use Rattle.smap_io.specs.Device.{has_ended}
 use Rattle.smap_io.specs.Reading.{Gave, IsAtItsEnd}
 use Rattle.smap_io.specs.Streams.{streams}
-use Rattle.smap_io.specs.Writing.{Took, TookFront}
+use Rattle.smap_io.specs.Writing.{Took, TookPrefix}
 use Rattle.smap_io.proofs.ReadingLemmas.{Gave-none, Gave-then}
 use Rattle.smap_io.proofs.WritingLemmas.{Took-none, Took-then}
 use Rattle.smap_trace.specs.declared.outcome.Counts.{Counts}
 use Rattle.smap_trace.specs.declared.error.TraceError.{TraceError}
 use Rattle.smap_trace.proofs.SoFarLemmas.{SoFar}
 use Rattle.smap_trace.specs.Pieces.{IsWhole, Takes, count_lines}
-use Rattle.smap_trace.specs.Streaming.{Translates, WritesFront, complete_of, read_lines}
+use Rattle.smap_trace.specs.Streaming.{Translates, WritesPrefix, complete_of, read_lines}
 use Rattle.smap_trace.specs.Translation.{Script, lines_of, translation}
 use Rattle.smap_trace.proofs.LineLemmas.{translation-append, count_lines-whole}
 use Rattle.smap_trace.proofs.CountLemmas.{counted_all}
@@ -28,94 +30,135 @@ has_feed front more = list_any-append (λ c. c == 10) front (10 ∷ more) ∙ go
 
 complete_front : (front more : List ℕ) → complete_of (front ++ 10 ∷ more) ≡ front ++ 10 ∷ complete_of more
 complete_front [] more = refl
-complete_front (b ∷ bs) more = rw (has_feed (b ∷ bs) more) (ap (λ (xs : List ℕ). b ∷ xs) (complete_front bs more))
+complete_front (b ∷ bs) more = rw (has_feed (b ∷ bs) more)
+    (ap (λ (xs : List ℕ). b ∷ xs) (complete_front bs more))
 
 -- whole lines stay complete, whatever follows
-pub complete_of-append : (whole more : List ℕ) → IsWhole whole → complete_of (whole ++ more) ≡ whole ++ complete_of more
+pub complete_of-append : (whole more : List ℕ) → IsWhole whole
+    → complete_of (whole ++ more) ≡ whole ++ complete_of more
 complete_of-append whole more (inl e) = rw e refl
 complete_of-append whole more (inr p) =
-    rw p.1 (ap complete_of (append_assoc p.0 (10 ∷ []) more) ∙ complete_front p.0 more ∙ sym (append_assoc p.0 (10 ∷ []) (complete_of more)))
+    rw p.1 (ap complete_of (append_assoc p.0 (10 ∷ []) more) ∙ complete_front p.0 more
+    ∙ sym (append_assoc p.0 (10 ∷ []) (complete_of more)))
 
--- a front of what was read gives a front of what goes out
+-- a prefix of what was read gives a prefix of what is written
 pub output_front : (scripts : List Script) (hide : Bool) (whole more : List ℕ) (ended : Bool) → IsWhole whole
-    → translation scripts hide (read_lines ended (whole ++ more)) ≡ translation scripts hide whole ++ translation scripts hide (read_lines ended more)
+    → translation scripts hide (read_lines ended (whole ++ more))
+    ≡ translation scripts hide whole ++ translation scripts hide (read_lines ended more)
 output_front scripts hide whole more true is = translation-append scripts hide whole more is
-output_front scripts hide whole more false is = ap (translation scripts hide) (complete_of-append whole more is) ∙ translation-append scripts hide whole (complete_of more) is
+output_front scripts hide whole more false is =
+    ap (translation scripts hide) (complete_of-append whole more is)
+    ∙ translation-append scripts hide whole (complete_of more) is
 
 pub both_whole : (a b : List ℕ) → IsWhole a → IsWhole b → IsWhole (a ++ b)
 both_whole a b is (inl e) = rw (e, append-nil a) is
-both_whole a b is (inr p) = inr (a ++ p.0, ap (λ (xs : List ℕ). a ++ xs) p.1 ∙ sym (append_assoc a p.0 (10 ∷ [])))
+both_whole a b is (inr p) = inr (
+  a ++ p.0,
+  ap (λ (xs : List ℕ). a ++ xs) p.1
+      ∙ sym (append_assoc a p.0 (10 ∷ [])),
+)
 
-module _ {R W : Type 0} (remaining : R → Option (List ℕ)) (contents : W → Option (List ℕ)) (scripts : List Script) (hide : Bool)
-    (ro rm rn : Device R) (wo wm wn : Device W) (line : List ℕ) (c : Counts) (s : SoFar scripts hide (streams remaining ro rm contents wo wm) line c) where
-  -- the whole lines have gone out, and nothing more
-  pub front_so_far : (more : List ℕ) → Gave remaining rm rn more → WritesFront scripts hide (streams remaining ro rn contents wo wm)
+module _ {R W : Type 0} (remaining : R → Option (List ℕ)) (contents : W → Option (List ℕ))
+    (scripts : List Script) (hide : Bool)
+    (ro rm rn : Device R) (wo wm wn : Device W) (line : List ℕ) (c : Counts)
+    (s : SoFar scripts hide (streams remaining ro rm contents wo wm) line c) where
+  -- the whole lines were written, and nothing more
+  pub front_so_far : (more : List ℕ) → Gave remaining rm rn more
+      → WritesPrefix scripts hide (streams remaining ro rn contents wo wm)
   front_so_far more given = record {
     bytes = (s.whole ++ line) ++ more;
     front = translation scripts hide s.whole;
     rest = translation scripts hide (read_lines (has_ended rn) (line ++ more));
     read = Gave-then remaining ro rm rn (s.whole ++ line) more s.read given;
     written = s.written;
-    is_front = ap (λ (xs : List ℕ). translation scripts hide (read_lines (has_ended rn) xs)) (append_assoc s.whole line more) ∙ output_front scripts hide s.whole (line ++ more) (has_ended rn) s.is_whole;
+    is_front = ap (λ (xs : List ℕ). translation scripts hide (read_lines (has_ended rn) xs))
+        (append_assoc s.whole line more) ∙ output_front scripts hide s.whole (line ++ more) (has_ended rn)
+        s.is_whole;
   }
 
-  -- the lines of a piece go out too, in part
-  pub front_with : (piece rest given : List ℕ) (d : Counts) → Gave remaining rm rn piece → Takes scripts hide line piece rest [] given c d → TookFront contents wm wn given
-      → WritesFront scripts hide (streams remaining ro rn contents wo wn)
+  -- the lines of a piece were written too, in part
+  pub front_with : (piece rest given : List ℕ) (d : Counts) → Gave remaining rm rn piece
+      → Takes scripts hide line piece rest [] given c d → TookPrefix contents wm wn given
+      → WritesPrefix scripts hide (streams remaining ro rn contents wo wn)
   front_with piece rest given d read t went =
       let bytes = (s.whole ++ line) ++ piece in
       let ended = has_ended rn in
-      let split : bytes ≡ s.whole ++ (t.whole ++ rest) = append_assoc s.whole line piece ∙ ap (λ (xs : List ℕ). s.whole ++ xs) t.bytes in
+      let split : bytes ≡ s.whole ++ (t.whole ++ rest) = append_assoc s.whole line piece
+      ∙ ap (λ (xs : List ℕ). s.whole ++ xs) t.bytes in
       let last = translation scripts hide (read_lines ended rest) in
-      let parts : translation scripts hide (read_lines ended bytes) ≡ translation scripts hide s.whole ++ (translation scripts hide t.whole ++ last) =
-      ap (λ (xs : List ℕ). translation scripts hide (read_lines ended xs)) split ∙ output_front scripts hide s.whole (t.whole ++ rest) ended s.is_whole
-      ∙ ap (λ (xs : List ℕ). translation scripts hide s.whole ++ xs) (output_front scripts hide t.whole rest ended t.is_whole) in
-      let cut : translation scripts hide t.whole ≡ take went.0 given ++ drop went.0 given = sym t.given ∙ sym (take-append-drop went.0 given) in
+      let parts : translation scripts hide (read_lines ended bytes)
+      ≡ translation scripts hide s.whole ++ (translation scripts hide t.whole ++ last) =
+      ap (λ (xs : List ℕ). translation scripts hide (read_lines ended xs)) split
+      ∙ output_front scripts hide s.whole (t.whole ++ rest) ended s.is_whole
+      ∙ ap (λ (xs : List ℕ). translation scripts hide s.whole ++ xs)
+      (output_front scripts hide t.whole rest ended t.is_whole) in
+      let cut : translation scripts hide t.whole ≡ take went.0 given ++ drop went.0 given = sym t.given
+      ∙ sym (take-append-drop went.0 given) in
       record {
         bytes = bytes;
         front = translation scripts hide s.whole ++ take went.0 given;
         rest = drop went.0 given ++ last;
         read = Gave-then remaining ro rm rn (s.whole ++ line) piece s.read read;
-        written = Took-then contents wo wm wn (translation scripts hide s.whole) (take went.0 given) s.written went.1;
+        written = Took-then contents wo wm wn (translation scripts hide s.whole) (take went.0 given) s.written
+            went.1;
         is_front = parts ∙ ap (λ (xs : List ℕ). translation scripts hide s.whole ++ (xs ++ last)) cut
-            ∙ ap (λ (xs : List ℕ). translation scripts hide s.whole ++ xs) (append_assoc (take went.0 given) (drop went.0 given) last)
-            ∙ sym (append_assoc (translation scripts hide s.whole) (take went.0 given) (drop went.0 given ++ last));
+            ∙ ap (λ (xs : List ℕ). translation scripts hide s.whole ++ xs)
+            (append_assoc (take went.0 given) (drop went.0 given) last)
+            ∙ sym (append_assoc (translation scripts hide s.whole) (take went.0 given)
+            (drop went.0 given ++ last));
       }
 
-  -- a piece went out whole
-  pub after_piece : (piece rest given : List ℕ) (d : Counts) → Gave remaining rm rn piece → Takes scripts hide line piece rest [] given c d → Took contents wm wn given
+  -- the lines of a piece were all written
+  pub after_piece : (piece rest given : List ℕ) (d : Counts) → Gave remaining rm rn piece
+      → Takes scripts hide line piece rest [] given c d → Took contents wm wn given
       → SoFar scripts hide (streams remaining ro rn contents wo wn) rest d
   after_piece piece rest given d read t went = record {
     whole = s.whole ++ t.whole;
     is_whole = both_whole s.whole t.whole s.is_whole t.is_whole;
-    read = subst (Gave remaining ro rn) (append_assoc s.whole line piece ∙ ap (λ (xs : List ℕ). s.whole ++ xs) t.bytes ∙ sym (append_assoc s.whole t.whole rest))
+    read = subst (Gave remaining ro rn) (append_assoc s.whole line piece
+        ∙ ap (λ (xs : List ℕ). s.whole ++ xs) t.bytes ∙ sym (append_assoc s.whole t.whole rest))
         (Gave-then remaining ro rm rn (s.whole ++ line) piece s.read read);
-    written = subst (Took contents wo wn) (ap (λ (xs : List ℕ). translation scripts hide s.whole ++ xs) t.given ∙ sym (translation-append scripts hide s.whole t.whole s.is_whole))
+    written = subst (Took contents wo wn) (ap (λ (xs : List ℕ). translation scripts hide s.whole ++ xs)
+        t.given ∙ sym (translation-append scripts hide s.whole t.whole s.is_whole))
         (Took-then contents wo wm wn (translation scripts hide s.whole) given s.written went);
     counted = t.counted ∙ ap (λ (k : Counts). count_lines scripts hide k (lines_of t.whole)) s.counted
-        ∙ sym (count_lines-whole scripts hide (record { lines = 0; translated = 0; dropped = 0 }) s.whole t.whole s.is_whole);
+        ∙ sym (count_lines-whole scripts hide (record { lines = 0; translated = 0; dropped = 0 }) s.whole
+        t.whole s.is_whole);
   }
 
-  -- at the end of the input: the last line went out, or a front of it
-  pub at_the_end : (given : List ℕ) (r : Result Counts TraceError) → Gave remaining rm rn [] → IsAtItsEnd remaining rn → given ≡ line
-      → OnOk r (Took contents wm wn (translation scripts hide given)) → IfOk r (λ after. after ≡ count_lines scripts hide c (lines_of given))
-      → OnErr r (TookFront contents wm wn (translation scripts hide given)) → Translates scripts hide (streams remaining ro rn contents wo wn) r
+  -- at the end of the input: the last line was written, or a prefix of it
+  pub at_the_end : (given : List ℕ) (r : Result Counts TraceError) → Gave remaining rm rn []
+      → IsAtItsEnd remaining rn → given ≡ line
+      → OnOk r (Took contents wm wn (translation scripts hide given))
+      → IfOk r (λ after. after ≡ count_lines scripts hide c (lines_of given))
+      → OnErr r (TookPrefix contents wm wn (translation scripts hide given))
+      → Translates scripts hide (streams remaining ro rn contents wo wn) r
   at_the_end given r none end same all counts part =
-      let read : Gave remaining ro rn (s.whole ++ line) = subst (Gave remaining ro rn) (append-nil (s.whole ++ line)) (Gave-then remaining ro rm rn (s.whole ++ line) [] s.read none) in
-      answered r read end (subst (λ (xs : List ℕ). OnOk r (Took contents wm wn (translation scripts hide xs))) same all)
-      (subst (λ (xs : List ℕ). IfOk r (λ after. after ≡ count_lines scripts hide c (lines_of xs))) same counts)
-      (subst (λ (xs : List ℕ). OnErr r (TookFront contents wm wn (translation scripts hide xs))) same part)
+      let read : Gave remaining ro rn (s.whole ++ line) =
+      subst (Gave remaining ro rn) (append-nil (s.whole ++ line))
+      (Gave-then remaining ro rm rn (s.whole ++ line) [] s.read none) in
+      answered r read end (subst (λ (xs : List ℕ). OnOk r (Took contents wm wn (translation scripts hide xs)))
+      same all)
+      (subst (λ (xs : List ℕ). IfOk r (λ after. after ≡ count_lines scripts hide c (lines_of xs))) same
+      counts)
+      (subst (λ (xs : List ℕ). OnErr r (TookPrefix contents wm wn (translation scripts hide xs))) same part)
     where
-      answered : (r : Result Counts TraceError) → Gave remaining ro rn (s.whole ++ line) → IsAtItsEnd remaining rn → OnOk r (Took contents wm wn (translation scripts hide line))
-          → IfOk r (λ after. after ≡ count_lines scripts hide c (lines_of line)) → OnErr r (TookFront contents wm wn (translation scripts hide line)) → Translates scripts hide (streams remaining ro rn contents wo wn) r
+      answered : (r : Result Counts TraceError) → Gave remaining ro rn (s.whole ++ line)
+          → IsAtItsEnd remaining rn → OnOk r (Took contents wm wn (translation scripts hide line))
+          → IfOk r (λ after. after ≡ count_lines scripts hide c (lines_of line))
+          → OnErr r (TookPrefix contents wm wn (translation scripts hide line))
+          → Translates scripts hide (streams remaining ro rn contents wo wn) r
       answered (Ok after) read end went counted part = (
         record {
           bytes = s.whole ++ line;
           read = read;
           at_end = end.1;
-          written = subst (Took contents wo wn) (sym (translation-append scripts hide s.whole line s.is_whole)) (Took-then contents wo wm wn (translation scripts hide s.whole) (translation scripts hide line) s.written went);
+          written = subst (Took contents wo wn) (sym (translation-append scripts hide s.whole line
+              s.is_whole)) (Took-then contents wo wm wn (translation scripts hide s.whole)
+              (translation scripts hide line) s.written went);
           counts_are = counted ∙ ap (λ (k : Counts). count_lines scripts hide k (lines_of line)) s.counted
-              ∙ sym (count_lines-whole scripts hide (record { lines = 0; translated = 0; dropped = 0 }) s.whole line s.is_whole) ∙ counted_all scripts hide (s.whole ++ line);
+              ∙ sym (count_lines-whole scripts hide (record { lines = 0; translated = 0; dropped = 0 })
+              s.whole line s.is_whole) ∙ counted_all scripts hide (s.whole ++ line);
         },
         end.0,
       )
@@ -124,14 +167,19 @@ module _ {R W : Type 0} (remaining : R → Option (List ℕ)) (contents : W → 
         front = translation scripts hide s.whole ++ take part.0 (translation scripts hide line);
         rest = drop part.0 (translation scripts hide line);
         read = read;
-        written = Took-then contents wo wm wn (translation scripts hide s.whole) (take part.0 (translation scripts hide line)) s.written part.1;
-        is_front = rw end.0 (translation-append scripts hide s.whole line s.is_whole ∙ ap (λ (xs : List ℕ). translation scripts hide s.whole ++ xs) (sym (take-append-drop part.0 (translation scripts hide line)))
-            ∙ sym (append_assoc (translation scripts hide s.whole) (take part.0 (translation scripts hide line)) (drop part.0 (translation scripts hide line))));
+        written = Took-then contents wo wm wn (translation scripts hide s.whole)
+            (take part.0 (translation scripts hide line)) s.written part.1;
+        is_front = rw end.0 (translation-append scripts hide s.whole line s.is_whole
+            ∙ ap (λ (xs : List ℕ). translation scripts hide s.whole ++ xs)
+            (sym (take-append-drop part.0 (translation scripts hide line)))
+            ∙ sym (append_assoc (translation scripts hide s.whole)
+            (take part.0 (translation scripts hide line)) (drop part.0 (translation scripts hide line))));
       }
 
 -- where nothing was read and nothing written
-pub nothing : {R W : Type 0} (remaining : R → Option (List ℕ)) (contents : W → Option (List ℕ)) (scripts : List Script) (hide : Bool) (r : Device R) (w : Device W)
-    → WritesFront scripts hide (streams remaining r r contents w w)
+pub nothing : {R W : Type 0} (remaining : R → Option (List ℕ)) (contents : W → Option (List ℕ))
+    (scripts : List Script) (hide : Bool) (r : Device R) (w : Device W)
+    → WritesPrefix scripts hide (streams remaining r r contents w w)
 nothing remaining contents scripts hide r w = record {
   bytes = [];
   front = [];

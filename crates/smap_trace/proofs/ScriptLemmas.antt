@@ -1,5 +1,6 @@
 -- Scripts by their places, and as the definitions see them.
-use Rattle.std.proofs.Common.{◌≡◌, ◌≢◌, ◌∙◌, ◌↔◌, ℕ, ◌+◌, ◌<◌, Bool, true, false, List, [], ◌∷◌, length, drop, Bor, get_or, Some, refl, sym, ap, arith, bytes_eq, IsTrue}
+use Rattle.std.proofs.Common.{◌≡◌, ◌≢◌, ◌∙◌, ◌↔◌, ℕ, ◌+◌, ◌<◌, Bool, true, false, List, [], ◌∷◌, length, drop}
+use Rattle.std.proofs.Common.{Bor, get_or, Some, refl, sym, ap, arith, bytes_eq, IsTrue}
 use Rattle.std.specs.Prelude.{slice_index_or}
 use Rattle.std.proofs.lemmas.List.{get_or-map, length-map, at_drop_more}
 use Rattle.std.proofs.lemmas.Option.{slice_get-get_or}
@@ -11,9 +12,10 @@ use Rattle.smap_trace.specs.Views.{script_in, scripts_in}
 abbrev Given : Type 0
 Given = Bor (List ℕ) × Bor ReadMap
 
--- no URL of those below n stands again
+-- none of the first n URLs occurs again
 abbrev pub AreDistinctBelow : List Given → ℕ → Type 0
-AreDistinctBelow scripts n = (i j : ℕ) (d : Given) → i < n → i < j → j < length scripts → (slice_index_or scripts i d).0.now ≢ (slice_index_or scripts j d).0.now
+AreDistinctBelow scripts n = (i j : ℕ) (d : Given) → i < n → i < j → j < length scripts
+    → (slice_index_or scripts i d).0.now ≢ (slice_index_or scripts j d).0.now
 
 first : (xs : List Given) (j : ℕ) → j < length xs → Given
 first [] j lt = absurd (omega (arith, lt))
@@ -29,42 +31,54 @@ same_places xs = (over, back)
         let before : i < length xs = omega (arith, lt, inside) in
         let g = first xs j inside in
         h i j g before lt inside
-        (ap (λ (s : Script). s.0) (sym (get_or-map script_in xs i g d before)) ∙ e ∙ ap (λ (s : Script). s.0) (get_or-map script_in xs j g d inside))
+        (ap (λ (s : Script). s.0) (sym (get_or-map script_in xs i g d before)) ∙ e
+        ∙ ap (λ (s : Script). s.0) (get_or-map script_in xs j g d inside))
 
     back : AreDistinct (scripts_in xs) → AreDistinctBelow xs (length xs)
     back h i j g before lt inside e =
         let len : length (scripts_in xs) ≡ length xs = length-map xs script_in in
         h i j (script_in g) lt (omega (arith, inside, len))
-        (ap (λ (s : Script). s.0) (get_or-map script_in xs i g (script_in g) before) ∙ e ∙ sym (ap (λ (s : Script). s.0) (get_or-map script_in xs j g (script_in g) inside)))
+        (ap (λ (s : Script). s.0) (get_or-map script_in xs i g (script_in g) before) ∙ e
+        ∙ sym (ap (λ (s : Script). s.0) (get_or-map script_in xs j g (script_in g) inside)))
 
-pub told : (xs : List Given) (b : Bool) → (IsTrue b ↔ AreDistinctBelow xs (length xs)) → (IsTrue b ↔ AreDistinct (scripts_in xs))
+pub told : (xs : List Given) (b : Bool) → (IsTrue b ↔ AreDistinctBelow xs (length xs))
+    → (IsTrue b ↔ AreDistinct (scripts_in xs))
 told xs b h = let s = same_places xs in ((λ t. s.0 (h.0 t)), (λ d. h.1 (s.1 d)))
 
 -- two scripts with one URL
-pub not_distinct : (xs : List Given) (i j : ℕ) (x y : Given) → i < j → j < length xs → x ≡ get_or xs i x → y ≡ get_or xs j y → bytes_eq x.0.now y.0.now ≡ true
+pub not_distinct : (xs : List Given) (i j : ℕ) (x y : Given) → i < j → j < length xs → x ≡ get_or xs i x
+    → y ≡ get_or xs j y → bytes_eq x.0.now y.0.now ≡ true
     → IsTrue false ↔ AreDistinct (scripts_in xs)
 not_distinct xs i j x y lt within is js same = told xs false (
   (λ t. cc),
   (λ h.
-      let both : Some (get_or xs j x) ≡ Some (get_or xs j y) = sym (slice_get-get_or xs j x within) ∙ slice_get-get_or xs j y within in
+      let both : Some (get_or xs j x) ≡ Some (get_or xs j y) = sym (slice_get-get_or xs j x within)
+      ∙ slice_get-get_or xs j y within in
       let one : get_or xs j x ≡ get_or xs j y = cc in
       let urls : x.0.now ≡ y.0.now = (bytes_eq-Decides x.0.now y.0.now).0 same in
-      absurd (h i j x (omega arith) lt within (ap (λ (g : Given). g.0.now) (sym is) ∙ urls ∙ ap (λ (g : Given). g.0.now) (js ∙ sym one)))),
+      absurd (h i j x (omega arith) lt within (ap (λ (g : Given). g.0.now) (sym is) ∙ urls
+      ∙ ap (λ (g : Given). g.0.now) (js ∙ sym one)))),
 )
 
--- one script further
-pub here : (xs : List Given) (i : ℕ) (g : Given) (url : List ℕ) → i < length xs → bytes_eq (get_or xs i g).0.now url ≡ true
+-- one script more
+pub here : (xs : List Given) (i : ℕ) (g : Given) (url : List ℕ) → i < length xs
+    → bytes_eq (get_or xs i g).0.now url ≡ true
     → map_of (scripts_in (drop i xs)) url ≡ Some (record_of (get_or xs i g).1.now)
 here xs i g url lt is =
-    at_drop_more (λ (ys : List Given). map_of (scripts_in ys) url) xs i g lt ∙ found (get_or xs i g) (drop (i + 1) xs) is
+    at_drop_more (λ (ys : List Given). map_of (scripts_in ys) url) xs i g lt
+    ∙ found (get_or xs i g) (drop (i + 1) xs) is
   where
-    found : (x : Given) (ys : List Given) → bytes_eq x.0.now url ≡ true → map_of (scripts_in (x ∷ ys)) url ≡ Some (record_of x.1.now)
+    found : (x : Given) (ys : List Given) → bytes_eq x.0.now url ≡ true
+        → map_of (scripts_in (x ∷ ys)) url ≡ Some (record_of x.1.now)
     found x ys h = rw h refl
 
-pub further : (xs : List Given) (i : ℕ) (g : Given) (url : List ℕ) → i < length xs → bytes_eq (get_or xs i g).0.now url ≡ false
+pub further : (xs : List Given) (i : ℕ) (g : Given) (url : List ℕ) → i < length xs
+    → bytes_eq (get_or xs i g).0.now url ≡ false
     → map_of (scripts_in (drop i xs)) url ≡ map_of (scripts_in (drop (i + 1) xs)) url
 further xs i g url lt isnt =
-    at_drop_more (λ (ys : List Given). map_of (scripts_in ys) url) xs i g lt ∙ passed (get_or xs i g) (drop (i + 1) xs) isnt
+    at_drop_more (λ (ys : List Given). map_of (scripts_in ys) url) xs i g lt
+    ∙ passed (get_or xs i g) (drop (i + 1) xs) isnt
   where
-    passed : (x : Given) (ys : List Given) → bytes_eq x.0.now url ≡ false → map_of (scripts_in (x ∷ ys)) url ≡ map_of (scripts_in ys) url
+    passed : (x : Given) (ys : List Given) → bytes_eq x.0.now url ≡ false
+        → map_of (scripts_in (x ∷ ys)) url ≡ map_of (scripts_in ys) url
     passed x ys h = rw h refl

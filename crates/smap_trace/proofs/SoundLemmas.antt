@@ -1,7 +1,12 @@
 -- What is read as a frame of a line is a frame of that line.
-use Rattle.std.proofs.Common.{◌≡◌, ◌∙◌, ◌⊎◌, inl, inr, ℕ, suc, ◌+◌, ◌-◌, ◌<◌, ◌≤◌, ◌==◌, Bool, true, false, not, cond, ◌&&◌, ◌||◌, List, [], ◌∷◌, ◌++◌, length, take, drop, Option, Some, None, refl, sym, ap, subst, arith, append_assoc, append-nil, slice_range, slice_index, nat_eq, nat_lt, length-take, length-drop, length-append, decimal, codes, get_or}
+use Rattle.std.proofs.Common.{◌≡◌, ◌∙◌, ◌⊎◌, inl, inr, ℕ, suc, ◌+◌, ◌-◌, ◌<◌, ◌≤◌, ◌==◌, Bool, true, false}
+use Rattle.std.proofs.Common.{not, cond, ◌&&◌, ◌||◌, List, [], ◌∷◌, ◌++◌, length, take, drop, Option, Some}
+use Rattle.std.proofs.Common.{None, refl, sym, ap, subst, arith, append_assoc, append-nil, slice_range}
+use Rattle.std.proofs.Common.{slice_index, nat_eq, nat_lt, length-take, length-drop, length-append, decimal}
+use Rattle.std.proofs.Common.{codes, get_or}
 use Rattle.std.specs.Prelude.{option_map, option_and_then}
-use Rattle.std.specs.List.{starts_with, ends_with, suffix_len, before_last, after_last, prefix_len, position_or_len, list_all, list_any}
+use Rattle.std.specs.List.{starts_with, ends_with, suffix_len, before_last, after_last, prefix_len}
+use Rattle.std.specs.List.{position_or_len, list_all, list_any}
 use Rattle.std.specs.Str.Lines.{strip_carriage_return}
 use Rattle.std.proofs.lemmas.Bool.{ltb-true, cases_lt}
 use Rattle.std.proofs.lemmas.List.{take-append-drop, take-take, take_more, drop_more, drop-drop}
@@ -9,8 +14,11 @@ use Rattle.std.proofs.Math.Seq.{take-append_seam, drop-append_seam, drop-length,
 use Rattle.std.proofs.lemmas.List.Sums.{passes_at_first, suffix_len-le-length}
 use Rattle.std.proofs.lemmas.Slice.Eq.{ends_is}
 use Rattle.std.proofs.lemmas.Bool.Decides.{Decides-eqb}
-use Rattle.smap_trace.specs.Frame.{Parts, AreSpaces, IsPlace, IsLineEnd, InParentheses, Alone, BehindAsync, BeginsWithAt, IsFrame, lacks, position}
-use Rattle.smap_trace.specs.Reading.{body_frame, firefox_frame, frame_of, framed, in_parentheses, is_colon, is_space, is_url, place_of, v8_frame}
+use Rattle.smap_trace.specs.Frame.{FrameParts, AreSpaces, IsPlace, IsLineEnd, InParentheses, Alone}
+use Rattle.smap_trace.specs.Frame.{AfterAsync}
+use Rattle.smap_trace.specs.Frame.{BeginsWithAt, IsFrame, lacks, position_text}
+use Rattle.smap_trace.specs.Reading.{body_frame, firefox_frame, frame_of, framed, in_parentheses, is_colon}
+use Rattle.smap_trace.specs.Reading.{is_space, is_url, place_of, v8_frame}
 use Rattle.smap_trace.proofs.CutLemmas.{both, begins, begins_with, cut_at, last_cut, rest_at, some_before}
 use Rattle.smap_trace.proofs.PlaceLemmas.{place_of-some}
 
@@ -19,11 +27,11 @@ some_is x y e = cc
 
 -- ---- a position
 
--- A frame that stands round a part of a line.
-pub record StandsAt (line : List ℕ) (start end : ℕ) (f : Parts) : Type 0 where
+-- A frame around a part of a line that is its position.
+pub record StandsAt (line : List ℕ) (start end : ℕ) (f : FrameParts) : Type 0 where
   pub before : f.before ≡ take start line
   pub after : f.after ≡ drop end line
-  pub text : slice_range line start end ≡ position f.url f.line f.column
+  pub text : slice_range line start end ≡ position_text f.url f.line f.column
   pub url : is_url f.url ≡ true
   pub line_place : IsPlace f.line
   pub column_place : IsPlace f.column
@@ -31,25 +39,35 @@ pub record StandsAt (line : List ℕ) (start end : ℕ) (f : Parts) : Type 0 whe
 -- A text with two colons is a position.
 spelled : (text : List ℕ) (l c : ℕ) → is_url (before_last is_colon (before_last is_colon text)) ≡ true
     → after_last is_colon (before_last is_colon text) ≡ decimal l → after_last is_colon text ≡ decimal c
-    → text ≡ position (before_last is_colon (before_last is_colon text)) l c
+    → text ≡ position_text (before_last is_colon (before_last is_colon text)) l c
 spelled text l c is number column =
     let rest = before_last is_colon text in
     let url = before_last is_colon rest in
     let some : 0 < length url = ltb-true 0 (length url) (both (nat_lt 0 (length url)) (lacks 32 url) is).0 in
     let rest_is : rest ≡ url ++ 58 ∷ after_last is_colon rest = last_cut 58 rest (some_before 58 rest some) in
-    let some_rest : 0 < length rest = omega (arith, ap length rest_is, length-append url (58 ∷ after_last is_colon rest)) in
-    let text_is : text ≡ rest ++ 58 ∷ after_last is_colon text = last_cut 58 text (some_before 58 text some_rest) in
-    let front : rest ≡ (url ++ codes ":") ++ decimal l = rest_is ∙ ap (λ (xs : List ℕ). url ++ 58 ∷ xs) number ∙ sym (append_assoc url (codes ":") (decimal l)) in
+    let some_rest : 0 < length rest = omega (
+      arith,
+      ap length rest_is,
+      length-append url
+          (58 ∷ after_last is_colon rest),
+    ) in
+    let text_is : text ≡ rest ++ 58 ∷ after_last is_colon text =
+    last_cut 58 text (some_before 58 text some_rest) in
+    let front : rest ≡ (url ++ codes ":") ++ decimal l = rest_is ∙ ap (λ (xs : List ℕ). url ++ 58 ∷ xs) number
+    ∙ sym (append_assoc url (codes ":") (decimal l)) in
     text_is ∙ ap (λ (xs : List ℕ). rest ++ 58 ∷ xs) column ∙ ap (λ (xs : List ℕ). xs ++ 58 ∷ decimal c) front
     ∙ sym (append_assoc (url ++ codes ":" ++ decimal l) (codes ":") (decimal c))
 
-pub framed-stands : (line : List ℕ) (start end : ℕ) (f : Parts) → framed line start end ≡ Some f → StandsAt line start end f
+pub framed-stands : (line : List ℕ) (start end : ℕ) (f : FrameParts) → framed line start end ≡ Some f
+    → StandsAt line start end f
 framed-stands line start end f h =
     let text = slice_range line start end in
     let rest = before_last is_colon text in
-    go (is_url (before_last is_colon rest)) (place_of (after_last is_colon rest)) (place_of (after_last is_colon text)) refl refl refl h
+    go (is_url (before_last is_colon rest)) (place_of (after_last is_colon rest))
+    (place_of (after_last is_colon text)) refl refl refl h
   where
-    go : (b : Bool) (ol oc : Option ℕ) → is_url (before_last is_colon (before_last is_colon (slice_range line start end))) ≡ b
+    go : (b : Bool) (ol oc : Option ℕ) → is_url (before_last is_colon
+        (before_last is_colon (slice_range line start end))) ≡ b
         → place_of (after_last is_colon (before_last is_colon (slice_range line start end))) ≡ ol
         → place_of (after_last is_colon (slice_range line start end)) ≡ oc
         → cond b (option_and_then (λ l. option_map (λ c. record {
@@ -67,7 +85,14 @@ framed-stands line start end f h =
         let text = slice_range line start end in
         let lp = place_of-some (after_last is_colon (before_last is_colon text)) l el in
         let cp = place_of-some (after_last is_colon text) c ec in
-        let g : Parts = record { before = take start line; url = before_last is_colon (before_last is_colon text); line = l; column = c; after = drop end line } in
+        let g : FrameParts = record {
+          before = take start line;
+          url =
+              before_last is_colon (before_last is_colon text);
+          line = l;
+          column = c;
+          after = drop end line;
+        } in
         let here : StandsAt line start end g = record {
           before = refl;
           after = refl;
@@ -80,19 +105,20 @@ framed-stands line start end f h =
 
 -- ---- V8
 
--- What follows `at ` up to the end is the lead, the position and what closes.
-pub record LeadsTo (line : List ℕ) (start end : ℕ) (f : Parts) : Type 0 where
+-- What follows `at `, up to the end, is the lead, the position and what closes it.
+pub record LeadsTo (line : List ℕ) (start end : ℕ) (f : FrameParts) : Type 0 where
   pub lead : List ℕ
   pub close : List ℕ
-  pub form : InParentheses lead close ⊎ (Alone lead close ⊎ BehindAsync lead close)
+  pub form : InParentheses lead close ⊎ (Alone lead close ⊎ AfterAsync lead close)
   pub before : f.before ≡ take start line ++ lead
   pub after : f.after ≡ close ++ drop end line
-  pub text : slice_range line start end ≡ lead ++ (position f.url f.line f.column ++ close)
+  pub text : slice_range line start end ≡ lead ++ (position_text f.url f.line f.column ++ close)
   pub url : is_url f.url ≡ true
   pub line_place : IsPlace f.line
   pub column_place : IsPlace f.column
 
-alone : (line : List ℕ) (start end : ℕ) (f : Parts) → framed line start end ≡ Some f → LeadsTo line start end f
+alone : (line : List ℕ) (start end : ℕ) (f : FrameParts) → framed line start end ≡ Some f
+    → LeadsTo line start end f
 alone line start end f h =
     let s = framed-stands line start end f h in
     record {
@@ -101,33 +127,39 @@ alone line start end f h =
       form = inr (inl (refl, refl));
       before = s.before ∙ sym (append-nil (take start line));
       after = s.after;
-      text = s.text ∙ sym (append-nil (position f.url f.line f.column));
+      text = s.text ∙ sym (append-nil (position_text f.url f.line f.column));
       url = s.url;
       line_place = s.line_place;
       column_place = s.column_place;
     }
 
--- a front of the middle part moves to the front part
-moved : (line lead more : List ℕ) (start end : ℕ) → start ≤ end → end ≤ length line → slice_range line start end ≡ lead ++ more
-    → (take (start + length lead) line ≡ take start line ++ lead) × (slice_range line (start + length lead) end ≡ more) × (start + length lead + length more ≡ end)
+-- a prefix of the middle part joins the first part
+moved : (line lead more : List ℕ) (start end : ℕ) → start ≤ end → end ≤ length line
+    → slice_range line start end ≡ lead ++ more
+    → (take (start + length lead) line ≡ take start line ++ lead)
+    × (slice_range line (start + length lead) end ≡ more) × (start + length lead + length more ≡ end)
 moved line lead more start end le within text =
     let xs = drop start line in
     let k = length lead in
     let rest = drop (end - start) xs in
-    let len : length (slice_range line start end) ≡ end - start = omega (arith, length-take {A = ℕ}, length-drop {A = ℕ}) in
+    let len : length (slice_range line start end) ≡ end - start =
+    omega (arith, length-take {A = ℕ}, length-drop {A = ℕ}) in
     let len' : k + length more ≡ end - start = sym (length-append lead more) ∙ sym (ap length text) ∙ len in
-    let split : xs ≡ lead ++ (more ++ rest) = sym (take-append-drop (end - start) xs) ∙ ap (λ (ys : List ℕ). ys ++ rest) text ∙ append_assoc lead more rest in
+    let split : xs ≡ lead ++ (more ++ rest) = sym (take-append-drop (end - start) xs)
+    ∙ ap (λ (ys : List ℕ). ys ++ rest) text ∙ append_assoc lead more rest in
     let front : take k xs ≡ lead = ap (take k) split ∙ take-append_seam lead (more ++ rest) in
-    let back : drop (start + k) line ≡ more ++ rest = sym (drop-drop k start line) ∙ ap (drop k) split ∙ drop-append_seam lead (more ++ rest) in
+    let back : drop (start + k) line ≡ more ++ rest = sym (drop-drop k start line) ∙ ap (drop k) split
+    ∙ drop-append_seam lead (more ++ rest) in
     let n : end - (start + k) ≡ length more = omega arith in (
       take-add start k line ∙ ap (λ (ys : List ℕ). take start line ++ ys) front,
       ap (take (end - (start + k))) back ∙ ap (λ m. take m (more ++ rest)) n ∙ take-append_seam more rest,
       omega arith,
     )
 
-behind_async : (line : List ℕ) (start end : ℕ) (f : Parts) → start ≤ end → end ≤ length line
-    → starts_with nat_eq (slice_range line start end) (codes "async ") ≡ true → framed line (start + 6) end ≡ Some f → LeadsTo line start end f
-behind_async line start end f le within st h =
+after_async : (line : List ℕ) (start end : ℕ) (f : FrameParts) → start ≤ end → end ≤ length line
+    → starts_with nat_eq (slice_range line start end) (codes "async ") ≡ true
+    → framed line (start + 6) end ≡ Some f → LeadsTo line start end f
+after_async line start end f le within st h =
     let text = slice_range line start end in
     let s = framed-stands line (start + 6) end f h in
     let cut = begins text (codes "async ") st in
@@ -138,31 +170,45 @@ behind_async line start end f le within st h =
       form = inr (inr (refl, refl));
       before = s.before ∙ m.0;
       after = s.after;
-      text = cut ∙ ap (λ (xs : List ℕ). codes "async " ++ xs) (sym m.1 ∙ s.text ∙ sym (append-nil (position f.url f.line f.column)));
+      text = cut ∙ ap (λ (xs : List ℕ). codes "async " ++ xs)
+          (sym m.1 ∙ s.text ∙ sym (append-nil (position_text f.url f.line f.column)));
       url = s.url;
       line_place = s.line_place;
       column_place = s.column_place;
     }
 
-pub ends : (xs : List ℕ) (c : ℕ) → ends_with nat_eq xs (c ∷ []) ≡ true → xs ≡ take (length xs - 1) xs ++ c ∷ []
+pub ends : (xs : List ℕ) (c : ℕ) → ends_with nat_eq xs (c ∷ []) ≡ true
+    → xs ≡ take (length xs - 1) xs ++ c ∷ []
 ends xs c h = (ends_is Decides-eqb xs (c ∷ []) (ends_with nat_eq xs (c ∷ [])) refl).0 h
 
-in_parens : (line : List ℕ) (start end : ℕ) (f : Parts) → start ≤ end → end ≤ length line
-    → ends_with nat_eq (slice_range line start end) (codes ")") ≡ true → in_parentheses line start (end - 1) ≡ Some f → LeadsTo line start end f
+in_parens : (line : List ℕ) (start end : ℕ) (f : FrameParts) → start ≤ end → end ≤ length line
+    → ends_with nat_eq (slice_range line start end) (codes ")") ≡ true
+    → in_parentheses line start (end - 1) ≡ Some f → LeadsTo line start end f
 in_parens line start end f le within en h =
     let text = slice_range line start end in
     let len : length text ≡ end - start = omega (arith, length-take {A = ℕ}, length-drop {A = ℕ}) in
     let cut : text ≡ take (length text - 1) text ++ codes ")" = ends text 41 en in
-    let some : 0 < length text = omega (arith, ap length cut, length-append (take (length text - 1) text) (codes ")")) in
+    let some : 0 < length text = omega (
+      arith,
+      ap length cut,
+      length-append (take (length text - 1) text)
+          (codes ")"),
+    ) in
     let le' : start ≤ end - 1 = omega arith in
     let inner = slice_range line start (end - 1) in
     let inner_is : take (length text - 1) text ≡ inner =
-    ap (λ n. take (n - 1) text) len ∙ take-take (end - start - 1) (end - start) (drop start line) (omega arith) ∙ ap (λ n. take n (drop start line)) (omega arith) in
-    go (starts_with nat_eq (after_last is_space inner) (codes "(")) (nat_lt (length (after_last is_space inner)) (length inner)) refl refl h
+    ap (λ n. take (n - 1) text) len ∙ take-take (end - start - 1) (end - start) (drop start line)
+    (omega arith) ∙ ap (λ n. take n (drop start line)) (omega arith) in
+    go (starts_with nat_eq (after_last is_space inner) (codes "("))
+    (nat_lt (length (after_last is_space inner)) (length inner)) refl refl h
   where
-    go : (a b : Bool) → starts_with nat_eq (after_last is_space (slice_range line start (end - 1))) (codes "(") ≡ a
-        → nat_lt (length (after_last is_space (slice_range line start (end - 1)))) (length (slice_range line start (end - 1))) ≡ b
-        → cond (a && b) (framed line (end - 1 - length (after_last is_space (slice_range line start (end - 1))) + 1) (end - 1)) None ≡ Some f → LeadsTo line start end f
+    go : (a b : Bool) → starts_with nat_eq (after_last is_space (slice_range line start (end - 1)))
+        (codes "(") ≡ a
+        → nat_lt (length (after_last is_space (slice_range line start (end - 1))))
+        (length (slice_range line start (end - 1))) ≡ b
+        → cond (a && b) (framed line (end - 1 - length
+        (after_last is_space (slice_range line start (end - 1))) + 1) (end - 1)) None ≡ Some f
+        → LeadsTo line start end f
     go false b ea eb g = cc
     go true false ea eb g = cc
     go true true ea eb g =
@@ -173,79 +219,103 @@ in_parens line start end f le within en h =
         let rest = drop 1 last in
         let lead = name ++ codes " (" in
         let shorter : length last < length inner = ltb-true (length last) (length inner) eb in
-        let behind : length last ≡ length inner - (length inner - suffix_len (λ b. not (b == 32)) inner) = length-drop (length inner - suffix_len (λ b. not (b == 32)) inner) inner in
-        let lt : suffix_len (λ b. not (b == 32)) inner < length inner = omega (arith, behind, shorter, suffix_len-le-length (λ b. not (b == 32)) inner) in
+        let later : length last ≡ length inner - (length inner - suffix_len (λ b. not (b == 32)) inner) =
+        length-drop (length inner - suffix_len (λ b. not (b == 32)) inner) inner in
+        let lt : suffix_len (λ b. not (b == 32)) inner < length inner =
+        omega (arith, later, shorter, suffix_len-le-length (λ b. not (b == 32)) inner) in
         let last_is : last ≡ codes "(" ++ rest = begins last (codes "(") ea in
-        let inner_cut : inner ≡ lead ++ rest = last_cut 32 inner lt ∙ ap (λ (xs : List ℕ). name ++ 32 ∷ xs) last_is ∙ sym (append_assoc name (codes " (") rest) in
+        let inner_cut : inner ≡ lead ++ rest = last_cut 32 inner lt
+        ∙ ap (λ (xs : List ℕ). name ++ 32 ∷ xs) last_is ∙ sym (append_assoc name (codes " (") rest) in
         let len : length text ≡ end - start = omega (arith, length-take {A = ℕ}, length-drop {A = ℕ}) in
         let cut : text ≡ take (length text - 1) text ++ codes ")" = ends text 41 en in
-        let some : 0 < length text = omega (arith, ap length cut, length-append (take (length text - 1) text) (codes ")")) in
+        let some : 0 < length text = omega (
+          arith,
+          ap length cut,
+          length-append (take (length text - 1) text)
+              (codes ")"),
+        ) in
         let le' : start ≤ end - 1 = omega arith in
         let inner_is : take (length text - 1) text ≡ inner =
-        ap (λ n. take (n - 1) text) len ∙ take-take (end - start - 1) (end - start) (drop start line) (omega arith) ∙ ap (λ n. take n (drop start line)) (omega arith) in
+        ap (λ n. take (n - 1) text) len ∙ take-take (end - start - 1) (end - start) (drop start line)
+        (omega arith) ∙ ap (λ n. take n (drop start line)) (omega arith) in
         let m = moved line lead rest start (end - 1) le' (omega arith) inner_cut in
         let last_len : length last ≡ suc (length rest) = ap length last_is in
         let parts : start + length lead + length rest ≡ end - 1 = m.2 in
         let lead_len : length lead ≡ length name + 2 = length-append name (codes " (") in
-        let place : end - 1 - length last + 1 ≡ start + length lead = omega (arith, parts, last_len, lead_len) in
+        let place : end - 1 - length last + 1 ≡ start + length lead =
+        omega (arith, parts, last_len, lead_len) in
         let s = framed-stands line (end - 1 - length last + 1) (end - 1) f g in
         let all : text ≡ inner ++ codes ")" = cut ∙ ap (λ (xs : List ℕ). xs ++ codes ")") inner_is in
         let c = moved line inner (codes ")") start end le within all in
         let all_len : start + length inner + 1 ≡ end = c.2 in
         let at : start + length inner ≡ end - 1 = omega (arith, all_len) in
         let closed : drop (end - 1) line ≡ codes ")" ++ drop end line =
-        rest_at line (end - 1) end (omega arith) ∙ ap (λ (xs : List ℕ). xs ++ drop end line) (ap (λ n. slice_range line n end) (sym at) ∙ c.1) in
-        let rest_is : rest ≡ position f.url f.line f.column = sym m.1 ∙ ap (λ n. slice_range line n (end - 1)) (sym place) ∙ s.text in
+        rest_at line (end - 1) end (omega arith) ∙ ap (λ (xs : List ℕ). xs ++ drop end line)
+        (ap (λ n. slice_range line n end) (sym at) ∙ c.1) in
+        let rest_is : rest ≡ position_text f.url f.line f.column = sym m.1
+        ∙ ap (λ n. slice_range line n (end - 1)) (sym place) ∙ s.text in
         record {
           lead = lead;
           close = codes ")";
           form = inl (name, refl, refl);
           before = s.before ∙ ap (λ n. take n line) place ∙ m.0;
           after = s.after ∙ closed;
-          text = all ∙ ap (λ (xs : List ℕ). xs ++ codes ")") (inner_cut ∙ ap (λ (xs : List ℕ). lead ++ xs) rest_is) ∙ append_assoc lead (position f.url f.line f.column) (codes ")");
+          text = all ∙ ap (λ (xs : List ℕ). xs ++ codes ")")
+              (inner_cut ∙ ap (λ (xs : List ℕ). lead ++ xs) rest_is)
+              ∙ append_assoc lead (position_text f.url f.line f.column) (codes ")");
           url = s.url;
           line_place = s.line_place;
           column_place = s.column_place;
         }
 
-v8_leads : (line : List ℕ) (start end : ℕ) (f : Parts) → start ≤ end → end ≤ length line → v8_frame line start end ≡ Some f → LeadsTo line start end f
-v8_leads line start end f le within h = go (ends_with nat_eq (slice_range line start end) (codes ")")) (starts_with nat_eq (slice_range line start end) (codes "async ")) refl refl h
+v8_leads : (line : List ℕ) (start end : ℕ) (f : FrameParts) → start ≤ end → end ≤ length line
+    → v8_frame line start end ≡ Some f → LeadsTo line start end f
+v8_leads line start end f le within h = go (ends_with nat_eq (slice_range line start end) (codes ")"))
+    (starts_with nat_eq (slice_range line start end) (codes "async ")) refl refl h
   where
-    go : (a b : Bool) → ends_with nat_eq (slice_range line start end) (codes ")") ≡ a → starts_with nat_eq (slice_range line start end) (codes "async ") ≡ b
-        → cond a (in_parentheses line start (end - 1)) (cond b (framed line (start + 6) end) (framed line start end)) ≡ Some f → LeadsTo line start end f
+    go : (a b : Bool) → ends_with nat_eq (slice_range line start end) (codes ")") ≡ a
+        → starts_with nat_eq (slice_range line start end) (codes "async ") ≡ b
+        → cond a (in_parentheses line start (end - 1))
+        (cond b (framed line (start + 6) end) (framed line start end)) ≡ Some f → LeadsTo line start end f
     go true b ea eb g = in_parens line start end f le within ea g
-    go false true ea eb g = behind_async line start end f le within eb g
+    go false true ea eb g = after_async line start end f le within eb g
     go false false ea eb g = alone line start end f g
 
 -- ---- the line and its body
 
 -- The body, and the carriage return at the line's end if there is one.
-pub body_cut : (line : List ℕ) → IsLineEnd (drop (length (strip_carriage_return line)) line) × (length (strip_carriage_return line) ≤ length line)
+pub body_cut : (line : List ℕ) → IsLineEnd (drop (length (strip_carriage_return line)) line)
+    × (length (strip_carriage_return line) ≤ length line)
 body_cut line = go (slice_index line (length line - 1) == 13) refl
   where
-    cut_at_last : (xs : List ℕ) → (slice_index xs (length xs - 1) == 13) ≡ true → (drop (length xs - 1) xs ≡ 13 ∷ []) × (length (take (length xs - 1) xs) ≡ length xs - 1)
+    cut_at_last : (xs : List ℕ) → (slice_index xs (length xs - 1) == 13) ≡ true
+        → (drop (length xs - 1) xs ≡ 13 ∷ []) × (length (take (length xs - 1) xs) ≡ length xs - 1)
     cut_at_last [] e = cc
     cut_at_last (x ∷ more) e =
         let xs = x ∷ more in
         let below : length xs - 1 < length xs = omega arith in
         let is : get_or xs (length xs - 1) 0 ≡ 13 = (Decides-eqb (get_or xs (length xs - 1) 0) 13).0 e in
         let next : length xs - 1 + 1 ≡ length xs = omega arith in (
-          drop_more xs (length xs - 1) 0 below ∙ ap (λ y. y ∷ drop (length xs - 1 + 1) xs) is ∙ ap (λ n. 13 ∷ drop n xs) next ∙ ap (λ (ys : List ℕ). 13 ∷ ys) (drop-length xs),
+          drop_more xs (length xs - 1) 0 below ∙ ap (λ y. y ∷ drop (length xs - 1 + 1) xs) is
+              ∙ ap (λ n. 13 ∷ drop n xs) next ∙ ap (λ (ys : List ℕ). 13 ∷ ys) (drop-length xs),
           omega (arith, length-take (length xs - 1) xs),
         )
 
     go : (t : Bool) → (slice_index line (length line - 1) == 13) ≡ t
-        → IsLineEnd (drop (length (cond t (take (length line - 1) line) line)) line) × (length (cond t (take (length line - 1) line) line) ≤ length line)
+        → IsLineEnd (drop (length (cond t (take (length line - 1) line) line)) line)
+        × (length (cond t (take (length line - 1) line) line) ≤ length line)
     go false e = (inl (drop-length line), omega arith)
     go true e =
         let c = cut_at_last line e in
         (inr (ap (λ n. drop n line) c.1 ∙ c.0), omega (arith, c.1))
 
-pub front_passes : (q : ℕ → Bool) (front : List ℕ) (x : ℕ) (rest : List ℕ) → list_all q front ≡ true → q x ≡ false → prefix_len q (front ++ x ∷ rest) ≡ length front
+pub front_passes : (q : ℕ → Bool) (front : List ℕ) (x : ℕ) (rest : List ℕ) → list_all q front ≡ true
+    → q x ≡ false → prefix_len q (front ++ x ∷ rest) ≡ length front
 front_passes q [] x rest all stop = rw stop refl
 front_passes q (y ∷ ys) x rest all stop = go (q y) all (λ h. front_passes q ys x rest h stop)
   where
-    go : (t : Bool) → (t && list_all q ys) ≡ true → (list_all q ys ≡ true → prefix_len q (ys ++ x ∷ rest) ≡ length ys)
+    go : (t : Bool) → (t && list_all q ys) ≡ true → (list_all q ys ≡ true
+        → prefix_len q (ys ++ x ∷ rest) ≡ length ys)
         → cond t (1 + prefix_len q (ys ++ x ∷ rest)) 0 ≡ length (y ∷ ys)
     go true h more = ap (λ n. 1 + n) (more h) ∙ omega arith
     go false h more = cc
@@ -257,9 +327,11 @@ front_all q (x ∷ xs) = go (q x) refl (front_all q xs)
     one_more : (n : ℕ) → 1 + n ≡ suc n
     one_more n = omega arith
 
-    go : (t : Bool) → q x ≡ t → list_all q (take (prefix_len q xs) xs) ≡ true → list_all q (take (cond t (1 + prefix_len q xs) 0) (x ∷ xs)) ≡ true
+    go : (t : Bool) → q x ≡ t → list_all q (take (prefix_len q xs) xs) ≡ true
+        → list_all q (take (cond t (1 + prefix_len q xs) 0) (x ∷ xs)) ≡ true
     go false e rest = refl
-    go true e rest = rw (one_more (prefix_len q xs)) (ap (λ b. b && list_all q (take (prefix_len q xs) xs)) e ∙ rest)
+    go true e rest = rw (one_more (prefix_len q xs))
+        (ap (λ b. b && list_all q (take (prefix_len q xs) xs)) e ∙ rest)
 
 pub before_lacks : (c : ℕ) (xs : List ℕ) → lacks c (take (position_or_len (λ b. b == c) xs) xs) ≡ true
 before_lacks c xs = none (take (position_or_len (λ b. b == c) xs) xs) (front_all (λ b. not (b == c)) xs)
@@ -268,16 +340,19 @@ before_lacks c xs = none (take (position_or_len (λ b. b == c) xs) xs) (front_al
     none [] h = refl
     none (y ∷ ys) h = go (y == c) h (none ys)
       where
-        go : (t : Bool) → (not t && list_all (λ b. not (b == c)) ys) ≡ true → (list_all (λ b. not (b == c)) ys ≡ true → lacks c ys ≡ true)
+        go : (t : Bool) → (not t && list_all (λ b. not (b == c)) ys) ≡ true
+            → (list_all (λ b. not (b == c)) ys ≡ true → lacks c ys ≡ true)
             → not (t || list_any (λ b. b == c) ys) ≡ true
         go true g more = cc
         go false g more = more g
 
--- What begins with spaces and `at ` is found to.
-pub at_found : (spaces rest : List ℕ) → AreSpaces spaces → (prefix_len is_space (spaces ++ codes "at " ++ rest) ≡ length spaces)
+-- A text that begins with spaces and `at ` is recognized.
+pub at_found : (spaces rest : List ℕ) → AreSpaces spaces
+    → (prefix_len is_space (spaces ++ codes "at " ++ rest) ≡ length spaces)
     × (drop (length spaces) (spaces ++ codes "at " ++ rest) ≡ codes "at " ++ rest)
 at_found spaces rest are =
-    let whole : spaces ++ codes "at " ++ rest ≡ spaces ++ (codes "at " ++ rest) = append_assoc spaces (codes "at ") rest in (
+    let whole : spaces ++ codes "at " ++ rest ≡ spaces ++ (codes "at " ++ rest) =
+    append_assoc spaces (codes "at ") rest in (
       ap (prefix_len is_space) whole ∙ front_passes is_space spaces 97 (codes "t " ++ rest) are refl,
       ap (drop (length spaces)) whole ∙ drop-append_seam spaces (codes "at " ++ rest),
     )
@@ -292,7 +367,8 @@ at_starts body spaces rest are is =
 
 -- Where the line begins with spaces and `at `, so does its body.
 pub begins_at : (line : List ℕ) → BeginsWithAt line
-    → (rest : List ℕ) × (spaces : List ℕ) × AreSpaces spaces × (take (length (strip_carriage_return line)) line ≡ spaces ++ codes "at " ++ rest)
+    → (rest : List ℕ) × (spaces : List ℕ) × AreSpaces spaces
+    × (take (length (strip_carriage_return line)) line ≡ spaces ++ codes "at " ++ rest)
 begins_at line b =
     let end = length (strip_carriage_return line) in
     let bc = body_cut line in
@@ -304,13 +380,22 @@ begins_at line b =
     elim (cases_lt end (length front)) [
       | inr ge ↦
           let within : length front ≤ end = omega arith in
-          let same : take (length front) body ≡ front = take-take (length front) end line within ∙ ap (take (length front)) b.whole ∙ take-append_seam front b.rest in
-          (drop (length front) body, b.spaces, b.are_spaces, sym (take-append-drop (length front) body) ∙ ap (λ (xs : List ℕ). xs ++ drop (length front) body) same)
+          let same : take (length front) body ≡ front = take-take (length front) end line within
+          ∙ ap (take (length front)) b.whole ∙ take-append_seam front b.rest in (
+            drop (length front) body,
+            b.spaces,
+            b.are_spaces,
+            sym (take-append-drop (length front) body)
+                ∙ ap (λ (xs : List ℕ). xs ++ drop (length front) body) same,
+          )
       | inl lt ↦
-          absurd (no_return line body b.spaces b.rest (drop end line) split b.whole (omega (arith, lt, len)) bc.0)
+          absurd (no_return line body b.spaces b.rest (drop end line) split b.whole (omega (arith, lt, len))
+          bc.0)
     ]
   where
-    no_return : (line body spaces rest last : List ℕ) → line ≡ body ++ last → line ≡ spaces ++ codes "at " ++ rest → length body < length (spaces ++ codes "at ") → IsLineEnd last → ⊥
+    no_return : (line body spaces rest last : List ℕ) → line ≡ body ++ last
+        → line ≡ spaces ++ codes "at " ++ rest → length body < length (spaces ++ codes "at ") → IsLineEnd last
+        → ⊥
     no_return line body spaces rest last split whole lt (inl e) =
         let l1 = ap length split ∙ length-append body last in
         let l2 = ap length whole ∙ length-append (spaces ++ codes "at ") rest in
@@ -322,30 +407,39 @@ begins_at line b =
         let l3 = ap length e in
         let l4 = length-append spaces (codes "at ") in
         let l5 = length-append spaces (codes "at") in
-        let last_is : get_or line (length body) 0 ≡ 13 = ap (λ (xs : List ℕ). get_or xs (length body) 0) (split ∙ ap (λ (xs : List ℕ). body ++ xs) e) ∙ get_or-append_seam body 13 [] 0 in
+        let last_is : get_or line (length body) 0 ≡ 13 =
+        ap (λ (xs : List ℕ). get_or xs (length body) 0) (split ∙ ap (λ (xs : List ℕ). body ++ xs) e)
+        ∙ get_or-append_seam body 13 [] 0 in
         let place : length body ≡ length (spaces ++ codes "at") = omega (arith, l1, l2, l3, l4, l5, lt) in
         let whole' : line ≡ (spaces ++ codes "at") ++ 32 ∷ rest =
         whole ∙ append_assoc spaces (codes "at ") rest ∙ sym (append_assoc spaces (codes "at") (32 ∷ rest)) in
-        let space_is : get_or line (length body) 0 ≡ 32 = ap (λ n. get_or line n 0) place ∙ ap (λ (xs : List ℕ). get_or xs (length (spaces ++ codes "at")) 0) whole' ∙ get_or-append_seam (spaces ++ codes "at") 32 rest 0 in
+        let space_is : get_or line (length body) 0 ≡ 32 = ap (λ n. get_or line n 0) place
+        ∙ ap (λ (xs : List ℕ). get_or xs (length (spaces ++ codes "at")) 0) whole'
+        ∙ get_or-append_seam (spaces ++ codes "at") 32 rest 0 in
         omega (arith, sym last_is ∙ space_is)
 
 -- ---- the frame
 
-pub regroup : (a lead pos close b : List ℕ) → a ++ ((lead ++ (pos ++ close)) ++ b) ≡ a ++ lead ++ pos ++ (close ++ b)
+pub regroup : (a lead pos close b : List ℕ) → a ++ ((lead ++ (pos ++ close)) ++ b)
+    ≡ a ++ lead ++ pos ++ (close ++ b)
 regroup a lead pos close b =
-    ap (λ (xs : List ℕ). a ++ xs) (append_assoc lead (pos ++ close) b ∙ ap (λ (xs : List ℕ). lead ++ xs) (append_assoc pos close b))
+    ap (λ (xs : List ℕ). a ++ xs) (append_assoc lead (pos ++ close) b
+    ∙ ap (λ (xs : List ℕ). lead ++ xs) (append_assoc pos close b))
     ∙ sym (append_assoc a lead (pos ++ (close ++ b))) ∙ sym (append_assoc (a ++ lead) pos (close ++ b))
 
 pub not_both : {t : Bool} → t ≡ true → t ≡ false → ⊥
 not_both p q = cc
 
-pub sound : (line : List ℕ) (f : Parts) → frame_of line ≡ Some f → IsFrame line f
+pub sound : (line : List ℕ) (f : FrameParts) → frame_of line ≡ Some f → IsFrame line f
 unfolding frame_of
 sound line f h = by_feed (lacks 10 line) refl h
   where
     by_form : (t : Bool) → lacks 10 line ≡ true
-        → starts_with nat_eq (drop (prefix_len is_space (take (length (strip_carriage_return line)) line)) (take (length (strip_carriage_return line)) line)) (codes "at ") ≡ t
-        → cond t (v8_frame line (prefix_len is_space (take (length (strip_carriage_return line)) line) + 3) (length (strip_carriage_return line))) (firefox_frame line (length (strip_carriage_return line))) ≡ Some f
+        → starts_with nat_eq (drop (prefix_len is_space (take (length (strip_carriage_return line)) line))
+        (take (length (strip_carriage_return line)) line)) (codes "at ") ≡ t
+        → cond t (v8_frame line (prefix_len is_space (take (length (strip_carriage_return line)) line) + 3)
+        (length (strip_carriage_return line))) (firefox_frame line (length (strip_carriage_return line)))
+        ≡ Some f
         → IsFrame line f
     by_form true one e g =
         let end = length (strip_carriage_return line) in
@@ -354,17 +448,28 @@ sound line f h = by_feed (lacks 10 line) refl h
         let bc = body_cut line in
         let len : length body ≡ end = omega (arith, bc.1, length-take end line) in
         let at = begins (drop sp body) (codes "at ") e in
-        let room : sp + 3 ≤ end = omega (arith, ap length at, length-append (codes "at ") (drop 3 (drop sp body)), length-drop sp body, len) in
+        let room : sp + 3 ≤ end = omega (
+          arith,
+          ap length at,
+          length-append (codes "at ")
+              (drop 3 (drop sp body)),
+          length-drop sp body,
+          len,
+        ) in
         let l = v8_leads line (sp + 3) end f room bc.1 g in
         let front : take (sp + 3) line ≡ take sp body ++ codes "at " =
-        sym (take-take (sp + 3) end line room) ∙ take-add sp 3 body ∙ ap (λ (xs : List ℕ). take sp body ++ take 3 xs) at in
-        let whole : line ≡ take (sp + 3) line ++ l.lead ++ position f.url f.line f.column ++ (l.close ++ drop end line) =
-        cut_at line (sp + 3) end room ∙ ap (λ (xs : List ℕ). take (sp + 3) line ++ (xs ++ drop end line)) l.text
-        ∙ regroup (take (sp + 3) line) l.lead (position f.url f.line f.column) l.close (drop end line) in
+        sym (take-take (sp + 3) end line room) ∙ take-add sp 3 body
+        ∙ ap (λ (xs : List ℕ). take sp body ++ take 3 xs) at in
+        let whole : line ≡ take (sp + 3) line ++ l.lead ++ position_text f.url f.line f.column
+        ++ (l.close ++ drop end line) =
+        cut_at line (sp + 3) end room ∙ ap (λ (xs : List ℕ). take (sp + 3) line ++ (xs ++ drop end line))
+        l.text
+        ∙ regroup (take (sp + 3) line) l.lead (position_text f.url f.line f.column) l.close (drop end line) in
         let u = both (nat_lt 0 (length f.url)) (lacks 32 f.url) l.url in
         record {
-          whole = whole ∙ ap (λ (xs : List ℕ). xs ++ position f.url f.line f.column ++ (l.close ++ drop end line)) (sym l.before)
-              ∙ ap (λ (xs : List ℕ). f.before ++ position f.url f.line f.column ++ xs) (sym l.after);
+          whole = whole ∙ ap (λ (xs : List ℕ). xs ++ position_text f.url f.line f.column
+              ++ (l.close ++ drop end line)) (sym l.before)
+              ∙ ap (λ (xs : List ℕ). f.before ++ position_text f.url f.line f.column ++ xs) (sym l.after);
           one_line = one;
           some_url = ltb-true 0 (length f.url) u.0;
           no_space = u.1;
@@ -382,10 +487,14 @@ sound line f h = by_feed (lacks 10 line) refl h
             after_is = l.after;
           });
         }
-    by_form false one e g = by_mark (nat_lt (position_or_len (λ b. b == 64) (take (length (strip_carriage_return line)) line)) (length (strip_carriage_return line))) refl g
+    by_form false one e g = by_mark (nat_lt (position_or_len (λ b. b == 64)
+        (take (length (strip_carriage_return line)) line)) (length (strip_carriage_return line))) refl g
       where
-        by_mark : (t : Bool) → nat_lt (position_or_len (λ b. b == 64) (take (length (strip_carriage_return line)) line)) (length (strip_carriage_return line)) ≡ t
-            → cond t (framed line (position_or_len (λ b. b == 64) (take (length (strip_carriage_return line)) line) + 1) (length (strip_carriage_return line))) None ≡ Some f → IsFrame line f
+        by_mark : (t : Bool) → nat_lt (position_or_len (λ b. b == 64)
+            (take (length (strip_carriage_return line)) line)) (length (strip_carriage_return line)) ≡ t
+            → cond t (framed line (position_or_len (λ b. b == 64)
+            (take (length (strip_carriage_return line)) line) + 1) (length (strip_carriage_return line)))
+            None ≡ Some f → IsFrame line f
         by_mark false m k = cc
         by_mark true m k =
             let end = length (strip_carriage_return line) in
@@ -396,22 +505,36 @@ sound line f h = by_feed (lacks 10 line) refl h
             let below : at < end = ltb-true at end m in
             let below' : at < length body = omega arith in
             let s = framed-stands line (at + 1) end f k in
-            let mark : get_or body at 0 ≡ 64 = (Decides-eqb (get_or body at 0) 64).0 (passes_at_first (λ b. b == 64) body 0 below') in
+            let mark : get_or body at 0 ≡ 64 = (Decides-eqb (get_or body at 0) 64).0
+            (passes_at_first (λ b. b == 64) body 0 below') in
             let front : take (at + 1) line ≡ take at body ++ codes "@" =
-            sym (take-take (at + 1) end line (omega arith)) ∙ take_more body at 0 below' ∙ ap (λ x. take at body ++ x ∷ []) mark in
+            sym (take-take (at + 1) end line (omega arith)) ∙ take_more body at 0 below'
+            ∙ ap (λ x. take at body ++ x ∷ []) mark in
             let u = both (nat_lt 0 (length f.url)) (lacks 32 f.url) s.url in
-            let whole : line ≡ take (at + 1) line ++ (position f.url f.line f.column ++ drop end line) =
-            cut_at line (at + 1) end (omega arith) ∙ ap (λ (xs : List ℕ). take (at + 1) line ++ (xs ++ drop end line)) s.text in
+            let whole : line ≡ take (at + 1) line ++ (position_text f.url f.line f.column ++ drop end line) =
+            cut_at line (at + 1) end (omega arith) ∙ ap (λ (xs : List ℕ). take (at + 1) line
+            ++ (xs ++ drop end line)) s.text in
             record {
-              whole = whole ∙ sym (append_assoc (take (at + 1) line) (position f.url f.line f.column) (drop end line))
-                  ∙ ap (λ (xs : List ℕ). xs ++ position f.url f.line f.column ++ drop end line) (sym s.before)
-                  ∙ ap (λ (xs : List ℕ). f.before ++ position f.url f.line f.column ++ xs) (sym s.after);
+              whole = whole ∙ sym (append_assoc (take (at + 1) line) (position_text f.url f.line f.column)
+                  (drop end line))
+                  ∙ ap (λ (xs : List ℕ). xs ++ position_text f.url f.line f.column ++ drop end line)
+                  (sym s.before)
+                  ∙ ap (λ (xs : List ℕ). f.before ++ position_text f.url f.line f.column ++ xs) (sym s.after);
               one_line = one;
               some_url = ltb-true 0 (length f.url) u.0;
               no_space = u.1;
               line_place = s.line_place;
               column_place = s.column_place;
-              form = inr (not_at, record { name = take at body; no_at = before_lacks 64 body; before_is = s.before ∙ front; ends = subst IsLineEnd (sym s.after) bc.0 });
+              form = inr (
+                not_at,
+                record {
+                  name = take at body;
+                  no_at = before_lacks 64 body;
+                  before_is =
+                      s.before ∙ front;
+                  ends = subst IsLineEnd (sym s.after) bc.0;
+                },
+              );
             }
           where
             not_at : BeginsWithAt line → ⊥
@@ -419,7 +542,10 @@ sound line f h = by_feed (lacks 10 line) refl h
                 let w = begins_at line b in
                 not_both (at_starts (take (length (strip_carriage_return line)) line) w.1 w.0 w.2 w.3) e
 
-    by_feed : (t : Bool) → lacks 10 line ≡ t → cond t (body_frame line (length (strip_carriage_return line))) None ≡ Some f → IsFrame line f
+    by_feed : (t : Bool) → lacks 10 line ≡ t → cond t (body_frame line (length (strip_carriage_return line)))
+        None ≡ Some f → IsFrame line f
     by_feed false one g = cc
     by_feed true one g =
-        by_form (starts_with nat_eq (drop (prefix_len is_space (take (length (strip_carriage_return line)) line)) (take (length (strip_carriage_return line)) line)) (codes "at ")) one refl g
+        by_form (starts_with nat_eq (drop (prefix_len is_space
+        (take (length (strip_carriage_return line)) line))
+        (take (length (strip_carriage_return line)) line)) (codes "at ")) one refl g

@@ -1,5 +1,7 @@
--- What the texts of positions end in and lack.
-use Rattle.std.proofs.Common.{◌≡◌, ◌≢◌, ◌∙◌, ℕ, ◌+◌, ◌-◌, ◌<◌, ◌≤◌, ◌==◌, Bool, true, false, not, ◌&&◌, ◌||◌, List, [], ◌∷◌, ◌++◌, length, take, drop, Some, refl, sym, ap, arith, append_assoc, nat_eq, length-take, length-append, decimal, codes, get_or}
+-- What the text of a position ends in, and which bytes it lacks.
+use Rattle.std.proofs.Common.{◌≡◌, ◌≢◌, ◌∙◌, ℕ, ◌+◌, ◌-◌, ◌<◌, ◌≤◌, ◌==◌, Bool, true, false, not, ◌&&◌, ◌||◌}
+use Rattle.std.proofs.Common.{List, [], ◌∷◌, ◌++◌, length, take, drop, Some, refl, sym, ap, arith}
+use Rattle.std.proofs.Common.{append_assoc, nat_eq, length-take, length-append, decimal, codes, get_or}
 use Rattle.std.specs.List.{starts_with, ends_with, list_all, list_any}
 use Rattle.std.specs.Str.Parse.{AllDigits}
 use Rattle.std.proofs.Math.Seq.{get_or-append_seam}
@@ -8,10 +10,10 @@ use Rattle.std.proofs.lemmas.List.Folds.{list_all-append}
 use Rattle.std.proofs.lemmas.Slice.Eq.{ends_is}
 use Rattle.std.proofs.lemmas.Str.Parse.{digit_from_value}
 use Rattle.std.proofs.lemmas.Bool.Decides.{Decides-eqb}
-use Rattle.smap_trace.specs.Frame.{IsPlace, lacks, position}
+use Rattle.smap_trace.specs.Frame.{IsPlace, lacks, position_text}
 use Rattle.smap_trace.specs.Reading.{framed, is_url}
 use Rattle.smap_trace.proofs.CutLemmas.{begins}
-use Rattle.smap_trace.proofs.ReadingLemmas.{decimal_lacks, framed-position}
+use Rattle.smap_trace.proofs.ReadingLemmas.{decimal_lacks, framed-position_text}
 use Rattle.smap_trace.proofs.SoundLemmas.{not_both}
 
 -- ---- last bytes
@@ -22,20 +24,28 @@ pub record EndsIn (text : List ℕ) (x : ℕ) : Type 0 where
   pub whole : text ≡ front ++ x ∷ []
 
 last_digit : (d : ℕ) (ds : List ℕ) → AllDigits 10 (d ∷ ds) → (x : ℕ) × (48 ≤ x) × (x ≤ 57) × EndsIn (d ∷ ds) x
-last_digit d [] all = let range = digit_from_value d all.0 in (d, range.0, range.1, record { front = []; whole = refl })
+last_digit d [] all =
+    let range = digit_from_value d all.0 in
+    (d, range.0, range.1, record { front = []; whole = refl })
 last_digit d (e ∷ es) all =
     let more = last_digit e es all.1 in
-    (more.0, more.1, more.2, record { front = d ∷ more.3.front; whole = ap (λ (xs : List ℕ). d ∷ xs) more.3.whole })
+    let whole = ap (λ (xs : List ℕ). d ∷ xs) more.3.whole in
+    (more.0, more.1, more.2, record { front = d ∷ more.3.front; whole = whole })
 
 some_digit : (ds : List ℕ) → 0 < length ds → AllDigits 10 ds → (x : ℕ) × (48 ≤ x) × (x ≤ 57) × EndsIn ds x
 some_digit [] some all = absurd (omega (arith, some))
 some_digit (d ∷ ds) some all = last_digit d ds all
 
 pub longer : (a text : List ℕ) (x : ℕ) → EndsIn text x → EndsIn (a ++ text) x
-longer a text x e = record { front = a ++ e.front; whole = ap (λ (ys : List ℕ). a ++ ys) e.whole ∙ sym (append_assoc a e.front (x ∷ [])) }
+longer a text x e = record {
+  front = a ++ e.front;
+  whole = ap (λ (ys : List ℕ). a ++ ys) e.whole
+      ∙ sym (append_assoc a e.front (x ∷ []));
+}
 
-pub position_ends : (url : List ℕ) (l c : ℕ) → IsPlace c → (x : ℕ) × (48 ≤ x) × (x ≤ 57) × EndsIn (position url l c) x
-position_ends url l c is =
+pub position_text_ends : (url : List ℕ) (l c : ℕ) → IsPlace c
+    → (x : ℕ) × (48 ≤ x) × (x ≤ 57) × EndsIn (position_text url l c) x
+position_text_ends url l c is =
     let numeral = (decimal_is_IsNumeral c (omega (arith, is.1))).0 in
     let d = some_digit (decimal c) numeral.0 numeral.1 in
     (d.0, d.1, d.2, longer (url ++ codes ":" ++ decimal l ++ codes ":") (decimal c) d.0 d.3)
@@ -46,10 +56,13 @@ ends_not xs x c e ne = go (ends_with nat_eq xs (c ∷ [])) refl
     same : xs ≡ take (length xs - 1) xs ++ c ∷ [] → x ≡ c
     same cut =
         let len : length xs ≡ length e.front + 1 = ap length e.whole ∙ length-append e.front (x ∷ []) in
-        let len' : length (take (length xs - 1) xs) ≡ length e.front = omega (arith, len, length-take (length xs - 1) xs) in
-        let one : get_or xs (length e.front) 0 ≡ x = ap (λ (ys : List ℕ). get_or ys (length e.front) 0) e.whole ∙ get_or-append_seam e.front x [] 0 in
+        let len' : length (take (length xs - 1) xs) ≡ length e.front =
+        omega (arith, len, length-take (length xs - 1) xs) in
+        let one : get_or xs (length e.front) 0 ≡ x = ap (λ (ys : List ℕ). get_or ys (length e.front) 0)
+        e.whole ∙ get_or-append_seam e.front x [] 0 in
         let two : get_or xs (length (take (length xs - 1) xs)) 0 ≡ c =
-        ap (λ (ys : List ℕ). get_or ys (length (take (length xs - 1) xs)) 0) cut ∙ get_or-append_seam (take (length xs - 1) xs) c [] 0 in
+        ap (λ (ys : List ℕ). get_or ys (length (take (length xs - 1) xs)) 0) cut
+        ∙ get_or-append_seam (take (length xs - 1) xs) c [] 0 in
         sym one ∙ ap (λ n. get_or xs n 0) (sym len') ∙ two
 
     go : (t : Bool) → ends_with nat_eq xs (c ∷ []) ≡ t → ends_with nat_eq xs (c ∷ []) ≡ false
@@ -62,38 +75,55 @@ pub lacks_all : (c : ℕ) (xs : List ℕ) → lacks c xs ≡ true → list_all (
 lacks_all c [] h = refl
 lacks_all c (x ∷ xs) h = go (x == c) h (lacks_all c xs)
   where
-    go : (t : Bool) → not (t || list_any (λ b. b == c) xs) ≡ true → (lacks c xs ≡ true → list_all (λ b. not (b == c)) xs ≡ true) → (not t && list_all (λ b. not (b == c)) xs) ≡ true
+    go : (t : Bool) → not (t || list_any (λ b. b == c) xs) ≡ true
+        → (lacks c xs ≡ true → list_all (λ b. not (b == c)) xs ≡ true)
+        → (not t && list_all (λ b. not (b == c)) xs) ≡ true
     go true g more = cc
     go false g more = more g
 
-pub position_lacks : (url : List ℕ) (l c : ℕ) → lacks 32 url ≡ true → IsPlace l → IsPlace c → list_all (λ b. not (b == 32)) (position url l c) ≡ true
-position_lacks url l c free lp cp =
+pub position_text_lacks : (url : List ℕ) (l c : ℕ) → lacks 32 url ≡ true → IsPlace l → IsPlace c
+    → list_all (λ b. not (b == 32)) (position_text url l c) ≡ true
+position_text_lacks url l c free lp cp =
     let q : ℕ → Bool = λ b. not (b == 32) in
-    let digits : (n : ℕ) → IsPlace n → list_all (λ b. not (b == 32)) (decimal n) ≡ true = λ n p. decimal_lacks n 32 p (λ d low high e. omega arith) in
+    let digits : (n : ℕ) → IsPlace n → list_all (λ b. not (b == 32)) (decimal n) ≡ true =
+    λ n p. decimal_lacks n 32 p (λ d low high e. omega arith) in
     let one = all_both q url (codes ":") (lacks_all 32 url free) refl in
     let two = all_both q (url ++ codes ":") (decimal l) one (digits l lp) in
     let three = all_both q (url ++ codes ":" ++ decimal l) (codes ":") two refl in
     all_both q (url ++ codes ":" ++ decimal l ++ codes ":") (decimal c) three (digits c cp)
   where
-    all_both : (q : ℕ → Bool) (xs ys : List ℕ) → list_all q xs ≡ true → list_all q ys ≡ true → list_all q (xs ++ ys) ≡ true
+    all_both : (q : ℕ → Bool) (xs ys : List ℕ) → list_all q xs ≡ true → list_all q ys ≡ true
+        → list_all q (xs ++ ys) ≡ true
     all_both q xs ys h k = list_all-append q xs ys ∙ ap (λ t. t && list_all q ys) h ∙ k
 
-pub no_async : (xs : List ℕ) → list_all (λ b. not (b == 32)) xs ≡ true → starts_with nat_eq xs (codes "async ") ≡ false
+pub no_async : (xs : List ℕ) → list_all (λ b. not (b == 32)) xs ≡ true
+    → starts_with nat_eq xs (codes "async ") ≡ false
 no_async xs all = go (starts_with nat_eq xs (codes "async ")) refl
   where
     split : (ys : List ℕ) → xs ≡ codes "async" ++ 32 ∷ ys → list_all (λ b. not (b == 32)) xs ≡ false
     split ys e = rw e refl
 
-    go : (t : Bool) → starts_with nat_eq xs (codes "async ") ≡ t → starts_with nat_eq xs (codes "async ") ≡ false
+    go : (t : Bool) → starts_with nat_eq xs (codes "async ") ≡ t
+        → starts_with nat_eq xs (codes "async ") ≡ false
     go false h = h
     go true h = absurd (not_both all (split (drop 6 xs) (begins xs (codes "async ") h)))
 
 -- ---- a position in a line
 
-pub framed_here : (line before url after : List ℕ) (start end l c : ℕ) → line ≡ before ++ (position url l c ++ after) → start ≡ length before
-    → end ≡ length before + length (position url l c) → is_url url ≡ true → IsPlace l → IsPlace c
-    → framed line start end ≡ Some (record { before = before; url = url; line = l; column = c; after = after })
+pub framed_here : (line before url after : List ℕ) (start end l c : ℕ)
+    → line ≡ before ++ (position_text url l c ++ after) → start ≡ length before
+    → end ≡ length before + length (position_text url l c) → is_url url ≡ true → IsPlace l → IsPlace c
+    → framed line start end ≡ Some (record {
+      before = before;
+      url = url;
+      line = l;
+      column = c;
+      after =
+          after;
+    })
 framed_here line before url after start end l c whole s e is lp cp =
-    ap (λ (xs : List ℕ). framed xs start end) (whole ∙ sym (append_assoc before (position url l c) after))
-    ∙ ap (λ n. framed (before ++ position url l c ++ after) n end) s ∙ ap (λ n. framed (before ++ position url l c ++ after) (length before) n) e
-    ∙ framed-position before url after l c is lp cp
+    ap (λ (xs : List ℕ). framed xs start end)
+    (whole ∙ sym (append_assoc before (position_text url l c) after))
+    ∙ ap (λ n. framed (before ++ position_text url l c ++ after) n end) s
+    ∙ ap (λ n. framed (before ++ position_text url l c ++ after) (length before) n) e
+    ∙ framed-position_text before url after l c is lp cp

@@ -6,7 +6,7 @@ use Rattle.std.specs.List.{list_all, list_any}
 use Rattle.smap_mappings.specs.Position.{POSITIONS}
 
 -- A frame: its URL, its line and its column, and what is before and after these.
-pub record Parts : Type 0 where
+pub record FrameParts : Type 0 where
   pub before : List ℕ
   pub url : List ℕ
   pub line : ℕ
@@ -14,8 +14,8 @@ pub record Parts : Type 0 where
   pub after : List ℕ
 
 -- URL:LINE:COLUMN
-abbrev pub position : List ℕ → ℕ → ℕ → List ℕ
-position url line column = url ++ codes ":" ++ decimal line ++ codes ":" ++ decimal column
+abbrev pub position_text : List ℕ → ℕ → ℕ → List ℕ
+position_text url line column = url ++ codes ":" ++ decimal line ++ codes ":" ++ decimal column
 
 -- whether the byte doesn't occur
 abbrev pub lacks : ℕ → List ℕ → Bool
@@ -52,18 +52,18 @@ abbrev pub Alone : List ℕ → List ℕ → Type 0
 Alone lead close = (lead ≡ []) × (close ≡ [])
 
 -- `async ` and nothing
-abbrev pub BehindAsync : List ℕ → List ℕ → Type 0
-BehindAsync lead close = (lead ≡ codes "async ") × (close ≡ [])
+abbrev pub AfterAsync : List ℕ → List ℕ → Type 0
+AfterAsync lead close = (lead ≡ codes "async ") × (close ≡ [])
 
 -- `before` is spaces, `at ` and what is between; `after` is what is after the position, and the end of the
 -- line.
-pub record IsV8 (f : Parts) : Type 0 where
+pub record IsV8 (f : FrameParts) : Type 0 where
   pub spaces : List ℕ
   pub lead : List ℕ
   pub close : List ℕ
   pub line_end : List ℕ
   pub are_spaces : AreSpaces spaces
-  pub form : InParentheses lead close ⊎ (Alone lead close ⊎ BehindAsync lead close)
+  pub form : InParentheses lead close ⊎ (Alone lead close ⊎ AfterAsync lead close)
   pub ends : IsLineEnd line_end
   pub before_is : f.before ≡ spaces ++ codes "at " ++ lead
   pub after_is : f.after ≡ close ++ line_end
@@ -71,7 +71,7 @@ pub record IsV8 (f : Parts) : Type 0 where
 -- ---- Firefox: `NAME@URL:LINE:COLUMN`, where NAME has no `@`
 
 -- `before` is a name and `@`; `after` is the end of the line.
-pub record IsFirefox (f : Parts) : Type 0 where
+pub record IsFirefox (f : FrameParts) : Type 0 where
   pub name : List ℕ
   pub no_at : lacks 64 name ≡ true
   pub before_is : f.before ≡ name ++ codes "@"
@@ -80,8 +80,8 @@ pub record IsFirefox (f : Parts) : Type 0 where
 -- ---- either
 
 -- The line, without its line feed, is this frame. A line that begins as those of V8 isn't one of Firefox.
-pub record IsFrame (line : List ℕ) (f : Parts) : Type 0 where
-  pub whole : line ≡ f.before ++ position f.url f.line f.column ++ f.after
+pub record IsFrame (line : List ℕ) (f : FrameParts) : Type 0 where
+  pub whole : line ≡ f.before ++ position_text f.url f.line f.column ++ f.after
   pub one_line : lacks 10 line ≡ true
   pub some_url : 0 < length f.url
   pub no_space : lacks 32 f.url ≡ true

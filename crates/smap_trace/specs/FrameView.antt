@@ -1,8 +1,8 @@
 -- What a frame of the code stands for.
-use Rattle.smap_trace.specs.Frame.{Parts}
+use Rattle.smap_trace.specs.Frame.{FrameParts}
 use Rattle.smap_trace.specs.declared.parts.Frame.{Frame}
 
-abbrev pub parts_in : Frame → Parts
+abbrev pub parts_in : Frame → FrameParts
 parts_in f = record {
   before = f.before.now;
   url = f.url.now;

@@ -37,7 +37,7 @@ pub record WritesAll (scripts : List Script) (hide : Bool) (s : Streams) (counts
   pub counts_are : counts ≡ counts_of scripts hide bytes
 
 -- A prefix of the translation of the complete lines that were read was written.
-pub record WritesFront (scripts : List Script) (hide : Bool) (s : Streams) : Type 0 where
+pub record WritesPrefix (scripts : List Script) (hide : Bool) (s : Streams) : Type 0 where
   pub bytes : List ℕ
   pub front : List ℕ
   pub rest : List ℕ
@@ -48,7 +48,7 @@ pub record WritesFront (scripts : List Script) (hide : Bool) (s : Streams) : Typ
 -- All is written if counts are answered, else a prefix.
 abbrev pub Translates : List Script → Bool → Streams → Result Counts TraceError → Type 0
 Translates scripts hide s (Ok counts) = WritesAll scripts hide s counts × (s.ended ≡ true)
-Translates scripts hide s (Err e) = WritesFront scripts hide s
+Translates scripts hide s (Err e) = WritesPrefix scripts hide s
 
 -- A trace was translated to its end, or a prefix of its translation was written. Read comes with a failure
 -- of the reader, or if the limit on reads may have been reached; Write with one of the writer; and no other

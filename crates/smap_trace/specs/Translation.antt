@@ -7,7 +7,7 @@ use Rattle.std.specs.List.{onto_first, ends_with}
 use Rattle.std.specs.Option.{option_map_or}
 use Rattle.smap_record.specs.Record.{Origin, Record}
 use Rattle.smap_trace.specs.Lookup.{mapping_at}
-use Rattle.smap_trace.specs.Frame.{Parts, position}
+use Rattle.smap_trace.specs.Frame.{FrameParts, position_text}
 use Rattle.smap_trace.specs.Reading.{frame_of}
 
 -- A script: its URL, and the record of its map.
@@ -23,7 +23,7 @@ abbrev pub map_of : List Script → List ℕ → Option Record
 map_of scripts url = option_map (λ s. s.1) (find (λ s. bytes_eq s.0 url) scripts)
 
 -- The original of the mapping that the frame's position has. A trace counts from 1, a map from 0.
-abbrev pub origin_at : Record → Parts → Option Origin
+abbrev pub origin_at : Record → FrameParts → Option Origin
 origin_at r f = option_and_then (λ m. m.origin) (mapping_at r.mappings (f.line - 1) (f.column - 1))
 
 -- What becomes of a line: it is passed through unchanged, or its position is replaced, or it is left out.
@@ -33,16 +33,18 @@ pub data Fate : Type 0 where
   dropped : Fate
 
 -- of a frame whose mapping has this original
-abbrev pub fate_at : Bool → Parts → Origin → Fate
+abbrev pub fate_at : Bool → FrameParts → Origin → Fate
 fate_at hide f o = if hide && o.source.ignored then dropped
-    else option_map_or (λ url. translated (f.before ++ position url (o.line + 1) (o.column + 1) ++ f.after))
+    else option_map_or
+    (λ url. translated (f.before ++ position_text url (o.line + 1) (o.column + 1) ++ f.after))
     o.source.url kept
 
 -- of a frame in the script of this map
-abbrev pub fate_in : Bool → Parts → Record → Fate
+abbrev pub fate_in : Bool → FrameParts → Record → Fate
 fate_in hide f r = option_map_or (fate_at hide f) (origin_at r f) kept
 
--- of a line without its line feed
+-- of a line without its line feed: `frame_of` gives the frame that the line is by `IsFrame`, if it is one
+-- (law `FrameIsComputed`)
 abbrev pub fate_of : List Script → Bool → List ℕ → Fate
 fate_of scripts hide text =
     option_map_or (λ f. option_map_or (fate_in hide f) (map_of scripts f.url) kept) (frame_of text) kept

@@ -1,14 +1,14 @@
-//! The frames of a stack trace. Where the position of a frame begins is said by leading spaces and `at `,
-//! or by the first `@`; its line and its column follow the last two colons.
-ghost use Rattle.std.specs.Prelude.{◌≡◌, ℕ, ◌≤◌, ◌==◌, not, length, option_map, MatchOption, decimal};
-ghost use Rattle.std.specs.List.{suffix_len, prefix_len, position_or_len, list_any, before_last, after_last};
+//! The frames of a stack trace. The position of a frame follows leading spaces and `at `, or the first `@`;
+//! its line and its column follow the last two colons.
+ghost use Rattle.std.specs.Prelude.{◌≡◌, ℕ, ◌≤◌, ◌==◌, length, option_map, MatchOption, decimal};
+ghost use Rattle.std.specs.List.{prefix_len, before_last, after_last};
 ghost use Rattle.std.specs.Str.Lines.{strip_carriage_return};
-ghost use Rattle.smap_trace.specs.Frame.{IsFrame, IsPlace, Parts};
+ghost use Rattle.smap_trace.specs.Frame.{IsFrame, IsPlace, FrameParts};
 ghost use Rattle.smap_trace.specs.Reading as spec;
 ghost use Rattle.smap_trace.specs.FrameView.{parts_in};
 
 use crate::parts::Frame;
-use itoa::Buffer;
+use memchr::{memchr, memrchr};
 use smap_mappings::MAX_POSITION;
 
 /// The greatest line and the greatest column of a trace, which counts them from 1.
@@ -19,21 +19,20 @@ fn place(text: &[u8]) -> Option<u32>
     ensures { MatchOption result ((n : ℕ) → IsPlace n → text.now ≡ decimal n → ⊥)
         (λ n. IsPlace n × (text.now ≡ decimal n)) }
 {
-    let Ok(digits) = std::str::from_utf8(text) else {
+    if text.starts_with(b"0") {
         return None;
-    };
-    match digits.parse::<u32>() {
-        Ok(n) if n != 0 && n <= MOST && Buffer::new().format(n) == digits => Some(n),
-        _ => None,
     }
-}
-
-/// How many bytes are after the last mark.
-fn len_after_last(text: &[u8], mark: u8) -> usize
-    ensures value { result ≡ suffix_len (λ b. not (b == mark)) text.now }
-    ensures within { result ≤ length text.now }
-{
-    text.iter().rev().take_while(|b| **b != mark).count()
+    let mut number = 0;
+    for digit in text {
+        if !digit.is_ascii_digit() || number > MOST / 10 {
+            return None;
+        }
+        number = 10 * number + u32::from(*digit - b'0');
+    }
+    if number == 0 || number > MOST {
+        return None;
+    }
+    Some(number)
 }
 
 /// What is before and after the last mark, or nothing and all if there is none.
@@ -41,16 +40,10 @@ fn split_at_last<'a>(text: &'a [u8], mark: u8) -> (&'a [u8], &'a [u8])
     ensures before { result.0.now ≡ before_last (λ b. b == mark) text.now }
     ensures after { result.1.now ≡ after_last (λ b. b == mark) text.now }
 {
-    let at = text.len() - len_after_last(text, mark);
-    (&text[..at.saturating_sub(1)], &text[at..])
-}
-
-/// How many bytes are before the first mark, or all if there is none.
-fn len_before_first(text: &[u8], mark: u8) -> usize
-    ensures value { result ≡ position_or_len (λ b. b == mark) text.now }
-    ensures within { result ≤ length text.now }
-{
-    text.iter().take_while(|b| **b != mark).count()
+    match memrchr(mark, text) {
+        Some(at) => (&text[..at], &text[at + 1..]),
+        None => (&[], text),
+    }
 }
 
 /// Whether this may be a frame's URL: it isn't looked at any closer.
@@ -123,12 +116,8 @@ fn firefox_frame<'a>(line: &'a [u8], end: usize) -> Option<Frame<'a>>
     requires { end ≤ length line.now }
     ensures { option_map parts_in result ≡ spec.firefox_frame line.now end }
 {
-    let at = len_before_first(&line[..end], b'@');
-    if at < end {
-        framed(line, at + 1, end)
-    } else {
-        None
-    }
+    let at = memchr(b'@', &line[..end])?;
+    framed(line, at + 1, end)
 }
 
 /// The frame of the line up to `end`, in the form of V8 where the line begins so, else in that of Firefox.
@@ -172,7 +161,7 @@ fn body_len(line: &[u8]) -> usize
 /// // url: b"http://h/m/out.js", line: 1, column: 2, before: b"    at f (", after: b")"
 /// ```
 pub fn frame<'a>(line: &'a [u8]) -> Option<Frame<'a>>
-    ensures is { MatchOption result ((f : Parts) → IsFrame line.now f → ⊥)
+    ensures is { MatchOption result ((f : FrameParts) → IsFrame line.now f → ⊥)
         (λ f. IsFrame line.now (parts_in f)) }
     ensures value { option_map parts_in result ≡ spec.frame_of line.now }
 {

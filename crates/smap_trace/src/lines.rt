@@ -2,7 +2,7 @@
 ghost use Rattle.std.specs.Prelude.{◌≡◌, ◌+◌, ◌++◌, ◌<◌, option_map, IfOk, OnOk, OnErr};
 ghost use Rattle.std.specs.Io.{StartsWith};
 ghost use Rattle.smap_record.specs.Record.{record_of};
-ghost use Rattle.smap_record.specs.Views.{origin_seen};
+ghost use Rattle.smap_record.specs.Views.{origin_of_view};
 ghost use Rattle.smap_trace.specs.Frame as frame_spec;
 ghost use Rattle.smap_trace.specs.FrameView.{parts_in};
 ghost use Rattle.smap_trace.specs.Translation as spec;
@@ -29,7 +29,7 @@ fn push_frame(
     feed: &[u8],
 ) -> Result<(), AllocError>
     ensures ok { OnOk result (out.new.items ≡ out.old.items ++ (frame.now.before.now
-        ++ frame_spec.position url.now line column ++ frame.now.after.now ++ feed.now)) }
+        ++ frame_spec.position_text url.now line column ++ frame.now.after.now ++ feed.now)) }
     ensures err { OnErr result (StartsWith out.new.items out.old.items) }
 {
     out.extend_from_slice(frame.before)?;
@@ -53,7 +53,7 @@ fn push_translated(
     feed: &[u8],
 ) -> Result<(), AllocError>
     ensures ok { OnOk result (out.new.items ≡ out.old.items ++ (frame.now.before.now
-        ++ frame_spec.position url.now (line + 1) (column + 1) ++ frame.now.after.now ++ feed.now)) }
+        ++ frame_spec.position_text url.now (line + 1) (column + 1) ++ frame.now.after.now ++ feed.now)) }
     ensures err { OnErr result (out.new.items ≡ out.old.items) }
 {
     let len = out.len();
@@ -76,7 +76,7 @@ fn push_translated(
 /// The original of the frame's position.
 fn origin<'a>(map: &'a SourceMap, frame: &Frame) -> Option<OriginalView<'a>>
     requires { (0 < frame.now.line) × (0 < frame.now.column) }
-    ensures { option_map origin_seen result ≡ spec.origin_at (record_of map.now) (parts_in frame.now) }
+    ensures { option_map origin_of_view result ≡ spec.origin_at (record_of map.now) (parts_in frame.now) }
 {
     mapping_of(map, frame.line - 1, frame.column - 1)?.original
 }

@@ -3,7 +3,7 @@ ghost use Rattle.std.specs.Prelude.{◌≡◌, ◌<◌, ℕ, length, map, option
 ghost use Rattle.std.specs.Prelude.{IfSome};
 ghost use Rattle.smap_record.specs.Fitting.{mapping_position};
 ghost use Rattle.smap_record.specs.Record.{record_of};
-ghost use Rattle.smap_record.specs.Views.{entry_seen, mapping_seen};
+ghost use Rattle.smap_record.specs.Views.{entry_of_view, mapping_of_view};
 ghost use Rattle.smap_trace.specs.Lookup.{FallsTo, mapping_at};
 ghost use Rattle.smap_trace.specs.Positions.{IsWithinBinaryDigits};
 
@@ -51,11 +51,11 @@ impl Positions for Places<'_> {
 /// }
 /// ```
 pub fn lookup<'a>(map: &'a SourceMap, line: u32, column: u32) -> (Option<TokenView<'a>>, u32)
-    ensures found { FallsTo (record_of map.now).mappings line column (option_map mapping_seen result.0) }
+    ensures found { FallsTo (record_of map.now).mappings line column (option_map mapping_of_view result.0) }
 
     // The number of its source is that of `source`.
     ensures number { IfSome result.0 (λ t. IfSome t.original (λ o.
-        slice_get (record_of map.now).sources o.source_number ≡ Some (entry_seen o.source))) }
+        slice_get (record_of map.now).sources o.source_number ≡ Some (entry_of_view o.source))) }
 
     ensures most { IsWithinBinaryDigits result.1 (length (record_of map.now).mappings) }
     ensures least { 0 < length (record_of map.now).mappings → 0 < result.1 }
@@ -79,7 +79,7 @@ pub fn lookup<'a>(map: &'a SourceMap, line: u32, column: u32) -> (Option<TokenVi
 
 /// The mapping alone.
 pub(crate) fn mapping_of<'a>(map: &'a SourceMap, line: u32, column: u32) -> Option<TokenView<'a>>
-    ensures { option_map mapping_seen result ≡ mapping_at (record_of map.now).mappings line column }
+    ensures { option_map mapping_of_view result ≡ mapping_at (record_of map.now).mappings line column }
 {
     lookup(map, line, column).0
 }

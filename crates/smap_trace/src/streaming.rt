@@ -3,7 +3,7 @@
 ghost use Rattle.std.specs.Prelude.{◌≡◌, ◌++◌, ◌-◌, ◌<◌, ◌^◌, IfOk, OnOk, OnErr, true, false, []};
 ghost use Rattle.smap_io.specs.Device.{device_failures, has_ended};
 ghost use Rattle.smap_io.specs.Streams.{ReaderFailsOrTires, Rises, WriterFails, fails_by, streams};
-ghost use Rattle.smap_io.specs.Writing.{Took, TookFront};
+ghost use Rattle.smap_io.specs.Writing.{Took, TookPrefix};
 ghost use Rattle.smap_trace.specs.Pieces.{HasNoFeed, Takes, count_line, count_lines};
 ghost use Rattle.smap_trace.specs.Streaming.{Translates, TranslatesTrace, is_read, is_write};
 ghost use Rattle.smap_trace.specs.Translation.{AreDistinct, fate, line_translation, lines_of, translation};
@@ -134,7 +134,7 @@ fn finish<M: Maps, W: Write>(
         (translation (M.scripts maps.now) hide line.now)) }
     ensures counts { IfOk result (λ after. after
         ≡ count_lines (M.scripts maps.now) hide counts (lines_of line.now)) }
-    ensures part { OnErr result (TookFront W.contents writer.old writer.new
+    ensures part { OnErr result (TookPrefix W.contents writer.old writer.new
         (translation (M.scripts maps.now) hide line.now)) }
     ensures never_read { fails_by is_read result ≡ false }
     ensures writer_failures { Rises (fails_by is_write result) (device_failures writer.old)

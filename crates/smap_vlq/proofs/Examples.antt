@@ -107,8 +107,8 @@ a_longer_spelling = record {
 one_shortest : IsShortestSpelling (spelling (pos 16)) (pos 16)
 one_shortest = (has_one_shortest (pos 16) (lit≤ tt)).0
 
-nothing_behind : (rest : List ℕ) → Spells (codes "gB" ++ rest) (pos 16) → rest ≡ []
-nothing_behind rest s = none_begins_another (codes "gB") rest (pos 16) (pos 16) some_spelling s
+nothing_after : (rest : List ℕ) → Spells (codes "gB" ++ rest) (pos 16) → rest ≡ []
+nothing_after rest s = none_begins_another (codes "gB") rest (pos 16) (pos 16) some_spelling s
 
 is_spelled : Spells (codes "iA") (pos 1)
 is_spelled = ((number_is_spelled (codes "AiA") 1 (pos 1) 3).0 iA).2

@@ -1,4 +1,4 @@
--- A text that spells numbers one behind another is that of their shortest spellings, or longer.
+-- A text that spells numbers one after another is that of their shortest spellings, or longer.
 use Rattle.std.proofs.Common.{◌≡◌, ℕ, ◌^◌, ◌<◌, ◌≤◌, ◌⊎◌, inl, inr, List, [], ◌∷◌, ◌++◌, length, ℤ, pos}
 use Rattle.std.proofs.Common.{negsuc, nat_abs, sym, ap, subst, ◌∙◌, arith, length-append}
 use Rattle.std.specs.Prelude.{flat_map}
@@ -14,11 +14,11 @@ no_shorter : (text least : List ℕ) → IsOrIsLonger text least → length leas
 no_shorter text least (inl e) = omega (arith, ap length e)
 no_shorter text least (inr lt) = omega arith
 
-pub put_behind : (front least_front rest least_rest : List ℕ) → IsOrIsLonger front least_front
+pub put_after : (front least_front rest least_rest : List ℕ) → IsOrIsLonger front least_front
     → IsOrIsLonger rest least_rest → IsOrIsLonger (front ++ rest) (least_front ++ least_rest)
-put_behind a x b y (inl e) (inl f) = inl (ap (λ (l : List ℕ). l ++ b) e ∙ ap (λ (l : List ℕ). x ++ l) f)
-put_behind a x b y (inl e) (inr lt) = inr (omega (arith, ap length e, length-append a b, length-append x y))
-put_behind a x b y (inr lt) h = inr (omega (arith, no_shorter b y h, length-append a b, length-append x y))
+put_after a x b y (inl e) (inl f) = inl (ap (λ (l : List ℕ). l ++ b) e ∙ ap (λ (l : List ℕ). x ++ l) f)
+put_after a x b y (inl e) (inr lt) = inr (omega (arith, ap length e, length-append a b, length-append x y))
+put_after a x b y (inr lt) h = inr (omega (arith, no_shorter b y h, length-append a b, length-append x y))
 
 spelled_small : (text : List ℕ) (n : ℤ) → Spells text n → nat_abs n ≤ 2147483647
 spelled_small text n s = let u = unsigned_is (unsigned s.digits) n s.value in by_sign (unsigned s.digits) n
@@ -37,5 +37,5 @@ pub spellings_least : (text : List ℕ) (ns : List ℤ) → SpellsAll text ns
 spellings_least text [] h = inl h
 spellings_least text (n ∷ ns) h =
     subst (λ (t : List ℕ). IsOrIsLonger t (flat_map spelling (n ∷ ns))) (sym h.2)
-    (put_behind h.0 (spelling n) h.1 (flat_map spelling ns) (spelling_least h.0 n h.3)
+    (put_after h.0 (spelling n) h.1 (flat_map spelling ns) (spelling_least h.0 n h.3)
     (spellings_least h.1 ns h.4))

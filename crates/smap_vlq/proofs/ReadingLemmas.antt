@@ -76,9 +76,9 @@ ends text at place total weight d t p lt is small te =
     let value : number_of (unsigned (p.digits ++ d ∷ [])) ≡ number_of t = rw
     (te, (Stands-push total weight p.digits d p.stands).total_is)
     (sym (number_of-min (unsigned (p.digits ++ d ∷ [])))) in
-    let behind : at + length (p.digits ++ d ∷ []) ≡ place + 1 = omega
+    let after : at + length (p.digits ++ d ∷ []) ≡ place + 1 = omega
     (arith, p.place_is, length-append p.digits (d ∷ [])) in
-    rw (found, value, behind) refl
+    rw (found, value, after) refl
 
 pub bad_character : (text : List ℕ) (at place total weight : ℕ) → Progress text at place total weight
     → place < length text → digit_of (get_or text place 0) ≡ None → number_at text at ≡ Err Character
@@ -98,37 +98,42 @@ unfinished text at place total weight p le =
 -- ---- a number and its place apart
 
 abbrev found : ℤ → ℕ → Result (ℤ × ℕ) NumberFault
-found n behind = Ok (n, behind)
+found n after = Ok (n, after)
 
-alone : (r : Result ℤ NumberFault) (behind : ℕ) → without_place (r >>= λ n. Ok (n, behind)) ≡ r
-alone (Ok n) behind = refl
-alone (Err fault) behind = refl
+alone : (r : Result ℤ NumberFault) (after : ℕ) → without_place (r >>= λ n. Ok (n, after)) ≡ r
+alone (Ok n) after = refl
+alone (Err fault) after = refl
 
 abbrev EndsAt : ℕ → Result (ℤ × ℕ) NumberFault → Type 0
-EndsAt behind r = IfOk r (λ found. behind ≡ found.1)
+EndsAt after r = IfOk r (λ found. after ≡ found.1)
 
-ends_there : (r : Result ℤ NumberFault) (behind : ℕ) → EndsAt behind (r >>= λ n. Ok (n, behind))
-ends_there (Ok n) behind = refl
-ends_there (Err fault) behind = tt
+ends_there : (r : Result ℤ NumberFault) (after : ℕ) → EndsAt after (r >>= λ n. Ok (n, after))
+ends_there (Ok n) after = refl
+ends_there (Err fault) after = tt
 
-pub number_alone : (text : List ℕ) (at behind : ℕ) (r value : Result ℤ NumberFault) → number_at text at ≡ (value >>= λ n. Ok (n, behind)) → r ≡ value → r ≡ without_place (number_at text at)
-number_alone text at behind r value is same = same ∙ sym (ap without_place is ∙ alone value behind)
+pub number_alone : (text : List ℕ) (at after : ℕ) (r value : Result ℤ NumberFault)
+    → number_at text at ≡ (value >>= λ n. Ok (n, after)) → r ≡ value → r ≡ without_place (number_at text at)
+number_alone text at after r value is same = same ∙ sym (ap without_place is ∙ alone value after)
 
-pub place_alone : (text : List ℕ) (at behind : ℕ) (value : Result ℤ NumberFault) → number_at text at ≡ (value >>= λ n. Ok (n, behind)) → EndsAt behind (number_at text at)
-place_alone text at behind value is = subst (EndsAt behind) (sym is) (ends_there value behind)
+pub place_alone : (text : List ℕ) (at after : ℕ) (value : Result ℤ NumberFault)
+    → number_at text at ≡ (value >>= λ n. Ok (n, after)) → EndsAt after (number_at text at)
+place_alone text at after value is = subst (EndsAt after) (sym is) (ends_there value after)
 
 -- what the text has at a place, from its number and from where that ends
-pub both_found : (r : Result (ℤ × ℕ) NumberFault) (n : ℤ) (behind : ℕ) → Ok n ≡ without_place r → EndsAt behind r → r ≡ found n behind
-both_found (Ok (m, place)) n behind same there = let is : n ≡ m = the_number n m same in sym (λ j. found (is j) (there j))
+pub both_found : (r : Result (ℤ × ℕ) NumberFault) (n : ℤ) (after : ℕ)
+    → Ok n ≡ without_place r → EndsAt after r → r ≡ found n after
+both_found (Ok (m, place)) n after same there =
+    let is : n ≡ m = the_number n m same in sym (λ j. found (is j) (there j))
   where
     the_number : (n m : ℤ) → Ok n ≡ without_place (Ok (m, place)) → n ≡ m
     the_number n m p = cc
-both_found (Err fault) n behind same there = absurd (no_number same)
+both_found (Err fault) n after same there = absurd (no_number same)
   where
     no_number : Ok n ≡ without_place (Err fault) → ⊥
     no_number p = cc
 
-pub both_fail : (r : Result (ℤ × ℕ) NumberFault) (fault : NumberFault) → Err fault ≡ without_place r → r ≡ Err fault
+pub both_fail : (r : Result (ℤ × ℕ) NumberFault) (fault : NumberFault)
+    → Err fault ≡ without_place r → r ≡ Err fault
 both_fail (Ok (m, place)) fault same = absurd (some_number same)
   where
     some_number : Err fault ≡ without_place (Ok (m, place)) → ⊥

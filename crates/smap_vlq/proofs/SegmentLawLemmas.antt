@@ -1,4 +1,4 @@
--- A segment is a text that spells its numbers one behind another, and its fault is the first one.
+-- A segment is a text that spells its numbers one after another, and its fault is the first one.
 use Rattle.std.proofs.Common.{◌≡◌, ◌≢◌, ℕ, zero, suc, ◌+◌, ◌≤◌, ◌↔◌, ◌⊎◌, inl, inr, Bool, true, false, cond}
 use Rattle.std.proofs.Common.{List, [], ◌∷◌, ◌++◌, map, length, drop, Result, Ok, Err, ℤ, refl, sym, ap}
 use Rattle.std.proofs.Common.{subst, ◌∙◌, arith, append_assoc, length-append, length-drop}
@@ -40,7 +40,7 @@ value_of_digits (Ok ds) n e = (ds, refl, e)
 value_of_digits (Err f) n e = absurd cc
 
 abbrev found : ℤ → ℕ → Result (ℤ × ℕ) NumberFault
-found n behind = Ok (n, behind)
+found n after = Ok (n, after)
 
 place_fails : (q : Result ℤ NumberFault) (m : ℕ) (f : NumberFault) → q ≡ no_number f
     → (q >>= λ k. found k m) ≡ Err f
@@ -118,7 +118,7 @@ spells_first text b n e =
     is_nil [] e = refl
     is_nil (x ∷ xs) e = absurd (omega arith)
 
--- one number, and what the texts behind it lead to
+-- one number, and what the texts after it lead to
 says_more : (text : List ℕ) (which : ℕ) (b : Begins text) (n : ℤ) → number_in b.first ≡ number_is n
     → numbers_from which (number_texts text) ≡ (numbers_from (which + 1)
     (number_texts (drop (length b.first) text)) >>= λ ns. numbers_are (n ∷ ns))
@@ -152,9 +152,9 @@ faulty_here b bs which p f e = record {
   says = says_fault (b ∷ bs) which p f e ∙ ap (λ (w : ℕ). refused (Number (u8_count w) f)) (omega arith);
 }
 
-faulty_behind : (text : List ℕ) (which : ℕ) (p : Begins text) (n : ℤ) → number_in p.first ≡ number_is n
+faulty_after : (text : List ℕ) (which : ℕ) (p : Begins text) (n : ℤ) → number_in p.first ≡ number_is n
     → Faulty (drop (length p.first) text) (which + 1) → Faulty text which
-faulty_behind text which p n e q = record {
+faulty_after text which p n e q = record {
   front = p.first ++ q.front;
   rest = q.rest;
   ns = n ∷ q.ns;
@@ -167,9 +167,9 @@ faulty_behind text which p n e q = record {
       (n ∷ ns)) q.says ∙ ap (λ (w : ℕ). refused (Number (u8_count w) q.fault)) (omega arith);
 }
 
-read_behind : (text : List ℕ) (which : ℕ) (p : Begins text) (n : ℤ) → number_in p.first ≡ number_is n
+read_after : (text : List ℕ) (which : ℕ) (p : Begins text) (n : ℤ) → number_in p.first ≡ number_is n
     → AllRead (drop (length p.first) text) (which + 1) → AllRead text which
-read_behind text which p n e q = record {
+read_after text which p n e q = record {
   ns = n ∷ q.ns;
   spelled = (p.first, drop (length p.first) text, p.whole, spells_first text p n e, q.spelled);
   says = says_more text which p n e ∙ ap (λ (r : Result (List ℤ) SegmentFault). r >>= λ ns. numbers_are
@@ -189,9 +189,9 @@ leads_to (suc k) (b ∷ bs) which le =
         → AllRead (drop (length p.first) (b ∷ bs)) (which + 1)
         ⊎ Faulty (drop (length p.first) (b ∷ bs)) (which + 1) → AllRead (b ∷ bs) which ⊎ Faulty (b ∷ bs) which
     by_first p (Ok n) e q = elim q [
-      | inl all ↦ inl (read_behind (b ∷ bs) which p n e all)
+      | inl all ↦ inl (read_after (b ∷ bs) which p n e all)
       | inr bad ↦ inr
-          (faulty_behind (b ∷ bs) which p n e bad)
+          (faulty_after (b ∷ bs) which p n e bad)
     ]
     by_first p (Err f) e q = inr (faulty_here b bs which p f e)
 
@@ -247,13 +247,13 @@ segment_is_spelled text ns = (λ e. spelled_numbers text ns e, λ h. segment_spe
 nothing_spelled : (ns : List ℤ) → SpellsAll [] ns → ns ≡ []
 nothing_spelled ns h = sym (same_numbers [] ns (numbers_spelled [] ns 1 h))
 
--- the numbers of a text behind numbers that are spelled
-behind_spelled : (front rest : List ℕ) (ns : List ℤ) (which : ℕ) (f : SegmentFault) → SpellsAll front ns
+-- the numbers of a text after numbers that are spelled
+after_spelled : (front rest : List ℕ) (ns : List ℤ) (which : ℕ) (f : SegmentFault) → SpellsAll front ns
     → numbers_from (which + length ns) (number_texts rest) ≡ refused f
     → numbers_from which (number_texts (front ++ rest)) ≡ refused f
-behind_spelled front rest [] which f h e = ap (λ (t : List ℕ). numbers_from which
+after_spelled front rest [] which f h e = ap (λ (t : List ℕ). numbers_from which
     (number_texts (t ++ rest))) h ∙ ap (λ (w : ℕ). numbers_from w (number_texts rest)) (omega arith) ∙ e
-behind_spelled front rest (n ∷ ns) which f h e =
+after_spelled front rest (n ∷ ns) which f h e =
     let first : List ℕ = h.0 in
     let more : List ℕ = h.1 in
     let s : Spells first n = h.3 in
@@ -265,7 +265,7 @@ behind_spelled front rest (n ∷ ns) which f h e =
     ∙ ap (λ (r : Result ℤ NumberFault). or_number_fault which r >>= λ m. numbers_from (which + 1)
     (number_texts (more ++ rest)) >>= λ ms. numbers_are (m ∷ ms)) (number_spelled first n s)
     ∙ ap (λ (r : Result (List ℤ) SegmentFault). r >>= λ ms. numbers_are (n ∷ ms))
-    (behind_spelled more rest ns (which + 1) f h.4 e')
+    (after_spelled more rest ns (which + 1) f h.4 e')
 
 first_fails : (rest : List ℕ) (which : ℕ) (f : NumberFault) → rest ≢ [] → number_in rest ≡ no_number f
     → numbers_from which (number_texts rest) ≡ refused (Number (u8_count which) f)
@@ -273,15 +273,15 @@ first_fails [] which f some e = absurd (some refl)
 first_fails (b ∷ bs) which f some e = let p = begins b bs in says_fault (b ∷ bs) which p f
     (in_first (b ∷ bs) p ∙ e)
 
-some_behind : (front rest : List ℕ) → rest ≢ [] → front ++ rest ≢ []
-some_behind [] rest some e = some e
-some_behind (b ∷ bs) rest some e = absurd (let t : b ∷ (bs ++ rest) ≡ [] = e in cc)
+some_after : (front rest : List ℕ) → rest ≢ [] → front ++ rest ≢ []
+some_after [] rest some e = some e
+some_after (b ∷ bs) rest some e = absurd (let t : b ∷ (bs ++ rest) ≡ [] = e in cc)
 
 pub segment_fault_is_first : SegmentFaultIsFirst
 segment_fault_is_first front rest ns f h some e =
-    not_empty (front ++ rest) (some_behind front rest some)
+    not_empty (front ++ rest) (some_after front rest some)
     ∙ ap (λ (r : Result (List ℤ) SegmentFault). r >>= counted)
-    (behind_spelled front rest ns 1 (Number (u8_count (length ns + 1)) f) h
+    (after_spelled front rest ns 1 (Number (u8_count (length ns + 1)) f) h
     (first_fails rest (1 + length ns) f some e ∙ ap (λ (w : ℕ). refused (Number (u8_count w) f))
     (omega arith)))
 

@@ -1,4 +1,4 @@
--- A text that spells numbers one behind another has these numbers.
+-- A text that spells numbers one after another has these numbers.
 use Rattle.std.proofs.Common.{zero, suc, ◌%◌, ◌/◌, ◌≡◌, ℕ, ◌+◌, ◌<◌, ◌≤◌, Bool, true, false, cond, ltb, leb}
 use Rattle.std.proofs.Common.{List, [], ◌∷◌, ◌++◌, map, length, Option, Some, Result, Ok, ℤ, nat_abs, refl}
 use Rattle.std.proofs.Common.{sym, ap, subst, ◌∙◌, arith}
@@ -111,7 +111,7 @@ spellings_spell (n ∷ ns) all = (
   spellings_spell ns all.1,
 )
 
--- The numbers of their shortest spellings, one behind another.
+-- The numbers of their shortest spellings, one after another.
 pub segment_of_spellings : (ns : List ℤ) → AllByRecursion (λ n. nat_abs n ≤ 2147483647) ns
     → is_field_count (length ns) ≡ true → segment_of (flat_map spelling ns) ≡ numbers_are ns
 segment_of_spellings ns all e = segment_spelled (flat_map spelling ns) ns (spellings_spell ns all) e
@@ -137,7 +137,7 @@ Spells-bytes text n s = spelled_bytes text s.digits s.spelled
 pub Spells-some : (text : List ℕ) (n : ℤ) → Spells text n → 0 < length text
 Spells-some text n s = spelled_some text s.digits s.spelled s.one_number
 
--- also behind one another
+-- also after one another
 pub SpellsAll-bytes : (text : List ℕ) (ns : List ℤ) → SpellsAll text ns → AllByRecursion IsDigitByte text
 SpellsAll-bytes text [] h = subst (AllByRecursion IsDigitByte) (sym h) tt
 SpellsAll-bytes text (n ∷ ns) h = subst (AllByRecursion IsDigitByte) (sym h.2)

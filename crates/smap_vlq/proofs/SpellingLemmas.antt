@@ -22,7 +22,7 @@ unfolding shortest_digits
 bytes_left-last zero u lt le = absurd (omega arith)
 bytes_left-last (suc p) u lt le = rw (lt-ltb u 32 le) refl
 
--- What stood before the place and what was written, and what of the text is left; the bytes behind are as
+-- What stood before the place and what was written, and what of the text is left; the bytes after are as
 -- they were.
 pub record Writing (text old out : List ℕ) (at i u : ℕ) : Type 0 where
   pub text_is : take at old ++ text ≡ take (at + i) out ++ bytes_left (7 - i) u
@@ -30,7 +30,7 @@ pub record Writing (text old out : List ℕ) (at i u : ℕ) : Type 0 where
   pub room : at + 7 ≤ length out
   pub len : length out ≡ length old
 
--- The text stands from the place on, and the bytes behind are as they were.
+-- The text stands from the place on, and the bytes after are as they were.
 pub record Put (text old new : List ℕ) (at end : ℕ) : Type 0 where
   pub text_is : take end new ≡ take at old ++ text
   pub kept : drop end new ≡ drop end old

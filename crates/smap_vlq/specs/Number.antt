@@ -108,8 +108,8 @@ HasNumberFault text NegativeZero = (digits : List ℕ) × BeginsWith text digits
 
 -- a first digit, and the digits after it if it is a continuation digit
 abbrev pub then_digits : Option ℕ → Result (List ℕ) NumberFault → Result (List ℕ) NumberFault
-then_digits None behind = Err Character
-then_digits (Some d) behind = if nat_lt d 32 then Ok (d ∷ []) else behind >>= λ ds. Ok (d ∷ ds)
+then_digits None after = Err Character
+then_digits (Some d) after = if nat_lt d 32 then Ok (d ∷ []) else after >>= λ ds. Ok (d ∷ ds)
 
 -- The digits of the number at the start of a string. The first byte that isn't a continuation digit
 -- decides.
@@ -124,7 +124,7 @@ number_at text at = number_digits (drop at text) >>= λ digits. number_of (unsig
 
 -- the number alone, or why there is none
 abbrev pub without_place : Result (ℤ × ℕ) NumberFault → Result ℤ NumberFault
-without_place (Ok (n, behind)) = Ok n
+without_place (Ok (n, after)) = Ok n
 without_place (Err fault) = Err fault
 
 -- ---- writing

@@ -1,4 +1,6 @@
--- Which bytes the state of a segment reader stands for.
+-- Which bytes the state of a segment reader stands for. A caller can take `StandsFor` as opaque: by the
+-- contracts, `new` gives it for no bytes, `byte` for the bytes with one more, and `end` returns what those
+-- bytes say. How the private fields stand for the bytes is in `IsRead`.
 use Rattle.std.specs.Prelude.{◌≡◌, ℕ, ◌+◌, ◌^◌, ◌≤◌, min, nat_lt, List, ◌++◌, map, length, take, Option, Some}
 use Rattle.std.specs.Prelude.{None, Err, ℤ}
 use Rattle.std.specs.List.{AllByRecursion}
@@ -11,12 +13,12 @@ use Rattle.smap_vlq.specs.Segment.{SpellsAll, segment_of, u8_count}
 -- The bytes are numbers, one after another, up to a number whose last digit is still to come.
 pub record IsRead (r : SegmentReader) (text : List ℕ) : Type 0 where
   pub front : List ℕ
-  pub behind : List ℕ
+  pub after : List ℕ
   pub ns : List ℤ
   pub digits : List ℕ
-  pub whole : text ≡ front ++ behind
+  pub whole : text ≡ front ++ after
   pub spelled : SpellsAll front ns
-  pub begins : map digit_of behind ≡ map (λ d. Some d) digits
+  pub begins : map digit_of after ≡ map (λ d. Some d) digits
   pub goes_on : AllByRecursion (λ d. 32 ≤ d) digits
   pub numbers : r.numbers.items ≡ take 5 ns
   pub count : r.count ≡ u8_count (length ns)

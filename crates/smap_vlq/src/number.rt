@@ -81,7 +81,7 @@ fn read_two(text: &[u8], at: usize) -> Option<(i32, usize)>
 #[inline(never)]
 fn read_long(text: &[u8], place: &mut usize) -> Result<i32, NumberFault>
     ensures number { result ≡ without_place (number_at text.now place.old) }
-    ensures behind { IfOk (number_at text.now place.old) (λ found. place.new ≡ found.1) }
+    ensures after { IfOk (number_at text.now place.old) (λ found. place.new ≡ found.1) }
 {
     let mut unsigned = Unsigned::of_no_digits();
     let mut at = *place;

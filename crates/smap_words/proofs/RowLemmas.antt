@@ -141,7 +141,8 @@ module _ (s : Shape) (P : List Row → Type 0) (uses : AllByRecursion (Keeps s.a
     bundle_step-keeps None flags skip so_far h f g keep e p = p
     bundle_step-keeps (Some x) flags zero so_far h f g keep e p =
         let rest = drop (length (encode_utf8 x)) flags in
-        short_met-keeps (arg_by_short c x) (by_short x) rest h (f rest 0 done) (g rest 0) (keep rest 0 done) e p
+        short_met-keeps (arg_by_short c x) (by_short x) rest h (f rest 0 done) (g rest 0) (keep rest 0 done) e
+        p
     bundle_step-keeps (Some x) flags (suc skip) so_far h f g keep e p = keep
         (drop (length (encode_utf8 x)) flags) skip so_far h e p
 

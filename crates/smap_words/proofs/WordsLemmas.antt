@@ -140,15 +140,16 @@ abbrev base_rules : List Rule
 base_rules = filled_from 1 (line.wanted (codes "BASE") ∷ help_rule ∷ [])
 
 abbrev lookup_rules : List Rule
-lookup_rules = filled_from 1 (line.wanted (codes "BASE") ∷ line.position (codes "LINE") ∷ line.position
+lookup_rules =
+    filled_from 1 (line.wanted (codes "BASE") ∷ line.position_argument (codes "LINE") ∷ line.position_argument
     (codes "COLUMN") ∷ help_rule ∷ [])
 
 abbrev base_filled : Rule
 base_filled = with_index 1 (filled (line.wanted (codes "BASE")))
 
 -- a line or a column, at its place
-abbrev position_filled : ℕ → Text → Rule
-position_filled i id = with_index i (filled (line.position id))
+abbrev position_argument_filled : ℕ → Text → Rule
+position_argument_filled i id = with_index i (filled (line.position_argument id))
 
 abbrev tidy_rules : List Rule
 tidy_rules = filled_from 1 (line.wanted (codes "BASE") ∷ line.flag (codes "relative") ∷ help_rule ∷ [])
@@ -169,13 +170,14 @@ base_keeps c own (v ∷ vs) rows e all =
     put_good c base_filled own CommandLine (v ∷ vs) (without (codes "BASE") rows) some pass
     (without_good c (codes "BASE") rows all)
 
-position_keeps : (c : List Rule) (i : ℕ) (id : Text) → arg_by_id c id ≡ Some (position_filled i id)
-    → Keeps false (AllGood c) (position_filled i id)
+position_keeps : (c : List Rule) (i : ℕ) (id : Text) → arg_by_id c id ≡ Some (position_argument_filled i id)
+    → Keeps false (AllGood c) (position_argument_filled i id)
 position_keeps c i id own [] rows e all = absurd cc
 position_keeps c i id own (v ∷ vs) rows e all =
     let some : 0 < length (v ∷ vs) = omega arith in
-    let pass : values_fault (position_filled i id) (v ∷ vs) ≡ [] = (none_of _ _ (none_of _ _ e).1).1 in
-    put_good c (position_filled i id) own CommandLine (v ∷ vs) (without id rows) some pass
+    let pass : values_fault (position_argument_filled i id) (v ∷ vs) ≡ [] =
+    (none_of _ _ (none_of _ _ e).1).1 in
+    put_good c (position_argument_filled i id) own CommandLine (v ∷ vs) (without id rows) some pass
     (without_good c id rows all)
 
 flag_keeps : (c : List Rule) (i : ℕ) (name : Text) → arg_by_id c name ≡ Some (flag_filled i name)
@@ -245,8 +247,8 @@ value_passed i p v e = go (accepts i p v) e
     go false f = absurd cc
 
 -- a first value, which passed the rule, and is read as the rule says
-abbrev Gives : Rule → Row → Type 0
-Gives a r = (t : Text) × (slice_get r.values 0 ≡ Some t) × (row_text r ≡ Some (read_as (reading_by a) t))
+abbrev HasRowText : Rule → Row → Type 0
+HasRowText a r = (t : Text) × (slice_get r.values 0 ≡ Some t) × (row_text r ≡ Some (read_as (reading_by a) t))
     × (accepts a.ignore_case (parser_of_value a.parser) t ≡ true)
 
 first_gives : (a : Rule) (how : Reading) (vs : List Text) → 0 < length vs → values_fault a vs ≡ []
@@ -262,8 +264,8 @@ first_gives a how (v ∷ vs) some pass is = (
       (parser_of_value a.parser) v (none_of _ _ pass).0,
 )
 
-row_gives : (a : Rule) (r : Row) → Passed a r → Gives a r
-row_gives a r passed = first_gives a r.reading r.values passed.some passed.pass passed.reading
+row_has_text : (a : Rule) (r : Row) → Passed a r → HasRowText a r
+row_has_text a r passed = first_gives a r.reading r.values passed.some passed.pass passed.reading
 
 -- what the rows give of an argument that is there
 abbrev GivesOf : Rule → Text → List Row → Type 0
@@ -283,7 +285,7 @@ given_gives c a own rows all given = go (find test rows) (found_passes (IsGood c
         × (option_and_then row_text o ≡ Some (read_as (reading_by a) t))
         × (accepts a.ignore_case (parser_of_value a.parser) t ≡ true)
     go None h e = absurd cc
-    go (Some r) h e = row_gives a r (passed_here c a own r ((bytes_eq-Decides r.id a.id).0 h.1) h.0)
+    go (Some r) h e = row_has_text a r (passed_here c a own r ((bytes_eq-Decides r.id a.id).0 h.1) h.0)
 
 first_some : (id : Text) (rows : List Row) (a : Rule) → GivesOf a id rows → IsSome (first_of id rows)
 first_some id rows a g = rw g.1 refl
@@ -308,11 +310,19 @@ lookup_given rows all e =
     let first = neither _ _ e in
     let second = neither _ _ first.1 in
     let third = neither _ _ second.1 in
-    let l = given_gives lookup_rules (position_filled 2 (codes "LINE")) refl rows all second.0 in
-    let k = given_gives lookup_rules (position_filled 3 (codes "COLUMN")) refl rows all third.0 in (
+    let l = given_gives lookup_rules (position_argument_filled 2 (codes "LINE")) refl rows all second.0 in
+    let k = given_gives lookup_rules (position_argument_filled 3 (codes "COLUMN")) refl rows all third.0 in (
       first_some (codes "BASE") rows base_filled (given_gives lookup_rules base_filled refl rows all first.0),
-      (l.0, l.2, accepts-Accepts false (parser_of_value (position_filled 2 (codes "LINE")).parser) l.0 l.3),
-      (k.0, k.2, accepts-Accepts false (parser_of_value (position_filled 3 (codes "COLUMN")).parser) k.0 k.3),
+      (
+        l.0,
+        l.2,
+        accepts-Accepts false (parser_of_value (position_argument_filled 2 (codes "LINE")).parser) l.0 l.3,
+      ),
+      (
+        k.0,
+        k.2,
+        accepts-Accepts false (parser_of_value (position_argument_filled 3 (codes "COLUMN")).parser) k.0 k.3,
+      ),
     )
 
 -- a level of these rules, without a fault
@@ -374,10 +384,10 @@ lookup_level s words = level_given lookup_rules HasLookupValues (
   plain_default lookup_rules base_filled refl,
   (
     plain_default lookup_rules
-        (position_filled 2 (codes "LINE")) refl,
+        (position_argument_filled 2 (codes "LINE")) refl,
     (
       plain_default lookup_rules
-          (position_filled 3 (codes "COLUMN")) refl,
+          (position_argument_filled 3 (codes "COLUMN")) refl,
       (plain_default lookup_rules (help_filled 4) refl, tt),
     ),
   ),

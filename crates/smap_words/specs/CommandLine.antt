@@ -10,8 +10,8 @@ abbrev pub wanted : Text → Rule
 wanted id = record (new_rule id) { required = true }
 
 -- a required argument that is an integer from 0 to the greatest, by `clap`'s parser of integers
-abbrev pub position : Text → Rule
-position id = record (wanted id) { parser = Some (vp.Signed (pos 0) (pos MAX_POSITION)) }
+abbrev pub position_argument : Text → Rule
+position_argument id = record (wanted id) { parser = Some (vp.Signed (pos 0) (pos MAX_POSITION)) }
 
 -- a flag without a value
 abbrev pub flag : Text → Rule
@@ -30,8 +30,8 @@ tidy = with_rule (on_base (codes "tidy")) (flag (codes "relative"))
 
 -- BASE, LINE and COLUMN
 abbrev pub lookup : App
-lookup = with_rule (with_rule (on_base (codes "lookup")) (position (codes "LINE")))
-    (position (codes "COLUMN"))
+lookup = with_rule (with_rule (on_base (codes "lookup")) (position_argument (codes "LINE")))
+    (position_argument (codes "COLUMN"))
 
 abbrev pub translate : App
 translate = with_rule (new_app (codes "translate")) (flag (codes "hide-ignored"))

@@ -108,8 +108,8 @@ fn tidy<'a>(alloc: Global) -> Result<Command<'a>, AllocError>
 }
 
 /// A required line or column.
-fn position<'a>(alloc: Global, name: &'a str, help: &'a str) -> Arg<'a>
-    ensures rule { rule_of result ≡ line.position name.now }
+fn position_argument<'a>(alloc: Global, name: &'a str, help: &'a str) -> Arg<'a>
+    ensures rule { rule_of result ≡ line.position_argument name.now }
     ensures local { result.global ≡ false }
 {
     Arg::new(alloc, name)
@@ -128,8 +128,8 @@ fn lookup<'a>(alloc: Global) -> Result<Command<'a>, AllocError>
         "lookup",
         "Find the original position of a generated position",
     )?;
-    let command = command.arg(position(alloc, "LINE", "Generated line, counted from 0"))?;
-    command.arg(position(alloc, "COLUMN", "Generated column, counted from 0"))
+    let command = command.arg(position_argument(alloc, "LINE", "Generated line, counted from 0"))?;
+    command.arg(position_argument(alloc, "COLUMN", "Generated column, counted from 0"))
 }
 
 /// The command that takes only a flag.

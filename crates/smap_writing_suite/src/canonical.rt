@@ -1,55 +1,111 @@
-//! The canonical form and the flat one.
+//! The canonical form and the flat form.
 mod forms;
 mod relative;
 
 use smap_canon::round_trips::{flattened, have_equal_bytes, tidied};
 use smap_canon::{canonical, canonical_mappings, flatten, same};
 use smap_record::{Base, Kind, Limits, ReadError, SourceMap};
+use std::alloc::AllocError;
 use std::process::Abort;
 use std::test::Fail;
 
 const SMALL: &str =
     r#"{"version":3,"sources":["a.js"],"names":["x","y"],"mappings":"AAAAC,CAACD"}"#;
 
-/// The same record, spelled longer and with a name that nothing uses.
+/// The same record, written longer and with a name that no mapping uses.
 const LONGER: &str =
     r#"{"version":3,"sources":["a.js"],"names":["x","y","z"],"mappings":"gAAAAC,CAACD;;"}"#;
 
 const EMPTY: &str = r#"{"version":3,"mappings":""}"#;
 
 /// Two sections that list a source twice.
-const TWO_SECTIONS: &str =
-    r#"{"version":3,"sections":[{"offset":{"line":0,"column":0},"map":{"version":3,"sources":["a.js"],"mappings":"AAAA"}},{"offset":{"line":0,"column":10},"map":{"version":3,"sources":["a.js","b.js"],"names":["n"],"mappings":"AAAAA;CCCC"}}]}"#;
+const TWO_SECTIONS: &str = concat!(
+    r#"{"version":3,"sections":["#,
+    r#"{"offset":{"line":0,"column":0},"map":{"version":3,"sources":["a.js"],"mappings":"AAAA"}},"#,
+    r#"{"offset":{"line":0,"column":10},"map":"#,
+    r#"{"version":3,"sources":["a.js","b.js"],"names":["n"],"mappings":"AAAAA;CCCC"}}]}"#,
+);
 
-/// Map texts, and their flat bytes against `http://h/m/out.js.map`.
+/// Maps, and their flat bytes with the base `http://h/m/out.js.map`.
 const FLATTENED: &str =
-    r#"{"version":3,"sources":["a.js"],"names":["x","y"],"mappings":"AAAAC,CAACD"} | {"mappings":"AAAAC,CAACD","names":["x","y"],"sources":["http://h/m/a.js"],"version":3}
-{"version":3,"sources":["a.js"],"names":["x","y","z"],"mappings":"gAAAAC,CAACD;;"} | {"mappings":"AAAAC,CAACD","names":["x","y","z"],"sources":["http://h/m/a.js"],"version":3}
-{"version":3,"sections":[{"offset":{"line":0,"column":0},"map":{"version":3,"sources":["a.js"],"mappings":"AAAA"}},{"offset":{"line":0,"column":10},"map":{"version":3,"sources":["a.js","b.js"],"names":["n"],"mappings":"AAAAA;CCCC"}}]} | {"mappings":"AAAA,UCAAA;CCCC","names":["n"],"sources":["http://h/m/a.js","http://h/m/a.js","http://h/m/b.js"],"version":3}
+    r#"{"version":3,"sources":["a.js"],"names":["x","y"],"mappings":"AAAAC,CAACD"}
+    | {"mappings":"AAAAC,CAACD","names":["x","y"],"sources":["http://h/m/a.js"],"version":3}
+{"version":3,"sources":["a.js"],"names":["x","y","z"],"mappings":"gAAAAC,CAACD;;"}
+    | {"mappings":"AAAAC,CAACD","names":["x","y","z"],"sources":["http://h/m/a.js"],"version":3}
+{"version":3,"sections":[
+    {"offset":{"line":0,"column":0},"map":{"version":3,"sources":["a.js"],"mappings":"AAAA"}},
+    {"offset":{"line":0,"column":10},"map":
+    {"version":3,"sources":["a.js","b.js"],"names":["n"],"mappings":"AAAAA;CCCC"}}]}
+    | {"mappings":"AAAA,UCAAA;CCCC","names":["n"],
+    "sources":["http://h/m/a.js","http://h/m/a.js","http://h/m/b.js"],"version":3}
 {"version":3,"sections":[]} | {"mappings":"","names":[],"sources":[],"version":3}
-{"version":3,"sources":["a.js","a.js","./a.js"],"mappings":"AAAA,CCAA,CCAA"} | {"mappings":"AAAA,CCAA,CCAA","names":[],"sources":["http://h/m/a.js","http://h/m/a.js","http://h/m/a.js"],"version":3}
-{"version":3,"sources":["a.js","a.js","./a.js"],"ignoreList":[2],"mappings":""} | {"ignoreList":[2],"mappings":"","names":[],"sources":["http://h/m/a.js","http://h/m/a.js","http://h/m/a.js"],"version":3}"#;
+{"version":3,"sources":["a.js","a.js","./a.js"],"mappings":"AAAA,CCAA,CCAA"}
+    | {"mappings":"AAAA,CCAA,CCAA","names":[],
+    "sources":["http://h/m/a.js","http://h/m/a.js","http://h/m/a.js"],"version":3}
+{"version":3,"sources":["a.js","a.js","./a.js"],"ignoreList":[2],"mappings":""}
+    | {"ignoreList":[2],"mappings":"","names":[],
+    "sources":["http://h/m/a.js","http://h/m/a.js","http://h/m/a.js"],"version":3}"#;
 
-/// Map texts, and their canonical bytes against `http://h/m/out.js.map`.
-const TIDIED: &str =
-    r#"{"version":3,"sources":["a.js"],"names":["x","y"],"mappings":"AAAAC,CAACD"} | {"mappings":"AAAAA,CAACC","names":["y","x"],"sources":["http://h/m/a.js"],"version":3}
-{"version":3,"sources":["a.js"],"names":["x","y","z"],"mappings":"gAAAAC,CAACD;;"} | {"mappings":"AAAAA,CAACC","names":["y","x"],"sources":["http://h/m/a.js"],"version":3}
+/// Maps, and their canonical bytes with the base `http://h/m/out.js.map`.
+const TIDIED: &str = r#"{"version":3,"sources":["a.js"],"names":["x","y"],"mappings":"AAAAC,CAACD"}
+    | {"mappings":"AAAAA,CAACC","names":["y","x"],"sources":["http://h/m/a.js"],"version":3}
+{"version":3,"sources":["a.js"],"names":["x","y","z"],"mappings":"gAAAAC,CAACD;;"}
+    | {"mappings":"AAAAA,CAACC","names":["y","x"],"sources":["http://h/m/a.js"],"version":3}
 {"version":3,"mappings":""} | {"mappings":"","names":[],"sources":[],"version":3}
-{"version":3,"file":null,"sections":null,"sources":[null],"sourcesContent":["t"],"mappings":"AAAA"} | {"mappings":"AAAA","names":[],"sources":[null],"sourcesContent":["t"],"version":3}
-{"version":3,"sources":["a.js","b.js"],"x_google_ignoreList":[1,1],"mappings":""} | {"ignoreList":[1],"mappings":"","names":[],"sources":["http://h/m/a.js","http://h/m/b.js"],"version":3}
-{"version":3,"sources":["a.js","b.js","c.js"],"ignoreList":[2,0],"mappings":""} | {"ignoreList":[0,2],"mappings":"","names":[],"sources":["http://h/m/a.js","http://h/m/b.js","http://h/m/c.js"],"version":3}
-{"version":3,"sources":["a.js","./a.js","b.js"],"mappings":"AAAA,CCAA,CCAA"} | {"mappings":"AAAA,CAAA,CCAA","names":[],"sources":["http://h/m/a.js","http://h/m/b.js"],"version":3}
-{"version":3,"sources":["a.js","a.js"],"sourcesContent":["t"],"mappings":""} | {"mappings":"","names":[],"sources":["http://h/m/a.js","http://h/m/a.js"],"sourcesContent":["t",null],"version":3}
-{"version":3,"sources":["a.js"],"sourcesContent":[""],"mappings":""} | {"mappings":"","names":[],"sources":["http://h/m/a.js"],"sourcesContent":[""],"version":3}
-{"version":3,"sources":["a.js"],"names":["p","q"],"mappings":"EAAAA,DAACC"} | {"mappings":"CAACA,CAADC","names":["q","p"],"sources":["http://h/m/a.js"],"version":3}
-{"version":3,"sources":["a.js"],"names":["n","m","n"],"mappings":"AAAAE,CAAAF,CAAAC"} | {"mappings":"AAAAA,CAAAA,CAAAC","names":["n","m"],"sources":["http://h/m/a.js"],"version":3}
-{"version":3,"file":"x\/y\u0009\u000b","mappings":""} | {"file":"x/y\t\u000b","mappings":"","names":[],"sources":[],"version":3}
-{"version":3,"sources":["a.js"],"mappings":"AAUE,IAEA"} | {"mappings":"AAUE,IAEA","names":[],"sources":["http://h/m/a.js"],"version":3}
+{"version":3,"file":null,"sections":null,"sources":[null],"sourcesContent":["t"],"mappings":"AAAA"}
+    | {"mappings":"AAAA","names":[],"sources":[null],"sourcesContent":["t"],"version":3}
+{"version":3,"sources":["a.js","b.js"],"x_google_ignoreList":[1,1],"mappings":""}
+    | {"ignoreList":[1],"mappings":"","names":[],"sources":["http://h/m/a.js","http://h/m/b.js"],"version":3}
+{"version":3,"sources":["a.js","b.js","c.js"],"ignoreList":[2,0],"mappings":""}
+    | {"ignoreList":[0,2],"mappings":"","names":[],
+    "sources":["http://h/m/a.js","http://h/m/b.js","http://h/m/c.js"],"version":3}
+{"version":3,"sources":["a.js","./a.js","b.js"],"mappings":"AAAA,CCAA,CCAA"}
+    | {"mappings":"AAAA,CAAA,CCAA","names":[],"sources":["http://h/m/a.js","http://h/m/b.js"],"version":3}
+{"version":3,"sources":["a.js","a.js"],"sourcesContent":["t"],"mappings":""}
+    | {"mappings":"","names":[],"sources":["http://h/m/a.js","http://h/m/a.js"],"sourcesContent":["t",null],
+    "version":3}
+{"version":3,"sources":["a.js"],"sourcesContent":[""],"mappings":""}
+    | {"mappings":"","names":[],"sources":["http://h/m/a.js"],"sourcesContent":[""],"version":3}
+{"version":3,"sources":["a.js"],"names":["p","q"],"mappings":"EAAAA,DAACC"}
+    | {"mappings":"CAACA,CAADC","names":["q","p"],"sources":["http://h/m/a.js"],"version":3}
+{"version":3,"sources":["a.js"],"names":["n","m","n"],"mappings":"AAAAE,CAAAF,CAAAC"}
+    | {"mappings":"AAAAA,CAAAA,CAAAC","names":["n","m"],"sources":["http://h/m/a.js"],"version":3}
+{"version":3,"file":"x\/y\u0009\u000b","mappings":""}
+    | {"file":"x/y\t\u000b","mappings":"","names":[],"sources":[],"version":3}
+{"version":3,"sources":["a.js"],"mappings":"AAUE,IAEA"}
+    | {"mappings":"AAUE,IAEA","names":[],"sources":["http://h/m/a.js"],"version":3}
 {"version":3,"sections":[]} | {"mappings":"","names":[],"sources":[],"version":3}
-{"version":3,"sections":[{"offset":{"line":0,"column":0},"map":{"version":3,"sources":["a.js"],"mappings":"AAAA"}},{"offset":{"line":0,"column":10},"map":{"version":3,"sources":["a.js","b.js"],"names":["n"],"mappings":"AAAAA;CCCC"}}]} | {"mappings":"AAAA,UAAAA;CCCC","names":["n"],"sources":["http://h/m/a.js","http://h/m/b.js"],"version":3}
-{"version":3,"sections":[{"offset":{"line":0,"column":0},"map":{"version":3,"mappings":"K"}},{"offset":{"line":0,"column":5},"map":{"version":3,"mappings":"A"}}]} | {"mappings":"K,A","names":[],"sources":[],"version":3}
-{"version":3,"sections":[{"offset":{"line":0,"column":0},"map":{"version":3,"mappings":"A"}},{"offset":{"line":0,"column":0},"map":{"version":3,"mappings":"A"}}]} | {"mappings":"A,A","names":[],"sources":[],"version":3}
-{"version":3,"sections":[{"offset":{"line":16777216,"column":0},"map":{"version":3,"mappings":""}}]} | {"mappings":"","names":[],"sources":[],"version":3}"#;
+{"version":3,"sections":[
+    {"offset":{"line":0,"column":0},"map":{"version":3,"sources":["a.js"],"mappings":"AAAA"}},
+    {"offset":{"line":0,"column":10},"map":
+    {"version":3,"sources":["a.js","b.js"],"names":["n"],"mappings":"AAAAA;CCCC"}}]}
+    | {"mappings":"AAAA,UAAAA;CCCC","names":["n"],"sources":["http://h/m/a.js","http://h/m/b.js"],"version":3}
+{"version":3,"sections":[{"offset":{"line":0,"column":0},"map":{"version":3,"mappings":"K"}},
+    {"offset":{"line":0,"column":5},"map":{"version":3,"mappings":"A"}}]}
+    | {"mappings":"K,A","names":[],"sources":[],"version":3}
+{"version":3,"sections":[{"offset":{"line":0,"column":0},"map":{"version":3,"mappings":"A"}},
+    {"offset":{"line":0,"column":0},"map":{"version":3,"mappings":"A"}}]}
+    | {"mappings":"A,A","names":[],"sources":[],"version":3}
+{"version":3,"sections":[{"offset":{"line":16777216,"column":0},"map":{"version":3,"mappings":""}}]}
+    | {"mappings":"","names":[],"sources":[],"version":3}"#;
+
+/// The rows of a table. A line that begins with a space goes on with the row before it.
+fn rows(rt: &(impl Abort + AllocGlobal), table: &str) -> Result<Vec<String>, AllocError> {
+    let mut rows: Vec<String> = Vec::new(rt.alloc());
+    for line in table.lines() {
+        match rows.last_mut() {
+            Some(row) if line.starts_with(' ') => row.push_str(line.trim_start())?,
+            _ => rows.push(String::from_str(rt.alloc(), line)?)?,
+        }
+    }
+    Ok(rows)
+}
+
+/// What stands before the first bar of a row, and what stands after it.
+fn parts(row: &str) -> Result<(&str, &str), &'static str> {
+    let (first, rest) = row.split_once("| ").ok_or("a row has its parts")?;
+    Ok((first.trim_end(), rest))
+}
 
 fn base(rt: &(impl Abort + AllocGlobal)) -> Base {
     Base::new(rt.alloc(), "http://h/m/out.js.map").expect(rt, "a base is a URL")
@@ -61,7 +117,8 @@ fn read(rt: &(impl Abort + AllocGlobal), bytes: &[u8]) -> SourceMap {
     read.expect(rt, "the map is read")
 }
 
-/// The text is tidied to these bytes, which say the same and are their own canonical bytes.
+/// Asserts that these are the map's canonical bytes, that they have the same record, and are their own
+/// canonical bytes.
 fn is_tidied(rt: &(impl Abort + AllocGlobal), text: &str, want: &str) {
     let map = read(rt, text.as_bytes());
     let bytes = canonical(rt.alloc(), &map).expect(rt, "there is memory");
@@ -83,8 +140,8 @@ fn is_tidied(rt: &(impl Abort + AllocGlobal), text: &str, want: &str) {
 
 #[test]
 fn a_record_has_one_text_which_is_its_own(rt: HostRuntime) -> Result<(), Fail> {
-    for row in TIDIED.lines() {
-        let (text, want) = row.split_once(" | ").ok_or("a row has two parts")?;
+    for row in rows(&rt, TIDIED)? {
+        let (text, want) = parts(row.as_str())?;
         is_tidied(&rt, text, want);
     }
     let prefixed = format!(in rt.alloc(); ")]}}'\n{SMALL}")?;
@@ -120,26 +177,37 @@ fn equal_records_are_the_same(rt: HostRuntime) {
     assert!(rt; !same(&empty, &small));
 }
 
-/// A map, and others that differ from it in one part each.
-const WHOLE: &str =
-    r#"{"version":3,"file":"o","sources":["a.js","b.js"],"sourcesContent":["t"],"ignoreList":[1],"names":["n","m"],"mappings":"AAAAA"}"#;
+/// A map, and others that each differ from it in one part.
+const WHOLE: &str = concat!(
+    r#"{"version":3,"file":"o","sources":["a.js","b.js"],"sourcesContent":["t"],"ignoreList":[1],"#,
+    r#""names":["n","m"],"mappings":"AAAAA"}"#,
+);
 
 const OTHERS: &str =
-    r#"{"version":3,"sources":["a.js","b.js"],"sourcesContent":["t"],"ignoreList":[1],"names":["n","m"],"mappings":"AAAAA"}
-{"version":3,"file":"o","sources":["b.js","a.js"],"sourcesContent":[null,"t"],"ignoreList":[0],"names":["n","m"],"mappings":"ACAAA"}
-{"version":3,"file":"o","sources":["a.js","b.js"],"sourcesContent":["u"],"ignoreList":[1],"names":["n","m"],"mappings":"AAAAA"}
-{"version":3,"file":"o","sources":["a.js","b.js"],"sourcesContent":["t"],"ignoreList":[0],"names":["n","m"],"mappings":"AAAAA"}
-{"version":3,"file":"o","sources":["a.js","b.js"],"sourcesContent":["t"],"ignoreList":[1],"names":["n","m"],"mappings":"AAAAC"}
-{"version":3,"file":"o","sources":["a.js","b.js"],"sourcesContent":["t"],"ignoreList":[1],"names":["n","m"],"mappings":"AACAA"}
-{"version":3,"file":"o","sources":["a.js","b.js"],"sourcesContent":["t"],"ignoreList":[1],"names":["n","m"],"mappings":"CAAAA"}
-{"version":3,"file":"o","sources":["a.js","b.js"],"sourcesContent":["t"],"ignoreList":[1],"names":["n","m"],"mappings":"AAAAA,A"}"#;
+    r#"{"version":3,"sources":["a.js","b.js"],"sourcesContent":["t"],"ignoreList":[1],"names":["n","m"],
+    "mappings":"AAAAA"}
+{"version":3,"file":"o","sources":["b.js","a.js"],"sourcesContent":[null,"t"],"ignoreList":[0],
+    "names":["n","m"],"mappings":"ACAAA"}
+{"version":3,"file":"o","sources":["a.js","b.js"],"sourcesContent":["u"],"ignoreList":[1],"names":["n","m"],
+    "mappings":"AAAAA"}
+{"version":3,"file":"o","sources":["a.js","b.js"],"sourcesContent":["t"],"ignoreList":[0],"names":["n","m"],
+    "mappings":"AAAAA"}
+{"version":3,"file":"o","sources":["a.js","b.js"],"sourcesContent":["t"],"ignoreList":[1],"names":["n","m"],
+    "mappings":"AAAAC"}
+{"version":3,"file":"o","sources":["a.js","b.js"],"sourcesContent":["t"],"ignoreList":[1],"names":["n","m"],
+    "mappings":"AACAA"}
+{"version":3,"file":"o","sources":["a.js","b.js"],"sourcesContent":["t"],"ignoreList":[1],"names":["n","m"],
+    "mappings":"CAAAA"}
+{"version":3,"file":"o","sources":["a.js","b.js"],"sourcesContent":["t"],"ignoreList":[1],"names":["n","m"],
+    "mappings":"AAAAA,A"}"#;
 
 #[test]
-fn each_part_of_a_record_counts(rt: HostRuntime) {
+fn each_part_of_a_record_counts(rt: HostRuntime) -> Result<(), Fail> {
     let map = read(&rt, WHOLE.as_bytes());
-    for other in OTHERS.lines() {
+    for other in rows(&rt, OTHERS)? {
         assert!(rt; !same(&map, &read(&rt, other.as_bytes())), "{other}");
     }
+    Ok(())
 }
 
 #[test]
@@ -152,8 +220,8 @@ fn a_list_is_not_tidied(rt: HostRuntime) {
 
 #[test]
 fn flat_bytes_list_what_the_map_lists(rt: HostRuntime) -> Result<(), Fail> {
-    for row in FLATTENED.lines() {
-        let (text, want) = row.split_once(" | ").ok_or("a row has two parts")?;
+    for row in rows(&rt, FLATTENED)? {
+        let (text, want) = parts(row.as_str())?;
         let map = read(&rt, text.as_bytes());
         let bytes = flatten(rt.alloc(), &map).expect(&rt, "there is memory");
         assert!(rt; bytes.as_slice() == want.as_bytes(), "{text}");

@@ -1,8 +1,8 @@
 //! Tests of writing: tables of maps with their canonical and flat bytes, of traces with their translations,
-//! and scans beside the hashed tables of sources and names. The contracts say that each call gives what a
-//! definition says; these tests show that the definitions say what they are to, and that calls succeed. The
-//! answers were found by hand or by another program. The crate has nothing but tests, as
-//! `smap_reading_suite` has.
+//! and linear scans that the hashed tables of sources and names are compared with. The contracts say that
+//! each call returns what a definition says; these tests show that the definitions say what they should, and
+//! that calls succeed. The expected results were found by hand or by another program. The crate has only
+//! tests, like `smap_reading_suite`.
 #![tactic(auto)]
 
 #[cfg(test)]

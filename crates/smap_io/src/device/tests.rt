@@ -42,7 +42,7 @@ fn only_a_read_of_nothing_into_room_is_the_end(rt: HostRuntime) {
 }
 
 #[test]
-fn reading_goes_on_behind_a_failure(rt: HostRuntime) {
+fn reading_goes_on_after_a_failure(rt: HostRuntime) {
     let mut device = Device::new(SlowReader::new(b"abc", 2, 2));
     let mut buf = [0; 4];
     assert_eq!(rt; device.read(&mut buf), Ok(2));

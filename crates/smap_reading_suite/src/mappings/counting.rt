@@ -1,8 +1,8 @@
-//! Counts that are known.
+//! Mappings strings, with the number of their segments.
 use smap_mappings::count_segments;
 use std::test::Fail;
 
-/// The nonempty lines' parts between commas, counted one by one.
+/// The parts between the commas of nonempty lines, counted one by one.
 fn plain_count(text: &[u8]) -> usize {
     let mut count: usize = 0;
     for line in text.split(|byte| *byte == b';') {

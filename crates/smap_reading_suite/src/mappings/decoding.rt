@@ -1,4 +1,4 @@
-//! Tokens and faults that are known.
+//! Mappings strings, with their tokens or their fault.
 use super::WIDE;
 use smap_mappings::{
     Bounds, MappingsError, NumberFault, Original, SegmentKind, SegmentPlace, Token, decode,
@@ -52,7 +52,7 @@ fn has_tokens(
 }
 
 #[test]
-fn positions_lie_behind_the_start(rt: HostRuntime) -> Result<(), Fail> {
+fn positions_lie_after_the_start(rt: HostRuntime) -> Result<(), Fail> {
     has_tokens(
         &rt,
         rt.alloc(),
@@ -198,7 +198,7 @@ fn a_fallen_column_is_sorted(rt: HostRuntime) -> Result<(), Fail> {
 fn ties_keep_their_order(rt: HostRuntime) -> Result<(), Fail> {
     let tokens = [mapped(0, 0, 0, (1, 0), None), mapped(0, 0, 0, (0, 0), None)];
     has_tokens(&rt, rt.alloc(), "AACA,AADA", WIDE, &tokens)?;
-    // After a later column, so that the tokens are sorted.
+    // After a greater column, so that the tokens have to be sorted.
     let tokens = [
         mapped(0, 0, 0, (1, 0), None),
         mapped(0, 0, 0, (0, 0), None),

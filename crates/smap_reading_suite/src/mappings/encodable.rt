@@ -1,4 +1,4 @@
-//! Tokens with a text, and without one.
+//! Tokens that have a mappings string, and tokens that have none.
 use smap_mappings::{Token, is_encodable};
 
 fn at(line: u32, column: u32) -> Token {

@@ -1,4 +1,4 @@
-//! Texts that are known.
+//! Tokens, and their canonical mappings string.
 use super::WIDE;
 use smap_mappings::{Original, Token, decode, encode, is_encodable};
 use std::alloc::Global;

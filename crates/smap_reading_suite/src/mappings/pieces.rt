@@ -1,4 +1,4 @@
-//! Texts in pieces, and whole.
+//! Mappings strings in pieces, compared with the whole.
 use super::WIDE;
 use smap_mappings::{
     MappingsError, MappingsReader, NumberFault, SegmentKind, SegmentPlace, Token, decode,
@@ -7,7 +7,7 @@ use std::alloc::Global;
 use std::process::Abort;
 use std::test::Fail;
 
-/// Texts with and without faults, and one long enough for a line to be cut in many ways.
+/// Strings with and without faults, and one long enough for a line to be cut in many ways.
 #[rattlefmt::skip]
 const TEXTS: [&str; 36] = [
     "", ";;", ";;;A", "A", "C", "D", "E;C", "A,,A", ",A", "A,", "A;gA;;", ";,;", ";;K;;K",
@@ -17,7 +17,7 @@ const TEXTS: [&str; 36] = [
     "AAAAA,SAASA,IAAIC,GAAGC,MAAM;AACzB,MAAM,gBAAgBC;;EACpB,OAAOD,CAAC;gBgBAgBhB,kB;AADA,A",
 ];
 
-/// What a reader with such room answers for pieces.
+/// What a reader with this capacity returns for these pieces.
 fn read(alloc: Global, room: usize, pieces: &[&[u8]]) -> Result<Vec<Token>, MappingsError> {
     let mut reader = MappingsReader::new(alloc, WIDE, room)?;
     for piece in pieces {
@@ -35,7 +35,7 @@ fn drawn(state: u64, bound: u64) -> (u64, usize) {
     (state, number as usize)
 }
 
-/// What a reader answers for a text in pieces of 0 to 7 bytes.
+/// What a reader returns for a string in pieces of 0 to 7 bytes.
 fn read_cut(alloc: Global, text: &[u8], seed: u64) -> Result<Vec<Token>, MappingsError> {
     let mut reader = MappingsReader::new(alloc, WIDE, 0)?;
     let mut state = seed;

@@ -1,10 +1,10 @@
-//! How much may be listed, and how many lines there may be.
+//! The limits on sources, names and lines.
 use super::{are_answered, usual_base};
 use smap_mappings::{MAX_LINES, MAX_POSITION};
 use smap_record::Limits;
 use std::test::Fail;
 
-/// What a row shows, a map, and its answer where nothing may be listed and there may be no line.
+/// What a row shows, a map, and the result if no source, name or line is allowed.
 const NOTHING: &str = r#"nothing is listed | {"version":3,"mappings":""} | read
 lines may be empty | {"version":3,"mappings":";;;"} | read
 a source is too many | {"version":3,"sources":["a.js"],"mappings":""} | refused TooMany
@@ -12,33 +12,61 @@ a null source is too many | {"version":3,"sources":[null],"mappings":""} | refus
 a name is too many | {"version":3,"names":["n"],"mappings":""} | refused TooMany
 no line may have a segment | {"version":3,"mappings":"A"} | refused 0:0 GeneratedLine"#;
 
-/// What a row shows, a map, and its answer where one source and one name may be listed and there may be four lines.
+/// What a row shows, a map, and the result if one source, one name and four lines are allowed.
 const ONE: &str =
-    r#"a fault of a member comes before how much is listed | {"version":3,"sources":["a","b"],"mappings":7} | refused Mappings
-a fault of a list comes before how much is listed | {"version":3,"names":["m","n"],"ignoreList":[0],"mappings":""} | refused IgnoreList
-how much is listed comes before any source | {"version":3,"sources":["http://","b"],"mappings":"!"} | refused TooMany
-so many names come before any source | {"version":3,"sources":["http://"],"names":["m","n"],"mappings":"!"} | refused TooMany"#;
+    r#"a fault of a member comes before how much is listed | {"version":3,"sources":["a","b"],"mappings":7}
+    | refused Mappings
+a fault of a list comes before how much is listed
+    | {"version":3,"names":["m","n"],"ignoreList":[0],"mappings":""}
+    | refused IgnoreList
+how much is listed comes before any source | {"version":3,"sources":["http://","b"],"mappings":"!"}
+    | refused TooMany
+so many names come before any source | {"version":3,"sources":["http://"],"names":["m","n"],"mappings":"!"}
+    | refused TooMany"#;
 
-/// What a row shows, a map, and its answer where two sources and two names may be listed and there may be four lines.
+/// What a row shows, a map, and the result if two sources, two names and four lines are allowed.
 const TWO: &str = r#"two names | {"version":3,"names":["m","n"],"mappings":""} | read; names m n
 three names are too many | {"version":3,"names":["m","n","o"],"mappings":""} | refused TooMany
-two sources | {"version":3,"sources":["a","b"],"mappings":""} | read; source http://h/m/a; source http://h/m/b; listed 0 1
+two sources | {"version":3,"sources":["a","b"],"mappings":""}
+    | read; source http://h/m/a; source http://h/m/b; listed 0 1
 three sources are too many | {"version":3,"sources":["a","b","c"],"mappings":""} | refused TooMany
-sources and names are counted apart | {"version":3,"sources":["a","b"],"names":["m","n"],"mappings":""} | read; source http://h/m/a; source http://h/m/b; listed 0 1; names m n
+sources and names are counted apart | {"version":3,"sources":["a","b"],"names":["m","n"],"mappings":""}
+    | read; source http://h/m/a; source http://h/m/b; listed 0 1; names m n
 one source is listed three times | {"version":3,"sources":["a","a","a"],"mappings":""} | refused TooMany
 one name is listed three times | {"version":3,"names":["n","n","n"],"mappings":""} | refused TooMany
 the last line may have a segment | {"version":3,"mappings":";;;A"} | read; 3:0
 a line further on may not | {"version":3,"mappings":";;;;A"} | refused 4:0 GeneratedLine
 lines further on may be empty | {"version":3,"mappings":";;;A;;;;"} | read; 3:0
-sources of sections count together | {"version":3,"sections":[{"offset":{"line":0,"column":0},"map":{"version":3,"sources":["a.js","b.js"],"mappings":""}},{"offset":{"line":0,"column":0},"map":{"version":3,"sources":["a.js"],"mappings":""}}]} | refused [1] TooMany
-names of sections count together | {"version":3,"sections":[{"offset":{"line":0,"column":0},"map":{"version":3,"names":["m","n"],"mappings":""}},{"offset":{"line":0,"column":0},"map":{"version":3,"names":["m"],"mappings":""}}]} | refused [1] TooMany
-a source listed three times is counted three times | {"version":3,"sources":["a.js","a.js","a.js"],"mappings":""} | refused TooMany
-a source of three sections is counted three times | {"version":3,"sections":[{"offset":{"line":0,"column":0},"map":{"version":3,"sources":["a.js"],"mappings":""}},{"offset":{"line":0,"column":0},"map":{"version":3,"sources":["a.js"],"mappings":""}},{"offset":{"line":0,"column":0},"map":{"version":3,"sources":["a.js"],"mappings":""}}]} | refused [2] TooMany"#;
+sources of sections count together
+    | {"version":3,"sections":[
+    {"offset":{"line":0,"column":0},"map":{"version":3,"sources":["a.js","b.js"],"mappings":""}},
+    {"offset":{"line":0,"column":0},"map":{"version":3,"sources":["a.js"],"mappings":""}}]}
+    | refused [1] TooMany
+names of sections count together
+    | {"version":3,"sections":[
+    {"offset":{"line":0,"column":0},"map":{"version":3,"names":["m","n"],"mappings":""}},
+    {"offset":{"line":0,"column":0},"map":{"version":3,"names":["m"],"mappings":""}}]}
+    | refused [1] TooMany
+a source listed three times is counted three times
+    | {"version":3,"sources":["a.js","a.js","a.js"],"mappings":""}
+    | refused TooMany
+a source of three sections is counted three times
+    | {"version":3,"sections":[
+    {"offset":{"line":0,"column":0},"map":{"version":3,"sources":["a.js"],"mappings":""}},
+    {"offset":{"line":0,"column":0},"map":{"version":3,"sources":["a.js"],"mappings":""}},
+    {"offset":{"line":0,"column":0},"map":{"version":3,"sources":["a.js"],"mappings":""}}]}
+    | refused [2] TooMany"#;
 
-/// What a row shows, a map, and its answer where three sources and three names may be listed and there may be four lines.
+/// What a row shows, a map, and the result if three sources, three names and four lines are allowed.
 const THREE: &str =
-    r#"a source may be listed three times | {"version":3,"sources":["a.js","a.js","a.js"],"mappings":""} | read; source http://h/m/a.js; listed 0 0 0
-three sections may list a source | {"version":3,"sections":[{"offset":{"line":0,"column":0},"map":{"version":3,"sources":["a.js"],"mappings":""}},{"offset":{"line":0,"column":0},"map":{"version":3,"sources":["a.js"],"mappings":""}},{"offset":{"line":0,"column":0},"map":{"version":3,"sources":["a.js"],"mappings":""}}]} | read; source http://h/m/a.js; listed 0 0 0"#;
+    r#"a source may be listed three times | {"version":3,"sources":["a.js","a.js","a.js"],"mappings":""}
+    | read; source http://h/m/a.js; listed 0 0 0
+three sections may list a source
+    | {"version":3,"sections":[
+    {"offset":{"line":0,"column":0},"map":{"version":3,"sources":["a.js"],"mappings":""}},
+    {"offset":{"line":0,"column":0},"map":{"version":3,"sources":["a.js"],"mappings":""}},
+    {"offset":{"line":0,"column":0},"map":{"version":3,"sources":["a.js"],"mappings":""}}]}
+    | read; source http://h/m/a.js; listed 0 0 0"#;
 
 #[test]
 fn what_is_listed_stays_within_the_limits(rt: HostRuntime) -> Result<(), Fail> {

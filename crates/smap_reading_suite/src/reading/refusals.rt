@@ -1,11 +1,11 @@
-//! Maps that are refused, each for its first fault.
+//! Maps that are rejected, each for its first fault.
 use super::maps::SMALL;
 use super::{are_answered, is_answered, usual_base};
 use smap_record::Limits;
 use std::test::Fail;
 
-/// What a row shows, a map, and what it is refused for. A fault comes before all that are looked for later,
-/// so most texts of the first members have later faults too. Segments have one source and no name.
+/// What a row shows, a map, and why it is rejected. The first fault is reported, so most maps with a fault in
+/// an early member have later faults too. Segments have one source and no name.
 const REFUSED: &str = r#"not JSON | smap | refused Json
 not JSON | {"version":3,"mappings":""} {} | refused Json
 not JSON | {"version":3,"mappings":"",} | refused Json
@@ -34,22 +34,33 @@ each member has its own fault | {"version":3,"sourceRoot":1,"mappings":""} | ref
 each member has its own fault | {"version":3,"sources":"a.js","mappings":""} | refused Sources
 each member has its own fault | {"version":3,"sources":[7],"mappings":""} | refused Sources
 each member has its own fault | {"version":3,"sourcesContent":{},"mappings":""} | refused SourcesContent
-each member has its own fault | {"version":3,"sources":["a"],"sourcesContent":["t",null,7],"mappings":""} | refused SourcesContent
+each member has its own fault | {"version":3,"sources":["a"],"sourcesContent":["t",null,7],"mappings":""}
+    | refused SourcesContent
 each member has its own fault | {"version":3,"names":[null],"mappings":""} | refused Names
 each member has its own fault | {"version":3,"ignoreList":0,"mappings":""} | refused IgnoreList
-each member has its own fault | {"version":3,"sources":["a.js","b.js"],"ignoreList":[2],"mappings":""} | refused IgnoreList
-each member has its own fault | {"version":3,"sources":["a.js","b.js"],"x_google_ignoreList":[2],"mappings":""} | refused IgnoreList
+each member has its own fault | {"version":3,"sources":["a.js","b.js"],"ignoreList":[2],"mappings":""}
+    | refused IgnoreList
+each member has its own fault
+    | {"version":3,"sources":["a.js","b.js"],"x_google_ignoreList":[2],"mappings":""}
+    | refused IgnoreList
 each member has its own fault | {"version":3,"mappings":7} | refused Mappings
 each member has its own fault | {"version":3,"mappings":null} | refused Mappings
 each member has its own fault | {"version":3} | refused Mappings
 each member has its own fault | {"version":3,"sections":{}} | refused Sections
 each member has its own fault | {"version":3,"sections":7} | refused Sections
-the first member with a fault counts | {"version":2,"file":7,"sections":7,"sourceRoot":7,"mappings":7} | refused Version
-the first member with a fault counts | {"version":3,"file":7,"sections":7,"sourceRoot":7,"mappings":7} | refused File
+the first member with a fault counts | {"version":2,"file":7,"sections":7,"sourceRoot":7,"mappings":7}
+    | refused Version
+the first member with a fault counts | {"version":3,"file":7,"sections":7,"sourceRoot":7,"mappings":7}
+    | refused File
 the first member with a fault counts | {"version":3,"sections":7,"sourceRoot":7,"mappings":7} | refused Both
-the first member with a fault counts | {"version":3,"sourceRoot":7,"sources":7,"sourcesContent":7,"names":7,"ignoreList":7,"mappings":7} | refused SourceRoot
-the first member with a fault counts | {"version":3,"sources":7,"sourcesContent":7,"names":7,"ignoreList":7,"mappings":7} | refused Sources
-the first member with a fault counts | {"version":3,"sourcesContent":7,"names":7,"ignoreList":7,"mappings":7} | refused SourcesContent
+the first member with a fault counts
+    | {"version":3,"sourceRoot":7,"sources":7,"sourcesContent":7,"names":7,"ignoreList":7,"mappings":7}
+    | refused SourceRoot
+the first member with a fault counts
+    | {"version":3,"sources":7,"sourcesContent":7,"names":7,"ignoreList":7,"mappings":7}
+    | refused Sources
+the first member with a fault counts | {"version":3,"sourcesContent":7,"names":7,"ignoreList":7,"mappings":7}
+    | refused SourcesContent
 the first member with a fault counts | {"version":3,"names":7,"ignoreList":7,"mappings":7} | refused Names
 the first member with a fault counts | {"version":3,"ignoreList":7,"mappings":7} | refused IgnoreList
 the first member with a fault counts | {"version":2,"file":7,"sections":7} | refused Version
@@ -57,37 +68,65 @@ the first member with a fault counts | {"version":3,"file":7,"sections":7} | ref
 the first member with a fault counts | {"version":3,"sourceRoot":7,"sections":7} | refused Sections
 the first member with a fault counts | {"version":3,"version":2,"mappings":""} | refused Version
 the first member with a fault counts | {"version":3,"mappings":"","mappings":7} | refused Mappings
-the first source that is no URL counts | {"version":3,"sources":["turbopack://[project]/a.js"],"mappings":""} | refused SourceUrl(0)
-the first source that is no URL counts | {"version":3,"sources":["a.js",null,"http://"],"mappings":""} | refused SourceUrl(2)
-the first source that is no URL counts | {"version":3,"sourceRoot":"turbopack://[project]","sources":["a.js"],"mappings":""} | refused SourceUrl(0)
-the first source that is no URL counts | {"version":3,"sources":["http://","http://"],"mappings":""} | refused SourceUrl(0)
-the first source that is no URL counts | {"version":3,"sources":["a",null,"http://","b","http://"],"mappings":""} | refused SourceUrl(2)
-the first source that is no URL counts | {"version":3,"sources":["a","http://"],"mappings":"!"} | refused SourceUrl(1)
-the first source that is no URL counts | {"version":3,"sources":["a","http://"],"mappings":"AEAA"} | refused SourceUrl(1)
-the first segment with a fault counts | {"version":3,"sources":["a.js"],"mappings":"AAAA,CCAA"} | refused 0:1 Source
-the first segment with a fault counts | {"version":3,"sources":["a.js"],"mappings":"ADAA"} | refused 0:0 Source
+the first source that is no URL counts | {"version":3,"sources":["turbopack://[project]/a.js"],"mappings":""}
+    | refused SourceUrl(0)
+the first source that is no URL counts | {"version":3,"sources":["a.js",null,"http://"],"mappings":""}
+    | refused SourceUrl(2)
+the first source that is no URL counts
+    | {"version":3,"sourceRoot":"turbopack://[project]","sources":["a.js"],"mappings":""}
+    | refused SourceUrl(0)
+the first source that is no URL counts | {"version":3,"sources":["http://","http://"],"mappings":""}
+    | refused SourceUrl(0)
+the first source that is no URL counts
+    | {"version":3,"sources":["a",null,"http://","b","http://"],"mappings":""}
+    | refused SourceUrl(2)
+the first source that is no URL counts | {"version":3,"sources":["a","http://"],"mappings":"!"}
+    | refused SourceUrl(1)
+the first source that is no URL counts | {"version":3,"sources":["a","http://"],"mappings":"AEAA"}
+    | refused SourceUrl(1)
+the first segment with a fault counts | {"version":3,"sources":["a.js"],"mappings":"AAAA,CCAA"}
+    | refused 0:1 Source
+the first segment with a fault counts | {"version":3,"sources":["a.js"],"mappings":"ADAA"}
+    | refused 0:0 Source
 the first segment with a fault counts | {"version":3,"sources":["a.js"],"mappings":"AAAAA"} | refused 0:0 Name
 the first segment with a fault counts | {"version":3,"sources":["a.js"],"mappings":"A,,A"} | refused 0:1 Empty
 the first segment with a fault counts | {"version":3,"sources":["a.js"],"mappings":",A"} | refused 0:0 Empty
 the first segment with a fault counts | {"version":3,"sources":["a.js"],"mappings":"A,"} | refused 0:1 Empty
-the first segment with a fault counts | {"version":3,"sources":["a.js"],"mappings":"AA"} | refused 0:0 Count(2)
-the first segment with a fault counts | {"version":3,"sources":["a.js"],"mappings":"AAA"} | refused 0:0 Count(3)
-the first segment with a fault counts | {"version":3,"sources":["a.js"],"mappings":"AAAAAA"} | refused 0:0 Count(6)
-the first segment with a fault counts | {"version":3,"sources":["a.js"],"mappings":"+/////H"} | refused 0:0 Number(1, TooLarge)
-the first segment with a fault counts | {"version":3,"sources":["a.js"],"mappings":"B"} | refused 0:0 Number(1, NegativeZero)
-the first segment with a fault counts | {"version":3,"sources":["a.js"],"mappings":"hA"} | refused 0:0 Number(1, NegativeZero)
-the first segment with a fault counts | {"version":3,"sources":["a.js"],"mappings":"g"} | refused 0:0 Number(1, Unfinished)
-the first segment with a fault counts | {"version":3,"sources":["a.js"],"mappings":"A!"} | refused 0:0 Number(2, Character)
-the first segment with a fault counts | {"version":3,"sources":["a.js"],"mappings":"AAB"} | refused 0:0 Number(3, NegativeZero)
+the first segment with a fault counts | {"version":3,"sources":["a.js"],"mappings":"AA"}
+    | refused 0:0 Count(2)
+the first segment with a fault counts | {"version":3,"sources":["a.js"],"mappings":"AAA"}
+    | refused 0:0 Count(3)
+the first segment with a fault counts | {"version":3,"sources":["a.js"],"mappings":"AAAAAA"}
+    | refused 0:0 Count(6)
+the first segment with a fault counts | {"version":3,"sources":["a.js"],"mappings":"+/////H"}
+    | refused 0:0 Number(1, TooLarge)
+the first segment with a fault counts | {"version":3,"sources":["a.js"],"mappings":"B"}
+    | refused 0:0 Number(1, NegativeZero)
+the first segment with a fault counts | {"version":3,"sources":["a.js"],"mappings":"hA"}
+    | refused 0:0 Number(1, NegativeZero)
+the first segment with a fault counts | {"version":3,"sources":["a.js"],"mappings":"g"}
+    | refused 0:0 Number(1, Unfinished)
+the first segment with a fault counts | {"version":3,"sources":["a.js"],"mappings":"A!"}
+    | refused 0:0 Number(2, Character)
+the first segment with a fault counts | {"version":3,"sources":["a.js"],"mappings":"AAB"}
+    | refused 0:0 Number(3, NegativeZero)
 the first segment with a fault counts | {"version":3,"sources":["a.js"],"mappings":"D"} | refused 0:0 Column
-the first segment with a fault counts | {"version":3,"sources":["a.js"],"mappings":"//////D"} | refused 0:0 Column
-the first segment with a fault counts | {"version":3,"sources":["a.js"],"mappings":"AADA"} | refused 0:0 OriginalLine
-the first segment with a fault counts | {"version":3,"sources":["a.js"],"mappings":"AADD"} | refused 0:0 OriginalLine
-the first segment with a fault counts | {"version":3,"sources":["a.js"],"mappings":"AAAD"} | refused 0:0 OriginalColumn
-the first segment with a fault counts | {"version":3,"sources":["a.js"],"mappings":"AAADA"} | refused 0:0 OriginalColumn
-the first segment with a fault counts | {"version":3,"sources":["a.js"],"mappings":"+/////D,C"} | refused 0:1 Column
-the first segment with a fault counts | {"version":3,"sources":["a"],"mappings":"AAAA;AAAAA,!"} | refused 1:0 Name
-the first segment with a fault counts | {"version":3,"sources":["a"],"mappings":"AAAA;!,AAAAA"} | refused 1:0 Number(1, Character)"#;
+the first segment with a fault counts | {"version":3,"sources":["a.js"],"mappings":"//////D"}
+    | refused 0:0 Column
+the first segment with a fault counts | {"version":3,"sources":["a.js"],"mappings":"AADA"}
+    | refused 0:0 OriginalLine
+the first segment with a fault counts | {"version":3,"sources":["a.js"],"mappings":"AADD"}
+    | refused 0:0 OriginalLine
+the first segment with a fault counts | {"version":3,"sources":["a.js"],"mappings":"AAAD"}
+    | refused 0:0 OriginalColumn
+the first segment with a fault counts | {"version":3,"sources":["a.js"],"mappings":"AAADA"}
+    | refused 0:0 OriginalColumn
+the first segment with a fault counts | {"version":3,"sources":["a.js"],"mappings":"+/////D,C"}
+    | refused 0:1 Column
+the first segment with a fault counts | {"version":3,"sources":["a"],"mappings":"AAAA;AAAAA,!"}
+    | refused 1:0 Name
+the first segment with a fault counts | {"version":3,"sources":["a"],"mappings":"AAAA;!,AAAAA"}
+    | refused 1:0 Number(1, Character)"#;
 
 #[test]
 fn a_map_is_refused_for_its_first_fault(rt: HostRuntime) -> Result<(), Fail> {

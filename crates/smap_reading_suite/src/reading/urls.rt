@@ -1,10 +1,11 @@
-//! Bases, and the URLs of sources. Expected URLs are those that Node's `new URL(text, base)` gives; the root is
-//! put before the source by hand. Expected spellings lead back to the URL by Node's `new URL(spelling, base)`.
+//! Bases, and the URLs of sources. Expected URLs are those of Node's `new URL(text, base)`, where
+//! `sourceRoot` was put before the source by hand. Expected relative URLs resolve to the URL again by Node's
+//! `new URL(relative, base)`.
 use super::{are_answered, base_of, is_answered, usual_base};
 use smap_record::{Base, BaseFault, Limits};
 use std::test::Fail;
 
-/// A source without a root, as JSON spells it, and its URL.
+/// A source without `sourceRoot`, as a JSON string, and its URL.
 const ALONE: &str = r#"a.js -> http://h/m/a.js
 /a.js -> http://h/a.js
 //g/a.js -> http://g/a.js
@@ -47,7 +48,7 @@ fn a_source_without_a_root_is_resolved_against_the_base(rt: HostRuntime) -> Resu
     Ok(())
 }
 
-/// A root, a source, and its URL. The root stands before an absolute source too.
+/// A `sourceRoot`, a source, and its URL. The root is put before an absolute source too.
 const ROOTED: &str = r#"src | a.js -> http://h/m/src/a.js
 src/ | a.js -> http://h/m/src/a.js
 /r | a.js -> http://h/r/a.js
@@ -82,13 +83,14 @@ fn a_root_stands_before_its_source(rt: HostRuntime) -> Result<(), Fail> {
     Ok(())
 }
 
-/// What a row shows, a map, and its answer against `mailto:x`.
+/// What a row shows, a map, and the result with the base `mailto:x`.
 const OPAQUE: &str =
     r##"a relative source | {"version":3,"sources":["a.js"],"mappings":""} | refused SourceUrl(0)
 a relative source | {"version":3,"sources":["/a.js"],"mappings":""} | refused SourceUrl(0)
 a relative source | {"version":3,"sources":["?q"],"mappings":""} | refused SourceUrl(0)
 a relative source | {"version":3,"sources":[""],"mappings":""} | refused SourceUrl(0)
-a fragment and absolute sources | {"version":3,"sources":["#f","mailto:y","http://x/a.js"],"mappings":""} | read; source mailto:x#f; source mailto:y; source http://x/a.js; listed 0 1 2"##;
+a fragment and absolute sources | {"version":3,"sources":["#f","mailto:y","http://x/a.js"],"mappings":""}
+    | read; source mailto:x#f; source mailto:y; source http://x/a.js; listed 0 1 2"##;
 
 #[test]
 fn against_an_opaque_path_a_relative_source_is_no_url(rt: HostRuntime) -> Result<(), Fail> {
@@ -96,7 +98,7 @@ fn against_an_opaque_path_a_relative_source_is_no_url(rt: HostRuntime) -> Result
     Ok(())
 }
 
-/// Texts that are bases, some with an opaque path, and the URL of each.
+/// Strings that are bases, some with an opaque path, and the URL of each.
 const BASES: &str = r#"http://h/m/out.js.map -> http://h/m/out.js.map
 http://h -> http://h/
 HTTP://H:80/m/../out.js.map -> http://h/out.js.map
@@ -134,7 +136,7 @@ fn a_text_without_a_url_of_its_own_is_no_base(rt: HostRuntime) {
     }
 }
 
-/// A base, a URL, and its relative spelling.
+/// A base, a URL, and its relative form.
 const SPELLED: &str = r#"http://h/m/out.js.map | http://h/m/a.js -> a.js
 http://h/m/out.js.map | http://h/m/s/a.js -> s/a.js
 http://h/m/out.js.map | http://h/r/a.js -> ../r/a.js
@@ -162,9 +164,9 @@ fn a_url_on_the_same_host_is_spelled_by_its_path(rt: HostRuntime) -> Result<(), 
     Ok(())
 }
 
-/// A base, and a URL that has no relative spelling from it: of another origin; where the spelling leads
-/// elsewhere, since `x:y.js` has a scheme, `/` is the root and `x.js` lies beside the base; and texts that
-/// aren't their own URL.
+/// A base, and a URL that has no relative form with respect to it: one of another origin; one whose relative
+/// URL resolves to something else, since `x:y.js` has a scheme, `/` is the root and `x.js` is next to the
+/// base; and strings that don't resolve to themselves.
 const NOT_SPELLED: &str = r#"http://h/m/out.js.map | http://x/m/a.js
 http://h/m/out.js.map | https://h/m/a.js
 http://h/m/out.js.map | http://h:8080/m/a.js

@@ -1,9 +1,9 @@
-//! What is said of a fault.
+//! The messages of faults.
 use smap_mappings::{NumberFault, SegmentPlace};
 use smap_record::{Fault, Kind, Path};
 use std::test::Fail;
 
-/// The words of each kind.
+/// The message of each kind.
 const KINDS: [(Kind, &str); 33] = [
     (Kind::Prefix, "prefix without line feed"),
     (Kind::Json, "not json"),

@@ -1,4 +1,4 @@
-//! Trees with contents of each kind, and what is left of them.
+//! JSON trees with contents of each kind, and what remains of them.
 use serde_json::Value;
 use smap_shape::{Shape, ShapeFault, shape, split_contents};
 use std::test::Fail;

@@ -1,4 +1,4 @@
-//! Flat maps that tell their members.
+//! Flat maps, with their members.
 use serde_json::Value;
 use smap_shape::{Shape, shape};
 use std::test::Fail;

@@ -1,4 +1,4 @@
-//! Index maps that tell their file and their sections.
+//! Index maps, with their file and their sections.
 use serde_json::Value;
 use smap_shape::{Shape, shape};
 use std::test::Fail;

@@ -1,4 +1,4 @@
-//! Trees of maps, and the first fault of each.
+//! JSON trees of maps, and the first fault of each.
 use serde_json::Value;
 use smap_shape::{FlatShape, Shape, ShapeFault, shape};
 use std::test::Fail;

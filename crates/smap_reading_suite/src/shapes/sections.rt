@@ -1,4 +1,4 @@
-//! Trees of sections, and the first fault of each.
+//! JSON trees of sections, and the first fault of each.
 use serde_json::Value;
 use smap_shape::{MAX_LEVEL, ShapeFault, section};
 use std::test::Fail;

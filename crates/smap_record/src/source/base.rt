@@ -2,7 +2,7 @@
 ghost use Rattle.std.specs.Prelude.{◌≡◌, None, Some, IfOk, option_map, string_bytes};
 ghost use Rattle.url.specs.Parser.{parse_url, Gives};
 ghost use Rattle.url.specs.Parts.{serialize};
-ghost use Rattle.smap_record.specs.Answers.{GivesBase};
+ghost use Rattle.smap_record.specs.Results.{ReturnsBase};
 ghost use Rattle.smap_record.specs.Relative.{relative_url};
 
 use crate::fault::BaseFault;
@@ -40,7 +40,7 @@ impl Base {
     /// let base = Base::new(alloc, "http://h/m/out.js.map")?; // a source `a.js` is then http://h/m/a.js
     /// ```
     pub fn new(alloc: Global, text: &str) -> Result<Base, BaseFault>
-        ensures { GivesBase (λ b. b) result (parse_url None text.now) }
+        ensures { ReturnsBase (λ b. b) result (parse_url None text.now) }
     {
         match Url::parse(alloc, text) {
             Ok(url) => Ok(Base { url }),

@@ -66,7 +66,7 @@ fn gives(
     assert_eq!(rt; writer.bytes.as_slice(), written.as_bytes());
     if answer.is_ok() {
         assert_eq!(rt; writer.flushes, 1);
-        assert!(rt; !writer.written_behind_flush);
+        assert!(rt; !writer.written_after_flush);
     }
 }
 

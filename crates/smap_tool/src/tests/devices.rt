@@ -60,7 +60,7 @@ fn each_read_that_fails_is_the_last_and_nothing_is_written(rt: HostRuntime) {
 }
 
 #[test]
-fn each_write_or_flush_that_fails_is_told_behind_a_front_of_the_text(rt: HostRuntime) {
+fn each_write_or_flush_that_fails_is_told_after_a_front_of_the_text(rt: HostRuntime) {
     for (task, input) in TASKS {
         let mut reader = Device::new(SlowReader::new(input.as_bytes(), STEP, 0));
         let mut writer = Device::new(SlowWriter::new(rt.alloc(), STEP, 0));

@@ -1,24 +1,34 @@
-//! The relative form. Each row has the sources that it spells; all else is as in the absolute form.
-use super::{EMPTY, SMALL, base, read};
+//! The relative form. Each row has its sources in that form; everything else is as in the absolute form.
+use super::{EMPTY, SMALL, base, parts, read, rows};
 use smap_canon::round_trips::{have_equal_bytes, tidied};
 use smap_canon::{canonical, canonical_relative, same};
 use smap_record::Limits;
 use std::test::Fail;
 
-/// Map texts, and their canonical bytes in the relative form against `http://h/m/out.js.map`.
+/// Maps, and their canonical bytes in the relative form with the base `http://h/m/out.js.map`.
 const RELATIVE: &str =
-    r#"{"version":3,"sources":["a.js"],"names":["x","y"],"mappings":"AAAAC,CAACD"} | {"mappings":"AAAAA,CAACC","names":["y","x"],"sources":["a.js"],"version":3}
-{"version":3,"sections":[{"offset":{"line":0,"column":0},"map":{"version":3,"sources":["a.js"],"mappings":"AAAA"}},{"offset":{"line":0,"column":10},"map":{"version":3,"sources":["a.js","b.js"],"names":["n"],"mappings":"AAAAA;CCCC"}}]} | {"mappings":"AAAA,UAAAA;CCCC","names":["n"],"sources":["a.js","b.js"],"version":3}
-{"version":3,"sourceRoot":"/r","sources":["a.js"],"mappings":""} | {"mappings":"","names":[],"sources":["../r/a.js"],"version":3}
-{"version":3,"sources":["webpack://app/./src/i.js"],"mappings":""} | {"mappings":"","names":[],"sources":["webpack://app/src/i.js"],"version":3}
-{"version":3,"sources":["http://x/a.js"],"mappings":""} | {"mappings":"","names":[],"sources":["http://x/a.js"],"version":3}
-{"version":3,"file":null,"sections":null,"sources":[null],"sourcesContent":["t"],"mappings":"AAAA"} | {"mappings":"AAAA","names":[],"sources":[null],"sourcesContent":["t"],"version":3}
-{"version":3,"sources":["./x:y.js"],"mappings":""} | {"mappings":"","names":[],"sources":["http://h/m/x:y.js"],"version":3}"#;
+    r#"{"version":3,"sources":["a.js"],"names":["x","y"],"mappings":"AAAAC,CAACD"}
+    | {"mappings":"AAAAA,CAACC","names":["y","x"],"sources":["a.js"],"version":3}
+{"version":3,"sections":[
+    {"offset":{"line":0,"column":0},"map":{"version":3,"sources":["a.js"],"mappings":"AAAA"}},
+    {"offset":{"line":0,"column":10},"map":
+    {"version":3,"sources":["a.js","b.js"],"names":["n"],"mappings":"AAAAA;CCCC"}}]}
+    | {"mappings":"AAAA,UAAAA;CCCC","names":["n"],"sources":["a.js","b.js"],"version":3}
+{"version":3,"sourceRoot":"/r","sources":["a.js"],"mappings":""}
+    | {"mappings":"","names":[],"sources":["../r/a.js"],"version":3}
+{"version":3,"sources":["webpack://app/./src/i.js"],"mappings":""}
+    | {"mappings":"","names":[],"sources":["webpack://app/src/i.js"],"version":3}
+{"version":3,"sources":["http://x/a.js"],"mappings":""}
+    | {"mappings":"","names":[],"sources":["http://x/a.js"],"version":3}
+{"version":3,"file":null,"sections":null,"sources":[null],"sourcesContent":["t"],"mappings":"AAAA"}
+    | {"mappings":"AAAA","names":[],"sources":[null],"sourcesContent":["t"],"version":3}
+{"version":3,"sources":["./x:y.js"],"mappings":""}
+    | {"mappings":"","names":[],"sources":["http://h/m/x:y.js"],"version":3}"#;
 
 #[test]
 fn sources_are_spelled_from_the_base(rt: HostRuntime) -> Result<(), Fail> {
-    for row in RELATIVE.lines() {
-        let (text, want) = row.split_once(" | ").ok_or("a row has two parts")?;
+    for row in rows(&rt, RELATIVE)? {
+        let (text, want) = parts(row.as_str())?;
         let map = read(&rt, text.as_bytes());
         let bytes = canonical_relative(rt.alloc(), &map, &base(&rt)).expect(&rt, "there is memory");
         assert!(rt; bytes.as_slice() == want.as_bytes(), "{text}");
@@ -28,8 +38,8 @@ fn sources_are_spelled_from_the_base(rt: HostRuntime) -> Result<(), Fail> {
 
 #[test]
 fn a_relative_text_is_its_own_and_says_the_same(rt: HostRuntime) -> Result<(), Fail> {
-    for row in RELATIVE.lines() {
-        let (text, want) = row.split_once(" | ").ok_or("a row has two parts")?;
+    for row in rows(&rt, RELATIVE)? {
+        let (text, want) = parts(row.as_str())?;
         let map = read(&rt, text.as_bytes());
         let again = read(&rt, want.as_bytes());
         assert!(rt; same(&map, &again), "{text}");

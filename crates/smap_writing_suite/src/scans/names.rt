@@ -1,4 +1,4 @@
-//! The numbers that names get by first use, by a scan.
+//! The indices of names in order of first use, by a linear scan.
 use super::{joined, push_item, read, scan};
 use smap_canon::canonical;
 use std::alloc::{AllocError, Global};
@@ -11,7 +11,7 @@ const MAPPINGS: usize = 100;
 
 const DIGITS: &[u8; 64] = b"ABCDEFGHIJKLMNOPQRSTUVWXYZabcdefghijklmnopqrstuvwxyz0123456789+/";
 
-/// The text of the i-th listed name is `n` and this number.
+/// The i-th listed name is `n` followed by this number.
 fn text_of(i: usize) -> usize {
     i.wrapping_mul(i) / 3 % 59
 }
@@ -21,7 +21,7 @@ fn used_at(j: usize) -> usize {
     (j.wrapping_mul(j) / 3).wrapping_add(j) % LISTED
 }
 
-/// Whether a mapping has a generated position alone.
+/// Whether a mapping has only a generated position.
 fn is_bare(j: usize) -> bool {
     j % 7 == 6
 }
@@ -31,7 +31,7 @@ fn is_nameless(j: usize) -> bool {
     j % 5 == 4
 }
 
-/// Puts the digits of the difference of two numbers below 256 behind a text.
+/// Appends the encoding of the difference of two numbers below 256.
 fn push_difference(text: &mut String, before: u8, now: u8) -> Result<(), AllocError> {
     let value = if now < before {
         (before - now) as usize * 2 + 1
@@ -45,8 +45,8 @@ fn push_difference(text: &mut String, before: u8, now: u8) -> Result<(), AllocEr
     text.push(DIGITS[value / 32] as char)
 }
 
-/// Puts the segment of the j-th mapping behind a mappings text, without the digits of its name. Each mapping
-/// lies one column behind the one before it, and comes from the start of the first source.
+/// Appends the segment of the j-th mapping, without the number of its name. Each mapping is one column after
+/// the previous one, and its original is the start of the first source.
 fn push_segment(text: &mut String, j: usize) -> Result<(), AllocError> {
     push_item(text, if j == 0 { "A" } else { "C" })?;
     if is_bare(j) {
@@ -55,7 +55,7 @@ fn push_segment(text: &mut String, j: usize) -> Result<(), AllocError> {
     text.push_str("AAA")
 }
 
-/// The mappings text in which each mapping that has a name uses the next of these numbers.
+/// The mappings string in which each mapping that has a name uses the next of these indices.
 fn mappings(alloc: Global, names: &[usize]) -> Result<String, AllocError> {
     let mut text = String::new(alloc);
     let mut names = names.iter();
@@ -74,7 +74,7 @@ fn mappings(alloc: Global, names: &[usize]) -> Result<String, AllocError> {
     Ok(text)
 }
 
-/// The names with these numbers, as the items of a JSON list.
+/// The names with these numbers, as the items of a JSON array.
 fn names_of(alloc: Global, numbers: &[usize]) -> Result<String, AllocError> {
     let mut text = String::new(alloc);
     for number in numbers {
@@ -84,7 +84,7 @@ fn names_of(alloc: Global, numbers: &[usize]) -> Result<String, AllocError> {
     Ok(text)
 }
 
-/// The numbers of the listed names' texts.
+/// The number in each listed name.
 fn listed(alloc: Global) -> Result<Vec<usize>, AllocError> {
     let mut numbers = Vec::new(alloc);
     for i in 0..LISTED {
@@ -104,7 +104,7 @@ fn used(alloc: Global) -> Result<Vec<usize>, AllocError> {
     Ok(numbers)
 }
 
-/// The numbers of these listed names' texts.
+/// The number in each of these listed names.
 fn texts_of(alloc: Global, names: &[usize]) -> Result<Vec<usize>, AllocError> {
     let mut numbers = Vec::new(alloc);
     for name in names {
@@ -113,7 +113,7 @@ fn texts_of(alloc: Global, names: &[usize]) -> Result<Vec<usize>, AllocError> {
     Ok(numbers)
 }
 
-/// The map text.
+/// The map.
 fn map_text(alloc: Global) -> Result<String, AllocError> {
     let listed = listed(alloc)?;
     let used = used(alloc)?;
@@ -129,7 +129,7 @@ fn map_text(alloc: Global) -> Result<String, AllocError> {
     joined(alloc, &pieces)
 }
 
-/// The canonical text of a map whose names are these, used by mappings in this order.
+/// The canonical bytes of a map with these names, which its mappings use in this order.
 fn canonical_text(alloc: Global, names: &[usize], uses: &[usize]) -> Result<String, AllocError> {
     let names = names_of(alloc, names)?;
     let mappings = mappings(alloc, uses)?;
@@ -148,7 +148,7 @@ fn names_are_numbered_as_a_scan_numbers_them(rt: HostRuntime) -> Result<(), Fail
     let used = used(rt.alloc())?;
     let texts = texts_of(rt.alloc(), used.as_slice())?;
     let scanned = scan(rt.alloc(), texts.as_slice())?;
-    // Of 45 names that differ 37 are used, by 68 mappings.
+    // Of 45 distinct names 37 are used, by 68 mappings.
     assert_eq!(rt; scanned.distinct.len(), 37);
     assert_eq!(rt; scanned.places.len(), 68);
     let want = canonical_text(

@@ -1,11 +1,11 @@
-//! Which listed sources are one source, by a scan.
+//! Which listed sources are equal, by a linear scan.
 use super::{joined, push_item, read, scan};
 use smap_record::SourceMap;
 use std::alloc::{AllocError, Global};
 use std::process::Abort;
 use std::test::Fail;
 
-/// The listed sources have these numbers among the distinct ones.
+/// Asserts that the listed sources have these indices among the distinct ones.
 fn are_numbered(rt: &impl Abort, map: &SourceMap, numbers: &[usize]) {
     assert_eq!(rt; map.listed_count(), numbers.len());
     for i in 0..numbers.len() {
@@ -14,7 +14,7 @@ fn are_numbered(rt: &impl Abort, map: &SourceMap, numbers: &[usize]) {
     }
 }
 
-/// A map text that lists a source `s0.js`, `s1.js` and so on for each of these numbers.
+/// A map that lists a source `s0.js`, `s1.js` and so on for each of these numbers.
 fn listing(alloc: Global, numbers: &[usize]) -> Result<String, AllocError> {
     let mut sources = String::new(alloc);
     for number in numbers {
@@ -65,7 +65,7 @@ fn many_urls_are_numbered_as_a_scan_numbers_them(rt: HostRuntime) -> Result<(), 
     Ok(())
 }
 
-/// What makes a source one with another: its URL, its content, and whether it is ignored.
+/// What is compared of a source: its URL, its content, and whether it is ignored.
 #[derive(Clone, Copy, PartialEq)]
 struct Source {
     url: Option<&'static str>,
@@ -73,9 +73,9 @@ struct Source {
     ignored: bool,
 }
 
-/// A source as a map text lists it, and what it is.
+/// A source as it is written in the map, and what it is.
 #[derive(Clone, Copy)]
-struct Listed {
+struct ListedSource {
     spelled: Option<&'static str>,
     source: Source,
 }
@@ -84,8 +84,8 @@ const A: Option<&str> = Some("http://h/m/a.js");
 
 const B: Option<&str> = Some("http://h/b.js");
 
-/// Sources of several kinds: how each is listed, its URL, its content, and whether it is ignored. Some that
-/// are spelled otherwise are one, and some that are spelled alike are not.
+/// Sources of several kinds: how each is written, its URL, its content, and whether it is ignored. Some that
+/// are written differently are equal, and some that are written alike are not.
 const KINDS: [(Option<&str>, Option<&str>, Option<&str>, bool); 17] = [
     (Some("a.js"), A, None, false),
     (Some("a.js"), A, Some("t"), false),
@@ -107,9 +107,9 @@ const KINDS: [(Option<&str>, Option<&str>, Option<&str>, bool); 17] = [
 ];
 
 /// The i-th source of the list, in a scrambled order.
-fn kind_at(i: usize) -> Listed {
+fn kind_at(i: usize) -> ListedSource {
     let (spelled, url, content, ignored) = KINDS[i.wrapping_mul(i) / 9 % 17];
-    Listed {
+    ListedSource {
         spelled,
         source: Source {
             url,
@@ -120,7 +120,7 @@ fn kind_at(i: usize) -> Listed {
 }
 
 /// The list, in a scrambled order.
-fn all_kinds(alloc: Global) -> Result<Vec<Listed>, AllocError> {
+fn all_kinds(alloc: Global) -> Result<Vec<ListedSource>, AllocError> {
     let mut list = Vec::new(alloc);
     for i in 0..500 {
         list.push(kind_at(i))?;
@@ -129,7 +129,7 @@ fn all_kinds(alloc: Global) -> Result<Vec<Listed>, AllocError> {
 }
 
 /// What the sources of the list are.
-fn sources_of(alloc: Global, list: &[Listed]) -> Result<Vec<Source>, AllocError> {
+fn sources_of(alloc: Global, list: &[ListedSource]) -> Result<Vec<Source>, AllocError> {
     let mut sources = Vec::new(alloc);
     for kind in list {
         sources.push(kind.source)?;
@@ -137,7 +137,7 @@ fn sources_of(alloc: Global, list: &[Listed]) -> Result<Vec<Source>, AllocError>
     Ok(sources)
 }
 
-/// Puts a text between quotation marks, or `null`, behind the items of a list.
+/// Appends a string in quotation marks, or `null`, to the items of an array.
 fn push_text(text: &mut String, item: Option<&str>) -> Result<(), AllocError> {
     let Some(item) = item else {
         return push_item(text, "null");
@@ -147,8 +147,8 @@ fn push_text(text: &mut String, item: Option<&str>) -> Result<(), AllocError> {
     text.push_str("\"")
 }
 
-/// The sources as they are spelled, as the items of a JSON list.
-fn spelled(alloc: Global, list: &[Listed]) -> Result<String, AllocError> {
+/// The sources as they are written, as the items of a JSON array.
+fn spelled(alloc: Global, list: &[ListedSource]) -> Result<String, AllocError> {
     let mut text = String::new(alloc);
     for kind in list {
         push_text(&mut text, kind.spelled)?;
@@ -156,8 +156,8 @@ fn spelled(alloc: Global, list: &[Listed]) -> Result<String, AllocError> {
     Ok(text)
 }
 
-/// The contents of the sources, as the items of a JSON list.
-fn contents(alloc: Global, list: &[Listed]) -> Result<String, AllocError> {
+/// The contents of the sources, as the items of a JSON array.
+fn contents(alloc: Global, list: &[ListedSource]) -> Result<String, AllocError> {
     let mut text = String::new(alloc);
     for kind in list {
         push_text(&mut text, kind.source.content)?;
@@ -165,8 +165,8 @@ fn contents(alloc: Global, list: &[Listed]) -> Result<String, AllocError> {
     Ok(text)
 }
 
-/// The numbers of the ignored ones, as the items of a JSON list.
-fn ignored(alloc: Global, list: &[Listed]) -> Result<String, AllocError> {
+/// The indices of the ignored sources, as the items of a JSON array.
+fn ignored(alloc: Global, list: &[ListedSource]) -> Result<String, AllocError> {
     let mut text = String::new(alloc);
     for i in 0..list.len() {
         if list[i].source.ignored {
@@ -177,8 +177,8 @@ fn ignored(alloc: Global, list: &[Listed]) -> Result<String, AllocError> {
     Ok(text)
 }
 
-/// A map text that lists these sources, their contents, and the ignored ones of them.
-fn listing_of_kinds(alloc: Global, list: &[Listed]) -> Result<String, AllocError> {
+/// A map that lists these sources, their contents, and which of them are ignored.
+fn listing_of_kinds(alloc: Global, list: &[ListedSource]) -> Result<String, AllocError> {
     let sources = spelled(alloc, list)?;
     let contents = contents(alloc, list)?;
     let ignored = ignored(alloc, list)?;
@@ -194,7 +194,7 @@ fn listing_of_kinds(alloc: Global, list: &[Listed]) -> Result<String, AllocError
     joined(alloc, &pieces)
 }
 
-/// The distinct sources are these.
+/// Asserts that the distinct sources are these.
 fn are_sources(rt: &impl Abort, map: &SourceMap, sources: &[Source]) {
     assert_eq!(rt; map.source_count(), sources.len());
     for i in 0..sources.len() {
@@ -212,7 +212,7 @@ fn sources_of_all_kinds_are_numbered_as_a_scan_numbers_them(rt: HostRuntime) -> 
     let list = all_kinds(rt.alloc())?;
     let sources = sources_of(rt.alloc(), list.as_slice())?;
     let scanned = scan(rt.alloc(), sources.as_slice())?;
-    // Found by hand: the rows of the table without those that are another one spelled otherwise.
+    // Found by hand: the rows of the table without those that are equal to an earlier one.
     assert_eq!(rt; scanned.distinct.len(), 12);
     let text = listing_of_kinds(rt.alloc(), list.as_slice())?;
     let map = read(&rt, text.as_str());

@@ -1,4 +1,4 @@
-//! Single lines, translated.
+//! Translations of single lines.
 use super::read;
 use smap_trace::{LineOutcome, distinct_scripts, translate_line};
 use std::test::Fail;

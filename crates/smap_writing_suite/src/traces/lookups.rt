@@ -1,4 +1,4 @@
-//! Lookups in worked maps, and their probes.
+//! Lookups in example maps, and their probes.
 ghost use Rattle.std.specs.Prelude.{map};
 ghost use Rattle.smap_record.specs.Fitting.{mapping_position};
 ghost use Rattle.smap_record.specs.Record.{record_of};
@@ -58,7 +58,7 @@ fn a_position_falls_to_the_last_mapping_of_its_line(rt: HostRuntime) -> Result<(
     Ok(())
 }
 
-/// The positions of a map, each as it is asked for.
+/// The positions of a map, and how often one was asked for.
 #[derive(Drop)]
 struct Asked<'a> {
     map: &'a SourceMap,
@@ -89,7 +89,7 @@ fn count_of_search(map: &SourceMap, line: u32, column: u32) -> u32 {
     asked.count
 }
 
-/// The mapping that is found by going through all.
+/// The mapping that a linear scan finds.
 fn scanned<'a>(map: &'a SourceMap, line: u32, column: u32) -> Option<TokenView<'a>> {
     let mut found = None;
     for i in 0..map.token_count() {
@@ -101,7 +101,7 @@ fn scanned<'a>(map: &'a SourceMap, line: u32, column: u32) -> Option<TokenView<'
     found
 }
 
-/// A map of so many mappings of one line, three of them at each column.
+/// A map with this many mappings on one line, three of them at each column.
 fn crowded(alloc: Global, mappings: usize) -> Result<String, AllocError> {
     let mut text = String::new(alloc);
     text.push_str(r#"{"version":3,"sources":["a.js"],"mappings":"AAAA"#)?;

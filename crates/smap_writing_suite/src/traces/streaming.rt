@@ -1,4 +1,4 @@
-//! Whole traces, over readers and writers that move little, fail, count, or watch each other.
+//! Whole traces, with readers and writers that move few bytes at a time, fail, count, or watch each other.
 use super::read;
 use smap_io::Device;
 use smap_record::SourceMap;
@@ -14,7 +14,7 @@ const IGNORED: &str = r#"{"version":3,"sources":["a.js"],"ignoreList":[0],"mappi
 
 const SCRIPT: &str = "http://h/m/out.js";
 
-/// The lines of the worked trace, and what is written of each. All but the last have a line feed.
+/// The lines of the example trace, and what is written for each. All but the last have a line feed.
 const WORKED: [(&str, &str); 10] = [
     ("Error: x", "Error: x"),
     (
@@ -46,7 +46,7 @@ const WORKED: [(&str, &str); 10] = [
     ("@http://h/m/out.js:1:2147483648", "@http://h/m/a.js:13:3"),
 ];
 
-/// The worked trace, what is written of it, and what is left where its frames are dropped.
+/// The example trace, its translation, and what is left if its frames are left out.
 #[derive(Drop)]
 struct Texts {
     trace: String,
@@ -127,7 +127,7 @@ fn the_worked_trace_is_told_with_its_counts(rt: HostRuntime) -> Result<(), Fail>
                 "{step} bytes a call"
             );
             assert_eq!(rt; writer.flushes, 1, "{step} bytes a call");
-            assert!(rt; !writer.written_behind_flush, "{step} bytes a call");
+            assert!(rt; !writer.written_after_flush, "{step} bytes a call");
         }
     }
     Ok(())

@@ -9,5 +9,6 @@ pub returns-in-Ok-insert-clause-added : goal.returns-in-Ok-insert-clause-added
 returns-in-Ok-insert-clause-added c =
     let seen = scripts_of c.args.scripts.now.entries in
     let new = subst (IsNew seen) (sym c.in-Ok.ensures.ok) c.requires in
-    ap scripts_of c.in-Ok-insert.ensures.entries ∙ insert_new c.in-Ok.url c.args.map c.args.scripts.now.entries new
+    ap scripts_of c.in-Ok-insert.ensures.entries
+    ∙ insert_new c.in-Ok.url c.args.map c.args.scripts.now.entries new
     ∙ ap (λ (u : List ℕ). seen ++ (u, record_of c.args.map) ∷ []) c.in-Ok.ensures.ok

@@ -15,13 +15,17 @@ returns-then-contains_key-clause-stops c = λ n more e.
     let script = c.args.header.now.script.now in
     let base = c.args.header.now.base.now in
     let fits : n ≤ LIMIT = omega (arith, e) in
-    let at : c.len.result ≡ length seen = c.len.ensures.len ∙ sym (length-map c.args.scripts.now.entries script_of) in
-    let known = is_known script c.args.scripts.now.entries (sym c.contains_key.ensures ∙ c.if-contains_key.true) in
+    let at : c.len.result ≡ length seen = c.len.ensures.len
+    ∙ sym (length-map c.args.scripts.now.entries script_of) in
+    let known = is_known script c.args.scripts.now.entries (sym c.contains_key.ensures
+    ∙ c.if-contains_key.true) in
     says_as (λ answer. answer ≡ refusal c.len.result wrong.Repeated) (FaultOfEntry seen script base n more)
-    (λ answer is. repeated seen script base n c.len.result more answer at fits known is) c.refused.result c.refused.ensures
+    (λ answer is. repeated seen script base n c.len.result more answer at fits known is) c.refused.result
+    c.refused.ensures
 
 pub returns-in-Ok-clause-new : goal.returns-in-Ok-clause-new
-returns-in-Ok-clause-new c = is_unknown c.args.header.now.script.now c.args.scripts.now.entries (sym c.contains_key.ensures ∙ c.if-contains_key.false)
+returns-in-Ok-clause-new c = is_unknown c.args.header.now.script.now c.args.scripts.now.entries
+    (sym c.contains_key.ensures ∙ c.if-contains_key.false)
 
 pub returns-in-Err-NotUrl-clause-stops : goal.returns-in-Err-NotUrl-clause-stops
 returns-in-Err-NotUrl-clause-stops c = λ n more e.
@@ -29,8 +33,12 @@ returns-in-Err-NotUrl-clause-stops c = λ n more e.
     let script = c.args.header.now.script.now in
     let base = c.args.header.now.base.now in
     let fits : n ≤ LIMIT = omega (arith, e) in
-    let at : c.len-in-Err-NotUrl.result ≡ length seen = c.len-in-Err-NotUrl.ensures.len ∙ sym (length-map c.args.scripts.now.entries script_of) in
-    let new = is_unknown script c.args.scripts.now.entries (sym c.contains_key.ensures ∙ c.if-contains_key.false) in
+    let at : c.len-in-Err-NotUrl.result ≡ length seen = c.len-in-Err-NotUrl.ensures.len
+    ∙ sym (length-map c.args.scripts.now.entries script_of) in
+    let new = is_unknown script c.args.scripts.now.entries (sym c.contains_key.ensures
+    ∙ c.if-contains_key.false) in
     let bad = rw c.in-Err-NotUrl.field-0-is at c.in-Err-NotUrl.ensures in
-    says_as (λ answer. answer ≡ refusal c.len-in-Err-NotUrl.result wrong.Base) (FaultOfEntry seen script base n more)
-    (λ answer is. no_base seen script base n c.len-in-Err-NotUrl.result more answer at fits new bad is) c.refused-in-Err-NotUrl.result c.refused-in-Err-NotUrl.ensures
+    says_as (λ answer. answer ≡ refusal c.len-in-Err-NotUrl.result wrong.Base)
+    (FaultOfEntry seen script base n more)
+    (λ answer is. no_base seen script base n c.len-in-Err-NotUrl.result more answer at fits new bad is)
+    c.refused-in-Err-NotUrl.result c.refused-in-Err-NotUrl.ensures

@@ -1,34 +1,42 @@
 use Rattle.std.proofs.Common.{◌≡◌, ◌∙◌, ◌+◌, ◌++◌, length-append, sym, subst, arith, rules}
 use Rattle.std.proofs.lemmas.Result.{err_from_is_err_and}
+use Rattle.smap_io.specs.Device.{has_ended}
 use Rattle.smap_io.specs.Reading.{Gave}
 use Rattle.smap_io.specs.declared.reading.TheConstants.{MOST_CALLS}
 use Rattle.smap_io.proofs.ReadingLemmas.{Gave-then}
 use Rattle.smap_trace.specs.Translation.{AreDistinct}
 use Rattle.smap_bundle.specs.Header.{LONGEST_HEADER, trace_line}
-use Rattle.smap_bundle.specs.Bundle.{Answers, AreEntries, FaultAt}
+use Rattle.smap_bundle.specs.Bundle.{IsAnswer, AreEntries, FaultAt}
+use Rattle.smap_bundle.specs.Reach.{IsWithinEntry, ReadsNoMore}
 use Rattle.smap_bundle.specs.Scripts.{scripts_of}
-use Rattle.smap_bundle.proofs.EntryLemmas.{answered, distinct_more, entries_more, line_read}
+use Rattle.smap_bundle.proofs.EntryLemmas.{answered, distinct_more, entries_more, line_read, no_more}
 use Rattle.smap_bundle.proofs.StopLemmas.{gave_up_stops, stops_after}
 use Rattle.smap_bundle.proofs.entries.read_bundle.Goals as goal
 
 pub take_entry-requires-clause-line : goal.take_entry-requires-clause-line
 take_entry-requires-clause-line g c = rw c.as_slice-in-entries-2.ensures.value
-    (line_read g.R.Read.remaining c.entries.reader c.read_line.new.reader c.in-Ok.line.items c.entries.invariant.not_ended c.in-Ok.ensures.reads).0
+    (line_read g.R.Read.remaining c.entries.reader c.read_line.new.reader c.in-Ok.line.items
+    c.entries.invariant.not_ended c.in-Ok.ensures.reads).0
 
 pub returns-in-Err-clause-stops : goal.returns-in-Err-clause-stops
 returns-in-Err-clause-stops g c = λ hide.
     let reads = c.entries.invariant.reads in
-    gave_up_stops g.R.Read.remaining c.args.reader.now c.entries.reader c.read_line.new.reader reads.0 (LONGEST_HEADER + 1) MOST_CALLS c.entries.calls c.in-Err.fault c.unread.result
-    (Answers hide) reads.1 c.entries.invariant.failures reads.3 c.in-Err.ensures.reads c.unread.ensures
+    gave_up_stops g.R.Read.remaining c.args.reader.now c.entries.reader c.read_line.new.reader reads.0
+    (LONGEST_HEADER + 1) MOST_CALLS c.entries.calls c.in-Err.fault c.unread.result
+    (IsAnswer hide) ReadsNoMore reads.1 c.entries.invariant.failures reads.3 c.in-Err.ensures.reads
+    c.unread.ensures
 
 pub returns-then-eq-clause-takes : goal.returns-then-eq-clause-takes
 returns-then-eq-clause-takes g c =
     let reads = c.entries.invariant.reads in
     let is : c.in-Ok.line.items ≡ trace_line = search rules in
-    let line = line_read g.R.Read.remaining c.entries.reader c.read_line.new.reader c.in-Ok.line.items c.entries.invariant.not_ended c.in-Ok.ensures.reads in
+    let line = line_read g.R.Read.remaining c.entries.reader c.read_line.new.reader c.in-Ok.line.items
+    c.entries.invariant.not_ended c.in-Ok.ensures.reads in
     record {
       entries = reads.0;
-      gave = Gave-then g.R.Read.remaining c.args.reader.now c.entries.reader c.read_line.new.reader reads.0 trace_line reads.1 (subst (Gave g.R.Read.remaining c.entries.reader c.read_line.new.reader) is line.1);
+      gave = Gave-then g.R.Read.remaining c.args.reader.now c.entries.reader c.read_line.new.reader reads.0
+          trace_line reads.1 (subst (Gave g.R.Read.remaining c.entries.reader c.read_line.new.reader)
+          is line.1);
       are = subst (AreEntries reads.0) (sym c.new.ensures) reads.2;
       distinct = subst AreDistinct (sym c.new.ensures) c.entries.invariant.distinct;
     }
@@ -39,32 +47,45 @@ returns-in_err-take_entry-clause-stops g c = λ hide.
     let reads = c.entries.invariant.reads in
     let line = c.in-Ok.line.items in
     let seen = scripts_of c.entries.scripts.entries in
-    let was = line_read g.R.Read.remaining c.entries.reader c.read_line.new.reader line c.entries.invariant.not_ended c.in-Ok.ensures.reads in
+    let was = line_read g.R.Read.remaining c.entries.reader c.read_line.new.reader line
+    c.entries.invariant.not_ended c.in-Ok.ensures.reads in
     let stops = rw c.as_slice-in-entries-2.ensures.value at c.in_err-take_entry.ensures.stops in
     rw (p.1, p.2) (stops_after g.R.Read.remaining c.args.reader.now c.read_line.new.reader (reads.0 ++ line)
-    (Gave-then g.R.Read.remaining c.args.reader.now c.entries.reader c.read_line.new.reader reads.0 line reads.1 was.1) (was.2 ∙ c.entries.invariant.failures)
-    c.take_entry.new.reader MOST_CALLS c.read_line.new.calls (λ more. FaultAt seen (line ++ more)) (Answers hide) c.in_err-take_entry.field-0.0
-    (λ is. let paid = c.in-Ok.ensures.calls.paid (c.in_err-take_entry.ensures.open is) in omega (arith, length-append reads.0 line, reads.3, paid))
-    (λ text answer fault. answered hide seen reads.0 line text answer reads.2 c.entries.invariant.distinct fault) stops)
+    (Gave-then g.R.Read.remaining c.args.reader.now c.entries.reader c.read_line.new.reader reads.0 line
+    reads.1 was.1) (was.2 ∙ c.entries.invariant.failures)
+    c.take_entry.new.reader MOST_CALLS c.read_line.new.calls (λ more. FaultAt seen (line ++ more))
+    (IsAnswer hide)
+    (IsWithinEntry line) ReadsNoMore c.in_err-take_entry.field-0.0
+    (λ is. let paid = c.in-Ok.ensures.calls.paid (c.in_err-take_entry.ensures.open is) in
+    omega (arith, length-append reads.0 line, reads.3, paid))
+    (λ text answer fault. answered hide seen reads.0 line text answer reads.2 c.entries.invariant.distinct
+    fault)
+    (λ text answer within. no_more (has_ended c.read_line.new.reader) seen reads.0 line text answer reads.2
+    c.entries.invariant.distinct was.0 within) stops)
 
 pub entries-preserved : goal.entries-preserved
 entries-preserved g c =
     let reads = c.entries.invariant.reads in
     let line = c.in-Ok.line.items in
     let seen = scripts_of c.entries.scripts.entries in
-    let was = line_read g.R.Read.remaining c.entries.reader c.read_line.new.reader line c.entries.invariant.not_ended c.in-Ok.ensures.reads in
+    let was = line_read g.R.Read.remaining c.entries.reader c.read_line.new.reader line
+    c.entries.invariant.not_ended c.in-Ok.ensures.reads in
     let t = rw c.as_slice-in-entries-2.ensures.value at c.in_ok-take_entry.ensures.takes in
     let entry = line ++ t.bytes in
     let paid = c.in-Ok.ensures.calls.paid c.in_ok-take_entry.ensures.open in
     record {
       reads = (
         reads.0 ++ entry,
-        Gave-then g.R.Read.remaining c.args.reader.now c.entries.reader c.take_entry.new.reader reads.0 entry reads.1
-            (Gave-then g.R.Read.remaining c.entries.reader c.read_line.new.reader c.take_entry.new.reader line t.bytes was.1 t.gave),
-        subst (AreEntries (reads.0 ++ entry)) (sym t.added) (entries_more seen reads.0 entry t.script reads.2 t.entry),
+        Gave-then g.R.Read.remaining c.args.reader.now c.entries.reader c.take_entry.new.reader reads.0 entry
+            reads.1
+            (Gave-then g.R.Read.remaining c.entries.reader c.read_line.new.reader c.take_entry.new.reader line
+            t.bytes was.1 t.gave),
+        subst (AreEntries (reads.0 ++ entry)) (sym t.added)
+            (entries_more seen reads.0 entry t.script reads.2 t.entry),
         omega (arith, length-append reads.0 entry, length-append line t.bytes, reads.3, paid, t.calls.paid),
       );
-      distinct = subst AreDistinct (sym t.added) (distinct_more seen t.script c.entries.invariant.distinct t.new_script);
+      distinct = subst AreDistinct (sym t.added)
+          (distinct_more seen t.script c.entries.invariant.distinct t.new_script);
       failures = c.in_ok-take_entry.ensures.failures ∙ was.2 ∙ c.entries.invariant.failures;
       not_ended = c.in_ok-take_entry.ensures.not_ended;
     }

@@ -9,7 +9,8 @@ use Rattle.smap_bundle.proofs.entries.read_bundle.Given as goal
 
 abbrev pub invariant-entries : goal.invariant-entries
 invariant-entries g l = record {
-  reads : (entries : List ℕ) × Gave g.R.Read.remaining l.fn.reader l.reader entries × AreEntries entries (scripts_of l.scripts.entries) × (MOST_CALLS ≤ l.calls + length entries);
+  reads : (entries : List ℕ) × Gave g.R.Read.remaining l.fn.reader l.reader entries
+      × AreEntries entries (scripts_of l.scripts.entries) × (MOST_CALLS ≤ l.calls + length entries);
   distinct : AreDistinct (scripts_of l.scripts.entries);
   failures : device_failures l.reader ≡ device_failures l.fn.reader;
   not_ended : has_ended l.reader ≡ false;

@@ -1,4 +1,4 @@
-use Rattle.std.proofs.Common.{false, arith, ◌≡◌, ◌∙◌, ◌++◌, [], inl, length, sym, refl}
+use Rattle.std.proofs.Common.{false, arith, ◌≡◌, ◌∙◌, ◌++◌, [], inl, inr, length, sym, refl}
 use Rattle.std.proofs.lemmas.List.{length-map}
 use Rattle.std.proofs.lemmas.Result.{on_ok_weaker}
 use Rattle.smap_io.specs.Device.{has_ended}
@@ -6,28 +6,42 @@ use Rattle.smap_io.proofs.ReadingLemmas.{Gave-none}
 use Rattle.smap_bundle.specs.Bundle.{FaultAt, FaultOfEntry, refusal}
 use Rattle.smap_bundle.specs.declared.fault.BundleFault.TheVariants as stop
 use Rattle.smap_bundle.specs.declared.fault.EntryFault.TheVariants as wrong
+use Rattle.smap_bundle.specs.Reach.{IsWithinEntry, IsWithinMap}
 use Rattle.smap_bundle.specs.Scripts.{script_of, scripts_of}
 use Rattle.smap_bundle.specs.Stopping.{Stops}
-use Rattle.smap_bundle.proofs.EntryLemmas.{entry_taken, fault_behind, has_none, open_still}
+use Rattle.smap_bundle.proofs.EntryLemmas.{entry_taken, fault_after, has_none, open_still}
 use Rattle.smap_bundle.proofs.StopLemmas.{if_stops, match_any, refusal_isnt_read, refusal_stops, stops_after}
 use Rattle.smap_bundle.proofs.entries.take_entry.Goals as goal
 
 pub take_map-requires-clause-not_ended : goal.take_map-requires-clause-not_ended
 take_map-requires-clause-not_ended g c =
-    open_still (has_ended c.args.reader.now) c.args.line.now c.in-Some.header.script.now c.in-Some.header.base.now c.in-Some.ensures.0 c.requires.line c.in-Some.ensures.1
+    open_still (has_ended c.args.reader.now) c.args.line.now c.in-Some.header.script.now
+    c.in-Some.header.base.now c.in-Some.ensures.0 c.requires.line c.in-Some.ensures.1
 
 pub returns-in_default-clause-stops : goal.returns-in_default-clause-stops
 returns-in_default-clause-stops g c =
     let seen = scripts_of c.args.scripts.now.entries in
-    let at : c.len.result ≡ length seen = c.len.ensures.len ∙ sym (length-map c.args.scripts.now.entries script_of) in
-    refusal_stops g.R.Read.remaining c.args.reader.now c.args.reader.now [] (Gave-none g.R.Read.remaining c.args.reader.now) refl
-    c.args.calls.now (record { entry = c.len.result; fault = wrong.Header }) (λ more. FaultAt seen (c.args.line.now ++ more)) c.refused.result c.refused.ensures
-    (λ more may. rw at (inl (has_none (has_ended c.args.reader.now) c.args.line.now more c.requires.line may c.requires.no_trace c.in_default.ensures, refl)))
+    let at : c.len.result ≡ length seen = c.len.ensures.len
+    ∙ sym (length-map c.args.scripts.now.entries script_of) in
+    refusal_stops g.R.Read.remaining c.args.reader.now c.args.reader.now []
+    (Gave-none g.R.Read.remaining c.args.reader.now) refl
+    c.args.calls.now (record { entry = c.len.result; fault = wrong.Header })
+    (λ more. FaultAt seen (c.args.line.now ++ more))
+    (IsWithinEntry c.args.line.now) c.refused.result c.refused.ensures
+    (λ more may.
+    rw at (inl (
+      has_none (has_ended c.args.reader.now) c.args.line.now more c.requires.line may
+          c.requires.no_trace c.in_default.ensures,
+      refl,
+    ))) (inl refl)
 
 pub returns-clause-takes : goal.returns-clause-takes
 returns-clause-takes g c = on_ok_weaker c.take_map.result
-    (entry_taken g.R.Read.remaining c.args.reader.now c.take_map.new.reader c.args.calls.now c.take_map.new.calls c.args.line.now c.in-Some.header.script.now c.in-Some.header.base.now c.in-Some.ensures.0 c.in-Some.header.length
-    (scripts_of c.args.scripts.now.entries) (scripts_of c.take_map.new.scripts.entries) c.in-Some.ensures.1 c.in-Some.ensures.2) c.take_map.ensures.takes
+    (entry_taken g.R.Read.remaining c.args.reader.now c.take_map.new.reader c.args.calls.now
+    c.take_map.new.calls c.args.line.now c.in-Some.header.script.now c.in-Some.header.base.now
+    c.in-Some.ensures.0 c.in-Some.header.length
+    (scripts_of c.args.scripts.now.entries) (scripts_of c.take_map.new.scripts.entries) c.in-Some.ensures.1
+    c.in-Some.ensures.2) c.take_map.ensures.takes
 
 pub returns-clause-stops : goal.returns-clause-stops
 returns-clause-stops g c =
@@ -35,19 +49,30 @@ returns-clause-stops g c =
     let script = c.in-Some.header.script.now in
     let base = c.in-Some.header.base.now in
     let n = c.in-Some.ensures.0 in
-    if_stops c.take_map.result (Stops g.R.Read.remaining c.args.reader.now c.take_map.new.reader c.args.calls.now (FaultOfEntry seen script base n))
-    (Stops g.R.Read.remaining c.args.reader.now c.take_map.new.reader c.args.calls.now (λ more. FaultAt seen (c.args.line.now ++ more)))
-    (λ s stops. stops_after g.R.Read.remaining c.args.reader.now c.args.reader.now [] (Gave-none g.R.Read.remaining c.args.reader.now) refl c.take_map.new.reader
-    c.args.calls.now c.args.calls.now (FaultOfEntry seen script base n) (λ more. FaultAt seen (c.args.line.now ++ more)) s (λ is. omega arith)
-    (λ text answer fault. fault_behind seen c.args.line.now script base n text answer c.in-Some.ensures.1 fault) stops)
+    if_stops c.take_map.result (Stops g.R.Read.remaining c.args.reader.now c.take_map.new.reader
+    c.args.calls.now
+    (FaultOfEntry seen script base n) (IsWithinMap n))
+    (Stops g.R.Read.remaining c.args.reader.now c.take_map.new.reader c.args.calls.now
+    (λ more. FaultAt seen (c.args.line.now ++ more)) (IsWithinEntry c.args.line.now))
+    (λ s stops. stops_after g.R.Read.remaining c.args.reader.now c.args.reader.now []
+    (Gave-none g.R.Read.remaining c.args.reader.now) refl c.take_map.new.reader
+    c.args.calls.now c.args.calls.now (FaultOfEntry seen script base n)
+    (λ more. FaultAt seen (c.args.line.now ++ more)) (IsWithinMap n) (IsWithinEntry c.args.line.now) s
+    (λ is. omega arith)
+    (λ text answer fault. fault_after seen c.args.line.now script base n text answer c.in-Some.ensures.1
+    fault)
+    (λ text answer within. inr (script, base, n, c.in-Some.ensures.1, within)) stops)
     (c.take_map.ensures.stops n c.in-Some.ensures.2)
 
 pub returns-in_default-clause-open : goal.returns-in_default-clause-open
 returns-in_default-clause-open g c = λ is.
-    absurd (refusal_isnt_read (λ answer. answer ≡ refusal c.len.result wrong.Header) c.refused.result c.refused.ensures is)
+    absurd (refusal_isnt_read (λ answer. answer ≡ refusal c.len.result wrong.Header) c.refused.result
+    c.refused.ensures is)
 
 pub returns-clause-open : goal.returns-clause-open
 returns-clause-open g c =
-    let still = open_still (has_ended c.args.reader.now) c.args.line.now c.in-Some.header.script.now c.in-Some.header.base.now c.in-Some.ensures.0 c.requires.line c.in-Some.ensures.1 in
-    match_any c.take_map.result (λ _. has_ended c.args.reader.now ≡ false) (λ s. s ≡ stop.Read → has_ended c.args.reader.now ≡ false)
+    let still = open_still (has_ended c.args.reader.now) c.args.line.now c.in-Some.header.script.now
+    c.in-Some.header.base.now c.in-Some.ensures.0 c.requires.line c.in-Some.ensures.1 in
+    match_any c.take_map.result (λ _. has_ended c.args.reader.now ≡ false) (λ s. s ≡ stop.Read
+    → has_ended c.args.reader.now ≡ false)
     (λ _. still) (λ s is. still)

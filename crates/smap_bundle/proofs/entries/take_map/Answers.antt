@@ -1,4 +1,5 @@
-use Rattle.std.proofs.Common.{◌≡◌, ◌∙◌, ◌++◌, ◌∷◌, [], Err, length, sym, refl, arith}
+use Rattle.std.proofs.Common.{◌≡◌, ◌∙◌, ◌++◌, ◌∷◌, [], inl, inr, Err, length, length-append, sym, refl}
+use Rattle.std.proofs.Common.{arith, subst}
 use Rattle.std.proofs.lemmas.List.{length-map}
 use Rattle.std.proofs.lemmas.Result.{err_from_is_err_and, on_ok_weaker}
 use Rattle.smap_io.proofs.ReadingLemmas.{Gave-none}
@@ -8,18 +9,24 @@ use Rattle.smap_bundle.specs.declared.fault.EntryFault.TheVariants as wrong
 use Rattle.smap_bundle.specs.declared.fault.BundleFault.TheVariants as stop
 use Rattle.smap_bundle.specs.Bundle.{FaultOfEntry, refusal, usual}
 use Rattle.smap_bundle.specs.Entries.{cut_off}
+use Rattle.smap_bundle.specs.Reach.{IsFaultOfMap, IsWithinMap}
 use Rattle.smap_bundle.specs.Scripts.{script_of, scripts_of}
 use Rattle.smap_bundle.specs.Stopping.{Stops}
 use Rattle.smap_bundle.proofs.EntryLemmas.{bad_map, cut_entry, is_len}
-use Rattle.smap_bundle.proofs.StopLemmas.{if_stops, memory_stops, says_as, says_stops, stops_after}
+use Rattle.smap_bundle.proofs.StopLemmas.{if_stops, memory_stops, says_any, says_as, says_stops, stops_after}
 use Rattle.smap_bundle.proofs.entries.take_map.Goals as goal
 
 pub returns-in_err-base-clause-stops : goal.returns-in_err-base-clause-stops
 returns-in_err-base-clause-stops g c = λ n e.
     let p = err_from_is_err_and c.from_residual.result c.from_residual.ensures.1 in
-    rw (p.1, p.2) (says_stops g.R.Read.remaining c.args.reader.now c.args.reader.now [] (Gave-none g.R.Read.remaining c.args.reader.now) refl c.args.calls.now
-    (FaultOfEntry (scripts_of c.args.scripts.now.entries) c.args.header.now.script.now c.args.header.now.base.now n)
-    c.in_err-base.field-0.0 (λ more. c.in_err-base.ensures.stops n more e))
+    rw (p.1, p.2) (says_stops g.R.Read.remaining c.args.reader.now c.args.reader.now []
+    (Gave-none g.R.Read.remaining c.args.reader.now) refl c.args.calls.now
+    (FaultOfEntry (scripts_of c.args.scripts.now.entries) c.args.header.now.script.now
+    c.args.header.now.base.now n) (IsWithinMap n)
+    c.in_err-base.field-0.0 (λ more. c.in_err-base.ensures.stops n more e)
+    (says_any (FaultOfEntry (scripts_of c.args.scripts.now.entries) c.args.header.now.script.now
+    c.args.header.now.base.now n []) (IsWithinMap n []) (λ answer. inl refl) c.in_err-base.field-0.0
+    (c.in_err-base.ensures.stops n [] e)))
 
 pub returns-in_err-bytes-clause-stops : goal.returns-in_err-bytes-clause-stops
 returns-in_err-bytes-clause-stops g c = λ n e.
@@ -28,10 +35,16 @@ returns-in_err-bytes-clause-stops g c = λ n e.
     let script = c.args.header.now.script.now in
     let base = c.args.header.now.base.now in
     let len = is_len n c.args.header.now.length e c.in_ok-base.ensures.fits in
-    let at : c.len-entry.result ≡ length seen = c.len-entry.ensures.len ∙ sym (length-map c.args.scripts.now.entries script_of) in
-    rw (p.1, p.2) (stops_after g.R.Read.remaining c.args.reader.now c.args.reader.now [] (Gave-none g.R.Read.remaining c.args.reader.now) refl c.bytes_of.new.reader
-    c.args.calls.now c.args.calls.now (cut_off c.len-entry.result n) (FaultOfEntry seen script base n) c.in_err-bytes.field-0.0 (λ is. omega arith)
-    (λ text answer cut. cut_entry seen script base n c.len-entry.result text answer c.in_ok-base.base at (omega (arith, len, c.in_ok-base.ensures.fits)) c.in_ok-base.ensures.new c.in_ok-base.ensures.base cut)
+    let at : c.len-entry.result ≡ length seen = c.len-entry.ensures.len
+    ∙ sym (length-map c.args.scripts.now.entries script_of) in
+    rw (p.1, p.2) (stops_after g.R.Read.remaining c.args.reader.now c.args.reader.now []
+    (Gave-none g.R.Read.remaining c.args.reader.now) refl c.bytes_of.new.reader
+    c.args.calls.now c.args.calls.now (cut_off c.len-entry.result n) (FaultOfEntry seen script base n)
+    (IsWithinMap n) (IsWithinMap n) c.in_err-bytes.field-0.0 (λ is. omega arith)
+    (λ text answer cut. cut_entry seen script base n c.len-entry.result text answer c.in_ok-base.base at
+    (omega (arith, len, c.in_ok-base.ensures.fits)) c.in_ok-base.ensures.new c.in_ok-base.ensures.base
+    cut)
+    (λ text answer within. within)
     (rw len c.in_err-bytes.ensures.stops))
 
 pub returns-in_err-map-clause-stops : goal.returns-in_err-map-clause-stops
@@ -42,14 +55,29 @@ returns-in_err-map-clause-stops g c = λ n e.
     let base = c.args.header.now.base.now in
     let bytes = c.in_ok-bytes.bytes.items in
     let len = is_len n c.args.header.now.length e c.in_ok-base.ensures.fits in
-    let at : c.len-entry.result ≡ length seen = c.len-entry.ensures.len ∙ sym (length-map c.args.scripts.now.entries script_of) in
-    rw (p.1, p.2) (says_stops g.R.Read.remaining c.args.reader.now c.bytes_of.new.reader (bytes ++ 10 ∷ []) c.in_ok-bytes.ensures.gave c.in_ok-bytes.ensures.failures
-    c.args.calls.now (FaultOfEntry seen script base n) c.in_err-map.field-0.0
-    (λ more. says_as (λ answer. (fault : Fault) × (reading c.in_ok-base.base usual bytes ≡ Err fault) × (answer ≡ refusal c.len-entry.result (wrong.Map fault)))
+    let at : c.len-entry.result ≡ length seen = c.len-entry.ensures.len
+    ∙ sym (length-map c.args.scripts.now.entries script_of) in
+    rw (p.1, p.2) (says_stops g.R.Read.remaining c.args.reader.now c.bytes_of.new.reader (bytes ++ 10 ∷ [])
+    c.in_ok-bytes.ensures.gave c.in_ok-bytes.ensures.failures
+    c.args.calls.now (FaultOfEntry seen script base n) (IsWithinMap n) c.in_err-map.field-0.0
+    (λ more. says_as (λ answer. (fault : Fault) × (reading c.in_ok-base.base usual bytes ≡ Err fault)
+    × (answer ≡ refusal c.len-entry.result (wrong.Map fault)))
     (FaultOfEntry seen script base n ((bytes ++ 10 ∷ []) ++ more))
-    (λ answer bad. bad_map seen script base bytes more n c.len-entry.result bad.0 answer c.in_ok-base.base at (omega (arith, len, c.in_ok-base.ensures.fits))
+    (λ answer bad. bad_map seen script base bytes more n c.len-entry.result bad.0 answer c.in_ok-base.base at
+    (omega (arith, len, c.in_ok-base.ensures.fits))
     (c.in_ok-bytes.ensures.len ∙ sym len) c.in_ok-base.ensures.new c.in_ok-base.ensures.base bad.1 bad.2)
-    c.in_err-map.field-0.0 c.in_err-map.ensures.stops))
+    c.in_err-map.field-0.0 c.in_err-map.ensures.stops)
+    (says_as (λ answer. (fault : Fault) × (reading c.in_ok-base.base usual bytes ≡ Err fault)
+    × (answer ≡ refusal c.len-entry.result (wrong.Map fault))) (IsWithinMap n (bytes ++ 10 ∷ []))
+    (λ answer bad. inr (
+      subst IsFaultOfMap (sym bad.2) tt,
+      omega (
+        arith,
+        length-append bytes (10 ∷ []),
+        c.in_ok-bytes.ensures.len,
+        len,
+      ),
+    )) c.in_err-map.field-0.0 c.in_err-map.ensures.stops))
 
 pub returns-clause-takes : goal.returns-clause-takes
 returns-clause-takes g c = on_ok_weaker c.add.result (λ added. record {
@@ -68,7 +96,12 @@ returns-clause-takes g c = on_ok_weaker c.add.result (λ added. record {
 
 pub returns-clause-stops : goal.returns-clause-stops
 returns-clause-stops g c = λ n e.
-    let fault = FaultOfEntry (scripts_of c.args.scripts.now.entries) c.args.header.now.script.now c.args.header.now.base.now n in
-    if_stops c.add.result (λ s. s ≡ stop.Memory) (Stops g.R.Read.remaining c.args.reader.now c.bytes_of.new.reader c.args.calls.now fault)
-    (λ s is. memory_stops g.R.Read.remaining c.args.reader.now c.bytes_of.new.reader (c.in_ok-bytes.bytes.items ++ 10 ∷ []) c.in_ok-bytes.ensures.gave c.in_ok-bytes.ensures.failures c.args.calls.now fault s is)
+    let fault = FaultOfEntry (scripts_of c.args.scripts.now.entries) c.args.header.now.script.now
+    c.args.header.now.base.now n in
+    if_stops c.add.result (λ s. s ≡ stop.Memory)
+    (Stops g.R.Read.remaining c.args.reader.now c.bytes_of.new.reader c.args.calls.now fault
+    (IsWithinMap n))
+    (λ s is. memory_stops g.R.Read.remaining c.args.reader.now c.bytes_of.new.reader
+    (c.in_ok-bytes.bytes.items ++ 10 ∷ []) c.in_ok-bytes.ensures.gave c.in_ok-bytes.ensures.failures
+    c.args.calls.now fault (IsWithinMap n) s is)
     c.add.ensures.memory

@@ -1,15 +1,15 @@
--- Where memory runs out behind the reading, the answer is that of want of memory.
+-- Where memory runs out after the reading, the answer is Memory.
 use Rattle.std.proofs.Common.{refl, Err}
 use Rattle.smap_c.specs.Held.{held}
 use Rattle.smap_c.specs.declared.opening.OpenFault.TheVariants as faults
 use Rattle.smap_c.proofs.OpeningLemmas.{refused_told}
 use Rattle.smap_c.proofs.maps.smap_open.Goals as goal
 
-pub returns-in-Err : goal.returns-in-Err
-returns-in-Err c = (Err faults.Memory, tt, ((refl, refl), refl))
+pub returns-in-Err-clause-opened : goal.returns-in-Err-clause-opened
+returns-in-Err-clause-opened c = (Err faults.Memory, tt, ((refl, refl), refl))
 
-pub returns-in-Err-Refused : goal.returns-in-Err-Refused
-returns-in-Err-Refused c =
+pub returns-in-Err-Refused-clause-opened : goal.returns-in-Err-Refused-clause-opened
+returns-in-Err-Refused-clause-opened c =
     refused_told c.args.bytes.now c.args.base.now c.args.limits.now c.in-Err-Refused.refused
     (held c.args.map.now.owner.value) c.args.fault.now c.tell_fault.new.out c.tell_fault.result
-    (rw c.in-Err-Refused.field-0-is at c.in-Err-Refused.ensures) c.tell_fault.ensures
+    (rw c.in-Err-Refused.field-0-is at c.in-Err-Refused.ensures) c.tell_fault.ensures.told

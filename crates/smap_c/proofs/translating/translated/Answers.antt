@@ -15,4 +15,4 @@ returns-in-Ok c =
     ∙ ap (λ (xs : List ℕ). Some xs) c.new.ensures.items)
     (sym (ap (λ (v : Vec ℕ). Some v.items) c.into_inner.ensures))
     ∙ ap (λ (ss : List Script). told_trace ss c.args.hide c.args.trace.now)
-    (ap scripts_in c.as_slice.ensures.value ∙ c.in_ok-lent.ensures.lent)
+    (ap scripts_in c.as_slice.ensures.value ∙ c.in_ok-pairs.ensures.pairs)

@@ -5,4 +5,5 @@ use Rattle.smap_canon.proofs.AsciiLemmas.{IsUtf8-mappings_text}
 use Rattle.smap_canon.proofs.layout.mappings_of.Goals as goal
 
 pub unwrap-requires : goal.unwrap-requires
-unwrap-requires c = c.from_utf8.ensures.succeeds (subst IsUtf8 (sym c.in_ok-text.ensures) (IsUtf8-mappings_text (tokens_of c.args.listed)))
+unwrap-requires c = c.from_utf8.ensures.succeeds
+    (subst IsUtf8 (sym c.in_ok-text.ensures) (IsUtf8-mappings_text (tokens_of c.args.listed)))

@@ -9,14 +9,16 @@ use Rattle.smap_canon.proofs.numbering.listed_mappings.Goals as goal
 pub push-requires : goal.push-requires
 push-requires c =
     let tokens = c.args.map.now.listing.tokens in
-    all_at IsPlaced tokens c.loop-i.i c.listed_token.result c.token_count-i-end.ensures.listing.encodable.1 c.listed_token.ensures
+    all_at IsPlaced tokens c.loop-i.i c.listed_token.result c.token_count-i-end.ensures.listing.encodable.1
+    c.listed_token.ensures
 
 pub loop-i-preserved : goal.loop-i-preserved
 loop-i-preserved c =
     let tokens = c.args.map.now.listing.tokens in
     let next = take_next tokens c.loop-i.i c.listed_token.result c.listed_token.ensures in
     subst (Encodes c.push.new.self) (sym next)
-    (c.in_ok-push.ensures (take c.loop-i.i tokens) c.loop-i.invariant (subst IsEncodable next (encodable-take tokens (c.loop-i.i + 1) c.token_count-i-end.ensures.listing.encodable)))
+    (c.in_ok-push.ensures (take c.loop-i.i tokens) c.loop-i.invariant (subst IsEncodable next
+    (encodable-take tokens (c.loop-i.i + 1) c.token_count-i-end.ensures.listing.encodable)))
 
 pub returns : goal.returns
 returns c =

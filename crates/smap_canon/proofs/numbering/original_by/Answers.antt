@@ -14,26 +14,39 @@ use Rattle.smap_canon.proofs.numbering.original_by.Goals as goal
 use Rattle.smap_canon.proofs.numbering.original_by.Goals.{in-Some, in-None}
 
 pub overflow_cast-result : goal.overflow_cast-result
-overflow_cast-result c = omega (arith, c.listed.ensures.within, length-distinct same_entry c.args.map.now.listing.sources, c.requires.few_sources)
+overflow_cast-result c = omega (
+  arith,
+  c.listed.ensures.within,
+  length-distinct same_entry c.args.map.now.listing.sources,
+  c.requires.few_sources,
+)
 
 pub returns : goal.returns
 returns c =
     let l = c.args.map.now.listing in
     let o = c.args.original in
     let names = c.args.names.now in
-    let source : c.listed.result ≡ position_or_len (same_entry (unwrap_or (slice_get l.sources o.source) no_entry)) (record_of c.args.map.now).sources =
-    sym (place-at same_entry same_entries own_entry (record_of c.args.map.now).sources c.listed.result (unwrap_or (slice_get l.sources o.source) no_entry)
-    (distinct-IsDistinct same_entry l.sources) (c.listed.ensures.source ∙ source-there l.sources o.source c.requires.listed.source)) in
-    let name : c.match-original.name ≡ option_map (λ n. position_or_len (bytes_eq n) (used_in names)) (origin_of l o).name = elim c.match-original.branch [
+    let source : c.listed.result ≡ position_or_len
+    (same_entry (unwrap_or (slice_get l.sources o.source) no_entry)) (record_of c.args.map.now).sources =
+    sym (place-at same_entry same_entries own_entry (record_of c.args.map.now).sources c.listed.result
+    (unwrap_or (slice_get l.sources o.source) no_entry)
+    (distinct-IsDistinct same_entry l.sources)
+    (c.listed.ensures.source ∙ source-there l.sources o.source c.requires.listed.source)) in
+    let name : c.match-original.name ≡ option_map (λ n. position_or_len (bytes_eq n) (used_in names))
+    (origin_of l o).name = elim c.match-original.branch [
       | in-Some w ↦
           let numbers = names.numbers.items in
-          let below : w.in-Some.listed < length l.names = subst (λ i. IfSome i (λ n. n < length l.names)) w.in-Some.is c.requires.listed.name in
+          let below : w.in-Some.listed < length l.names =
+          subst (λ i. IfSome i (λ n. n < length l.names)) w.in-Some.is c.requires.listed.name in
           let inside : w.in-Some.listed < length numbers = omega (arith, below, c.requires.numbers.count) in
-          w.name-is ∙ ap Some w.index.ensures ∙ sym (slice_get-get_or numbers w.in-Some.listed w.index.result.now inside)
+          w.name-is ∙ ap Some w.index.ensures
+          ∙ sym (slice_get-get_or numbers w.in-Some.listed w.index.result.now inside)
           ∙ slice_get-get_or numbers w.in-Some.listed 0 inside
           ∙ number-there l.names (used_in names) numbers w.in-Some.listed c.requires.numbers below
           (subst (λ i. IfSome i (λ n. get_or numbers n 0 ≢ UNUSED)) w.in-Some.is c.requires.numbered)
-          ∙ ap (λ i. option_map (λ n. position_or_len (bytes_eq n) (used_in names)) (option_and_then (slice_get l.names) i)) (sym w.in-Some.is)
-      | in-None w ↦ w.name-is ∙ ap (λ i. option_map (λ n. position_or_len (bytes_eq n) (used_in names)) (option_and_then (slice_get l.names) i)) (sym w.in-None.is)
+          ∙ ap (λ i. option_map (λ n. position_or_len (bytes_eq n) (used_in names))
+          (option_and_then (slice_get l.names) i)) (sym w.in-Some.is)
+      | in-None w ↦ w.name-is ∙ ap (λ i. option_map (λ n. position_or_len (bytes_eq n) (used_in names))
+          (option_and_then (slice_get l.names) i)) (sym w.in-None.is)
     ] in
     λ i. record { source = source i; line = o.line; column = o.column; name = name i }

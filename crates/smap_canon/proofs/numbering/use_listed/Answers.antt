@@ -1,7 +1,8 @@
 use Rattle.std.proofs.Common.{◌∙◌, sym, ap, arith}
 use Rattle.std.proofs.lemmas.List.{length-map}
 use Rattle.smap_canon.specs.Numbering.{texts_of, with_name, used_in}
-use Rattle.smap_canon.proofs.NumberingLemmas.{texts-insert_key, place-key, numbers-put, own-numbered, still-numbered}
+use Rattle.smap_canon.proofs.NumberingLemmas.{texts-insert_key, place-key, numbers-put, own_numbered}
+use Rattle.smap_canon.proofs.NumberingLemmas.{still_numbered}
 use Rattle.smap_canon.proofs.numbering.use_listed.Goals as goal
 
 pub returns-clause-used : goal.returns-clause-used
@@ -11,17 +12,22 @@ returns-clause-used c =
 
 pub returns-clause-numbers : goal.returns-clause-numbers
 returns-clause-numbers c =
-    let keys = ap texts_of c.in_ok-number.ensures.keys ∙ texts-insert_key c.args.names.now.used.keys c.name.result in
+    let keys =
+    ap texts_of c.in_ok-number.ensures.keys ∙ texts-insert_key c.args.names.now.used.keys c.name.result in
     let place = c.in_ok-number.ensures.index ∙ place-key c.name.result c.args.names.now.used.keys in
-    numbers-put c.args.map.now.listing.names (used_in c.args.names.now) (texts_of c.insert_full.new.self.keys) c.args.names.now.numbers.items
+    numbers-put c.args.map.now.listing.names (used_in c.args.names.now) (texts_of c.insert_full.new.self.keys)
+    c.args.names.now.numbers.items
     c.args.listed c.in_ok-number.number c.name.result.now c.requires.numbers c.name.ensures keys place
 
 pub returns-clause-numbered : goal.returns-clause-numbered
 returns-clause-numbered c =
     let place = c.in_ok-number.ensures.index ∙ place-key c.name.result c.args.names.now.used.keys in
-    own-numbered (used_in c.args.names.now) c.args.names.now.numbers.items c.args.listed c.in_ok-number.number c.name.result.now
-    (omega (arith, c.requires.numbers.count, c.requires.listed)) place (omega (arith, c.requires.few, length-map c.args.names.now.used.keys (λ k. k.now)))
+    own_numbered (used_in c.args.names.now) c.args.names.now.numbers.items c.args.listed c.in_ok-number.number
+    c.name.result.now
+    (omega (arith, c.requires.numbers.count, c.requires.listed)) place
+    (omega (arith, c.requires.few, length-map c.args.names.now.used.keys (λ k. k.now)))
 
 pub returns-clause-kept : goal.returns-clause-kept
 returns-clause-kept c = λ k.
-    still-numbered c.args.names.now.numbers.items c.args.listed c.in_ok-number.number k (returns-clause-numbered c)
+    still_numbered c.args.names.now.numbers.items c.args.listed c.in_ok-number.number k
+    (returns-clause-numbered c)

@@ -3,7 +3,7 @@ use Rattle.std.specs.List.{AllByRecursion}
 use Rattle.std.proofs.lemmas.List.{length-map, take_all}
 use Rattle.smap_record.specs.Record.{record_of, mapping_of}
 use Rattle.smap_record.specs.Fitting.{names_used}
-use Rattle.smap_record.specs.Listed.{IsListedToken}
+use Rattle.smap_record.specs.Listings.{IsListedToken}
 use Rattle.smap_record.proofs.ListLemmas.{all_at}
 use Rattle.smap_canon.specs.Numbering.{used_in, IsNumbered}
 use Rattle.smap_canon.proofs.NumberingLemmas.{used-start, numbers-none, numbered-next}
@@ -16,26 +16,32 @@ loop-i-init c =
     let m = c.args.map.now in
     record {
       used = used-start c.in_ok-names.names.used.keys (record_of m).mappings c.in_ok-names.ensures.used;
-      numbers = numbers-none m.listing.names (used_in c.in_ok-names.names) c.in_ok-names.names.numbers.items c.in_ok-names.ensures.numbers;
-      each = subst (AllByRecursion (IsNumbered c.in_ok-names.names.numbers.items)) (sym (take_none m.listing.tokens)) tt;
+      numbers = numbers-none m.listing.names (used_in c.in_ok-names.names) c.in_ok-names.names.numbers.items
+          c.in_ok-names.ensures.numbers;
+      each = subst (AllByRecursion (IsNumbered c.in_ok-names.names.numbers.items))
+          (sym (take_none m.listing.tokens)) tt;
     }
 
 pub use_name-requires-clause-listed : goal.use_name-requires-clause-listed
 use_name-requires-clause-listed c =
     let l = c.args.map.now.listing in
-    all_at (IsListedToken l) l.tokens c.loop-i.i c.listed_token.result c.token_count-i-end.ensures.listing.listed c.listed_token.ensures
+    all_at (IsListedToken l) l.tokens c.loop-i.i c.listed_token.result
+    c.token_count-i-end.ensures.listing.listed c.listed_token.ensures
 
 pub use_name-requires-clause-few : goal.use_name-requires-clause-few
-use_name-requires-clause-few c = few-keys c.args.map.now c.loop-i.i c.loop-i.names.used.keys c.token_count-i-end.ensures.listing c.loop-i.invariant.used
+use_name-requires-clause-few c = few-keys c.args.map.now c.loop-i.i c.loop-i.names.used.keys
+    c.token_count-i-end.ensures.listing c.loop-i.invariant.used
 
 pub loop-i-preserved : goal.loop-i-preserved
 loop-i-preserved c =
     let m = c.args.map.now in
     let t = c.listed_token.result in
     record {
-      used = used-then m c.loop-i.i t c.listed_token.ensures (used_in c.loop-i.names) (used_in c.use_name.new.names) c.loop-i.invariant.used c.in_ok-use_name.ensures.used;
+      used = used-then m c.loop-i.i t c.listed_token.ensures (used_in c.loop-i.names)
+          (used_in c.use_name.new.names) c.loop-i.invariant.used c.in_ok-use_name.ensures.used;
       numbers = c.in_ok-use_name.ensures.numbers;
-      each = numbered-next c.loop-i.names.numbers.items c.use_name.new.names.numbers.items c.use_name.ensures.kept m.listing.tokens c.loop-i.i t
+      each = numbered-next c.loop-i.names.numbers.items c.use_name.new.names.numbers.items
+          c.use_name.ensures.kept m.listing.tokens c.loop-i.i t
           c.listed_token.ensures c.loop-i.invariant.each c.in_ok-use_name.ensures.numbered;
     }
 
@@ -43,7 +49,8 @@ pub returns : goal.returns
 returns c =
     let m = c.args.map.now in
     let all = take_all c.loop-i.i m.listing.tokens (omega (arith, c.token_count-i-end.ensures.count)) in
-    let mappings = take_all c.loop-i.i (record_of m).mappings (omega (arith, c.token_count-i-end.ensures.count, length-map m.listing.tokens (mapping_of m.listing))) in
+    let mappings = take_all c.loop-i.i (record_of m).mappings
+    (omega (arith, c.token_count-i-end.ensures.count, length-map m.listing.tokens (mapping_of m.listing))) in
     record {
       used = c.loop-i.invariant.used ∙ ap names_used mappings;
       numbers = c.loop-i.invariant.numbers;

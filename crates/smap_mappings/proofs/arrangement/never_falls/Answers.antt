@@ -9,8 +9,12 @@ no_token = record { line = 0; column = 0; original = None }
 
 pub returns-then-lt : goal.returns-then-lt
 returns-then-lt c =
-    let falls : before (get_or c.args.tokens.now c.loop-i.i no_token) (get_or c.args.tokens.now (c.loop-i.i - 1) no_token) ≡ true = search rules in
-    (λ y. absurd cc, λ h. absurd (one_falls c.args.tokens.now c.loop-i.i (c.loop-i.i - 1) no_token (omega arith) (omega arith) falls h))
+    let falls : before (get_or c.args.tokens.now c.loop-i.i no_token)
+    (get_or c.args.tokens.now (c.loop-i.i - 1) no_token) ≡ true = search rules in (
+      λ y. absurd cc,
+      λ h. absurd (one_falls c.args.tokens.now c.loop-i.i (c.loop-i.i - 1) no_token (omega arith)
+          (omega arith) falls h),
+    )
 
 pub returns : goal.returns
 returns c = (λ y. never_falls_below c.args.tokens.now c.loop-i.i (omega arith) c.loop-i.invariant, λ h. refl)

@@ -14,7 +14,8 @@ push-requires c =
     let i = c.loop-token.token-index in
     let ts = c.args.tokens.now in
     let t : Token = get_or ts i no_token in
-    placed_last (take i ts) t (subst IsEncodable (take_more ts i no_token c.loop-token-test.true) (encodable-take ts (i + 1) c.requires)).1
+    placed_last (take i ts) t (subst IsEncodable (take_more ts i no_token c.loop-token-test.true)
+    (encodable-take ts (i + 1) c.requires)).1
 
 pub loop-token-preserved : goal.loop-token-preserved
 loop-token-preserved c =
@@ -22,9 +23,11 @@ loop-token-preserved c =
     let ts = c.args.tokens.now in
     let t : Token = get_or ts i no_token in
     let more : take (i + 1) ts ≡ take i ts ++ t ∷ [] = take_more ts i no_token c.loop-token-test.true in
-    subst (Encodes c.push.new.self) (sym more) (c.in_ok-push.ensures (take i ts) c.loop-token.invariant (subst IsEncodable more (encodable-take ts (i + 1) c.requires)))
+    subst (Encodes c.push.new.self) (sym more) (c.in_ok-push.ensures (take i ts) c.loop-token.invariant
+    (subst IsEncodable more (encodable-take ts (i + 1) c.requires)))
 
 pub returns : goal.returns
 returns c =
     let ts = c.args.tokens.now in
-    c.finish.ensures ts (subst (Encodes c.loop-token.encoder) (take_all c.loop-token.token-index ts (omega arith)) c.loop-token.invariant)
+    c.finish.ensures ts (subst (Encodes c.loop-token.encoder)
+    (take_all c.loop-token.token-index ts (omega arith)) c.loop-token.invariant)

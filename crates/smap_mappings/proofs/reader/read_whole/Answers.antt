@@ -2,7 +2,8 @@ use Rattle.std.proofs.Common.{◌≡◌, arith, get_or, inl, inr, rules, ◌++�
 use Rattle.std.specs.Prelude.{vec_capacity}
 use Rattle.std.specs.Prelude.{slice_range}
 use Rattle.std.proofs.lemmas.Result.{err_from_is_err_and}
-use Rattle.smap_mappings.proofs.PiecesLemmas.{whole_fields, whole_comma, whole_semicolon, whole_fails, fails_less, empty_line}
+use Rattle.smap_mappings.proofs.PiecesLemmas.{whole_fields, whole_comma, whole_semicolon, whole_fails}
+use Rattle.smap_mappings.proofs.PiecesLemmas.{fails_less, empty_line}
 use Rattle.smap_mappings.proofs.reader.read_whole.Goals as goal
 use Rattle.smap_mappings.proofs.reader.read_whole.Goals.{then-piece-end-eq44, else-piece-end-eq44}
 
@@ -12,8 +13,13 @@ returns-in_err-running-clause-reads c = λ text h.
     let t = c.args.piece.now in
     let q = c.loop-place.invariant.3 text h in
     let w = c.in-Some.ensures in
-    rw (p.1, p.2) (fails_less c.args.bounds (text ++ t) (vec_capacity c.args.tokens.now.list) (vec_capacity c.loop-place.tokens.list) c.in_err-running.field-0.0 c.loop-place.invariant.2 (whole_fails c.args.bounds text t (vec_capacity c.loop-place.tokens.list) c.loop-place.tokens.list.items c.add.new.tokens.list.items c.loop-place.cursor c.loop-place.place c.in-Some.end c.in-Some.fields w q c.in_err-running.field-0.0
-    (c.in_err-running.ensures.reads q.before q.line q.index (slice_range t c.loop-place.place c.in-Some.end) q.is_at (whole_fields t c.loop-place.place c.in-Some.end c.in-Some.fields w) q.sums)))
+    rw (p.1, p.2) (fails_less c.args.bounds (text ++ t) (vec_capacity c.args.tokens.now.list)
+    (vec_capacity c.loop-place.tokens.list) c.in_err-running.field-0.0 c.loop-place.invariant.2
+    (whole_fails c.args.bounds text t (vec_capacity c.loop-place.tokens.list) c.loop-place.tokens.list.items
+    c.add.new.tokens.list.items c.loop-place.cursor c.loop-place.place c.in-Some.end c.in-Some.fields w q
+    c.in_err-running.field-0.0
+    (c.in_err-running.ensures.reads q.before q.line q.index (slice_range t c.loop-place.place c.in-Some.end)
+    q.is_at (whole_fields t c.loop-place.place c.in-Some.end c.in-Some.fields w) q.sums)))
 
 pub loop-place-preserved : goal.loop-place-preserved
 loop-place-preserved c =
@@ -24,14 +30,22 @@ loop-place-preserved c =
       (let a = c.loop-place.invariant.2 in let b = c.in_ok-running.ensures.room in omega arith),
       λ text h.
           let q = c.loop-place.invariant.3 text h in
-          let read = c.in_ok-running.ensures.reads q.before q.line q.index (slice_range t c.loop-place.place c.in-Some.end) q.is_at (whole_fields t c.loop-place.place c.in-Some.end c.in-Some.fields k) q.sums in
+          let read = c.in_ok-running.ensures.reads q.before q.line
+          q.index (slice_range t c.loop-place.place c.in-Some.end) q.is_at
+          (whole_fields t c.loop-place.place c.in-Some.end c.in-Some.fields k) q.sums in
           elim c.if-piece-end-eq44.branch [
-            | then-piece-end-eq44 w ↦ rw (w.cursor-is, w.behind_comma-cursor.ensures)
-                (whole_comma c.args.bounds text t (vec_capacity c.loop-place.tokens.list) c.loop-place.tokens.list.items c.add.new.tokens.list.items c.loop-place.cursor c.loop-place.place c.in-Some.end c.in-Some.fields k q c.in_ok-running.running w.if-piece-end-eq44.true read)
+            | then-piece-end-eq44 w ↦ rw (w.cursor-is, w.after_comma-cursor.ensures)
+                (whole_comma c.args.bounds text t (vec_capacity c.loop-place.tokens.list)
+                c.loop-place.tokens.list.items c.add.new.tokens.list.items c.loop-place.cursor
+                c.loop-place.place c.in-Some.end c.in-Some.fields k q c.in_ok-running.running
+                w.if-piece-end-eq44.true read)
             | else-piece-end-eq44 w ↦
-                let is : get_or t c.in-Some.end 0 ≡ 59 = elim k.ended [ inl e ↦ absurd (w.if-piece-end-eq44.false e) | inr e ↦ e ] in
-                rw (w.cursor-is, w.behind_semicolon-cursor-else-piece-end-eq44.ensures)
-                (whole_semicolon c.args.bounds text t (vec_capacity c.loop-place.tokens.list) c.loop-place.tokens.list.items c.add.new.tokens.list.items c.loop-place.cursor c.loop-place.place c.in-Some.end c.in-Some.fields k q c.in_ok-running.running is read)
+                let is : get_or t c.in-Some.end 0 ≡ 59 =
+                elim k.ended [ inl e ↦ absurd (w.if-piece-end-eq44.false e) | inr e ↦ e ] in
+                rw (w.cursor-is, w.after_semicolon-cursor-else-piece-end-eq44.ensures)
+                (whole_semicolon c.args.bounds text t (vec_capacity c.loop-place.tokens.list)
+                c.loop-place.tokens.list.items c.add.new.tokens.list.items c.loop-place.cursor
+                c.loop-place.place c.in-Some.end c.in-Some.fields k q c.in_ok-running.running is read)
           ],
     )
 
@@ -41,6 +55,8 @@ loop-place-preserved-then-cursor-eq0 c = (
   omega arith,
   c.loop-place.invariant.2,
   λ text h.
-      rw c.behind_semicolon-cursor.ensures
-      (empty_line c.args.bounds text c.args.piece.now c.loop-place.tokens.list.items c.loop-place.cursor c.loop-place.place (omega arith) c.if-piece-place-eq59.true (search rules) (c.loop-place.invariant.3 text h)),
+      rw c.after_semicolon-cursor.ensures
+      (empty_line c.args.bounds text c.args.piece.now c.loop-place.tokens.list.items
+      c.loop-place.cursor c.loop-place.place (omega arith) c.if-piece-place-eq59.true (search rules)
+      (c.loop-place.invariant.3 text h)),
 )

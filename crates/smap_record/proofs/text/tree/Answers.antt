@@ -6,7 +6,9 @@ use Rattle.smap_record.proofs.TextLemmas.{tree_read, tree_refused}
 use Rattle.smap_record.proofs.text.tree.Goals as goal
 
 pub returns-in-Ok : goal.returns-in-Ok
-returns-in-Ok c = ap (or_fault Json) (tree_read c.args.text.now (view c.in-Ok.value) c.in-Ok.ensures.ok.0 c.in-Ok.ensures.ok.1)
+returns-in-Ok c = ap (or_fault Json)
+    (tree_read c.args.text.now (view c.in-Ok.value) c.in-Ok.ensures.ok.0 c.in-Ok.ensures.ok.1)
 
 pub returns-else-is_memory : goal.returns-else-is_memory
-returns-else-is_memory c = rw c.refused.ensures (ap (or_fault Json) (tree_refused c.args.text.now (c.in-Err.ensures.err (λ memory. true≢false (sym (c.if-is_memory.ensures.1 memory))))))
+returns-else-is_memory c = rw c.refused.ensures (ap (or_fault Json) (tree_refused c.args.text.now
+    (c.in-Err.ensures.err (λ memory. true≢false (sym (c.if-is_memory.ensures.1 memory))))))

@@ -7,4 +7,5 @@ use Rattle.smap_shape.proofs.contents.listed_texts.Goals as goal
 pub returns-in-Array : goal.returns-in-Array
 returns-in-Array c =
     let own = map (option_map string_bytes) c.in_ok-own_texts-in-Array.field-0.items in
-    rw (ap view c.in-Array.is ∙ view-Array c.in-Array.list) (list_read c.in-Array.list.items own c.in_ok-own_texts-in-Array.ensures)
+    rw (ap view c.in-Array.is ∙ view-Array c.in-Array.list)
+    (list_read c.in-Array.list.items own c.in_ok-own_texts-in-Array.ensures)

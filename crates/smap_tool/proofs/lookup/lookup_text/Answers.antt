@@ -5,5 +5,6 @@ use Rattle.smap_tool.proofs.lookup.lookup_text.Goals as goal
 
 pub returns : goal.returns
 returns c =
-    let fell = falls_to_is (record_of c.args.map.now).mappings c.args.line c.args.column _ c.lookup.ensures.found in
+    let fell = falls_to_is (record_of c.args.map.now).mappings c.args.line c.args.column _
+    c.lookup.ensures.found in
     rw (← fell) (search rules)

@@ -1,5 +1,5 @@
 use Rattle.std.proofs.Common.{◌≡◌, Option, None, option_map, rules}
-use Rattle.smap_trace.specs.Frame.{Parts}
+use Rattle.smap_trace.specs.Frame.{FrameParts}
 use Rattle.smap_trace.specs.FrameView.{parts_in}
 use Rattle.smap_trace.specs.Reading.{frame_of}
 use Rattle.smap_trace.proofs.LawLemmas.{is_reading}
@@ -7,7 +7,8 @@ use Rattle.smap_trace.proofs.frames.frame.Goals as goal
 
 pub returns-then-contains-clause-is : goal.returns-then-contains-clause-is
 unfolding frame_of
-returns-then-contains-clause-is c = let value : ◌≡◌ {A = Option Parts} None (frame_of c.args.line.now) = search rules in is_reading c.args.line.now None value
+returns-then-contains-clause-is c = let value : ◌≡◌ {A = Option FrameParts} None (frame_of c.args.line.now) =
+    search rules in is_reading c.args.line.now None value
 
 pub returns-then-contains-clause-value : goal.returns-then-contains-clause-value
 unfolding frame_of
@@ -15,7 +16,8 @@ returns-then-contains-clause-value c = search rules
 
 pub returns-else-contains-clause-is : goal.returns-else-contains-clause-is
 unfolding frame_of
-returns-else-contains-clause-is c = let value : option_map parts_in c.body_frame.result ≡ frame_of c.args.line.now = search rules in is_reading c.args.line.now c.body_frame.result value
+returns-else-contains-clause-is c = let value : option_map parts_in c.body_frame.result
+    ≡ frame_of c.args.line.now = search rules in is_reading c.args.line.now c.body_frame.result value
 
 pub returns-else-contains-clause-value : goal.returns-else-contains-clause-value
 unfolding frame_of

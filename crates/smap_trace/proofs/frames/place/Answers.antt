@@ -1,38 +1,31 @@
-use Rattle.std.proofs.Common.{◌≡◌, ◌∙◌, ℕ, arith, rules, sym, ap, decimal, Ok, Err, true, bytes_eq, subst, List}
-use Rattle.std.specs.Prelude.{IsUtf8}
-use Rattle.std.proofs.lemmas.Slice.Eq.{bytes_eq-Decides}
-use Rattle.smap_trace.proofs.PlaceLemmas.{reads, is_text}
+use Rattle.std.proofs.Common.{arith, rules}
+use Rattle.smap_trace.proofs.PlaceLemmas.{zero_first, not_digit, too_large, other_number, is_number}
+use Rattle.smap_trace.specs.Frame.{IsPlace}
 use Rattle.smap_trace.proofs.frames.place.Goals as goal
+use Rattle.smap_trace.proofs.frames.place.Goals.{then-not-is_ascii_digit-via-then-not-is_ascii_digit}
+use Rattle.smap_trace.proofs.frames.place.Goals.{then-not-is_ascii_digit-via-else-not-is_ascii_digit+then-number}
 
-pub returns-in_default : goal.returns-in_default
-returns-in_default c = λ n is e.
-    let P : List ℕ → Type 0 = IsUtf8 in c.in_default.ensures.cases.0 (subst P (sym e) (is_text n is))
+pub returns-then-starts_with : goal.returns-then-starts_with
+returns-then-starts_with c = zero_first c.args.text.now (search rules)
 
-pub returns-in_default-parse : goal.returns-in_default-parse
-returns-in_default-parse c = λ n is e.
-    let read = reads _ _ _ n is c.in-Ok.ensures.cases.0 e c.parse.ensures.value.0 in
-    let same : Ok c.in-Ok-parse.n ≡ Ok n = sym c.in-Ok-parse.is ∙ read in
-    let number : c.in-Ok-parse.n ≡ n = cc in
-    let text : c.format.result.now ≡ c.in-Ok.digits.now = c.format.ensures.text ∙ ap decimal number ∙ sym e ∙ sym c.in-Ok.ensures.cases.0 in
-    let yes : bytes_eq c.format.result.now c.in-Ok.digits.now ≡ true = (bytes_eq-Decides _ _).1 text in
-    absurd (search (rules, yes))
+pub returns-then-not-is_ascii_digit : goal.returns-then-not-is_ascii_digit
+returns-then-not-is_ascii_digit c =
+    elim c.then-not-is_ascii_digit.branch [
+      | then-not-is_ascii_digit-via-then-not-is_ascii_digit w ↦
+          not_digit _ _ c.loop-digit.digit-index c.loop-digit-test.true c.loop-digit.invariant.read
+          (search rules)
+      | then-not-is_ascii_digit-via-else-not-is_ascii_digit+then-number w ↦
+          too_large _ _ c.loop-digit.digit-index c.loop-digit-test.true c.loop-digit.invariant.read
+          w.if-number.true
+    ]
 
-pub returns-in_default-parse-2 : goal.returns-in_default-parse-2
-returns-in_default-parse-2 c = λ n is e.
-    let read = reads _ _ _ n is c.in-Ok.ensures.cases.0 e c.parse.ensures.value.0 in
-    let same : Ok c.in-Ok-parse.n ≡ Ok n = sym c.in-Ok-parse.is ∙ read in
-    let number : c.in-Ok-parse.n ≡ n = cc in
-    omega (arith, is.1)
+pub returns-then-number-eq0 : goal.returns-then-number-eq0
+returns-then-number-eq0 c =
+    other_number _ _ c.loop-digit.digit-index c.loop-digit-test.false c.loop-digit.invariant.read
+    (λ is. omega (arith, is.0, is.1, c.then-number-eq0.either))
 
-pub returns-in_default-parse-3 : goal.returns-in_default-parse-3
-returns-in_default-parse-3 c = λ n is e.
-    let read = reads _ _ _ n is c.in-Ok.ensures.cases.0 e c.parse.ensures.value.0 in
-    let same : Ok c.in-Ok-parse.n ≡ Ok n = sym c.in-Ok-parse.is ∙ read in
-    let number : c.in-Ok-parse.n ≡ n = cc in
-    omega (arith, is.0)
-
-pub returns-in_default-parse-4 : goal.returns-in_default-parse-4
-returns-in_default-parse-4 c = λ n is e.
-    let read = reads _ _ _ n is c.in-Ok.ensures.cases.0 e c.parse.ensures.value.0 in
-    let same : Err c.in_default-parse.field-0 ≡ Ok n = sym c.in_default-parse.is ∙ read in
-    cc
+pub returns : goal.returns
+returns c =
+    let is : IsPlace c.loop-digit.number = (omega arith, omega arith) in
+    let read = c.loop-digit.invariant.read in
+    (is, is_number _ _ c.loop-digit.digit-index c.loop-digit-test.false read is (search rules))

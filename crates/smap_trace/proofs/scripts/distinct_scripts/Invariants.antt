@@ -8,4 +8,5 @@ abbrev pub invariant-loop-i : goal.invariant-loop-i
 invariant-loop-i l = AreDistinctBelow l.scripts l.i
 
 abbrev pub invariant-loop-j : goal.invariant-loop-j
-invariant-loop-j l = (k : ℕ) (d : Bor (List ℕ) × Bor ReadMap) → l.i < k → k < l.j → (slice_index_or l.scripts l.i d).0.now ≢ (slice_index_or l.scripts k d).0.now
+invariant-loop-j l = (k : ℕ) (d : Bor (List ℕ) × Bor ReadMap) → l.i < k → k < l.j
+    → (slice_index_or l.scripts l.i d).0.now ≢ (slice_index_or l.scripts k d).0.now

@@ -13,14 +13,14 @@ pub returns-then-is_empty : goal.returns-then-is_empty
 returns-then-is_empty c = sym (empty_segment c.args.text.now (eqb-true _ _ (sym c.if-is_empty.ensures)))
 
 pub loop-place-smaller : goal.loop-place-smaller
-loop-place-smaller c = let m = moves c.args.text.now c.loop-place.place c.in-Ok.number c.in-Ok.behind
+loop-place-smaller c = let m = moves c.args.text.now c.loop-place.place c.in-Ok.number c.in-Ok.after
     c.loop-place-test.true c.in-Ok.ensures in omega arith
 
 pub loop-place-preserved : goal.loop-place-preserved
 loop-place-preserved c =
     let f : SFits w32 c.in-Ok.number = search rules in
     rw (c.keep.ensures, to_z-of_z w32 c.in-Ok.number f) (goes_on c.args.text.now c.loop-place.numbers
-    c.loop-place.place c.loop-place.count c.in-Ok.number c.in-Ok.behind c.loop-place.invariant
+    c.loop-place.place c.loop-place.count c.in-Ok.number c.in-Ok.after c.loop-place.invariant
     c.loop-place-test.true c.in-Ok.ensures)
 
 pub returns-in-Err : goal.returns-in-Err

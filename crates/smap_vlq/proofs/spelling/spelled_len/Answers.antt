@@ -8,4 +8,5 @@ pub returns-clause-len : goal.returns-clause-len
 unfolding spelling
 returns-clause-len c =
     c.digit_count.ensures.len
-    ∙ ap (λ (u : ℕ). length (unsigned_spelling u)) (c.unsigned_value.ensures ∙ ap unsigned_of (to_z-of_z w32 c.args.n c.ranges.n))
+    ∙ ap (λ (u : ℕ). length (unsigned_spelling u))
+    (c.unsigned_value.ensures ∙ ap unsigned_of (to_z-of_z w32 c.args.n c.ranges.n))

@@ -9,5 +9,6 @@ use Rattle.smap_c.proofs.scripts.Scripts.put.Goals as goal
 pub returns-in-Ok-clause-ok : goal.returns-in-Ok-clause-ok
 returns-in-Ok-clause-ok c =
     ap scripts_of c.in-Ok.ensures.entries ∙ put c.args.url c.args.shared c.self.inside.maps.entries
-    ∙ ap (λ (ss : List Script). with_script (string_bytes c.args.url) (record_of c.args.shared.arc.value.map) ss)
+    ∙ ap (λ (ss : List Script). with_script (string_bytes c.args.url)
+    (record_of c.args.shared.arc.value.map) ss)
     c.self.view_is

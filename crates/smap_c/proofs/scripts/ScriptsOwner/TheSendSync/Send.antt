@@ -28,7 +28,11 @@ lies R s null_ptr x = tt
 
 owned_keyless : (a : Global) (p : Ptr) (x : Option (scripts.the_row).Denot) → Keyless (owned a p x)
 owned_keyless a p None = tt
-owned_keyless a p (Some x) = (lies scripts.the_row the_send p x, frees.frees a (raw (lone (scripts.the_row).mir)) p)
+owned_keyless a p (Some x) = (
+  lies scripts.the_row the_send p x,
+  frees.frees a (raw (lone
+      (scripts.the_row).mir)) p,
+)
 
 pub send : IsSend the_row
 send =

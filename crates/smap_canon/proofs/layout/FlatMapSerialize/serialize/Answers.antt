@@ -6,7 +6,8 @@ use Rattle.serde_json.specs.Data.{string, no_members, member}
 use Rattle.serde_json.specs.Events.{SendsValue}
 use Rattle.smap_mappings.specs.Text.{mappings_text}
 use Rattle.smap_record.specs.Record.{Entry}
-use Rattle.smap_canon.specs.Layout.{list_of, or_null, whole_number, ignored_from, unless_empty, written_contents, optional_member, layout}
+use Rattle.smap_canon.specs.Layout.{list_of, or_null, whole_number, ignored_from, unless_empty}
+use Rattle.smap_canon.specs.Layout.{written_contents, optional_member, layout}
 use Rattle.smap_canon.specs.Spelling.{spelling_of}
 use Rattle.smap_canon.specs.Writing.{map_of, contents_tree, ignored_tree}
 use Rattle.smap_canon.proofs.SentLemmas.{member_sent, optional_sent, texts_copied, members_count, is_some-map}
@@ -28,32 +29,48 @@ returns g c =
     let l6 = g.S.Serializer.written c.optional_member-3.new.out in
     let l7 = g.S.Serializer.written c.member-4.new.out in
     let new = g.S.Serializer.written c.end_map.new.self in
-    let urls = list_of (map (λ (e : Entry). or_null (option_map (spelling_of self.spelling) e.url)) sources) in
+    let urls =
+    list_of (map (λ (e : Entry). or_null (option_map (spelling_of self.spelling) e.url)) sources) in
     let names = list_of (map string m.listing.names) in
     let mappings = string (mappings_text m.listing.tokens) in
-    let file : option_map (λ s. string s.now) c.file-file.result ≡ option_map string m.file = texts_copied c.file-file.result ∙ ap (option_map string) c.file-file.ensures in
-    let ignored : option_map ignored_tree c.ignored_of-ignored.result ≡ unless_empty (map whole_number (ignored_from 0 sources)) = c.ignored_of-ignored.ensures in
-    let contents : option_map contents_tree c.contents_of-contents.result ≡ written_contents sources = c.contents_of-contents.ensures in
+    let file : option_map (λ s. string s.now) c.file-file.result ≡ option_map string m.file =
+    texts_copied c.file-file.result ∙ ap (option_map string) c.file-file.ensures in
+    let ignored : option_map ignored_tree c.ignored_of-ignored.result
+    ≡ unless_empty (map whole_number (ignored_from 0 sources)) = c.ignored_of-ignored.ensures in
+    let contents : option_map contents_tree c.contents_of-contents.result ≡ written_contents sources =
+    c.contents_of-contents.ensures in
     let m7 = member (codes "version") (whole_number 3) no_members in
     let m6 = optional_member (codes "sourcesContent") (written_contents sources) m7 in
     let m5 = member (codes "sources") urls m6 in
     let m4 = member (codes "names") names m5 in
     let m3 = member (codes "mappings") mappings m4 in
-    let m2 = optional_member (codes "ignoreList") (unless_empty (map whole_number (ignored_from 0 sources))) m3 in
+    let m2 =
+    optional_member (codes "ignoreList") (unless_empty (map whole_number (ignored_from 0 sources))) m3 in
     on_ok_weaker c.end_map.result (λ e. (
       l0,
       subst (λ n. Logs old l0 (map_begins (Some n)))
-          (members_count c.is_some.result c.is_some-2.result c.is_some-3.result (option_map string m.file) (unless_empty (map whole_number (ignored_from 0 sources))) (written_contents sources)
+          (members_count c.is_some.result c.is_some-2.result c.is_some-3.result (option_map string m.file)
+          (unless_empty (map whole_number (ignored_from 0 sources))) (written_contents sources)
           mappings names urls (whole_number 3)
-          (c.is_some.ensures ∙ is_some-map (λ s. string s.now) c.file-file.result (option_map string m.file) file)
-          (c.is_some-2.ensures ∙ is_some-map ignored_tree c.ignored_of-ignored.result (unless_empty (map whole_number (ignored_from 0 sources))) ignored)
-          (c.is_some-3.ensures ∙ is_some-map contents_tree c.contents_of-contents.result (written_contents sources) contents))
+          (c.is_some.ensures
+          ∙ is_some-map (λ s. string s.now) c.file-file.result (option_map string m.file) file)
+          (c.is_some-2.ensures ∙ is_some-map ignored_tree c.ignored_of-ignored.result
+          (unless_empty (map whole_number (ignored_from 0 sources))) ignored)
+          (c.is_some-3.ensures
+          ∙ is_some-map contents_tree c.contents_of-contents.result (written_contents sources) contents))
           c.in_ok-begin_map.ensures,
-      optional_sent (λ s old new. Logs old new (text s.now)) (λ s. string s.now) (λ x old new w. w) c.file-file.result (option_map string m.file) file (codes "file") m2 l0 l1 new c.in_ok-optional_member.ensures
-          (optional_sent (λ i. SendsValue (ignored_tree i)) ignored_tree (λ x old new w. w) c.ignored_of-ignored.result (unless_empty (map whole_number (ignored_from 0 sources))) ignored (codes "ignoreList") m3 l1 l2 new c.in_ok-optional_member-2.ensures
+      optional_sent (λ s old new. Logs old new (text s.now)) (λ s. string s.now) (λ x old new w. w)
+          c.file-file.result (option_map string m.file) file (codes "file") m2 l0 l1 new
+          c.in_ok-optional_member.ensures
+          (optional_sent (λ i. SendsValue (ignored_tree i)) ignored_tree (λ x old new w. w)
+          c.ignored_of-ignored.result (unless_empty (map whole_number (ignored_from 0 sources))) ignored
+          (codes "ignoreList") m3 l1 l2 new c.in_ok-optional_member-2.ensures
           (member_sent (codes "mappings") mappings m4 l2 l3 new c.in_ok-member.ensures
           (member_sent (codes "names") names m5 l3 l4 new c.in_ok-member-2.ensures
           (member_sent (codes "sources") urls m6 l4 l5 new c.in_ok-member-3.ensures
-          (optional_sent (λ i. SendsValue (contents_tree i)) contents_tree (λ x old new w. w) c.contents_of-contents.result (written_contents sources) contents (codes "sourcesContent") m7 l5 l6 new c.in_ok-optional_member-3.ensures
-          (member_sent (codes "version") (whole_number 3) no_members l6 l7 new c.in_ok-member-4.ensures e)))))),
+          (optional_sent (λ i. SendsValue (contents_tree i)) contents_tree (λ x old new w. w)
+          c.contents_of-contents.result (written_contents sources) contents (codes "sourcesContent") m7 l5 l6
+          new c.in_ok-optional_member-3.ensures
+          (member_sent (codes "version") (whole_number 3) no_members l6 l7 new c.in_ok-member-4.ensures
+          e)))))),
     )) c.end_map.ensures

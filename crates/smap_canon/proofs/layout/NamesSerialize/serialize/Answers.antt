@@ -22,4 +22,5 @@ returns-in-Some g c =
     ap texts_of c.as_slice.ensures.keys ∙ are.used
     ∙ sym (ap (λ b. cond b (names_used (record_of m).mappings) m.listing.names) (ap is_some c.in-Some.is)) in
     on_ok_weaker c.serialize.result
-    (λ w. subst (λ (ns : List (List ℕ)). SendsValue (list_of (map string ns)) old new) names (texts_sent c.as_slice.result.now old new w)) c.serialize.ensures
+    (λ w. subst (λ (ns : List (List ℕ)). SendsValue (list_of (map string ns)) old new) names
+    (texts_sent c.as_slice.result.now old new w)) c.serialize.ensures

@@ -1,7 +1,8 @@
-use Rattle.std.proofs.Common.{◌≡◌, ◌∙◌, ◌++◌, ◌∷◌, ◌+◌, [], List, ℕ, ap, sym, subst, refl, arith, take, length}
+use Rattle.std.proofs.Common.{◌≡◌, ◌∙◌, ◌++◌, ◌∷◌, ◌+◌, [], List, ℕ, ap, sym, subst, refl, arith, take}
+use Rattle.std.proofs.Common.{length}
 use Rattle.std.proofs.Common.{drop}
 use Rattle.smap_mappings.specs.declared.running.Running.{Running}
-use Rattle.smap_mappings.specs.Writing.{segment_from, running_behind, separator, at_line}
+use Rattle.smap_mappings.specs.Writing.{segment_from, running_after, separator, at_line}
 use Rattle.smap_mappings.specs.Feeding.{Encoded}
 use Rattle.smap_mappings.proofs.EncodingLemmas.{goes_on, front_kept}
 use Rattle.smap_mappings.proofs.encoder.Encoder.push.Goals as goal
@@ -18,11 +19,19 @@ returns c tokens e h =
       | else-len-self w ↦ rw w.self-is refl
     ] in
     let next : List ℕ = take c.put_token-self.result (take room.len (out ++ drop (length out) room.items)) in
-    let kept : take c.put_token-self.result (take room.len (out ++ drop (length out) room.items)) ≡ take c.put_token-self.result out
-    = front_kept room.len c.put_token-self.result out (drop (length out) room.items) (omega (arith, c.put_token-self.ensures.room, c.as_mut_slice.ensures.len)) c.put_token-self.ensures.place in
-    let text : take c.put_token-self.result (take room.len (out ++ drop (length out) room.items)) ≡ (take old.at old.room.items ++ separator old.lines t.line) ++ segment_from (at_line old.running old.lines t.line) t
-    = kept ∙ c.put_token-self.ensures.text ∙ ap (λ (l : List ℕ). (take old.at l ++ separator old.lines t.line) ++ segment_from c.on_line-running.result t) c.as_mut_slice.ensures.value
+    let kept : take c.put_token-self.result (take room.len (out ++ drop (length out) room.items))
+    ≡ take c.put_token-self.result out
+    = front_kept room.len c.put_token-self.result out (drop (length out) room.items)
+    (omega (arith, c.put_token-self.ensures.room, c.as_mut_slice.ensures.len))
+    c.put_token-self.ensures.place in
+    let text : take c.put_token-self.result (take room.len (out ++ drop (length out) room.items))
+    ≡ (take old.at old.room.items ++ separator old.lines t.line)
+    ++ segment_from (at_line old.running old.lines t.line) t
+    = kept ∙ c.put_token-self.ensures.text ∙ ap (λ (l : List ℕ). (take old.at l ++ separator old.lines t.line)
+    ++ segment_from c.on_line-running.result t) c.as_mut_slice.ensures.value
     ∙ ap (λ (l : List ℕ). (l ++ separator old.lines t.line) ++ segment_from c.on_line-running.result t) front
-    ∙ ap (λ (r : Running). (take old.at old.room.items ++ separator old.lines t.line) ++ segment_from r t) c.on_line-running.ensures in
-    let behind = c.behind-self.ensures ∙ ap (λ (r : Running). running_behind r t) c.on_line-running.ensures in
-    subst (λ (r : Running). Encoded (tokens ++ t ∷ []) next r (t.line + 1)) (sym behind) (goes_on tokens (take old.at old.room.items) next old.running old.lines t e h text)
+    ∙ ap (λ (r : Running). (take old.at old.room.items ++ separator old.lines t.line) ++ segment_from r t)
+    c.on_line-running.ensures in
+    let after = c.after-self.ensures ∙ ap (λ (r : Running). running_after r t) c.on_line-running.ensures in
+    subst (λ (r : Running). Encoded (tokens ++ t ∷ []) next r (t.line + 1)) (sym after)
+    (goes_on tokens (take old.at old.room.items) next old.running old.lines t e h text)

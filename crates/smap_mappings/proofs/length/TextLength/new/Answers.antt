@@ -1,4 +1,4 @@
-use Rattle.std.proofs.Common.{◌≡◌, [], refl}
+use Rattle.std.proofs.Common.{[], refl}
 use Rattle.smap_mappings.specs.Text.{mappings_text}
 use Rattle.smap_mappings.proofs.EncodingLemmas.{starts}
 use Rattle.smap_mappings.proofs.length.TextLength.new.Goals as goal

@@ -1,7 +1,8 @@
-use Rattle.std.proofs.Common.{◌≡◌, ◌∙◌, ◌++◌, ◌∷◌, ◌+◌, [], List, ℕ, ap, sym, subst, refl, arith, length, length-append}
+use Rattle.std.proofs.Common.{◌∙◌, ◌++◌, ◌∷◌, ◌+◌, [], List, ℕ, ap, sym, subst, refl, arith, length}
+use Rattle.std.proofs.Common.{length-append}
 use Rattle.smap_mappings.specs.declared.running.Running.{Running}
 use Rattle.smap_mappings.specs.Text.{mappings_text}
-use Rattle.smap_mappings.specs.Writing.{segment_from, running_behind, separator, at_line}
+use Rattle.smap_mappings.specs.Writing.{segment_from, running_after, separator, at_line}
 use Rattle.smap_mappings.specs.Feeding.{Encoded}
 use Rattle.smap_mappings.proofs.EncodingLemmas.{goes_on}
 use Rattle.smap_mappings.proofs.length.TextLength.push.Goals as goal
@@ -14,8 +15,9 @@ returns c tokens e h =
     let running = at_line old.running old.lines t.line in
     let next = (text ++ separator old.lines t.line) ++ segment_from running t in
     let fed = goes_on tokens text next old.running old.lines t e.encoded h refl in
-    let behind = c.behind-self.ensures ∙ ap (λ (r : Running). running_behind r t) c.on_line-running.ensures in
-    let segment = c.segment_len.ensures.len ∙ ap (λ (r : Running). length (segment_from r t)) c.on_line-running.ensures in
+    let after = c.after-self.ensures ∙ ap (λ (r : Running). running_after r t) c.on_line-running.ensures in
+    let segment =
+    c.segment_len.ensures.len ∙ ap (λ (r : Running). length (segment_from r t)) c.on_line-running.ensures in
     record {
       len_is = omega (
         arith,
@@ -27,6 +29,8 @@ returns c tokens e h =
         c.separator_len.ensures,
         segment,
       );
-      encoded = subst (λ (r : Running). Encoded (tokens ++ t ∷ []) (mappings_text (tokens ++ t ∷ [])) r (t.line + 1)) (sym behind)
-          (subst (λ (out : List ℕ). Encoded (tokens ++ t ∷ []) out (running_behind running t) (t.line + 1)) fed.text fed);
+      encoded = subst (λ (r : Running).
+          Encoded (tokens ++ t ∷ []) (mappings_text (tokens ++ t ∷ [])) r (t.line + 1)) (sym after)
+          (subst (λ (out : List ℕ). Encoded (tokens ++ t ∷ []) out (running_after running t) (t.line + 1))
+          fed.text fed);
     }

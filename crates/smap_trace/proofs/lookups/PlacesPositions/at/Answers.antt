@@ -8,4 +8,5 @@ pub returns-clause-value : goal.returns-clause-value
 returns-clause-value c =
     let l = c.args.self.now.map.now.listing in
     slice_get-map mapping_position (map (mapping_of l) l.tokens) c.args.i
-    ∙ ap (option_map mapping_position) (slice_get-map (mapping_of l) l.tokens c.args.i ∙ ap (option_map (mapping_of l)) c.listed_token-token.ensures)
+    ∙ ap (option_map mapping_position) (slice_get-map (mapping_of l) l.tokens c.args.i
+    ∙ ap (option_map (mapping_of l)) c.listed_token-token.ensures)

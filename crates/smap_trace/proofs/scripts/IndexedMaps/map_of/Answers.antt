@@ -6,10 +6,12 @@ use Rattle.smap_trace.proofs.scripts.IndexedMaps.map_of.Goals as goal
 
 pub returns-in-Some : goal.returns-in-Some
 returns-in-Some c =
-    ap (option_map (λ (m : Bor ReadMap). record_of m.now)) (ap option_copied (sym c.in-Some.is) ∙ c.get.ensures.value)
+    ap (option_map (λ (m : Bor ReadMap). record_of m.now))
+    (ap option_copied (sym c.in-Some.is) ∙ c.get.ensures.value)
     ∙ found_in c.args.url.now c.args.self.now.maps.entries
 
 pub returns-in-None : goal.returns-in-None
 returns-in-None c =
-    ap (option_map (λ (m : Bor ReadMap). record_of m.now)) (ap option_copied (sym c.in-None.is) ∙ c.get.ensures.value)
+    ap (option_map (λ (m : Bor ReadMap). record_of m.now))
+    (ap option_copied (sym c.in-None.is) ∙ c.get.ensures.value)
     ∙ found_in c.args.url.now c.args.self.now.maps.entries

@@ -6,5 +6,6 @@ use Rattle.smap_record.proofs.source.base.Base.relative_url.Goals as goal
 
 pub returns : goal.returns
 returns c =
-    relative_url-is c.self.inside.url c.args.url.now (option_map string_bytes c.in_ok-text.text) c.in_ok-text.ensures
+    relative_url-is c.self.inside.url c.args.url.now (option_map string_bytes c.in_ok-text.text)
+    c.in_ok-text.ensures
     ∙ ap (λ base. relative_url base c.args.url.now) c.self.view_is

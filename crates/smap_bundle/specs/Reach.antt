@@ -1,0 +1,52 @@
+-- How far a bundle is read before it is rejected: to the end of the line where the fault is, or for a fault
+-- of a map at most to the byte after the map.
+use Rattle.std.specs.Prelude.{◌≡◌, ◌⊎◌, ℕ, ◌+◌, ◌≤◌, true, List, [], ◌++◌, length}
+use Rattle.smap_trace.specs.Frame.{lacks}
+use Rattle.smap_trace.specs.Translation.{Script}
+use Rattle.smap_bundle.specs.declared.fault.EntryFault.{EntryFault}
+use Rattle.smap_bundle.specs.declared.fault.EntryFault.TheVariants as wrong
+use Rattle.smap_bundle.specs.Bundle.{Answer, BeginsWithEntries, done, refused, too_long}
+use Rattle.smap_bundle.specs.Header.{IsHeader, LONGEST_HEADER}
+
+-- At most one line, of at most as many bytes as the longest header: no line feed, except as the last byte.
+pub record IsWithinALine (line : List ℕ) : Type 0 where
+  pub front : List ℕ
+  pub last : List ℕ
+  pub whole : line ≡ front ++ last
+  pub one_line : lacks 10 front ≡ true
+  pub one : length last ≤ 1
+  pub short : length line ≤ LONGEST_HEADER
+
+-- These faults are found in the bytes after a header.
+abbrev pub IsOfMap : EntryFault → Type 0
+IsOfMap wrong.Header = ⊥
+IsOfMap wrong.Repeated = ⊥
+IsOfMap wrong.Base = ⊥
+IsOfMap wrong.CutOff = Unit {0}
+IsOfMap (wrong.Map fault) = Unit {0}
+
+-- The answer is such a fault.
+abbrev pub IsFaultOfMap : Answer → Type 0
+IsFaultOfMap (done text) = ⊥
+IsFaultOfMap (refused refusal) = IsOfMap refusal.fault
+IsFaultOfMap too_long = ⊥
+
+-- Of what follows a header whose map has n bytes, this is no more than the answer takes: nothing, or the
+-- map and one byte.
+abbrev pub IsWithinMap : ℕ → List ℕ → Answer → Type 0
+IsWithinMap n more answer = (more ≡ []) ⊎ (IsFaultOfMap answer × (length more ≤ n + 1))
+
+-- The same of what follows this line, which is nothing unless the line is a header.
+abbrev pub IsWithinEntry : List ℕ → List ℕ → Answer → Type 0
+IsWithinEntry line more answer = (more ≡ []) ⊎ ((script : List ℕ) × (base : List ℕ) × (n : ℕ)
+    × IsHeader line script base n × IsWithinMap n more answer)
+
+-- This is no more of the input than the answer takes: entries without a fault, one line, and for a fault of
+-- a map what its header announces.
+pub record ReadsNoMore (input : List ℕ) (answer : Answer) : Type 0 where
+  pub scripts : List Script
+  pub line : List ℕ
+  pub more : List ℕ
+  pub reads : BeginsWithEntries input scripts (line ++ more)
+  pub is_line : IsWithinALine line
+  pub within : IsWithinEntry line more answer
