@@ -11,28 +11,29 @@
  *
  * HANDLES. smap_map, smap_bytes and smap_scripts are structs of the caller's, all zero while they are closed
  * (`= {0}` in C, `= {}` in C++).
- * An open handle owns what it holds until it is closed; a call that puts something into it lets go what it
+ * An open handle owns what it holds until it is closed; a call that puts something into it frees what it
  * held. A handle may be moved (by memcpy or assignment) as long as only one of the copies is used from then
  * on. Nothing but the functions below writes into one.
  *
- * TEXTS go in and out as a pointer and a length in bytes; none needs a NUL, and none that goes out has one,
- * unless it is said. A pointer may be NULL where its length is 0. A text that goes out is copied into `out`,
- * which has `room` bytes: as much of it as fits, and the rest of `out` stays as it was. Its whole length is
- * told, so a call with room 0 asks for the length. Buffers that are written overlap nothing else that is
- * passed in the same call.
+ * STRINGS go in and out as a pointer and a length in bytes. None needs to end with a NUL, and none that goes
+ * out does unless stated otherwise. A pointer may be NULL where its length is 0. A string that goes out is
+ * copied into `out`, which has `room` bytes: as much of it as fits, and the rest of `out` stays as it was.
+ * Its full length is returned, so a call with room 0 asks for the length. Buffers that are written overlap
+ * nothing else that is passed in the same call.
  *
  * NUMBERS. Lines and columns count from 0. Columns are those of the map: JavaScript engines and the tools
  * that write maps count UTF-16 code units. Positions of frames in traces count from 1.
  *
- * CODES. Most calls return one of the codes below. Unless it is said otherwise, whatever a call would write
- * is as it was where the code isn't SMAP_OK, only a length is 0. Nothing aborts, and nothing is printed.
+ * CODES. Most calls return one of the codes below. Unless stated otherwise, a call whose code isn't SMAP_OK
+ * leaves whatever it would write as it was, except that a length becomes 0. Nothing aborts, and nothing is
+ * printed.
  *
- * THREADS. A call has its handles, structs and buffers to itself while it runs. Calls on different handles
- * may run at once in different threads, also where smap_share has made them share one map. A handle may be
- * passed to another thread, ordered by a lock or by the start or end of a thread. No call may be made from a
- * signal handler. Memory is taken by malloc, realloc and free.
+ * THREADS. While a call runs, nothing else may use its handles, structs and buffers. Calls on different
+ * handles may run at once in different threads, also where smap_share has made them share one map. A handle
+ * may be passed to another thread, synchronized by a lock or by the start or end of a thread. No call may be
+ * made from a signal handler. Memory is taken by malloc, realloc and free.
  *
- * These promises of the caller are all that nothing checks. */
+ * Nothing checks that the caller keeps to this. */
 #ifndef SMAP_H
 #define SMAP_H
 
@@ -122,7 +123,7 @@ typedef struct smap_fault {
     size_t depth;      /* how many numbers of `section` count: 0 where the fault is in no section */
     size_t section[8]; /* the number of the section at each level, from the outermost in, each from 0 */
     size_t text_len;
-    char text[256];    /* the fault in words, as "line 0 segment 1: source index", with a NUL behind */
+    char text[264];    /* the fault in words, as "line 0 segment 1: source index", with a NUL after it */
 } smap_fault;
 
 /* ---- maps */

@@ -1,5 +1,5 @@
 /* Owners of the handles of smap.h for C++11 and later: they close what they hold, and can be moved and not
- * copied. The functions of smap.h are called on `handle()`. */
+ * copied. Calls answer a code of smap.h, and the rest of smap.h is called on `handle()`. */
 #ifndef SMAP_HPP
 #define SMAP_HPP
 
@@ -33,12 +33,13 @@ private:
 
 typedef Owner<smap_map, smap_close> Map;
 typedef Owner<smap_bytes, smap_bytes_free> Bytes;
+typedef Owner<smap_scripts, smap_close_scripts> Scripts;
 
-/* Opens a map; the code is smap_open's. */
-inline uint32_t open(Map &map, const std::string &text, const std::string &base, smap_fault *fault = nullptr,
-                     const smap_limits *limits = nullptr)
+/* The name of a code. */
+inline std::string code_name(uint32_t code)
 {
-    return smap_open(map.handle(), text.data(), text.size(), base.data(), base.size(), limits, fault);
+    char name[64];
+    return std::string(name, smap_code_name(code, name, sizeof name));
 }
 
 /* The bytes as a string. */
@@ -50,14 +51,74 @@ inline std::string text(Bytes &bytes)
     return std::string(reinterpret_cast<const char *>(at), len);
 }
 
-/* The URL of a source, or nothing. */
-inline std::string source_url(Map &map, size_t source)
+/* Opens a map, as smap_open does. */
+inline uint32_t open(Map &map, const std::string &text, const std::string &base, smap_fault *fault = nullptr,
+                     const smap_limits *limits = nullptr)
+{
+    return smap_open(map.handle(), text.data(), text.size(), base.data(), base.size(), limits, fault);
+}
+
+/* Makes `out` the string that a call copies into a buffer; it is empty if the code isn't OK. */
+template <typename Call>
+uint32_t copied(Call call, std::string &out)
 {
     size_t len = 0;
-    if (smap_source_url(map.handle(), source, nullptr, 0, &len) != SMAP_OK || len == 0) return std::string();
-    std::string url(len, '\0');
-    smap_source_url(map.handle(), source, &url[0], len, &len);
-    return url;
+    uint32_t code = call(nullptr, 0, &len);
+    out.resize(len);
+    return len ? call(&out[0], len, &len) : code;
+}
+
+/* The name of the generated file. */
+inline uint32_t file(Map &map, std::string &out)
+{
+    smap_map *handle = map.handle();
+    return copied([=](char *at, size_t n, size_t *len) { return smap_file(handle, at, n, len); }, out);
+}
+
+/* The name of the mapping that a generated position falls to. */
+inline uint32_t name_at(Map &map, uint32_t line, uint32_t column, std::string &out)
+{
+    smap_map *handle = map.handle();
+    return copied(
+        [=](char *at, size_t n, size_t *len) { return smap_name_at(handle, line, column, at, n, len); }, out);
+}
+
+/* The URL of a source. */
+inline uint32_t source_url(Map &map, size_t source, std::string &out)
+{
+    smap_map *handle = map.handle();
+    return copied(
+        [=](char *at, size_t n, size_t *len) { return smap_source_url(handle, source, at, n, len); }, out);
+}
+
+/* The text of a source. */
+inline uint32_t source_content(Map &map, size_t source, std::string &out)
+{
+    smap_map *handle = map.handle();
+    return copied(
+        [=](char *at, size_t n, size_t *len) { return smap_source_content(handle, source, at, n, len); },
+        out);
+}
+
+/* The i-th name that the map lists. */
+inline uint32_t listed_name(Map &map, size_t i, std::string &out)
+{
+    smap_map *handle = map.handle();
+    return copied(
+        [=](char *at, size_t n, size_t *len) { return smap_listed_name(handle, i, at, n, len); }, out);
+}
+
+/* Adds a script, as smap_add_script does. The map may be closed afterwards. */
+inline uint32_t add_script(Scripts &scripts, const std::string &url, Map &map)
+{
+    return smap_add_script(scripts.handle(), url.data(), url.size(), map.handle());
+}
+
+/* Translates a whole trace, as smap_translate does. */
+inline uint32_t translate(Scripts &scripts, const std::string &trace, bool hide, Bytes &out,
+                          smap_trace_counts *counts = nullptr)
+{
+    return smap_translate(scripts.handle(), trace.data(), trace.size(), hide, out.handle(), counts);
 }
 
 } // namespace smap

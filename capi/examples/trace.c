@@ -1,73 +1,72 @@
-/* trace URL=MAP .. <LOG: a crash log, line by line, with the positions of the sources. MAP is the map of the
- * script at URL; what its sources are seen from is URL.map. As scripts/smap-trace writes it.
+/* trace URL=MAP .. <LOG: a crash log with the positions of the sources, as scripts/smap-trace writes it; the
+ * standard error says how many lines were translated. MAP is the map of the script at URL, and its own URL is
+ * URL.map. A log that grows may go through smap_translate in pieces, each of whole lines.
  *
  *     cc -o trace trace.c -lsmap */
-#define _POSIX_C_SOURCE 200809L
 #include "smap.h"
 
 #include <stdio.h>
 #include <stdlib.h>
 #include <string.h>
 
-struct script {
-    const char *url;
-    smap_map map;
-};
-
-/* Opens the map of `URL=MAP`, the last `=` of which stands before the file's name. */
-static int open_script(struct script *script, char *word)
+/* The whole of a file, which the caller frees; NULL if there is no file or no memory. */
+static char *read_all(FILE *file, size_t *len)
 {
-    char *equals = strrchr(word, '='), base[4096];
-    static char text[1 << 24];
-    FILE *file;
-    size_t len;
-    smap_fault fault = {0};
-    if (!equals || !(file = fopen(equals + 1, "rb"))) return 0;
-    len = fread(text, 1, sizeof text, file);
-    fclose(file);
-    *equals = '\0';
-    script->url = word;
-    snprintf(base, sizeof base, "%s.map", word);
-    if (smap_open(&script->map, text, len, base, strlen(base), NULL, &fault) == SMAP_OK) return 1;
-    fprintf(stderr, "trace: %s (%s): %s\n", equals + 1, word, fault.text);
-    return 0;
+    size_t room = 1 << 16, n;
+    char *text = file ? malloc(room) : NULL, *more;
+    *len = 0;
+    while (text && (n = fread(text + *len, 1, room - *len, file)) > 0)
+        if ((*len += n) == room) {
+            if (!(more = realloc(text, room *= 2))) free(text);
+            text = more;
+        }
+    return text;
 }
 
-/* The script of the line's frame, if it has one. */
-static struct script *script_of(struct script *scripts, int count, const char *line, size_t len)
+/* Adds the script of `URL=MAP`. The file's name begins after the last `=`. */
+static uint32_t add_script(smap_scripts *scripts, const char *word, smap_fault *fault)
 {
-    smap_frame_parts frame;
-    if (smap_frame(line, len - (line[len - 1] == '\n'), &frame) != SMAP_OK) return NULL;
-    for (int i = 0; i < count; i++)
-        if (strlen(scripts[i].url) == frame.url_len &&
-            memcmp(scripts[i].url, line + frame.url_from, frame.url_len) == 0)
-            return &scripts[i];
-    return NULL;
-}
-
-/* Writes a line as it is to be told. A line that is too long to be a frame stays. */
-static void write_line(struct script *script, const char *line, size_t len)
-{
-    char out[65536];
-    size_t told;
-    if (script && smap_translate_line(&script->map, script->url, strlen(script->url), line, len, false, out,
-                                      sizeof out, &told, NULL) == SMAP_OK && told <= sizeof out)
-        fwrite(out, 1, told, stdout);
-    else
-        fwrite(line, 1, len, stdout);
+    const char *equals = strrchr(word, '=');
+    size_t url_len = equals ? (size_t)(equals - word) : 0, len;
+    FILE *file = equals ? fopen(equals + 1, "rb") : NULL;
+    char *text = read_all(file, &len), *base = malloc(url_len + 4);
+    smap_map map = {0};
+    uint32_t code = SMAP_NONE;
+    if (text && base) {
+        memcpy(base, word, url_len);
+        memcpy(base + url_len, ".map", 4);
+        code = smap_open(&map, text, len, base, url_len + 4, NULL, fault);
+        if (code == SMAP_OK) code = smap_add_script(scripts, word, url_len, &map);
+    }
+    smap_close(&map); /* the scripts share the map */
+    if (file) fclose(file);
+    free(text);
+    free(base);
+    return code;
 }
 
 int main(int argc, char **argv)
 {
-    struct script *scripts = calloc((size_t)argc, sizeof *scripts);
-    char *line = NULL;
-    size_t room = 0;
+    smap_scripts scripts = {0};
+    smap_bytes out = {0};
+    smap_trace_counts counts;
+    smap_fault fault = {0};
+    const uint8_t *at;
+    size_t len;
+    char *log;
+    if (argc < 2) return fputs("usage: trace URL=MAP .. <LOG\n", stderr), 2;
     for (int i = 1; i < argc; i++)
-        if (!open_script(&scripts[i - 1], argv[i])) return 2;
-    for (ssize_t len; (len = getline(&line, &room, stdin)) > 0;)
-        write_line(script_of(scripts, argc - 1, line, (size_t)len), line, (size_t)len);
-    free(line);
-    for (int i = 1; i < argc; i++) smap_close(&scripts[i - 1].map);
-    free(scripts);
+        if (add_script(&scripts, argv[i], &fault) != SMAP_OK)
+            return fprintf(stderr, "trace: %s: %s\n", argv[i], fault.kind ? fault.text : "cannot be used"), 1;
+    log = read_all(stdin, &len);
+    if (!log || smap_translate(&scripts, log, len, false, &out, &counts) != SMAP_OK)
+        return fputs("trace: out of memory\n", stderr), 4;
+    smap_bytes_data(&out, &at, &len);
+    fwrite(at, 1, len, stdout);
+    fprintf(stderr, "%llu lines, %llu translated\n", (unsigned long long)counts.lines,
+            (unsigned long long)counts.translated);
+    free(log);
+    smap_bytes_free(&out);
+    smap_close_scripts(&scripts);
     return 0;
 }

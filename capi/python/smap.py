@@ -8,8 +8,9 @@
         print(m.translate(log, "http://h/m/out.js"))
 
 Over the C library libsmap by ctypes alone. The shared object is the one that the environment's SMAP_LIBRARY
-names, or one beside this file, or the system's. Lines and columns count from 0, but in traces from 1. A map
-may be used by one thread at a time; `share` gives another thread one of its own.
+names, or one beside this file, or the one that was installed with it, or the system's. Lines and columns
+count from 0, but in traces from 1. A map may be used by one thread at a time; `share` gives another thread
+one of its own.
 """
 
 from __future__ import annotations
@@ -46,7 +47,7 @@ class _Fault(ctypes.Structure):
         ("depth", c_size_t),
         ("section", c_size_t * 8),
         ("text_len", c_size_t),
-        ("text", c_char * 256),
+        ("text", c_char * 264),
     ]
 
 
@@ -136,7 +137,9 @@ class Mapping:
 
 def _load() -> ctypes.CDLL:
     beside = Path(__file__).resolve().parent
+    installed = beside.parent.parent / "lib"
     names = [os.environ.get("SMAP_LIBRARY"), beside / "libsmap.so.0", beside / "libsmap.so"]
+    names.append(installed / "libsmap.so.0")
     for name in names:
         if name and (os.path.exists(name) or name is names[0]):
             return ctypes.CDLL(str(name))
@@ -378,7 +381,7 @@ class Map:
             room = n.value
 
     def translate(self, trace: Union[str, bytes], url: str, hide: bool = False) -> Union[str, bytes]:
-        """A whole trace, its frames in the script at `url` told at the positions of the sources.
+        """A whole trace, with the frames in the script at `url` at their positions in the sources.
 
         `hide` drops frames in ignored sources. A str gives a str, bytes give bytes.
         """
@@ -430,7 +433,7 @@ class Scripts:
             self.close()
 
     def translate(self, trace: bytes, hide: bool = False) -> Tuple[bytes, TraceCounts]:
-        """A whole trace with its frames told at the positions of the sources, and how many lines that were.
+        """A whole trace with its frames at their positions in the sources, and the counts of its lines.
 
         `hide` drops frames in ignored sources.
         """
@@ -442,7 +445,7 @@ class Scripts:
 
 
 def translate(trace: Union[str, bytes], scripts: Dict[str, Map], hide: bool = False) -> Union[str, bytes]:
-    """A whole trace, told at the positions of the sources by the maps of scripts, which go by their URLs.
+    """A whole trace with its frames at their positions in the sources, by the maps of scripts, keyed by URL.
 
     `hide` drops frames in ignored sources. A str gives a str, bytes give bytes.
     """

@@ -45,7 +45,7 @@ struct RawFault {
     depth: usize,
     section: [usize; 8],
     text_len: usize,
-    text: [u8; 256],
+    text: [u8; 264],
 }
 
 #[repr(C)]
@@ -61,9 +61,40 @@ struct RawMapping {
     source: usize,
 }
 
-/// How much a map holds.
 #[repr(C)]
-#[derive(Clone, Copy, Debug, Default)]
+#[derive(Default)]
+struct RawListed {
+    line: u32,
+    column: u32,
+    has_source: bool,
+    has_name: bool,
+    source_line: u32,
+    source_column: u32,
+    source: u32,
+    name: u32,
+}
+
+#[repr(C)]
+#[derive(Default)]
+struct RawFrame {
+    url_from: usize,
+    url_len: usize,
+    line: u32,
+    column: u32,
+}
+
+/// How many lines a trace has, and how many of them were translated and dropped.
+#[repr(C)]
+#[derive(Clone, Copy, Debug, Default, PartialEq, Eq)]
+pub struct TraceCounts {
+    pub lines: u64,
+    pub translated: u64,
+    pub dropped: u64,
+}
+
+/// How much a map holds: distinct sources, sources and names as listed, mappings, and generated lines.
+#[repr(C)]
+#[derive(Clone, Copy, Debug, Default, PartialEq, Eq)]
 pub struct Counts {
     pub sources: usize,
     pub listed_sources: usize,
@@ -72,55 +103,50 @@ pub struct Counts {
     pub lines: u32,
 }
 
+// The parameters of the library's functions: a handle, a string that goes in, a buffer, and a length that is
+// returned.
+type Owned = *mut Handle;
+type Text = *const u8;
+type Out = *mut u8;
+type Len = *mut usize;
+
 unsafe extern "C" {
+    fn smap_version() -> u32;
+    fn smap_code_name(code: u32, out: Out, room: usize) -> usize;
     fn smap_open(
-        map: *mut Handle,
-        text: *const u8,
-        len: usize,
-        base: *const u8,
-        base_len: usize,
-        limits: *const Limits,
+        map: Owned, text: Text, len: usize, base: Text, base_len: usize, limits: *const Limits,
         fault: *mut RawFault,
     ) -> u32;
-    fn smap_close(map: *mut Handle);
-    fn smap_share(map: *mut Handle, other: *mut Handle) -> u32;
-    fn smap_same(one: *mut Handle, other: *mut Handle, out: *mut bool) -> u32;
-    fn smap_count(map: *mut Handle, out: *mut Counts) -> u32;
-    fn smap_lookup(map: *mut Handle, line: u32, column: u32, out: *mut RawMapping) -> u32;
-    fn smap_name_at(
-        map: *mut Handle,
-        line: u32,
-        column: u32,
-        out: *mut u8,
-        room: usize,
-        len: *mut usize,
-    ) -> u32;
-    fn smap_source_url(map: *mut Handle, source: usize, out: *mut u8, room: usize, len: *mut usize) -> u32;
-    fn smap_source_content(
-        map: *mut Handle,
-        source: usize,
-        out: *mut u8,
-        room: usize,
-        len: *mut usize,
-    ) -> u32;
-    fn smap_canonical(map: *mut Handle, out: *mut Handle) -> u32;
-    fn smap_canonical_relative(map: *mut Handle, out: *mut Handle) -> u32;
-    fn smap_canonical_mappings(map: *mut Handle, out: *mut Handle) -> u32;
-    fn smap_flatten(map: *mut Handle, out: *mut Handle) -> u32;
-    fn smap_respell(text: *const u8, len: usize, out: *mut Handle, fault: *mut RawFault) -> u32;
-    fn smap_bytes_copy(bytes: *mut Handle, from: usize, out: *mut u8, room: usize) -> usize;
-    fn smap_bytes_free(bytes: *mut Handle);
+    fn smap_close(map: Owned);
+    fn smap_share(map: Owned, other: Owned) -> u32;
+    fn smap_same(one: Owned, other: Owned, out: *mut bool) -> u32;
+    fn smap_count(map: Owned, out: *mut Counts) -> u32;
+    fn smap_file(map: Owned, out: Out, room: usize, len: Len) -> u32;
+    fn smap_lookup(map: Owned, line: u32, column: u32, out: *mut RawMapping) -> u32;
+    fn smap_name_at(map: Owned, line: u32, column: u32, out: Out, room: usize, len: Len) -> u32;
+    fn smap_token(map: Owned, i: usize, out: *mut RawMapping) -> u32;
+    fn smap_source_url(map: Owned, source: usize, out: Out, room: usize, len: Len) -> u32;
+    fn smap_source_content(map: Owned, source: usize, out: Out, room: usize, len: Len) -> u32;
+    fn smap_is_ignored(map: Owned, source: usize, out: *mut bool) -> u32;
+    fn smap_listed_source(map: Owned, i: usize, out: Len) -> u32;
+    fn smap_listed_name(map: Owned, i: usize, out: Out, room: usize, len: Len) -> u32;
+    fn smap_listed_token(map: Owned, i: usize, out: *mut RawListed) -> u32;
+    fn smap_canonical(map: Owned, out: Owned) -> u32;
+    fn smap_canonical_relative(map: Owned, out: Owned) -> u32;
+    fn smap_canonical_mappings(map: Owned, out: Owned) -> u32;
+    fn smap_flatten(map: Owned, out: Owned) -> u32;
+    fn smap_respell(text: Text, len: usize, out: Owned, fault: *mut RawFault) -> u32;
+    fn smap_bytes_copy(bytes: Owned, from: usize, out: Out, room: usize) -> usize;
+    fn smap_bytes_free(bytes: Owned);
+    fn smap_frame(line: Text, len: usize, out: *mut RawFrame) -> u32;
     fn smap_translate_line(
-        map: *mut Handle,
-        url: *const u8,
-        url_len: usize,
-        line: *const u8,
-        line_len: usize,
-        hide: bool,
-        out: *mut u8,
-        room: usize,
-        len: *mut usize,
-        outcome: *mut u32,
+        map: Owned, url: Text, url_len: usize, line: Text, line_len: usize, hide: bool, out: Out,
+        room: usize, len: Len, outcome: *mut u32,
+    ) -> u32;
+    fn smap_add_script(scripts: Owned, url: Text, url_len: usize, map: Owned) -> u32;
+    fn smap_close_scripts(scripts: Owned);
+    fn smap_translate(
+        scripts: Owned, trace: Text, len: usize, hide: bool, out: Owned, counts: *mut TraceCounts,
     ) -> u32;
 }
 
@@ -128,6 +154,7 @@ const OK: u32 = 0;
 const REFUSED: u32 = 1;
 const NOT_URL: u32 = 2;
 const LIMITS: u32 = 3;
+const MEMORY: u32 = 4;
 
 /// The first fault of a map or of a mappings text: its kind (one of smap.h's SMAP_FAULT_..), the path of its
 /// section, the line and the segment, the number that the kind carries, and its words.
@@ -149,31 +176,34 @@ pub enum Error {
     Memory,
 }
 
+impl Error {
+    /// The library's code for it.
+    pub fn code(&self) -> u32 {
+        match self {
+            Error::Refused(_) => REFUSED,
+            Error::NotUrl => NOT_URL,
+            Error::Limits => LIMITS,
+            Error::Memory => MEMORY,
+        }
+    }
+}
+
 impl fmt::Display for Error {
     fn fmt(&self, f: &mut fmt::Formatter<'_>) -> fmt::Result {
-        match self {
-            Error::Refused(fault) => f.write_str(&fault.words),
-            Error::NotUrl => f.write_str("not a URL"),
-            Error::Limits => f.write_str("limits too large"),
-            Error::Memory => f.write_str("out of memory"),
+        if let Error::Refused(fault) = self {
+            return f.write_str(&fault.words);
         }
+        let mut name = [0; 64];
+        let len = unsafe { smap_code_name(self.code(), name.as_mut_ptr(), name.len()) };
+        f.write_str(&String::from_utf8_lossy(&name[..len.min(64)]))
     }
 }
 
 impl std::error::Error for Error {}
 
 fn no_fault() -> RawFault {
-    RawFault {
-        kind: 0,
-        line: 0,
-        segment: 0,
-        has_place: false,
-        number: 0,
-        depth: 0,
-        section: [0; 8],
-        text_len: 0,
-        text: [0; 256],
-    }
+    // zeros are a value of each of its fields
+    unsafe { std::mem::zeroed() }
 }
 
 fn error(code: u32, fault: &RawFault) -> Error {
@@ -183,7 +213,7 @@ fn error(code: u32, fault: &RawFault) -> Error {
             section: fault.section[..fault.depth].to_vec(),
             place: fault.has_place.then_some((fault.line, fault.segment)),
             number: fault.number,
-            words: String::from_utf8_lossy(&fault.text[..fault.text_len.min(256)]).into_owned(),
+            words: String::from_utf8_lossy(&fault.text[..fault.text_len.min(264)]).into_owned(),
         }),
         NOT_URL => Error::NotUrl,
         LIMITS => Error::Limits,
@@ -191,7 +221,7 @@ fn error(code: u32, fault: &RawFault) -> Error {
     }
 }
 
-/// Copies a text out by a call that takes a buffer and tells the text's length; none where its code isn't OK.
+/// The string that a call copies into a buffer, whose full length it returns; none if its code isn't OK.
 fn copied(mut call: impl FnMut(*mut u8, usize, *mut usize) -> u32) -> Option<Vec<u8>> {
     let (mut text, mut len) = (vec![0; 256], 0);
     loop {
@@ -227,6 +257,12 @@ fn written(call: impl FnOnce(*mut Handle) -> u32) -> Result<Vec<u8>, u32> {
     Ok(text)
 }
 
+/// The library's version: major, minor and patch.
+pub fn version() -> (u32, u32, u32) {
+    let version = unsafe { smap_version() };
+    (version / 10000, version / 100 % 100, version % 100)
+}
+
 /// A mappings text, sorted and as short as possible.
 pub fn respell(text: &[u8]) -> Result<Vec<u8>, Error> {
     let mut fault = no_fault();
@@ -244,6 +280,64 @@ pub struct Mapping {
     pub source_column: u32,
     pub has_name: bool,
     pub is_ignored: bool,
+}
+
+impl From<RawMapping> for Mapping {
+    fn from(m: RawMapping) -> Mapping {
+        Mapping {
+            line: m.line,
+            column: m.column,
+            source: m.has_source.then_some(m.source),
+            source_line: m.source_line,
+            source_column: m.source_column,
+            has_name: m.has_name,
+            is_ignored: m.is_ignored,
+        }
+    }
+}
+
+/// A mapping by places in the lists of the map's text: `source` is none where it comes from nowhere.
+#[derive(Clone, Copy, Debug, PartialEq, Eq)]
+pub struct ListedMapping {
+    pub line: u32,
+    pub column: u32,
+    pub source: Option<u32>,
+    pub source_line: u32,
+    pub source_column: u32,
+    pub name: Option<u32>,
+}
+
+/// All mappings of a map, in order of line and column.
+pub struct Mappings<'map> {
+    map: &'map Map,
+    next: usize,
+}
+
+impl Iterator for Mappings<'_> {
+    type Item = Mapping;
+
+    fn next(&mut self) -> Option<Mapping> {
+        let found = self.map.mapping(self.next)?;
+        self.next += 1;
+        Some(found)
+    }
+}
+
+/// The frame that a line of a trace is: the script's URL, and a position, which counts from 1.
+#[derive(Clone, Copy, Debug, PartialEq, Eq)]
+pub struct Frame<'line> {
+    pub url: &'line [u8],
+    pub line: u32,
+    pub column: u32,
+}
+
+/// The frame that a line is, taken without its line feed, if it is one.
+pub fn frame(line: &[u8]) -> Option<Frame<'_>> {
+    let mut f = RawFrame::default();
+    if unsafe { smap_frame(line.as_ptr(), line.len(), &mut f) } != OK {
+        return None;
+    }
+    Some(Frame { url: &line[f.url_from..f.url_from + f.url_len], line: f.line, column: f.column })
 }
 
 /// What became of a line of a trace.
@@ -310,18 +404,20 @@ impl Map {
     /// The mapping that a generated position falls to.
     pub fn lookup(&self, line: u32, column: u32) -> Option<Mapping> {
         let mut m = RawMapping::default();
-        if unsafe { smap_lookup(self.0.get(), line, column, &mut m) } != OK {
-            return None;
-        }
-        Some(Mapping {
-            line: m.line,
-            column: m.column,
-            source: m.has_source.then_some(m.source),
-            source_line: m.source_line,
-            source_column: m.source_column,
-            has_name: m.has_name,
-            is_ignored: m.is_ignored,
-        })
+        let code = unsafe { smap_lookup(self.0.get(), line, column, &mut m) };
+        (code == OK).then(|| m.into())
+    }
+
+    /// The i-th mapping, in order of line and column.
+    pub fn mapping(&self, i: usize) -> Option<Mapping> {
+        let mut m = RawMapping::default();
+        let code = unsafe { smap_token(self.0.get(), i, &mut m) };
+        (code == OK).then(|| m.into())
+    }
+
+    /// All mappings, in order of line and column.
+    pub fn mappings(&self) -> Mappings<'_> {
+        Mappings { map: self, next: 0 }
     }
 
     /// The name of the mapping there.
@@ -337,6 +433,46 @@ impl Map {
     /// The text of a source.
     pub fn content(&self, source: usize) -> Option<String> {
         text_of(|out, room, len| unsafe { smap_source_content(self.0.get(), source, out, room, len) })
+    }
+
+    /// Whether a source is ignored; none if there is no such source.
+    pub fn is_ignored(&self, source: usize) -> Option<bool> {
+        let mut out = false;
+        let code = unsafe { smap_is_ignored(self.0.get(), source, &mut out) };
+        (code == OK).then_some(out)
+    }
+
+    /// The name of the generated file.
+    pub fn file(&self) -> Option<String> {
+        text_of(|out, room, len| unsafe { smap_file(self.0.get(), out, room, len) })
+    }
+
+    /// The number, among the distinct sources, of the i-th source that the map's text lists.
+    pub fn listed_source(&self, i: usize) -> Option<usize> {
+        let mut out = 0;
+        let code = unsafe { smap_listed_source(self.0.get(), i, &mut out) };
+        (code == OK).then_some(out)
+    }
+
+    /// The i-th name that the map's text lists.
+    pub fn listed_name(&self, i: usize) -> Option<String> {
+        text_of(|out, room, len| unsafe { smap_listed_name(self.0.get(), i, out, room, len) })
+    }
+
+    /// The i-th mapping by places in the lists, in order of line and column.
+    pub fn listed_mapping(&self, i: usize) -> Option<ListedMapping> {
+        let mut m = RawListed::default();
+        if unsafe { smap_listed_token(self.0.get(), i, &mut m) } != OK {
+            return None;
+        }
+        Some(ListedMapping {
+            line: m.line,
+            column: m.column,
+            source: m.has_source.then_some(m.source),
+            source_line: m.source_line,
+            source_column: m.source_column,
+            name: m.has_name.then_some(m.name),
+        })
     }
 
     /// The map in canonical form.
@@ -373,5 +509,50 @@ impl Map {
             (Some(text), 1) => Ok(Line::Translated(text)),
             (Some(text), _) => Ok(Line::Kept(text)),
         }
+    }
+}
+
+/// Scripts, each a URL and a map, by which traces are translated.
+pub struct Scripts(UnsafeCell<Handle>);
+
+// As for `Map`.
+unsafe impl Send for Scripts {}
+
+impl Drop for Scripts {
+    fn drop(&mut self) {
+        unsafe { smap_close_scripts(self.0.get()) }
+    }
+}
+
+impl Default for Scripts {
+    fn default() -> Scripts {
+        Scripts::new()
+    }
+}
+
+impl Scripts {
+    /// No scripts.
+    pub fn new() -> Scripts {
+        Scripts(UnsafeCell::new(Handle::closed()))
+    }
+
+    /// Adds a script. It shares the map. A script of the same URL gets this map in place of its own.
+    pub fn add(&mut self, url: &str, map: &Map) -> Result<(), Error> {
+        let code = unsafe { smap_add_script(self.0.get(), url.as_ptr(), url.len(), map.0.get()) };
+        if code == OK { Ok(()) } else { Err(Error::Memory) }
+    }
+
+    /// A whole trace with its frames at their positions in the sources, and the counts of its lines. `hide`
+    /// drops frames in ignored sources.
+    pub fn translate(&self, trace: &[u8], hide: bool) -> Result<(Vec<u8>, TraceCounts), Error> {
+        let mut counts = TraceCounts::default();
+        let (scripts, text, len) = (self.0.get(), trace.as_ptr(), trace.len());
+        if !unsafe { (*scripts).is_open } {
+            counts.lines = trace.split_inclusive(|&byte| byte == b'\n').count() as u64;
+            return Ok((trace.to_vec(), counts));
+        }
+        written(|out| unsafe { smap_translate(scripts, text, len, hide, out, &mut counts) })
+            .map(|told| (told, counts))
+            .map_err(|_| Error::Memory)
     }
 }

@@ -9,10 +9,14 @@ static int failures;
 
 int main()
 {
-    const std::string text = "{\"version\":3,\"sources\":[\"a.js\"],\"mappings\":\"AAUE\"}";
+    const std::string text = "{\"version\":3,\"file\":\"out.js\",\"sources\":[\"a.js\"],\"sourcesContent\":"
+                             "[\"x\"],\"names\":[\"f\"],\"mappings\":\"AAUEA\"}";
     const std::string base = "http://h/m/out.js.map";
     smap::Map map, moved;
     smap::Bytes bytes;
+    smap::Scripts scripts, kept;
+    smap_trace_counts counts = smap_trace_counts();
+    std::string out = "old";
     smap_mapping found = smap_mapping();
     smap_fault fault;
     CHECK(smap::open(map, text, base) == SMAP_OK && map.is_open());
@@ -20,9 +24,21 @@ int main()
     CHECK(!map.is_open() && moved.is_open());
     smap::Map last(std::move(moved));
     CHECK(smap_lookup(last.handle(), 0, 7, &found) == SMAP_OK && found.source_line == 10);
-    CHECK(smap::source_url(last, found.source) == "http://h/m/a.js");
-    CHECK(smap::source_url(last, 1) == "");
-    CHECK(smap_canonical_mappings(last.handle(), bytes.handle()) == SMAP_OK && smap::text(bytes) == "AAUE");
+    CHECK(smap::source_url(last, found.source, out) == SMAP_OK && out == "http://h/m/a.js");
+    CHECK(smap::source_url(last, 1, out) == SMAP_RANGE && out == "");
+    CHECK(smap::source_content(last, 0, out) == SMAP_OK && out == "x");
+    CHECK(smap::name_at(last, 0, 1, out) == SMAP_OK && out == "f");
+    CHECK(smap::listed_name(last, 0, out) == SMAP_OK && out == "f");
+    CHECK(smap::file(last, out) == SMAP_OK && out == "out.js" && smap::file(map, out) == SMAP_CLOSED);
+    CHECK(smap_canonical_mappings(last.handle(), bytes.handle()) == SMAP_OK && smap::text(bytes) == "AAUEA");
+    CHECK(smap::translate(scripts, "@u:1:2\n", false, bytes) == SMAP_CLOSED && smap::text(bytes) == "AAUEA");
+    CHECK(smap::add_script(scripts, "u", last) == SMAP_OK);
+    CHECK(smap::add_script(scripts, "v", map) == SMAP_CLOSED);
+    kept = std::move(scripts);
+    CHECK(smap::translate(kept, "@u:1:2\n@v:1:2", false, bytes, &counts) == SMAP_OK);
+    CHECK(smap::text(bytes) == "@http://h/m/a.js:11:3\n@v:1:2");
+    CHECK(counts.lines == 2 && counts.translated == 1 && counts.dropped == 0);
+    CHECK(smap::code_name(SMAP_CLOSED) == "closed handle");
     CHECK(smap::open(last, "[]", base, &fault) == SMAP_REFUSED && std::string(fault.text) == "not an object");
     return failures != 0;
 }

@@ -1,5 +1,5 @@
-/* The commands of the program smap that ask one map or one mappings text, over the C library: the tables of
- * rows/ are run over this (scripts/run-capi). */
+/* The commands of the program smap that ask one map or one mappings text, or translate a bundle, over the C
+ * library: the tables of rows/ are run over this (scripts/run-capi). */
 #include "smap.h"
 
 #include <stdio.h>
@@ -54,6 +54,39 @@ static int respell(void)
     if (write_bytes(code, &out)) return 4;
     putchar('\n');
     return 0;
+}
+
+/* Adds the script of an entry, `map URL BASE LENGTH` and the map below it, and answers what is left. */
+static char *add_entry(smap_scripts *scripts, char *entry)
+{
+    smap_map map = {0};
+    char *url = strchr(entry, ' ') + 1, *base = strchr(url, ' ') + 1, *number = strchr(base, ' ') + 1, *text;
+    size_t len = strtoul(number, &text, 10);
+    text++;
+    if (smap_open(&map, text, len, base, (size_t)(number - base - 1), NULL, NULL) != SMAP_OK ||
+        smap_add_script(scripts, url, (size_t)(base - url - 1), &map) != SMAP_OK)
+        exit(3);
+    smap_close(&map);
+    return text + len + 1;
+}
+
+static int translate(bool hide)
+{
+    smap_scripts scripts = {0};
+    smap_bytes out = {0};
+    size_t len;
+    char *text = read_input(&len), *rest = text;
+    int status;
+    while (strncmp(rest, "trace\n", 6) != 0) rest = add_entry(&scripts, rest);
+    rest += 6;
+    len -= (size_t)(rest - text);
+    if (scripts.is_open)
+        status = write_bytes(smap_translate(&scripts, rest, len, hide, &out, NULL), &out);
+    else
+        status = fwrite(rest, 1, len, stdout) != len;
+    smap_close_scripts(&scripts);
+    free(text);
+    return status;
 }
 
 static int check(smap_map *map)
@@ -128,6 +161,7 @@ int main(int argc, char **argv)
     const char *base = argv[relative ? 3 : 2];
     char *text;
     if (argc == 2 && !strcmp(argv[1], "respell")) return respell();
+    if (argc > 1 && !strcmp(argv[1], "translate")) return translate(argc > 2);
     if (argc < 3) return 2;
     text = read_input(&len);
     code = smap_open(&map, text, len, base, strlen(base), NULL, &fault);

@@ -1,4 +1,5 @@
-//! The commands of the program smap that ask one map or one mappings text, over the Rust wrapper.
+//! The commands of the program smap that ask one map or one mappings text, or translate a bundle, over the
+//! Rust wrapper.
 #[path = "../rust/smap.rs"]
 mod smap;
 
@@ -45,11 +46,27 @@ fn checked(map: &Map) -> Result<String, Error> {
     Ok(format!("accepted: {accepted}\ncanonical mappings: {length} bytes, at most {most}"))
 }
 
+/// The trace of a bundle, translated by its maps.
+fn translated(mut data: &[u8], hide: bool) -> Result<Vec<u8>, Error> {
+    let mut scripts = smap::Scripts::new();
+    while !data.starts_with(b"trace\n") {
+        let end = data.iter().position(|&byte| byte == b'\n').unwrap();
+        let header: Vec<&str> = std::str::from_utf8(&data[..end]).unwrap().split(' ').collect();
+        let length: usize = header[3].parse().unwrap();
+        scripts.add(header[1], &Map::open(&data[end + 1..][..length], header[2])?)?;
+        data = &data[end + 1 + length + 1..];
+    }
+    scripts.translate(&data[6..], hide).map(|told| told.0)
+}
+
 fn answer(words: &[String], data: &[u8]) -> Result<Vec<u8>, Error> {
     if words[0] == "respell" {
         let mut text = smap::respell(data.strip_suffix(b"\n").unwrap_or(data))?;
         text.push(b'\n');
         return Ok(text);
+    }
+    if words[0] == "translate" {
+        return translated(data, words.len() > 1);
     }
     let relative = words[1] == "--relative";
     let map = Map::open(data, &words[if relative { 2 } else { 1 }])?;

@@ -4,8 +4,8 @@
 
 #include <pthread.h>
 
-/* A map that handles share is freed behind the last use by any of them: closing one lowers a count by one
- * locked instruction, which the thread sanitizer can't see in the archive. Here it is told that order. */
+/* A map that handles share is freed after the last use by any of them: closing one lowers a count by one
+ * locked instruction, which the thread sanitizer can't see in the archive. Here it is told of that order. */
 #if defined(__SANITIZE_THREAD__) && !defined(ORDER_UNTOLD)
 void __tsan_acquire(void *at);
 void __tsan_release(void *at);
