@@ -11,7 +11,9 @@ pub mod RunningTextLemmas
 pub mod ReadBackLemmas
 pub mod LawLemmas
 pub mod LengthLemmas
+pub mod WholeLemmas
 pub mod PiecesLemmas
+pub mod ReaderLemmas
 pub mod CountLemmas
 pub mod SeparatorLemmas
 pub mod LeastLemmas

@@ -2,9 +2,9 @@ use Rattle.std.proofs.Common.{[], sym, ap, ◌∙◌}
 use Rattle.smap_mappings.specs.Lines.{segments_of}
 use Rattle.smap_mappings.specs.Pieces.{ended_segments}
 use Rattle.std.proofs.lemmas.Result.{err_from_is_err_and}
-use Rattle.smap_mappings.proofs.PiecesLemmas.{failed_of, gives_failed, gives_encodable, gives_within}
-use Rattle.smap_mappings.proofs.PiecesLemmas.{gives_from_start, same_refusal, refused_by, none_fits}
-use Rattle.smap_mappings.proofs.PiecesLemmas.{none_ended, none_falls, not_memory}
+use Rattle.smap_mappings.proofs.ReaderLemmas.{failed_of, gives_failed, gives_encodable, gives_within}
+use Rattle.smap_mappings.proofs.ReaderLemmas.{gives_from_start, same_refusal, refused_by, none_fits}
+use Rattle.smap_mappings.proofs.ReaderLemmas.{none_ended, none_falls, not_memory}
 use Rattle.smap_mappings.proofs.decoding.decode.Goals as goal
 
 pub returns-in_err-feed-clause-says : goal.returns-in_err-feed-clause-says

@@ -3,7 +3,8 @@ use Rattle.std.proofs.lemmas.Result.{err_from_is_err_and}
 use Rattle.smap_mappings.specs.Steps.{text_at, token_step}
 use Rattle.smap_mappings.proofs.StepsLemmas.{added, refused}
 use Rattle.smap_mappings.proofs.ScanLemmas.{one_goes_on, one_fails}
-use Rattle.smap_mappings.proofs.PiecesLemmas.{line_counted, judged_fields, one_token}
+use Rattle.smap_mappings.proofs.PiecesLemmas.{line_counted, judged_fields}
+use Rattle.smap_mappings.proofs.ReaderLemmas.{one_token}
 use Rattle.smap_mappings.proofs.reader.add.Goals as goal
 
 pub returns-in_ok-push-in-Ok-clause-reads : goal.returns-in_ok-push-in-Ok-clause-reads

@@ -1,7 +1,7 @@
 use Rattle.std.proofs.Common.{◌++◌}
 use Rattle.std.specs.Prelude.{vec_capacity}
-use Rattle.smap_mappings.proofs.PiecesLemmas.{read_of, tells_read, tells_failed, fails_state, fits_memory}
-use Rattle.smap_mappings.proofs.PiecesLemmas.{same_error}
+use Rattle.smap_mappings.proofs.PiecesLemmas.{fails_state}
+use Rattle.smap_mappings.proofs.ReaderLemmas.{read_of, tells_read, tells_failed, fits_memory, same_error}
 use Rattle.smap_mappings.proofs.reader.MappingsReader.feed.Goals as goal
 
 pub returns-in-Ok-clause-tells : goal.returns-in-Ok-clause-tells

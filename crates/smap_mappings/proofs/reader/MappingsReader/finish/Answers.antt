@@ -8,8 +8,8 @@ use Rattle.std.proofs.lemmas.Result.{err_from_is_err_and}
 use Rattle.smap_mappings.specs.declared.token.Token.{Token}
 use Rattle.smap_mappings.specs.Tokens.{Fault, tokens_after}
 use Rattle.std.specs.Prelude.{vec_capacity}
-use Rattle.smap_mappings.proofs.PiecesLemmas.{read_of, failed_of, reads_here, gives_failed, gives_last}
-use Rattle.smap_mappings.proofs.PiecesLemmas.{decoded_all, fits_last, all_read, same_refusal}
+use Rattle.smap_mappings.proofs.ReaderLemmas.{read_of, failed_of, reads_here, gives_failed, gives_last}
+use Rattle.smap_mappings.proofs.ReaderLemmas.{decoded_all, fits_last, all_read, same_refusal}
 use Rattle.smap_mappings.proofs.reader.MappingsReader.finish.Goals as goal
 
 abbrev read : List Token → Result (List Token) Fault

@@ -4,7 +4,8 @@ use Rattle.smap_mappings.specs.declared.reader.MappingsReader.{MappingsReader}
 use Rattle.smap_mappings.specs.declared.token.Bounds.{Bounds}
 use Rattle.smap_mappings.specs.Pieces.{IsRead, Fails}
 use Rattle.std.specs.Prelude.{vec_capacity}
-use Rattle.smap_mappings.proofs.PiecesLemmas.{not_true, fails_less, between, whole_read, one_byte, byte_fails}
+use Rattle.smap_mappings.proofs.PiecesLemmas.{fails_less}
+use Rattle.smap_mappings.proofs.ReaderLemmas.{not_true, between, whole_read, one_byte, byte_fails}
 use Rattle.smap_mappings.proofs.reader.MappingsReader.read.Goals as goal
 use Rattle.smap_mappings.proofs.reader.MappingsReader.read.Goals.{then-not-self+in_ok-cursor, else-not-self}
 

@@ -4,8 +4,8 @@ use Rattle.std.proofs.lemmas.Result.{err_from_is_err_and}
 use Rattle.smap_mappings.specs.declared.token.Bounds.{Bounds}
 use Rattle.smap_mappings.specs.Pieces.{Fails}
 use Rattle.std.specs.Prelude.{vec_capacity}
-use Rattle.smap_mappings.proofs.PiecesLemmas.{reads_here, byte_read, comma_there, comma_fails}
-use Rattle.smap_mappings.proofs.PiecesLemmas.{semicolon_there, semicolon_fails}
+use Rattle.smap_mappings.proofs.PiecesLemmas.{byte_read, comma_fails, semicolon_fails}
+use Rattle.smap_mappings.proofs.ReaderLemmas.{reads_here, comma_there, semicolon_there}
 use Rattle.smap_mappings.proofs.reader.MappingsReader.read_byte.Goals as goal
 
 pub returns-in_err-running-in-44-clause-reads : goal.returns-in_err-running-in-44-clause-reads
