@@ -15,7 +15,7 @@ use Rattle.smap_trace.specs.Frame.{BeginsWithAt, IsV8, IsFirefox, IsFrame, lacks
 use Rattle.smap_trace.specs.Reading.{body_frame, frame_of, framed, in_parentheses, is_space, is_url, v8_frame}
 use Rattle.smap_trace.proofs.CutLemmas.{begins, begins_with, middle_part}
 use Rattle.smap_trace.proofs.ReadingLemmas.{after_mark, framed-position_text}
-use Rattle.smap_trace.proofs.SoundLemmas.{at_found, front_all, front_passes}
+use Rattle.smap_trace.proofs.BodyLemmas.{at_found, front_all, front_passes}
 use Rattle.smap_trace.proofs.TextLemmas.{EndsIn, ends_not, lacks_all, longer, no_async, position_text_ends}
 use Rattle.smap_trace.proofs.TextLemmas.{position_text_lacks}
 

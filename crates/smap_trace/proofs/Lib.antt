@@ -15,5 +15,6 @@ pub mod ReadingLemmas
 pub mod RunLemmas
 pub mod ScriptLemmas
 pub mod SoFarLemmas
+pub mod BodyLemmas
 pub mod SoundLemmas
 pub mod TextLemmas

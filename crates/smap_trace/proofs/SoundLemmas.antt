@@ -1,26 +1,27 @@
 -- What is read as a frame of a line is a frame of that line.
 use Rattle.std.proofs.Common.{◌≡◌, ◌∙◌, ◌⊎◌, inl, inr, ℕ, suc, ◌+◌, ◌-◌, ◌<◌, ◌≤◌, ◌==◌, Bool, true, false}
-use Rattle.std.proofs.Common.{not, cond, ◌&&◌, ◌||◌, List, [], ◌∷◌, ◌++◌, length, take, drop, Option, Some}
+use Rattle.std.proofs.Common.{not, cond, ◌&&◌, List, [], ◌∷◌, ◌++◌, length, take, drop, Option, Some}
 use Rattle.std.proofs.Common.{None, refl, sym, ap, subst, arith, append_assoc, append-nil, slice_range}
-use Rattle.std.proofs.Common.{slice_index, nat_eq, nat_lt, length-take, length-drop, length-append, decimal}
+use Rattle.std.proofs.Common.{nat_eq, nat_lt, length-take, length-drop, length-append, decimal}
 use Rattle.std.proofs.Common.{codes, get_or}
 use Rattle.std.specs.Prelude.{option_map, option_and_then}
 use Rattle.std.specs.List.{starts_with, ends_with, suffix_len, before_last, after_last, prefix_len}
-use Rattle.std.specs.List.{position_or_len, list_all, list_any}
+use Rattle.std.specs.List.{position_or_len}
 use Rattle.std.specs.Str.Lines.{strip_carriage_return}
-use Rattle.std.proofs.lemmas.Bool.{ltb-true, cases_lt}
-use Rattle.std.proofs.lemmas.List.{take-append-drop, take-take, take_more, drop_more, drop-drop}
-use Rattle.std.proofs.Math.Seq.{take-append_seam, drop-append_seam, drop-length, get_or-append_seam, take-add}
+use Rattle.std.proofs.lemmas.Bool.{ltb-true}
+use Rattle.std.proofs.lemmas.List.{take-append-drop, take-take, take_more, drop-drop}
+use Rattle.std.proofs.Math.Seq.{take-append_seam, drop-append_seam, take-add}
 use Rattle.std.proofs.lemmas.List.Sums.{passes_at_first, suffix_len-le-length}
 use Rattle.std.proofs.lemmas.Slice.Eq.{ends_is}
 use Rattle.std.proofs.lemmas.Bool.Decides.{Decides-eqb}
-use Rattle.smap_trace.specs.Frame.{FrameParts, AreSpaces, IsPlace, IsLineEnd, InParentheses, Alone}
+use Rattle.smap_trace.specs.Frame.{FrameParts, IsPlace, IsLineEnd, InParentheses, Alone}
 use Rattle.smap_trace.specs.Frame.{AfterAsync}
 use Rattle.smap_trace.specs.Frame.{BeginsWithAt, IsFrame, lacks, position_text}
 use Rattle.smap_trace.specs.Reading.{body_frame, firefox_frame, frame_of, framed, in_parentheses, is_colon}
 use Rattle.smap_trace.specs.Reading.{is_space, is_url, place_of, v8_frame}
-use Rattle.smap_trace.proofs.CutLemmas.{both, begins, begins_with, cut_at, last_cut, rest_at, some_before}
+use Rattle.smap_trace.proofs.CutLemmas.{both, begins, cut_at, last_cut, rest_at, some_before}
 use Rattle.smap_trace.proofs.PlaceLemmas.{place_of-some}
+use Rattle.smap_trace.proofs.BodyLemmas.{body_cut, front_all, before_lacks, at_starts, begins_at}
 
 pub some_is : {A : Type 0} (x y : A) → Some x ≡ Some y → x ≡ y
 some_is x y e = cc
@@ -280,143 +281,6 @@ v8_leads line start end f le within h = go (ends_with nat_eq (slice_range line s
     go true b ea eb g = in_parens line start end f le within ea g
     go false true ea eb g = after_async line start end f le within eb g
     go false false ea eb g = alone line start end f g
-
--- ---- the line and its body
-
--- The body, and the carriage return at the line's end if there is one.
-pub body_cut : (line : List ℕ) → IsLineEnd (drop (length (strip_carriage_return line)) line)
-    × (length (strip_carriage_return line) ≤ length line)
-body_cut line = go (slice_index line (length line - 1) == 13) refl
-  where
-    cut_at_last : (xs : List ℕ) → (slice_index xs (length xs - 1) == 13) ≡ true
-        → (drop (length xs - 1) xs ≡ 13 ∷ []) × (length (take (length xs - 1) xs) ≡ length xs - 1)
-    cut_at_last [] e = cc
-    cut_at_last (x ∷ more) e =
-        let xs = x ∷ more in
-        let below : length xs - 1 < length xs = omega arith in
-        let is : get_or xs (length xs - 1) 0 ≡ 13 = (Decides-eqb (get_or xs (length xs - 1) 0) 13).0 e in
-        let next : length xs - 1 + 1 ≡ length xs = omega arith in (
-          drop_more xs (length xs - 1) 0 below ∙ ap (λ y. y ∷ drop (length xs - 1 + 1) xs) is
-              ∙ ap (λ n. 13 ∷ drop n xs) next ∙ ap (λ (ys : List ℕ). 13 ∷ ys) (drop-length xs),
-          omega (arith, length-take (length xs - 1) xs),
-        )
-
-    go : (t : Bool) → (slice_index line (length line - 1) == 13) ≡ t
-        → IsLineEnd (drop (length (cond t (take (length line - 1) line) line)) line)
-        × (length (cond t (take (length line - 1) line) line) ≤ length line)
-    go false e = (inl (drop-length line), omega arith)
-    go true e =
-        let c = cut_at_last line e in
-        (inr (ap (λ n. drop n line) c.1 ∙ c.0), omega (arith, c.1))
-
-pub front_passes : (q : ℕ → Bool) (front : List ℕ) (x : ℕ) (rest : List ℕ) → list_all q front ≡ true
-    → q x ≡ false → prefix_len q (front ++ x ∷ rest) ≡ length front
-front_passes q [] x rest all stop = rw stop refl
-front_passes q (y ∷ ys) x rest all stop = go (q y) all (λ h. front_passes q ys x rest h stop)
-  where
-    go : (t : Bool) → (t && list_all q ys) ≡ true → (list_all q ys ≡ true
-        → prefix_len q (ys ++ x ∷ rest) ≡ length ys)
-        → cond t (1 + prefix_len q (ys ++ x ∷ rest)) 0 ≡ length (y ∷ ys)
-    go true h more = ap (λ n. 1 + n) (more h) ∙ omega arith
-    go false h more = cc
-
-pub front_all : (q : ℕ → Bool) (xs : List ℕ) → list_all q (take (prefix_len q xs) xs) ≡ true
-front_all q [] = refl
-front_all q (x ∷ xs) = go (q x) refl (front_all q xs)
-  where
-    one_more : (n : ℕ) → 1 + n ≡ suc n
-    one_more n = omega arith
-
-    go : (t : Bool) → q x ≡ t → list_all q (take (prefix_len q xs) xs) ≡ true
-        → list_all q (take (cond t (1 + prefix_len q xs) 0) (x ∷ xs)) ≡ true
-    go false e rest = refl
-    go true e rest = rw (one_more (prefix_len q xs))
-        (ap (λ b. b && list_all q (take (prefix_len q xs) xs)) e ∙ rest)
-
-pub before_lacks : (c : ℕ) (xs : List ℕ) → lacks c (take (position_or_len (λ b. b == c) xs) xs) ≡ true
-before_lacks c xs = none (take (position_or_len (λ b. b == c) xs) xs) (front_all (λ b. not (b == c)) xs)
-  where
-    none : (ys : List ℕ) → list_all (λ b. not (b == c)) ys ≡ true → lacks c ys ≡ true
-    none [] h = refl
-    none (y ∷ ys) h = go (y == c) h (none ys)
-      where
-        go : (t : Bool) → (not t && list_all (λ b. not (b == c)) ys) ≡ true
-            → (list_all (λ b. not (b == c)) ys ≡ true → lacks c ys ≡ true)
-            → not (t || list_any (λ b. b == c) ys) ≡ true
-        go true g more = cc
-        go false g more = more g
-
--- A text that begins with spaces and `at ` is recognized.
-pub at_found : (spaces rest : List ℕ) → AreSpaces spaces
-    → (prefix_len is_space (spaces ++ codes "at " ++ rest) ≡ length spaces)
-    × (drop (length spaces) (spaces ++ codes "at " ++ rest) ≡ codes "at " ++ rest)
-at_found spaces rest are =
-    let whole : spaces ++ codes "at " ++ rest ≡ spaces ++ (codes "at " ++ rest) =
-    append_assoc spaces (codes "at ") rest in (
-      ap (prefix_len is_space) whole ∙ front_passes is_space spaces 97 (codes "t " ++ rest) are refl,
-      ap (drop (length spaces)) whole ∙ drop-append_seam spaces (codes "at " ++ rest),
-    )
-
-pub at_starts : (body spaces rest : List ℕ) → AreSpaces spaces → body ≡ spaces ++ codes "at " ++ rest
-    → starts_with nat_eq (drop (prefix_len is_space body) body) (codes "at ") ≡ true
-at_starts body spaces rest are is =
-    let found = at_found spaces rest are in
-    ap (λ (xs : List ℕ). starts_with nat_eq (drop (prefix_len is_space xs) xs) (codes "at ")) is
-    ∙ ap (λ n. starts_with nat_eq (drop n (spaces ++ codes "at " ++ rest)) (codes "at ")) found.0
-    ∙ ap (λ (xs : List ℕ). starts_with nat_eq xs (codes "at ")) found.1 ∙ begins_with (codes "at ") rest
-
--- Where the line begins with spaces and `at `, so does its body.
-pub begins_at : (line : List ℕ) → BeginsWithAt line
-    → (rest : List ℕ) × (spaces : List ℕ) × AreSpaces spaces
-    × (take (length (strip_carriage_return line)) line ≡ spaces ++ codes "at " ++ rest)
-begins_at line b =
-    let end = length (strip_carriage_return line) in
-    let bc = body_cut line in
-    let body = take end line in
-    let front = b.spaces ++ codes "at " in
-    let split : line ≡ body ++ drop end line = sym (take-append-drop end line) in
-    let len : length body ≡ end = omega (arith, bc.1, length-take end line) in
-    let lines : length line ≡ length front + length b.rest = ap length b.whole ∙ length-append front b.rest in
-    elim (cases_lt end (length front)) [
-      | inr ge ↦
-          let within : length front ≤ end = omega arith in
-          let same : take (length front) body ≡ front = take-take (length front) end line within
-          ∙ ap (take (length front)) b.whole ∙ take-append_seam front b.rest in (
-            drop (length front) body,
-            b.spaces,
-            b.are_spaces,
-            sym (take-append-drop (length front) body)
-                ∙ ap (λ (xs : List ℕ). xs ++ drop (length front) body) same,
-          )
-      | inl lt ↦
-          absurd (no_return line body b.spaces b.rest (drop end line) split b.whole (omega (arith, lt, len))
-          bc.0)
-    ]
-  where
-    no_return : (line body spaces rest last : List ℕ) → line ≡ body ++ last
-        → line ≡ spaces ++ codes "at " ++ rest → length body < length (spaces ++ codes "at ") → IsLineEnd last
-        → ⊥
-    no_return line body spaces rest last split whole lt (inl e) =
-        let l1 = ap length split ∙ length-append body last in
-        let l2 = ap length whole ∙ length-append (spaces ++ codes "at ") rest in
-        let l3 = ap length e in
-        omega (arith, l1, l2, l3, lt)
-    no_return line body spaces rest last split whole lt (inr e) =
-        let l1 = ap length split ∙ length-append body last in
-        let l2 = ap length whole ∙ length-append (spaces ++ codes "at ") rest in
-        let l3 = ap length e in
-        let l4 = length-append spaces (codes "at ") in
-        let l5 = length-append spaces (codes "at") in
-        let last_is : get_or line (length body) 0 ≡ 13 =
-        ap (λ (xs : List ℕ). get_or xs (length body) 0) (split ∙ ap (λ (xs : List ℕ). body ++ xs) e)
-        ∙ get_or-append_seam body 13 [] 0 in
-        let place : length body ≡ length (spaces ++ codes "at") = omega (arith, l1, l2, l3, l4, l5, lt) in
-        let whole' : line ≡ (spaces ++ codes "at") ++ 32 ∷ rest =
-        whole ∙ append_assoc spaces (codes "at ") rest ∙ sym (append_assoc spaces (codes "at") (32 ∷ rest)) in
-        let space_is : get_or line (length body) 0 ≡ 32 = ap (λ n. get_or line n 0) place
-        ∙ ap (λ (xs : List ℕ). get_or xs (length (spaces ++ codes "at")) 0) whole'
-        ∙ get_or-append_seam (spaces ++ codes "at") 32 rest 0 in
-        omega (arith, sym last_is ∙ space_is)
 
 -- ---- the frame
 
