@@ -23,8 +23,6 @@ mod output;
 mod respell;
 pub mod round_trips;
 mod runs;
-#[cfg(test)]
-mod tests;
 mod tidy;
 mod translate;
 

@@ -3,9 +3,9 @@ ghost use Rattle.std.specs.Prelude.{◌≡◌, false};
 ghost use Rattle.smap_io.specs.Device.{device_failures, has_ended};
 
 use super::{BASE, TWO_NAMES};
-use crate::{Outcome, RunFault, run_check, run_flatten, run_lookup, run_respell, run_tidy};
 use smap_io::Device;
 use smap_testing::{SlowReader, SlowWriter};
+use smap_tool::{Outcome, RunFault, run_check, run_flatten, run_lookup, run_respell, run_tidy};
 use std::process::Abort;
 
 /// How many bytes a call moves.

@@ -4,29 +4,26 @@ mod check;
 mod devices;
 mod directly;
 mod flatten;
-mod library;
 mod lookup;
 mod respell;
-mod round_trips;
 mod sections;
 mod tidy;
 mod translate;
-mod words;
 
-use crate::{Outcome, Task, run};
 use smap_io::Device;
 use smap_testing::{SlowReader, SlowWriter};
+use smap_tool::{Outcome, Task, run};
 use std::process::Abort;
 
 /// The base that a test reads against where it names none.
-const BASE: &str = "http://h/m/out.js.map";
+pub(crate) const BASE: &str = "http://h/m/out.js.map";
 
 /// A map with one source, two names and two mappings.
-const TWO_NAMES: &str =
+pub(crate) const TWO_NAMES: &str =
     r#"{"version":3,"sources":["a.js"],"names":["x","y"],"mappings":"AAAAC,CAACD"}"#;
 
 /// An index map of two sections, which list one source twice.
-const TWO_SECTIONS: &str = concat!(
+pub(crate) const TWO_SECTIONS: &str = concat!(
     r#"{"version":3,"sections":[{"offset":{"line":0,"column":0},"map":{"version":3,"sources":["a.js"],"#,
     r#""mappings":"AAAA"}},{"offset":{"line":0,"column":10},"map":{"version":3,"sources":["a.js","#,
     r#""b.js"],"names":["n"],"mappings":"AAAAA;CCCC"}}]}"#,

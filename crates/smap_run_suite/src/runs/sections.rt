@@ -1,6 +1,6 @@
 //! Rows of index maps.
 use super::{BASE, TWO_SECTIONS, writes};
-use crate::{Outcome, Task};
+use smap_tool::{Outcome, Task};
 
 /// Index maps and the canonical form of each.
 const TIDY: [(&str, &str); 4] = [

@@ -1,6 +1,6 @@
 //! Rows of `tidy`.
 use super::{BASE, TWO_NAMES, writes};
-use crate::{Outcome, Task};
+use smap_tool::{Outcome, Task};
 
 const TWO_NAMES_TIDY: &str =
     r#"{"mappings":"AAAAA,CAACC","names":["y","x"],"sources":["http://h/m/a.js"],"version":3}"#;

@@ -1,6 +1,6 @@
 //! Rows of `respell`.
 use super::writes;
-use crate::{Outcome, Task};
+use smap_tool::{Outcome, Task};
 
 /// Inputs, what is written for each, and the outcome.
 const ROWS: [(&str, &str, Outcome); 24] = [

@@ -1,7 +1,7 @@
 //! Whole bundles, as they come in and what goes out.
-use crate::{Outcome, RunFault, run_translate};
 use smap_io::Device;
 use smap_testing::{SlowReader, SlowWriter};
+use smap_tool::{Outcome, RunFault, run_translate};
 use std::process::Abort;
 use std::test::Fail;
 

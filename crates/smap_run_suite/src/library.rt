@@ -1,4 +1,4 @@
-//! The library in the lines in which the README shows it.
+//! The library's calls, in the order in which README's example makes them.
 use smap_canon::canonical;
 use smap_io::Device;
 use smap_record::{Base, Limits, SourceMap};

@@ -1,6 +1,6 @@
 //! Rows of `flatten`.
 use super::{BASE, TWO_NAMES, TWO_SECTIONS, writes};
-use crate::{Outcome, Task};
+use smap_tool::{Outcome, Task};
 
 const FLATTEN: Task<'static> = Task::Flatten { base: BASE };
 

@@ -1,6 +1,6 @@
 //! Rows of `lookup`.
 use super::{BASE, TWO_SECTIONS, writes};
-use crate::{Outcome, Task};
+use smap_tool::{Outcome, Task};
 
 /// Maps, positions, and what is written for each.
 const ROWS: [(&str, u32, u32, &str); 13] = [

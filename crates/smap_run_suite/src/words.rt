@@ -1,5 +1,5 @@
 //! What an error says of itself, by `{}`: the words of the program's own messages after `smap: `.
-use crate::RunFault;
+use smap_tool::RunFault;
 use smap_trace::TraceError;
 use std::test::Fail;
 

@@ -1,10 +1,10 @@
 //! Maps that are read again from their canonical bytes.
-use super::{BASE, TWO_NAMES, TWO_SECTIONS};
-use crate::round_trips::read_again;
+use crate::runs::{BASE, TWO_NAMES, TWO_SECTIONS};
 use smap_canon::same;
 use smap_io::Device;
 use smap_record::{Base, Limits, ReadError, SourceMap};
 use smap_testing::{SlowReader, SlowWriter};
+use smap_tool::round_trips::read_again;
 use smap_trace::translate;
 use std::process::Abort;
 

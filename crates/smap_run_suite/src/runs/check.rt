@@ -1,6 +1,6 @@
 //! Rows of `check`.
 use super::{BASE, TWO_NAMES, writes};
-use crate::{Outcome, Task};
+use smap_tool::{Outcome, Task};
 
 const CHECK: Task<'static> = Task::Check { base: BASE };
 

@@ -1,6 +1,6 @@
 //! Rows of `translate`.
 use super::writes;
-use crate::{Outcome, Task};
+use smap_tool::{Outcome, Task};
 
 /// A script whose one source is ignored, and a trace of two lines.
 const BUNDLE: &str = "map http://h/o.js http://h/m/out.js.map 67\n\

@@ -1,8 +1,8 @@
 //! Devices that fail.
 use super::{BASE, TWO_NAMES};
-use crate::{Outcome, RunFault, Task, run};
 use smap_io::Device;
 use smap_testing::{SlowReader, SlowWriter};
+use smap_tool::{Outcome, RunFault, Task, run};
 
 /// Each command that reads its input to the end, and an input for it.
 const TASKS: [(Task<'static>, &str); 6] = [
