@@ -41,9 +41,9 @@ match_any (Ok x) P Q f g = f x
 match_any (Err s) P Q f g = g s
 
 -- one more failure, or too many bytes, after these
-blamed_after : (old mid new calls left n m : ℕ) → mid ≡ old → calls ≤ left + n → (mid < new)
-    ⊎ ((new ≡ mid) × (left ≤ m)) → (old < new) ⊎ ((new ≡ old) × (calls ≤ n + m))
-blamed_after old mid new calls left n m same counted (inl lt) = inl (omega (arith, lt, same))
+blamed_after : (old mid new calls left n m : ℕ) → mid ≡ old → calls ≤ left + n → (new ≡ mid + 1)
+    ⊎ ((new ≡ mid) × (left ≤ m)) → (new ≡ old + 1) ⊎ ((new ≡ old) × (calls ≤ n + m))
+blamed_after old mid new calls left n m same counted (inl one) = inl (omega (arith, one, same))
 blamed_after old mid new calls left n m same counted (inr e) = inr (e.0 ∙ same, omega (arith, counted, e.1))
 
 -- An answer that is a refusal isn't Read.

@@ -1,5 +1,5 @@
 -- Why reading the entries of a bundle stopped.
-use Rattle.std.specs.Prelude.{◌≡◌, ◌⊎◌, ℕ, ◌<◌, ◌≤◌, List, ◌++◌, length, Option}
+use Rattle.std.specs.Prelude.{◌≡◌, ◌⊎◌, ℕ, ◌+◌, ◌≤◌, List, ◌++◌, length, Option}
 use Rattle.smap_io.specs.declared.device.Device.{Device}
 use Rattle.smap_io.specs.Device.{device_failures, has_ended}
 use Rattle.smap_io.specs.Reading.{Gave}
@@ -44,5 +44,5 @@ Stops remaining old new calls P Within fault.TooLong =
 Stops remaining old new calls P Within fault.Memory =
     (bytes : List ℕ) × Gave remaining old new bytes × (device_failures new ≡ device_failures old)
 Stops remaining old new calls P Within fault.Read = (bytes : List ℕ) × Gave remaining old new bytes
-    × ((device_failures old < device_failures new)
+    × ((device_failures new ≡ device_failures old + 1)
     ⊎ ((device_failures new ≡ device_failures old) × (calls ≤ length bytes)))

@@ -1,5 +1,5 @@
 -- What a function that reads and writes has done to its two devices.
-use Rattle.std.specs.Prelude.{◌≡◌, ◌⊎◌, ℕ, ◌<◌, ◌≤◌, Bool, true, false, List, length, Option, Result, Ok, Err}
+use Rattle.std.specs.Prelude.{◌≡◌, ◌⊎◌, ℕ, ◌+◌, ◌≤◌, Bool, true, false, List, length, Option, Result, Ok, Err}
 use Rattle.std.specs.Io.KnownBytes.{Appends, Consumes, Keeps}
 use Rattle.smap_io.specs.declared.device.Device.{Device}
 use Rattle.smap_io.specs.declared.reading.TheConstants.{MOST_CALLS}
@@ -49,9 +49,9 @@ HasWrittenNothing s = Keeps s.written_before s.written_after
 
 -- ---- the failures
 
--- more failures than before if the flag is set, else as many
+-- one failure more than before if the flag is set, else as many
 abbrev pub Rises : Bool → ℕ → ℕ → Type 0
-Rises true old new = old < new
+Rises true old new = new ≡ old + 1
 Rises false old new = new ≡ old
 
 -- whether the answer is such an error
@@ -59,11 +59,11 @@ abbrev pub fails_by : {A E : Type 0} → (E → Bool) → Result A E → Bool
 fails_by is (Ok x) = false
 fails_by is (Err e) = is e
 
--- The reader's failures rise exactly with such an error.
+-- The reader's failures rise exactly with such an error, by one.
 abbrev pub ReaderFails : {A E : Type 0} → (E → Bool) → Streams → Result A E → Type 0
 ReaderFails is s result = Rises (fails_by is result) s.read_failures_before s.read_failures_after
 
--- The writer's failures rise exactly with such an error.
+-- The writer's failures rise exactly with such an error, by one.
 abbrev pub WriterFails : {A E : Type 0} → (E → Bool) → Streams → Result A E → Type 0
 WriterFails is s result = Rises (fails_by is result) s.write_failures_before s.write_failures_after
 
@@ -73,7 +73,7 @@ ReadsTooMuch s = (bytes : List ℕ) × HasRead s bytes × (MOST_CALLS ≤ length
 
 -- The same, where such an error may also come after that many bytes.
 abbrev pub RisesOr : Type 0 → Bool → ℕ → ℕ → Type 0
-RisesOr P true old new = (old < new) ⊎ ((new ≡ old) × P)
+RisesOr P true old new = (new ≡ old + 1) ⊎ ((new ≡ old) × P)
 RisesOr P false old new = new ≡ old
 
 abbrev pub ReaderFailsOrTires : {A E : Type 0} → (E → Bool) → Streams → Result A E → Type 0

@@ -1,5 +1,5 @@
 -- A run from its parts.
-use Rattle.std.proofs.Common.{◌≡◌, ◌∙◌, ◌⊎◌, inl, inr, ℕ, ◌<◌, ◌≤◌, Bool, true, false, List, [], ◌∷◌, ◌++◌}
+use Rattle.std.proofs.Common.{◌≡◌, ◌∙◌, ◌⊎◌, inl, inr, ℕ, ◌+◌, ◌≤◌, Bool, true, false, List, [], ◌∷◌, ◌++◌}
 use Rattle.std.proofs.Common.{length, Option, Result, Ok, Err, refl, sym, subst, arith, append_assoc}
 use Rattle.std.proofs.Common.{length-append}
 use Rattle.std.proofs.KnownBytes.{Keeps-refl}
@@ -79,7 +79,7 @@ module _ {R W : Type 0} (remaining : R → Option (List ℕ)) (contents : W → 
       (device_failures rn)
       → RisesOr (ReadsTooMuch (streams remaining ro rn contents wo wn)) b (device_failures ro)
       (device_failures rn)
-  tired true (inl lt) = inl (omega (arith, lt, same))
+  tired true (inl one) = inl (omega (arith, one, same))
   tired true (inr e) =
       let sum = length-append (t.entries ++ trace_line) e.1.0 in
       inr (
@@ -173,11 +173,11 @@ module _ {R W : Type 0} (remaining : R → Option (List ℕ)) (contents : W → 
     writer_failures = refl;
   }
     where
-      blamed : (device_failures ro < device_failures rn) ⊎ ((device_failures rn ≡ device_failures ro)
+      blamed : (device_failures rn ≡ device_failures ro + 1) ⊎ ((device_failures rn ≡ device_failures ro)
           × (MOST_CALLS ≤ length s.0))
-          → (device_failures ro < device_failures rn) ⊎ ((device_failures rn ≡ device_failures ro)
+          → (device_failures rn ≡ device_failures ro + 1) ⊎ ((device_failures rn ≡ device_failures ro)
           × ReadsTooMuch (streams remaining ro rn contents w w))
-      blamed (inl lt) = inl lt
+      blamed (inl one) = inl one
       blamed (inr e) = inr (e.0, (s.0, s.1, e.1))
 
   pub memory_run : (w : Device W) → Stops remaining ro rn MOST_CALLS (IsAnswer hide) ReadsNoMore fault.Memory

@@ -1,5 +1,5 @@
 -- What a run has read and written when it answers.
-use Rattle.std.specs.Prelude.{◌≡◌, ℕ, ◌<◌, ◌≤◌, Bool, true, false, List, [], ◌∷◌, ◌++◌, length, codes, take}
+use Rattle.std.specs.Prelude.{◌≡◌, ℕ, ◌+◌, ◌≤◌, Bool, true, false, List, [], ◌∷◌, ◌++◌, length, codes, take}
 use Rattle.std.specs.Prelude.{Option, Result, Ok, Err}
 use Rattle.std.specs.Global.{Vec}
 use Rattle.std.specs.Io.KnownBytes.{IsAtEnd}
@@ -33,12 +33,13 @@ abbrev pub HasReadAll : Streams → List ℕ → Type 0
 HasReadAll s input = HasRead s input × IsAtEnd s.read_after × (length input ≤ LIMIT)
 
 -- What was written is exactly what `output` gives for what was read. A run that gave up has written
--- nothing, except after a failed write: then it has written a prefix.
+-- nothing, except after a failed write: then it has written a prefix. One that is too long is read up to the
+-- byte that shows it.
 abbrev pub WritesOutput : (List ℕ → List ℕ × Outcome) → Streams → Result Outcome RunFault → Type 0
 WritesOutput output s (Ok outcome) = (input : List ℕ) × HasReadAll s input × HasWritten s (output input).0
     × (outcome ≡ (output input).1) × (s.ended ≡ true)
 WritesOutput output s (Err run.TooLong) =
-    (input : List ℕ) × HasRead s input × (LIMIT < length input) × HasWrittenNothing s
+    (input : List ℕ) × HasRead s input × (length input ≡ LIMIT + 1) × HasWrittenNothing s
 WritesOutput output s (Err run.Read) =
     (input : List ℕ) × HasRead s input × (length input ≤ LIMIT) × HasWrittenNothing s
 WritesOutput output s (Err run.Memory) =
@@ -69,7 +70,7 @@ WritesOutputAgainst (Err e) output s answer = HasReadNothing s × RefusesBase s 
 -- ---- a run
 
 -- What every run promises: `says` is what it promises of what it has read and written; and Read and Write
--- come exactly with a failure of their device.
+-- come exactly with one failure of their device.
 pub record Runs (says : Streams → Result Outcome RunFault → Type 0) (s : Streams)
     (result : Result Outcome RunFault) : Type 0 where
   pub answers : says s result
@@ -78,18 +79,18 @@ pub record Runs (says : Streams → Result Outcome RunFault → Type 0) (s : Str
 
 -- ---- the parts of a run
 
--- Reading to the end: the bytes that were read are the answer, or TooLong if there were more than the
+-- Reading to the end: the bytes that were read are the answer, or TooLong if there is one byte more than the
 -- limit.
 abbrev pub ReadsInput : {R : Type 0} → (R → Option (List ℕ)) → Device R → Device R
     → Result (Vec ℕ) RunFault → Type 0
 ReadsInput remaining old new (Ok v) = Gave remaining old new v.items × IsAtItsEnd remaining new
     × (length v.items ≤ LIMIT) × (device_failures new ≡ device_failures old)
 ReadsInput remaining old new (Err run.TooLong) =
-    (input : List ℕ) × Gave remaining old new input × (LIMIT < length input)
+    (input : List ℕ) × Gave remaining old new input × (length input ≡ LIMIT + 1)
     × (device_failures new ≡ device_failures old)
 ReadsInput remaining old new (Err run.Read) =
     (input : List ℕ) × Gave remaining old new input × (length input ≤ LIMIT)
-    × (device_failures old < device_failures new)
+    × (device_failures new ≡ device_failures old + 1)
 ReadsInput remaining old new (Err run.Memory) =
     (input : List ℕ) × Gave remaining old new input × (length input ≤ LIMIT)
     × (device_failures new ≡ device_failures old)
@@ -101,7 +102,7 @@ abbrev pub WritesAnswer : {W : Type 0} → (W → Option (List ℕ)) → Device 
 WritesAnswer contents old new text outcome (Ok answer) =
     Took contents old new text × (answer ≡ outcome) × (device_failures new ≡ device_failures old)
 WritesAnswer contents old new text outcome (Err run.Write) =
-    TookPrefix contents old new text × (device_failures old < device_failures new)
+    TookPrefix contents old new text × (device_failures new ≡ device_failures old + 1)
 WritesAnswer contents old new text outcome (Err run.Read) = ⊥
 WritesAnswer contents old new text outcome (Err run.Memory) = ⊥
 WritesAnswer contents old new text outcome (Err run.TooLong) = ⊥

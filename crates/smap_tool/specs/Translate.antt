@@ -1,5 +1,5 @@
 -- What the run `translate` has read and written when it answers.
-use Rattle.std.specs.Prelude.{◌≡◌, ◌⊎◌, ℕ, ◌<◌, Bool, true, List, [], ◌∷◌, ◌++◌, take, Option, Result}
+use Rattle.std.specs.Prelude.{◌≡◌, ◌⊎◌, ℕ, ◌+◌, Bool, true, List, [], ◌∷◌, ◌++◌, take, Option, Result}
 use Rattle.std.specs.Prelude.{Ok, Err}
 use Rattle.std.specs.Io.KnownBytes.{IsAtEnd}
 use Rattle.smap_io.specs.declared.device.Device.{Device}
@@ -99,7 +99,7 @@ abbrev pub WritesRefusal : {W : Type 0} → (W → Option (List ℕ)) → Device
 WritesRefusal contents old new text (Ok outcome) =
     Took contents old new text × (outcome ≡ Refused) × (device_failures new ≡ device_failures old)
 WritesRefusal contents old new text (Err run.Write) =
-    TookPrefix contents old new text × (device_failures old < device_failures new)
+    TookPrefix contents old new text × (device_failures new ≡ device_failures old + 1)
 WritesRefusal contents old new text (Err run.Memory) = new ≡ old
 WritesRefusal contents old new text (Err run.Read) = ⊥
 WritesRefusal contents old new text (Err run.TooLong) = ⊥
