@@ -10,7 +10,7 @@ use Rattle.smap_mappings.specs.Text.{mappings_text}
 use Rattle.smap_record.specs.declared.fault.Fault.{Fault}
 use Rattle.smap_record.specs.Faults.{Checked, segment_fault}
 use Rattle.smap_c.specs.Respelling.{respelled, respelling, RespellsAs}
-use Rattle.smap_c.specs.declared.codes.TheConstants.{MEMORY}
+use Rattle.smap_c.specs.Codes.{MEMORY}
 use Rattle.smap_c.specs.declared.faults.SmapFault.{SmapFault}
 use Rattle.smap_c.specs.declared.written.Written.{Written}
 

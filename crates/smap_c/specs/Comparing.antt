@@ -1,7 +1,7 @@
 -- What comparing two maps comes to.
 use Rattle.std.specs.Prelude.{◌≡◌, ◌↔◌, ℕ, Bool, IsTrue, Option, Some, None}
 use Rattle.smap_record.specs.Record.{record_of}
-use Rattle.smap_c.specs.declared.codes.TheConstants as codes
+use Rattle.smap_c.specs.Codes as codes
 use Rattle.smap_c.specs.declared.opened.Opened.{Opened}
 
 -- Both are open and it is told whether their records are equal, or one is closed.

@@ -9,8 +9,8 @@ use Rattle.smap_record.specs.declared.fault.Kind.TheVariants as kind
 use Rattle.smap_record.specs.declared.fault.Fault.{Fault}
 use Rattle.smap_record.specs.Words.{fault_words}
 use Rattle.smap_c.specs.Copying.{copied}
-use Rattle.smap_c.specs.declared.codes.TheConstants.{MEMORY, REFUSED}
-use Rattle.smap_c.specs.declared.fault_codes.TheConstants as codes
+use Rattle.smap_c.specs.Codes.{MEMORY, REFUSED}
+use Rattle.smap_c.specs.FaultCodes as codes
 use Rattle.smap_c.specs.declared.faults.SmapFault.{SmapFault}
 
 -- the code of a misspelled number

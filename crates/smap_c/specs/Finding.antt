@@ -6,7 +6,7 @@ use Rattle.smap_record.specs.declared.view.OriginalView.{OriginalView}
 use Rattle.smap_record.specs.Record.{Record, ReadMap, record_of}
 use Rattle.smap_record.specs.Views.{entry_of_view, mapping_of_view}
 use Rattle.smap_trace.specs.Lookup.{FallsTo}
-use Rattle.smap_c.specs.declared.codes.TheConstants as codes
+use Rattle.smap_c.specs.Codes as codes
 use Rattle.smap_c.specs.declared.finding.SmapMapping.{SmapMapping}
 use Rattle.smap_c.specs.declared.opened.Opened.{Opened}
 

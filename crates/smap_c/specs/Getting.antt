@@ -4,7 +4,7 @@ use Rattle.smap_record.specs.declared.view.TokenView.{TokenView}
 use Rattle.smap_record.specs.Record.{Entry, ReadMap, record_of}
 use Rattle.smap_record.specs.Views.{mapping_of_view}
 use Rattle.smap_c.specs.Finding.{IsNumbered, told}
-use Rattle.smap_c.specs.declared.codes.TheConstants as codes
+use Rattle.smap_c.specs.Codes as codes
 use Rattle.smap_c.specs.declared.finding.SmapMapping.{SmapMapping}
 use Rattle.smap_c.specs.declared.opened.Opened.{Opened}
 

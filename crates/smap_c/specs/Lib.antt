@@ -1,7 +1,9 @@
+pub mod Codes
 pub mod Comparing
 pub mod Copying
 pub mod Counting
 pub mod FaultBounds
+pub mod FaultCodes
 pub mod Faults
 pub mod Finding
 pub mod Getting
@@ -20,3 +22,4 @@ pub mod ScriptsView
 pub mod Sharing
 pub mod Telling
 pub mod Tracing
+pub mod Versions

@@ -4,7 +4,7 @@ use Rattle.smap_mappings.specs.declared.token.Token.{Token}
 use Rattle.smap_mappings.specs.declared.token.Original.{Original}
 use Rattle.smap_record.specs.Record.{Entry, ReadMap, record_of}
 use Rattle.smap_c.specs.Copying.{copied}
-use Rattle.smap_c.specs.declared.codes.TheConstants as codes
+use Rattle.smap_c.specs.Codes as codes
 use Rattle.smap_c.specs.declared.listed.SmapListedMapping.{SmapListedMapping}
 use Rattle.smap_c.specs.declared.opened.Opened.{Opened}
 

@@ -1,6 +1,6 @@
 -- The names of codes.
 use Rattle.std.specs.Prelude.{ℕ, List, [], codes, ◌==◌, if◌then◌else◌}
-use Rattle.smap_c.specs.declared.codes.TheConstants as code
+use Rattle.smap_c.specs.Codes as code
 
 -- The name of a code, or nothing for a number that is none.
 abbrev pub code_name : ℕ → List ℕ

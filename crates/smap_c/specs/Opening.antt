@@ -5,21 +5,26 @@ use Rattle.url.specs.Parser.{parse_url}
 use Rattle.smap_record.specs.Reading.{reading}
 use Rattle.smap_c.specs.Faults.{fault_told}
 use Rattle.smap_c.specs.Limits.{allowed, AreLimits}
-use Rattle.smap_c.specs.declared.codes.TheConstants as codes
+use Rattle.smap_c.specs.Codes as codes
 use Rattle.smap_c.specs.declared.faults.SmapFault.{SmapFault}
 use Rattle.smap_c.specs.declared.limits.SmapLimits.{SmapLimits}
 use Rattle.smap_c.specs.declared.opened.Opened.{Opened}
 use Rattle.smap_c.specs.declared.opening.OpenFault.{OpenFault}
 use Rattle.smap_c.specs.declared.opening.OpenFault.TheVariants as faults
 
--- The map that the definition gives for the bytes against the base that the text is, or why there is none;
--- unless memory ran out.
+-- The limits aren't too large, and the base is UTF-8.
+abbrev pub MayOpen : List ℕ → SmapLimits → Type 0
+MayOpen base limits = AreLimits limits × IsUtf8 base
+
+-- The map that the definition gives for the bytes against the base that the text is, or why there is none:
+-- the limits, else the base, else the map; unless memory ran out.
 abbrev pub Opens : List ℕ → List ℕ → SmapLimits → Result Opened OpenFault → Type 0
 Opens bytes base limits (Ok m) =
-    (parse_url None base ≡ Ok m.base) × (reading m.base (allowed limits) bytes ≡ Ok m.map)
+    MayOpen base limits × (parse_url None base ≡ Ok m.base) × (reading m.base (allowed limits) bytes ≡ Ok m.map)
 Opens bytes base limits (Err (faults.Refused f)) =
-    (p : Parts) × (parse_url None base ≡ Ok p) × (reading p (allowed limits) bytes ≡ Err f)
-Opens bytes base limits (Err faults.NotUrl) = IsErr (parse_url None base) ⊎ (IsUtf8 base → ⊥)
+    (p : Parts) × MayOpen base limits × (parse_url None base ≡ Ok p) × (reading p (allowed limits) bytes ≡ Err f)
+Opens bytes base limits (Err faults.NotUrl) =
+    AreLimits limits × (IsErr (parse_url None base) ⊎ (IsUtf8 base → ⊥))
 Opens bytes base limits (Err faults.Limits) = AreLimits limits → ⊥
 Opens bytes base limits (Err faults.Memory) = Unit {0}
 

@@ -9,7 +9,7 @@ use Rattle.smap_canon.specs.Layout.{relative_form, flat_text}
 use Rattle.std.specs.Ptr.{Ptr}
 use Rattle.std.specs.Vec.{vec_ptr}
 use Rattle.smap_c.specs.Copying.{copied}
-use Rattle.smap_c.specs.declared.codes.TheConstants as codes
+use Rattle.smap_c.specs.Codes as codes
 use Rattle.smap_c.specs.declared.opened.Opened.{Opened}
 use Rattle.smap_c.specs.declared.written.Written.{Written}
 

@@ -6,7 +6,7 @@ use Rattle.smap_trace.specs.Translation.{Script, translation}
 use Rattle.smap_trace.specs.Views.{counts_of}
 use Rattle.smap_trace.specs.declared.outcome.Counts.{Counts}
 use Rattle.smap_c.specs.Outputs.{Holds}
-use Rattle.smap_c.specs.declared.codes.TheConstants as codes
+use Rattle.smap_c.specs.Codes as codes
 use Rattle.smap_c.specs.declared.opened.Opened.{Opened}
 use Rattle.smap_c.specs.declared.translating.SmapTraceCounts.{SmapTraceCounts}
 use Rattle.smap_c.specs.declared.written.Written.{Written}

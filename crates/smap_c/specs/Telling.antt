@@ -3,7 +3,7 @@ use Rattle.std.specs.Prelude.{◌≡◌, ℕ, List, length, slice_get, Option, S
 use Rattle.smap_record.specs.Record.{Entry, Mapping, ReadMap, record_of}
 use Rattle.smap_trace.specs.Lookup.{FallsTo}
 use Rattle.smap_c.specs.Copying.{copied}
-use Rattle.smap_c.specs.declared.codes.TheConstants as codes
+use Rattle.smap_c.specs.Codes as codes
 use Rattle.smap_c.specs.declared.opened.Opened.{Opened}
 
 -- the text is copied, or there is none

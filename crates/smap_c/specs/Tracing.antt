@@ -5,7 +5,7 @@ use Rattle.smap_trace.specs.Frame.{FrameParts}
 use Rattle.smap_trace.specs.Reading.{frame_of}
 use Rattle.smap_trace.specs.Translation.{Fate, kept, translated, dropped, fate, line_translation}
 use Rattle.smap_c.specs.Copying.{copied}
-use Rattle.smap_c.specs.declared.codes.TheConstants as codes
+use Rattle.smap_c.specs.Codes as codes
 use Rattle.smap_c.specs.declared.opened.Opened.{Opened}
 use Rattle.smap_c.specs.declared.traces.SmapFrame.{SmapFrame}
 

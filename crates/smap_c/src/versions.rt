@@ -1,8 +1,8 @@
 //! The version of the library, and the names of its codes.
 ghost use Rattle.std.specs.Prelude.{◌≡◌, length};
-ghost use Rattle.smap_c.specs.declared.versions.TheConstants.{VERSION};
 ghost use Rattle.smap_c.specs.Copying.{copied};
 ghost use Rattle.smap_c.specs.Names.{code_name};
+ghost use Rattle.smap_c.specs.Versions.{version_number};
 
 use crate::codes::{CLOSED, LIMITS, MEMORY, NONE, NOT_URL, OK, RANGE, REFUSED};
 use crate::copying::copy_out;
@@ -13,7 +13,7 @@ pub const VERSION: u32 = 100;
 /// The version of the library.
 #[unsafe(no_mangle)]
 pub extern "C" fn smap_version() -> u32
-    ensures { result ≡ VERSION }
+    ensures { result ≡ version_number 0 1 0 }
 {
     VERSION
 }
