@@ -12,8 +12,8 @@ With --into the table is put between the two lines of that file that hold `figur
 that the program doesn't have is left out.
 
 With --once each input is run at its largest size alone, and the run has to keep to what docs/PERFORMANCE.md
-states of it. It passes where the answer is right, the processor time is at most ten times that of the table
-and a second more, and in any case at most 60 seconds, and the peak memory is at most one and a half times
+states of it. It passes where the answer is right, the processor time is at most five times that of the table
+and a second more, and in any case at most 60 seconds, and the peak memory is at most one and a quarter times
 that of the table and 8 MB more. An input without figures there fails, and so does a command that the program
 doesn't have; a run that passes its 60 seconds is ended. What failed is told with the reason, and the last
 line is `N passed, N failed`.
@@ -494,8 +494,8 @@ def faults_of(right, seconds, memory, stated):
     if stated is None:
         yield f"no figures of it in {FIGURES.name}"
         return
-    most_seconds = min(10 * stated[0] + 1, MOST_SECONDS)
-    most_memory = 1.5 * stated[1] + 8
+    most_seconds = min(5 * stated[0] + 1, MOST_SECONDS)
+    most_memory = 1.25 * stated[1] + 8
     if seconds > most_seconds:
         yield f"{seconds:.1f} s, and not {most_seconds:.1f} s at most"
     if memory > most_memory:
