@@ -9,6 +9,7 @@ mod urls;
 mod words;
 
 use smap_record::{Base, Fault, Limits, ReadError, SourceMap};
+use smap_testing::{parts, rows};
 use std::alloc::AllocError;
 use std::process::Abort;
 use std::test::Fail;
@@ -176,24 +177,6 @@ fn is_answered(
     Ok(())
 }
 
-/// The rows of a table. A line that begins with a space goes on with the row before it.
-fn rows(rt: &(impl Abort + AllocGlobal), table: &str) -> Result<Vec<String>, AllocError> {
-    let mut rows: Vec<String> = Vec::new(rt.alloc());
-    for line in table.lines() {
-        match rows.last_mut() {
-            Some(row) if line.starts_with(' ') => row.push_str(line.trim_start())?,
-            _ => rows.push(String::from_str(rt.alloc(), line)?)?,
-        }
-    }
-    Ok(rows)
-}
-
-/// What stands before the first bar of a row, and what stands after it.
-fn parts(row: &str) -> Result<(&str, &str), &'static str> {
-    let (first, rest) = row.split_once("| ").ok_or("a row has its parts")?;
-    Ok((first.trim_end(), rest))
-}
-
 /// Asserts the result of each row of a table: `what it shows | a map | the result`.
 fn are_answered(
     rt: &(impl Abort + AllocGlobal),
@@ -201,7 +184,7 @@ fn are_answered(
     base: &Base,
     limits: Limits,
 ) -> Result<(), Fail> {
-    for row in rows(rt, table)? {
+    for row in rows(rt.alloc(), table)? {
         let (name, rest) = parts(row.as_str())?;
         let (text, want) = parts(rest)?;
         is_answered(rt, name, text.as_bytes(), base, limits, want)?;

@@ -1,4 +1,4 @@
-//! Readers and writers over memory, for the tests of the other crates.
+//! Readers and writers over memory, and tables of rows, for the tests of the other crates.
 //!
 //! Tests can see what no contract says of a reader or a writer: how often it was called, what comes of a
 //! call that fails, and what was written by the time of a read. The public fields show it. The program
@@ -7,10 +7,12 @@
 
 mod slow_reader;
 mod slow_writer;
+mod table;
 mod watched;
 
 pub use slow_reader::{LongReader, SlowReader};
 pub use slow_writer::SlowWriter;
+pub use table::{parts, rows};
 pub use watched::{WatchedWriter, WatchingReader};
 
 #[cfg(test)]

@@ -1,5 +1,5 @@
-//! What these readers and writers do, on which the tests of other crates rest.
-use super::{LongReader, SlowReader, SlowWriter, WatchedWriter, WatchingReader};
+//! What these readers, writers and tables do, on which the tests of other crates rest.
+use super::{LongReader, SlowReader, SlowWriter, WatchedWriter, WatchingReader, parts, rows};
 use std::cell::Cell;
 use std::io::{Read, Write};
 use std::test::Fail;
@@ -52,4 +52,24 @@ fn a_watching_reader_sees_what_was_written(rt: HostRuntime) -> Result<(), Fail> 
     assert_eq!(rt; reader.seen.as_slice(), [0, 5, 5].as_slice());
     assert_eq!(rt; writer.bytes.as_slice(), b"abcde".as_slice());
     Ok(())
+}
+
+#[test]
+fn a_row_goes_on_where_a_line_begins_with_a_space(rt: HostRuntime) -> Result<(), Fail> {
+    let table = rows(rt.alloc(), "one | 1\n    | 2\n\ntwo\n  | x | y\n")?;
+    let [one, empty, two] = table.as_slice() else {
+        return Err(Fail::from("there are three rows"));
+    };
+    assert_eq!(rt; one.as_str(), "one | 1| 2");
+    assert_eq!(rt; empty.as_str(), "");
+    assert_eq!(rt; two.as_str(), "two| x | y");
+    Ok(())
+}
+
+#[test]
+fn a_row_has_its_parts_around_the_first_bar(rt: HostRuntime) {
+    assert_eq!(rt; parts("two| x | y"), Ok(("two", "x | y")));
+    assert_eq!(rt; parts("one  |  1"), Ok(("one", " 1")));
+    assert_eq!(rt; parts("| "), Ok(("", "")));
+    assert!(rt; parts("one |1").is_err());
 }

@@ -5,7 +5,7 @@ mod relative;
 use smap_canon::round_trips::{flattened, have_equal_bytes, tidied};
 use smap_canon::{canonical, canonical_mappings, flatten, same};
 use smap_record::{Base, Kind, Limits, ReadError, SourceMap};
-use std::alloc::AllocError;
+use smap_testing::{parts, rows};
 use std::process::Abort;
 use std::test::Fail;
 
@@ -89,24 +89,6 @@ const TIDIED: &str = r#"{"version":3,"sources":["a.js"],"names":["x","y"],"mappi
 {"version":3,"sections":[{"offset":{"line":16777216,"column":0},"map":{"version":3,"mappings":""}}]}
     | {"mappings":"","names":[],"sources":[],"version":3}"#;
 
-/// The rows of a table. A line that begins with a space goes on with the row before it.
-fn rows(rt: &(impl Abort + AllocGlobal), table: &str) -> Result<Vec<String>, AllocError> {
-    let mut rows: Vec<String> = Vec::new(rt.alloc());
-    for line in table.lines() {
-        match rows.last_mut() {
-            Some(row) if line.starts_with(' ') => row.push_str(line.trim_start())?,
-            _ => rows.push(String::from_str(rt.alloc(), line)?)?,
-        }
-    }
-    Ok(rows)
-}
-
-/// What stands before the first bar of a row, and what stands after it.
-fn parts(row: &str) -> Result<(&str, &str), &'static str> {
-    let (first, rest) = row.split_once("| ").ok_or("a row has its parts")?;
-    Ok((first.trim_end(), rest))
-}
-
 fn base(rt: &(impl Abort + AllocGlobal)) -> Base {
     Base::new(rt.alloc(), "http://h/m/out.js.map").expect(rt, "a base is a URL")
 }
@@ -140,7 +122,7 @@ fn is_tidied(rt: &(impl Abort + AllocGlobal), text: &str, want: &str) {
 
 #[test]
 fn a_record_has_one_text_which_is_its_own(rt: HostRuntime) -> Result<(), Fail> {
-    for row in rows(&rt, TIDIED)? {
+    for row in rows(rt.alloc(), TIDIED)? {
         let (text, want) = parts(row.as_str())?;
         is_tidied(&rt, text, want);
     }
@@ -204,7 +186,7 @@ const OTHERS: &str =
 #[test]
 fn each_part_of_a_record_counts(rt: HostRuntime) -> Result<(), Fail> {
     let map = read(&rt, WHOLE.as_bytes());
-    for other in rows(&rt, OTHERS)? {
+    for other in rows(rt.alloc(), OTHERS)? {
         assert!(rt; !same(&map, &read(&rt, other.as_bytes())), "{other}");
     }
     Ok(())
@@ -220,7 +202,7 @@ fn a_list_is_not_tidied(rt: HostRuntime) {
 
 #[test]
 fn flat_bytes_list_what_the_map_lists(rt: HostRuntime) -> Result<(), Fail> {
-    for row in rows(&rt, FLATTENED)? {
+    for row in rows(rt.alloc(), FLATTENED)? {
         let (text, want) = parts(row.as_str())?;
         let map = read(&rt, text.as_bytes());
         let bytes = flatten(rt.alloc(), &map).expect(&rt, "there is memory");

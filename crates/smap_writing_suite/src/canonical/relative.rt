@@ -1,8 +1,9 @@
 //! The relative form. Each row has its sources in that form; everything else is as in the absolute form.
-use super::{EMPTY, SMALL, base, parts, read, rows};
+use super::{EMPTY, SMALL, base, read};
 use smap_canon::round_trips::{have_equal_bytes, tidied};
 use smap_canon::{canonical, canonical_relative, same};
 use smap_record::Limits;
+use smap_testing::{parts, rows};
 use std::test::Fail;
 
 /// Maps, and their canonical bytes in the relative form with the base `http://h/m/out.js.map`.
@@ -27,7 +28,7 @@ const RELATIVE: &str =
 
 #[test]
 fn sources_are_spelled_from_the_base(rt: HostRuntime) -> Result<(), Fail> {
-    for row in rows(&rt, RELATIVE)? {
+    for row in rows(rt.alloc(), RELATIVE)? {
         let (text, want) = parts(row.as_str())?;
         let map = read(&rt, text.as_bytes());
         let bytes = canonical_relative(rt.alloc(), &map, &base(&rt)).expect(&rt, "there is memory");
@@ -38,7 +39,7 @@ fn sources_are_spelled_from_the_base(rt: HostRuntime) -> Result<(), Fail> {
 
 #[test]
 fn a_relative_text_is_its_own_and_says_the_same(rt: HostRuntime) -> Result<(), Fail> {
-    for row in rows(&rt, RELATIVE)? {
+    for row in rows(rt.alloc(), RELATIVE)? {
         let (text, want) = parts(row.as_str())?;
         let map = read(&rt, text.as_bytes());
         let again = read(&rt, want.as_bytes());
