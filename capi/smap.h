@@ -142,7 +142,7 @@ typedef struct smap_limits {
 
 /* Reads a map, whose URL is `base`. The text may be freed afterwards. NULL for `limits` means the usual ones.
  * OK: `map` holds it. REFUSED: *fault says why (NULL for `fault`: nothing is said). NOT_URL: the base is no
- * URL. LIMITS, MEMORY. */
+ * URL. LIMITS, also if the base is no URL. MEMORY. */
 uint32_t smap_open(smap_map *map, const void *text, size_t len, const char *base, size_t base_len,
                    const smap_limits *limits, smap_fault *fault);
 
