@@ -1,5 +1,5 @@
 -- Reading stops after what was read before.
-use Rattle.std.proofs.Common.{◌≡◌, ◌∙◌, ◌⊎◌, inl, inr, ℕ, ◌+◌, ◌<◌, ◌≤◌, List, ◌++◌, length, Option, Result}
+use Rattle.std.proofs.Common.{◌≡◌, ◌∙◌, ◌⊎◌, inl, inr, ℕ, ◌+◌, ◌≤◌, List, ◌++◌, length, Option, Result}
 use Rattle.std.proofs.Common.{Ok, Err, IfErr, MatchResult, refl, sym, subst, append_assoc, length-append}
 use Rattle.std.proofs.Common.{arith}
 use Rattle.smap_io.specs.declared.device.Device.{Device}
