@@ -1,4 +1,4 @@
--- Which numbers a fault can have: those that fit its fields.
+-- For private contracts: which numbers a fault can have, those that fit its fields.
 use Rattle.std.specs.Prelude.{ℕ, ◌<◌, ◌≤◌, ◌^◌, List, All, length, Option, Some, None}
 use Rattle.smap_mappings.specs.declared.error.SegmentPlace.{SegmentPlace}
 use Rattle.smap_record.specs.declared.fault.Fault.{Fault}
