@@ -20,9 +20,11 @@ MayOpen base limits = AreLimits limits × IsUtf8 base
 -- the limits, else the base, else the map; unless memory ran out.
 abbrev pub Opens : List ℕ → List ℕ → SmapLimits → Result Opened OpenFault → Type 0
 Opens bytes base limits (Ok m) =
-    MayOpen base limits × (parse_url None base ≡ Ok m.base) × (reading m.base (allowed limits) bytes ≡ Ok m.map)
+    MayOpen base limits × (parse_url None base ≡ Ok m.base)
+    × (reading m.base (allowed limits) bytes ≡ Ok m.map)
 Opens bytes base limits (Err (faults.Refused f)) =
-    (p : Parts) × MayOpen base limits × (parse_url None base ≡ Ok p) × (reading p (allowed limits) bytes ≡ Err f)
+    (p : Parts) × MayOpen base limits × (parse_url None base ≡ Ok p)
+    × (reading p (allowed limits) bytes ≡ Err f)
 Opens bytes base limits (Err faults.NotUrl) =
     AreLimits limits × (IsErr (parse_url None base) ⊎ (IsUtf8 base → ⊥))
 Opens bytes base limits (Err faults.Limits) = AreLimits limits → ⊥

@@ -34,7 +34,8 @@ use Rattle.smap_mappings.specs.Arrangement.{arranged}
 use Rattle.smap_mappings.specs.Position.{NeverFalls, position_of}
 use Rattle.smap_mappings.proofs.LinesLemmas.{segments_of-walk}
 use Rattle.smap_mappings.proofs.RunningTextLemmas.{ending_some}
-use Rattle.smap_mappings.proofs.PiecesLemmas.{comma_read, semicolon_read, ended_tokens, tells_ok, overflows, still_failed}
+use Rattle.smap_mappings.proofs.PiecesLemmas.{comma_read, semicolon_read, ended_tokens, tells_ok, overflows}
+use Rattle.smap_mappings.proofs.PiecesLemmas.{still_failed}
 
 -- ---- the end of the text
 
