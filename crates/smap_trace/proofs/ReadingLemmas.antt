@@ -13,19 +13,9 @@ use Rattle.smap_trace.specs.Reading.{framed, is_colon, is_url}
 use Rattle.smap_trace.proofs.PlaceLemmas.{place_of-decimal}
 use Rattle.smap_trace.proofs.FrameLemmas.{framed_is}
 use Rattle.std.proofs.Math.Seq.{take-append_seam, drop-append_seam}
+use Rattle.smap_trace.proofs.BodyLemmas.{front_passes}
 
 -- ---- the last mark
-
-front_passes : (q : ℕ → Bool) (front : List ℕ) (x : ℕ) (rest : List ℕ) → list_all q front ≡ true → q x ≡ false
-    → prefix_len q (front ++ x ∷ rest) ≡ length front
-front_passes q [] x rest all stop = rw stop refl
-front_passes q (y ∷ ys) x rest all stop = go (q y) all (λ h. front_passes q ys x rest h stop)
-  where
-    go : (t : Bool) → (t && list_all q ys) ≡ true → (list_all q ys ≡ true
-        → prefix_len q (ys ++ x ∷ rest) ≡ length ys)
-        → cond t (1 + prefix_len q (ys ++ x ∷ rest)) 0 ≡ length (y ∷ ys)
-    go true h more = ap (λ n. 1 + n) (more h) ∙ omega arith
-    go false h more = cc
 
 list_all-push : (q : ℕ → Bool) (xs : List ℕ) (y : ℕ) → list_all q xs ≡ true → q y ≡ true
     → list_all q (xs ++ y ∷ []) ≡ true
