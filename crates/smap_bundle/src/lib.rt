@@ -13,8 +13,6 @@ mod entries;
 mod fault;
 mod header;
 pub mod laws;
-#[cfg(test)]
-mod tests;
 
 pub use bundle::Bundle;
 pub use entries::read_bundle;

@@ -6,6 +6,10 @@
 #![tactic(auto)]
 
 #[cfg(test)]
+mod bundles;
+#[cfg(test)]
+mod command_lines;
+#[cfg(test)]
 mod library;
 #[cfg(test)]
 mod round_trips;

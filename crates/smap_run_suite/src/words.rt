@@ -1,7 +1,22 @@
-//! What an error says of itself, by `{}`: the words of the program's own messages after `smap: `.
-use smap_tool::RunFault;
+//! What the program answers where a run has ended: its exit status, and what an error says of itself by `{}`,
+//! which are the words of the program's own messages after `smap: `.
+use smap_tool::{Outcome, RunFault, status};
 use smap_trace::TraceError;
 use std::test::Fail;
+
+#[test]
+fn each_answer_has_its_status(rt: HostRuntime) {
+    for (answer, expected) in [
+        (Ok(Outcome::Done), 0),
+        (Ok(Outcome::Refused), 1),
+        (Err(RunFault::Read), 3),
+        (Err(RunFault::Write), 3),
+        (Err(RunFault::TooLong), 3),
+        (Err(RunFault::Memory), 4),
+    ] {
+        assert_eq!(rt; status(&answer), expected, "{answer:?}");
+    }
+}
 
 #[test]
 fn each_fault_of_a_run_has_its_words(rt: HostRuntime) -> Result<(), Fail> {

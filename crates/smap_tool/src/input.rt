@@ -23,6 +23,3 @@ pub fn read_input<R: Read>(alloc: Global, reader: &mut Device<R>) -> Result<Vec<
         Err(ReadFault::Memory) => Err(RunFault::Memory),
     }
 }
-
-#[cfg(test)]
-mod tests;

@@ -54,18 +54,3 @@ pub fn status(answer: &Result<Outcome, RunFault>) -> u8
         Err(RunFault::Memory) => 4,
     }
 }
-
-#[cfg(test)]
-mod tests {
-    use super::{Outcome, RunFault, status};
-
-    #[test]
-    fn each_answer_has_its_status(rt: HostRuntime) {
-        assert_eq!(rt; status(&Ok(Outcome::Done)), 0);
-        assert_eq!(rt; status(&Ok(Outcome::Refused)), 1);
-        assert_eq!(rt; status(&Err(RunFault::Read)), 3);
-        assert_eq!(rt; status(&Err(RunFault::Write)), 3);
-        assert_eq!(rt; status(&Err(RunFault::TooLong)), 3);
-        assert_eq!(rt; status(&Err(RunFault::Memory)), 4);
-    }
-}

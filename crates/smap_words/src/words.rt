@@ -295,6 +295,3 @@ pub fn task_of<'a>(alloc: Global, words: &'a [&'a str]) -> Result<Task<'a>, Word
         Err(error) => Err(refusal(error)),
     }
 }
-
-#[cfg(test)]
-mod tests;

@@ -1,7 +1,7 @@
 //! Devices that fail.
 use super::{BASE, TWO_NAMES};
 use smap_io::Device;
-use smap_testing::{SlowReader, SlowWriter};
+use smap_testing::{LongReader, SlowReader, SlowWriter};
 use smap_tool::{Outcome, RunFault, Task, run};
 
 /// Each command that reads its input to the end, and an input for it.
@@ -56,6 +56,19 @@ fn each_read_that_fails_is_the_last_and_nothing_is_written(rt: HostRuntime) {
             let written = writer.into_inner();
             assert_eq!(rt; written.calls, 0, "{task:?} at {fails_at}");
         }
+    }
+}
+
+#[test]
+fn one_byte_past_the_limit_is_too_long_and_nothing_is_written(rt: HostRuntime) {
+    for (task, _) in TASKS {
+        let mut reader = Device::new(LongReader { left: 268_435_457 });
+        let mut writer = Device::new(SlowWriter::new(rt.alloc(), STEP, 0));
+        let answer = run(rt.alloc(), task, &mut reader, &mut writer);
+        assert_eq!(rt; answer, Err(RunFault::TooLong), "{task:?}");
+        assert_eq!(rt; reader.failures(), 0, "{task:?}");
+        let written = writer.into_inner();
+        assert_eq!(rt; written.calls, 0, "{task:?}");
     }
 }
 

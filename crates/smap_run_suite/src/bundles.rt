@@ -1,5 +1,5 @@
 //! Bundles as they are read, and their first faults.
-use crate::{Bundle, BundleFault, EntryFault, Refusal, read_bundle};
+use smap_bundle::{Bundle, BundleFault, EntryFault, Refusal, read_bundle};
 use smap_io::Device;
 use smap_record::{Fault, Kind, Path};
 use smap_testing::SlowReader;

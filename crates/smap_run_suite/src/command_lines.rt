@@ -1,5 +1,5 @@
 //! Arguments, and the tasks that they are.
-use super::{Task, WordsFault, task_of};
+use smap_tool::{Task, WordsFault, task_of};
 use std::alloc::Global;
 
 const BASE: &str = "http://h/m/out.js.map";
