@@ -18,6 +18,12 @@ use std::process::Abort;
 /// The base that a test reads against where it names none.
 pub(crate) const BASE: &str = "http://h/m/out.js.map";
 
+/// `tidy` against that base, in the absolute form.
+pub(crate) const TIDY: Task<'static> = Task::Tidy {
+    base: BASE,
+    relative: false,
+};
+
 /// A map with one source, two names and two mappings.
 pub(crate) const TWO_NAMES: &str =
     r#"{"version":3,"sources":["a.js"],"names":["x","y"],"mappings":"AAAAC,CAACD"}"#;

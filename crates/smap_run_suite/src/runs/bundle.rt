@@ -126,91 +126,57 @@ fn bundles_without_a_fault(rt: HostRuntime) -> Result<(), Fail> {
 }
 
 #[test]
-fn the_first_fault_of_a_bundle_is_told(rt: HostRuntime) -> Result<(), Fail> {
-    let refused = Ok(Outcome::Refused);
-    gives(&rt, b"", false, "refused: bundle header 0\n", refused);
-    gives(&rt, b"trace", false, "refused: bundle header 0\n", refused);
+fn the_first_fault_of_a_bundle_is_told(rt: HostRuntime) {
+    for (bundle, line) in [
+        (b"".as_slice(), "refused: bundle header 0\n"),
+        (b"trace", "refused: bundle header 0\n"),
+        (
+            b"map u http://h/ 02\n{}\ntrace\n",
+            "refused: bundle header 0\n",
+        ),
+        (
+            b"map u http://h/ +2\n{}\ntrace\n",
+            "refused: bundle header 0\n",
+        ),
+        (
+            b"map u http://h/ \n{}\ntrace\n",
+            "refused: bundle header 0\n",
+        ),
+        (
+            b"map u  http://h/ 2\n{}\ntrace\n",
+            "refused: bundle header 0\n",
+        ),
+        (
+            b"map \xff http://h/ 2\n{}\ntrace\n",
+            "refused: bundle header 0\n",
+        ),
+        (
+            b"map u http://h/ 2\r\n{}\ntrace\n",
+            "refused: bundle header 0\n",
+        ),
+        (
+            b"map u nobase 0\n\ntrace\n",
+            "refused: map 0: base is no URL\n",
+        ),
+        (
+            b"map u http://h/ 2\n{}\ntrace\n",
+            "refused: map 0: version\n",
+        ),
+        (b"map u http://h/ 2\n{}x", "refused: map 0: cut off\n"),
+        (b"map u http://h/ 2\n{}", "refused: map 0: cut off\n"),
+    ] {
+        gives(&rt, bundle, false, line, Ok(Outcome::Refused));
+    }
+}
+
+#[test]
+fn a_script_that_comes_again_is_told(rt: HostRuntime) -> Result<(), Fail> {
     let two = format!(in rt.alloc();
         "map u http://h/m/x 50\n{}\nmap u http://h/m/x 50\n{}\ntrace\n@u:1:1\n",
         A, B
     )?;
-    gives(
-        &rt,
-        two.as_bytes(),
-        false,
-        "refused: map 1: script repeated\n",
-        refused,
-    );
-    gives(
-        &rt,
-        b"map u nobase 0\n\ntrace\n",
-        false,
-        "refused: map 0: base is no URL\n",
-        refused,
-    );
-    gives(
-        &rt,
-        b"map u http://h/ 2\n{}\ntrace\n",
-        false,
-        "refused: map 0: version\n",
-        refused,
-    );
-    gives(
-        &rt,
-        b"map u http://h/ 2\n{}x",
-        false,
-        "refused: map 0: cut off\n",
-        refused,
-    );
-    gives(
-        &rt,
-        b"map u http://h/ 2\n{}",
-        false,
-        "refused: map 0: cut off\n",
-        refused,
-    );
-    gives(
-        &rt,
-        b"map u http://h/ 02\n{}\ntrace\n",
-        false,
-        "refused: bundle header 0\n",
-        refused,
-    );
-    gives(
-        &rt,
-        b"map u http://h/ +2\n{}\ntrace\n",
-        false,
-        "refused: bundle header 0\n",
-        refused,
-    );
-    gives(
-        &rt,
-        b"map u http://h/ \n{}\ntrace\n",
-        false,
-        "refused: bundle header 0\n",
-        refused,
-    );
-    gives(
-        &rt,
-        b"map u  http://h/ 2\n{}\ntrace\n",
-        false,
-        "refused: bundle header 0\n",
-        refused,
-    );
-    gives(
-        &rt,
-        b"map \xff http://h/ 2\n{}\ntrace\n",
-        false,
-        "refused: bundle header 0\n",
-        refused,
-    );
-    gives(
-        &rt,
-        b"map u http://h/ 2\r\n{}\ntrace\n",
-        false,
-        "refused: bundle header 0\n",
-        refused,
-    );
+    let line = "refused: map 1: script repeated\n";
+    gives(&rt, two.as_bytes(), false, line, Ok(Outcome::Refused));
     Ok(())
 }
 

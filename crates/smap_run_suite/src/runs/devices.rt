@@ -1,5 +1,5 @@
 //! Devices that fail.
-use super::{BASE, TWO_NAMES};
+use super::{BASE, TIDY, TWO_NAMES};
 use smap_io::Device;
 use smap_testing::{LongReader, SlowReader, SlowWriter};
 use smap_tool::{Outcome, RunFault, Task, run};
@@ -8,13 +8,7 @@ use smap_tool::{Outcome, RunFault, Task, run};
 const TASKS: [(Task<'static>, &str); 6] = [
     (Task::Respell, "gAAAAC,CAACD;;"),
     (Task::Check { base: BASE }, TWO_NAMES),
-    (
-        Task::Tidy {
-            base: BASE,
-            relative: false,
-        },
-        TWO_NAMES,
-    ),
+    (TIDY, TWO_NAMES),
     (
         Task::Tidy {
             base: BASE,
@@ -61,15 +55,13 @@ fn each_read_that_fails_is_the_last_and_nothing_is_written(rt: HostRuntime) {
 
 #[test]
 fn one_byte_past_the_limit_is_too_long_and_nothing_is_written(rt: HostRuntime) {
-    for (task, _) in TASKS {
-        let mut reader = Device::new(LongReader { left: 268_435_457 });
-        let mut writer = Device::new(SlowWriter::new(rt.alloc(), STEP, 0));
-        let answer = run(rt.alloc(), task, &mut reader, &mut writer);
-        assert_eq!(rt; answer, Err(RunFault::TooLong), "{task:?}");
-        assert_eq!(rt; reader.failures(), 0, "{task:?}");
-        let written = writer.into_inner();
-        assert_eq!(rt; written.calls, 0, "{task:?}");
-    }
+    let mut reader = Device::new(LongReader { left: 268_435_457 });
+    let mut writer = Device::new(SlowWriter::new(rt.alloc(), STEP, 0));
+    let answer = run(rt.alloc(), Task::Respell, &mut reader, &mut writer);
+    assert_eq!(rt; answer, Err(RunFault::TooLong));
+    assert_eq!(rt; reader.failures(), 0);
+    let written = writer.into_inner();
+    assert_eq!(rt; written.calls, 0);
 }
 
 #[test]

@@ -1,5 +1,5 @@
 //! Rows of `flatten`.
-use super::{BASE, TWO_NAMES, TWO_SECTIONS, writes};
+use super::{BASE, TIDY, TWO_NAMES, TWO_SECTIONS, writes};
 use smap_tool::{Outcome, Task};
 
 const FLATTEN: Task<'static> = Task::Flatten { base: BASE };
@@ -48,15 +48,6 @@ fn a_flat_map_is_its_own_and_tidies_as_the_map_does(rt: HostRuntime) {
         r#""http://h/m/b.js"],"version":3}"#,
     );
     for input in [TWO_SECTIONS, ROWS[1].1] {
-        writes(
-            &rt,
-            Task::Tidy {
-                base: BASE,
-                relative: false,
-            },
-            input,
-            tidy,
-            Outcome::Done,
-        );
+        writes(&rt, TIDY, input, tidy, Outcome::Done);
     }
 }

@@ -1,9 +1,9 @@
 //! Rows of index maps.
-use super::{BASE, TWO_SECTIONS, writes};
+use super::{BASE, TIDY, TWO_SECTIONS, writes};
 use smap_tool::{Outcome, Task};
 
 /// Index maps and the canonical form of each.
-const TIDY: [(&str, &str); 4] = [
+const TIDIED: [(&str, &str); 4] = [
     (
         r#"{"version":3,"sections":[]}"#,
         r#"{"mappings":"","names":[],"sources":[],"version":3}"#,
@@ -99,33 +99,15 @@ const REFUSED: [(&str, &str); 10] = [
 
 #[test]
 fn an_index_map_tidies_to_one_flat_map(rt: HostRuntime) {
-    for (input, output) in TIDY {
-        writes(
-            &rt,
-            Task::Tidy {
-                base: BASE,
-                relative: false,
-            },
-            input,
-            output,
-            Outcome::Done,
-        );
+    for (input, output) in TIDIED {
+        writes(&rt, TIDY, input, output, Outcome::Done);
     }
 }
 
 #[test]
 fn a_fault_of_an_index_map_names_its_section(rt: HostRuntime) {
     for (input, output) in REFUSED {
-        writes(
-            &rt,
-            Task::Tidy {
-                base: BASE,
-                relative: false,
-            },
-            input,
-            output,
-            Outcome::Refused,
-        );
+        writes(&rt, TIDY, input, output, Outcome::Refused);
     }
 }
 

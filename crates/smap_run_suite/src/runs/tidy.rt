@@ -1,5 +1,5 @@
 //! Rows of `tidy`.
-use super::{BASE, TWO_NAMES, writes};
+use super::{BASE, TIDY, TWO_NAMES, writes};
 use smap_tool::{Outcome, Task};
 
 const TWO_NAMES_TIDY: &str =
@@ -64,32 +64,14 @@ const ACCEPTED: [(&str, &str); 10] = [
 #[test]
 fn each_map_is_written_in_its_canonical_form(rt: HostRuntime) {
     for (input, output) in ACCEPTED {
-        writes(
-            &rt,
-            Task::Tidy {
-                base: BASE,
-                relative: false,
-            },
-            input,
-            output,
-            Outcome::Done,
-        );
+        writes(&rt, TIDY, input, output, Outcome::Done);
     }
 }
 
 #[test]
 fn a_canonical_form_is_its_own(rt: HostRuntime) {
     for (_, output) in ACCEPTED {
-        writes(
-            &rt,
-            Task::Tidy {
-                base: BASE,
-                relative: false,
-            },
-            output,
-            output,
-            Outcome::Done,
-        );
+        writes(&rt, TIDY, output, output, Outcome::Done);
     }
 }
 
