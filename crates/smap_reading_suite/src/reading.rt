@@ -8,7 +8,8 @@ mod sections;
 mod urls;
 mod words;
 
-use smap_record::{Base, Fault, Limits, ReadError, SourceMap};
+use smap_mappings::Original;
+use smap_record::{Base, Fault, Limits, OriginalView, ReadError, SourceMap};
 use smap_testing::{parts, rows};
 use std::alloc::AllocError;
 use std::process::Abort;
@@ -24,25 +25,31 @@ fn usual_base(rt: &(impl Abort + AllocGlobal)) -> Base {
     base_of(rt, "http://h/m/out.js.map")
 }
 
-/// The distinct sources, each with its content and whether it is ignored, and for each listed one its index
-/// among these.
-fn push_sources(
+/// A distinct source, with its content and whether it is ignored.
+fn push_source(
+    rt: &(impl Abort + AllocGlobal),
+    text: &mut String,
+    map: &SourceMap,
+    i: usize,
+) -> Result<(), AllocError> {
+    assert!(rt; i < map.source_count());
+    let source = map.source(i);
+    text.push_str("; source ")?;
+    text.push_str(source.url.unwrap_or("null"))?;
+    if let Some(content) = source.content {
+        text.push_str(" content \"")?;
+        text.push_str(content)?;
+        text.push_str("\"")?;
+    }
+    text.push_str(if source.ignored { " ignored" } else { "" })
+}
+
+/// For each listed source its index among the distinct ones.
+fn push_listed(
     rt: &(impl Abort + AllocGlobal),
     text: &mut String,
     map: &SourceMap,
 ) -> Result<(), AllocError> {
-    for i in 0..map.source_count() {
-        assert!(rt; i < map.source_count());
-        let source = map.source(i);
-        text.push_str("; source ")?;
-        text.push_str(source.url.unwrap_or("null"))?;
-        if let Some(content) = source.content {
-            text.push_str(" content \"")?;
-            text.push_str(content)?;
-            text.push_str("\"")?;
-        }
-        text.push_str(if source.ignored { " ignored" } else { "" })?;
-    }
     for i in 0..map.listed_count() {
         assert!(rt; i < map.listed_count());
         let number = format!(in rt.alloc(); "{}", map.listed(i))?;
@@ -66,9 +73,43 @@ fn push_names(
     Ok(())
 }
 
-/// A mapping: its line and column; the index of its source among the listed ones and, in brackets, among the
-/// distinct ones; its original line and column; and the index of its name among the listed ones, with the
-/// name itself.
+/// The index of a name among the listed ones, with the name itself.
+fn push_name(
+    rt: &(impl Abort + AllocGlobal),
+    text: &mut String,
+    number: u32,
+    name: &str,
+) -> Result<(), AllocError> {
+    let name = format!(in rt.alloc(); " name {number} ({name})")?;
+    text.push_str(name.as_str())
+}
+
+/// What a mapping maps to: the index of the source among the listed ones and, in brackets, among the distinct
+/// ones; the original line and column; and the name.
+fn push_original(
+    rt: &(impl Abort + AllocGlobal),
+    text: &mut String,
+    original: &OriginalView,
+    listed: &Original,
+) -> Result<(), AllocError> {
+    assert_eq!(rt;
+        (original.line, original.column),
+        (listed.line, listed.column)
+    );
+    let number = original.source_number;
+    let place = format!(in rt.alloc();
+        " from source {} ({number}) {}:{}",
+        listed.source, listed.line, listed.column
+    )?;
+    text.push_str(place.as_str())?;
+    assert_eq!(rt; original.name.is_some(), listed.name.is_some());
+    if let (Some(name), Some(number)) = (original.name, listed.name) {
+        push_name(rt, text, number, name)?;
+    }
+    Ok(())
+}
+
+/// A mapping: its line and column, and what it maps to.
 fn push_mapping(
     rt: &(impl Abort + AllocGlobal),
     text: &mut String,
@@ -82,21 +123,8 @@ fn push_mapping(
     let place = format!(in rt.alloc(); "; {}:{}", seen.line, seen.column)?;
     text.push_str(place.as_str())?;
     assert_eq!(rt; seen.original.is_some(), listed.original.is_some());
-    if let (Some(original), Some(numbers)) = (seen.original, listed.original) {
-        assert_eq!(rt;
-            (original.line, original.column),
-            (numbers.line, numbers.column)
-        );
-        let number = original.source_number;
-        let source = format!(in rt.alloc(); " from source {} ({number})", numbers.source)?;
-        text.push_str(source.as_str())?;
-        let place = format!(in rt.alloc(); " {}:{}", original.line, original.column)?;
-        text.push_str(place.as_str())?;
-        assert_eq!(rt; original.name.is_some(), numbers.name.is_some());
-        if let (Some(name), Some(n)) = (original.name, numbers.name) {
-            let name = format!(in rt.alloc(); " name {n} ({name})")?;
-            text.push_str(name.as_str())?;
-        }
+    if let (Some(original), Some(listed)) = (seen.original, listed.original) {
+        push_original(rt, text, &original, &listed)?;
     }
     Ok(())
 }
@@ -113,6 +141,18 @@ fn has_its_source(rt: &impl Abort, map: &SourceMap, i: usize) {
     }
 }
 
+/// The distinct sources.
+fn push_sources(
+    rt: &(impl Abort + AllocGlobal),
+    text: &mut String,
+    map: &SourceMap,
+) -> Result<(), AllocError> {
+    for i in 0..map.source_count() {
+        push_source(rt, text, map, i)?;
+    }
+    Ok(())
+}
+
 /// Everything that a map's getters return.
 fn told(rt: &(impl Abort + AllocGlobal), map: &SourceMap) -> Result<String, AllocError> {
     let mut text = String::from_str(rt.alloc(), "read")?;
@@ -122,6 +162,7 @@ fn told(rt: &(impl Abort + AllocGlobal), map: &SourceMap) -> Result<String, Allo
         text.push_str("\"")?;
     }
     push_sources(rt, &mut text, map)?;
+    push_listed(rt, &mut text, map)?;
     push_names(rt, &mut text, map)?;
     for i in 0..map.token_count() {
         push_mapping(rt, &mut text, map, i)?;

@@ -17,22 +17,29 @@ const TEXTS: [&str; 36] = [
     "AAAAA,SAASA,IAAIC,GAAGC,MAAM;AACzB,MAAM,gBAAgBC;;EACpB,OAAOD,CAAC;gBgBAgBhB,kB;AADA,A",
 ];
 
-/// What a reader with this capacity returns for these pieces.
-fn read(alloc: Global, room: usize, pieces: &[&[u8]]) -> Result<Vec<Token>, MappingsError> {
-    let mut reader = MappingsReader::new(alloc, WIDE, room)?;
-    for piece in pieces {
-        reader.feed(piece)?;
+/// What a reader returns for two pieces.
+fn read_two(alloc: Global, front: &[u8], back: &[u8]) -> Result<Vec<Token>, MappingsError> {
+    let mut reader = MappingsReader::new(alloc, WIDE, 0)?;
+    reader.feed(front)?;
+    reader.feed(back)?;
+    reader.finish()
+}
+
+/// What a reader with capacity for two tokens returns for a string byte by byte.
+fn read_bytes(alloc: Global, text: &[u8]) -> Result<Vec<Token>, MappingsError> {
+    let mut reader = MappingsReader::new(alloc, WIDE, 2)?;
+    for byte in text {
+        reader.feed(&[*byte])?;
     }
     reader.finish()
 }
 
-/// A number below the bound, and the next state of the generator.
-fn drawn(state: u64, bound: u64) -> (u64, usize) {
+/// A number from 0 to 7, and the next state of the generator.
+fn drawn(state: u64) -> (u64, usize) {
     let state = state
         .wrapping_mul(6_364_136_223_846_793_005)
         .wrapping_add(1_442_695_040_888_963_407);
-    let number = if bound == 0 { 0 } else { (state >> 33) % bound };
-    (state, number as usize)
+    (state, (state >> 33) as usize % 8)
 }
 
 /// What a reader returns for a string in pieces of 0 to 7 bytes.
@@ -41,7 +48,7 @@ fn read_cut(alloc: Global, text: &[u8], seed: u64) -> Result<Vec<Token>, Mapping
     let mut state = seed;
     let mut rest = text;
     for _ in 0..text.len() {
-        let (next, len) = drawn(state, 8);
+        let (next, len) = drawn(state);
         let (piece, left) = rest.split_at(len.min(rest.len()));
         reader.feed(piece)?;
         rest = left;
@@ -64,30 +71,30 @@ fn is_same(
     }
 }
 
-#[test]
-fn every_two_pieces_give_what_the_whole_gives(rt: HostRuntime) {
-    for text in TEXTS {
-        let whole = decode(rt.alloc(), text.as_bytes(), WIDE);
-        assert!(rt; !matches!(whole, Err(MappingsError::Memory)), "{text}");
-        let bytes = text.as_bytes();
-        for cut in 0..=bytes.len() {
-            let pieces = read(rt.alloc(), 0, &[&bytes[..cut], &bytes[cut..]]);
-            is_same(&rt, &whole, pieces, text);
-        }
+fn two_pieces_agree(rt: &(impl Abort + AllocGlobal), text: &str) {
+    let bytes = text.as_bytes();
+    let whole = decode(rt.alloc(), bytes, WIDE);
+    assert!(rt; !matches!(whole, Err(MappingsError::Memory)), "{text}");
+    for cut in 0..=bytes.len() {
+        let (front, back) = bytes.split_at(cut);
+        is_same(rt, &whole, read_two(rt.alloc(), front, back), text);
     }
 }
 
 #[test]
-fn byte_by_byte_gives_what_the_whole_gives(rt: HostRuntime) -> Result<(), Fail> {
+fn every_two_pieces_give_what_the_whole_gives(rt: HostRuntime) {
+    for text in TEXTS {
+        two_pieces_agree(&rt, text);
+    }
+}
+
+#[test]
+fn byte_by_byte_gives_what_the_whole_gives(rt: HostRuntime) {
     for text in TEXTS {
         let whole = decode(rt.alloc(), text.as_bytes(), WIDE);
-        let mut pieces = Vec::new(rt.alloc());
-        for place in 0..text.len() {
-            pieces.push(&text.as_bytes()[place..place + 1])?;
-        }
-        is_same(&rt, &whole, read(rt.alloc(), 2, &pieces), text);
+        let pieces = read_bytes(rt.alloc(), text.as_bytes());
+        is_same(&rt, &whole, pieces, text);
     }
-    Ok(())
 }
 
 #[test]

@@ -3,7 +3,38 @@
 //! `new URL(relative, base)`.
 use super::{are_answered, base_of, is_answered, usual_base};
 use smap_record::{Base, BaseFault, Limits};
+use smap_testing::parts;
+use std::alloc::AllocError;
+use std::process::Abort;
 use std::test::Fail;
+
+/// The two sides of a row's arrow.
+fn sides(row: &str) -> Result<(&str, &str), &'static str> {
+    row.split_once(" -> ").ok_or("a row has two sides")
+}
+
+/// Asserts the URL of the only source of a map with this `sourceRoot`, which is a member with its comma, or
+/// nothing.
+fn has_url(
+    rt: &(impl Abort + AllocGlobal),
+    base: &Base,
+    root: &str,
+    source: &str,
+    url: &str,
+) -> Result<(), AllocError> {
+    let text = format!(in rt.alloc();
+        "{{\"version\":3,{root}\"sources\":[\"{source}\"],\"mappings\":\"\"}}"
+    )?;
+    let want = format!(in rt.alloc(); "read; source {url}; listed 0")?;
+    is_answered(
+        rt,
+        source,
+        text.as_bytes(),
+        base,
+        Limits::usual(),
+        want.as_str(),
+    )
+}
 
 /// A source without `sourceRoot`, as a JSON string, and its URL.
 const ALONE: &str = r#"a.js -> http://h/m/a.js
@@ -25,25 +56,20 @@ foo:/..//x: -> foo:/.//x:
 foo:/..//x -> foo:/.//x
 foo:/.//x -> foo:/.//x"#;
 
+/// Asserts the URL of a row of `ALONE`, without `sourceRoot` and with one that is null or empty.
+fn is_resolved(rt: &(impl Abort + AllocGlobal), base: &Base, row: &str) -> Result<(), Fail> {
+    let (source, url) = sides(row)?;
+    for root in ["", "\"sourceRoot\":null,", "\"sourceRoot\":\"\","] {
+        has_url(rt, base, root, source, url)?;
+    }
+    Ok(())
+}
+
 #[test]
 fn a_source_without_a_root_is_resolved_against_the_base(rt: HostRuntime) -> Result<(), Fail> {
     let base = usual_base(&rt);
     for row in ALONE.lines() {
-        let (source, url) = row.split_once(" -> ").ok_or("a row has two parts")?;
-        let want = format!(in rt.alloc(); "read; source {url}; listed 0")?;
-        for root in ["", "\"sourceRoot\":null,", "\"sourceRoot\":\"\","] {
-            let text = format!(in rt.alloc();
-                "{{\"version\":3,{root}\"sources\":[\"{source}\"],\"mappings\":\"\"}}"
-            )?;
-            is_answered(
-                &rt,
-                row,
-                text.as_bytes(),
-                &base,
-                Limits::usual(),
-                want.as_str(),
-            )?;
-        }
+        is_resolved(&rt, &base, row)?;
     }
     Ok(())
 }
@@ -61,24 +87,20 @@ src | http://x/a.js -> http://h/m/src/http://x/a.js
 src | /a.js -> http://h/m/src//a.js
 src | turbopack://[project]/a.js -> http://h/m/src/turbopack://[project]/a.js"#;
 
+/// Asserts the URL of a row of `ROOTED`.
+fn is_rooted(rt: &(impl Abort + AllocGlobal), base: &Base, row: &str) -> Result<(), Fail> {
+    let (root, rest) = parts(row)?;
+    let (source, url) = sides(rest)?;
+    let root = format!(in rt.alloc(); "\"sourceRoot\":\"{root}\",")?;
+    has_url(rt, base, root.as_str(), source, url)?;
+    Ok(())
+}
+
 #[test]
 fn a_root_stands_before_its_source(rt: HostRuntime) -> Result<(), Fail> {
     let base = usual_base(&rt);
     for row in ROOTED.lines() {
-        let (root, rest) = row.split_once(" | ").ok_or("a row has three parts")?;
-        let (source, url) = rest.split_once(" -> ").ok_or("a row has three parts")?;
-        let want = format!(in rt.alloc(); "read; source {url}; listed 0")?;
-        let text = format!(in rt.alloc();
-            "{{\"version\":3,\"sourceRoot\":\"{root}\",\"sources\":[\"{source}\"],\"mappings\":\"\"}}"
-        )?;
-        is_answered(
-            &rt,
-            row,
-            text.as_bytes(),
-            &base,
-            Limits::usual(),
-            want.as_str(),
-        )?;
+        is_rooted(&rt, &base, row)?;
     }
     Ok(())
 }
@@ -110,7 +132,7 @@ data:,x -> data:,x"#;
 #[test]
 fn a_base_tells_its_url(rt: HostRuntime) -> Result<(), Fail> {
     for row in BASES.lines() {
-        let (text, url) = row.split_once(" -> ").ok_or("a row has two parts")?;
+        let (text, url) = sides(row)?;
         let base = base_of(&rt, text);
         assert!(rt; base.text() == url, "{text}: {}", base.text());
     }
@@ -152,13 +174,21 @@ http://h/m/out.js.map | http://h/m/%C3%A9.js -> %C3%A9.js
 http://h/m/out.js.map | http://h/m/a%20b.js -> a%20b.js
 http://h/m/out.js.map | http://h//x.js -> ..//x.js"#;
 
+/// The relative form of a URL with respect to a base, if it has one.
+fn spelling(
+    rt: &(impl Abort + AllocGlobal),
+    base: &str,
+    url: &str,
+) -> Result<Option<String>, AllocError> {
+    base_of(rt, base).relative(rt.alloc(), url)
+}
+
 #[test]
 fn a_url_on_the_same_host_is_spelled_by_its_path(rt: HostRuntime) -> Result<(), Fail> {
     for row in SPELLED.lines() {
-        let (base, rest) = row.split_once(" | ").ok_or("a row has three parts")?;
-        let (url, want) = rest.split_once(" -> ").ok_or("a row has three parts")?;
-        let spelling = base_of(&rt, base).relative(rt.alloc(), url)?;
-        let spelling = spelling.ok_or("a spelling")?;
+        let (base, rest) = parts(row)?;
+        let (url, want) = sides(rest)?;
+        let spelling = spelling(&rt, base, url)?.ok_or("a spelling")?;
         assert!(rt; spelling.as_str() == want, "{row}: {spelling}");
     }
     Ok(())
@@ -183,9 +213,8 @@ http://h/m/out.js.map | HTTP://h/m/a.js"#;
 #[test]
 fn other_urls_have_no_relative_spelling(rt: HostRuntime) -> Result<(), Fail> {
     for row in NOT_SPELLED.lines() {
-        let (base, url) = row.split_once(" | ").ok_or("a row has two parts")?;
-        let spelling = base_of(&rt, base).relative(rt.alloc(), url)?;
-        assert!(rt; spelling.is_none(), "{row}");
+        let (base, url) = parts(row)?;
+        assert!(rt; spelling(&rt, base, url)?.is_none(), "{row}");
     }
     Ok(())
 }

@@ -54,9 +54,9 @@ const KINDS: [(Kind, &str); 33] = [
 
 #[test]
 fn a_kind_says_its_words(rt: HostRuntime) -> Result<(), Fail> {
-    for (kind, words) in KINDS {
+    for (kind, words) in &KINDS {
         let said = format!(in rt.alloc(); "{kind}")?;
-        assert_eq!(rt; said.as_str(), words);
+        assert_eq!(rt; said.as_str(), *words);
     }
     Ok(())
 }

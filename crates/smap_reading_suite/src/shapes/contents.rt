@@ -1,6 +1,8 @@
 //! JSON trees with contents of each kind, and what remains of them.
+use super::flat_map;
 use serde_json::Value;
-use smap_shape::{Shape, ShapeFault, shape, split_contents};
+use smap_shape::{FlatShape, ShapeFault, shape, split_contents};
+use std::process::Abort;
 use std::test::Fail;
 
 fn is_text(content: &Option<String>, want: &str) -> bool {
@@ -41,15 +43,25 @@ fn the_other_members_stay(rt: HostRuntime) -> Result<(), Fail> {
     let tree = Value::from_str(rt.alloc(), text)?;
     let (contents, rest) = split_contents(rt.alloc(), tree)?;
     assert_eq!(rt; contents.len(), 2);
-    let Ok(Shape::Flat(flat)) = shape(&rest) else {
-        return Err("refused".into());
-    };
+    let flat = flat_map(&rest).ok_or("refused")?;
+    has_no_content(&rt, &flat);
     assert!(rt; flat.file() == Some("f"));
+    assert!(rt; flat.mappings() == "A");
+    Ok(())
+}
+
+fn has_no_content(rt: &impl Abort, flat: &FlatShape) {
     assert_eq!(rt; flat.source_count(), 2);
     assert!(rt; flat.source(1) == Some("b"));
     assert!(rt; flat.content(0).is_none());
-    assert!(rt; flat.mappings() == "A");
-    Ok(())
+}
+
+/// What remains of the tree of this text, after no content was moved out of it.
+fn kept(rt: &(impl Abort + AllocGlobal), text: &str) -> Result<Value, Fail> {
+    let tree = Value::from_str(rt.alloc(), text)?;
+    let (contents, rest) = split_contents(rt.alloc(), tree)?;
+    assert_eq!(rt; contents.len(), 0, "at {text}");
+    Ok(rest)
 }
 
 #[test]
@@ -59,9 +71,7 @@ fn a_tree_without_a_list_of_contents_stays_whole(rt: HostRuntime) -> Result<(), 
         r#"{"version":3,"sourcesContent":{},"mappings":""}"#,
         r#"{"version":3,"sourcesContent":"t","mappings":""}"#,
     ] {
-        let tree = Value::from_str(rt.alloc(), text)?;
-        let (contents, rest) = split_contents(rt.alloc(), tree)?;
-        assert_eq!(rt; contents.len(), 0, "at {text}");
+        let rest = kept(&rt, text)?;
         assert!(rt; rest.get("sourcesContent").is_some(), "at {text}");
         assert_eq!(rt;
             shape(&rest).err(),
@@ -69,10 +79,13 @@ fn a_tree_without_a_list_of_contents_stays_whole(rt: HostRuntime) -> Result<(), 
             "at {text}"
         );
     }
+    Ok(())
+}
+
+#[test]
+fn a_tree_that_is_no_object_stays_whole(rt: HostRuntime) -> Result<(), Fail> {
     for text in ["[]", "null", "\"t\""] {
-        let tree = Value::from_str(rt.alloc(), text)?;
-        let (contents, rest) = split_contents(rt.alloc(), tree)?;
-        assert_eq!(rt; contents.len(), 0, "at {text}");
+        let rest = kept(&rt, text)?;
         assert!(rt; !rest.is_object(), "at {text}");
     }
     Ok(())

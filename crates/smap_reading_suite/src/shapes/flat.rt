@@ -1,6 +1,8 @@
 //! Flat maps, with their members.
+use super::flat_map;
 use serde_json::Value;
-use smap_shape::{Shape, shape};
+use smap_shape::FlatShape;
+use std::process::Abort;
 use std::test::Fail;
 
 #[test]
@@ -10,23 +12,43 @@ fn a_flat_map_tells_its_members(rt: HostRuntime) -> Result<(), Fail> {
         r#""sourcesContent":["t",""],"names":["x","y"],"ignoreList":[2,2],"mappings":"AAAA","more":[1]}"#,
     );
     let tree = Value::from_str(rt.alloc(), text)?;
-    let Ok(Shape::Flat(flat)) = shape(&tree) else {
-        return Err("refused".into());
-    };
+    let flat = flat_map(&tree).ok_or("refused")?;
+    has_texts(&rt, &flat);
+    has_sources(&rt, &flat);
+    has_contents(&rt, &flat);
+    has_ignored_sources(&rt, &flat);
+    has_names(&rt, &flat);
+    Ok(())
+}
+
+fn has_texts(rt: &impl Abort, flat: &FlatShape) {
     assert!(rt; flat.file() == Some("out.js"));
     assert!(rt; flat.root() == Some("src"));
+    assert!(rt; flat.mappings() == "AAAA");
+}
+
+fn has_sources(rt: &impl Abort, flat: &FlatShape) {
     assert_eq!(rt; flat.source_count(), 3);
     assert!(rt; flat.source(0) == Some("a.js"));
     assert!(rt; flat.source(1).is_none());
+}
+
+fn has_contents(rt: &impl Abort, flat: &FlatShape) {
+    assert_eq!(rt; flat.source_count(), 3);
     assert!(rt; flat.content(0) == Some("t"));
     assert!(rt; flat.content(1) == Some(""));
     assert!(rt; flat.content(2).is_none());
+}
+
+fn has_ignored_sources(rt: &impl Abort, flat: &FlatShape) {
+    assert_eq!(rt; flat.source_count(), 3);
     assert_eq!(rt; flat.is_ignored(0), false);
     assert_eq!(rt; flat.is_ignored(2), true);
     assert_eq!(rt; flat.ignored_count(), 2);
     assert_eq!(rt; flat.ignored_number(1), 2);
+}
+
+fn has_names(rt: &impl Abort, flat: &FlatShape) {
     assert_eq!(rt; flat.name_count(), 2);
     assert!(rt; flat.name(1) == "y");
-    assert!(rt; flat.mappings() == "AAAA");
-    Ok(())
 }

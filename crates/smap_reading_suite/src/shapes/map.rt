@@ -1,14 +1,9 @@
 //! JSON trees of maps, and the first fault of each.
+use super::{flat_map, is_refused};
 use serde_json::Value;
-use smap_shape::{FlatShape, Shape, ShapeFault, shape};
+use smap_shape::{FlatShape, ShapeFault};
+use std::process::Abort;
 use std::test::Fail;
-
-fn flat_map<'a>(tree: &'a Value) -> Option<FlatShape<'a>> {
-    match shape(tree) {
-        Ok(Shape::Flat(flat)) => Some(flat),
-        _ => None,
-    }
-}
 
 #[test]
 fn the_first_fault_in_order_is_answered(rt: HostRuntime) -> Result<(), Fail> {
@@ -30,8 +25,7 @@ fn the_first_fault_in_order_is_answered(rt: HostRuntime) -> Result<(), Fail> {
         ),
         (r#"{"version":3,"sections":{}}"#, ShapeFault::Sections),
     ] {
-        let tree = Value::from_str(rt.alloc(), text)?;
-        assert_eq!(rt; shape(&tree).err(), Some(want), "at {text}");
+        is_refused(&rt, text, want)?;
     }
     Ok(())
 }
@@ -67,8 +61,7 @@ fn the_first_fault_of_a_flat_map_is_answered(rt: HostRuntime) -> Result<(), Fail
         ),
         (r#"{"version":3,"ignoreList":[0]}"#, ShapeFault::IgnoreList),
     ] {
-        let tree = Value::from_str(rt.alloc(), text)?;
-        assert_eq!(rt; shape(&tree).err(), Some(want), "at {text}");
+        is_refused(&rt, text, want)?;
     }
     Ok(())
 }
@@ -79,12 +72,7 @@ fn an_ignored_number_has_a_source(rt: HostRuntime) -> Result<(), Fail> {
         let text = format!(in rt.alloc();
             "{{\"version\":3,\"sources\":[\"a\"],\"ignoreList\":{list},\"mappings\":\"\"}}"
         )?;
-        let tree = Value::from_str(rt.alloc(), text.as_str())?;
-        assert_eq!(rt;
-            shape(&tree).err(),
-            Some(ShapeFault::IgnoreList),
-            "at {list}"
-        );
+        is_refused(&rt, text.as_str(), ShapeFault::IgnoreList)?;
     }
     Ok(())
 }
@@ -94,10 +82,11 @@ fn of_two_equal_keys_the_last_counts(rt: HostRuntime) -> Result<(), Fail> {
     let tree = Value::from_str(rt.alloc(), r#"{"version":2,"version":3,"mappings":""}"#)?;
     let flat = flat_map(&tree).ok_or("refused")?;
     assert_eq!(rt; flat.source_count(), 0);
-
-    let tree = Value::from_str(rt.alloc(), r#"{"version":3,"version":2,"mappings":""}"#)?;
-    assert_eq!(rt; shape(&tree).err(), Some(ShapeFault::Version));
-    Ok(())
+    is_refused(
+        &rt,
+        r#"{"version":3,"version":2,"mappings":""}"#,
+        ShapeFault::Version,
+    )
 }
 
 #[test]
@@ -110,6 +99,17 @@ fn content_past_the_sources_is_ignored(rt: HostRuntime) -> Result<(), Fail> {
     Ok(())
 }
 
+/// Whether the only source of a map with these lists is ignored.
+fn ignores(rt: &(impl Abort + AllocGlobal), lists: &str) -> Result<bool, Fail> {
+    let text = format!(in rt.alloc();
+        "{{\"version\":3,\"sources\":[\"a\"],{lists},\"mappings\":\"\"}}"
+    )?;
+    let tree = Value::from_str(rt.alloc(), text.as_str())?;
+    let flat = flat_map(&tree).ok_or("refused")?;
+    assert_eq!(rt; flat.source_count(), 1);
+    Ok(flat.is_ignored(0))
+}
+
 #[test]
 fn a_present_ignore_list_hides_its_older_name(rt: HostRuntime) -> Result<(), Fail> {
     for (lists, want) in [
@@ -119,19 +119,13 @@ fn a_present_ignore_list_hides_its_older_name(rt: HostRuntime) -> Result<(), Fai
         (r#""ignoreList":[],"x_google_ignoreList":"no""#, false),
         (r#""ignoreList":[0,0],"x_google_ignoreList":[9]"#, true),
     ] {
-        let text = format!(in rt.alloc();
-            "{{\"version\":3,\"sources\":[\"a\"],{lists},\"mappings\":\"\"}}"
-        )?;
-        let tree = Value::from_str(rt.alloc(), text.as_str())?;
-        let flat = flat_map(&tree).ok_or("refused")?;
-        assert_eq!(rt; flat.source_count(), 1);
-        assert_eq!(rt; flat.is_ignored(0), want, "at {lists}");
+        assert_eq!(rt; ignores(&rt, lists)?, want, "at {lists}");
     }
-    let text =
-        r#"{"version":3,"sources":["a"],"ignoreList":[1],"x_google_ignoreList":[0],"mappings":""}"#;
-    let tree = Value::from_str(rt.alloc(), text)?;
-    assert_eq!(rt; shape(&tree).err(), Some(ShapeFault::IgnoreList));
-    Ok(())
+    is_refused(
+        &rt,
+        r#"{"version":3,"sources":["a"],"ignoreList":[1],"x_google_ignoreList":[0],"mappings":""}"#,
+        ShapeFault::IgnoreList,
+    )
 }
 
 #[test]
@@ -143,11 +137,15 @@ fn a_null_member_is_absent(rt: HostRuntime) -> Result<(), Fail> {
     );
     let tree = Value::from_str(rt.alloc(), text)?;
     let flat = flat_map(&tree).ok_or("refused")?;
+    has_mappings_alone(&rt, &flat);
+    Ok(())
+}
+
+fn has_mappings_alone(rt: &impl Abort, flat: &FlatShape) {
     assert!(rt; flat.file().is_none());
     assert!(rt; flat.root().is_none());
     assert_eq!(rt; flat.source_count(), 0);
     assert_eq!(rt; flat.name_count(), 0);
     assert_eq!(rt; flat.ignored_count(), 0);
     assert!(rt; flat.mappings() == "A");
-    Ok(())
 }

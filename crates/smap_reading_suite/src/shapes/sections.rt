@@ -1,7 +1,29 @@
 //! JSON trees of sections, and the first fault of each.
 use serde_json::Value;
-use smap_shape::{MAX_LEVEL, ShapeFault, section};
+use smap_shape::{MAX_LEVEL, SectionShape, ShapeFault, section};
+use std::process::Abort;
 use std::test::Fail;
+
+/// Asserts what a section tells.
+fn tells(rt: &impl Abort, section: &SectionShape, line: u32, column: u32, text: &str) {
+    assert_eq!(rt; section.line(), line, "line at {text}");
+    assert_eq!(rt; section.column(), column, "column at {text}");
+    assert!(rt; section.map().is_object(), "map at {text}");
+}
+
+/// The fault of a section of this level.
+fn fault(rt: &impl Abort, tree: &Value, level: u8) -> Option<ShapeFault> {
+    assert!(rt; level >= 1);
+    assert!(rt; level <= MAX_LEVEL);
+    section(tree, level).err()
+}
+
+/// Asserts that the section of this text has this fault.
+fn is_refused(rt: &(impl Abort + AllocGlobal), text: &str, want: ShapeFault) -> Result<(), Fail> {
+    let tree = Value::from_str(rt.alloc(), text)?;
+    assert_eq!(rt; fault(rt, &tree, MAX_LEVEL), Some(want), "at {text}");
+    Ok(())
+}
 
 #[test]
 fn a_section_tells_its_offset_and_map(rt: HostRuntime) -> Result<(), Fail> {
@@ -24,9 +46,7 @@ fn a_section_tells_its_offset_and_map(rt: HostRuntime) -> Result<(), Fail> {
     ] {
         let tree = Value::from_str(rt.alloc(), text)?;
         let section = section(&tree, MAX_LEVEL).ok().ok_or("refused")?;
-        assert_eq!(rt; section.line(), line, "line at {text}");
-        assert_eq!(rt; section.column(), column, "column at {text}");
-        assert!(rt; section.map().is_object(), "map at {text}");
+        tells(&rt, &section, line, column, text);
     }
     Ok(())
 }
@@ -76,8 +96,7 @@ fn the_first_fault_of_a_section_is_answered(rt: HostRuntime) -> Result<(), Fail>
             ShapeFault::Nested,
         ),
     ] {
-        let tree = Value::from_str(rt.alloc(), text)?;
-        assert_eq!(rt; section(&tree, MAX_LEVEL).err(), Some(want), "at {text}");
+        is_refused(&rt, text, want)?;
     }
     Ok(())
 }
@@ -87,8 +106,8 @@ fn a_section_of_a_lower_level_may_have_sections(rt: HostRuntime) -> Result<(), F
     let text = r#"{"offset":{"line":0,"column":0},"map":{"sections":[]}}"#;
     let tree = Value::from_str(rt.alloc(), text)?;
     for level in [1, 2, 7] {
-        assert!(rt; section(&tree, level).is_ok(), "{level}");
+        assert!(rt; fault(&rt, &tree, level).is_none(), "{level}");
     }
-    assert_eq!(rt; section(&tree, 8).err(), Some(ShapeFault::Nested));
+    assert_eq!(rt; fault(&rt, &tree, 8), Some(ShapeFault::Nested));
     Ok(())
 }
