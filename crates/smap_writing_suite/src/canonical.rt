@@ -2,9 +2,10 @@
 mod forms;
 mod relative;
 
+use crate::reading::{base, read};
 use smap_canon::round_trips::{flattened, have_equal_bytes, tidied};
-use smap_canon::{canonical, canonical_mappings, flatten, same};
-use smap_record::{Base, Kind, Limits, ReadError, SourceMap};
+use smap_canon::{canonical, canonical_mappings, canonical_relative, flatten, same};
+use smap_record::{Kind, Limits, ReadError};
 use smap_testing::{parts, rows};
 use std::process::Abort;
 use std::test::Fail;
@@ -89,35 +90,90 @@ const TIDIED: &str = r#"{"version":3,"sources":["a.js"],"names":["x","y"],"mappi
 {"version":3,"sections":[{"offset":{"line":16777216,"column":0},"map":{"version":3,"mappings":""}}]}
     | {"mappings":"","names":[],"sources":[],"version":3}"#;
 
-fn base(rt: &(impl Abort + AllocGlobal)) -> Base {
-    Base::new(rt.alloc(), "http://h/m/out.js.map").expect(rt, "a base is a URL")
+/// The canonical bytes of the map of a text.
+fn canonical_bytes(rt: &(impl Abort + AllocGlobal), text: &str) -> Vec<u8> {
+    canonical(rt.alloc(), &read(rt, text)).expect(rt, text)
 }
 
-fn read(rt: &(impl Abort + AllocGlobal), bytes: &[u8]) -> SourceMap {
-    let read = SourceMap::from_slice(rt.alloc(), bytes, &base(rt), Limits::usual());
-    assert!(rt; read.is_ok(), "{bytes:?}");
-    read.expect(rt, "the map is read")
+/// Asserts that these are the canonical bytes of the map of a text.
+fn has_canonical(rt: &(impl Abort + AllocGlobal), text: &str, want: &str) {
+    let bytes = canonical_bytes(rt, text);
+    assert!(rt; bytes.as_slice() == want.as_bytes(), "{text}");
+}
+
+/// The canonical bytes of the map of a text, in the relative form.
+fn relative_bytes(rt: &(impl Abort + AllocGlobal), text: &str) -> Vec<u8> {
+    canonical_relative(rt.alloc(), &read(rt, text), &base(rt)).expect(rt, text)
+}
+
+/// Asserts that these are the canonical bytes of the map of a text, in the relative form.
+fn has_relative(rt: &(impl Abort + AllocGlobal), text: &str, want: &str) {
+    let bytes = relative_bytes(rt, text);
+    assert!(rt; bytes.as_slice() == want.as_bytes(), "{text}");
+}
+
+/// The flat bytes of the map of a text.
+fn flat_bytes(rt: &(impl Abort + AllocGlobal), text: &str) -> Vec<u8> {
+    flatten(rt.alloc(), &read(rt, text)).expect(rt, text)
+}
+
+/// Asserts that these are the flat bytes of the map of a text.
+fn has_flat(rt: &(impl Abort + AllocGlobal), text: &str, want: &str) {
+    let bytes = flat_bytes(rt, text);
+    assert!(rt; bytes.as_slice() == want.as_bytes(), "{text}");
+}
+
+/// Asserts that one call makes these canonical bytes of a text, in the relative form if that is set.
+fn tidies_to(rt: &(impl Abort + AllocGlobal), text: &str, want: &str, relative: bool) {
+    let base = base(rt);
+    let bytes = tidied(
+        rt.alloc(),
+        text.as_bytes(),
+        &base,
+        Limits::usual(),
+        relative,
+    );
+    assert!(rt;
+        bytes.expect(rt, text).as_slice() == want.as_bytes(),
+        "{text}"
+    );
+}
+
+/// Asserts that one call makes these flat bytes of a text.
+fn flattens_to(rt: &(impl Abort + AllocGlobal), text: &str, want: &str) {
+    let bytes = flattened(rt.alloc(), text.as_bytes(), &base(rt), Limits::usual());
+    assert!(rt;
+        bytes.expect(rt, text).as_slice() == want.as_bytes(),
+        "{text}"
+    );
+}
+
+/// Whether the maps of two texts have the same record.
+fn are_same(rt: &(impl Abort + AllocGlobal), one: &str, other: &str) -> bool {
+    same(&read(rt, one), &read(rt, other))
+}
+
+/// Whether one call finds that two texts have equal canonical bytes, in the relative form if that is set.
+fn are_equal(rt: &(impl Abort + AllocGlobal), one: &str, other: &str, relative: bool) -> bool {
+    let base = base(rt);
+    let equal = have_equal_bytes(
+        rt.alloc(),
+        one.as_bytes(),
+        other.as_bytes(),
+        &base,
+        Limits::usual(),
+        relative,
+    );
+    equal.expect(rt, other)
 }
 
 /// Asserts that these are the map's canonical bytes, that they have the same record, and are their own
 /// canonical bytes.
 fn is_tidied(rt: &(impl Abort + AllocGlobal), text: &str, want: &str) {
-    let map = read(rt, text.as_bytes());
-    let bytes = canonical(rt.alloc(), &map).expect(rt, "there is memory");
-    assert!(rt; bytes.as_slice() == want.as_bytes(), "{text}");
-    let again = read(rt, want.as_bytes());
-    assert!(rt; same(&map, &again), "{text}");
-    let bytes = canonical(rt.alloc(), &again).expect(rt, "there is memory");
-    assert!(rt; bytes.as_slice() == want.as_bytes(), "{text}");
-    let bytes = tidied(
-        rt.alloc(),
-        text.as_bytes(),
-        &base(rt),
-        Limits::usual(),
-        false,
-    );
-    let bytes = bytes.expect(rt, "the text is accepted");
-    assert!(rt; bytes.as_slice() == want.as_bytes(), "{text}");
+    has_canonical(rt, text, want);
+    assert!(rt; are_same(rt, text, want), "{text}");
+    has_canonical(rt, want, want);
+    tidies_to(rt, text, want, false);
 }
 
 #[test]
@@ -135,6 +191,11 @@ fn a_record_has_one_text_which_is_its_own(rt: HostRuntime) -> Result<(), Fail> {
     Ok(())
 }
 
+/// The canonical mappings string of the map of a text.
+fn mappings_of(rt: &(impl Abort + AllocGlobal), text: &str) -> Vec<u8> {
+    canonical_mappings(rt.alloc(), &read(rt, text)).expect(rt, text)
+}
+
 #[test]
 fn the_mappings_are_those_of_the_text(rt: HostRuntime) {
     for (text, want) in [
@@ -143,20 +204,16 @@ fn the_mappings_are_those_of_the_text(rt: HostRuntime) {
         (EMPTY, ""),
         (TWO_SECTIONS, "AAAA,UAAAA;CCCC"),
     ] {
-        let map = read(&rt, text.as_bytes());
-        let mappings = canonical_mappings(rt.alloc(), &map).expect(&rt, "there is memory");
+        let mappings = mappings_of(&rt, text);
         assert!(rt; mappings.as_slice() == want.as_bytes(), "{text}");
     }
 }
 
 #[test]
 fn equal_records_are_the_same(rt: HostRuntime) {
-    let small = read(&rt, SMALL.as_bytes());
-    let longer = read(&rt, LONGER.as_bytes());
-    let empty = read(&rt, EMPTY.as_bytes());
-    assert!(rt; same(&small, &longer));
-    assert!(rt; !same(&small, &empty));
-    assert!(rt; !same(&empty, &small));
+    assert!(rt; are_same(&rt, SMALL, LONGER));
+    assert!(rt; !are_same(&rt, SMALL, EMPTY));
+    assert!(rt; !are_same(&rt, EMPTY, SMALL));
 }
 
 /// A map, and others that each differ from it in one part.
@@ -185,9 +242,8 @@ const OTHERS: &str =
 
 #[test]
 fn each_part_of_a_record_counts(rt: HostRuntime) -> Result<(), Fail> {
-    let map = read(&rt, WHOLE.as_bytes());
     for other in rows(rt.alloc(), OTHERS)? {
-        assert!(rt; !same(&map, &read(&rt, other.as_bytes())), "{other}");
+        assert!(rt; !are_same(&rt, WHOLE, other.as_str()), "{other}");
     }
     Ok(())
 }
@@ -200,17 +256,18 @@ fn a_list_is_not_tidied(rt: HostRuntime) {
     }
 }
 
+/// Asserts that these are the map's flat bytes, and have the same record.
+fn is_flattened(rt: &(impl Abort + AllocGlobal), text: &str, want: &str) {
+    has_flat(rt, text, want);
+    assert!(rt; are_same(rt, text, want), "{text}");
+    flattens_to(rt, text, want);
+}
+
 #[test]
 fn flat_bytes_list_what_the_map_lists(rt: HostRuntime) -> Result<(), Fail> {
     for row in rows(rt.alloc(), FLATTENED)? {
         let (text, want) = parts(row.as_str())?;
-        let map = read(&rt, text.as_bytes());
-        let bytes = flatten(rt.alloc(), &map).expect(&rt, "there is memory");
-        assert!(rt; bytes.as_slice() == want.as_bytes(), "{text}");
-        assert!(rt; same(&map, &read(&rt, bytes.as_slice())), "{text}");
-        let bytes = flattened(rt.alloc(), text.as_bytes(), &base(&rt), Limits::usual());
-        let bytes = bytes.expect(&rt, "the text is accepted");
-        assert!(rt; bytes.as_slice() == want.as_bytes(), "{text}");
+        is_flattened(&rt, text, want);
     }
     Ok(())
 }
@@ -218,14 +275,6 @@ fn flat_bytes_list_what_the_map_lists(rt: HostRuntime) -> Result<(), Fail> {
 #[test]
 fn equal_bytes_say_equal_records(rt: HostRuntime) {
     for (other, want) in [(SMALL, true), (LONGER, true), (EMPTY, false)] {
-        let equal = have_equal_bytes(
-            rt.alloc(),
-            SMALL.as_bytes(),
-            other.as_bytes(),
-            &base(&rt),
-            Limits::usual(),
-            false,
-        );
-        assert_eq!(rt; equal.expect(&rt, "both are accepted"), want, "{other}");
+        assert_eq!(rt; are_equal(&rt, SMALL, other, false), want, "{other}");
     }
 }

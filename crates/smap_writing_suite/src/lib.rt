@@ -8,6 +8,8 @@
 #[cfg(test)]
 mod canonical;
 #[cfg(test)]
+mod reading;
+#[cfg(test)]
 mod scans;
 #[cfg(test)]
 mod traces;

@@ -5,9 +5,7 @@
 mod names;
 mod sources;
 
-use smap_record::{Base, Limits, SourceMap};
 use std::alloc::{AllocError, Global};
-use std::process::Abort;
 
 /// The distinct elements of a list, in order of first occurrence; and for each element of the list its index
 /// among these.
@@ -42,13 +40,6 @@ pub(crate) fn scan<T: Copy + PartialEq>(
         places.push(place)?;
     }
     Ok(Scanned { distinct, places })
-}
-
-/// The map of a JSON text, with the base `http://h/m/out.js.map`.
-pub(crate) fn read(rt: &(impl Abort + AllocGlobal), text: &str) -> SourceMap {
-    let base = Base::new(rt.alloc(), "http://h/m/out.js.map").expect(rt, "a base is a URL");
-    let map = SourceMap::from_slice(rt.alloc(), text.as_bytes(), &base, Limits::usual());
-    map.expect(rt, "the map is read")
 }
 
 /// Appends a piece to a text, after a comma unless the text is empty.

@@ -1,9 +1,7 @@
 //! The relative form. Each row has its sources in that form; everything else is as in the absolute form.
-use super::{EMPTY, SMALL, base, read};
-use smap_canon::round_trips::{have_equal_bytes, tidied};
-use smap_canon::{canonical, canonical_relative, same};
-use smap_record::Limits;
+use super::{EMPTY, SMALL, are_equal, are_same, canonical_bytes, has_relative, tidies_to};
 use smap_testing::{parts, rows};
+use std::process::Abort;
 use std::test::Fail;
 
 /// Maps, and their canonical bytes in the relative form with the base `http://h/m/out.js.map`.
@@ -30,32 +28,29 @@ const RELATIVE: &str =
 fn sources_are_spelled_from_the_base(rt: HostRuntime) -> Result<(), Fail> {
     for row in rows(rt.alloc(), RELATIVE)? {
         let (text, want) = parts(row.as_str())?;
-        let map = read(&rt, text.as_bytes());
-        let bytes = canonical_relative(rt.alloc(), &map, &base(&rt)).expect(&rt, "there is memory");
-        assert!(rt; bytes.as_slice() == want.as_bytes(), "{text}");
+        has_relative(&rt, text, want);
     }
     Ok(())
+}
+
+/// Whether the maps of two texts have the same canonical bytes.
+fn have_one_form(rt: &(impl Abort + AllocGlobal), one: &str, other: &str) -> bool {
+    canonical_bytes(rt, one).as_slice() == canonical_bytes(rt, other).as_slice()
+}
+
+/// Asserts that the second text is its own relative form, and that both have the same record and the same
+/// canonical bytes.
+fn say_the_same(rt: &(impl Abort + AllocGlobal), text: &str, want: &str) {
+    assert!(rt; are_same(rt, text, want), "{text}");
+    tidies_to(rt, want, want, true);
+    assert!(rt; have_one_form(rt, text, want), "{text}");
 }
 
 #[test]
 fn a_relative_text_is_its_own_and_says_the_same(rt: HostRuntime) -> Result<(), Fail> {
     for row in rows(rt.alloc(), RELATIVE)? {
         let (text, want) = parts(row.as_str())?;
-        let map = read(&rt, text.as_bytes());
-        let again = read(&rt, want.as_bytes());
-        assert!(rt; same(&map, &again), "{text}");
-        let bytes = tidied(
-            rt.alloc(),
-            want.as_bytes(),
-            &base(&rt),
-            Limits::usual(),
-            true,
-        );
-        let bytes = bytes.expect(&rt, "the text is accepted");
-        assert!(rt; bytes.as_slice() == want.as_bytes(), "{text}");
-        let absolute = canonical(rt.alloc(), &map).expect(&rt, "there is memory");
-        let absolute_again = canonical(rt.alloc(), &again).expect(&rt, "there is memory");
-        assert!(rt; absolute.as_slice() == absolute_again.as_slice(), "{text}");
+        say_the_same(&rt, text, want);
     }
     Ok(())
 }
@@ -65,14 +60,6 @@ fn equal_relative_bytes_say_equal_records(rt: HostRuntime) {
     let absolute =
         r#"{"version":3,"sources":["http://h/m/a.js"],"names":["x","y"],"mappings":"AAAAC,CAACD"}"#;
     for (other, want) in [(SMALL, true), (absolute, true), (EMPTY, false)] {
-        let equal = have_equal_bytes(
-            rt.alloc(),
-            SMALL.as_bytes(),
-            other.as_bytes(),
-            &base(&rt),
-            Limits::usual(),
-            true,
-        );
-        assert_eq!(rt; equal.expect(&rt, "both are accepted"), want, "{other}");
+        assert_eq!(rt; are_equal(&rt, SMALL, other, true), want, "{other}");
     }
 }

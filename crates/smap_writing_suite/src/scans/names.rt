@@ -1,7 +1,9 @@
 //! The indices of names in order of first use, by a linear scan.
-use super::{joined, push_item, read, scan};
+use super::{Scanned, joined, push_item, scan};
+use crate::reading::read;
 use smap_canon::canonical;
 use std::alloc::{AllocError, Global};
+use std::process::Abort;
 use std::test::Fail;
 
 /// How many names the map lists, and how many mappings there are.
@@ -143,11 +145,26 @@ fn canonical_text(alloc: Global, names: &[usize], uses: &[usize]) -> Result<Stri
     joined(alloc, &pieces)
 }
 
+/// The numbers of the names that the mappings use, scanned.
+fn scanned_names(alloc: Global) -> Result<Scanned<usize>, AllocError> {
+    let used = used(alloc)?;
+    let texts = texts_of(alloc, used.as_slice())?;
+    scan(alloc, texts.as_slice())
+}
+
+/// Asserts that the map of a text lists the names and has the mappings, and that these are its canonical
+/// bytes.
+fn is_written(rt: &(impl Abort + AllocGlobal), text: &str, want: &str) {
+    let map = read(rt, text);
+    assert_eq!(rt; map.name_count(), LISTED);
+    assert_eq!(rt; map.token_count(), MAPPINGS);
+    let bytes = canonical(rt.alloc(), &map).expect(rt, "there is memory");
+    assert!(rt; bytes.as_slice() == want.as_bytes());
+}
+
 #[test]
 fn names_are_numbered_as_a_scan_numbers_them(rt: HostRuntime) -> Result<(), Fail> {
-    let used = used(rt.alloc())?;
-    let texts = texts_of(rt.alloc(), used.as_slice())?;
-    let scanned = scan(rt.alloc(), texts.as_slice())?;
+    let scanned = scanned_names(rt.alloc())?;
     // Of 45 distinct names 37 are used, by 68 mappings.
     assert_eq!(rt; scanned.distinct.len(), 37);
     assert_eq!(rt; scanned.places.len(), 68);
@@ -157,10 +174,6 @@ fn names_are_numbered_as_a_scan_numbers_them(rt: HostRuntime) -> Result<(), Fail
         scanned.places.as_slice(),
     )?;
     let text = map_text(rt.alloc())?;
-    let map = read(&rt, text.as_str());
-    assert_eq!(rt; map.name_count(), LISTED);
-    assert_eq!(rt; map.token_count(), MAPPINGS);
-    let bytes = canonical(rt.alloc(), &map)?;
-    assert!(rt; bytes.as_slice() == want.as_bytes());
+    is_written(&rt, text.as_str(), want.as_str());
     Ok(())
 }

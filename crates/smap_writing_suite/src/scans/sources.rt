@@ -1,6 +1,7 @@
 //! Which listed sources are equal, by a linear scan.
-use super::{joined, push_item, read, scan};
-use smap_record::SourceMap;
+use super::{Scanned, joined, push_item, scan};
+use crate::reading::read;
+use smap_record::{SourceMap, SourceView};
 use std::alloc::{AllocError, Global};
 use std::process::Abort;
 use std::test::Fail;
@@ -12,6 +13,14 @@ fn are_numbered(rt: &impl Abort, map: &SourceMap, numbers: &[usize]) {
         assert!(rt; i < map.listed_count());
         assert_eq!(rt; map.listed(i), numbers[i]);
     }
+}
+
+/// Asserts that the map of a text has this many distinct sources, and that its listed sources have these
+/// indices among them.
+fn lists(rt: &(impl Abort + AllocGlobal), text: &str, distinct: usize, numbers: &[usize]) {
+    let map = read(rt, text);
+    assert_eq!(rt; map.source_count(), distinct);
+    are_numbered(rt, &map, numbers);
 }
 
 /// A map that lists a source `s0.js`, `s1.js` and so on for each of these numbers.
@@ -38,10 +47,8 @@ fn in_turn(alloc: Global) -> Result<Vec<usize>, AllocError> {
 fn five_thousand_sources_are_five(rt: HostRuntime) -> Result<(), Fail> {
     let numbers = in_turn(rt.alloc())?;
     let text = listing(rt.alloc(), numbers.as_slice())?;
-    let map = read(&rt, text.as_str());
-    assert_eq!(rt; map.source_count(), 5);
-    assert_eq!(rt; map.listed_count(), 5000);
-    are_numbered(&rt, &map, numbers.as_slice());
+    assert_eq!(rt; numbers.len(), 5000);
+    lists(&rt, text.as_str(), 5, numbers.as_slice());
     Ok(())
 }
 
@@ -59,9 +66,8 @@ fn many_urls_are_numbered_as_a_scan_numbers_them(rt: HostRuntime) -> Result<(), 
     let numbers = scrambled(rt.alloc())?;
     let text = listing(rt.alloc(), numbers.as_slice())?;
     let scanned = scan(rt.alloc(), numbers.as_slice())?;
-    let map = read(&rt, text.as_str());
-    assert_eq!(rt; map.source_count(), scanned.distinct.len());
-    are_numbered(&rt, &map, scanned.places.as_slice());
+    let distinct = scanned.distinct.len();
+    lists(&rt, text.as_str(), distinct, scanned.places.as_slice());
     Ok(())
 }
 
@@ -86,7 +92,7 @@ const B: Option<&str> = Some("http://h/b.js");
 
 /// Sources of several kinds: how each is written, its URL, its content, and whether it is ignored. Some that
 /// are written differently are equal, and some that are written alike are not.
-const KINDS: [(Option<&str>, Option<&str>, Option<&str>, bool); 17] = [
+const KINDS: &[(Option<&str>, Option<&str>, Option<&str>, bool); 17] = &[
     (Some("a.js"), A, None, false),
     (Some("a.js"), A, Some("t"), false),
     (Some("a.js"), A, Some("u"), false),
@@ -194,17 +200,28 @@ fn listing_of_kinds(alloc: Global, list: &[ListedSource]) -> Result<String, Allo
     joined(alloc, &pieces)
 }
 
+/// Asserts that a map's source is this one.
+fn is_source(rt: &impl Abort, seen: SourceView<'_>, source: Source) {
+    assert!(rt; seen.url == source.url);
+    assert!(rt; seen.content == source.content);
+    assert!(rt; seen.ignored == source.ignored);
+}
+
 /// Asserts that the distinct sources are these.
 fn are_sources(rt: &impl Abort, map: &SourceMap, sources: &[Source]) {
     assert_eq!(rt; map.source_count(), sources.len());
     for i in 0..sources.len() {
         assert!(rt; i < map.source_count());
-        let seen = map.source(i);
-        let source = sources[i];
-        assert!(rt; seen.url == source.url);
-        assert!(rt; seen.content == source.content);
-        assert!(rt; seen.ignored == source.ignored);
+        is_source(rt, map.source(i), sources[i]);
     }
+}
+
+/// Asserts that the distinct sources of the map of a text are these, and that its listed sources have these
+/// indices among them.
+fn lists_sources(rt: &(impl Abort + AllocGlobal), text: &str, scanned: &Scanned<Source>) {
+    let map = read(rt, text);
+    are_sources(rt, &map, scanned.distinct.as_slice());
+    are_numbered(rt, &map, scanned.places.as_slice());
 }
 
 #[test]
@@ -215,8 +232,6 @@ fn sources_of_all_kinds_are_numbered_as_a_scan_numbers_them(rt: HostRuntime) -> 
     // Found by hand: the rows of the table without those that are equal to an earlier one.
     assert_eq!(rt; scanned.distinct.len(), 12);
     let text = listing_of_kinds(rt.alloc(), list.as_slice())?;
-    let map = read(&rt, text.as_str());
-    are_sources(&rt, &map, scanned.distinct.as_slice());
-    are_numbered(&rt, &map, scanned.places.as_slice());
+    lists_sources(&rt, text.as_str(), &scanned);
     Ok(())
 }
