@@ -1,6 +1,18 @@
 //! The rows of the table of frames.
 use smap_trace::frame;
+use std::process::Abort;
 use std::test::Fail;
+
+/// Asserts that the line is a frame with these parts.
+fn is_frame(rt: &impl Abort, line: &str, before: &str, url: &str, places: (u32, u32), after: &str) {
+    let Some(found) = frame(line.as_bytes()) else {
+        panic!(rt; "{line}");
+    };
+    assert_eq!(rt; found.before, before.as_bytes(), "{line}");
+    assert_eq!(rt; found.url, url.as_bytes(), "{line}");
+    assert_eq!(rt; (found.line, found.column), places, "{line}");
+    assert_eq!(rt; found.after, after.as_bytes(), "{line}");
+}
 
 #[test]
 fn lines_of_v8_and_firefox_are_frames(rt: HostRuntime) {
@@ -44,13 +56,7 @@ fn lines_of_v8_and_firefox_are_frames(rt: HostRuntime) {
         ),
         ("at a (b) (u:1:2)", "at a (b) (", "u", (1, 2), ")"),
     ] {
-        let Some(found) = frame(line.as_bytes()) else {
-            panic!(rt; "{line}");
-        };
-        assert_eq!(rt; found.before, before.as_bytes(), "{line}");
-        assert_eq!(rt; found.url, url.as_bytes(), "{line}");
-        assert_eq!(rt; (found.line, found.column), places, "{line}");
-        assert_eq!(rt; found.after, after.as_bytes(), "{line}");
+        is_frame(&rt, line, before, url, places, after);
     }
 }
 

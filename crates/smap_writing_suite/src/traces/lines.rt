@@ -1,6 +1,7 @@
 //! Translations of single lines.
-use super::read;
+use crate::reading::read;
 use smap_trace::{LineOutcome, distinct_scripts, translate_line};
+use std::process::Abort;
 use std::test::Fail;
 
 const NAMED: &str = r#"{"version":3,"sources":["a.js"],"mappings":"AAAA"}"#;
@@ -10,6 +11,24 @@ const NULL: &str = r#"{"version":3,"sources":[null],"mappings":"AAAA"}"#;
 const NULL_IGNORED: &str = r#"{"version":3,"sources":[null],"ignoreList":[0],"mappings":"AAAA"}"#;
 
 const UNMAPPED: &str = r#"{"version":3,"mappings":"A"}"#;
+
+/// Asserts that a line, with this map for the script `u`, has this outcome, and that this is then in the
+/// output, which held `> ` before.
+fn is_translated(
+    rt: &(impl Abort + AllocGlobal),
+    map: &str,
+    hide: bool,
+    line: &str,
+    outcome: LineOutcome,
+    expected: &str,
+) -> Result<(), Fail> {
+    let map = read(rt, map);
+    let mut out = Vec::from_slice(rt.alloc(), b"> ")?;
+    let answer = translate_line(line.as_bytes(), &[("u", &map)], hide, &mut out);
+    assert_eq!(rt; answer, Ok(outcome), "{line}");
+    assert_eq!(rt; out.as_slice(), expected.as_bytes(), "{line}");
+    Ok(())
+}
 
 #[test]
 fn a_line_is_kept_translated_or_dropped(rt: HostRuntime) -> Result<(), Fail> {
@@ -56,11 +75,7 @@ fn a_line_is_kept_translated_or_dropped(rt: HostRuntime) -> Result<(), Fail> {
         ),
         (NULL_IGNORED, true, "@u:1:1\n", LineOutcome::Dropped, "> "),
     ] {
-        let map = read(&rt, map);
-        let mut out = Vec::from_slice(rt.alloc(), b"> ")?;
-        let answer = translate_line(line.as_bytes(), &[("u", &map)], hide, &mut out);
-        assert_eq!(rt; answer, Ok(outcome), "{line}");
-        assert_eq!(rt; out.as_slice(), expected.as_bytes(), "{line}");
+        is_translated(&rt, map, hide, line, outcome, expected)?;
     }
     Ok(())
 }

@@ -3,11 +3,12 @@ ghost use Rattle.std.specs.Prelude.{map};
 ghost use Rattle.smap_record.specs.Fitting.{mapping_position};
 ghost use Rattle.smap_record.specs.Record.{record_of};
 
-use super::read;
+use crate::reading::read;
 use smap_record::{SourceMap, TokenView};
 use smap_trace::{Positions, lookup, search};
 use std::alloc::{AllocError, Global};
 use std::fmt::Write;
+use std::process::Abort;
 use std::test::Fail;
 
 const SECTIONS: &str = r#"{"version":3,"sections":[
@@ -37,6 +38,21 @@ fn told(alloc: Global, found: Option<TokenView>) -> Result<String, Fail> {
     )?)
 }
 
+/// Asserts what a lookup in the map of a text tells.
+fn falls_to(
+    rt: &(impl Abort + AllocGlobal),
+    text: &str,
+    line: u32,
+    column: u32,
+    expected: &str,
+) -> Result<(), Fail> {
+    let map = read(rt, text);
+    let (found, _probes) = lookup(&map, line, column);
+    let answer = told(rt.alloc(), found)?;
+    assert_eq!(rt; answer.as_str(), expected, "{line} {column} in {text}");
+    Ok(())
+}
+
 #[test]
 fn a_position_falls_to_the_last_mapping_of_its_line(rt: HostRuntime) -> Result<(), Fail> {
     for (text, line, column, expected) in [
@@ -50,10 +66,7 @@ fn a_position_falls_to_the_last_mapping_of_its_line(rt: HostRuntime) -> Result<(
         (UNMAPPED, 0, 7, "0:0 unmapped"),
         (TIES, 0, 0, "0:0 http://h/m/a.js:1:0 unnamed"),
     ] {
-        let map = read(&rt, text);
-        let (found, _probes) = lookup(&map, line, column);
-        let answer = told(rt.alloc(), found)?;
-        assert_eq!(rt; answer.as_str(), expected, "{line} {column} in {text}");
+        falls_to(&rt, text, line, column, expected)?;
     }
     Ok(())
 }
@@ -112,6 +125,42 @@ fn crowded(alloc: Global, mappings: usize) -> Result<String, AllocError> {
     Ok(text)
 }
 
+/// Asserts that a lookup finds what a scan finds, with the probes of `search`, and returns how many they are.
+fn probes_at(
+    rt: &(impl Abort + AllocGlobal),
+    map: &SourceMap,
+    line: u32,
+    column: u32,
+) -> Result<u32, Fail> {
+    let (found, probes) = lookup(map, line, column);
+    let counted = count_of_search(map, line, column);
+    assert_eq!(rt; probes, counted, "{line} {column}");
+    let answer = told(rt.alloc(), found)?;
+    let expected = told(rt.alloc(), scanned(map, line, column))?;
+    assert_eq!(rt; answer.as_str(), expected.as_str(), "{line} {column}");
+    Ok(probes)
+}
+
+/// Asserts of the first columns of a line that a lookup finds what a scan finds, with no fewer and no more
+/// probes than these.
+fn are_found(
+    rt: &(impl Abort + AllocGlobal),
+    map: &SourceMap,
+    line: u32,
+    columns: u32,
+    least: u32,
+    most: u32,
+) -> Result<(), Fail> {
+    for column in 0..columns {
+        let probes = probes_at(rt, map, line, column)?;
+        assert!(rt;
+            least <= probes && probes <= most,
+            "{probes} at {line} {column}"
+        );
+    }
+    Ok(())
+}
+
 #[test]
 fn probes_are_few_and_the_answer_is_that_of_a_scan(rt: HostRuntime) -> Result<(), Fail> {
     let thousand = crowded(rt.alloc(), 1000)?;
@@ -125,21 +174,7 @@ fn probes_are_few_and_the_answer_is_that_of_a_scan(rt: HostRuntime) -> Result<()
     ] {
         let map = read(&rt, text);
         for line in 0..3 {
-            for column in 0..columns {
-                let (found, probes) = lookup(&map, line, column);
-                assert!(rt;
-                    least <= probes && probes <= most,
-                    "{probes} at {line} {column}"
-                );
-                assert_eq!(rt;
-                    probes,
-                    count_of_search(&map, line, column),
-                    "{line} {column}"
-                );
-                let answer = told(rt.alloc(), found)?;
-                let expected = told(rt.alloc(), scanned(&map, line, column))?;
-                assert_eq!(rt; answer.as_str(), expected.as_str(), "{line} {column}");
-            }
+            are_found(&rt, &map, line, columns, least, most)?;
         }
     }
     Ok(())

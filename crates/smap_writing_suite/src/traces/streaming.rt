@@ -1,11 +1,14 @@
 //! Whole traces, with readers and writers that move few bytes at a time, fail, count, or watch each other.
-use super::read;
+ghost use Rattle.std.specs.Prelude.{◌<◌};
+
+use crate::reading::read;
 use smap_io::Device;
 use smap_record::SourceMap;
 use smap_testing::{SlowReader, SlowWriter, WatchedWriter, WatchingReader};
 use smap_trace::{Counts, TraceError, translate};
 use std::alloc::{AllocError, Global};
 use std::cell::Cell;
+use std::process::Abort;
 use std::test::Fail;
 
 const MAP: &str = r#"{"version":3,"sources":["a.js"],"mappings":"AAUE,IAEA"}"#;
@@ -103,6 +106,41 @@ fn run<'a>(
     (answer, reader.into_inner(), writer.into_inner())
 }
 
+/// A trace that is translated with a map, and what comes of it.
+#[derive(Clone, Copy)]
+struct Case<'a> {
+    map: &'a str,
+    hide: bool,
+    trace: &'a str,
+    written: &'a str,
+    counts: Counts,
+}
+
+/// Asserts what comes of a case, with its map and with this many bytes a call.
+fn is_told(rt: &(impl Abort + AllocGlobal), map: &SourceMap, case: Case<'_>, step: usize)
+    requires { 0 < step }
+{
+    let reader = SlowReader::new(case.trace.as_bytes(), step, 0);
+    let writer = SlowWriter::new(rt.alloc(), step, 0);
+    let (answer, _reader, writer) = run(rt.alloc(), map, case.hide, reader, writer);
+    assert_eq!(rt; answer, Ok(case.counts), "{step} bytes a call");
+    assert_eq!(rt;
+        writer.bytes.as_slice(),
+        case.written.as_bytes(),
+        "{step} bytes a call"
+    );
+    assert_eq!(rt; writer.flushes, 1, "{step} bytes a call");
+    assert!(rt; !writer.written_after_flush, "{step} bytes a call");
+}
+
+/// Asserts what comes of a case, with few bytes a call and with many.
+fn is_told_by_steps(rt: &(impl Abort + AllocGlobal), case: Case<'_>) {
+    let map = read(rt, case.map);
+    for step in [1, 2, 7, 50, 1000] {
+        is_told(rt, &map, case, step);
+    }
+}
+
 #[test]
 fn the_worked_trace_is_told_with_its_counts(rt: HostRuntime) -> Result<(), Fail> {
     let texts = worked(rt.alloc())?;
@@ -115,22 +153,56 @@ fn the_worked_trace_is_told_with_its_counts(rt: HostRuntime) -> Result<(), Fail>
         (IGNORED, true, trace, texts.left.as_str(), HIDDEN),
         (MAP, false, "", "", NONE),
     ] {
-        let map = read(&rt, map);
-        for step in [1, 2, 7, 50, 1000] {
-            let reader = SlowReader::new(trace.as_bytes(), step, 0);
-            let writer = SlowWriter::new(rt.alloc(), step, 0);
-            let (answer, _reader, writer) = run(rt.alloc(), &map, hide, reader, writer);
-            assert_eq!(rt; answer, Ok(counts), "{step} bytes a call");
-            assert_eq!(rt;
-                writer.bytes.as_slice(),
-                written.as_bytes(),
-                "{step} bytes a call"
-            );
-            assert_eq!(rt; writer.flushes, 1, "{step} bytes a call");
-            assert!(rt; !writer.written_after_flush, "{step} bytes a call");
-        }
+        let case = Case {
+            map,
+            hide,
+            trace,
+            written,
+            counts,
+        };
+        is_told_by_steps(&rt, case);
     }
     Ok(())
+}
+
+/// How many reads and how many writes and flushes it takes to translate a trace, 50 bytes a call.
+fn calls(alloc: Global, map: &SourceMap, trace: &[u8]) -> (u64, u64) {
+    let reader = SlowReader::new(trace, 50, 0);
+    let writer = SlowWriter::new(alloc, 50, 0);
+    let (_answer, reader, writer) = run(alloc, map, false, reader, writer);
+    (reader.calls, writer.calls)
+}
+
+/// Asserts that a translation ends with the k-th read if that fails.
+fn ends_with_read(rt: &(impl Abort + AllocGlobal), map: &SourceMap, trace: &[u8], k: u64) {
+    let reader = SlowReader::new(trace, 50, k);
+    let writer = SlowWriter::new(rt.alloc(), 50, 0);
+    let (answer, reader, writer) = run(rt.alloc(), map, false, reader, writer);
+    assert_eq!(rt; answer, Err(TraceError::Read), "read {k}");
+    assert_eq!(rt; reader.calls, k, "read {k}");
+    assert_eq!(rt; writer.flushes, 0, "read {k}");
+}
+
+/// Asserts that a translation ends with the k-th write if that fails, and what it wrote before is right.
+fn ends_with_write(rt: &(impl Abort + AllocGlobal), map: &SourceMap, texts: &Texts, k: u64) {
+    let reader = SlowReader::new(texts.trace.as_bytes(), 50, 0);
+    let writer = SlowWriter::new(rt.alloc(), 50, k);
+    let (answer, _reader, writer) = run(rt.alloc(), map, false, reader, writer);
+    assert_eq!(rt; answer, Err(TraceError::Write), "write {k}");
+    assert_eq!(rt; writer.calls, k, "write {k}");
+    assert!(rt;
+        texts.told.as_bytes().starts_with(&writer.bytes),
+        "write {k}"
+    );
+}
+
+/// Asserts that a translation ends with the first write if the writer takes nothing.
+fn ends_if_nothing_is_taken(rt: &(impl Abort + AllocGlobal), map: &SourceMap, trace: &[u8]) {
+    let reader = SlowReader::new(trace, 50, 0);
+    let writer = SlowWriter::new(rt.alloc(), 0, 0);
+    let (answer, _reader, writer) = run(rt.alloc(), map, false, reader, writer);
+    assert_eq!(rt; answer, Err(TraceError::Write));
+    assert_eq!(rt; writer.calls, 1);
 }
 
 #[test]
@@ -138,46 +210,21 @@ fn a_call_that_fails_gives_the_trace_up(rt: HostRuntime) -> Result<(), Fail> {
     let texts = worked(rt.alloc())?;
     let trace = texts.trace.as_bytes();
     let map = read(&rt, MAP);
-    let reader = SlowReader::new(trace, 50, 0);
-    let writer = SlowWriter::new(rt.alloc(), 50, 0);
-    let (_answer, reader, writer) = run(rt.alloc(), &map, false, reader, writer);
-    let reads = reader.calls;
-    let writes = writer.calls;
+    let (reads, writes) = calls(rt.alloc(), &map, trace);
     assert_eq!(rt; reads, trace.len().div_ceil(50) as u64 + 1);
     for k in 1..reads.saturating_add(1) {
-        let reader = SlowReader::new(trace, 50, k);
-        let writer = SlowWriter::new(rt.alloc(), 50, 0);
-        let (answer, reader, writer) = run(rt.alloc(), &map, false, reader, writer);
-        assert_eq!(rt; answer, Err(TraceError::Read), "read {k}");
-        assert_eq!(rt; reader.calls, k, "read {k}");
-        assert_eq!(rt; writer.flushes, 0, "read {k}");
+        ends_with_read(&rt, &map, trace, k);
     }
     for k in 1..writes.saturating_add(1) {
-        let reader = SlowReader::new(trace, 50, 0);
-        let writer = SlowWriter::new(rt.alloc(), 50, k);
-        let (answer, _reader, writer) = run(rt.alloc(), &map, false, reader, writer);
-        assert_eq!(rt; answer, Err(TraceError::Write), "write {k}");
-        assert_eq!(rt; writer.calls, k, "write {k}");
-        assert!(rt;
-            texts.told.as_bytes().starts_with(&writer.bytes),
-            "write {k}"
-        );
+        ends_with_write(&rt, &map, &texts, k);
     }
-    let reader = SlowReader::new(trace, 50, 0);
-    let writer = SlowWriter::new(rt.alloc(), 0, 0);
-    let (answer, _reader, writer) = run(rt.alloc(), &map, false, reader, writer);
-    assert_eq!(rt; answer, Err(TraceError::Write));
-    assert_eq!(rt; writer.calls, 1);
+    ends_if_nothing_is_taken(&rt, &map, trace);
     Ok(())
 }
 
-#[test]
-fn a_piece_is_one_read_and_one_write(rt: HostRuntime) -> Result<(), Fail> {
-    let map = read(&rt, MAP);
-    let mut trace = String::new(rt.alloc());
-    for _ in 0..10000 {
-        trace.push_str("    at f (http://h/m/out.js:1:2)\n")?;
-    }
+/// Asserts that all 10,000 lines of a trace are translated, in as many reads and writes as there are pieces.
+fn is_told_by_pieces(rt: &(impl Abort + AllocGlobal), trace: &str) {
+    let map = read(rt, MAP);
     let pieces = trace.len() / 65536 + 1;
     let reader = SlowReader::new(trace.as_bytes(), 1000000, 0);
     let writer = SlowWriter::new(rt.alloc(), 1000000, 0);
@@ -191,6 +238,15 @@ fn a_piece_is_one_read_and_one_write(rt: HostRuntime) -> Result<(), Fail> {
     assert_eq!(rt; reader.calls, pieces as u64 + 1);
     assert_eq!(rt; writer.calls, pieces as u64 + 1);
     assert_eq!(rt; writer.flushes, 1);
+}
+
+#[test]
+fn a_piece_is_one_read_and_one_write(rt: HostRuntime) -> Result<(), Fail> {
+    let mut trace = String::new(rt.alloc());
+    for _ in 0..10000 {
+        trace.push_str("    at f (http://h/m/out.js:1:2)\n")?;
+    }
+    is_told_by_pieces(&rt, trace.as_str());
     Ok(())
 }
 
@@ -225,14 +281,10 @@ fn complete_lines_are_written_before_the_next_read(rt: HostRuntime) -> Result<()
     Ok(())
 }
 
-#[test]
-fn a_line_of_a_million_bytes_is_kept(rt: HostRuntime) -> Result<(), Fail> {
-    let map = read(&rt, MAP);
-    let mut trace = Vec::from_slice(rt.alloc(), b"@http://h/m/out.js:1:1\n")?;
-    for _ in 0..1000000 {
-        trace.push(b'@')?;
-    }
-    let reader = SlowReader::new(&trace, 1000000, 0);
+/// Asserts that a line with a frame is translated, and the line of `@` after it is kept.
+fn are_two_lines(rt: &(impl Abort + AllocGlobal), trace: &[u8]) {
+    let map = read(rt, MAP);
+    let reader = SlowReader::new(trace, 1000000, 0);
     let writer = SlowWriter::new(rt.alloc(), 1000000, 0);
     let (answer, _reader, writer) = run(rt.alloc(), &map, false, reader, writer);
     let counts = Counts {
@@ -243,5 +295,14 @@ fn a_line_of_a_million_bytes_is_kept(rt: HostRuntime) -> Result<(), Fail> {
     assert_eq!(rt; answer, Ok(counts));
     assert!(rt; writer.bytes.starts_with(b"@http://h/m/a.js:11:3\n@@"));
     assert_eq!(rt; writer.bytes.len(), 1000022);
+}
+
+#[test]
+fn a_line_of_a_million_bytes_is_kept(rt: HostRuntime) -> Result<(), Fail> {
+    let mut trace = Vec::from_slice(rt.alloc(), b"@http://h/m/out.js:1:1\n")?;
+    for _ in 0..1000000 {
+        trace.push(b'@')?;
+    }
+    are_two_lines(&rt, &trace);
     Ok(())
 }
