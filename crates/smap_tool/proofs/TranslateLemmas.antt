@@ -4,7 +4,7 @@ use Rattle.std.proofs.Common.{length, Option, Result, Ok, Err, refl, sym, subst,
 use Rattle.std.proofs.Common.{length-append}
 use Rattle.std.proofs.KnownBytes.{Keeps-refl}
 use Rattle.smap_io.specs.declared.device.Device.{Device}
-use Rattle.smap_io.specs.Device.{device_failures}
+use Rattle.smap_io.specs.Device.{device_failures, has_ended}
 use Rattle.smap_io.specs.Reading.{Gave}
 use Rattle.smap_io.specs.Streams.{ReaderFailsOrTires, ReadsTooMuch, RisesOr, WriterFails, fails_by, streams}
 use Rattle.smap_io.proofs.ReadingLemmas.{Gave-then}
@@ -14,13 +14,14 @@ use Rattle.smap_tool.specs.declared.outcome.Outcome.{Outcome}
 use Rattle.smap_tool.specs.declared.outcome.Outcome.TheVariants.{Done, Refused}
 use Rattle.smap_tool.specs.declared.outcome.RunFault.{RunFault}
 use Rattle.smap_tool.specs.declared.outcome.RunFault.TheVariants as run
-use Rattle.smap_trace.specs.Streaming.{WritesPrefix}
+use Rattle.smap_trace.specs.Streaming.{WritesComplete, WritesPrefix, complete_of}
 use Rattle.smap_trace.specs.Translation.{Script, translation}
 use Rattle.smap_bundle.specs.Header.{trace_line}
 use Rattle.smap_bundle.specs.Bundle.{IsAnswer, BeginsWithEntries, refused}
 use Rattle.smap_bundle.specs.Entries.{TakesEntries}
 use Rattle.smap_bundle.specs.Reach.{ReadsNoMore}
-use Rattle.smap_tool.specs.Translate.{GaveUp, RunTranslates, RunsTranslate, TranslatesTrace, WritesRefusal}
+use Rattle.smap_tool.specs.Translate.{CompleteAfterTrace, GaveUp, PrefixAfterTrace, RunTranslates}
+use Rattle.smap_tool.specs.Translate.{RunsTranslate, TranslatesTrace, WritesRefusal}
 use Rattle.smap_bundle.specs.Stopping.{Settled, Stops}
 use Rattle.smap_bundle.specs.declared.fault.BundleFault.TheVariants as fault
 use Rattle.smap_bundle.specs.declared.fault.Refusal.{Refusal}
@@ -41,18 +42,37 @@ module _ {R W : Type 0} (remaining : R → Option (List ℕ)) (contents : W → 
     distinct = t.distinct;
   }
 
-  gave_up : WritesPrefix scripts hide (streams remaining rm rn contents wo wn)
-      → GaveUp hide (streams remaining ro rn contents wo wn)
-  gave_up w = record {
+  complete : WritesComplete scripts hide (streams remaining rm rn contents wo wn)
+      → GaveUp (CompleteAfterTrace hide) (streams remaining ro rn contents wo wn)
+  complete w = record {
     input = (t.entries ++ trace_line) ++ w.bytes;
-    front = w.front;
+    text = translation scripts hide (complete_of w.bytes);
     read = Gave-then remaining ro rm rn (t.entries ++ trace_line) w.bytes t.gave w.read;
     written = w.written;
-    is_front = inr (record {
+    is_written = inr (record {
       scripts = scripts;
       trace = w.bytes;
-      rest = w.rest;
       reads = reads_all w.bytes;
+      is = refl;
+    });
+  }
+
+  in_part : WritesPrefix scripts hide (streams remaining rm rn contents wo wn)
+      → GaveUp (PrefixAfterTrace hide (has_ended rn)) (streams remaining ro rn contents wo wn)
+  in_part w = record {
+    input = (t.entries ++ trace_line) ++ (w.before ++ w.piece);
+    text = translation scripts hide (complete_of w.before) ++ w.front;
+    read = Gave-then remaining ro rm rn (t.entries ++ trace_line) (w.before ++ w.piece) t.gave w.read;
+    written = w.written;
+    is_written = inr (record {
+      scripts = scripts;
+      before = w.before;
+      piece = w.piece;
+      front = w.front;
+      rest = w.rest;
+      reads = reads_all (w.before ++ w.piece);
+      within = w.within;
+      is = refl;
       is_front = w.is_front;
     });
   }
@@ -71,9 +91,9 @@ module _ {R W : Type 0} (remaining : R → Option (List ℕ)) (contents : W → 
   )
   told (Ok Refused) w = absurd w
   told (Err run.TooLong) w = absurd w
-  told (Err run.Read) w = gave_up w
-  told (Err run.Memory) w = gave_up w
-  told (Err run.Write) w = inl (gave_up w)
+  told (Err run.Read) w = complete w
+  told (Err run.Memory) w = in_part w
+  told (Err run.Write) w = inl (in_part w)
 
   tired : (b : Bool) → RisesOr (ReadsTooMuch (streams remaining rm rn contents wo wn)) b (device_failures rm)
       (device_failures rn)
@@ -107,14 +127,14 @@ module _ {R W : Type 0} (remaining : R → Option (List ℕ)) (contents : W → 
 
 module _ {R W : Type 0} (remaining : R → Option (List ℕ)) (contents : W → Option (List ℕ)) (hide : Bool)
     (ro rn : Device R) where
-  nothing_written : (w : Device W) (bytes : List ℕ) → Gave remaining ro rn bytes
-      → GaveUp hide (streams remaining ro rn contents w w)
-  nothing_written w bytes gave = record {
+  nothing_written : (IsWritten : List ℕ → List ℕ → Type 0) (w : Device W) (bytes : List ℕ)
+      → Gave remaining ro rn bytes → GaveUp IsWritten (streams remaining ro rn contents w w)
+  nothing_written IsWritten w bytes gave = record {
     input = bytes;
-    front = [];
+    text = [];
     read = gave;
     written = Took-none contents w;
-    is_front = inl refl;
+    is_written = inl refl;
   }
 
   -- a bundle that is refused
@@ -137,7 +157,7 @@ module _ {R W : Type 0} (remaining : R → Option (List ℕ)) (contents : W → 
       subst (λ (x : Device W). RunsTranslate hide (streams remaining ro rn contents wo x) (Err run.Memory))
       (sym w)
       (record {
-        translates = nothing_written wo s.bytes s.gave;
+        translates = nothing_written (PrefixAfterTrace hide (has_ended rn)) wo s.bytes s.gave;
         reader_failures = same;
         writer_failures = refl;
       })
@@ -168,7 +188,7 @@ module _ {R W : Type 0} (remaining : R → Option (List ℕ)) (contents : W → 
   pub unread_run : (w : Device W) → Stops remaining ro rn MOST_CALLS (IsAnswer hide) ReadsNoMore fault.Read
       → RunsTranslate hide (streams remaining ro rn contents w w) (Err run.Read)
   unread_run w s = record {
-    translates = nothing_written w s.0 s.1;
+    translates = nothing_written (CompleteAfterTrace hide) w s.0 s.1;
     reader_failures = blamed s.2;
     writer_failures = refl;
   }
@@ -183,7 +203,7 @@ module _ {R W : Type 0} (remaining : R → Option (List ℕ)) (contents : W → 
   pub memory_run : (w : Device W) → Stops remaining ro rn MOST_CALLS (IsAnswer hide) ReadsNoMore fault.Memory
       → RunsTranslate hide (streams remaining ro rn contents w w) (Err run.Memory)
   memory_run w s = record {
-    translates = nothing_written w s.0 s.1;
+    translates = nothing_written (PrefixAfterTrace hide (has_ended rn)) w s.0 s.1;
     reader_failures = s.2;
     writer_failures = refl;
   }

@@ -1,13 +1,14 @@
 -- What the run `translate` has read and written when it answers.
-use Rattle.std.specs.Prelude.{◌≡◌, ◌⊎◌, ℕ, ◌+◌, Bool, true, List, [], ◌∷◌, ◌++◌, take, Option, Result}
-use Rattle.std.specs.Prelude.{Ok, Err}
+use Rattle.std.specs.Prelude.{◌≡◌, ◌⊎◌, ℕ, ◌+◌, ◌≤◌, Bool, true, List, [], ◌∷◌, ◌++◌, length, take, Option}
+use Rattle.std.specs.Prelude.{Result, Ok, Err}
 use Rattle.std.specs.Io.KnownBytes.{IsAtEnd}
 use Rattle.smap_io.specs.declared.device.Device.{Device}
 use Rattle.smap_io.specs.Device.{device_failures}
 use Rattle.smap_io.specs.Streams.{HasRead, HasWritten, HasWrittenNothing, ReaderFailsOrTires, Streams}
 use Rattle.smap_io.specs.Streams.{WriterFails}
 use Rattle.smap_io.specs.Writing.{Took, TookPrefix}
-use Rattle.smap_trace.specs.Streaming.{WritesPrefix, read_lines}
+use Rattle.smap_trace.specs.Streaming.{WritesComplete, WritesPrefix, complete_of, most_of_one_read}
+use Rattle.smap_trace.specs.Streaming.{read_lines}
 use Rattle.smap_trace.specs.Translation.{Script, translation}
 use Rattle.smap_tool.specs.Run.{is_read, is_write}
 use Rattle.smap_tool.specs.declared.outcome.Outcome.{Outcome}
@@ -26,26 +27,35 @@ abbrev pub Settles : Bool → Bool → List ℕ → Answer → Type 0
 Settles hide ended input answer =
     (more : List ℕ) → MayFollow ended more → IsAnswer hide (input ++ more) answer
 
--- A prefix of the translation of the complete lines that were read after the line `trace`.
-pub record AfterTrace (hide ended : Bool) (input front : List ℕ) : Type 0 where
+-- The translation of all complete lines that were read after the line `trace`.
+pub record CompleteAfterTrace (hide : Bool) (input text : List ℕ) : Type 0 where
   pub scripts : List Script
   pub trace : List ℕ
-  pub rest : List ℕ
   pub reads : BeginsWithEntries input scripts (trace_line ++ trace)
-  pub is_front : translation scripts hide (read_lines ended trace) ≡ front ++ rest
+  pub is : text ≡ translation scripts hide (complete_of trace)
 
--- What a run that gave up has written, unless the bundle has a fault: nothing until the line `trace` was
--- read.
-abbrev pub IsWrittenPrefix : Bool → Bool → List ℕ → List ℕ → Type 0
-IsWrittenPrefix hide ended input front = (front ≡ []) ⊎ AfterTrace hide ended input front
-
--- What was read and written by a run that gave up.
-pub record GaveUp (hide : Bool) (s : Streams) : Type 0 where
-  pub input : List ℕ
+-- After the line `trace`, what was read ends with a piece that one read gave, or none. The text is the
+-- translation of all lines that were complete before it, and of the other lines a prefix.
+pub record PrefixAfterTrace (hide ended : Bool) (input text : List ℕ) : Type 0 where
+  pub scripts : List Script
+  pub before : List ℕ
+  pub piece : List ℕ
   pub front : List ℕ
+  pub rest : List ℕ
+  pub reads : BeginsWithEntries input scripts (trace_line ++ (before ++ piece))
+  pub within : length piece ≤ most_of_one_read
+  pub is : text ≡ translation scripts hide (complete_of before) ++ front
+  pub is_front : translation scripts hide (read_lines ended (before ++ piece))
+      ≡ translation scripts hide (complete_of before) ++ (front ++ rest)
+
+-- What was read and written by a run that gave up, unless the bundle has a fault: nothing was written until
+-- the line `trace` was read.
+pub record GaveUp (IsWritten : List ℕ → List ℕ → Type 0) (s : Streams) : Type 0 where
+  pub input : List ℕ
+  pub text : List ℕ
   pub read : HasRead s input
-  pub written : HasWritten s front
-  pub is_front : IsWrittenPrefix hide s.ended input front
+  pub written : HasWritten s text
+  pub is_written : (text ≡ []) ⊎ IsWritten input text
 
 -- What was read has a fault, nothing was read past it, and a prefix of its error line was written.
 pub record PrefixOfRefusal (hide : Bool) (s : Streams) : Type 0 where
@@ -69,9 +79,9 @@ RunTranslates hide s (Ok Refused) =
 RunTranslates hide s (Err run.TooLong) =
     (input : List ℕ) × HasRead s input × ((more : List ℕ) → IsAnswer hide (input ++ more) too_long)
     × ReadsNoMore input too_long × HasWrittenNothing s
-RunTranslates hide s (Err run.Read) = GaveUp hide s
-RunTranslates hide s (Err run.Memory) = GaveUp hide s
-RunTranslates hide s (Err run.Write) = GaveUp hide s ⊎ PrefixOfRefusal hide s
+RunTranslates hide s (Err run.Read) = GaveUp (CompleteAfterTrace hide) s
+RunTranslates hide s (Err run.Memory) = GaveUp (PrefixAfterTrace hide s.ended) s
+RunTranslates hide s (Err run.Write) = GaveUp (PrefixAfterTrace hide s.ended) s ⊎ PrefixOfRefusal hide s
 
 -- What the run promises. Read comes with a failure of the reader, or if the limit on reads may have been
 -- reached; Write with one of the writer; and no other answer comes with a failure.
@@ -82,14 +92,14 @@ pub record RunsTranslate (hide : Bool) (s : Streams) (result : Result Outcome Ru
 
 -- ---- the parts of a run
 
--- A trace was translated by these scripts to its end, or a prefix of its translation was written.
+-- A trace was translated by these scripts to its end, or as far as the error says.
 abbrev pub TranslatesTrace : List Script → Bool → Streams → Result Outcome RunFault → Type 0
 TranslatesTrace scripts hide s (Ok Done) =
     (trace : List ℕ) × HasRead s trace × IsAtEnd s.read_after × (s.ended ≡ true) × HasWritten s
     (translation scripts hide trace)
 TranslatesTrace scripts hide s (Ok Refused) = ⊥
 TranslatesTrace scripts hide s (Err run.TooLong) = ⊥
-TranslatesTrace scripts hide s (Err run.Read) = WritesPrefix scripts hide s
+TranslatesTrace scripts hide s (Err run.Read) = WritesComplete scripts hide s
 TranslatesTrace scripts hide s (Err run.Memory) = WritesPrefix scripts hide s
 TranslatesTrace scripts hide s (Err run.Write) = WritesPrefix scripts hide s
 

@@ -14,7 +14,7 @@ use Rattle.std.proofs.lemmas.Bool.Decides.{Decides-eqb}
 use Rattle.smap_trace.specs.Frame.{AreSpaces, IsLineEnd}
 use Rattle.smap_trace.specs.Frame.{BeginsWithAt, lacks}
 use Rattle.smap_trace.specs.Reading.{is_space}
-use Rattle.smap_trace.proofs.CutLemmas.{begins, begins_with}
+use Rattle.smap_trace.proofs.CutLemmas.{begins_with}
 
 -- The body, and the carriage return at the line's end if there is one.
 pub body_cut : (line : List ℕ) → IsLineEnd (drop (length (strip_carriage_return line)) line)

@@ -1,5 +1,6 @@
 -- What was read and written, over a whole run.
-use Rattle.std.proofs.Common.{◌≡◌, ◌∙◌, ℕ, ◌==◌, Bool, true, false, ◌||◌, List, [], ◌∷◌, ◌++◌, take, drop}
+use Rattle.std.proofs.Common.{◌≡◌, ◌∙◌, ℕ, ◌==◌, ◌≤◌, Bool, true, false, not, cond, ◌||◌, List, [], ◌∷◌}
+use Rattle.std.proofs.Common.{◌++◌, take, drop, length, arith}
 use Rattle.std.proofs.Common.{Option, refl, sym, ap, subst, inl, inr, append_assoc, append-nil, Result, Ok}
 use Rattle.std.proofs.Common.{Err, OnOk, OnErr, IfOk}
 use Rattle.std.specs.List.{list_any}
@@ -8,15 +9,17 @@ use Rattle.std.proofs.lemmas.List.{take-append-drop}
 use Rattle.smap_io.specs.declared.device.Device.{Device}
 use Rattle.smap_io.specs.Device.{has_ended}
 use Rattle.smap_io.specs.Reading.{Gave, IsAtItsEnd}
-use Rattle.smap_io.specs.Streams.{streams}
+use Rattle.smap_io.specs.Streams.{fails_by, streams}
 use Rattle.smap_io.specs.Writing.{Took, TookPrefix}
 use Rattle.smap_io.proofs.ReadingLemmas.{Gave-none, Gave-then}
 use Rattle.smap_io.proofs.WritingLemmas.{Took-none, Took-then}
 use Rattle.smap_trace.specs.declared.outcome.Counts.{Counts}
 use Rattle.smap_trace.specs.declared.error.TraceError.{TraceError}
+use Rattle.smap_trace.specs.declared.error.TraceError.TheVariants as error
 use Rattle.smap_trace.proofs.SoFarLemmas.{SoFar}
-use Rattle.smap_trace.specs.Pieces.{IsWhole, Takes, count_lines}
-use Rattle.smap_trace.specs.Streaming.{Translates, WritesPrefix, complete_of, read_lines}
+use Rattle.smap_trace.specs.Pieces.{HasNoFeed, IsWhole, Takes, count_lines}
+use Rattle.smap_trace.specs.Streaming.{Translates, WritesComplete, WritesPrefix, complete_of}
+use Rattle.smap_trace.specs.Streaming.{is_read, most_of_one_read, read_lines}
 use Rattle.smap_trace.specs.Translation.{Script, lines_of, translation}
 use Rattle.smap_trace.proofs.LineLemmas.{translation-append, count_lines-whole}
 use Rattle.smap_trace.proofs.CountLemmas.{counted_all}
@@ -41,6 +44,15 @@ complete_of-append whole more (inr p) =
     rw p.1 (ap complete_of (append_assoc p.0 (10 ∷ []) more) ∙ complete_front p.0 more
     ∙ sym (append_assoc p.0 (10 ∷ []) (complete_of more)))
 
+-- a line that waits for its end isn't complete
+none_complete : (line : List ℕ) → HasNoFeed line → complete_of line ≡ []
+none_complete [] free = refl
+none_complete (b ∷ bs) free = go (list_any (λ c. c == 10) (b ∷ bs)) free
+  where
+    go : (t : Bool) → not t ≡ true → cond t (b ∷ complete_of bs) [] ≡ []
+    go true bad = cc
+    go false none = refl
+
 -- a prefix of what was read gives a prefix of what is written
 pub output_front : (scripts : List Script) (hide : Bool) (whole more : List ℕ) (ended : Bool) → IsWhole whole
     → translation scripts hide (read_lines ended (whole ++ more))
@@ -61,26 +73,45 @@ both_whole a b is (inr p) = inr (
 module _ {R W : Type 0} (remaining : R → Option (List ℕ)) (contents : W → Option (List ℕ))
     (scripts : List Script) (hide : Bool)
     (ro rm rn : Device R) (wo wm wn : Device W) (line : List ℕ) (c : Counts)
-    (s : SoFar scripts hide (streams remaining ro rm contents wo wm) line c) where
-  -- the whole lines were written, and nothing more
-  pub front_so_far : (more : List ℕ) → Gave remaining rm rn more
+    (s : SoFar scripts hide (streams remaining ro rm contents wo wm) line c) (free : HasNoFeed line) where
+  -- the complete lines so far are the whole ones
+  complete_so_far : complete_of (s.whole ++ line) ≡ s.whole
+  complete_so_far = complete_of-append s.whole line s.is_whole
+      ∙ ap (λ (xs : List ℕ). s.whole ++ xs) (none_complete line free) ∙ append-nil s.whole
+
+  -- nothing more was read, and the whole lines were written
+  pub all_so_far : Gave remaining rm rn []
+      → WritesComplete scripts hide (streams remaining ro rn contents wo wm)
+  all_so_far none = record {
+    bytes = s.whole ++ line;
+    read = subst (Gave remaining ro rn) (append-nil (s.whole ++ line))
+        (Gave-then remaining ro rm rn (s.whole ++ line) [] s.read none);
+    written = rw complete_so_far s.written;
+  }
+
+  -- a piece was read, and the whole lines before it were written
+  pub front_so_far : (piece : List ℕ) → length piece ≤ most_of_one_read → Gave remaining rm rn piece
       → WritesPrefix scripts hide (streams remaining ro rn contents wo wm)
-  front_so_far more given = record {
-    bytes = (s.whole ++ line) ++ more;
-    front = translation scripts hide s.whole;
-    rest = translation scripts hide (read_lines (has_ended rn) (line ++ more));
-    read = Gave-then remaining ro rm rn (s.whole ++ line) more s.read given;
-    written = s.written;
-    is_front = ap (λ (xs : List ℕ). translation scripts hide (read_lines (has_ended rn) xs))
-        (append_assoc s.whole line more) ∙ output_front scripts hide s.whole (line ++ more) (has_ended rn)
-        s.is_whole;
+  front_so_far piece within given = record {
+    before = s.whole ++ line;
+    piece = piece;
+    front = [];
+    rest = translation scripts hide (read_lines (has_ended rn) (line ++ piece));
+    read = Gave-then remaining ro rm rn (s.whole ++ line) piece s.read given;
+    within = within;
+    written = rw (complete_so_far, append-nil (translation scripts hide s.whole)) s.written;
+    is_front = rw complete_so_far
+        (ap (λ (xs : List ℕ). translation scripts hide (read_lines (has_ended rn) xs))
+        (append_assoc s.whole line piece) ∙ output_front scripts hide s.whole (line ++ piece) (has_ended rn)
+        s.is_whole);
   }
 
   -- the lines of a piece were written too, in part
-  pub front_with : (piece rest given : List ℕ) (d : Counts) → Gave remaining rm rn piece
+  pub front_with : (piece rest given : List ℕ) (d : Counts) → length piece ≤ most_of_one_read
+      → Gave remaining rm rn piece
       → Takes scripts hide line piece rest [] given c d → TookPrefix contents wm wn given
       → WritesPrefix scripts hide (streams remaining ro rn contents wo wn)
-  front_with piece rest given d read t went =
+  front_with piece rest given d within read t went =
       let bytes = (s.whole ++ line) ++ piece in
       let ended = has_ended rn in
       let split : bytes ≡ s.whole ++ (t.whole ++ rest) = append_assoc s.whole line piece
@@ -95,17 +126,19 @@ module _ {R W : Type 0} (remaining : R → Option (List ℕ)) (contents : W → 
       let cut : translation scripts hide t.whole ≡ take went.0 given ++ drop went.0 given = sym t.given
       ∙ sym (take-append-drop went.0 given) in
       record {
-        bytes = bytes;
-        front = translation scripts hide s.whole ++ take went.0 given;
+        before = s.whole ++ line;
+        piece = piece;
+        front = take went.0 given;
         rest = drop went.0 given ++ last;
         read = Gave-then remaining ro rm rn (s.whole ++ line) piece s.read read;
-        written = Took-then contents wo wm wn (translation scripts hide s.whole) (take went.0 given) s.written
-            went.1;
-        is_front = parts ∙ ap (λ (xs : List ℕ). translation scripts hide s.whole ++ (xs ++ last)) cut
+        within = within;
+        written = rw complete_so_far
+            (Took-then contents wo wm wn (translation scripts hide s.whole) (take went.0 given) s.written
+            went.1);
+        is_front = rw complete_so_far
+            (parts ∙ ap (λ (xs : List ℕ). translation scripts hide s.whole ++ (xs ++ last)) cut
             ∙ ap (λ (xs : List ℕ). translation scripts hide s.whole ++ xs)
-            (append_assoc (take went.0 given) (drop went.0 given) last)
-            ∙ sym (append_assoc (translation scripts hide s.whole) (take went.0 given)
-            (drop went.0 given ++ last));
+            (append_assoc (take went.0 given) (drop went.0 given) last));
       }
 
   -- the lines of a piece were all written
@@ -132,8 +165,9 @@ module _ {R W : Type 0} (remaining : R → Option (List ℕ)) (contents : W → 
       → OnOk r (Took contents wm wn (translation scripts hide given))
       → IfOk r (λ after. after ≡ count_lines scripts hide c (lines_of given))
       → OnErr r (TookPrefix contents wm wn (translation scripts hide given))
+      → fails_by is_read r ≡ false
       → Translates scripts hide (streams remaining ro rn contents wo wn) r
-  at_the_end given r none end same all counts part =
+  at_the_end given r none end same all counts part never =
       let read : Gave remaining ro rn (s.whole ++ line) =
       subst (Gave remaining ro rn) (append-nil (s.whole ++ line))
       (Gave-then remaining ro rm rn (s.whole ++ line) [] s.read none) in
@@ -142,13 +176,33 @@ module _ {R W : Type 0} (remaining : R → Option (List ℕ)) (contents : W → 
       (subst (λ (xs : List ℕ). IfOk r (λ after. after ≡ count_lines scripts hide c (lines_of xs))) same
       counts)
       (subst (λ (xs : List ℕ). OnErr r (TookPrefix contents wm wn (translation scripts hide xs))) same part)
+      never
     where
+      last_in_part : Gave remaining ro rn (s.whole ++ line) → IsAtItsEnd remaining rn
+          → TookPrefix contents wm wn (translation scripts hide line)
+          → WritesPrefix scripts hide (streams remaining ro rn contents wo wn)
+      last_in_part read end part = record {
+        before = s.whole ++ line;
+        piece = [];
+        front = take part.0 (translation scripts hide line);
+        rest = drop part.0 (translation scripts hide line);
+        read = rw (append-nil (s.whole ++ line)) read;
+        within = omega arith;
+        written = rw complete_so_far
+            (Took-then contents wo wm wn (translation scripts hide s.whole)
+            (take part.0 (translation scripts hide line)) s.written part.1);
+        is_front = rw (end.0, append-nil (s.whole ++ line), complete_so_far)
+            (translation-append scripts hide s.whole line s.is_whole
+            ∙ ap (λ (xs : List ℕ). translation scripts hide s.whole ++ xs)
+            (sym (take-append-drop part.0 (translation scripts hide line))));
+      }
+
       answered : (r : Result Counts TraceError) → Gave remaining ro rn (s.whole ++ line)
           → IsAtItsEnd remaining rn → OnOk r (Took contents wm wn (translation scripts hide line))
           → IfOk r (λ after. after ≡ count_lines scripts hide c (lines_of line))
-          → OnErr r (TookPrefix contents wm wn (translation scripts hide line))
+          → OnErr r (TookPrefix contents wm wn (translation scripts hide line)) → fails_by is_read r ≡ false
           → Translates scripts hide (streams remaining ro rn contents wo wn) r
-      answered (Ok after) read end went counted part = (
+      answered (Ok after) read end went counted part never = (
         record {
           bytes = s.whole ++ line;
           read = read;
@@ -162,29 +216,21 @@ module _ {R W : Type 0} (remaining : R → Option (List ℕ)) (contents : W → 
         },
         end.0,
       )
-      answered (Err e) read end went counted part = record {
-        bytes = s.whole ++ line;
-        front = translation scripts hide s.whole ++ take part.0 (translation scripts hide line);
-        rest = drop part.0 (translation scripts hide line);
-        read = read;
-        written = Took-then contents wo wm wn (translation scripts hide s.whole)
-            (take part.0 (translation scripts hide line)) s.written part.1;
-        is_front = rw end.0 (translation-append scripts hide s.whole line s.is_whole
-            ∙ ap (λ (xs : List ℕ). translation scripts hide s.whole ++ xs)
-            (sym (take-append-drop part.0 (translation scripts hide line)))
-            ∙ sym (append_assoc (translation scripts hide s.whole)
-            (take part.0 (translation scripts hide line)) (drop part.0 (translation scripts hide line))));
-      }
+      answered (Err error.Read) read end went counted part never = cc
+      answered (Err error.Write) read end went counted part never = last_in_part read end part
+      answered (Err error.Memory) read end went counted part never = last_in_part read end part
 
 -- where nothing was read and nothing written
 pub nothing : {R W : Type 0} (remaining : R → Option (List ℕ)) (contents : W → Option (List ℕ))
     (scripts : List Script) (hide : Bool) (r : Device R) (w : Device W)
     → WritesPrefix scripts hide (streams remaining r r contents w w)
 nothing remaining contents scripts hide r w = record {
-  bytes = [];
+  before = [];
+  piece = [];
   front = [];
   rest = translation scripts hide (read_lines (has_ended r) []);
   read = Gave-none remaining r;
+  within = omega arith;
   written = Took-none contents w;
   is_front = refl;
 }

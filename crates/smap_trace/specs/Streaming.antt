@@ -1,5 +1,5 @@
 -- What `translate` answers, and what it has read and written then.
-use Rattle.std.specs.Prelude.{◌≡◌, ℕ, ◌==◌, Bool, true, false, List, [], ◌∷◌, ◌++◌}
+use Rattle.std.specs.Prelude.{◌≡◌, ℕ, ◌≤◌, ◌==◌, Bool, true, false, List, [], ◌∷◌, ◌++◌, length}
 use Rattle.std.specs.Prelude.{Result, Ok, Err, if◌then◌else◌}
 use Rattle.std.specs.List.{list_any}
 use Rattle.std.specs.Io.KnownBytes.{IsAtEnd}
@@ -36,23 +36,39 @@ pub record WritesAll (scripts : List Script) (hide : Bool) (s : Streams) (counts
   pub written : HasWritten s (translation scripts hide bytes)
   pub counts_are : counts ≡ counts_of scripts hide bytes
 
--- A prefix of the translation of the complete lines that were read was written.
-pub record WritesPrefix (scripts : List Script) (hide : Bool) (s : Streams) : Type 0 where
+-- The translation of all complete lines that were read was written.
+pub record WritesComplete (scripts : List Script) (hide : Bool) (s : Streams) : Type 0 where
   pub bytes : List ℕ
+  pub read : HasRead s bytes
+  pub written : HasWritten s (translation scripts hide (complete_of bytes))
+
+-- the most bytes that one read asks for
+abbrev pub most_of_one_read : ℕ
+most_of_one_read = 65536
+
+-- What was read ends with a piece that one read gave, or none. The translation of all lines that were
+-- complete before it was written, and of the other lines a prefix.
+pub record WritesPrefix (scripts : List Script) (hide : Bool) (s : Streams) : Type 0 where
+  pub before : List ℕ
+  pub piece : List ℕ
   pub front : List ℕ
   pub rest : List ℕ
-  pub read : HasRead s bytes
-  pub written : HasWritten s front
-  pub is_front : translation scripts hide (read_lines s.ended bytes) ≡ front ++ rest
+  pub read : HasRead s (before ++ piece)
+  pub within : length piece ≤ most_of_one_read
+  pub written : HasWritten s (translation scripts hide (complete_of before) ++ front)
+  pub is_front : translation scripts hide (read_lines s.ended (before ++ piece))
+      ≡ translation scripts hide (complete_of before) ++ (front ++ rest)
 
--- All is written if counts are answered, else a prefix.
+-- All is written if counts are answered, and all complete lines if a read failed.
 abbrev pub Translates : List Script → Bool → Streams → Result Counts TraceError → Type 0
 Translates scripts hide s (Ok counts) = WritesAll scripts hide s counts × (s.ended ≡ true)
-Translates scripts hide s (Err e) = WritesPrefix scripts hide s
+Translates scripts hide s (Err error.Read) = WritesComplete scripts hide s
+Translates scripts hide s (Err error.Write) = WritesPrefix scripts hide s
+Translates scripts hide s (Err error.Memory) = WritesPrefix scripts hide s
 
--- A trace was translated to its end, or a prefix of its translation was written. Read comes with a failure
--- of the reader, or if the limit on reads may have been reached; Write with one of the writer; and no other
--- answer comes with a failure.
+-- A trace was translated to its end, or as far as that answer says. Read comes with a failure of the reader,
+-- or if the limit on reads may have been reached; Write with one of the writer; and no other answer comes
+-- with a failure.
 pub record TranslatesTrace (scripts : List Script) (hide : Bool) (s : Streams)
     (result : Result Counts TraceError) : Type 0 where
   pub translates : Translates scripts hide s result

@@ -210,8 +210,9 @@ fn translate_with<M: Maps, R: Read, W: Write>(
 ///
 /// # Errors
 ///
-/// `Read` where a read fails, or after 4,294,967,296 reads; `Write` where a write or the flush fails;
-/// `Memory`. What was written is then a prefix of the translation of the complete lines that were read.
+/// `Read` where a read fails, or after 4,294,967,296 reads: the translation of all complete lines that were
+/// read has been written. `Write` where a write or the flush fails, and `Memory`: of the lines that the last
+/// read completed a prefix has been written, and of those before it everything.
 ///
 /// # Examples
 ///
@@ -233,8 +234,9 @@ pub fn translate<R: Read, W: Write>(
     requires not_ended { has_ended reader.old ≡ false }
     requires distinct { AreDistinct (scripts_in scripts.now) }
 
-    // All was read, and its translation was written; or a prefix of it was written. Read and Write come
-    // with a failure of their device, and no other answer does.
+    // All was read, and its translation was written; or that of the complete lines, but after Write and
+    // Memory for some of the last 65,536 bytes. Read and Write come with a failure of their device, and no
+    // other answer does.
     ensures { TranslatesTrace (scripts_in scripts.now) hide
         (streams R.remaining reader.old reader.new W.contents writer.old writer.new) result }
 {
