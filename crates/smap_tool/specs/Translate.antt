@@ -34,8 +34,8 @@ pub record CompleteAfterTrace (hide : Bool) (input text : List ℕ) : Type 0 whe
   pub reads : BeginsWithEntries input scripts (trace_line ++ trace)
   pub is : text ≡ translation scripts hide (complete_of trace)
 
--- After the line `trace`, what was read ends with a piece that one read gave, or none. The text is the
--- translation of all lines that were complete before it, and of the other lines a prefix.
+-- What was read after the line `trace` ends with a piece of at most as many bytes as one read asks for. The
+-- text is the translation of all lines that were complete before it, and of the other lines a prefix.
 pub record PrefixAfterTrace (hide ended : Bool) (input text : List ℕ) : Type 0 where
   pub scripts : List Script
   pub before : List ℕ

@@ -46,8 +46,8 @@ pub record WritesComplete (scripts : List Script) (hide : Bool) (s : Streams) : 
 abbrev pub most_of_one_read : ℕ
 most_of_one_read = 65536
 
--- What was read ends with a piece that one read gave, or none. The translation of all lines that were
--- complete before it was written, and of the other lines a prefix.
+-- What was read ends with a piece of at most as many bytes as one read asks for. The translation of all
+-- lines that were complete before it was written, and of the other lines a prefix.
 pub record WritesPrefix (scripts : List Script) (hide : Bool) (s : Streams) : Type 0 where
   pub before : List ℕ
   pub piece : List ℕ
