@@ -8,6 +8,7 @@ use Rattle.std.proofs.Math.ListN.{get_or-append}
 use Rattle.std.proofs.Math.Seq.{get_or-append_seam, take-append_seam}
 use Rattle.std.proofs.lemmas.Bool.{cases_lt}
 use Rattle.std.proofs.lemmas.List.{get_or-map, length-map}
+use Rattle.std.proofs.lemmas.Option.{get_or_from_slice_get, slice_get_past}
 use Rattle.url.specs.Parser.{parse_url}
 use Rattle.url.specs.Parts.{Parts}
 use Rattle.smap_record.specs.declared.fault.Fault.{Fault}
@@ -18,13 +19,13 @@ use Rattle.smap_trace.specs.Frame.{lacks}
 use Rattle.smap_trace.specs.Translation.{AreDistinct, Script}
 use Rattle.smap_io.specs.declared.device.Device.{Device}
 use Rattle.smap_io.specs.Device.{device_failures, has_ended}
-use Rattle.smap_io.specs.Reading.{Gave, ReadsLine}
+use Rattle.smap_io.specs.Reading.{Gave, IsWithinLine, ReadsLine}
 use Rattle.smap_bundle.specs.declared.fault.EntryFault.TheVariants as wrong
 use Rattle.smap_bundle.specs.Header.{BeginsWithHeader, HasNoHeader, IsHeader, LONGEST_HEADER, trace_line}
 use Rattle.smap_bundle.specs.Bundle.{Answer, IsAnswer, AreEntries, FaultAt, FaultOfEntry, FaultOfMap, IsEntry}
-use Rattle.smap_bundle.specs.Bundle.{refusal, usual}
+use Rattle.smap_bundle.specs.Bundle.{refusal, too_long, usual}
 use Rattle.smap_bundle.specs.Entries.{IsNew, TakesEntry, TakesMap, cut_off}
-use Rattle.smap_bundle.specs.Reach.{IsWithinALine, IsWithinEntry, ReadsNoMore}
+use Rattle.smap_bundle.specs.Reach.{EndsWithinEntry, IsWithinEntry, IsWithinMap, ReadsNoMore}
 use Rattle.smap_bundle.specs.Reading.{IsLine, MayFollow}
 use Rattle.smap_bundle.proofs.TextLemmas.{lacks_rest, no_end_within, one_cut}
 use Rattle.smap_bundle.proofs.HeaderLemmas.{begun, inside, inside_lacks, line_is}
@@ -66,6 +67,24 @@ pub cut_entry : (seen : List Script) (script base : List ℕ) (n entry : ℕ) (m
 cut_entry seen script base n entry more answer url at fits new good cut =
     map_fault seen script base n more answer url fits new good
     (inl (cut.0, subst (λ (i : ℕ). answer ≡ refusal i wrong.CutOff) at cut.1))
+
+-- the byte after this many, where the input ends before it
+pub past_the_end : (bytes more : List ℕ) (n : ℕ) → length bytes ≤ n → more ≡ []
+    → slice_get (bytes ++ more) n ≢ Some 10
+past_the_end bytes more n short none is =
+    let past = slice_get_past (bytes ++ more) n (omega (
+      arith,
+      short,
+      length-append bytes more,
+      ap length none,
+    )) in
+    let bad : ◌≡◌ {A = Option ℕ} None (Some 10) = sym past ∙ is in cc
+
+-- the byte after this many, where it isn't a line feed
+pub no_feed_there : (bytes more : List ℕ) (n x : ℕ) → n < length bytes → x ≡ get_or bytes n x → x ≢ 10
+    → slice_get (bytes ++ more) n ≢ Some 10
+no_feed_there bytes more n x within at differs is = differs (at ∙ sym (get_or-append bytes more x n within)
+    ∙ get_or_from_slice_get (bytes ++ more) n 10 x is)
 
 -- the byte after a text
 pub byte_after : (xs : List ℕ) (y : ℕ) (ys : List ℕ) → slice_get (xs ++ y ∷ ys) (length xs) ≡ Some y
@@ -201,22 +220,22 @@ fault_after seen line script base n more answer h fault =
 -- ---- how far was read
 
 -- a line as it is read is at most one line
-pub is_within_a_line : (ended : Bool) (line : List ℕ) → IsLine ended line → IsWithinALine line
-is_within_a_line ended line (inl w) = record {
+is_within_line : (ended : Bool) (line : List ℕ) → IsLine ended line → IsWithinLine LONGEST_HEADER line
+is_within_line ended line (inl w) = record {
   front = w.0.front;
   last = 10 ∷ [];
   whole = w.0.whole;
   one_line = w.0.one_line;
   one = omega arith;
-  short = w.0.short;
+  within = w.0.short;
 }
-is_within_a_line ended line (inr w) = record {
+is_within_line ended line (inr w) = record {
   front = line;
   last = [];
   whole = sym (append-nil line);
   one_line = w.0;
   one = omega arith;
-  short = w.1;
+  within = w.1;
 }
 
 -- what was read after entries and a line
@@ -233,9 +252,40 @@ no_more ended ss entries line text answer are distinct is_line within = record {
     are = are;
     distinct = distinct;
   };
-  is_line = is_within_a_line ended line is_line;
+  is_line = is_within_line ended line is_line;
   within = within;
 }
+
+-- entries, and part of a line or all of it
+pub ends_within : (ss : List Script) (entries line : List ℕ) → AreEntries entries ss → AreDistinct ss
+    → IsWithinLine LONGEST_HEADER line → EndsWithinEntry (entries ++ line)
+ends_within ss entries line are distinct is_line = (
+  too_long,
+  record {
+    scripts = ss;
+    line = line;
+    more = [];
+    reads = record {
+      entries = entries;
+      whole = ap (λ (text : List ℕ). entries ++ text) (sym (append-nil line));
+      are = are;
+      distinct = distinct;
+    };
+    is_line = is_line;
+    within = inl refl;
+  },
+)
+
+-- a map and its line feed, where no answer was found
+pub within_map : (n : ℕ) (bytes : List ℕ) → length bytes ≡ n
+    → (answer : Answer) × IsWithinMap n (bytes ++ 10 ∷ []) answer
+within_map n bytes len =
+    (refusal 0 wrong.CutOff, inr (tt, omega (arith, length-append bytes (10 ∷ []), len)))
+
+-- part of a map
+pub within_part : (n : ℕ) (bytes : List ℕ) → length bytes < n + 1
+    → (answer : Answer) × IsWithinMap n bytes answer
+within_part n bytes few = (refusal 0 wrong.CutOff, inr (tt, omega (arith, few)))
 
 -- ---- entries one after another
 

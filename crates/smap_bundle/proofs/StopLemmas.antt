@@ -55,14 +55,14 @@ module _ {R : Type 0} (remaining : R → Option (List ℕ)) (a b : Device R) (by
   -- An answer that stands whatever follows is where reading stops.
   pub says_stops : (calls : ℕ) (P Within : List ℕ → Answer → Type 0) (s : BundleFault)
       → ((more : List ℕ) → Says (P (bytes ++ more)) s) → Says (Within bytes) s
-      → Stops remaining a b calls P Within s
-  says_stops calls P Within (fault.Refused r) says within = (
+      → (answer : Answer) × Within bytes answer → Stops remaining a b calls P Within s
+  says_stops calls P Within (fault.Refused r) says within some = (
     record { bytes = bytes; gave = gave; settled = λ more may. says more; within = within },
     same,
   )
-  says_stops calls P Within fault.TooLong says within = (bytes, gave, says, within, same)
-  says_stops calls P Within fault.Memory says within = (bytes, gave, same)
-  says_stops calls P Within fault.Read says within = absurd (says bytes)
+  says_stops calls P Within fault.TooLong says within some = (bytes, gave, says, within, same)
+  says_stops calls P Within fault.Memory says within some = (bytes, gave, some, same)
+  says_stops calls P Within fault.Read says within some = absurd (says bytes)
 
   -- One refusal, of what was read and what may follow it.
   pub refusal_stops : (calls : ℕ) (r : Refusal) (P Within : List ℕ → Answer → Type 0) (s : BundleFault)
@@ -82,13 +82,14 @@ module _ {R : Type 0} (remaining : R → Option (List ℕ)) (a b : Device R) (by
     where
       wrong : too_long ≡ refused r → ⊥
       wrong e = let bad : ◌≡◌ {A = ℕ} 0 1 = cc in omega (arith, bad)
-  refusal_stops calls r P Within fault.Memory says settled within = (bytes, gave, same)
+  refusal_stops calls r P Within fault.Memory says settled within = (bytes, gave, (refused r, within), same)
   refusal_stops calls r P Within fault.Read says settled within = absurd says
 
   -- There was no memory after what was read.
   pub memory_stops : (calls : ℕ) (P Within : List ℕ → Answer → Type 0) (s : BundleFault)
-      → s ≡ fault.Memory → Stops remaining a b calls P Within s
-  memory_stops calls P Within s is = subst (Stops remaining a b calls P Within) (sym is) (bytes, gave, same)
+      → s ≡ fault.Memory → (answer : Answer) × Within bytes answer → Stops remaining a b calls P Within s
+  memory_stops calls P Within s is some =
+      subst (Stops remaining a b calls P Within) (sym is) (bytes, gave, some, same)
 
   -- Reading stops after these bytes, by what is said of others after them.
   pub stops_after : (c : Device R) (calls left : ℕ) (P Q Near Far : List ℕ → Answer → Type 0)
@@ -113,21 +114,28 @@ module _ {R : Type 0} (remaining : R → Option (List ℕ)) (a b : Device R) (by
     g st.0 too_long st.3,
     st.4 ∙ same,
   )
-  stops_after c calls left P Q Near Far fault.Memory counted f g st =
-      (bytes ++ st.0, Gave-then remaining a b c bytes st.0 gave st.1, st.2 ∙ same)
+  stops_after c calls left P Q Near Far fault.Memory counted f g st = (
+    bytes ++ st.0,
+    Gave-then remaining a b c bytes st.0 gave st.1,
+    (st.2.0, g st.0 st.2.0 st.2.1),
+    st.3 ∙ same,
+  )
   stops_after c calls left P Q Near Far fault.Read counted f g st = (
     bytes ++ st.0,
     Gave-then remaining a b c bytes st.0 gave st.1,
+    (st.2.0, g st.0 st.2.0 st.2.1),
     rw (length-append bytes st.0) (blamed_after (device_failures a) (device_failures b) (device_failures c)
-        calls left (length bytes) (length st.0) same (counted refl) st.2),
+        calls left (length bytes) (length st.0) same (counted refl) st.3),
   )
 
 -- The calls of a reader gave up, after what was read.
 pub gave_up_stops : {R : Type 0} (remaining : R → Option (List ℕ)) (a b c : Device R) (bytes : List ℕ)
-    (most calls left : ℕ) (e : ReadFault) (s : BundleFault) (P Within : List ℕ → Answer → Type 0)
+    (IsPart : List ℕ → Type 0) (calls left : ℕ) (e : ReadFault) (s : BundleFault)
+    (P Within : List ℕ → Answer → Type 0)
     → Gave remaining a b bytes → device_failures b ≡ device_failures a → calls ≤ left + length bytes
-    → GaveUp remaining b c most left e → s ≡ unread e → Stops remaining a c calls P Within s
-gave_up_stops remaining a b c bytes most calls left e s P Within gave same counted g is =
+    → ((more : List ℕ) → IsPart more → (answer : Answer) × Within (bytes ++ more) answer)
+    → GaveUp remaining b c IsPart left e → s ≡ unread e → Stops remaining a c calls P Within s
+gave_up_stops remaining a b c bytes IsPart calls left e s P Within gave same counted within g is =
     rw is (told e g.spent g.failures)
   where
     read : List ℕ
@@ -136,9 +144,12 @@ gave_up_stops remaining a b c bytes most calls left e s P Within gave same count
     all : Gave remaining a c read
     all = Gave-then remaining a b c bytes g.bytes gave g.gave
 
+    some : (answer : Answer) × Within read answer
+    some = within g.bytes g.is_part
+
     told : (e : ReadFault) → SpentBy e left (length g.bytes)
         → device_failures c ≡ failed_by e (device_failures b) → Stops remaining a c calls P Within (unread e)
-    told io.Failed spent failures = (read, all, inl (omega (arith, failures, same)))
+    told io.Failed spent failures = (read, all, some, inl (omega (arith, failures, same)))
     told io.Spent spent failures =
-        (read, all, inr (failures ∙ same, omega (arith, counted, spent, length-append bytes g.bytes)))
-    told io.Memory spent failures = (read, all, failures ∙ same)
+        (read, all, some, inr (failures ∙ same, omega (arith, counted, spent, length-append bytes g.bytes)))
+    told io.Memory spent failures = (read, all, some, failures ∙ same)

@@ -1,21 +1,12 @@
 -- How far a bundle is read before it is rejected: to the end of the line where the fault is, or for a fault
 -- of a map at most to the byte after the map.
-use Rattle.std.specs.Prelude.{◌≡◌, ◌⊎◌, ℕ, ◌+◌, ◌≤◌, true, List, [], ◌++◌, length}
-use Rattle.smap_trace.specs.Frame.{lacks}
+use Rattle.std.specs.Prelude.{◌≡◌, ◌⊎◌, ℕ, ◌+◌, ◌≤◌, List, [], ◌++◌, length}
+use Rattle.smap_io.specs.Reading.{IsWithinLine}
 use Rattle.smap_trace.specs.Translation.{Script}
 use Rattle.smap_bundle.specs.declared.fault.EntryFault.{EntryFault}
 use Rattle.smap_bundle.specs.declared.fault.EntryFault.TheVariants as wrong
 use Rattle.smap_bundle.specs.Bundle.{Answer, BeginsWithEntries, done, refused, too_long}
 use Rattle.smap_bundle.specs.Header.{IsHeader, LONGEST_HEADER}
-
--- At most one line, of at most as many bytes as the longest header: no line feed, except as the last byte.
-pub record IsWithinALine (line : List ℕ) : Type 0 where
-  pub front : List ℕ
-  pub last : List ℕ
-  pub whole : line ≡ front ++ last
-  pub one_line : lacks 10 front ≡ true
-  pub one : length last ≤ 1
-  pub short : length line ≤ LONGEST_HEADER
 
 -- These faults are found in the bytes after a header.
 abbrev pub IsOfMap : EntryFault → Type 0
@@ -48,5 +39,10 @@ pub record ReadsNoMore (input : List ℕ) (answer : Answer) : Type 0 where
   pub line : List ℕ
   pub more : List ℕ
   pub reads : BeginsWithEntries input scripts (line ++ more)
-  pub is_line : IsWithinALine line
+  pub is_line : IsWithinLine LONGEST_HEADER line
   pub within : IsWithinEntry line more answer
+
+-- What was read ends within an entry: it is no more than some answer takes. So if it has the line `trace`
+-- after its entries, this line is its end.
+abbrev pub EndsWithinEntry : List ℕ → Type 0
+EndsWithinEntry input = (answer : Answer) × ReadsNoMore input answer

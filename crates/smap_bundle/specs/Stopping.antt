@@ -33,7 +33,7 @@ pub record Settled {R : Type 0} (remaining : R → Option (List ℕ)) (old new :
 
 -- Reading with this many calls stopped: with an answer for what was read, or because a call failed, or the
 -- calls were used up, or memory ran out. P is said of the answer and what was read with what may follow,
--- Within of the answer and what was read alone.
+-- Within of the answer and what was read alone; where there is no answer, of some answer.
 abbrev pub Stops : {R : Type 0} → (R → Option (List ℕ)) → Device R → Device R → ℕ
     → (List ℕ → Answer → Type 0) → (List ℕ → Answer → Type 0) → BundleFault → Type 0
 Stops remaining old new calls P Within (fault.Refused refusal) =
@@ -41,8 +41,8 @@ Stops remaining old new calls P Within (fault.Refused refusal) =
 Stops remaining old new calls P Within fault.TooLong =
     (bytes : List ℕ) × Gave remaining old new bytes × ((more : List ℕ) → P (bytes ++ more) too_long)
     × Within bytes too_long × (device_failures new ≡ device_failures old)
-Stops remaining old new calls P Within fault.Memory =
-    (bytes : List ℕ) × Gave remaining old new bytes × (device_failures new ≡ device_failures old)
+Stops remaining old new calls P Within fault.Memory = (bytes : List ℕ) × Gave remaining old new bytes
+    × ((answer : Answer) × Within bytes answer) × (device_failures new ≡ device_failures old)
 Stops remaining old new calls P Within fault.Read = (bytes : List ℕ) × Gave remaining old new bytes
-    × ((device_failures new ≡ device_failures old + 1)
+    × ((answer : Answer) × Within bytes answer) × ((device_failures new ≡ device_failures old + 1)
     ⊎ ((device_failures new ≡ device_failures old) × (calls ≤ length bytes)))

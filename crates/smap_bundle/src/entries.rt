@@ -197,7 +197,8 @@ fn take_entry<R: Read>(
 
 /// Reads the entries of a bundle and the line `trace` after them, and nothing more: the reader is then at
 /// the first byte of the trace. Where an entry has a fault, nothing after its line is read, or for a fault
-/// of its map nothing after the byte that follows the map.
+/// of its map nothing after the byte that follows the map. Where reading gives up, nothing was read after
+/// the byte that follows the entry's map, or after the line that isn't a header.
 ///
 /// The reader's end must not have been seen yet, and fewer than 2^64 - 1 of its calls may have failed.
 ///
@@ -216,9 +217,9 @@ pub fn read_bundle<R: Read>(alloc: Global, reader: &mut Device<R>) -> Result<Bun
     ensures not_ended { OnOk result (has_ended reader.new ≡ false) }
 
     // Refused and TooLong are the answer for what was read, whatever follows, and nothing was read past what
-    // decides it: the line of the fault, or for a fault of a map the byte after the map. Read comes with a
-    // failure of the reader, or if at least as many bytes as calls were read, and no other answer comes with
-    // a failure.
+    // decides it: the line of the fault, or for a fault of a map the byte after the map. With Read and Memory
+    // too, nothing was read past the entry or past the line `trace`. Read comes with a failure of the reader,
+    // or if at least as many bytes as calls were read, and no other answer comes with a failure.
     ensures stops { (hide : Bool) → IfErr result (Stops R.remaining reader.old reader.new MOST_CALLS
         (spec.IsAnswer hide) ReadsNoMore) }
 {

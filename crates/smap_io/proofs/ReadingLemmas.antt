@@ -1,6 +1,6 @@
 -- What several calls have read together.
 use Rattle.std.proofs.Common.{◌≡◌, ◌∙◌, ℕ, ◌+◌, ◌<◌, ◌≤◌, List, [], ◌++◌, length, Option, take, drop, arith}
-use Rattle.std.proofs.Common.{length-append}
+use Rattle.std.proofs.Common.{length-append, refl, true}
 use Rattle.std.proofs.Math.Seq.{take-add}
 use Rattle.std.specs.Io.KnownBytes.{Keeps}
 use Rattle.std.proofs.KnownBytes.{Consumes-kept, Consumes-nil, Consumes-trans}
@@ -8,7 +8,7 @@ use Rattle.smap_io.specs.declared.device.Device.{Device}
 use Rattle.smap_io.specs.declared.reading.ReadFault.{ReadFault}
 use Rattle.smap_io.specs.declared.reading.ReadFault.TheVariants as fault
 use Rattle.smap_io.specs.Device.{device_failures, has_ended}
-use Rattle.smap_io.specs.Reading.{Gave, GaveUp, SpentBy, failed_by}
+use Rattle.smap_io.specs.Reading.{Gave, GaveUp, IsFewerThan, IsWithinLine, SpentBy, failed_by, lacks}
 
 pub Gave-none : {R : Type 0} (remaining : R → Option (List ℕ)) (a : Device R) → Gave remaining a a []
 Gave-none remaining a = Consumes-nil (remaining a.inner)
@@ -44,17 +44,29 @@ failed_after fault new mid old failed same = rw (← same) failed
 
 -- A call gave up after these bytes, so that reading does.
 pub GaveUp-after : {R : Type 0} (remaining : R → Option (List ℕ)) (a b c : Device R) (bytes : List ℕ)
-    (most calls left : ℕ) (fault : ReadFault)
-    → Gave remaining a b bytes → length bytes < most → calls ≤ left + length bytes
-    → device_failures b ≡ device_failures a → has_ended b ≡ has_ended a
-    → GaveUp remaining b c 1 left fault → GaveUp remaining a c most calls fault
-GaveUp-after remaining a b c bytes most calls left fault gave fewer counted failures ended g = record {
+    (IsPart : List ℕ → Type 0) (calls left : ℕ) (fault : ReadFault)
+    → Gave remaining a b bytes → ((more : List ℕ) → length more < 1 → IsPart (bytes ++ more))
+    → calls ≤ left + length bytes → device_failures b ≡ device_failures a → has_ended b ≡ has_ended a
+    → GaveUp remaining b c (IsFewerThan 1) left fault → GaveUp remaining a c IsPart calls fault
+GaveUp-after remaining a b c bytes IsPart calls left fault gave part counted failures ended g = record {
   bytes = bytes ++ g.bytes;
   gave = Gave-then remaining a b c bytes g.bytes gave g.gave;
-  fewer = omega (arith, fewer, g.fewer, length-append bytes g.bytes);
+  is_part = part g.bytes g.is_part;
   spent = rw (length-append bytes g.bytes) (spent_after fault calls left (length bytes) (length g.bytes)
       counted g.spent);
   failures = failed_after fault (device_failures c) (device_failures b) (device_failures a) g.failures
       failures;
   ended = g.ended ∙ ended;
+}
+
+-- Bytes without a line feed and at most one byte after them are within a line.
+pub within_line : (most : ℕ) (front last : List ℕ) → lacks 10 front ≡ true → length front < most
+    → length last ≤ 1 → IsWithinLine most (front ++ last)
+within_line most front last one_line short one = record {
+  front = front;
+  last = last;
+  whole = refl;
+  one_line = one_line;
+  one = one;
+  within = omega (arith, length-append front last, short, one);
 }

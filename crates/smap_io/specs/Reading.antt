@@ -44,12 +44,16 @@ SpentBy fault.Failed calls n = Unit {0}
 SpentBy fault.Spent calls n = calls ≤ n
 SpentBy fault.Memory calls n = Unit {0}
 
--- Reading with this many calls gave up after these bytes, which are fewer than wanted.
-pub record GaveUp {R : Type 0} (remaining : R → Option (List ℕ)) (old new : Device R) (most calls : ℕ)
-    (fault : ReadFault) : Type 0 where
+-- fewer than this many bytes
+abbrev pub IsFewerThan : ℕ → List ℕ → Type 0
+IsFewerThan most bytes = length bytes < most
+
+-- Reading with this many calls gave up after bytes of which `IsPart` holds: part of what was wanted.
+pub record GaveUp {R : Type 0} (remaining : R → Option (List ℕ)) (old new : Device R)
+    (IsPart : List ℕ → Type 0) (calls : ℕ) (fault : ReadFault) : Type 0 where
   pub bytes : List ℕ
   pub gave : Gave remaining old new bytes
-  pub fewer : length bytes < most
+  pub is_part : IsPart bytes
   pub spent : SpentBy fault calls (length bytes)
   pub failures : device_failures new ≡ failed_by fault (device_failures old)
   pub ended : has_ended new ≡ has_ended old
@@ -65,6 +69,15 @@ pub record IsOneLine (text : List ℕ) : Type 0 where
   pub front : List ℕ
   pub whole : text ≡ front ++ 10 ∷ []
   pub one_line : lacks 10 front ≡ true
+
+-- At most one line, of at most this many bytes: no line feed, except as the last byte.
+pub record IsWithinLine (most : ℕ) (text : List ℕ) : Type 0 where
+  pub front : List ℕ
+  pub last : List ℕ
+  pub whole : text ≡ front ++ last
+  pub one_line : lacks 10 front ≡ true
+  pub one : length last ≤ 1
+  pub within : length text ≤ most
 
 -- A whole line was read. No call failed.
 pub record ReadsWholeLine {R : Type 0} (remaining : R → Option (List ℕ)) (old new : Device R) (most : ℕ)
@@ -100,4 +113,5 @@ ReadsByte remaining old new calls_old calls_new over (Ok (Some b)) = Gave remain
     × (device_failures new ≡ device_failures old)
 ReadsByte remaining old new calls_old calls_new over (Ok None) = Gave remaining old new []
     × IsAtItsEnd remaining new × (calls_new + 1 ≡ calls_old) × (device_failures new ≡ device_failures old)
-ReadsByte remaining old new calls_old calls_new over (Err e) = GaveUp remaining old new 1 calls_old e
+ReadsByte remaining old new calls_old calls_new over (Err e) =
+    GaveUp remaining old new (IsFewerThan 1) calls_old e

@@ -3,7 +3,8 @@
 ghost use Rattle.std.specs.Prelude.{◌≡◌, ◌+◌, ◌-◌, ◌^◌, ◌<◌, ◌≤◌, IfOk, MatchResult, OnOk, false, length};
 ghost use Rattle.std.specs.Prelude.{drop, take, vec_len};
 ghost use Rattle.smap_io.specs.Device.{device_failures};
-ghost use Rattle.smap_io.specs.Reading.{GaveUp, ReadsByte, ReadsLine, ReadsSome, ReadsUpTo, TakesCalls};
+ghost use Rattle.smap_io.specs.Reading.{GaveUp, IsFewerThan, IsWithinLine, ReadsByte, ReadsLine, ReadsSome};
+ghost use Rattle.smap_io.specs.Reading.{ReadsUpTo, TakesCalls};
 
 use crate::device::Device;
 use std::alloc::{AllocError, Global};
@@ -61,7 +62,7 @@ fn read_some<R: Read>(
     ensures bound { IfOk result (λ n. n ≤ length buf.new) }
     ensures reads { MatchResult result
         (λ n. ReadsSome R.remaining reader.old reader.new calls.old calls.new over.new n (take n buf.new))
-        (GaveUp R.remaining reader.old reader.new 1 calls.old) }
+        (GaveUp R.remaining reader.old reader.new (IsFewerThan 1) calls.old) }
 {
     if *calls == 0 {
         return Err(ReadFault::Spent);
@@ -96,7 +97,7 @@ fn read_after<R: Read>(
     ensures reads { MatchResult result
         (λ n. ReadsSome R.remaining reader.old reader.new calls.old calls.new over.new n
         (take n (drop filled text.new.items)))
-        (GaveUp R.remaining reader.old reader.new 1 calls.old) }
+        (GaveUp R.remaining reader.old reader.new (IsFewerThan 1) calls.old) }
 {
     read_some(reader, calls, over, &mut text[filled..])
 }
@@ -117,7 +118,7 @@ pub fn read_up_to<R: Read>(
 ) -> Result<Vec<u8>, ReadFault>
     requires { device_failures reader.old < 2 ^ 64 - 1 }
     ensures reads { MatchResult result (λ text. ReadsUpTo R.remaining reader.old reader.new most text.items)
-        (GaveUp R.remaining reader.old reader.new most calls.old) }
+        (GaveUp R.remaining reader.old reader.new (IsFewerThan most) calls.old) }
     ensures calls { IfOk result (λ text. TakesCalls reader.new most calls.old calls.new text.items) }
 {
     let mut text = Vec::new(alloc);
@@ -172,7 +173,7 @@ pub fn read_line<R: Read>(
 ) -> Result<Vec<u8>, ReadFault>
     requires { device_failures reader.old < 2 ^ 64 - 1 }
     ensures reads { MatchResult result (λ line. ReadsLine R.remaining reader.old reader.new most line.items)
-        (GaveUp R.remaining reader.old reader.new (most + 1) calls.old) }
+        (GaveUp R.remaining reader.old reader.new (IsWithinLine most) calls.old) }
     ensures calls { IfOk result (λ line. TakesCalls reader.new most calls.old calls.new line.items) }
 {
     let mut line = Vec::new(alloc);

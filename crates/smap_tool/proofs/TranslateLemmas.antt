@@ -19,7 +19,7 @@ use Rattle.smap_trace.specs.Translation.{Script, translation}
 use Rattle.smap_bundle.specs.Header.{trace_line}
 use Rattle.smap_bundle.specs.Bundle.{IsAnswer, BeginsWithEntries, refused}
 use Rattle.smap_bundle.specs.Entries.{TakesEntries}
-use Rattle.smap_bundle.specs.Reach.{ReadsNoMore}
+use Rattle.smap_bundle.specs.Reach.{EndsWithinEntry, ReadsNoMore}
 use Rattle.smap_tool.specs.Translate.{CompleteAfterTrace, GaveUp, PrefixAfterTrace, RunTranslates}
 use Rattle.smap_tool.specs.Translate.{RunsTranslate, TranslatesTrace, WritesRefusal}
 use Rattle.smap_bundle.specs.Stopping.{Settled, Stops}
@@ -128,13 +128,14 @@ module _ {R W : Type 0} (remaining : R → Option (List ℕ)) (contents : W → 
 module _ {R W : Type 0} (remaining : R → Option (List ℕ)) (contents : W → Option (List ℕ)) (hide : Bool)
     (ro rn : Device R) where
   nothing_written : (IsWritten : List ℕ → List ℕ → Type 0) (w : Device W) (bytes : List ℕ)
-      → Gave remaining ro rn bytes → GaveUp IsWritten (streams remaining ro rn contents w w)
-  nothing_written IsWritten w bytes gave = record {
+      → Gave remaining ro rn bytes → EndsWithinEntry bytes
+      → GaveUp IsWritten (streams remaining ro rn contents w w)
+  nothing_written IsWritten w bytes gave ends = record {
     input = bytes;
     text = [];
     read = gave;
     written = Took-none contents w;
-    is_written = inl refl;
+    is_written = inl (refl, ends);
   }
 
   -- a bundle that is refused
@@ -157,7 +158,8 @@ module _ {R W : Type 0} (remaining : R → Option (List ℕ)) (contents : W → 
       subst (λ (x : Device W). RunsTranslate hide (streams remaining ro rn contents wo x) (Err run.Memory))
       (sym w)
       (record {
-        translates = nothing_written (PrefixAfterTrace hide (has_ended rn)) wo s.bytes s.gave;
+        translates = nothing_written (PrefixAfterTrace hide (has_ended rn)) wo s.bytes s.gave
+            (refused refusal, s.within);
         reader_failures = same;
         writer_failures = refl;
       })
@@ -188,8 +190,8 @@ module _ {R W : Type 0} (remaining : R → Option (List ℕ)) (contents : W → 
   pub unread_run : (w : Device W) → Stops remaining ro rn MOST_CALLS (IsAnswer hide) ReadsNoMore fault.Read
       → RunsTranslate hide (streams remaining ro rn contents w w) (Err run.Read)
   unread_run w s = record {
-    translates = nothing_written (CompleteAfterTrace hide) w s.0 s.1;
-    reader_failures = blamed s.2;
+    translates = nothing_written (CompleteAfterTrace hide) w s.0 s.1 s.2;
+    reader_failures = blamed s.3;
     writer_failures = refl;
   }
     where
@@ -203,7 +205,7 @@ module _ {R W : Type 0} (remaining : R → Option (List ℕ)) (contents : W → 
   pub memory_run : (w : Device W) → Stops remaining ro rn MOST_CALLS (IsAnswer hide) ReadsNoMore fault.Memory
       → RunsTranslate hide (streams remaining ro rn contents w w) (Err run.Memory)
   memory_run w s = record {
-    translates = nothing_written (PrefixAfterTrace hide (has_ended rn)) w s.0 s.1;
-    reader_failures = s.2;
+    translates = nothing_written (PrefixAfterTrace hide (has_ended rn)) w s.0 s.1 s.2;
+    reader_failures = s.3;
     writer_failures = refl;
   }

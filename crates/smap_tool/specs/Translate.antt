@@ -17,7 +17,7 @@ use Rattle.smap_tool.specs.declared.outcome.RunFault.{RunFault}
 use Rattle.smap_tool.specs.declared.outcome.RunFault.TheVariants as run
 use Rattle.smap_bundle.specs.Header.{trace_line}
 use Rattle.smap_bundle.specs.Bundle.{Answer, IsAnswer, BeginsWithEntries, done, refused, too_long}
-use Rattle.smap_bundle.specs.Reach.{ReadsNoMore}
+use Rattle.smap_bundle.specs.Reach.{EndsWithinEntry, ReadsNoMore}
 use Rattle.smap_bundle.specs.Reading.{MayFollow}
 use Rattle.smap_bundle.specs.declared.fault.Refusal.{Refusal}
 use Rattle.smap_tool.specs.BundleLine.{bundle_line}
@@ -48,14 +48,14 @@ pub record PrefixAfterTrace (hide ended : Bool) (input text : List ℕ) : Type 0
   pub is_front : translation scripts hide (read_lines ended (before ++ piece))
       ≡ translation scripts hide (complete_of before) ++ (front ++ rest)
 
--- What was read and written by a run that gave up, unless the bundle has a fault: nothing was written until
--- the line `trace` was read.
+-- What was read and written by a run that gave up, unless the bundle has a fault: nothing was written, and
+-- what was read ends within the entries or with the line `trace`; or what was written is as `IsWritten` says.
 pub record GaveUp (IsWritten : List ℕ → List ℕ → Type 0) (s : Streams) : Type 0 where
   pub input : List ℕ
   pub text : List ℕ
   pub read : HasRead s input
   pub written : HasWritten s text
-  pub is_written : (text ≡ []) ⊎ IsWritten input text
+  pub is_written : ((text ≡ []) × EndsWithinEntry input) ⊎ IsWritten input text
 
 -- What was read has a fault, nothing was read past it, and a prefix of its error line was written.
 pub record PrefixOfRefusal (hide : Bool) (s : Streams) : Type 0 where

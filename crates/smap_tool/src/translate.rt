@@ -71,8 +71,9 @@ fn translate_trace<R: Read, W: Write>(
 ///
 /// Those of [`run`](crate::run). `TooLong` is for a single map: the entries together and the trace have no
 /// limit. The entries are read by at most 4,294,967,296 calls, and so is the trace; more are answered as
-/// `Read`. What was written of the trace is then what [`smap_trace::translate`] promises; after `Write` it
-/// may also be a prefix of the line of the fault.
+/// `Read`. Where the bytes after the line `trace` were reached, what was written of their translation is
+/// what [`smap_trace::translate`] promises, and else nothing was written; after `Write` it may also be a
+/// prefix of the line of the fault.
 pub fn run_translate<R: Read, W: Write>(
     alloc: Global,
     hide: bool,

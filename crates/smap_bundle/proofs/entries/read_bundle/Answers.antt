@@ -1,7 +1,7 @@
-use Rattle.std.proofs.Common.{◌≡◌, ◌∙◌, ◌+◌, ◌++◌, length-append, sym, subst, arith, rules}
+use Rattle.std.proofs.Common.{◌≡◌, ◌∙◌, ◌++◌, length-append, sym, subst, arith, rules}
 use Rattle.std.proofs.lemmas.Result.{err_from_is_err_and}
 use Rattle.smap_io.specs.Device.{has_ended}
-use Rattle.smap_io.specs.Reading.{Gave}
+use Rattle.smap_io.specs.Reading.{Gave, IsWithinLine}
 use Rattle.smap_io.specs.declared.reading.TheConstants.{MOST_CALLS}
 use Rattle.smap_io.proofs.ReadingLemmas.{Gave-then}
 use Rattle.smap_trace.specs.Translation.{AreDistinct}
@@ -9,7 +9,8 @@ use Rattle.smap_bundle.specs.Header.{LONGEST_HEADER, trace_line}
 use Rattle.smap_bundle.specs.Bundle.{IsAnswer, AreEntries, FaultAt}
 use Rattle.smap_bundle.specs.Reach.{IsWithinEntry, ReadsNoMore}
 use Rattle.smap_bundle.specs.Scripts.{scripts_of}
-use Rattle.smap_bundle.proofs.EntryLemmas.{answered, distinct_more, entries_more, line_read, no_more}
+use Rattle.smap_bundle.proofs.EntryLemmas.{answered, distinct_more, ends_within, entries_more, line_read}
+use Rattle.smap_bundle.proofs.EntryLemmas.{no_more}
 use Rattle.smap_bundle.proofs.StopLemmas.{gave_up_stops, stops_after}
 use Rattle.smap_bundle.proofs.entries.read_bundle.Goals as goal
 
@@ -22,9 +23,10 @@ pub returns-in-Err-clause-stops : goal.returns-in-Err-clause-stops
 returns-in-Err-clause-stops g c = λ hide.
     let reads = c.entries.invariant.reads in
     gave_up_stops g.R.Read.remaining c.args.reader.now c.entries.reader c.read_line.new.reader reads.0
-    (LONGEST_HEADER + 1) MOST_CALLS c.entries.calls c.in-Err.fault c.unread.result
-    (IsAnswer hide) ReadsNoMore reads.1 c.entries.invariant.failures reads.3 c.in-Err.ensures.reads
-    c.unread.ensures
+    (IsWithinLine LONGEST_HEADER) MOST_CALLS c.entries.calls c.in-Err.fault c.unread.result
+    (IsAnswer hide) ReadsNoMore reads.1 c.entries.invariant.failures reads.3
+    (λ line within. ends_within (scripts_of c.entries.scripts.entries) reads.0 line reads.2
+    c.entries.invariant.distinct within) c.in-Err.ensures.reads c.unread.ensures
 
 pub returns-then-eq-clause-takes : goal.returns-then-eq-clause-takes
 returns-then-eq-clause-takes g c =

@@ -7,12 +7,12 @@ use Rattle.smap_record.specs.Reading.{reading}
 use Rattle.smap_record.specs.declared.fault.Fault.{Fault}
 use Rattle.smap_bundle.specs.declared.fault.EntryFault.TheVariants as wrong
 use Rattle.smap_bundle.specs.declared.fault.BundleFault.TheVariants as stop
-use Rattle.smap_bundle.specs.Bundle.{FaultOfEntry, refusal, usual}
+use Rattle.smap_bundle.specs.Bundle.{FaultOfEntry, refusal, too_long, usual}
 use Rattle.smap_bundle.specs.Entries.{cut_off}
 use Rattle.smap_bundle.specs.Reach.{IsFaultOfMap, IsWithinMap}
 use Rattle.smap_bundle.specs.Scripts.{script_of, scripts_of}
 use Rattle.smap_bundle.specs.Stopping.{Stops}
-use Rattle.smap_bundle.proofs.EntryLemmas.{bad_map, cut_entry, is_len}
+use Rattle.smap_bundle.proofs.EntryLemmas.{bad_map, cut_entry, is_len, within_map}
 use Rattle.smap_bundle.proofs.StopLemmas.{if_stops, memory_stops, says_any, says_as, says_stops, stops_after}
 use Rattle.smap_bundle.proofs.entries.take_map.Goals as goal
 
@@ -26,7 +26,7 @@ returns-in_err-base-clause-stops g c = λ n e.
     c.in_err-base.field-0.0 (λ more. c.in_err-base.ensures.stops n more e)
     (says_any (FaultOfEntry (scripts_of c.args.scripts.now.entries) c.args.header.now.script.now
     c.args.header.now.base.now n []) (IsWithinMap n []) (λ answer. inl refl) c.in_err-base.field-0.0
-    (c.in_err-base.ensures.stops n [] e)))
+    (c.in_err-base.ensures.stops n [] e)) (too_long, inl refl))
 
 pub returns-in_err-bytes-clause-stops : goal.returns-in_err-bytes-clause-stops
 returns-in_err-bytes-clause-stops g c = λ n e.
@@ -77,7 +77,8 @@ returns-in_err-map-clause-stops g c = λ n e.
         c.in_ok-bytes.ensures.len,
         len,
       ),
-    )) c.in_err-map.field-0.0 c.in_err-map.ensures.stops))
+    )) c.in_err-map.field-0.0 c.in_err-map.ensures.stops)
+    (within_map n bytes (c.in_ok-bytes.ensures.len ∙ sym len)))
 
 pub returns-clause-takes : goal.returns-clause-takes
 returns-clause-takes g c = on_ok_weaker c.add.result (λ added. record {
@@ -103,5 +104,7 @@ returns-clause-stops g c = λ n e.
     (IsWithinMap n))
     (λ s is. memory_stops g.R.Read.remaining c.args.reader.now c.bytes_of.new.reader
     (c.in_ok-bytes.bytes.items ++ 10 ∷ []) c.in_ok-bytes.ensures.gave c.in_ok-bytes.ensures.failures
-    c.args.calls.now fault (IsWithinMap n) s is)
+    c.args.calls.now fault (IsWithinMap n) s is
+    (within_map n c.in_ok-bytes.bytes.items (c.in_ok-bytes.ensures.len
+    ∙ sym (is_len n c.args.header.now.length e c.in_ok-base.ensures.fits))))
     c.add.ensures.memory

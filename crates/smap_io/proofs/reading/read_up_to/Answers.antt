@@ -1,5 +1,6 @@
-use Rattle.std.proofs.Common.{◌∙◌, ◌≤◌, length, take, length-take-le, arith, rules}
+use Rattle.std.proofs.Common.{◌∙◌, ◌≤◌, length, length-append, take, length-take-le, arith, rules}
 use Rattle.std.proofs.lemmas.Result.{err_from_is_err_and}
+use Rattle.smap_io.specs.Reading.{IsFewerThan}
 use Rattle.smap_io.proofs.ReadingLemmas.{Gave-after, GaveUp-after}
 use Rattle.smap_io.proofs.reading.read_up_to.Goals as goal
 
@@ -10,8 +11,8 @@ returns-in_err-n-clause-reads g c =
     let len = length-take-le c.reads.filled c.reads.text.items within in
     rw (p.1, p.2) (GaveUp-after g.R.Read.remaining c.args.reader.now c.reads.reader c.read_after.new.reader
     (take c.reads.filled c.reads.text.items)
-    c.args.most c.args.calls.now c.reads.calls c.in_err-n.field-0.0 c.reads.invariant.gave
-    (omega (arith, len)) (omega (arith, len, c.reads.invariant.counted))
+    (IsFewerThan c.args.most) c.args.calls.now c.reads.calls c.in_err-n.field-0.0 c.reads.invariant.gave
+    (λ more few. omega (arith, len, few, length-append (take c.reads.filled c.reads.text.items) more)) (omega (arith, len, c.reads.invariant.counted))
     c.reads.invariant.failures c.reads.invariant.ended c.in_err-n.ensures.reads)
 
 pub returns-then-over-clause-calls : goal.returns-then-over-clause-calls
