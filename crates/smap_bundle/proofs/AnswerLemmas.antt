@@ -83,7 +83,7 @@ one_fault seen text a b x y = one_where (HasNoHeader text) _ _ _ _ a b x y (λ p
 
 -- ---- an entry has no fault
 
-entry_begins : (entry rest : List ℕ) (s : Script) (e : IsEntry entry s)
+pub entry_begins : (entry rest : List ℕ) (s : Script) (e : IsEntry entry s)
     → BeginsWithHeader (entry ++ rest) s.0 e.base (length e.bytes) ((e.bytes ++ 10 ∷ []) ++ rest)
 entry_begins entry rest s e = record {
   line = e.begins.line;
@@ -121,7 +121,7 @@ no_fault seen entry rest s answer e new (inr (x0, f)) =
     no_entry_fault seen entry rest s e answer new
     (moved seen s.0 e.base ((e.bytes ++ 10 ∷ []) ++ rest) f.0 f.1 f.3 (length e.bytes) f.2 answer same f.5)
 
-no_entry_of_trace : (entry rest trace : List ℕ) (s : Script) → IsEntry entry s
+pub no_entry_of_trace : (entry rest trace : List ℕ) (s : Script) → IsEntry entry s
     → entry ++ rest ≡ trace_line ++ trace → ⊥
 no_entry_of_trace entry rest trace s e same =
     no_header_of_trace s.0 e.base ((e.bytes ++ 10 ∷ []) ++ rest) trace (length e.bytes)
@@ -141,7 +141,7 @@ same_script s t url told =
     let two : ◌≡◌ {A = Script} (t.0, s.1) (t.0, t.1) = ap (λ (r : Record). (t.0, r)) told in
     one ∙ two
 
-one_entry : (entry rest other other_rest : List ℕ) (s t : Script) → entry ++ rest ≡ other ++ other_rest
+pub one_entry : (entry rest other other_rest : List ℕ) (s t : Script) → entry ++ rest ≡ other ++ other_rest
     → IsEntry entry s → IsEntry other t
     → (s ≡ t) × (rest ≡ other_rest)
 one_entry entry rest other other_rest s t whole e f =

@@ -8,4 +8,5 @@ pub mod LawLemmas
 pub mod AnswerLemmas
 pub mod BeginningLemmas
 pub mod AnsweredLemmas
+pub mod ReachLemmas
 mod Examples

@@ -1,8 +1,10 @@
 -- Laws about bundles, for every input.
-use Rattle.std.specs.Prelude.{◌≡◌, ℕ, Bool, List, [], codes}
+use Rattle.std.specs.Prelude.{◌≡◌, ℕ, Bool, List, [], ◌++◌, codes}
 use Rattle.smap_bundle.specs.declared.fault.EntryFault.TheVariants as wrong
-use Rattle.smap_bundle.specs.Header.{BeginsWithHeader, IsHeader}
-use Rattle.smap_bundle.specs.Bundle.{Answer, IsAnswer, done, refusal}
+use Rattle.smap_trace.specs.Translation.{Script}
+use Rattle.smap_bundle.specs.Header.{BeginsWithHeader, IsHeader, trace_line}
+use Rattle.smap_bundle.specs.Bundle.{Answer, BeginsWithEntries, IsAnswer, done, refusal}
+use Rattle.smap_bundle.specs.Reach.{EndsWithinEntry}
 
 -- A line is a header in at most one way.
 abbrev pub OneHeader : Type 0
@@ -29,3 +31,8 @@ HasAnswer = (hide : Bool) (input : List ℕ) → (answer : Answer) × IsAnswer h
 abbrev pub FirstRows : Type 0
 FirstRows = (hide : Bool)
     → IsAnswer hide [] (refusal 0 wrong.Header) × IsAnswer hide (codes "trace\n") (done [])
+
+-- What ends within an entry has the line `trace` after its entries at most as its end.
+abbrev pub TraceIsUnread : Type 0
+TraceIsUnread = (input : List ℕ) (scripts : List Script) (trace : List ℕ) → EndsWithinEntry input
+    → BeginsWithEntries input scripts (trace_line ++ trace) → trace ≡ []

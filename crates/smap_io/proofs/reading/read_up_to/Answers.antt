@@ -12,7 +12,8 @@ returns-in_err-n-clause-reads g c =
     rw (p.1, p.2) (GaveUp-after g.R.Read.remaining c.args.reader.now c.reads.reader c.read_after.new.reader
     (take c.reads.filled c.reads.text.items)
     (IsFewerThan c.args.most) c.args.calls.now c.reads.calls c.in_err-n.field-0.0 c.reads.invariant.gave
-    (λ more few. omega (arith, len, few, length-append (take c.reads.filled c.reads.text.items) more)) (omega (arith, len, c.reads.invariant.counted))
+    (λ more few. omega (arith, len, few, length-append (take c.reads.filled c.reads.text.items) more))
+    (omega (arith, len, c.reads.invariant.counted))
     c.reads.invariant.failures c.reads.invariant.ended c.in_err-n.ensures.reads)
 
 pub returns-then-over-clause-calls : goal.returns-then-over-clause-calls
