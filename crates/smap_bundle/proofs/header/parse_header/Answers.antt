@@ -2,8 +2,6 @@ use Rattle.std.proofs.Common.{ℕ, List, Some, None, sym, refl, rules, subst}
 use Rattle.smap_bundle.specs.Header.{IsNumber}
 use Rattle.smap_bundle.proofs.ParsedLemmas.{base_cut, cut_of, header_of, no_words, script_cut, word_is}
 use Rattle.smap_bundle.proofs.header.parse_header.Goals as goal
-use Rattle.smap_bundle.proofs.header.parse_header.Goals.{then-not-is_one_line-via-then-not-is_one_line}
-use Rattle.smap_bundle.proofs.header.parse_header.Goals.{then-not-is_one_line-via-else-not-is_one_line+then-not-is_one_line-2}
 
 pub returns-in_err-words : goal.returns-in_err-words
 returns-in_err-words c =
@@ -40,10 +38,12 @@ returns-then-not-is_one_line c = λ script base n h.
     let rest = base_cut c.in_ok-script.rest.now base h.digits (Some (c.in_ok-base.base, c.in_ok-base.digits))
     cut.1 c.in_ok-base.ensures.cases h.base_word in
     elim c.then-not-is_one_line.branch [
-      | then-not-is_one_line-via-then-not-is_one_line w ↦ word_is _ c.in_ok-script.script.now script cut.0
-          h.script_word c.is_one_line.ensures.one_line w.if-not-is_one_line.true
-      | then-not-is_one_line-via-else-not-is_one_line+then-not-is_one_line-2 w ↦ word_is _
-          c.in_ok-base.base.now base rest.0 h.base_word w.is_one_line-else-not-is_one_line.ensures.one_line
+      | goal.then-not-is_one_line-via-then-not-is_one_line w ↦
+          word_is _ c.in_ok-script.script.now script cut.0 h.script_word c.is_one_line.ensures.one_line
+          w.if-not-is_one_line.true
+      | goal.then-not-is_one_line-via-else-not-is_one_line+then-not-is_one_line-2 w ↦
+          word_is _ c.in_ok-base.base.now base rest.0 h.base_word
+          w.is_one_line-else-not-is_one_line.ensures.one_line
           w.if-not-is_one_line-2.true
     ]
 

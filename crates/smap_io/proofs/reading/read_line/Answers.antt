@@ -10,7 +10,8 @@ returns-in_err-byte-clause-reads g c =
     let line = c.bytes.line.items in
     let short : length line < c.args.most = search rules in
     rw (p.1, p.2) (GaveUp-after g.R.Read.remaining c.args.reader.now c.bytes.reader c.read_byte.new.reader
-    line (IsWithinLine c.args.most) c.args.calls.now c.bytes.calls c.in_err-byte.field-0.0 c.bytes.invariant.gave
+    line (IsWithinLine c.args.most) c.args.calls.now c.bytes.calls c.in_err-byte.field-0.0
+    c.bytes.invariant.gave
     (λ more few. within_line c.args.most line more c.bytes.invariant.lacking short (omega (arith, few)))
     (omega (arith, c.bytes.invariant.counted))
     c.bytes.invariant.failures c.bytes.invariant.ended c.in_err-byte.ensures)

@@ -2,8 +2,6 @@ use Rattle.std.proofs.Common.{arith, rules}
 use Rattle.smap_trace.proofs.PlaceLemmas.{zero_first, not_digit, too_large, other_number, is_number}
 use Rattle.smap_trace.specs.Frame.{IsPlace}
 use Rattle.smap_trace.proofs.frames.place.Goals as goal
-use Rattle.smap_trace.proofs.frames.place.Goals.{then-not-is_ascii_digit-via-then-not-is_ascii_digit}
-use Rattle.smap_trace.proofs.frames.place.Goals.{then-not-is_ascii_digit-via-else-not-is_ascii_digit+then-number}
 
 pub returns-then-starts_with : goal.returns-then-starts_with
 returns-then-starts_with c = zero_first c.args.text.now (search rules)
@@ -11,10 +9,10 @@ returns-then-starts_with c = zero_first c.args.text.now (search rules)
 pub returns-then-not-is_ascii_digit : goal.returns-then-not-is_ascii_digit
 returns-then-not-is_ascii_digit c =
     elim c.then-not-is_ascii_digit.branch [
-      | then-not-is_ascii_digit-via-then-not-is_ascii_digit w ↦
+      | goal.then-not-is_ascii_digit-via-then-not-is_ascii_digit w ↦
           not_digit _ _ c.loop-digit.digit-index c.loop-digit-test.true c.loop-digit.invariant.read
           (search rules)
-      | then-not-is_ascii_digit-via-else-not-is_ascii_digit+then-number w ↦
+      | goal.then-not-is_ascii_digit-via-else-not-is_ascii_digit+then-number w ↦
           too_large _ _ c.loop-digit.digit-index c.loop-digit-test.true c.loop-digit.invariant.read
           w.if-number.true
     ]
