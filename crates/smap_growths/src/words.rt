@@ -2,7 +2,7 @@
 
 use crate::answers::{Answer, said};
 use smap_mappings::Memory;
-use smap_words::{WordsFault, task_of};
+use smap_tool::{WordsFault, task_of};
 use std::alloc::Global;
 use std::str;
 

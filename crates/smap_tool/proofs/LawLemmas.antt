@@ -9,7 +9,7 @@ use Rattle.smap_mappings.specs.Text.{mappings_text}
 use Rattle.smap_mappings.specs.Laws.{AreFor, TextReadsBack}
 use Rattle.smap_mappings.proofs.DecodedLemmas.{decoded-encodable, decoded-within}
 use Rattle.smap_trace.specs.Translation.{without_line_feed}
-use Rattle.smap_tool.specs.Respell.{respell_bounds, respell_output}
+use Rattle.smap_tool.specs.Commands.{respell_bounds, respell_output}
 use Rattle.smap_tool.specs.Laws.{IsAccepted, RespellDecides, OutputStays}
 use Rattle.smap_tool.proofs.RespellLemmas.{says}
 

@@ -11,7 +11,7 @@ use Rattle.smap_tool.specs.declared.outcome.Outcome.TheVariants.{Done, Refused}
 use Rattle.smap_record.specs.Faults.{segment_fault}
 use Rattle.smap_tool.specs.FaultLine.{fault_line}
 use Rattle.smap_trace.specs.Translation.{without_line_feed}
-use Rattle.smap_tool.specs.Respell.{respell_bounds, respelled, respell_output}
+use Rattle.smap_tool.specs.Commands.{respell_bounds, respelled, respell_output}
 
 pub says : (input : List ℕ) (said : Result (List Token) Fault)
     → decoded respell_bounds (without_line_feed input) ≡ said → respell_output input ≡ respelled said

@@ -3,7 +3,7 @@ use Rattle.std.specs.Prelude.{◌≡◌, ◌↔◌, ℕ, List, Ok}
 use Rattle.smap_mappings.specs.declared.token.Token.{Token}
 use Rattle.smap_mappings.specs.Decoded.{decoded}
 use Rattle.smap_trace.specs.Translation.{without_line_feed}
-use Rattle.smap_tool.specs.Respell.{respell_bounds, respell_output}
+use Rattle.smap_tool.specs.Commands.{respell_bounds, respell_output}
 
 -- The input is accepted by `respell`, with these tokens.
 abbrev pub IsAccepted : List ℕ → List Token → Type 0

@@ -1,15 +1,11 @@
 pub mod BundleLine
-pub mod Check
+pub mod Commands
 pub mod FaultLine
-pub mod Flatten
 pub mod Laws
-pub mod Lookup
 pub mod MapRun
-pub mod Respell
 pub mod RoundTrips
 pub mod Run
 pub mod SameTranslation
 pub mod Status
-pub mod Task
-pub mod Tidy
 pub mod Translate
+pub mod Words

@@ -1,38 +1,30 @@
-//! The commands of `smap` as calls over a reader and a writer, and [`run`] for the task of a command line.
+//! The commands of `smap` as calls over a reader and a writer, from the arguments of a command line
+//! ([`task_of`]) to the run of its task ([`run`]).
 //!
 //! A run reads its input to the end, at most 268,435,456 bytes, writes its answer or the one line of the
 //! input's first fault, and flushes; `translate` writes line by line as its trace comes. What is written is
-//! a function of what was read: `specs/Respell.antt`, `Check.antt`, `Tidy.antt`, `Flatten.antt` and
-//! `Lookup.antt` define it, and `Translate.antt` over the definition of the bundle. All runs promise it in
-//! one form (`Runs` in `specs/Run.antt`), over what the reader had left and what the writer held before and
-//! after. The outcome of a run, its exit status and the line of a fault are here too; the command line
-//! comes from `smap_words`.
+//! a function of what was read: `specs/Commands.antt` defines it, with the command line and the task of
+//! each command; for `translate` it is `specs/Translate.antt`, over the definition of the bundle. All runs
+//! promise it in one form (`Runs` in `specs/Run.antt`), over what the reader had left and what the writer
+//! held before and after. The outcome of a run, its exit status and the line of a fault are here too.
+//! Which arguments are accepted is said by `clap`'s own specification.
 #![tactic(auto)]
 
 mod bundle_line;
-mod check;
+mod commands;
 mod fault_line;
-mod flatten;
 mod input;
 pub mod laws;
-mod lookup;
 mod map_run;
 mod numbers;
 mod outcome;
 mod output;
-mod respell;
 pub mod round_trips;
-mod runs;
-mod tidy;
-mod translate;
+mod words;
 
-pub use check::run_check;
+pub use commands::{
+    Task, run, run_check, run_flatten, run_lookup, run_respell, run_tidy, run_translate, task_of,
+};
 pub use fault_line::fault_text;
-pub use flatten::run_flatten;
-pub use lookup::run_lookup;
 pub use outcome::{Outcome, RunFault, status};
-pub use respell::run_respell;
-pub use runs::run;
-pub use smap_words::{Task, WordsFault, task_of};
-pub use tidy::run_tidy;
-pub use translate::run_translate;
+pub use words::WordsFault;

@@ -1,7 +1,0 @@
-use Rattle.smap_trace.proofs.RunLemmas.{nothing}
-use Rattle.smap_tool.proofs.translate.translate_trace.Goals as goal
-
-pub returns-in_default-clause-translates : goal.returns-in_default-clause-translates
-returns-in_default-clause-translates g c =
-    nothing g.R.Read.remaining g.W.Write.contents c.args.bundle.now c.args.hide c.args.reader.now
-    c.args.writer.now

@@ -1,0 +1,279 @@
+//! The commands of `smap`: for each its arguments, its task, and its run, which is in a file of its own.
+ghost use Rattle.std.specs.Prelude.{◌-◌, ◌^◌, ◌<◌, ◌≡◌, IfErr, IfOk, IfSome, IsSome, IsSomeAnd, OnOk, []};
+ghost use Rattle.std.specs.Prelude.{false, map, true};
+ghost use Rattle.clap.specs.Words.{app_of, fault_of, found_of, rows_of, subcommand_of, subcommand_rows_of};
+ghost use Rattle.clap.specs.Words.{takes};
+ghost use Rattle.clap.specs.declared.builder.command.Command.TheViews.{out-Command as fields_of};
+ghost use Rattle.smap_io.specs.Device.{device_failures, has_ended};
+ghost use Rattle.smap_io.specs.Streams.{streams};
+ghost use Rattle.smap_tool.specs.Commands as line;
+ghost use Rattle.smap_tool.specs.Commands.{IsCommand, IsInRange, IsTaskOf, RunsTask, TaskGiven};
+ghost use Rattle.smap_tool.specs.Words.{IsRefusalBy};
+ghost use Rattle.smap_tool.specs.declared.words.WordsFault.TheVariants as fault;
+
+use crate::outcome::{Outcome, RunFault};
+use crate::words::{
+    WordsFault, flag, is_set, on_base, position_argument, position_in, refusal, text_in, with,
+};
+use clap::{ArgMatches, Command};
+use smap_io::Device;
+use std::alloc::{AllocError, Global};
+use std::io::{Read, Write};
+
+mod check;
+mod flatten;
+mod lookup;
+mod respell;
+mod tidy;
+mod translate;
+
+pub use check::run_check;
+pub use flatten::run_flatten;
+pub use lookup::run_lookup;
+pub use respell::run_respell;
+pub use tidy::run_tidy;
+pub use translate::run_translate;
+
+/// What a command line asks for: a command with its values.
+#[derive(Clone, Copy, Debug, PartialEq, Eq)]
+pub enum Task<'a> {
+    /// `respell`: re-encode a bare `mappings` string, sorted and as short as possible.
+    Respell,
+    /// `check BASE`: validate a map, and print a summary or its first error.
+    Check {
+        /// The URL of the map, against which its sources are resolved. It isn't parsed yet.
+        base: &'a str,
+    },
+    /// `tidy [--relative] BASE`: write a map in canonical form.
+    Tidy {
+        /// The URL of the map, against which its sources are resolved. It isn't parsed yet.
+        base: &'a str,
+        /// Whether source URLs are written relative to the base, where that round-trips.
+        relative: bool,
+    },
+    /// `flatten BASE`: write a map as one flat map, with sources and names as listed.
+    Flatten {
+        /// The URL of the map, against which its sources are resolved. It isn't parsed yet.
+        base: &'a str,
+    },
+    /// `lookup BASE LINE COLUMN`: find the original position of a generated position.
+    Lookup {
+        /// The URL of the map, against which its sources are resolved. It isn't parsed yet.
+        base: &'a str,
+        /// The generated line, from 0 to 2,147,483,647.
+        line: u32,
+        /// The generated column, from 0 to 2,147,483,647.
+        column: u32,
+    },
+    /// `translate [--hide-ignored]`: translate a stack trace to source positions.
+    Translate {
+        /// Whether frames in ignored sources are left out.
+        hide: bool,
+    },
+}
+
+fn respell_command<'a>(alloc: Global) -> Command<'a>
+    ensures shape { app_of result ≡ line.respell }
+    ensures local { (fields_of result).has_globals ≡ false }
+{
+    Command::new(alloc, "respell").about(
+        "Re-encode a \"mappings\" string: sorted, and as short as possible",
+    )
+}
+
+fn check_command<'a>(alloc: Global) -> Result<Command<'a>, AllocError>
+    ensures shape { IfOk result (λ c. app_of c ≡ line.check) }
+    ensures local { IfOk result (λ c. (fields_of c).has_globals ≡ false) }
+{
+    on_base(
+        alloc,
+        "check",
+        "Validate a map: print a summary, or its first error",
+    )
+}
+
+fn tidy_command<'a>(alloc: Global) -> Result<Command<'a>, AllocError>
+    ensures shape { IfOk result (λ c. app_of c ≡ line.tidy) }
+    ensures local { IfOk result (λ c. (fields_of c).has_globals ≡ false) }
+{
+    let command = on_base(alloc, "tidy", "Write a map in canonical form")?;
+    command.arg(flag(
+        alloc,
+        "relative",
+        "Write source URLs relative to BASE where that round-trips",
+    ))
+}
+
+fn flatten_command<'a>(alloc: Global) -> Result<Command<'a>, AllocError>
+    ensures shape { IfOk result (λ c. app_of c ≡ line.flatten) }
+    ensures local { IfOk result (λ c. (fields_of c).has_globals ≡ false) }
+{
+    on_base(
+        alloc,
+        "flatten",
+        "Convert an index map (with sections) to a flat map, with sources and names as listed",
+    )
+}
+
+fn lookup_command<'a>(alloc: Global) -> Result<Command<'a>, AllocError>
+    ensures shape { IfOk result (λ c. app_of c ≡ line.lookup) }
+    ensures local { IfOk result (λ c. (fields_of c).has_globals ≡ false) }
+{
+    let command = on_base(
+        alloc,
+        "lookup",
+        "Find the original position of a generated position",
+    )?;
+    let command = command.arg(position_argument(alloc, "LINE", "Generated line, counted from 0"))?;
+    command.arg(position_argument(alloc, "COLUMN", "Generated column, counted from 0"))
+}
+
+fn translate_command<'a>(alloc: Global) -> Result<Command<'a>, AllocError>
+    ensures shape { IfOk result (λ c. app_of c ≡ line.translate) }
+    ensures local { IfOk result (λ c. (fields_of c).has_globals ≡ false) }
+{
+    Command::new(alloc, "translate")
+        .about("Translate a stack trace to source positions")
+        .arg(flag(alloc, "hide-ignored", "Leave out frames in ignored sources"))
+}
+
+/// The program, without its commands.
+fn alone<'a>(alloc: Global) -> Command<'a>
+    ensures shape { app_of result ≡ line.smap_alone }
+    ensures local { (fields_of result).has_globals ≡ false }
+{
+    Command::new(alloc, "smap")
+        .about(
+            "Validate and normalize source maps, and translate stack traces, read from standard input",
+        )
+        .subcommand_required(true)
+        .disable_help_subcommand(true)
+}
+
+/// The command line of the program.
+fn command<'a>(alloc: Global) -> Result<Command<'a>, AllocError>
+    ensures shape { IfOk result (λ c. app_of c ≡ line.smap) }
+    ensures local { IfOk result (λ c. (fields_of c).has_globals ≡ false) }
+{
+    let command = with(alone(alloc), respell_command(alloc))?;
+    let command = with(command, check_command(alloc)?)?;
+    let command = with(command, tidy_command(alloc)?)?;
+    let command = with(command, flatten_command(alloc)?)?;
+    let command = with(command, lookup_command(alloc)?)?;
+    with(command, translate_command(alloc)?)
+}
+
+/// The task of the command with this name and these matches.
+fn task_named<'a>(name: &str, inner: &ArgMatches<'a>) -> Option<Task<'a>>
+    ensures task { IfSome result (IsTaskOf (name.now, rows_of (found_of inner.now))) }
+    ensures found { IsCommand (name.now, rows_of (found_of inner.now)) → IsSome result }
+{
+    match name {
+        "respell" => Some(Task::Respell),
+        "check" => Some(Task::Check {
+            base: text_in(inner, "BASE")?,
+        }),
+        "tidy" => Some(Task::Tidy {
+            base: text_in(inner, "BASE")?,
+            relative: is_set(inner, "relative"),
+        }),
+        "flatten" => Some(Task::Flatten {
+            base: text_in(inner, "BASE")?,
+        }),
+        "lookup" => Some(Task::Lookup {
+            base: text_in(inner, "BASE")?,
+            line: position_in(inner, "LINE")?,
+            column: position_in(inner, "COLUMN")?,
+        }),
+        "translate" => Some(Task::Translate {
+            hide: is_set(inner, "hide-ignored"),
+        }),
+        _ => None,
+    }
+}
+
+fn task_in<'a>(matches: &ArgMatches<'a>) -> Option<Task<'a>>
+    ensures task { IfSome result (TaskGiven (subcommand_rows_of matches.now)) }
+    ensures found { IsSomeAnd (subcommand_rows_of matches.now) IsCommand → IsSome result }
+{
+    let (name, inner) = matches.subcommand()?;
+    task_named(name, inner)
+}
+
+/// Parses a command line. The first argument is the name of the program, and isn't looked at.
+///
+/// # Errors
+///
+/// `WordsFault::Words` with `clap`'s error where the arguments are wrong or ask for help, and
+/// `WordsFault::Memory` where memory runs out.
+///
+/// # Examples
+///
+/// ```
+/// let task = task_of(alloc, &["smap", "tidy", "--relative", "http://h/m/out.js.map"])?;
+/// // Task::Tidy { base: "http://h/m/out.js.map", relative: true }
+/// ```
+pub fn task_of<'a>(alloc: Global, words: &'a [&'a str]) -> Result<Task<'a>, WordsFault>
+    ensures task { IfOk result (TaskGiven (subcommand_of line.smap (map (λ w. w.now) words.now))) }
+    ensures range { IfOk result IsInRange }
+    ensures accepted { OnOk result (fault_of line.smap (map (λ w. w.now) words.now) ≡ []) }
+    ensures refused { IfErr result (IsRefusalBy (fault_of line.smap (map (λ w. w.now) words.now))) }
+    ensures takes { takes line.smap (map (λ w. w.now) words.now) ≡ true
+        → IfErr result (λ e. e ≡ fault.Memory) }
+{
+    let Ok(command) = command(alloc) else {
+        return Err(WordsFault::Memory);
+    };
+    match command.try_get_matches_from(words) {
+        Ok(matches) => match task_in(&matches) {
+            Some(task) => Ok(task),
+            // What `clap` matched is one of the commands, with its values.
+            None => unreachable!(),
+        },
+        Err(error) => Err(refusal(error)),
+    }
+}
+
+/// Runs the task of a command line: reads the input of its command, writes the output, and flushes once at
+/// the end. It answers `Done`, or `Refused` where the output is the one line of the input's first fault.
+///
+/// The reader's end must not have been seen yet, and fewer than 2^64 - 1 calls of either device may have
+/// failed. That holds for each run below too.
+///
+/// # Errors
+///
+/// `TooLong` where the input has more than 268,435,456 bytes, `Read` and `Write` where a call of the reader
+/// or the writer failed, and `Memory`. What was written is then a prefix of the output.
+///
+/// # Examples
+///
+/// ```
+/// let task = task_of(alloc, &["smap", "check", "http://h/m/out.js.map"])?;
+/// let answer = run(alloc, task, &mut reader, &mut writer);
+/// let code = status(&answer);
+/// ```
+pub fn run<R: Read, W: Write>(
+    alloc: Global,
+    task: Task<'_>,
+    reader: &mut Device<R>,
+    writer: &mut Device<W>,
+) -> Result<Outcome, RunFault>
+    requires reader { device_failures reader.old < 2 ^ 64 - 1 }
+    requires writer { device_failures writer.old < 2 ^ 64 - 1 }
+    requires not_ended { has_ended reader.old ≡ false }
+
+    // The output is that of the task's command with the task's values.
+    ensures { RunsTask task.entry
+        (streams R.remaining reader.old reader.new W.contents writer.old writer.new) result }
+{
+    match task {
+        Task::Respell => run_respell(alloc, reader, writer),
+        Task::Check { base } => run_check(alloc, base, reader, writer),
+        Task::Tidy { base, relative } => run_tidy(alloc, base, relative, reader, writer),
+        Task::Flatten { base } => run_flatten(alloc, base, reader, writer),
+        Task::Lookup { base, line, column } => run_lookup(
+            alloc, base, line, column, reader, writer,
+        ),
+        Task::Translate { hide } => run_translate(alloc, hide, reader, writer),
+    }
+}

@@ -1,0 +1,57 @@
+//! The command `tidy`: write a map in canonical form.
+ghost use Rattle.std.specs.Prelude.{◌≡◌, ◌-◌, ◌^◌, ◌<◌, None, false};
+ghost use Rattle.smap_io.specs.Device.{device_failures, has_ended};
+ghost use Rattle.smap_io.specs.Streams.{streams};
+ghost use Rattle.smap_tool.specs.Run.{WritesOutputAgainst, Runs};
+ghost use Rattle.smap_tool.specs.Commands.{tidy_output, tidy_text};
+ghost use Rattle.url.specs.Parser.{parse_url};
+
+use crate::map_run::{MapCommand, run_on_map};
+use crate::outcome::{Outcome, RunFault};
+use smap_canon::canonical_in;
+use smap_io::Device;
+use smap_mappings::Memory;
+use smap_record::{Base, SourceMap};
+use std::alloc::Global;
+use std::io::{Read, Write};
+
+#[derive(Drop)]
+struct Tidy {
+    relative: bool,
+}
+
+impl MapCommand for Tidy {
+    ghost output = { λ tidy base m. tidy_text tidy.relative base m };
+
+    fn text(&self, alloc: Global, base: &Base, map: &SourceMap) -> Result<Vec<u8>, Memory> {
+        canonical_in(alloc, map, base, self.relative)
+    }
+}
+
+/// Reads a map, and writes its canonical form with nothing after it, or the line of its first fault with a
+/// line feed (then the answer is `Refused`). With `relative`, source URLs are relative to the base where
+/// that round-trips.
+///
+/// A base that isn't an absolute URL is refused before anything is read.
+///
+/// # Errors
+///
+/// Those of [`run`](crate::run).
+pub fn run_tidy<R: Read, W: Write>(
+    alloc: Global,
+    base: &str,
+    relative: bool,
+    reader: &mut Device<R>,
+    writer: &mut Device<W>,
+) -> Result<Outcome, RunFault>
+    requires reader { device_failures reader.old < 2 ^ 64 - 1 }
+    requires writer { device_failures writer.old < 2 ^ 64 - 1 }
+    requires not_ended { has_ended reader.old ≡ false }
+
+    // What was written is what the definition gives for what was read against the base. Read and Write come
+    // with a failure of their device, and no other answer does.
+    ensures { Runs (WritesOutputAgainst (parse_url None base.now) (tidy_output relative))
+        (streams R.remaining reader.old reader.new W.contents writer.old writer.new) result }
+{
+    run_on_map(alloc, &Tidy { relative }, base, reader, writer)
+}

@@ -1,4 +1,0 @@
-pub mod RangeLemmas
-pub mod RowLemmas
-pub mod ValueLemmas
-pub mod WordsLemmas
