@@ -1,5 +1,5 @@
 -- How faults are told to C.
-use Rattle.std.specs.Prelude.{◌≡◌, ◌<◌, ◌⊎◌, ℕ, List, length, replicate, Option, Some, None}
+use Rattle.std.specs.Prelude.{◌≡◌, ◌≤◌, ◌⊎◌, ℕ, List, length, replicate, Option, Some, None}
 use Rattle.std.specs.Option.{is_some}
 use Rattle.smap_vlq.specs.declared.number.NumberFault.{NumberFault}
 use Rattle.smap_vlq.specs.declared.number.NumberFault.TheVariants as number
@@ -92,6 +92,6 @@ abbrev pub TellsFault : Fault → SmapFault → SmapFault → ℕ → Type 0
 TellsFault fault before after code =
     ((code ≡ REFUSED) × (after ≡ fault_told fault)) ⊎ ((code ≡ MEMORY) × (after ≡ before))
 
--- A fault that is told has all of its words, and a zero after them.
+-- A fault that is told has all of its words: they are at most 260 bytes, and the field has 264.
 abbrev pub IsWhole : SmapFault → ℕ → Type 0
-IsWhole after code = code ≡ REFUSED → after.text_len < 264
+IsWhole after code = code ≡ REFUSED → after.text_len ≤ 260

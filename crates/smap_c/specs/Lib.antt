@@ -2,6 +2,7 @@ pub mod Codes
 pub mod Comparing
 pub mod Copying
 pub mod Counting
+pub mod Crossing
 pub mod FaultBounds
 pub mod FaultCodes
 pub mod Faults
@@ -12,6 +13,7 @@ pub mod Limits
 pub mod Listed
 pub mod Names
 pub mod Opening
+pub mod Order
 pub mod Outputs
 pub mod OwnedBytes
 pub mod OwnedMap

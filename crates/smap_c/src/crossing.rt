@@ -1,31 +1,37 @@
-//! A handle may go to another thread.
+//! A handle may go to another thread: each of these gives back its own, and promises that its type may cross.
 ghost use Rattle.std.specs.Prelude.{◌≡◌};
+ghost use Rattle.std.specs.Thread.{IsSend};
+ghost use Rattle.smap_c.specs.Crossing.{BytesCross, MapCrosses, ScriptsCross};
 
 use crate::opened::SmapMap;
 use crate::scripts::SmapScripts;
 use crate::written::SmapBytes;
 
+/// What the bound means.
 fn crosses<T: Send + Drop>(it: T) -> T
-    ensures { result ≡ it }
+    ensures same { result ≡ it }
+    ensures sent { IsSend T.row }
 {
     it
 }
 
-/// This is proved where `Send` is of the handle.
 pub fn map_crosses(map: SmapMap) -> SmapMap
-    ensures { result ≡ map }
+    ensures same { result ≡ map }
+    ensures sent { MapCrosses }
 {
     crosses(map)
 }
 
 pub fn bytes_cross(bytes: SmapBytes) -> SmapBytes
-    ensures { result ≡ bytes }
+    ensures same { result ≡ bytes }
+    ensures sent { BytesCross }
 {
     crosses(bytes)
 }
 
 pub fn scripts_cross(scripts: SmapScripts) -> SmapScripts
-    ensures { result ≡ scripts }
+    ensures same { result ≡ scripts }
+    ensures sent { ScriptsCross }
 {
     crosses(scripts)
 }

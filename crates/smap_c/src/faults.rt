@@ -1,5 +1,5 @@
 //! Faults, as C sees them.
-ghost use Rattle.std.specs.Prelude.{◌≡◌, ◌<◌, ◌^◌, All, length, string_bytes, IfOk};
+ghost use Rattle.std.specs.Prelude.{◌≡◌, ◌<◌, ◌≤◌, ◌^◌, All, length, string_bytes, IfOk};
 ghost use Rattle.smap_record.specs.Words.{fault_words};
 ghost use Rattle.smap_c.specs.FaultBounds.{FaultFits, KindFits, PlaceFits};
 ghost use Rattle.smap_c.specs.Faults.{code_and_number, padded_path, padded_words, spelling_code};
@@ -12,7 +12,7 @@ use smap_mappings::{Memory, NumberFault, SegmentPlace};
 use smap_record::{Fault, Kind, Path};
 use std::alloc::Global;
 
-/// As many bytes as the words of any fault take, and at least one zero.
+/// As many bytes as the words of any fault take, which are at most 260, and zeros after them.
 const ROOM: usize = 264;
 
 /// The first fault of a map or of a mappings text. The place is that of its segment, where it has one, else
@@ -120,7 +120,7 @@ fn fault_fits(fault: &Fault)
 #[tactic(auto, using(crate::proofs::WordsLemmas::words_are_short))]
 fn fault_text(alloc: Global, fault: &Fault) -> Result<String, Memory>
     ensures words { IfOk result (λ text. string_bytes text ≡ fault_words fault.now) }
-    ensures short { length (fault_words fault.now) < 264 }
+    ensures short { length (fault_words fault.now) ≤ 260 }
 {
     fault_fits(fault);
     format!(in alloc; "{fault}")

@@ -14,6 +14,7 @@ mod fault_codes;
 mod faults;
 mod finding;
 mod getting;
+mod laws;
 mod limits;
 mod listed;
 mod loose;

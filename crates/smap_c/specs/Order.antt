@@ -1,0 +1,120 @@
+-- The fields of each struct that crosses to C, in the order in which they lie in it, as in `smap.h`.
+use Rattle.std.specs.Prelude.{◌≡◌}
+use Rattle.smap_c.specs.declared.counting.SmapCounts.{SmapCounts}
+use Rattle.smap_c.specs.declared.faults.SmapFault.{SmapFault}
+use Rattle.smap_c.specs.declared.finding.SmapMapping.{SmapMapping}
+use Rattle.smap_c.specs.declared.limits.SmapLimits.{SmapLimits}
+use Rattle.smap_c.specs.declared.listed.SmapListedMapping.{SmapListedMapping}
+use Rattle.smap_c.specs.declared.opened.MapOwner.{MapOwner}
+use Rattle.smap_c.specs.declared.opened.SmapMap.{SmapMap}
+use Rattle.smap_c.specs.declared.scripts.ScriptsOwner.{ScriptsOwner}
+use Rattle.smap_c.specs.declared.scripts.SmapScripts.{SmapScripts}
+use Rattle.smap_c.specs.declared.traces.SmapFrame.{SmapFrame}
+use Rattle.smap_c.specs.declared.translating.SmapTraceCounts.{SmapTraceCounts}
+use Rattle.smap_c.specs.declared.written.BytesOwner.{BytesOwner}
+use Rattle.smap_c.specs.declared.written.SmapBytes.{SmapBytes}
+use Rattle.smap_c.specs.contracts.counting.SmapCounts as counts
+use Rattle.smap_c.specs.contracts.faults.SmapFault as fault
+use Rattle.smap_c.specs.contracts.finding.SmapMapping as mapping
+use Rattle.smap_c.specs.contracts.limits.SmapLimits as limits
+use Rattle.smap_c.specs.contracts.listed.SmapListedMapping as listed
+use Rattle.smap_c.specs.contracts.opened.MapOwner as map_owner
+use Rattle.smap_c.specs.contracts.opened.SmapMap as map
+use Rattle.smap_c.specs.contracts.scripts.ScriptsOwner as scripts_owner
+use Rattle.smap_c.specs.contracts.scripts.SmapScripts as scripts
+use Rattle.smap_c.specs.contracts.traces.SmapFrame as frame
+use Rattle.smap_c.specs.contracts.translating.SmapTraceCounts as trace_counts
+use Rattle.smap_c.specs.contracts.written.BytesOwner as bytes_owner
+use Rattle.smap_c.specs.contracts.written.SmapBytes as bytes
+
+abbrev pub FaultOrder : Type 0
+FaultOrder = (f : SmapFault) → fault.the_type.as_values f
+    ≡ (
+      f.kind,
+      (
+        f.line,
+        (
+          f.segment,
+          (
+            f.has_place,
+            (
+              f.number,
+              (
+                f.depth,
+                (f.section, (f.text_len, (f.text, tt))),
+              ),
+            ),
+          ),
+        ),
+      ),
+    )
+
+abbrev pub LimitsOrder : Type 0
+LimitsOrder = (l : SmapLimits) → limits.the_type.as_values l ≡ (l.items, (l.lines, tt))
+
+abbrev pub CountsOrder : Type 0
+CountsOrder = (c : SmapCounts) → counts.the_type.as_values c
+    ≡ (c.sources, (c.listed_sources, (c.names, (c.mappings, (c.lines, tt)))))
+
+abbrev pub MappingOrder : Type 0
+MappingOrder = (m : SmapMapping) → mapping.the_type.as_values m
+    ≡ (
+      m.line,
+      (
+        m.column,
+        (
+          m.has_source,
+          (
+            m.has_name,
+            (
+              m.is_ignored,
+              (m.source_line, (m.source_column, (m.source, tt))),
+            ),
+          ),
+        ),
+      ),
+    )
+
+abbrev pub ListedOrder : Type 0
+ListedOrder = (m : SmapListedMapping) → listed.the_type.as_values m
+    ≡ (
+      m.line,
+      (
+        m.column,
+        (
+          m.has_source,
+          (
+            m.has_name,
+            (m.source_line, (m.source_column, (m.source, (m.name, tt)))),
+          ),
+        ),
+      ),
+    )
+
+abbrev pub FrameOrder : Type 0
+FrameOrder = (f : SmapFrame) → frame.the_type.as_values f
+    ≡ (f.url_from, (f.url_len, (f.line, (f.column, tt))))
+
+abbrev pub TraceCountsOrder : Type 0
+TraceCountsOrder = (c : SmapTraceCounts) → trace_counts.the_type.as_values c
+    ≡ (c.lines, (c.translated, (c.dropped, tt)))
+
+-- ---- handles: a flag, and a pointer beside an allocator, which takes no room
+
+abbrev pub MapOrder : Type 0
+MapOrder = (h : SmapMap) → map.the_type.as_values h ≡ (h.is_open, (h.owner, tt))
+
+abbrev pub MapOwnerOrder : Type 0
+MapOwnerOrder = (o : MapOwner) → map_owner.the_type.as_values o ≡ (o.at, (o.alloc, tt))
+
+abbrev pub BytesOrder : Type 0
+BytesOrder = (h : SmapBytes) → bytes.the_type.as_values h ≡ (h.is_open, (h.owner, tt))
+
+abbrev pub BytesOwnerOrder : Type 0
+BytesOwnerOrder = (o : BytesOwner) → bytes_owner.the_type.as_values o ≡ (o.at, (o.alloc, tt))
+
+abbrev pub ScriptsOrder : Type 0
+ScriptsOrder = (h : SmapScripts) → scripts.the_type.as_values h ≡ (h.is_open, (h.owner, tt))
+
+abbrev pub ScriptsOwnerOrder : Type 0
+ScriptsOwnerOrder = (o : ScriptsOwner) → scripts_owner.the_type.as_values o ≡ (o.at, (o.alloc, tt))
