@@ -1,5 +1,6 @@
 """Tests of the Python module."""
 
+import re
 import sys
 import threading
 import unittest
@@ -8,12 +9,26 @@ from pathlib import Path
 sys.path.insert(0, str(Path(__file__).resolve().parent.parent / "python"))
 import smap  # noqa: E402
 
+FIELDS = Path(__file__).resolve().parent / "fields.c"
 BASE = "http://h/m/out.js.map"
 TEXT = (
     b'{"version":3,"file":"out.js","sources":["a.js","b.js",null],"sourcesContent":["x\\ny",null],'
     b'"ignoreList":[1],"names":["f"],"mappings":"AAUEA,IAEA;ACAA,E"}'
 )
 FRAME = b"    at f (http://h/m/out.js:1:2)\n"
+
+# The structs of smap.h that the module declares: all but smap_listed_mapping.
+STRUCTS = {
+    "smap_fault": smap._Fault,
+    "smap_map": smap._Handle,
+    "smap_limits": smap._Limits,
+    "smap_counts": smap.Counts,
+    "smap_mapping": smap._Mapping,
+    "smap_bytes": smap._Handle,
+    "smap_frame_parts": smap._Frame,
+    "smap_scripts": smap._Handle,
+    "smap_trace_counts": smap.TraceCounts,
+}
 
 
 class ModuleTest(unittest.TestCase):
@@ -44,9 +59,11 @@ class ModuleTest(unittest.TestCase):
         fault = raised.exception
         self.assertEqual(str(fault), "section 0: line 1 segment 2: empty segment")
         self.assertEqual((fault.section, fault.line, fault.segment, fault.kind), ((0,), 1, 2, 22))
+        self.assertEqual(fault.number, 0)
         with self.assertRaises(smap.Refused) as raised:
             smap.respell(b"A,B")
         self.assertEqual(str(raised.exception), "line 0 segment 1: number 1: negative zero")
+        self.assertEqual((raised.exception.number, raised.exception.section), (1, ()))
 
     def test_other_errors_have_their_codes(self):
         for words, code in [(["nobase"], 2), ([BASE, 1 << 31], 3), ([BASE, 0, 16777217], 3)]:
@@ -85,6 +102,19 @@ class ModuleTest(unittest.TestCase):
             told, counts = scripts.translate(b"@u:2:1\n@v:1:1\n", hide=True)
             self.assertEqual(told, b"@http://h/m/c.js:1:1\n")
             self.assertEqual((counts.lines, counts.translated, counts.dropped), (2, 1, 1))
+
+    def test_fields_lie_where_the_test_in_c_says(self):
+        rows = re.findall(r"FIELD\((\w+), (\w+), (\d+), (\d+)\)", FIELDS.read_text())
+        for name, struct in STRUCTS.items():
+            wanted = [(field, int(at), int(size)) for of, field, at, size in rows if of == name]
+            fields = [field for field, _ in struct._fields_]
+            found = [(field, getattr(struct, field).offset, getattr(struct, field).size) for field in fields]
+            self.assertEqual((name, found), (name, wanted))
+
+    def test_a_frame_has_its_parts(self):
+        line = b"    at f (http://h/m/out.js:70:900)"
+        self.assertEqual(smap.frame(line), smap.Frame(b"http://h/m/out.js", 70, 900))
+        self.assertIsNone(smap.frame(b"Error"))
 
     def test_a_text_may_be_long(self):
         name = "n" * 100000

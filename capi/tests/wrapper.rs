@@ -2,11 +2,65 @@
 #[path = "../rust/smap.rs"]
 mod smap;
 
-use smap::{Error, ListedMapping, Map, Scripts, TraceCounts};
+use smap::{Counts, Error, Limits, ListedMapping, Map, Mapping, Scripts, TraceCounts};
 
 const BASE: &str = "http://h/m/out.js.map";
 const TEXT: &[u8] = br#"{"version":3,"file":"out.js","sources":["a.js","b.js","a.js",null],
     "sourcesContent":["x",null,"x"],"ignoreList":[1],"names":["f","g","f"],"mappings":"AAUEA,IAEA;ACAAE,E"}"#;
+
+/// The map of fields.c, whose numbers all differ within a struct.
+const DIFFERENT: &[u8] = br#"{"version":3,"sources":["a.js","b.js","a.js","c.js","d.js","a.js"],
+    "ignoreList":[3],"names":["n0","n1","n2","n3","n4","n5","n6"],
+    "mappings":";;;;;;oGIwM4SK,w+BDkD9B;;O,iCFtOzP,kDEWYC"}"#;
+
+/// A mapping of that map: line and column, the source's number and index, its line and column, and the name's
+/// index; and whether it is ignored.
+type Row = (u32, u32, Option<(usize, u32)>, u32, u32, Option<u32>, bool);
+
+const ROWS: [Row; 5] = [
+    (6, 100, Some((3, 4)), 200, 300, Some(5), false),
+    (6, 1100, Some((2, 3)), 250, 270, None, true),
+    (8, 7, None, 0, 0, None, false),
+    (8, 40, Some((1, 1)), 20, 21, None, false),
+    (8, 90, Some((2, 3)), 31, 33, Some(6), true),
+];
+
+fn fields() -> Result<(), Error> {
+    let map = Map::open_within(DIFFERENT, BASE, Limits { items: 7, lines: 9 })?;
+    for (i, row) in ROWS.into_iter().enumerate() {
+        let (line, column, source, source_line, source_column, name, is_ignored) = row;
+        let (number, index) = (source.map(|it| it.0), source.map(|it| it.1));
+        let has_name = name.is_some();
+        let place = Mapping { line, column, source: number, source_line, source_column, has_name, is_ignored };
+        assert_eq!((map.mapping(i), map.lookup(line, column + 1)), (Some(place), Some(place)));
+        let listed = ListedMapping { line, column, source: index, source_line, source_column, name };
+        assert_eq!(map.listed_mapping(i), Some(listed));
+    }
+    let counts = Counts { sources: 4, listed_sources: 6, names: 7, mappings: 5, lines: 9 };
+    assert_eq!(map.counts(), counts);
+    assert!(Map::open_within(DIFFERENT, BASE, Limits { items: 9, lines: 7 }).is_err());
+    let mut scripts = Scripts::new();
+    scripts.add("u", &map)?;
+    let trace = b"Error\n@u:7:101\n@u:7:102\n@u:7:1101\n@u:7:103\n@u:7:1102\nend\n";
+    assert_eq!(scripts.translate(trace, true)?.1, TraceCounts { lines: 7, translated: 3, dropped: 2 });
+    let frame = smap::frame(b"    at f (http://h/m/out.js:70:900)").unwrap();
+    assert_eq!((frame.url, frame.line, frame.column), (&b"http://h/m/out.js"[..], 70, 900));
+    Ok(())
+}
+
+/// A bad character as the third number of the seventh segment of line 5, in section 1.2.
+fn fields_of_a_fault() {
+    let at = r#"{"offset":{"line":0,"column":0},"map":"#;
+    let (open, none) = (r#"{"version":3,"sections":["#, format!(r#"{at}{{"version":3,"mappings":""}}}},"#));
+    let bad = r#"{"version":3,"mappings":";;;;;A,A,A,A,A,A,AA!A"}"#;
+    let text = format!("{open}{none}{at}{open}{none}{none}{at}{bad}}}]}}}}]}}");
+    let Err(Error::Refused(fault)) = Map::open(text.as_bytes(), BASE) else {
+        panic!("not refused");
+    };
+    assert_eq!((fault.kind, fault.place, fault.number), (24, Some((5, 6)), 3));
+    assert_eq!(fault.section, [1, 2]);
+    assert_eq!(fault.words, "section 1.2: line 5 segment 6: number 3: bad character");
+}
 
 fn sources_and_lists(map: &Map) {
     assert_eq!((map.file().as_deref(), map.content(0).as_deref()), (Some("out.js"), Some("x")));
@@ -60,6 +114,8 @@ fn main() -> Result<(), Error> {
     sources_and_lists(&map);
     traces(&map)?;
     errors(&map)?;
+    fields()?;
+    fields_of_a_fault();
     let other = map.share()?;
     let found = std::thread::spawn(move || other.lookup(0, 5)).join().unwrap();
     assert_eq!(found, map.lookup(0, 5));
