@@ -29,11 +29,11 @@ fn fields() -> Result<(), Error> {
     let map = Map::open_within(DIFFERENT, BASE, Limits { items: 7, lines: 9 })?;
     for (i, row) in ROWS.into_iter().enumerate() {
         let (line, column, source, source_line, source_column, name, is_ignored) = row;
-        let (number, index) = (source.map(|it| it.0), source.map(|it| it.1));
-        let has_name = name.is_some();
-        let place = Mapping { line, column, source: number, source_line, source_column, has_name, is_ignored };
+        let listed_source = source.map(|it| it.1);
+        let (source, has_name) = (source.map(|it| it.0), name.is_some());
+        let place = Mapping { line, column, source, source_line, source_column, has_name, is_ignored };
         assert_eq!((map.mapping(i), map.lookup(line, column + 1)), (Some(place), Some(place)));
-        let listed = ListedMapping { line, column, source: index, source_line, source_column, name };
+        let listed = ListedMapping { line, column, source: listed_source, source_line, source_column, name };
         assert_eq!(map.listed_mapping(i), Some(listed));
     }
     let counts = Counts { sources: 4, listed_sources: 6, names: 7, mappings: 5, lines: 9 };
