@@ -11,7 +11,7 @@ use Rattle.url.specs.Parts.{Parts}
 use Rattle.smap_record.specs.declared.fault.Fault.{Fault}
 use Rattle.smap_record.specs.Reading.{reading}
 use Rattle.smap_record.specs.Record.{Record, record_of}
-use Rattle.smap_io.specs.declared.reading.TheConstants.{LIMIT}
+use Rattle.smap_io.specs.Limits.{longest_input}
 use Rattle.smap_trace.specs.Translation.{AreDistinct, Script, translation}
 use Rattle.smap_bundle.specs.Header.{BeginsWithHeader, HasNoHeader, trace_line}
 use Rattle.smap_bundle.specs.declared.fault.EntryFault.TheVariants as wrong
@@ -57,7 +57,7 @@ one_entry_fault : (seen : List Script) (script base : List ℕ) (n : ℕ) (more 
     → FaultOfEntry seen script base n more a
     → FaultOfEntry seen script base n more b → a ≡ b
 one_entry_fault seen script base n more a b x y =
-    one_where (LIMIT < n) _ _ _ _ a b x y (λ p q. p ∙ sym q) (λ x1 y1.
+    one_where (longest_input < n) _ _ _ _ a b x y (λ p q. p ∙ sym q) (λ x1 y1.
     one_where (Contains (map (λ (s : Script). s.0) seen) script) _ _ _ _ a b x1 y1 (λ p q. p ∙ sym q)
     (λ x2 y2.
     one_where (IsErr (parse_url None base)) _ _ _ _ a b x2 y2 (λ p q. p ∙ sym q)

@@ -10,7 +10,7 @@ use Rattle.url.specs.Parts.{Parts}
 use Rattle.smap_record.specs.Faults.{Checked}
 use Rattle.smap_record.specs.Reading.{reading}
 use Rattle.smap_record.specs.Record.{ReadMap, record_of}
-use Rattle.smap_io.specs.declared.reading.TheConstants.{LIMIT}
+use Rattle.smap_io.specs.Limits.{longest_input}
 use Rattle.smap_trace.specs.Translation.{AreDistinct, Script, translation}
 use Rattle.smap_bundle.specs.declared.fault.EntryFault.TheVariants as wrong
 use Rattle.smap_bundle.specs.Header.{BeginsWithHeader, HasNoHeader, IsHeader, trace_line}
@@ -93,7 +93,7 @@ module _ (seen : List Script) (text script base : List ℕ) (n : ℕ) (more : Li
   )
 
   -- a map of the length that the header announces
-  mapped : (url : Parts) → n ≤ LIMIT → IsNew seen script → parse_url None base ≡ Ok url → HasAt more n 10
+  mapped : (url : Parts) → n ≤ longest_input → IsNew seen script → parse_url None base ≡ Ok url → HasAt more n 10
       → Next seen text
   mapped url fits new good h = go (reading url usual h.front) refl
     where
@@ -134,7 +134,7 @@ module _ (seen : List Script) (text script base : List ℕ) (n : ℕ) (more : Li
       })
 
   -- a map, once its length, its script and its base are checked
-  based : (url : Parts) → n ≤ LIMIT → IsNew seen script → parse_url None base ≡ Ok url → Next seen text
+  based : (url : Parts) → n ≤ longest_input → IsNew seen script → parse_url None base ≡ Ok url → Next seen text
   based url fits new good = go (feed_after more n)
     where
       go : HasAt more n 10 ⊎ (slice_get more n ≢ Some 10) → Next seen text
@@ -145,15 +145,15 @@ module _ (seen : List Script) (text script base : List ℕ) (n : ℕ) (more : Li
           good (none, refl))
 
   headed : Next seen text
-  headed = sized (cases_lt LIMIT n)
+  headed = sized (cases_lt longest_input n)
     where
-      parsed : n ≤ LIMIT → IsNew seen script → (r : Parsed Parts) → parse_url None base ≡ r → Next seen text
+      parsed : n ≤ longest_input → IsNew seen script → (r : Parsed Parts) → parse_url None base ≡ r → Next seen text
       parsed fits new (Ok url) e = based url fits new e
       parsed fits new (Err f) e = faulty (refusal (length seen) wrong.Base)
           (no_base seen script base n (length seen) more (refusal (length seen) wrong.Base) refl fits new
           (rw e refl) refl)
 
-      named : n ≤ LIMIT → Contains (map (λ (s : Script). s.0) seen) script ⊎ IsNew seen script
+      named : n ≤ longest_input → Contains (map (λ (s : Script). s.0) seen) script ⊎ IsNew seen script
           → Next seen text
       named fits (inl known) = faulty (refusal (length seen) wrong.Repeated)
           (repeated seen script base n (length seen) more (refusal (length seen) wrong.Repeated)
@@ -161,7 +161,7 @@ module _ (seen : List Script) (text script base : List ℕ) (n : ℕ) (more : Li
           refl)
       named fits (inr new) = parsed fits new (parse_url None base) refl
 
-      sized : (LIMIT < n) ⊎ (n ≤ LIMIT) → Next seen text
+      sized : (longest_input < n) ⊎ (n ≤ longest_input) → Next seen text
       sized (inl long) = faulty too_long (inl (long, refl))
       sized (inr fits) = named fits (known_or_new script seen)
 

@@ -13,7 +13,7 @@ use Rattle.std.proofs.lemmas.List.{append_cancel_left}
 use Rattle.std.proofs.lemmas.Str.{IsUtf8-from_is_utf8, is_utf8-from_IsUtf8}
 use Rattle.smap_trace.specs.Frame.{lacks}
 use Rattle.smap_bundle.specs.Header.{BeginsWithHeader, HasNoHeader, IsHeader, IsNumber, IsWord}
-use Rattle.smap_bundle.specs.Header.{LONGEST_HEADER}
+use Rattle.smap_bundle.specs.Header.{longest_header}
 use Rattle.smap_bundle.specs.Header.{trace_line}
 use Rattle.smap_bundle.proofs.TextLemmas.{lacks_front, lacks_rest, one_cut, one_end}
 use Rattle.smap_bundle.proofs.HeaderLemmas.{begun, inside, inside_is, inside_lacks, line_is, words}
@@ -166,10 +166,10 @@ module _ (front script base digits : List ℕ) (is : front ≡ inside script bas
 
   parts_decide : Headed (front ++ 10 ∷ []) ⊎ Unheaded (front ++ 10 ∷ [])
   parts_decide = go (word script script_space script_feed) (word base base_space base_feed) (number digits)
-      (cases_lt LONGEST_HEADER (length (front ++ 10 ∷ [])))
+      (cases_lt longest_header (length (front ++ 10 ∷ [])))
     where
       go : IsWord script ⊎ (IsWord script → ⊥) → IsWord base ⊎ (IsWord base → ⊥) → Numbered digits
-          → (LONGEST_HEADER < length (front ++ 10 ∷ [])) ⊎ (length (front ++ 10 ∷ []) ≤ LONGEST_HEADER)
+          → (longest_header < length (front ++ 10 ∷ [])) ⊎ (length (front ++ 10 ∷ []) ≤ longest_header)
           → Headed (front ++ 10 ∷ []) ⊎ Unheaded (front ++ 10 ∷ [])
       go (inl s) (inl b) (inl n) (inr short) = inl (
         script,

@@ -14,14 +14,14 @@ use Rattle.url.specs.Parts.{Parts}
 use Rattle.smap_record.specs.declared.fault.Fault.{Fault}
 use Rattle.smap_record.specs.Reading.{reading}
 use Rattle.smap_record.specs.Record.{record_of}
-use Rattle.smap_io.specs.declared.reading.TheConstants.{LIMIT}
+use Rattle.smap_io.specs.Limits.{longest_input}
 use Rattle.smap_trace.specs.Frame.{lacks}
 use Rattle.smap_trace.specs.Translation.{AreDistinct, Script}
 use Rattle.smap_io.specs.declared.device.Device.{Device}
 use Rattle.smap_io.specs.Device.{device_failures, has_ended}
 use Rattle.smap_io.specs.Reading.{Gave, IsWithinLine, ReadsLine}
 use Rattle.smap_bundle.specs.declared.fault.EntryFault.TheVariants as wrong
-use Rattle.smap_bundle.specs.Header.{BeginsWithHeader, HasNoHeader, IsHeader, LONGEST_HEADER, trace_line}
+use Rattle.smap_bundle.specs.Header.{BeginsWithHeader, HasNoHeader, IsHeader, longest_header, trace_line}
 use Rattle.smap_bundle.specs.Bundle.{Answer, IsAnswer, AreEntries, FaultAt, FaultOfEntry, FaultOfMap, IsEntry}
 use Rattle.smap_bundle.specs.Bundle.{refusal, too_long, usual}
 use Rattle.smap_bundle.specs.Entries.{IsNew, TakesEntry, TakesMap, cut_off}
@@ -32,21 +32,21 @@ use Rattle.smap_bundle.proofs.HeaderLemmas.{begun, inside, inside_lacks, line_is
 
 -- ---- the faults of an entry
 
-small : (n : ℕ) → n ≤ LIMIT → LIMIT < n → ⊥
+small : (n : ℕ) → n ≤ longest_input → longest_input < n → ⊥
 small n le lt = omega (arith, le, lt)
 
 pub ok_isnt : {A E : Type 0} (r : Result A E) (x : A) → r ≡ Ok x → IsErr r → ⊥
 ok_isnt r x e h = true≢false (sym h ∙ ap is_err e)
 
 pub repeated : (seen : List Script) (script base : List ℕ) (n entry : ℕ) (more : List ℕ) (answer : Answer)
-    → entry ≡ length seen → n ≤ LIMIT
+    → entry ≡ length seen → n ≤ longest_input
     → Contains (map (λ (s : Script). s.0) seen) script → answer ≡ refusal entry wrong.Repeated
     → FaultOfEntry seen script base n more answer
 repeated seen script base n entry more answer at fits known is =
     inr (small n fits, inl (known, subst (λ (i : ℕ). answer ≡ refusal i wrong.Repeated) at is))
 
 pub no_base : (seen : List Script) (script base : List ℕ) (n entry : ℕ) (more : List ℕ) (answer : Answer)
-    → entry ≡ length seen → n ≤ LIMIT
+    → entry ≡ length seen → n ≤ longest_input
     → IsNew seen script → IsErr (parse_url None base) → answer ≡ refusal entry wrong.Base
     → FaultOfEntry seen script base n more answer
 no_base seen script base n entry more answer at fits new bad is =
@@ -54,14 +54,14 @@ no_base seen script base n entry more answer at fits new bad is =
 
 -- a fault of the map of an entry whose base is a URL
 map_fault : (seen : List Script) (script base : List ℕ) (n : ℕ) (more : List ℕ) (answer : Answer)
-    (url : Parts) → n ≤ LIMIT → IsNew seen script
+    (url : Parts) → n ≤ longest_input → IsNew seen script
     → parse_url None base ≡ Ok url → FaultOfMap (length seen) base n more answer
     → FaultOfEntry seen script base n more answer
 map_fault seen script base n more answer url fits new good fault =
     inr (small n fits, inr (new, inr (ok_isnt (parse_url None base) url good, fault)))
 
 pub cut_entry : (seen : List Script) (script base : List ℕ) (n entry : ℕ) (more : List ℕ) (answer : Answer)
-    (url : Parts) → entry ≡ length seen → n ≤ LIMIT
+    (url : Parts) → entry ≡ length seen → n ≤ longest_input
     → IsNew seen script → parse_url None base ≡ Ok url → cut_off entry n more answer
     → FaultOfEntry seen script base n more answer
 cut_entry seen script base n entry more answer url at fits new good cut =
@@ -92,7 +92,7 @@ byte_after [] y ys = refl
 byte_after (x ∷ xs) y ys = byte_after xs y ys
 
 pub bad_map : (seen : List Script) (script base bytes more : List ℕ) (n entry : ℕ) (fault : Fault)
-    (answer : Answer) (url : Parts) → entry ≡ length seen → n ≤ LIMIT
+    (answer : Answer) (url : Parts) → entry ≡ length seen → n ≤ longest_input
     → length bytes ≡ n → IsNew seen script → parse_url None base ≡ Ok url
     → reading url usual bytes ≡ Err fault
     → answer ≡ refusal entry (wrong.Map fault)
@@ -148,8 +148,8 @@ has_none ended line more (inr w) may isnt none = record {
 }
   where
     -- so far the line was read
-    reaches : (t : Bool) → MayFollow t more → (t ≡ false → LONGEST_HEADER ≤ length line) → (k : ℕ)
-        → k ≤ LONGEST_HEADER → (xs rest : List ℕ)
+    reaches : (t : Bool) → MayFollow t more → (t ≡ false → longest_header ≤ length line) → (k : ℕ)
+        → k ≤ longest_header → (xs rest : List ℕ)
         → length xs ≡ k → line ++ more ≡ xs ++ rest → length xs ≤ length line
     reaches false may long k short xs rest is e = omega (arith, long refl, short, is)
     reaches true may long k short xs rest is e =
@@ -169,7 +169,7 @@ open_still ended line script base n (inr w) h =
     (ap (lacks 10) (sym (line_is line script base n h)) ∙ w.0) in
     absurd (true≢false (sym bad))
 
-pub is_len : (n len : ℕ) → len ≡ min n (2 ^ 64 - 1) → len ≤ LIMIT → n ≡ len
+pub is_len : (n len : ℕ) → len ≡ min n (2 ^ 64 - 1) → len ≤ longest_input → n ≡ len
 is_len n len is fits = omega (arith, is, fits)
 
 -- an entry of a header and its map
@@ -220,7 +220,7 @@ fault_after seen line script base n more answer h fault =
 -- ---- how far was read
 
 -- a line as it is read is at most one line
-is_within_line : (ended : Bool) (line : List ℕ) → IsLine ended line → IsWithinLine LONGEST_HEADER line
+is_within_line : (ended : Bool) (line : List ℕ) → IsLine ended line → IsWithinLine longest_header line
 is_within_line ended line (inl w) = record {
   front = w.0.front;
   last = 10 ∷ [];
@@ -258,7 +258,7 @@ no_more ended ss entries line text answer are distinct is_line within = record {
 
 -- entries, and part of a line or all of it
 pub ends_within : (ss : List Script) (entries line : List ℕ) → AreEntries entries ss → AreDistinct ss
-    → IsWithinLine LONGEST_HEADER line → EndsWithinEntry (entries ++ line)
+    → IsWithinLine longest_header line → EndsWithinEntry (entries ++ line)
 ends_within ss entries line are distinct is_line = (
   too_long,
   record {
@@ -353,7 +353,7 @@ answered hide ss entries line text answer are distinct fault = record {
 -- ---- lines as they are read
 
 pub line_read : {R : Type 0} (remaining : R → Option (List ℕ)) (a b : Device R) (line : List ℕ)
-    → has_ended a ≡ false → ReadsLine remaining a b LONGEST_HEADER line
+    → has_ended a ≡ false → ReadsLine remaining a b longest_header line
     → IsLine (has_ended b) line × Gave remaining a b line × (device_failures b ≡ device_failures a)
 line_read remaining a b line still (inl w) = (
   inl (
@@ -369,12 +369,12 @@ line_read remaining a b line still (inl w) = (
   w.failures,
 )
 line_read remaining a b line still (inr u) = (
-  inr (u.1, u.0.within, λ still_open. far (cases_lt (length line) LONGEST_HEADER) still_open),
+  inr (u.1, u.0.within, λ still_open. far (cases_lt (length line) longest_header) still_open),
   u.0.gave,
   u.0.failures,
 )
   where
-    far : (length line < LONGEST_HEADER) ⊎ (LONGEST_HEADER ≤ length line) → has_ended b ≡ false
-        → LONGEST_HEADER ≤ length line
+    far : (length line < longest_header) ⊎ (longest_header ≤ length line) → has_ended b ≡ false
+        → longest_header ≤ length line
     far (inl lt) still_open = absurd (true≢false (sym (u.0.short lt).0 ∙ still_open))
     far (inr le) still_open = le

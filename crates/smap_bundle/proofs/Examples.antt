@@ -7,11 +7,11 @@ use Rattle.std.specs.Str.{is_utf8, chars}
 use Rattle.std.proofs.lemmas.Str.{IsUtf8-from_is_utf8}
 use Rattle.url.proofs.OnLiterals.{url_on_literals}
 use Rattle.url.specs.Parser.{parse_url}
-use Rattle.smap_io.specs.declared.reading.TheConstants.{LIMIT}
+use Rattle.smap_io.specs.Limits.{longest_input}
 use Rattle.smap_trace.specs.Frame.{lacks}
 use Rattle.smap_bundle.specs.declared.fault.EntryFault.TheVariants as wrong
 use Rattle.smap_bundle.specs.Bundle.{Answer, IsAnswer, FaultAt, FaultOfEntry, refusal, too_long}
-use Rattle.smap_bundle.specs.Header.{BeginsWithHeader, HasNoHeader, IsNumber, IsWord, LONGEST_HEADER, header}
+use Rattle.smap_bundle.specs.Header.{BeginsWithHeader, HasNoHeader, IsNumber, IsWord, longest_header, header}
 use Rattle.smap_bundle.specs.Header.{trace_line}
 use Rattle.smap_bundle.proofs.HeaderLemmas.{begun}
 
@@ -55,7 +55,7 @@ unfolding is_utf8 chars encode
 a = word (codes "a") (lit< tt) refl refl refl
 
 begins : (base digits : List ℕ) (n : ℕ) → IsWord base → IsNumber digits n
-    → length (header (codes "a") base digits) ≤ LONGEST_HEADER
+    → length (header (codes "a") base digits) ≤ longest_header
     → BeginsWithHeader (header (codes "a") base digits) (codes "a") base n []
 begins base digits n is_word is_number short = record {
   line = header (codes "a") base digits;
@@ -107,14 +107,14 @@ no_url : (hide : Bool) → IsAnswer hide (codes "map a b 0\n") (refusal 0 wrong.
 unfolding url_on_literals
 no_url hide = after_header hide (codes "map a b 0\n") (codes "b") 0 (refusal 0 wrong.Base)
     (begins (codes "b") (codes "0") 0 b zero_bytes (lit≤ tt))
-    (inr ((λ (lt : LIMIT < 0). omega (arith, lt)), inr ((λ c. omega (arith, c.1)), inl (refl, refl))))
+    (inr ((λ (lt : longest_input < 0). omega (arith, lt)), inr ((λ c. omega (arith, c.1)), inl (refl, refl))))
 
 ends_in_map : (hide : Bool) → IsAnswer hide (codes "map a http://h/ 0\n") (refusal 0 wrong.CutOff)
 unfolding url_on_literals
 ends_in_map hide = after_header hide (codes "map a http://h/ 0\n") (codes "http://h/") 0
     (refusal 0 wrong.CutOff) (begins (codes "http://h/") (codes "0") 0 host zero_bytes (lit≤ tt))
     (inr (
-      (λ (lt : LIMIT < 0). omega (arith, lt)),
+      (λ (lt : longest_input < 0). omega (arith, lt)),
       inr (
         (λ c. omega (arith, c.1)),
         inr ((λ (e : IsErr (parse_url None (codes "http://h/"))). true≢false (sym e)), inl ((λ e. cc), refl)),

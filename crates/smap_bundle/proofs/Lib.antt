@@ -1,3 +1,4 @@
+mod LimitLemmas
 pub mod TextLemmas
 pub mod HeaderLemmas
 pub mod ParsedLemmas

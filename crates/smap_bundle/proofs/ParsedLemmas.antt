@@ -14,7 +14,7 @@ use Rattle.std.proofs.lemmas.Str.{IsUtf8-append, IsUtf8-from_ascii, digit_value_
 use Rattle.std.proofs.lemmas.Str.Parse.{without_leading_plus_none}
 use Rattle.std.proofs.lemmas.Str.Pattern.{IsSplitOnceResult, split_after, split_parts}
 use Rattle.smap_trace.specs.Frame.{lacks}
-use Rattle.smap_bundle.specs.Header.{IsHeader, IsNumber, IsWord, header, LONGEST_HEADER}
+use Rattle.smap_bundle.specs.Header.{IsHeader, IsNumber, IsWord, header, longest_header}
 use Rattle.smap_bundle.proofs.TextLemmas.{at_lacks, both, lacks_at, one_end}
 use Rattle.smap_bundle.proofs.HeaderLemmas.{words, words_are}
 
@@ -138,7 +138,7 @@ cut_of line text script base digits x y is first script_is second base_is digits
 
 -- a header of these parts
 pub header_of : (line script base digits : List ℕ) (n : ℕ) → Cut line script base digits → IsNumber digits n
-    → length line ≤ LONGEST_HEADER
+    → length line ≤ longest_header
     → (0 < length script) × (lacks 10 script ≡ true) → (0 < length base) × (lacks 10 base ≡ true)
     → IsUtf8 script → IsUtf8 base
     → IsHeader line script base n

@@ -4,7 +4,7 @@ use Rattle.std.proofs.Common.{codes, refl, sym, ap, subst, arith, append_assoc, 
 use Rattle.std.proofs.lemmas.Bool.{cases_lt}
 use Rattle.smap_io.specs.Reading.{IsWithinLine}
 use Rattle.smap_trace.specs.Translation.{Script}
-use Rattle.smap_bundle.specs.Header.{BeginsWithHeader, IsHeader, LONGEST_HEADER, trace_line}
+use Rattle.smap_bundle.specs.Header.{BeginsWithHeader, IsHeader, longest_header, trace_line}
 use Rattle.smap_bundle.specs.Bundle.{Answer, AreEntries, IsEntry}
 use Rattle.smap_bundle.specs.Reach.{IsWithinEntry}
 use Rattle.smap_bundle.specs.Laws.{TraceIsUnread}
@@ -20,7 +20,7 @@ header_begins : (line more script base : List ℕ) (n : ℕ) → IsHeader line s
     → BeginsWithHeader (line ++ more) script base n more
 header_begins line more script base n h = record { line = line; whole = refl; header = h }
 
-module _ (line : List ℕ) (is_line : IsWithinLine LONGEST_HEADER line) where
+module _ (line : List ℕ) (is_line : IsWithinLine longest_header line) where
   -- A line ends no earlier than at its last byte.
   no_end : (more front rest : List ℕ) → more ≡ [] → length (front ++ 10 ∷ []) < length line
       → line ++ more ≡ (front ++ 10 ∷ []) ++ rest → ⊥

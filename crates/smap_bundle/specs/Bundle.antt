@@ -9,7 +9,7 @@ use Rattle.smap_record.specs.Reading.{reading}
 use Rattle.smap_record.specs.Record.{ReadMap, record_of}
 pub use Rattle.smap_record.specs.Record.{usual}
 use Rattle.smap_trace.specs.Translation.{AreDistinct, Script, translation}
-use Rattle.smap_io.specs.declared.reading.TheConstants.{LIMIT}
+use Rattle.smap_io.specs.Limits.{longest_input}
 use Rattle.smap_bundle.specs.declared.fault.EntryFault.{EntryFault}
 use Rattle.smap_bundle.specs.declared.fault.EntryFault.TheVariants as wrong
 use Rattle.smap_bundle.specs.declared.fault.Refusal.{Refusal}
@@ -24,7 +24,7 @@ pub record IsEntry (text : List ℕ) (script : Script) : Type 0 where
   pub bytes : List ℕ
   pub map_text : ReadMap
   pub begins : BeginsWithHeader text script.0 base (length bytes) (bytes ++ 10 ∷ [])
-  pub fits : length bytes ≤ LIMIT
+  pub fits : length bytes ≤ longest_input
   pub is_base : parse_url None base ≡ Ok url
   pub is_map : reading url usual bytes ≡ Ok map_text
   pub record_is : script.1 ≡ record_of map_text
@@ -78,7 +78,7 @@ FaultOfMap i base n more answer =
 abbrev pub FaultOfEntry : List Script → List ℕ → List ℕ → ℕ → List ℕ → Answer → Type 0
 FaultOfEntry seen script base n more answer =
     let i = length seen in
-    Where (LIMIT < n) (answer ≡ too_long)
+    Where (longest_input < n) (answer ≡ too_long)
     (Where (Contains (map (λ s. s.0) seen) script) (answer ≡ refusal i wrong.Repeated)
     (Where (IsErr (parse_url None base)) (answer ≡ refusal i wrong.Base)
     (FaultOfMap i base n more answer)))

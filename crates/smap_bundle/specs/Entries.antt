@@ -6,7 +6,7 @@ use Rattle.url.specs.Parts.{Parts}
 use Rattle.smap_record.specs.Reading.{reading}
 use Rattle.smap_record.specs.Record.{ReadMap, record_of}
 use Rattle.smap_trace.specs.Translation.{AreDistinct, Script}
-use Rattle.smap_io.specs.declared.reading.TheConstants.{LIMIT}
+use Rattle.smap_io.specs.Limits.{longest_input}
 use Rattle.smap_io.specs.declared.device.Device.{Device}
 use Rattle.smap_io.specs.Reading.{Gave}
 use Rattle.smap_bundle.specs.declared.fault.EntryFault.TheVariants as wrong
@@ -35,7 +35,7 @@ pub record TakesMap {R : Type 0} (remaining : R → Option (List ℕ)) (reader_o
   pub gave : Gave remaining reader_old reader_new (bytes ++ 10 ∷ [])
   pub calls : UsesCalls calls_old calls_new (bytes ++ 10 ∷ [])
   pub len_is : length bytes ≡ len
-  pub fits : len ≤ LIMIT
+  pub fits : len ≤ longest_input
   pub is_base : parse_url None base ≡ Ok url
   pub is_map : reading url usual bytes ≡ Ok map_text
   pub new_script : IsNew old script

@@ -6,7 +6,10 @@ use Rattle.std.specs.List.{list_all}
 use Rattle.std.specs.Char.{is_ascii_digit}
 use Rattle.std.specs.Str.Parse.{digits_value}
 use Rattle.smap_trace.specs.Frame.{lacks}
-pub use Rattle.smap_bundle.specs.declared.header.TheConstants.{LONGEST_HEADER}
+
+-- the most bytes of a header, its line feed included: 2^16
+abbrev pub longest_header : ℕ
+longest_header = 65536
 
 -- An integer in decimal digits: `0`, or digits that don't begin with `0`.
 pub record IsNumber (text : List ℕ) (n : ℕ) : Type 0 where
@@ -33,7 +36,7 @@ pub record IsHeader (line script base : List ℕ) (n : ℕ) : Type 0 where
   pub script_word : IsWord script
   pub base_word : IsWord base
   pub number : IsNumber digits n
-  pub short : length line ≤ LONGEST_HEADER
+  pub short : length line ≤ longest_header
 
 -- The input begins with such a line, and `more` follows it.
 pub record BeginsWithHeader (text script base : List ℕ) (n : ℕ) (more : List ℕ) : Type 0 where

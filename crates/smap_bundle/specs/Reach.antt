@@ -6,7 +6,7 @@ use Rattle.smap_trace.specs.Translation.{Script}
 use Rattle.smap_bundle.specs.declared.fault.EntryFault.{EntryFault}
 use Rattle.smap_bundle.specs.declared.fault.EntryFault.TheVariants as wrong
 use Rattle.smap_bundle.specs.Bundle.{Answer, BeginsWithEntries, done, refused, too_long}
-use Rattle.smap_bundle.specs.Header.{IsHeader, LONGEST_HEADER}
+use Rattle.smap_bundle.specs.Header.{IsHeader, longest_header}
 
 -- These faults are found in the bytes after a header.
 abbrev pub IsOfMap : EntryFault → Type 0
@@ -39,7 +39,7 @@ pub record ReadsNoMore (input : List ℕ) (answer : Answer) : Type 0 where
   pub line : List ℕ
   pub more : List ℕ
   pub reads : BeginsWithEntries input scripts (line ++ more)
-  pub is_line : IsWithinLine LONGEST_HEADER line
+  pub is_line : IsWithinLine longest_header line
   pub within : IsWithinEntry line more answer
 
 -- What was read ends within an entry: it is no more than some answer takes. So if it has the line `trace`

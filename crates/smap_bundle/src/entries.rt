@@ -2,7 +2,9 @@
 ghost use Rattle.std.specs.Prelude.{◌≡◌, ◌≢◌, ℕ, Bool, List, ◌-◌, ◌^◌, ◌<◌, ◌≤◌, ◌++◌, ◌∷◌, [], IfOk, IfErr};
 ghost use Rattle.std.specs.Prelude.{MatchResult, OnOk, Contains, None, Some, false, length, map, min};
 ghost use Rattle.std.specs.Prelude.{slice_get, true};
-ghost use Rattle.smap_io.specs.Device.{device_failures, has_ended};
+ghost use Rattle.smap_io.specs.Calls.{MakesAtMost, SpendsCalls, StopsInTime};
+ghost use Rattle.smap_io.specs.Device.{device_failures, has_ended, has_gone_on, is_over};
+ghost use Rattle.smap_io.specs.Limits.{longest_input, most_calls};
 ghost use Rattle.smap_io.specs.Reading.{Gave};
 ghost use Rattle.smap_record.specs.Reading.{reading};
 ghost use Rattle.smap_record.specs.Record.{record_of};
@@ -51,7 +53,7 @@ fn base_of(
     header: &Header<'_>,
     scripts: &IndexMap<String, SourceMap>,
 ) -> Result<Base, BundleFault>
-    ensures fits { OnOk result (header.now.length ≤ LIMIT) }
+    ensures fits { OnOk result (header.now.length ≤ longest_input) }
     ensures new { OnOk result (IsNew (scripts_of scripts.now.entries) header.now.script.now) }
     ensures base { IfOk result (λ base. parse_url None header.now.base.now ≡ Ok base) }
     ensures stops { (n : ℕ) (more : List ℕ) → header.now.length ≡ min n (2 ^ 64 - 1)
@@ -81,7 +83,7 @@ fn bytes_of<R: Read>(
 ) -> Result<Vec<u8>, BundleFault>
     requires failures { device_failures reader.old < 2 ^ 64 - 1 }
     requires not_ended { has_ended reader.old ≡ false }
-    requires small { len ≤ LIMIT }
+    requires small { len ≤ longest_input }
     ensures len { IfOk result (λ bytes. length bytes.items ≡ len) }
     ensures gave { IfOk result (λ bytes. Gave R.remaining reader.old reader.new (bytes.items ++ 10 ∷ [])) }
     ensures failures { OnOk result (device_failures reader.new ≡ device_failures reader.old) }
@@ -89,6 +91,9 @@ fn bytes_of<R: Read>(
     ensures calls { IfOk result (λ bytes. UsesCalls calls.old calls.new (bytes.items ++ 10 ∷ [])) }
     ensures stops { IfErr result (Stops R.remaining reader.old reader.new calls.old (cut_off entry len)
         (IsWithinMap len)) }
+    ensures in_time { StopsInTime reader.old reader.new }
+    ensures spends { SpendsCalls reader.old reader.new calls.old calls.new }
+    ensures still { OnOk result (is_over reader.new ≡ is_over reader.old) }
 {
     let mut bytes = match read_up_to(alloc, reader, calls, len + 1) {
         Ok(bytes) => bytes,
@@ -160,6 +165,9 @@ fn take_map<R: Read>(
         → IfErr result (Stops R.remaining reader.old reader.new calls.old
         (spec.FaultOfEntry (scripts_of scripts.old.entries) header.now.script.now header.now.base.now n)
         (IsWithinMap n)) }
+    ensures in_time { StopsInTime reader.old reader.new }
+    ensures spends { SpendsCalls reader.old reader.new calls.old calls.new }
+    ensures still { OnOk result (is_over reader.new ≡ is_over reader.old) }
 {
     let base = base_of(alloc, header, scripts)?;
     let entry = scripts.len();
@@ -188,6 +196,10 @@ fn take_entry<R: Read>(
         (IsWithinEntry line.now)) }
     ensures open { MatchResult result (λ _. has_ended reader.old ≡ false)
         (λ fault. fault ≡ BundleFault.Read → has_ended reader.old ≡ false) }
+    ensures in_time { StopsInTime reader.old reader.new }
+    ensures spends { SpendsCalls reader.old reader.new calls.old calls.new }
+    ensures still { OnOk result (is_over reader.new ≡ is_over reader.old) }
+    ensures idle { has_ended reader.old ≡ true → has_gone_on reader.new ≡ has_gone_on reader.old }
 {
     let Some(header) = parse_header(line) else {
         return Err(refused(scripts.len(), EntryFault::Header));
@@ -220,8 +232,13 @@ pub fn read_bundle<R: Read>(alloc: Global, reader: &mut Device<R>) -> Result<Bun
     // decides it: the line of the fault, or for a fault of a map the byte after the map. With Read and Memory
     // too, nothing was read past the entry or past the line `trace`. Read comes with a failure of the reader,
     // or if at least as many bytes as calls were read, and no other answer comes with a failure.
-    ensures stops { (hide : Bool) → IfErr result (Stops R.remaining reader.old reader.new MOST_CALLS
+    ensures stops { (hide : Bool) → IfErr result (Stops R.remaining reader.old reader.new most_calls
         (spec.IsAnswer hide) ReadsNoMore) }
+
+    // At most so many reads are made, and none after the end or a failure.
+    ensures calls { MakesAtMost most_calls reader.old reader.new }
+    ensures in_time { StopsInTime reader.old reader.new }
+    ensures still { OnOk result (is_over reader.new ≡ is_over reader.old) }
 {
     let mut scripts = IndexMap::new(alloc);
     let mut calls = MOST_CALLS;

@@ -1,7 +1,7 @@
 -- What a text is in its shortest spellings, by what it says.
 use Rattle.std.proofs.Common.{◌≡◌, ℕ, List, Option, Result, Ok, Err, ap, refl, inr}
 use Rattle.smap_mappings.specs.declared.token.Token.{Token}
-use Rattle.smap_mappings.specs.declared.token.TheConstants.{WIDEST}
+use Rattle.smap_mappings.specs.Limits.{widest}
 use Rattle.smap_mappings.specs.declared.error.SegmentPlace.{SegmentPlace}
 use Rattle.smap_mappings.specs.declared.error.SegmentKind.{SegmentKind}
 use Rattle.smap_mappings.specs.Tokens.{Fault as SegmentFault}
@@ -14,17 +14,17 @@ use Rattle.smap_c.specs.Codes.{MEMORY}
 use Rattle.smap_c.specs.declared.faults.SmapFault.{SmapFault}
 use Rattle.smap_c.specs.declared.written.Written.{Written}
 
-pub says : (text : List ℕ) (said : Result (List Token) SegmentFault) → decoded WIDEST text ≡ said
+pub says : (text : List ℕ) (said : Result (List Token) SegmentFault) → decoded widest text ≡ said
     → respelling text ≡ respelled said
 unfolding respelling
 says text said is = ap respelled is
 
-pub says_tokens : (text : List ℕ) (tokens : List Token) (out : List ℕ) → decoded WIDEST text ≡ Ok tokens
+pub says_tokens : (text : List ℕ) (tokens : List Token) (out : List ℕ) → decoded widest text ≡ Ok tokens
     → out ≡ mappings_text tokens → respelling text ≡ Ok out
 says_tokens text tokens out said spelled = rw spelled (says text (Ok tokens) said)
 
 pub says_fault : (text : List ℕ) (place p : SegmentPlace) (kind k : SegmentKind) (fault : Fault)
-    → decoded WIDEST text ≡ Err (place, kind) → p ≡ place → k ≡ kind → fault ≡ segment_fault (p, k)
+    → decoded widest text ≡ Err (place, kind) → p ≡ place → k ≡ kind → fault ≡ segment_fault (p, k)
     → respelling text ≡ Err fault
 says_fault text place p kind k fault said same_place same_kind is =
     rw (is, same_place, same_kind) (says text (Err (place, kind)) said)

@@ -1,13 +1,13 @@
 -- The limits that C asks for.
 use Rattle.std.specs.Prelude.{ℕ, ◌≤◌, ◌==◌, if◌then◌else◌}
-use Rattle.smap_vlq.specs.declared.number.TheConstants.{MAX_POSITION}
-use Rattle.smap_mappings.specs.declared.token.TheConstants.{MAX_LINES}
+use Rattle.smap_vlq.specs.Limits.{max_position}
+use Rattle.smap_mappings.specs.Limits.{max_lines}
 use Rattle.smap_record.specs.Record.{Allowed}
 use Rattle.smap_c.specs.declared.limits.SmapLimits.{SmapLimits}
 
 -- 0 stands for the usual limit
 abbrev pub or_usual : ℕ → ℕ
-or_usual limit = if limit == 0 then MAX_LINES else limit
+or_usual limit = if limit == 0 then max_lines else limit
 
 -- what is allowed
 abbrev pub allowed : SmapLimits → Allowed
@@ -15,4 +15,4 @@ allowed asked = record { items = or_usual asked.items; lines = or_usual asked.li
 
 -- They are not too large.
 abbrev pub AreLimits : SmapLimits → Type 0
-AreLimits asked = (or_usual asked.items ≤ MAX_POSITION) × (or_usual asked.lines ≤ MAX_LINES)
+AreLimits asked = (or_usual asked.items ≤ max_position) × (or_usual asked.lines ≤ max_lines)

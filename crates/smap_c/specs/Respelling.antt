@@ -2,7 +2,7 @@
 use Rattle.std.specs.Prelude.{◌≡◌, ℕ, List, Option, Result, Ok, Err}
 use Rattle.std.specs.Global.{Vec}
 use Rattle.smap_mappings.specs.declared.token.Token.{Token}
-use Rattle.smap_mappings.specs.declared.token.TheConstants.{WIDEST}
+use Rattle.smap_mappings.specs.Limits.{widest}
 use Rattle.smap_mappings.specs.Tokens.{Fault as SegmentFault}
 use Rattle.smap_mappings.specs.Decoded.{decoded}
 use Rattle.smap_mappings.specs.Text.{mappings_text}
@@ -22,7 +22,7 @@ respelled (Err fault) = Err (segment_fault fault)
 -- The tokens of the text in their shortest spellings, or its first fault. The text starts at line 0 and
 -- column 0, and its indices may be as large as a position.
 unfoldable pub respelling : List ℕ → Checked (List ℕ)
-respelling text = respelled (decoded WIDEST text)
+respelling text = respelled (decoded widest text)
 
 -- that text, or that fault, unless memory ran out
 abbrev pub ReturnsText : Result (Vec ℕ) ReadError → Checked (List ℕ) → Type 0

@@ -2,7 +2,7 @@
 ghost use Rattle.std.specs.Prelude.{◌≡◌, IfOk};
 ghost use Rattle.smap_mappings.specs.Decoded.{ReturnsTokens, decoded};
 ghost use Rattle.smap_mappings.specs.Text.{IsEncodable};
-ghost use Rattle.smap_mappings.specs.declared.token.TheConstants.{WIDEST};
+ghost use Rattle.smap_mappings.specs.Limits.{widest};
 ghost use Rattle.smap_c.specs.Faults.{IsWhole};
 ghost use Rattle.smap_c.specs.Respelling.{respelling, Respells, ReturnsText};
 
@@ -16,7 +16,7 @@ use std::alloc::Global;
 
 /// The tokens of a text that starts at line 0 and column 0; no list bounds its indices.
 fn tokens_of(alloc: Global, text: &[u8]) -> Result<Vec<Token>, MappingsError>
-    ensures says { ReturnsTokens result (decoded WIDEST text.now) }
+    ensures says { ReturnsTokens result (decoded widest text.now) }
     ensures encodable { IfOk result (λ tokens. IsEncodable tokens.items) }
 {
     decode(alloc, text, WIDEST)

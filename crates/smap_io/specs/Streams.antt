@@ -2,7 +2,7 @@
 use Rattle.std.specs.Prelude.{◌≡◌, ◌⊎◌, ℕ, ◌+◌, ◌≤◌, Bool, true, false, List, length, Option, Result, Ok, Err}
 use Rattle.std.specs.Io.KnownBytes.{Appends, Consumes, Keeps}
 use Rattle.smap_io.specs.declared.device.Device.{Device}
-use Rattle.smap_io.specs.declared.reading.TheConstants.{MOST_CALLS}
+use Rattle.smap_io.specs.Limits.{most_calls}
 use Rattle.smap_io.specs.Device.{device_inner, device_failures, has_ended}
 
 -- What the reader has left and what the writer holds, for those whose contents are known, before and after;
@@ -69,7 +69,7 @@ WriterFails is s result = Rises (fails_by is result) s.write_failures_before s.w
 
 -- Enough bytes were read that the limit on read calls may have been reached.
 abbrev pub ReadsTooMuch : Streams → Type 0
-ReadsTooMuch s = (bytes : List ℕ) × HasRead s bytes × (MOST_CALLS ≤ length bytes)
+ReadsTooMuch s = (bytes : List ℕ) × HasRead s bytes × (most_calls ≤ length bytes)
 
 -- The same, where such an error may also come after that many bytes.
 abbrev pub RisesOr : Type 0 → Bool → ℕ → ℕ → Type 0

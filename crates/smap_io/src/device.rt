@@ -1,9 +1,10 @@
-//! A reader or a writer with its failures counted and its end noted.
-ghost use Rattle.std.specs.Prelude.{◌≡◌, ◌+◌, ◌-◌, ◌^◌, ◌<◌, ◌||◌, false};
+//! A reader or a writer with its calls and failures counted and its end noted.
+ghost use Rattle.std.specs.Prelude.{◌≡◌, ◌+◌, ◌-◌, ◌^◌, ◌<◌, ◌||◌, false, true};
 ghost use Rattle.std.specs.Io.{ReadsAtMost, WritesAtMost};
 ghost use Rattle.std.specs.Io.KnownBytes.{ReadConsumes, WriteAppends, Keeps};
-ghost use Rattle.smap_io.specs.Device.{device_inner, device_failures, has_ended, failures_after};
-ghost use Rattle.smap_io.specs.Device.{is_end, TakesSome};
+ghost use Rattle.smap_io.specs.Device.{device_calls, device_inner, device_failures, has_ended, failures_after};
+ghost use Rattle.smap_io.specs.Device.{has_gone_on};
+ghost use Rattle.smap_io.specs.Device.{is_end, is_over, fails, CountsCall, TakesSome};
 
 use std::io::{Read, Write};
 
@@ -12,15 +13,19 @@ use std::io::{Read, Write};
 #[derive(Clone, Copy, Debug, PartialEq, Eq)]
 pub struct Failed;
 
-/// A reader or a writer, with the number of its calls that failed and, for a reader, whether its end was
-/// seen.
+/// A reader or a writer, with the number of its calls, the number of those that failed and, for a reader,
+/// whether its end was seen.
 ///
 /// Each call is passed on exactly once, also where it fails: a short read or write is handed out as it
-/// came, and nothing is retried. Contracts say that the count rises exactly with `Failed`; that, for
-/// readers and writers whose contents are known, what a read gave is what the reader lost and what a write
-/// took is what the writer gained; and that a failed call moves nothing. That the call is made at all, and
-/// that `Failed` is its failure, no contract can say, since the traits of the standard library count no
-/// calls: tests show it.
+/// came, and nothing is retried. Contracts say that each call is counted, and that the count of failures
+/// rises exactly with `Failed`; that, for readers and writers whose contents are known, what a read gave is
+/// what the reader lost and what a write took is what the writer gained; and that a failed call moves
+/// nothing. That a counted call is made, and that `Failed` is its failure, no contract can say, since the
+/// traits of the standard library count no calls: tests show it.
+///
+/// A device is over once a call failed, a read saw the end, or a flush was made. It notes whether a call was
+/// made after that: so a contract can say that a failure or the end was the last of the calls, and that a
+/// writer was flushed once, at the end.
 ///
 /// The calls require that fewer than 2^64 - 1 calls have failed.
 #[derive(Drop)]
@@ -28,6 +33,9 @@ pub struct Device<T> {
     inner: T,
     failures: u64,
     ended: bool,
+    calls: u64,
+    over: bool,
+    went_on: bool,
 }
 
 impl<T> Device<T> {
@@ -36,11 +44,17 @@ impl<T> Device<T> {
         ensures inner { device_inner result ≡ inner }
         ensures failures { device_failures result ≡ 0 }
         ensures ended { has_ended result ≡ false }
+        ensures calls { device_calls result ≡ 0 }
+        ensures over { is_over result ≡ false }
+        ensures went_on { has_gone_on result ≡ false }
     {
         Device {
             inner,
             failures: 0,
             ended: false,
+            calls: 0,
+            over: false,
+            went_on: false,
         }
     }
 
@@ -58,6 +72,28 @@ impl<T> Device<T> {
         self.ended
     }
 
+    /// The number of calls of the reader or writer that were made, the failed ones included; it stays at
+    /// 2^64 - 1.
+    pub fn calls(&self) -> u64
+        ensures { result ≡ device_calls self.now }
+    {
+        self.calls
+    }
+
+    /// Whether the device is over: a call failed, a read saw the end, or a flush was made.
+    pub fn is_over(&self) -> bool
+        ensures { result ≡ is_over self.now }
+    {
+        self.over
+    }
+
+    /// Whether a call was made although the device was over.
+    pub fn has_gone_on(&self) -> bool
+        ensures { result ≡ has_gone_on self.now }
+    {
+        self.went_on
+    }
+
     /// Takes the reader or writer out of the device.
     pub fn into_inner(self) -> T
         ensures { result ≡ device_inner self }
@@ -65,14 +101,30 @@ impl<T> Device<T> {
         self.inner
     }
 
-    /// Counts a call that failed.
+    /// Counts a call.
+    fn count_call(&mut self)
+        ensures inner { device_inner self.new ≡ device_inner self.old }
+        ensures failures { device_failures self.new ≡ device_failures self.old }
+        ensures ended { has_ended self.new ≡ has_ended self.old }
+        ensures over { is_over self.new ≡ is_over self.old }
+        ensures calls { CountsCall self.old self.new }
+    {
+        self.calls = self.calls.saturating_add(1);
+        self.went_on |= self.over;
+    }
+
+    /// Counts a failure of the call that was counted last.
     fn count_failure(&mut self) -> Failed
         requires { device_failures self.old < 2 ^ 64 - 1 }
         ensures inner { device_inner self.new ≡ device_inner self.old }
         ensures failures { device_failures self.new ≡ device_failures self.old + 1 }
         ensures ended { has_ended self.new ≡ has_ended self.old }
+        ensures over { is_over self.new ≡ true }
+        ensures calls { device_calls self.new ≡ device_calls self.old }
+        ensures went_on { has_gone_on self.new ≡ has_gone_on self.old }
     {
         self.failures += 1;
+        self.over = true;
         Failed
     }
 }
@@ -92,10 +144,15 @@ impl<R: Read> Device<R> {
         ensures failures { device_failures self.new
             ≡ failures_after (device_failures self.old) result }
         ensures ended { has_ended self.new ≡ has_ended self.old || is_end result buf.new }
+        ensures over { is_over self.new ≡ is_over self.old || (fails result || is_end result buf.new) }
+        ensures calls { CountsCall self.old self.new }
     {
+        self.count_call();
         match self.inner.read(buf) {
             Ok(n) => {
-                self.ended |= n == 0 && !buf.is_empty();
+                let is_end = n == 0 && !buf.is_empty();
+                self.ended |= is_end;
+                self.over |= is_end;
                 Ok(n)
             }
             Err(_) => Err(self.count_failure()),
@@ -118,7 +175,10 @@ impl<W: Write> Device<W> {
         ensures failures { device_failures self.new
             ≡ failures_after (device_failures self.old) result }
         ensures ended { has_ended self.new ≡ has_ended self.old }
+        ensures over { is_over self.new ≡ is_over self.old || fails result }
+        ensures calls { CountsCall self.old self.new }
     {
+        self.count_call();
         match self.inner.write(buf) {
             Ok(n) if n > 0 || buf.is_empty() => Ok(n),
             _ => Err(self.count_failure()),
@@ -137,9 +197,15 @@ impl<W: Write> Device<W> {
         ensures failures { device_failures self.new
             ≡ failures_after (device_failures self.old) result }
         ensures ended { has_ended self.new ≡ has_ended self.old }
+        ensures over { is_over self.new ≡ true }
+        ensures calls { CountsCall self.old self.new }
     {
+        self.count_call();
         match self.inner.flush() {
-            Ok(()) => Ok(()),
+            Ok(()) => {
+                self.over = true;
+                Ok(())
+            }
             Err(_) => Err(self.count_failure()),
         }
     }

@@ -1,8 +1,9 @@
 //! Reading as much as is wanted, with as many read calls as it takes, up to a limit. The buffer grows as
 //! the bytes come, so that a large limit alone takes no memory.
-ghost use Rattle.std.specs.Prelude.{◌≡◌, ◌+◌, ◌-◌, ◌^◌, ◌<◌, ◌≤◌, IfOk, MatchResult, OnOk, false, length};
+ghost use Rattle.std.specs.Prelude.{◌≡◌, ◌+◌, ◌-◌, ◌^◌, ◌<◌, ◌≤◌, ◌||◌, IfOk, MatchResult, OnOk, false, length};
 ghost use Rattle.std.specs.Prelude.{drop, take, vec_len};
-ghost use Rattle.smap_io.specs.Device.{device_failures};
+ghost use Rattle.smap_io.specs.Calls.{SpendsCalls, StaysOpen, StopsInTime};
+ghost use Rattle.smap_io.specs.Device.{device_failures, is_over};
 ghost use Rattle.smap_io.specs.Reading.{GaveUp, IsFewerThan, IsWithinLine, ReadsByte, ReadsLine, ReadsSome};
 ghost use Rattle.smap_io.specs.Reading.{ReadsUpTo, TakesCalls};
 
@@ -63,6 +64,9 @@ fn read_some<R: Read>(
     ensures reads { MatchResult result
         (λ n. ReadsSome R.remaining reader.old reader.new calls.old calls.new over.new n (take n buf.new))
         (GaveUp R.remaining reader.old reader.new (IsFewerThan 1) calls.old) }
+    ensures in_time { StopsInTime reader.old reader.new }
+    ensures spends { SpendsCalls reader.old reader.new calls.old calls.new }
+    ensures over { OnOk result (is_over reader.new ≡ is_over reader.old || over.new) }
 {
     if *calls == 0 {
         return Err(ReadFault::Spent);
@@ -98,6 +102,9 @@ fn read_after<R: Read>(
         (λ n. ReadsSome R.remaining reader.old reader.new calls.old calls.new over.new n
         (take n (drop filled text.new.items)))
         (GaveUp R.remaining reader.old reader.new (IsFewerThan 1) calls.old) }
+    ensures in_time { StopsInTime reader.old reader.new }
+    ensures spends { SpendsCalls reader.old reader.new calls.old calls.new }
+    ensures over { OnOk result (is_over reader.new ≡ is_over reader.old || over.new) }
 {
     read_some(reader, calls, over, &mut text[filled..])
 }
@@ -109,7 +116,8 @@ fn read_after<R: Read>(
 ///
 /// # Errors
 ///
-/// `Failed` where a read fails, `Spent` where no call is left, and `Memory`. What was read is lost then.
+/// `Failed` where a read fails, `Spent` where no call is left, and `Memory`. What was read is lost then. No
+/// call is made after one that failed or saw the end.
 pub fn read_up_to<R: Read>(
     alloc: Global,
     reader: &mut Device<R>,
@@ -120,6 +128,9 @@ pub fn read_up_to<R: Read>(
     ensures reads { MatchResult result (λ text. ReadsUpTo R.remaining reader.old reader.new most text.items)
         (GaveUp R.remaining reader.old reader.new (IsFewerThan most) calls.old) }
     ensures calls { IfOk result (λ text. TakesCalls reader.new most calls.old calls.new text.items) }
+    ensures in_time { StopsInTime reader.old reader.new }
+    ensures spends { SpendsCalls reader.old reader.new calls.old calls.new }
+    ensures still { OnOk result (StaysOpen reader.old reader.new) }
 {
     let mut text = Vec::new(alloc);
     let mut filled = 0;
@@ -146,7 +157,10 @@ fn read_byte<R: Read>(
 ) -> Result<Option<u8>, ReadFault>
     requires failures { device_failures reader.old < 2 ^ 64 - 1 }
     requires going { over.old ≡ false }
-    ensures { ReadsByte R.remaining reader.old reader.new calls.old calls.new over.new result }
+    ensures byte { ReadsByte R.remaining reader.old reader.new calls.old calls.new over.new result }
+    ensures in_time { StopsInTime reader.old reader.new }
+    ensures spends { SpendsCalls reader.old reader.new calls.old calls.new }
+    ensures over { OnOk result (is_over reader.new ≡ is_over reader.old || over.new) }
 {
     let mut buf = [0];
     read_some(reader, calls, over, &mut buf)?;
@@ -175,6 +189,9 @@ pub fn read_line<R: Read>(
     ensures reads { MatchResult result (λ line. ReadsLine R.remaining reader.old reader.new most line.items)
         (GaveUp R.remaining reader.old reader.new (IsWithinLine most) calls.old) }
     ensures calls { IfOk result (λ line. TakesCalls reader.new most calls.old calls.new line.items) }
+    ensures in_time { StopsInTime reader.old reader.new }
+    ensures spends { SpendsCalls reader.old reader.new calls.old calls.new }
+    ensures still { OnOk result (StaysOpen reader.old reader.new) }
 {
     let mut line = Vec::new(alloc);
     let mut over = false;

@@ -1,6 +1,7 @@
 //! Writing a string of bytes with as many write calls as it takes.
-ghost use Rattle.std.specs.Prelude.{◌≡◌, ◌-◌, ◌^◌, ◌<◌};
-ghost use Rattle.smap_io.specs.Device.{device_failures, failures_after};
+ghost use Rattle.std.specs.Prelude.{◌≡◌, ◌-◌, ◌^◌, ◌<◌, OnOk, true};
+ghost use Rattle.smap_io.specs.Calls.{StopsInTime};
+ghost use Rattle.smap_io.specs.Device.{device_failures, failures_after, is_over};
 ghost use Rattle.smap_io.specs.Writing.{WritesText};
 
 use crate::device::{Device, Failed};
@@ -15,6 +16,8 @@ pub fn write_all<W: Write>(writer: &mut Device<W>, text: &[u8]) -> Result<(), Fa
     requires { device_failures writer.old < 2 ^ 64 - 1 }
     ensures bytes { WritesText W.contents writer.old writer.new text.now result }
     ensures failures { device_failures writer.new ≡ failures_after (device_failures writer.old) result }
+    ensures in_time { StopsInTime writer.old writer.new }
+    ensures still { OnOk result (is_over writer.new ≡ is_over writer.old) }
 {
     let mut at = 0;
     while at < text.len() {
@@ -37,6 +40,8 @@ pub fn write_and_flush<W: Write>(writer: &mut Device<W>, text: &[u8]) -> Result<
     requires { device_failures writer.old < 2 ^ 64 - 1 }
     ensures bytes { WritesText W.contents writer.old writer.new text.now result }
     ensures failures { device_failures writer.new ≡ failures_after (device_failures writer.old) result }
+    ensures in_time { StopsInTime writer.old writer.new }
+    ensures flushed { OnOk result (is_over writer.new ≡ true) }
 {
     write_all(writer, text)?;
     writer.flush()

@@ -1,4 +1,5 @@
 mod Examples
+mod LimitLemmas
 pub mod ArrangementLemmas
 pub mod OrderLemmas
 pub mod LinesLemmas

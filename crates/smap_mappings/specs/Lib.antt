@@ -1,3 +1,4 @@
+pub mod Limits
 pub mod Position
 pub mod Lines
 pub mod Tokens

@@ -1,18 +1,18 @@
 -- Generated positions, where a map places them, and their order.
 use Rattle.std.specs.Prelude.{◌≡◌, ℕ, ◌+◌, ◌<◌, ◌==◌, ◌&&◌, ◌||◌, Bool, false, nat_lt, if◌then◌else◌}
 use Rattle.std.specs.Prelude.{List, [], ◌∷◌, Option, Some, None}
-pub use Rattle.smap_vlq.specs.declared.number.TheConstants.{MAX_POSITION}
-pub use Rattle.smap_mappings.specs.declared.token.TheConstants.{MAX_LINES}
+pub use Rattle.smap_vlq.specs.Limits.{max_position}
+pub use Rattle.smap_mappings.specs.Limits.{max_lines}
 use Rattle.smap_mappings.specs.declared.position.Position.{Position}
 use Rattle.smap_mappings.specs.declared.token.Token.{Token}
 
 -- one more than the greatest line, column or index of a position
 abbrev pub POSITIONS : ℕ
-POSITIONS = MAX_POSITION + 1
+POSITIONS = max_position + 1
 
 -- the greatest limit on lines
 abbrev pub LINES : ℕ
-LINES = MAX_LINES
+LINES = max_lines
 
 -- The line and the column are in range.
 pub record IsPosition (p : Position) : Type 0 where
@@ -27,7 +27,7 @@ place o p = if p.line == 0 then record { line = o.line; column = o.column + p.co
 
 -- the position, if its line and its column are in range
 abbrev pub in_range : Position → Option Position
-in_range p = if nat_lt MAX_POSITION p.line || nat_lt MAX_POSITION p.column then None else Some p
+in_range p = if nat_lt max_position p.line || nat_lt max_position p.column then None else Some p
 
 -- Positions are ordered by line, and on one line by column.
 abbrev pub is_before : Position → Position → Bool

@@ -9,7 +9,7 @@ use Rattle.smap_mappings.specs.declared.error.SegmentKind.{SegmentKind}
 use Rattle.smap_mappings.specs.declared.position.Position.{Position}
 use Rattle.smap_mappings.specs.Decoded.{decoded}
 use Rattle.smap_shape.specs.declared.fault.ShapeFault.{ShapeFault}
-use Rattle.smap_shape.specs.declared.sections.TheConstants.{MAX_LEVEL}
+use Rattle.smap_shape.specs.Limits.{max_level}
 use Rattle.smap_shape.specs.Members.{Flat, Index, MapMembers, flat, index, is_listed}
 use Rattle.smap_shape.specs.Reading.{shape_of, section_of}
 use Rattle.smap_record.specs.declared.fault.Kind.{Kind}
@@ -152,17 +152,17 @@ map_depth base limits zero offset before (index i) = omega arith
 map_depth base limits (suc n) offset before (flat m) = flat_depth base limits offset before m (suc n)
 map_depth base limits (suc n) offset before (index i) =
     more (n + 1) (suc n)
-    (listed_sections (MAX_LEVEL - n) (section_map base limits n) offset 0 None before i.sections)
+    (listed_sections (max_level - n) (section_map base limits n) offset 0 None before i.sections)
     (omega arith)
-    (sections_depth (MAX_LEVEL - n) (section_map base limits n) n (map_depth base limits n) offset 0 None
+    (sections_depth (max_level - n) (section_map base limits n) n (map_depth base limits n) offset 0 None
     before i.sections)
 
 -- one more section can be named
 pub has_room : {A : Type 0} (n : ℕ) (error : ReadError) (r : Checked A)
-    → n < MAX_LEVEL → IsAtMost n r → Fails error r → HasRoom error
+    → n < max_level → IsAtMost n r → Fails error r → HasRoom error
 has_room n (Refused fault) (Ok x) less h fails = absurd cc
 has_room n (Refused fault) (Err e) less h fails =
-    let same : e ≡ fault = cc in subst (λ (f : _). length f.section < MAX_LEVEL) same (omega (arith, h, less))
+    let same : e ≡ fault = cc in subst (λ (f : _). length f.section < max_level) same (omega (arith, h, less))
 has_room n Memory r less h fails = tt
 
 -- ---- the map of a section, by its level
@@ -174,19 +174,19 @@ map_of_flat base limits zero offset before m = refl
 map_of_flat base limits (suc n) offset before m = refl
 
 map_of_next : (base : Parts) (limits : Allowed) (n l level : ℕ) (offset : Position) (before : Listing)
-    (i : Index Data) → n ≡ suc l → MAX_LEVEL - l ≡ level → section_map base limits n offset before (index i)
+    (i : Index Data) → n ≡ suc l → max_level - l ≡ level → section_map base limits n offset before (index i)
     ≡ listed_sections level (section_map base limits l) offset 0 None before i.sections
 unfolding section_map
 map_of_next base limits zero l level offset before i next same = absurd (omega (arith, next))
 map_of_next base limits (suc n) l level offset before i next same = let is : n ≡ l = omega (arith, next) in
-    (λ j. listed_sections (MAX_LEVEL - is j) (section_map base limits (is j)) offset 0 None before i.sections)
+    (λ j. listed_sections (max_level - is j) (section_map base limits (is j)) offset 0 None before i.sections)
     ∙ (λ j. listed_sections (same j) (section_map base limits l) offset 0 None before i.sections)
 
 -- above the greatest level, an index map is read by its sections, which are of one level more
 pub map_of_index : (base : Parts) (limits : Allowed) (level : ℕ) (offset : Position) (before : Listing)
-    (i : Index Data) → level < MAX_LEVEL
-    → section_map base limits (MAX_LEVEL - level) offset before (index i) ≡ listed_sections (level + 1)
-    (section_map base limits (MAX_LEVEL - (level + 1))) offset 0 None before i.sections
+    (i : Index Data) → level < max_level
+    → section_map base limits (max_level - level) offset before (index i) ≡ listed_sections (level + 1)
+    (section_map base limits (max_level - (level + 1))) offset 0 None before i.sections
 map_of_index base limits level offset before i less =
     map_of_next base limits (8 - level) (8 - (level + 1)) (level + 1) offset before i (omega (arith, less))
     (omega (arith, less))
@@ -200,6 +200,6 @@ map_of_last base limits (suc n) offset before i same = absurd (omega (arith, sam
 -- at the greatest level it isn't read
 pub map_of_deepest : (base : Parts) (limits : Allowed) (level : ℕ)
     (offset : Position) (before : Listing) (i : Index Data)
-    → level ≡ MAX_LEVEL → section_map base limits (MAX_LEVEL - level) offset before (index i) ≡ refuse Nested
+    → level ≡ max_level → section_map base limits (max_level - level) offset before (index i) ≡ refuse Nested
 map_of_deepest base limits level offset before i last =
     map_of_last base limits (8 - level) offset before i (omega (arith, last))

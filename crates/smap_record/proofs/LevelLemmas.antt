@@ -6,7 +6,7 @@ use Rattle.serde_json.specs.Find.{as_object}
 use Rattle.smap_vlq.specs.Number.{◌>>=◌}
 use Rattle.smap_shape.specs.declared.fault.ShapeFault.{ShapeFault}
 use Rattle.smap_shape.specs.declared.fault.ShapeFault.TheVariants.{NotObject, Both, Nested}
-use Rattle.smap_shape.specs.declared.sections.TheConstants.{MAX_LEVEL}
+use Rattle.smap_shape.specs.Limits.{max_level}
 use Rattle.smap_shape.specs.Members.{Flat, Index, Section, MapMembers, flat, index}
 use Rattle.smap_shape.specs.Reading.{shape_of, section_of, offset_and_map, file_of, flat_of, flat_or_index}
 use Rattle.smap_shape.specs.Reading.{member_of, has, refuse_if}
@@ -58,7 +58,7 @@ after_file d file =
     refuse_if Both (has (codes "sections") d && has (codes "mappings") d) >>= λ (u : Unit {0}).
     after_both d file
 
-pub none_below : (tree : Data) (s : Section Data) (i : Index Data) → section_of MAX_LEVEL tree ≡ Ok s
+pub none_below : (tree : Data) (s : Section Data) (i : Index Data) → section_of max_level tree ≡ Ok s
     → shape_of s.map ≢ Ok (index i)
 unfolding shape_of
 none_below tree s i h e =

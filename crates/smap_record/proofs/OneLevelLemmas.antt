@@ -6,7 +6,7 @@ use Rattle.std.proofs.lemmas.Bool.{ltb-true, le-ltb, or_from}
 use Rattle.url.specs.Parts.{Parts}
 use Rattle.serde_json.specs.Data.{Data}
 use Rattle.serde_json.specs.Find.{as_object}
-use Rattle.smap_vlq.specs.declared.number.TheConstants.{MAX_POSITION}
+use Rattle.smap_vlq.specs.Limits.{max_position}
 use Rattle.smap_mappings.specs.declared.position.Position.{Position}
 use Rattle.smap_mappings.specs.Position.{in_range}
 use Rattle.smap_shape.specs.declared.fault.ShapeFault.{ShapeFault}
@@ -73,12 +73,12 @@ number_within count d n h = by (whole d) h
     by None h = absurd cc
     by (Some k) h = at k (nat_lt k count) refl h
 
-position_within : (key : List ℕ) (d : Data) (n : ℕ) → position_member key d ≡ Some n → n ≤ MAX_POSITION
+position_within : (key : List ℕ) (d : Data) (n : ℕ) → position_member key d ≡ Some n → n ≤ max_position
 position_within key d n h = by (member_of key d) h
   where
-    by : (o : Option Data) → option_and_then (number_below (MAX_POSITION + 1)) o ≡ Some n → n ≤ MAX_POSITION
+    by : (o : Option Data) → option_and_then (number_below (max_position + 1)) o ≡ Some n → n ≤ max_position
     by None h = absurd cc
-    by (Some v) h = let less = number_within (MAX_POSITION + 1) v n h in omega (arith, less)
+    by (Some v) h = let less = number_within (max_position + 1) v n h in omega (arith, less)
 
 module _ (tree : Data) where
   abbrev with_column : Data → ℕ → ℕ → Result (Section Data) ShapeFault
@@ -99,7 +99,7 @@ module _ (tree : Data) where
       >>= with_offset
 
   within : (s : Section Data) → offset_and_map tree ≡ Ok s
-      → (s.line ≤ MAX_POSITION) × (s.column ≤ MAX_POSITION)
+      → (s.line ≤ max_position) × (s.column ≤ max_position)
   within s h =
       let object = bound (shape_refuse_if shape.NotObject (is_none (as_object tree))) with_object s h in
       let offset =
@@ -115,18 +115,18 @@ module _ (tree : Data) where
       let low = position_within (codes "line") offset.0 line.0 (there shape.Offset _ line.0 line.1) in
       let left =
       position_within (codes "column") offset.0 column.0 (there shape.Offset _ column.0 column.1) in
-      subst (λ (s : Section Data). (s.line ≤ MAX_POSITION) × (s.column ≤ MAX_POSITION)) (same _ s map.2)
+      subst (λ (s : Section Data). (s.line ≤ max_position) × (s.column ≤ max_position)) (same _ s map.2)
       (low, left)
 
   section_within : (s : Section Data) → section_of 8 tree ≡ Ok s
-      → (s.line ≤ MAX_POSITION) × (s.column ≤ MAX_POSITION)
+      → (s.line ≤ max_position) × (s.column ≤ max_position)
   unfolding section_of
   section_within s h =
       let parts = bound (offset_and_map tree)
       (λ s. shape_refuse_if shape.Nested (has (codes "sections") s.map) >>= λ (u : Unit {0}). Ok s) s h in
       let rest =
       bound (shape_refuse_if shape.Nested (has (codes "sections") parts.0.map)) (λ u. Ok parts.0) s parts.2 in
-      subst (λ (s : Section Data). (s.line ≤ MAX_POSITION) × (s.column ≤ MAX_POSITION))
+      subst (λ (s : Section Data). (s.line ≤ max_position) × (s.column ≤ max_position))
       (same parts.0 s rest.2) (within parts.0 parts.1)
 
   section_follows : Follows (of_shape (section_of 8 tree)) (of_shape (section_of 1 tree))
@@ -146,12 +146,12 @@ module _ (tree : Data) where
       by (Err e) = λ other. refl
 
 -- what is placed from the start is in range where it was
-placed : (s : Section Data) → (s.line ≤ MAX_POSITION) × (s.column ≤ MAX_POSITION)
+placed : (s : Section Data) → (s.line ≤ max_position) × (s.column ≤ max_position)
     → combined start (own_offset s) ≡ Some (own_offset s)
 placed s h =
     ap in_range (place_start (own_offset s))
-    ∙ ap (λ b. cond b None (Some (own_offset s))) (or_from (nat_lt MAX_POSITION s.line)
-    (nat_lt MAX_POSITION s.column) (le-ltb MAX_POSITION s.line h.0) (le-ltb MAX_POSITION s.column h.1))
+    ∙ ap (λ b. cond b None (Some (own_offset s))) (or_from (nat_lt max_position s.line)
+    (nat_lt max_position s.column) (le-ltb max_position s.line h.0) (le-ltb max_position s.column h.1))
 
 module _ (base : Parts) (limits : Allowed) where
   map_follows : (offset : Position) (before : Listing) (m : MapMembers Data)

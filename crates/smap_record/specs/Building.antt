@@ -4,7 +4,7 @@ use Rattle.std.specs.List.{list_any}
 use Rattle.smap_mappings.specs.declared.token.Token.{Token}
 use Rattle.smap_mappings.specs.declared.position.Position.{Position}
 use Rattle.smap_mappings.specs.Position.{is_before, position_of}
-use Rattle.smap_shape.specs.declared.sections.TheConstants.{MAX_LEVEL}
+use Rattle.smap_shape.specs.Limits.{max_level}
 use Rattle.smap_record.specs.declared.fault.ReadError.{ReadError}
 use Rattle.smap_record.specs.declared.fault.ReadError.TheVariants as errors
 use Rattle.smap_record.specs.declared.listing_builder.ListingBuilder.{ListingBuilder}
@@ -21,7 +21,7 @@ any_after offset tokens = list_any (λ t. is_before offset (position_of t)) toke
 
 -- The fault's path has room for one more section.
 abbrev pub HasRoom : ReadError → Type 0
-HasRoom (errors.Refused fault) = length fault.section < MAX_LEVEL
+HasRoom (errors.Refused fault) = length fault.section < max_level
 HasRoom errors.Memory = Unit {0}
 
 -- the error as one in the section with this index

@@ -4,7 +4,7 @@ use Rattle.url.specs.Parts.{Parts}
 use Rattle.serde_json.specs.Data.{Data}
 use Rattle.smap_mappings.specs.declared.position.Position.{Position}
 use Rattle.smap_mappings.specs.Position.{place}
-use Rattle.smap_shape.specs.declared.sections.TheConstants.{MAX_LEVEL}
+use Rattle.smap_shape.specs.Limits.{max_level}
 use Rattle.smap_shape.specs.Members.{Index, Section, index}
 use Rattle.smap_shape.specs.Reading.{shape_of, section_of}
 use Rattle.smap_record.specs.declared.fault.Fault.{Fault}
@@ -22,13 +22,13 @@ PlacingIsAssociative = (a b p : Position) → place a (place b p) ≡ place (pla
 -- index map of the next level.
 abbrev pub SectionsByLevel : Type 0
 SectionsByLevel = (base : Parts) (limits : Allowed) (level : ℕ) (offset : Position) (before : Listing)
-    (i : Index Data) → level < MAX_LEVEL
+    (i : Index Data) → level < max_level
     → map_at_level base limits level offset before (index i)
     ≡ listed_sections (level + 1) (map_at_level base limits (level + 1)) offset 0 None before i.sections
 
 -- At the last level the map of a section that is accepted is never an index map.
 abbrev pub NoneBelowLastLevel : Type 0
-NoneBelowLastLevel = (tree : Data) (s : Section Data) (i : Index Data) → section_of MAX_LEVEL tree ≡ Ok s
+NoneBelowLastLevel = (tree : Data) (s : Section Data) (i : Index Data) → section_of max_level tree ≡ Ok s
     → shape_of s.map ≢ Ok (index i)
 
 -- Against reading without nested index maps: an input that is accepted there has the same file and listing,

@@ -4,7 +4,7 @@ use Rattle.std.specs.Prelude.{ℕ, ◌+◌, [], ◌∷◌, List, Option, Some, N
 use Rattle.url.specs.Parts.{Parts}
 use Rattle.serde_json.specs.Data.{Data}
 use Rattle.smap_mappings.specs.declared.position.Position.{Position}
-use Rattle.smap_shape.specs.declared.sections.TheConstants.{MAX_LEVEL}
+use Rattle.smap_shape.specs.Limits.{max_level}
 use Rattle.smap_shape.specs.Members.{Index, MapMembers, flat, index}
 use Rattle.smap_shape.specs.Reading.{shape_of, section_of}
 use Rattle.smap_record.specs.declared.fault.Kind.TheVariants.{Nested, Order, Overlap}
@@ -27,7 +27,7 @@ flat_alone base limits offset before (index i) = refuse Nested
 -- One section: its map has no `sections`, as is required at the greatest level.
 abbrev pub old_section : Parts → Allowed → Option Position → Listing → Data → Checked (Position × Listing)
 old_section base limits last before tree = do
-  s ← of_shape (section_of MAX_LEVEL tree)
+  s ← of_shape (section_of max_level tree)
   _ ← refuse_if Order (falls last (own_offset s))
   _ ← refuse_if Overlap (overlaps before (own_offset s))
   members ← of_shape (shape_of s.map)

@@ -6,7 +6,7 @@ use Rattle.std.specs.Prelude.{ℕ, Bool, false, not, ◌&&◌, List, [], ◌∷�
 use Rattle.std.specs.Prelude.{Option, None, unwrap_or, option_map, option_and_then}
 use Rattle.std.specs.Option.{option_eq}
 use Rattle.std.proofs.Math.Bool.{beq}
-use Rattle.smap_mappings.specs.declared.token.TheConstants.{MAX_LINES}
+use Rattle.smap_mappings.specs.Limits.{max_lines}
 use Rattle.smap_mappings.specs.declared.token.Token.{Token}
 use Rattle.smap_mappings.specs.declared.token.Original.{Original}
 
@@ -55,7 +55,7 @@ pub record Allowed : Type 0 where
 
 -- The usual limits.
 abbrev pub usual : Allowed
-usual = record { items = MAX_LINES; lines = MAX_LINES }
+usual = record { items = max_lines; lines = max_lines }
 
 -- ---- the record of a listing
 

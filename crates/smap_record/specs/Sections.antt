@@ -7,7 +7,7 @@ use Rattle.url.specs.Parts.{Parts}
 use Rattle.serde_json.specs.Data.{Data}
 use Rattle.smap_mappings.specs.declared.position.Position.{Position}
 use Rattle.smap_mappings.specs.Position.{in_range, is_before, place, position_of}
-use Rattle.smap_shape.specs.declared.sections.TheConstants.{MAX_LEVEL}
+use Rattle.smap_shape.specs.Limits.{max_level}
 use Rattle.smap_shape.specs.Members.{Section, Index, MapMembers, flat, index}
 use Rattle.smap_shape.specs.Reading.{shape_of, section_of}
 use Rattle.smap_record.specs.declared.fault.Kind.TheVariants.{Nested, Offset, Order, Overlap}
@@ -71,12 +71,12 @@ section_map base limits zero offset before (flat m) = listed_flat base limits of
 section_map base limits zero offset before (index i) = refuse Nested
 section_map base limits (suc n) offset before (flat m) = listed_flat base limits offset before m
 section_map base limits (suc n) offset before (index i) =
-    listed_sections (MAX_LEVEL - n) (section_map base limits n) offset 0 None before i.sections
+    listed_sections (max_level - n) (section_map base limits n) offset 0 None before i.sections
 
 -- The map of a section of an index map of this level: a flat map is added by itself, an index map by its
 -- sections, which are those of an index map of the next level.
 abbrev pub map_at_level : Parts → Allowed → ℕ → Inner
-map_at_level base limits level = section_map base limits (MAX_LEVEL - level)
+map_at_level base limits level = section_map base limits (max_level - level)
 
 -- ---- the whole
 

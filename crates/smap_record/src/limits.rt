@@ -1,6 +1,8 @@
 //! Limits on what a map may list, and on its generated lines. A map that lists more is rejected before any
 //! of its sources is resolved or any name copied.
 ghost use Rattle.std.specs.Prelude.{◌≡◌, ◌≤◌, ◌↔◌, IsSome, IfSome};
+ghost use Rattle.smap_vlq.specs.Limits.{max_position};
+ghost use Rattle.smap_mappings.specs.Limits.{max_lines};
 ghost use Rattle.smap_record.specs.Record.{usual};
 
 use smap_mappings::{MAX_LINES, MAX_POSITION};
@@ -16,15 +18,15 @@ pub struct Limits {
 
 impl Model for Limits {
     ghost use Rattle.std.specs.Prelude.{◌≤◌};
-    ghost use Rattle.smap_vlq.specs.declared.number.TheConstants.{MAX_POSITION};
-    ghost use Rattle.smap_mappings.specs.declared.token.TheConstants.{MAX_LINES};
+    ghost use Rattle.smap_vlq.specs.Limits.{max_position};
+    ghost use Rattle.smap_mappings.specs.Limits.{max_lines};
     ghost use Rattle.smap_record.specs.Record.{Allowed};
 
     ghost Value = { Allowed };
 
     ghost view = { λ s. record { items = s.items; lines = s.lines } };
 
-    ghost invariant = { λ s. (s.items ≤ MAX_POSITION) × (s.lines ≤ MAX_LINES) };
+    ghost invariant = { λ s. (s.items ≤ max_position) × (s.lines ≤ max_lines) };
 
     ghost inverse = { λ a. record { items = a.items; lines = a.lines } };
 }
@@ -32,7 +34,7 @@ impl Model for Limits {
 impl Limits {
     /// These limits; none where `items` is above 2,147,483,647, or `lines` above 16,777,216.
     pub fn new(items: u32, lines: u32) -> Option<Limits>
-        ensures valid { IsSome result ↔ ((items ≤ MAX_POSITION) × (lines ≤ MAX_LINES)) }
+        ensures valid { IsSome result ↔ ((items ≤ max_position) × (lines ≤ max_lines)) }
         ensures value { IfSome result (λ l. (l.items ≡ items) × (l.lines ≡ lines)) }
     {
         if items <= MAX_POSITION && lines <= MAX_LINES {
@@ -54,14 +56,14 @@ impl Limits {
 
     pub(crate) fn items(self) -> u32
         ensures value { result ≡ self.items }
-        ensures most { result ≤ MAX_POSITION }
+        ensures most { result ≤ max_position }
     {
         self.items
     }
 
     pub(crate) fn lines(self) -> u32
         ensures value { result ≡ self.lines }
-        ensures most { result ≤ MAX_LINES }
+        ensures most { result ≤ max_lines }
     {
         self.lines
     }

@@ -2,6 +2,7 @@
 ghost use Rattle.std.specs.Prelude.{◌≡◌, ◌≤◌, ◌<◌, ◌↔◌, ◌∷◌, length, nat_eq, Some, IsSome, IfSome};
 ghost use Rattle.std.specs.Cmp.{partial_equiv_from_equiv};
 ghost use Rattle.std.specs.Cmp.Lexicographic.{nat_list_eq_equiv, pointwise};
+ghost use Rattle.smap_shape.specs.Limits.{max_level};
 ghost use Rattle.smap_record.specs.Faults.{outside};
 ghost use Rattle.smap_record.specs.Words.{path_words};
 
@@ -23,19 +24,19 @@ pub struct Path {
 
 impl Model for Path {
     ghost use Rattle.std.specs.Prelude.{ℕ, ◌≤◌, List, length};
-    ghost use Rattle.smap_shape.specs.declared.sections.TheConstants.{MAX_LEVEL};
+    ghost use Rattle.smap_shape.specs.Limits.{max_level};
 
     ghost Value = { List ℕ };
 
     ghost view = { λ p. p.numbers.items };
 
-    ghost invariant = { λ p. length p.numbers.items ≤ MAX_LEVEL };
+    ghost invariant = { λ p. length p.numbers.items ≤ max_level };
 }
 
 impl Path {
     /// The path of these indices; none for more than eight.
     pub fn new(numbers: &[usize]) -> Option<Path>
-        ensures few { IsSome result ↔ (length numbers.now ≤ MAX_LEVEL) }
+        ensures few { IsSome result ↔ (length numbers.now ≤ max_level) }
         ensures numbers { IfSome result (λ p. p ≡ numbers.now) }
     {
         match ArrayVec::try_from(numbers) {
@@ -47,7 +48,7 @@ impl Path {
     /// The indices, from the outermost to the innermost.
     pub fn numbers(&self) -> &[usize]
         ensures numbers { result.now ≡ self.now }
-        ensures few { length self.now ≤ MAX_LEVEL }
+        ensures few { length self.now ≤ max_level }
     {
         let numbers = &self.numbers;
         numbers.as_slice()
@@ -64,7 +65,7 @@ impl Path {
 
     /// The path with the index of one more section before it.
     pub(crate) fn within(self, k: usize) -> Path
-        requires { length self < MAX_LEVEL }
+        requires { length self < max_level }
         ensures { result ≡ k ∷ self }
     {
         let Path { mut numbers } = self;

@@ -4,6 +4,7 @@
 //! text nests (ECMA-426, "Index source map").
 ghost use Rattle.std.specs.Prelude.{◌≡◌, ◌≤◌, IfOk, None, map as mapped};
 ghost use Rattle.serde_json.specs.View.{view};
+ghost use Rattle.smap_shape.specs.Limits.{max_level};
 ghost use Rattle.smap_shape.specs.Views.{index_members};
 ghost use Rattle.smap_record.specs.Record.{record_of};
 ghost use Rattle.smap_record.specs.Sections.{map_at_level, listed_section, listed_sections};
@@ -61,7 +62,7 @@ fn with_section(
     level: u8,
 ) -> Result<(Position, ListingBuilder), ReadError>
     requires first { 1 ≤ level }
-    requires last { level ≤ MAX_LEVEL }
+    requires last { level ≤ max_level }
     requires outer { IsPosition outer }
     requires fits { ListingFits base.now limits (listing_so_far before) }
     ensures reads { Returns both result
@@ -118,7 +119,7 @@ fn with_sections(
     level: u8,
 ) -> Result<ListingBuilder, ReadError>
     requires first { 1 ≤ level }
-    requires last { level ≤ MAX_LEVEL }
+    requires last { level ≤ max_level }
     requires outer { IsPosition outer }
     requires fits { ListingFits base.now limits (listing_so_far before) }
     ensures reads { Returns listing_so_far result

@@ -1,3 +1,4 @@
+mod LimitLemmas
 mod ListLemmas
 mod ContentsLemmas
 pub mod Examples

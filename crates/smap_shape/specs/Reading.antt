@@ -9,14 +9,14 @@ use Rattle.std.specs.Prelude.{Result, Ok, Err, if◌then◌else◌}
 use Rattle.std.specs.Option.{option_or, option_eq}
 use Rattle.serde_json.specs.Data.{Data, Items, no_items, item}
 use Rattle.serde_json.specs.Find.{get, as_null, as_str, as_number, as_array, as_object, as_u64}
-use Rattle.smap_vlq.specs.declared.number.TheConstants.{MAX_POSITION}
+use Rattle.smap_vlq.specs.Limits.{max_position}
 use Rattle.smap_vlq.specs.Number.{◌>>=◌}
 use Rattle.smap_shape.specs.declared.fault.ShapeFault.{ShapeFault}
 use Rattle.smap_shape.specs.declared.fault.ShapeFault.TheVariants.{NotObject, Version, File, Both, SourceRoot}
 use Rattle.smap_shape.specs.declared.fault.ShapeFault.TheVariants.{Sources, SourcesContent, Names, IgnoreList}
 use Rattle.smap_shape.specs.declared.fault.ShapeFault.TheVariants.{Mappings, Sections, Offset, SectionMap}
 use Rattle.smap_shape.specs.declared.fault.ShapeFault.TheVariants.{Nested}
-use Rattle.smap_shape.specs.declared.sections.TheConstants.{MAX_LEVEL}
+use Rattle.smap_shape.specs.Limits.{max_level}
 use Rattle.smap_shape.specs.Members.{Flat, Index, Section, MapMembers, flat, index, fitted}
 
 -- the value if there is one, and else this fault
@@ -139,7 +139,7 @@ shape_of tree = do
 
 -- an integer up to the greatest position
 abbrev pub position_member : List ℕ → Data → Option ℕ
-position_member key d = option_and_then (number_below (MAX_POSITION + 1)) (member_of key d)
+position_member key d = option_and_then (number_below (max_position + 1)) (member_of key d)
 
 -- A section's offset and its map, or its first fault.
 abbrev pub offset_and_map : Data → Result (Section Data) ShapeFault
@@ -157,5 +157,5 @@ offset_and_map tree = do
 unfoldable pub section_of : ℕ → Data → Result (Section Data) ShapeFault
 section_of level tree = do
   s ← offset_and_map tree
-  _ ← refuse_if Nested (nat_eq level MAX_LEVEL && has (codes "sections") s.map)
+  _ ← refuse_if Nested (nat_eq level max_level && has (codes "sections") s.map)
   Ok s

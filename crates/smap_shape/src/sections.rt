@@ -1,6 +1,8 @@
 //! One section of an index map: its offset, and the tree of its map.
 ghost use Rattle.std.specs.Prelude.{◌≡◌, ◌≤◌, IfSome, IfOk};
 ghost use Rattle.serde_json.specs.View.{view};
+ghost use Rattle.smap_vlq.specs.Limits.{max_position};
+ghost use Rattle.smap_shape.specs.Limits.{max_level};
 ghost use Rattle.smap_shape.specs.Reading.{section_of, position_member};
 ghost use Rattle.smap_shape.specs.Views.{section_members, map_value};
 
@@ -61,7 +63,7 @@ impl<'a> SectionShape<'a> {
 #[tactic(auto, unfolding(crate::specs::Reading::number_below))]
 fn position_member(tree: &Value, key: &str) -> Option<u32>
     ensures value { result ≡ position_member key.now (view tree.now) }
-    ensures most { IfSome result (λ n. n ≤ MAX_POSITION) }
+    ensures most { IfSome result (λ n. n ≤ max_position) }
 {
     let n = member(tree, key)?.as_u64()?;
     if n <= MAX_POSITION as u64 {
@@ -83,10 +85,10 @@ fn position_member(tree: &Value, key: &str) -> Option<u32>
 #[tactic(auto, unfolding(crate::specs::Reading::section_of))]
 pub fn section(tree: &Value, level: u8) -> Result<SectionShape<'_>, ShapeFault>
     requires first { 1 ≤ level }
-    requires last { level ≤ MAX_LEVEL }
+    requires last { level ≤ max_level }
     ensures says { map_value section_members result ≡ section_of level (view tree.now) }
-    ensures line { IfOk result (λ s. s.line ≤ MAX_POSITION) }
-    ensures column { IfOk result (λ s. s.column ≤ MAX_POSITION) }
+    ensures line { IfOk result (λ s. s.line ≤ max_position) }
+    ensures column { IfOk result (λ s. s.column ≤ max_position) }
 {
     if !tree.is_object() {
         return Err(ShapeFault::NotObject);

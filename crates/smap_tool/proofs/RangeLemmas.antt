@@ -6,7 +6,7 @@ use Rattle.std.specs.Str.{bytes_eq}
 use Rattle.std.specs.Str.Parse.{IsNumeral, digits_value, without_leading_plus}
 use Rattle.std.proofs.lemmas.Slice.Eq.{bytes_eq-Decides}
 use Rattle.clap.specs.Words.{Row, Shape, Text, built, without_minus}
-use Rattle.smap_vlq.specs.declared.number.TheConstants.{MAX_POSITION}
+use Rattle.smap_vlq.specs.Limits.{max_position}
 use Rattle.smap_tool.specs.Commands.{IsCommand, IsInRange, TaskGiven, smap}
 use Rattle.smap_tool.specs.Words.{HasNumber, IsGivenAs, IsOneOf, position_parser}
 use Rattle.smap_tool.specs.declared.commands.Task.{Task}
@@ -14,13 +14,13 @@ use Rattle.smap_tool.specs.declared.commands.Task.TheVariants.{Lookup}
 use Rattle.smap_tool.proofs.ValueLemmas.{in_range}
 
 position_small : (rows : List Row) (id : Text) (n : ℕ) → IsGivenAs position_parser rows id
-    → HasNumber rows id n → n ≤ MAX_POSITION
+    → HasNumber rows id n → n ≤ max_position
 position_small rows id n has number =
     let there : IsNumeral 10 (without_leading_plus (without_minus has.0))
     × (n ≡ digits_value 10 (without_leading_plus (without_minus has.0))) =
     subst (λ (o : Option Text). IsSomeAnd o (λ text. IsNumeral 10 (without_leading_plus text)
     × (n ≡ digits_value 10 (without_leading_plus text)))) has.1 number in
-    in_range MAX_POSITION n has.0 has.2 there.1
+    in_range max_position n has.0 has.2 there.1
 
 -- the commands of this name
 abbrev named : Text → List Shape → List Shape
@@ -55,7 +55,7 @@ task_in_range (Some m) (Lookup base line column) command given =
     in_lookup (rows_of_name m (codes "lookup") given.0 command)
   where
     in_lookup : IsOneOf (named (codes "lookup") (built smap).subs) (codes "lookup", m.1)
-        → (line ≤ MAX_POSITION) × (column ≤ MAX_POSITION)
+        → (line ≤ max_position) × (column ≤ max_position)
     in_lookup (inl h) = (
       position_small m.1 (codes "LINE") line h.1.1.0 given.2,
       position_small m.1 (codes "COLUMN") column h.1.1.1.0 given.3,

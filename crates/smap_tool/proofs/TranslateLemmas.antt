@@ -25,7 +25,7 @@ use Rattle.smap_tool.specs.Translate.{RunsTranslate, TranslatesTrace, WritesRefu
 use Rattle.smap_bundle.specs.Stopping.{Settled, Stops}
 use Rattle.smap_bundle.specs.declared.fault.BundleFault.TheVariants as fault
 use Rattle.smap_bundle.specs.declared.fault.Refusal.{Refusal}
-use Rattle.smap_io.specs.declared.reading.TheConstants.{MOST_CALLS}
+use Rattle.smap_io.specs.Limits.{most_calls}
 use Rattle.smap_tool.specs.BundleLine.{bundle_line}
 
 module _ {R W : Type 0} (remaining : R → Option (List ℕ)) (contents : W → Option (List ℕ)) (hide : Bool)
@@ -179,7 +179,7 @@ module _ {R W : Type 0} (remaining : R → Option (List ℕ)) (contents : W → 
 
   -- a run that gave up before
   pub too_long_run : (w : Device W)
-      → Stops remaining ro rn MOST_CALLS (IsAnswer hide) ReadsNoMore fault.TooLong
+      → Stops remaining ro rn most_calls (IsAnswer hide) ReadsNoMore fault.TooLong
       → RunsTranslate hide (streams remaining ro rn contents w w) (Err run.TooLong)
   too_long_run w s = record {
     translates = (s.0, s.1, s.2, s.3, Keeps-refl (streams remaining ro rn contents w w).written_before);
@@ -187,7 +187,7 @@ module _ {R W : Type 0} (remaining : R → Option (List ℕ)) (contents : W → 
     writer_failures = refl;
   }
 
-  pub unread_run : (w : Device W) → Stops remaining ro rn MOST_CALLS (IsAnswer hide) ReadsNoMore fault.Read
+  pub unread_run : (w : Device W) → Stops remaining ro rn most_calls (IsAnswer hide) ReadsNoMore fault.Read
       → RunsTranslate hide (streams remaining ro rn contents w w) (Err run.Read)
   unread_run w s = record {
     translates = nothing_written (CompleteAfterTrace hide) w s.0 s.1 s.2;
@@ -196,13 +196,13 @@ module _ {R W : Type 0} (remaining : R → Option (List ℕ)) (contents : W → 
   }
     where
       blamed : (device_failures rn ≡ device_failures ro + 1) ⊎ ((device_failures rn ≡ device_failures ro)
-          × (MOST_CALLS ≤ length s.0))
+          × (most_calls ≤ length s.0))
           → (device_failures rn ≡ device_failures ro + 1) ⊎ ((device_failures rn ≡ device_failures ro)
           × ReadsTooMuch (streams remaining ro rn contents w w))
       blamed (inl one) = inl one
       blamed (inr e) = inr (e.0, (s.0, s.1, e.1))
 
-  pub memory_run : (w : Device W) → Stops remaining ro rn MOST_CALLS (IsAnswer hide) ReadsNoMore fault.Memory
+  pub memory_run : (w : Device W) → Stops remaining ro rn most_calls (IsAnswer hide) ReadsNoMore fault.Memory
       → RunsTranslate hide (streams remaining ro rn contents w w) (Err run.Memory)
   memory_run w s = record {
     translates = nothing_written (PrefixAfterTrace hide (has_ended rn)) w s.0 s.1 s.2;

@@ -8,10 +8,10 @@ use Rattle.serde_json.specs.Written.{compact_text}
 use Rattle.url.specs.Parts.{Parts}
 use Rattle.url.specs.Parser.{parse_url}
 use Rattle.smap_io.specs.Streams.{Streams}
-use Rattle.smap_vlq.specs.declared.number.TheConstants.{MAX_POSITION}
+use Rattle.smap_vlq.specs.Limits.{max_position}
 use Rattle.smap_mappings.specs.declared.token.Token.{Token}
 use Rattle.smap_mappings.specs.declared.token.Bounds.{Bounds}
-use Rattle.smap_mappings.specs.declared.token.TheConstants.{WIDEST}
+use Rattle.smap_mappings.specs.Limits.{widest}
 use Rattle.smap_mappings.specs.Tokens.{Fault}
 use Rattle.smap_mappings.specs.Decoded.{decoded}
 use Rattle.smap_mappings.specs.Text.{line_count, mappings_text}
@@ -86,7 +86,7 @@ TaskGiven named task = IsSomeAnd named (λ m. IsTaskOf m task)
 
 -- The line and the column of a lookup are at most the greatest.
 abbrev pub IsInRange : Task → Type 0
-IsInRange (Lookup base line column) = (line ≤ MAX_POSITION) × (column ≤ MAX_POSITION)
+IsInRange (Lookup base line column) = (line ≤ max_position) × (column ≤ max_position)
 IsInRange task = Unit {0}
 
 -- The name is that of a command, and its required arguments have values.
@@ -97,7 +97,7 @@ IsCommand = IsOneOf (built smap).subs
 
 -- A bare mappings string starts at line 0 and column 0, and its indices may be as large as a position.
 abbrev pub respell_bounds : Bounds
-respell_bounds = WIDEST
+respell_bounds = widest
 
 -- what is written for tokens or a fault
 abbrev pub respelled : Result (List Token) Fault → List ℕ × Outcome

@@ -11,7 +11,7 @@ use Rattle.smap_io.specs.Reading.{Gave, IsAtItsEnd}
 use Rattle.smap_io.specs.Streams.{HasRead, HasReadNothing, HasWritten, HasWrittenNothing, ReaderFails}
 use Rattle.smap_io.specs.Streams.{Streams, WriterFails}
 use Rattle.smap_io.specs.Writing.{Took, TookPrefix}
-use Rattle.smap_io.specs.declared.reading.TheConstants.{LIMIT}
+use Rattle.smap_io.specs.Limits.{longest_input}
 use Rattle.smap_tool.specs.declared.outcome.Outcome.{Outcome}
 use Rattle.smap_tool.specs.declared.outcome.Outcome.TheVariants.{Refused}
 use Rattle.smap_tool.specs.declared.outcome.RunFault.{RunFault}
@@ -30,7 +30,7 @@ is_write e = false
 
 -- The input was read to the end.
 abbrev pub HasReadAll : Streams → List ℕ → Type 0
-HasReadAll s input = HasRead s input × IsAtEnd s.read_after × (length input ≤ LIMIT)
+HasReadAll s input = HasRead s input × IsAtEnd s.read_after × (length input ≤ longest_input)
 
 -- What was written is exactly what `output` gives for what was read. A run that gave up has written
 -- nothing, except after a failed write: then it has written a prefix. One that is too long is read up to the
@@ -39,11 +39,11 @@ abbrev pub WritesOutput : (List ℕ → List ℕ × Outcome) → Streams → Res
 WritesOutput output s (Ok outcome) = (input : List ℕ) × HasReadAll s input × HasWritten s (output input).0
     × (outcome ≡ (output input).1) × (s.ended ≡ true)
 WritesOutput output s (Err run.TooLong) =
-    (input : List ℕ) × HasRead s input × (length input ≡ LIMIT + 1) × HasWrittenNothing s
+    (input : List ℕ) × HasRead s input × (length input ≡ longest_input + 1) × HasWrittenNothing s
 WritesOutput output s (Err run.Read) =
-    (input : List ℕ) × HasRead s input × (length input ≤ LIMIT) × HasWrittenNothing s
+    (input : List ℕ) × HasRead s input × (length input ≤ longest_input) × HasWrittenNothing s
 WritesOutput output s (Err run.Memory) =
-    (input : List ℕ) × HasRead s input × (length input ≤ LIMIT) × HasWrittenNothing s
+    (input : List ℕ) × HasRead s input × (length input ≤ longest_input) × HasWrittenNothing s
 WritesOutput output s (Err run.Write) =
     (input : List ℕ) × (n : ℕ) × HasReadAll s input × HasWritten s (take n (output input).0)
 
@@ -84,15 +84,15 @@ pub record Runs (says : Streams → Result Outcome RunFault → Type 0) (s : Str
 abbrev pub ReadsInput : {R : Type 0} → (R → Option (List ℕ)) → Device R → Device R
     → Result (Vec ℕ) RunFault → Type 0
 ReadsInput remaining old new (Ok v) = Gave remaining old new v.items × IsAtItsEnd remaining new
-    × (length v.items ≤ LIMIT) × (device_failures new ≡ device_failures old)
+    × (length v.items ≤ longest_input) × (device_failures new ≡ device_failures old)
 ReadsInput remaining old new (Err run.TooLong) =
-    (input : List ℕ) × Gave remaining old new input × (length input ≡ LIMIT + 1)
+    (input : List ℕ) × Gave remaining old new input × (length input ≡ longest_input + 1)
     × (device_failures new ≡ device_failures old)
 ReadsInput remaining old new (Err run.Read) =
-    (input : List ℕ) × Gave remaining old new input × (length input ≤ LIMIT)
+    (input : List ℕ) × Gave remaining old new input × (length input ≤ longest_input)
     × (device_failures new ≡ device_failures old + 1)
 ReadsInput remaining old new (Err run.Memory) =
-    (input : List ℕ) × Gave remaining old new input × (length input ≤ LIMIT)
+    (input : List ℕ) × Gave remaining old new input × (length input ≤ longest_input)
     × (device_failures new ≡ device_failures old)
 ReadsInput remaining old new (Err run.Write) = ⊥
 

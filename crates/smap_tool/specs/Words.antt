@@ -9,7 +9,7 @@ use Rattle.clap.specs.declared.builder.value_parser.ValueParser.{ValueParser}
 use Rattle.clap.specs.declared.builder.value_parser.ValueParser.TheVariants as vp
 use Rattle.clap.specs.declared.error.kind.ErrorKind.{ErrorKind}
 use Rattle.clap.specs.declared.error.kind.ErrorKind.TheVariants.{OutOfMemory}
-use Rattle.smap_vlq.specs.declared.number.TheConstants.{MAX_POSITION}
+use Rattle.smap_vlq.specs.Limits.{max_position}
 use Rattle.smap_tool.specs.declared.words.WordsFault.{WordsFault}
 use Rattle.smap_tool.specs.declared.words.WordsFault.TheVariants as fault
 
@@ -21,7 +21,7 @@ wanted id = record (new_rule id) { required = true }
 
 -- an integer from 0 to the greatest, by `clap`'s parser of integers
 abbrev pub position_parser : Option ValueParser
-position_parser = Some (vp.Signed (pos 0) (pos MAX_POSITION))
+position_parser = Some (vp.Signed (pos 0) (pos max_position))
 
 -- a required argument that is such an integer
 abbrev pub position_argument : Text → Rule

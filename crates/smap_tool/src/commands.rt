@@ -4,7 +4,8 @@ ghost use Rattle.std.specs.Prelude.{false, map, true};
 ghost use Rattle.clap.specs.Words.{app_of, fault_of, found_of, rows_of, subcommand_of, subcommand_rows_of};
 ghost use Rattle.clap.specs.Words.{takes};
 ghost use Rattle.clap.specs.declared.builder.command.Command.TheViews.{out-Command as fields_of};
-ghost use Rattle.smap_io.specs.Device.{device_failures, has_ended};
+ghost use Rattle.smap_io.specs.Calls.{StopsInTime};
+ghost use Rattle.smap_io.specs.Device.{device_failures, has_ended, is_over};
 ghost use Rattle.smap_io.specs.Streams.{streams};
 ghost use Rattle.smap_tool.specs.Commands as line;
 ghost use Rattle.smap_tool.specs.Commands.{IsCommand, IsInRange, IsTaskOf, RunsTask, TaskGiven};
@@ -263,8 +264,14 @@ pub fn run<R: Read, W: Write>(
     requires not_ended { has_ended reader.old ≡ false }
 
     // The output is that of the task's command with the task's values.
-    ensures { RunsTask task.entry
+    ensures answers { RunsTask task.entry
         (streams R.remaining reader.old reader.new W.contents writer.old writer.new) result }
+
+    // No read comes after the end or a failure. The output is flushed once, and no write comes after that or
+    // after a failure.
+    ensures reads_in_time { StopsInTime reader.old reader.new }
+    ensures writes_in_time { StopsInTime writer.old writer.new }
+    ensures flushed { OnOk result (is_over writer.new ≡ true) }
 {
     match task {
         Task::Respell => run_respell(alloc, reader, writer),

@@ -1,5 +1,6 @@
 //! Reading an input to its end.
 ghost use Rattle.std.specs.Prelude.{◌≡◌, ◌-◌, ◌^◌, ◌<◌};
+ghost use Rattle.smap_io.specs.Calls.{StopsInTime};
 ghost use Rattle.smap_io.specs.Device.{device_failures};
 ghost use Rattle.smap_tool.specs.Run.{ReadsInput};
 
@@ -12,7 +13,8 @@ use std::io::Read;
 /// limit, `Read` if a call of the reader failed, or `Memory`.
 pub fn read_input<R: Read>(alloc: Global, reader: &mut Device<R>) -> Result<Vec<u8>, RunFault>
     requires { device_failures reader.old < 2 ^ 64 - 1 }
-    ensures { ReadsInput R.remaining reader.old reader.new result }
+    ensures reads { ReadsInput R.remaining reader.old reader.new result }
+    ensures in_time { StopsInTime reader.old reader.new }
 {
     // Each call brings at least one byte, so that the calls can't be used up first.
     let mut calls = u64::MAX;

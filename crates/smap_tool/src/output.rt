@@ -1,6 +1,7 @@
 //! Writing an answer.
-ghost use Rattle.std.specs.Prelude.{◌-◌, ◌^◌, ◌<◌};
-ghost use Rattle.smap_io.specs.Device.{device_failures};
+ghost use Rattle.std.specs.Prelude.{◌-◌, ◌^◌, ◌<◌, OnOk, true, ◌≡◌};
+ghost use Rattle.smap_io.specs.Calls.{StopsInTime};
+ghost use Rattle.smap_io.specs.Device.{device_failures, is_over};
 ghost use Rattle.smap_tool.specs.Run.{WritesAnswer, refused_base};
 ghost use Rattle.smap_tool.specs.declared.outcome.Outcome.TheVariants.{Refused};
 
@@ -16,7 +17,9 @@ pub fn write_answer<W: Write>(
     outcome: Outcome,
 ) -> Result<Outcome, RunFault>
     requires { device_failures writer.old < 2 ^ 64 - 1 }
-    ensures { WritesAnswer W.contents writer.old writer.new text.now outcome result }
+    ensures writes { WritesAnswer W.contents writer.old writer.new text.now outcome result }
+    ensures in_time { StopsInTime writer.old writer.new }
+    ensures flushed { OnOk result (is_over writer.new ≡ true) }
 {
     let Ok(()) = write_and_flush(writer, text) else {
         return Err(RunFault::Write);
@@ -27,7 +30,9 @@ pub fn write_answer<W: Write>(
 /// Refuses a base that isn't an absolute URL.
 pub fn write_refused_base<W: Write>(writer: &mut Device<W>) -> Result<Outcome, RunFault>
     requires { device_failures writer.old < 2 ^ 64 - 1 }
-    ensures { WritesAnswer W.contents writer.old writer.new refused_base Refused result }
+    ensures writes { WritesAnswer W.contents writer.old writer.new refused_base Refused result }
+    ensures in_time { StopsInTime writer.old writer.new }
+    ensures flushed { OnOk result (is_over writer.new ≡ true) }
 {
     write_answer(writer, b"refused: base is no URL\n", Outcome::Refused)
 }

@@ -1,7 +1,9 @@
 //! The translation of a trace from a reader to a writer: a piece is read, the translation of the lines that
 //! it ends is written, and only then is more read.
 ghost use Rattle.std.specs.Prelude.{◌≡◌, ◌++◌, ◌-◌, ◌<◌, ◌^◌, IfOk, OnOk, OnErr, true, false, []};
-ghost use Rattle.smap_io.specs.Device.{device_failures, has_ended};
+ghost use Rattle.smap_io.specs.Calls.{MakesAtMost, StopsInTime};
+ghost use Rattle.smap_io.specs.Device.{device_failures, has_ended, is_over};
+ghost use Rattle.smap_io.specs.Limits.{most_calls};
 ghost use Rattle.smap_io.specs.Streams.{ReaderFailsOrTires, Rises, WriterFails, fails_by, streams};
 ghost use Rattle.smap_io.specs.Writing.{Took, TookPrefix};
 ghost use Rattle.smap_trace.specs.Pieces.{HasNoFeed, Takes, count_line, count_lines};
@@ -139,6 +141,8 @@ fn finish<M: Maps, W: Write>(
     ensures never_read { fails_by is_read result ≡ false }
     ensures writer_failures { Rises (fails_by is_write result) (device_failures writer.old)
         (device_failures writer.new) }
+    ensures writes_in_time { StopsInTime writer.old writer.new }
+    ensures flushed { OnOk result (is_over writer.new ≡ true) }
 {
     let Ok(after) = end_line(maps, hide, line, out, counts) else {
         return Err(TraceError::Memory);
@@ -166,6 +170,10 @@ fn translate_with<M: Maps, R: Read, W: Write>(
         (streams R.remaining reader.old reader.new W.contents writer.old writer.new) result }
     ensures writer_failures { WriterFails is_write
         (streams R.remaining reader.old reader.new W.contents writer.old writer.new) result }
+    ensures calls { MakesAtMost most_calls reader.old reader.new }
+    ensures reads_in_time { StopsInTime reader.old reader.new }
+    ensures writes_in_time { StopsInTime writer.old writer.new }
+    ensures flushed { OnOk result (is_over writer.new ≡ true) }
 {
     let mut buf = [0; PIECE];
     let mut line = Vec::new(alloc);
@@ -237,8 +245,15 @@ pub fn translate<R: Read, W: Write>(
     // All was read, and its translation was written; or that of the complete lines, but after Write and
     // Memory for some of the last 65,536 bytes. Read and Write come with a failure of their device, and no
     // other answer does.
-    ensures { TranslatesTrace (scripts_in scripts.now) hide
+    ensures translates { TranslatesTrace (scripts_in scripts.now) hide
         (streams R.remaining reader.old reader.new W.contents writer.old writer.new) result }
+
+    // At most so many reads are made, and none after the end or a failure; no write comes after the flush or
+    // a failure, and where counts are answered, there was a flush.
+    ensures calls { MakesAtMost most_calls reader.old reader.new }
+    ensures reads_in_time { StopsInTime reader.old reader.new }
+    ensures writes_in_time { StopsInTime writer.old writer.new }
+    ensures flushed { OnOk result (is_over writer.new ≡ true) }
 {
     if scripts.len() <= FEW {
         return translate_with(alloc, &Listed { scripts }, hide, reader, writer);

@@ -1,4 +1,5 @@
 mod Examples
+mod LimitLemmas
 pub mod DigitLemmas
 pub mod NumberLemmas
 pub mod UnsignedLemmas

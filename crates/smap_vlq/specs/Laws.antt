@@ -4,15 +4,15 @@ use Rattle.std.specs.Prelude.{drop, slice_range, Ok, Err, ℤ, nat_abs}
 use Rattle.smap_vlq.specs.declared.number.NumberFault.{NumberFault}
 use Rattle.smap_vlq.specs.declared.segment.SegmentFault.{SegmentFault}
 use Rattle.smap_vlq.specs.declared.segment.SegmentFault.TheVariants.{Number, Count}
-use Rattle.smap_vlq.specs.declared.number.TheConstants.{MAX_POSITION}
+use Rattle.smap_vlq.specs.Limits.{max_position}
 use Rattle.smap_vlq.specs.Number.{number_at, spelling, Spells, IsShortestSpelling, HasNumberFault}
 use Rattle.smap_vlq.specs.Segment.{number_in, segment_of, SpellsAll, is_field_count, u8_count}
 use Rattle.smap_vlq.specs.Segment.{HasSegmentFault}
 
--- Each number from -MAX_POSITION to MAX_POSITION has exactly one shortest encoding, `spelling n`: every
+-- Each number from -MAX_POSITION to max_position has exactly one shortest encoding, `spelling n`: every
 -- other one is longer, and isn't a shortest.
 abbrev pub HasOneShortest : Type 0
-HasOneShortest = (n : ℤ) → nat_abs n ≤ MAX_POSITION → IsShortestSpelling (spelling n) n
+HasOneShortest = (n : ℤ) → nat_abs n ≤ max_position → IsShortestSpelling (spelling n) n
     × ((other : List ℕ) → Spells other n
     → (other ≡ spelling n) ⊎ ((length (spelling n) < length other) × (IsShortestSpelling other n → ⊥)))
 

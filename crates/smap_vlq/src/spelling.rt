@@ -1,6 +1,6 @@
 //! Writing the shortest encoding of a number.
 ghost use Rattle.std.specs.Prelude.{◌≡◌, ◌≢◌, ◌+◌, ◌≤◌, ◌++◌, negsuc, length, take, drop};
-ghost use Rattle.smap_vlq.specs.declared.number.TheConstants.{MAX_POSITION};
+ghost use Rattle.smap_vlq.specs.Limits.{max_position};
 ghost use Rattle.smap_vlq.specs.Number.{spelling, unsigned_spelling, unsigned_of, Written};
 
 use crate::digit::byte_of;
@@ -10,7 +10,7 @@ use crate::digit::byte_of;
 ///
 /// `n` must not be -2,147,483,648, which has no encoding.
 pub fn spell(n: i32, out: &mut [u8; 7]) -> usize
-    requires { n ≢ negsuc MAX_POSITION }
+    requires { n ≢ negsuc max_position }
     ensures { Written (spelling n) out.old out.new result }
 {
     spell_at(n, out, 0)
@@ -23,7 +23,7 @@ pub fn spell(n: i32, out: &mut [u8; 7]) -> usize
 /// numbers of a mappings string have one or two digits, so these are tried first.
 #[inline(always)]
 pub fn spell_at(n: i32, out: &mut [u8], at: usize) -> usize
-    requires number { n ≢ negsuc MAX_POSITION }
+    requires number { n ≢ negsuc max_position }
     requires room { at + 7 ≤ length out.old }
     ensures text { take result out.new ≡ take at out.old ++ spelling n }
     ensures rest { drop result out.new ≡ drop result out.old }
@@ -46,7 +46,7 @@ pub fn spell_at(n: i32, out: &mut [u8], at: usize) -> usize
 /// How many bytes the shortest spelling of a number has, from 1 to 7. The number isn't -2,147,483,648.
 #[inline(always)]
 pub fn spelled_len(n: i32) -> usize
-    requires { n ≢ negsuc MAX_POSITION }
+    requires { n ≢ negsuc max_position }
     ensures len { result ≡ length (spelling n) }
     ensures few { result ≤ 7 }
 {
@@ -78,7 +78,7 @@ fn digit_count(unsigned: u32) -> usize
 
 /// The unsigned value of a number: its sign is the lowest bit.
 fn unsigned_value(n: i32) -> u32
-    requires { n ≢ negsuc MAX_POSITION }
+    requires { n ≢ negsuc max_position }
     ensures { result ≡ unsigned_of n }
 {
     if n < 0 {

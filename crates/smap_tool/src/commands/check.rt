@@ -1,6 +1,7 @@
 //! The command `check`: validate a map.
-ghost use Rattle.std.specs.Prelude.{◌≡◌, ◌-◌, ◌^◌, ◌<◌, ◌++◌, None, false, OnOk};
-ghost use Rattle.smap_io.specs.Device.{device_failures, has_ended};
+ghost use Rattle.std.specs.Prelude.{◌≡◌, ◌-◌, ◌^◌, ◌<◌, ◌++◌, None, false, OnOk, true};
+ghost use Rattle.smap_io.specs.Calls.{StopsInTime};
+ghost use Rattle.smap_io.specs.Device.{device_failures, has_ended, is_over};
 ghost use Rattle.smap_io.specs.Streams.{streams};
 ghost use Rattle.smap_mappings.specs.Text.{line_count};
 ghost use Rattle.smap_tool.specs.Commands.{check_output, check_text, counts_line, length_line, most_bytes};
@@ -98,8 +99,14 @@ pub fn run_check<R: Read, W: Write>(
 
     // What was written is what the definition gives for what was read against the base. Read and Write come
     // with a failure of their device, and no other answer does.
-    ensures { Runs (WritesOutputAgainst (parse_url None base.now) check_output)
+    ensures answers { Runs (WritesOutputAgainst (parse_url None base.now) check_output)
         (streams R.remaining reader.old reader.new W.contents writer.old writer.new) result }
+
+    // No read comes after the end or a failure. The output is flushed once, and no write comes after that or
+    // after a failure.
+    ensures reads_in_time { StopsInTime reader.old reader.new }
+    ensures writes_in_time { StopsInTime writer.old writer.new }
+    ensures flushed { OnOk result (is_over writer.new ≡ true) }
 {
     run_on_map(alloc, &Check, base, reader, writer)
 }

@@ -1,9 +1,10 @@
 //! The command `lookup`: find the original position of a generated position.
-ghost use Rattle.std.specs.Prelude.{◌≡◌, ◌-◌, ◌^◌, ◌<◌, ◌++◌, None, false, IfOk, OnOk, option_copied};
+ghost use Rattle.std.specs.Prelude.{◌≡◌, ◌-◌, ◌^◌, ◌<◌, ◌++◌, None, false, IfOk, OnOk, option_copied, true};
 ghost use Rattle.std.specs.Prelude.{option_map, string_bytes};
 ghost use Rattle.serde_json.specs.Data.{string};
 ghost use Rattle.serde_json.specs.Written.{compact_text};
-ghost use Rattle.smap_io.specs.Device.{device_failures, has_ended};
+ghost use Rattle.smap_io.specs.Calls.{StopsInTime};
+ghost use Rattle.smap_io.specs.Device.{device_failures, has_ended, is_over};
 ghost use Rattle.smap_io.specs.Streams.{streams};
 ghost use Rattle.smap_record.specs.Views.{mapping_of_view, origin_of_view};
 ghost use Rattle.smap_tool.specs.Run.{WritesOutputAgainst, Runs};
@@ -139,8 +140,14 @@ pub fn run_lookup<R: Read, W: Write>(
 
     // What was written is what the definition gives for what was read against the base. Read and Write come
     // with a failure of their device, and no other answer does.
-    ensures { Runs (WritesOutputAgainst (parse_url None base.now) (lookup_output line column))
+    ensures answers { Runs (WritesOutputAgainst (parse_url None base.now) (lookup_output line column))
         (streams R.remaining reader.old reader.new W.contents writer.old writer.new) result }
+
+    // No read comes after the end or a failure. The output is flushed once, and no write comes after that or
+    // after a failure.
+    ensures reads_in_time { StopsInTime reader.old reader.new }
+    ensures writes_in_time { StopsInTime writer.old writer.new }
+    ensures flushed { OnOk result (is_over writer.new ≡ true) }
 {
     run_on_map(alloc, &Lookup { line, column }, base, reader, writer)
 }

@@ -1,6 +1,7 @@
 //! The command `respell`: re-encode a bare mappings string.
-ghost use Rattle.std.specs.Prelude.{◌≡◌, ◌-◌, ◌^◌, ◌<◌, false, IfOk};
-ghost use Rattle.smap_io.specs.Device.{device_failures, has_ended};
+ghost use Rattle.std.specs.Prelude.{◌≡◌, ◌-◌, ◌^◌, ◌<◌, false, IfOk, OnOk, true};
+ghost use Rattle.smap_io.specs.Calls.{StopsInTime};
+ghost use Rattle.smap_io.specs.Device.{device_failures, has_ended, is_over};
 ghost use Rattle.smap_io.specs.Streams.{streams};
 ghost use Rattle.smap_mappings.specs.Decoded.{ReturnsTokens, decoded};
 ghost use Rattle.smap_mappings.specs.Text.{IsEncodable};
@@ -74,8 +75,14 @@ pub fn run_respell<R: Read, W: Write>(
 
     // What was written is what the definition gives for what was read. Read and Write come with a failure
     // of their device, and no other answer does.
-    ensures { Runs (WritesOutput respell_output)
+    ensures answers { Runs (WritesOutput respell_output)
         (streams R.remaining reader.old reader.new W.contents writer.old writer.new) result }
+
+    // No read comes after the end or a failure. The output is flushed once, and no write comes after that or
+    // after a failure.
+    ensures reads_in_time { StopsInTime reader.old reader.new }
+    ensures writes_in_time { StopsInTime writer.old writer.new }
+    ensures flushed { OnOk result (is_over writer.new ≡ true) }
 {
     let input = read_input(alloc, reader)?;
     let (text, outcome) = respell(alloc, input)?;

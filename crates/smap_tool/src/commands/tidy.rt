@@ -1,6 +1,7 @@
 //! The command `tidy`: write a map in canonical form.
-ghost use Rattle.std.specs.Prelude.{◌≡◌, ◌-◌, ◌^◌, ◌<◌, None, false};
-ghost use Rattle.smap_io.specs.Device.{device_failures, has_ended};
+ghost use Rattle.std.specs.Prelude.{◌≡◌, ◌-◌, ◌^◌, ◌<◌, None, false, OnOk, true};
+ghost use Rattle.smap_io.specs.Calls.{StopsInTime};
+ghost use Rattle.smap_io.specs.Device.{device_failures, has_ended, is_over};
 ghost use Rattle.smap_io.specs.Streams.{streams};
 ghost use Rattle.smap_tool.specs.Run.{WritesOutputAgainst, Runs};
 ghost use Rattle.smap_tool.specs.Commands.{tidy_output, tidy_text};
@@ -50,8 +51,14 @@ pub fn run_tidy<R: Read, W: Write>(
 
     // What was written is what the definition gives for what was read against the base. Read and Write come
     // with a failure of their device, and no other answer does.
-    ensures { Runs (WritesOutputAgainst (parse_url None base.now) (tidy_output relative))
+    ensures answers { Runs (WritesOutputAgainst (parse_url None base.now) (tidy_output relative))
         (streams R.remaining reader.old reader.new W.contents writer.old writer.new) result }
+
+    // No read comes after the end or a failure. The output is flushed once, and no write comes after that or
+    // after a failure.
+    ensures reads_in_time { StopsInTime reader.old reader.new }
+    ensures writes_in_time { StopsInTime writer.old writer.new }
+    ensures flushed { OnOk result (is_over writer.new ≡ true) }
 {
     run_on_map(alloc, &Tidy { relative }, base, reader, writer)
 }

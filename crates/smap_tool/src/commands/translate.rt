@@ -1,6 +1,8 @@
 //! The command `translate`: translate the stack trace of a bundle to source positions.
-ghost use Rattle.std.specs.Prelude.{◌≡◌, ◌-◌, ◌^◌, ◌<◌, ◌++◌, ◌∷◌, [], false};
-ghost use Rattle.smap_io.specs.Device.{device_failures, has_ended};
+ghost use Rattle.std.specs.Prelude.{◌≡◌, ◌-◌, ◌*◌, ◌^◌, ◌<◌, ◌++◌, ◌∷◌, [], false, OnOk, true};
+ghost use Rattle.smap_io.specs.Calls.{MakesAtMost, StopsInTime};
+ghost use Rattle.smap_io.specs.Device.{device_failures, has_ended, is_over};
+ghost use Rattle.smap_io.specs.Limits.{most_calls};
 ghost use Rattle.smap_io.specs.Streams.{ReaderFailsOrTires, WriterFails, streams};
 ghost use Rattle.smap_tool.specs.Run.{is_read, is_write};
 ghost use Rattle.smap_tool.specs.Translate.{RunsTranslate, TranslatesTrace, WritesRefusal};
@@ -22,7 +24,9 @@ fn refuse<W: Write>(
     writer: &mut Device<W>,
 ) -> Result<Outcome, RunFault>
     requires { device_failures writer.old < 2 ^ 64 - 1 }
-    ensures { WritesRefusal W.contents writer.old writer.new (bundle_line refusal.now ++ 10 ∷ []) result }
+    ensures writes { WritesRefusal W.contents writer.old writer.new (bundle_line refusal.now ++ 10 ∷ []) result }
+    ensures in_time { StopsInTime writer.old writer.new }
+    ensures flushed { OnOk result (is_over writer.new ≡ true) }
 {
     let Ok(text) = bundle_refusal(alloc, refusal) else {
         return Err(RunFault::Memory);
@@ -47,6 +51,10 @@ fn translate_trace<R: Read, W: Write>(
         (streams R.remaining reader.old reader.new W.contents writer.old writer.new) result }
     ensures writer_failures { WriterFails is_write
         (streams R.remaining reader.old reader.new W.contents writer.old writer.new) result }
+    ensures calls { MakesAtMost most_calls reader.old reader.new }
+    ensures reads_in_time { StopsInTime reader.old reader.new }
+    ensures writes_in_time { StopsInTime writer.old writer.new }
+    ensures flushed { OnOk result (is_over writer.new ≡ true) }
 {
     let Ok(scripts) = bundle.scripts(alloc) else {
         return Err(RunFault::Memory);
@@ -87,8 +95,17 @@ pub fn run_translate<R: Read, W: Write>(
     // What was written is the translation of the bundle's trace, or the line of its first fault; nothing
     // was read past what shows this fault. Read and Write come with a failure of their device, and no other
     // answer does.
-    ensures { RunsTranslate hide
+    ensures answers { RunsTranslate hide
         (streams R.remaining reader.old reader.new W.contents writer.old writer.new) result }
+
+    // The bundle's entries are read by at most 4,294,967,296 calls, and so is the trace.
+    ensures calls { MakesAtMost (2 * most_calls) reader.old reader.new }
+
+    // No read comes after the end or a failure. The output is flushed once, and no write comes after that or
+    // after a failure.
+    ensures reads_in_time { StopsInTime reader.old reader.new }
+    ensures writes_in_time { StopsInTime writer.old writer.new }
+    ensures flushed { OnOk result (is_over writer.new ≡ true) }
 {
     match read_bundle(alloc, reader) {
         Ok(bundle) => translate_trace(alloc, hide, &bundle, reader, writer),

@@ -1,6 +1,6 @@
 use Rattle.std.proofs.Common.{◌≡◌, ◌∙◌, ◌≤◌, length, sym, arith}
 use Rattle.std.proofs.lemmas.List.{length-map}
-use Rattle.smap_io.specs.declared.reading.TheConstants.{LIMIT}
+use Rattle.smap_io.specs.Limits.{longest_input}
 use Rattle.smap_bundle.specs.declared.fault.EntryFault.TheVariants as wrong
 use Rattle.smap_bundle.specs.Bundle.{FaultOfEntry, refusal}
 use Rattle.smap_bundle.specs.Scripts.{script_of, scripts_of}
@@ -14,7 +14,7 @@ returns-then-contains_key-clause-stops c = λ n more e.
     let seen = scripts_of c.args.scripts.now.entries in
     let script = c.args.header.now.script.now in
     let base = c.args.header.now.base.now in
-    let fits : n ≤ LIMIT = omega (arith, e) in
+    let fits : n ≤ longest_input = omega (arith, e) in
     let at : c.len.result ≡ length seen = c.len.ensures.len
     ∙ sym (length-map c.args.scripts.now.entries script_of) in
     let known = is_known script c.args.scripts.now.entries (sym c.contains_key.ensures
@@ -32,7 +32,7 @@ returns-in-Err-NotUrl-clause-stops c = λ n more e.
     let seen = scripts_of c.args.scripts.now.entries in
     let script = c.args.header.now.script.now in
     let base = c.args.header.now.base.now in
-    let fits : n ≤ LIMIT = omega (arith, e) in
+    let fits : n ≤ longest_input = omega (arith, e) in
     let at : c.len-in-Err-NotUrl.result ≡ length seen = c.len-in-Err-NotUrl.ensures.len
     ∙ sym (length-map c.args.scripts.now.entries script_of) in
     let new = is_unknown script c.args.scripts.now.entries (sym c.contains_key.ensures

@@ -2,10 +2,11 @@ use Rattle.std.proofs.Common.{◌≡◌, ◌∙◌, ◌++◌, length-append, sym
 use Rattle.std.proofs.lemmas.Result.{err_from_is_err_and}
 use Rattle.smap_io.specs.Device.{has_ended}
 use Rattle.smap_io.specs.Reading.{Gave, IsWithinLine}
-use Rattle.smap_io.specs.declared.reading.TheConstants.{MOST_CALLS}
+use Rattle.smap_io.specs.Limits.{most_calls}
+use Rattle.smap_io.proofs.CallLemmas.{in_time_or_ended, in_time_then}
 use Rattle.smap_io.proofs.ReadingLemmas.{Gave-then}
 use Rattle.smap_trace.specs.Translation.{AreDistinct}
-use Rattle.smap_bundle.specs.Header.{LONGEST_HEADER, trace_line}
+use Rattle.smap_bundle.specs.Header.{longest_header, trace_line}
 use Rattle.smap_bundle.specs.Bundle.{IsAnswer, AreEntries, FaultAt}
 use Rattle.smap_bundle.specs.Reach.{IsWithinEntry, ReadsNoMore}
 use Rattle.smap_bundle.specs.Scripts.{scripts_of}
@@ -23,7 +24,7 @@ pub returns-in-Err-clause-stops : goal.returns-in-Err-clause-stops
 returns-in-Err-clause-stops g c = λ hide.
     let reads = c.entries.invariant.reads in
     gave_up_stops g.R.Read.remaining c.args.reader.now c.entries.reader c.read_line.new.reader reads.0
-    (IsWithinLine LONGEST_HEADER) MOST_CALLS c.entries.calls c.in-Err.fault c.unread.result
+    (IsWithinLine longest_header) most_calls c.entries.calls c.in-Err.fault c.unread.result
     (IsAnswer hide) ReadsNoMore reads.1 c.entries.invariant.failures reads.3
     (λ line within. ends_within (scripts_of c.entries.scripts.entries) reads.0 line reads.2
     c.entries.invariant.distinct within) c.in-Err.ensures.reads c.unread.ensures
@@ -55,7 +56,7 @@ returns-in_err-take_entry-clause-stops g c = λ hide.
     rw (p.1, p.2) (stops_after g.R.Read.remaining c.args.reader.now c.read_line.new.reader (reads.0 ++ line)
     (Gave-then g.R.Read.remaining c.args.reader.now c.entries.reader c.read_line.new.reader reads.0 line
     reads.1 was.1) (was.2 ∙ c.entries.invariant.failures)
-    c.take_entry.new.reader MOST_CALLS c.read_line.new.calls (λ more. FaultAt seen (line ++ more))
+    c.take_entry.new.reader most_calls c.read_line.new.calls (λ more. FaultAt seen (line ++ more))
     (IsAnswer hide)
     (IsWithinEntry line) ReadsNoMore c.in_err-take_entry.field-0.0
     (λ is. let paid = c.in-Ok.ensures.calls.paid (c.in_err-take_entry.ensures.open is) in
@@ -90,4 +91,17 @@ entries-preserved g c =
           (distinct_more seen t.script c.entries.invariant.distinct t.new_script);
       failures = c.in_ok-take_entry.ensures.failures ∙ was.2 ∙ c.entries.invariant.failures;
       not_ended = c.in_ok-take_entry.ensures.not_ended;
+      in_time = in_time_then c.args.reader.now c.entries.reader c.take_entry.new.reader
+          c.entries.invariant.still c.entries.invariant.in_time (in_time_or_ended c.entries.reader
+          c.read_line.new.reader c.take_entry.new.reader c.in-Ok.ensures.still c.read_line.ensures.in_time
+          c.take_entry.ensures.idle c.take_entry.ensures.in_time);
+      spends = search rules;
+      still = search rules;
     }
+
+pub returns-in_err-take_entry-clause-in_time : goal.returns-in_err-take_entry-clause-in_time
+returns-in_err-take_entry-clause-in_time g c =
+    in_time_then c.args.reader.now c.entries.reader c.take_entry.new.reader c.entries.invariant.still
+    c.entries.invariant.in_time
+    (in_time_or_ended c.entries.reader c.read_line.new.reader c.take_entry.new.reader c.in-Ok.ensures.still
+    c.read_line.ensures.in_time c.take_entry.ensures.idle c.take_entry.ensures.in_time)

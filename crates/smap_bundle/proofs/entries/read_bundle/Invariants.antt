@@ -1,7 +1,8 @@
 use Rattle.std.proofs.Common.{◌≡◌, ◌+◌, ◌≤◌, ℕ, List, false, length}
-use Rattle.smap_io.specs.Device.{device_failures, has_ended}
+use Rattle.smap_io.specs.Calls.{SpendsCalls, StopsInTime}
+use Rattle.smap_io.specs.Device.{device_failures, has_ended, is_over}
 use Rattle.smap_io.specs.Reading.{Gave}
-use Rattle.smap_io.specs.declared.reading.TheConstants.{MOST_CALLS}
+use Rattle.smap_io.specs.Limits.{most_calls}
 use Rattle.smap_trace.specs.Translation.{AreDistinct}
 use Rattle.smap_bundle.specs.Bundle.{AreEntries}
 use Rattle.smap_bundle.specs.Scripts.{scripts_of}
@@ -10,10 +11,13 @@ use Rattle.smap_bundle.proofs.entries.read_bundle.Given as goal
 abbrev pub invariant-entries : goal.invariant-entries
 invariant-entries g l = record {
   reads : (entries : List ℕ) × Gave g.R.Read.remaining l.fn.reader l.reader entries
-      × AreEntries entries (scripts_of l.scripts.entries) × (MOST_CALLS ≤ l.calls + length entries);
+      × AreEntries entries (scripts_of l.scripts.entries) × (most_calls ≤ l.calls + length entries);
   distinct : AreDistinct (scripts_of l.scripts.entries);
   failures : device_failures l.reader ≡ device_failures l.fn.reader;
   not_ended : has_ended l.reader ≡ false;
+  in_time : StopsInTime l.fn.reader l.reader;
+  spends : SpendsCalls l.fn.reader l.reader most_calls l.calls;
+  still : is_over l.reader ≡ is_over l.fn.reader;
 }
 
 abbrev pub decreases-entries : goal.decreases-entries

@@ -14,4 +14,4 @@ returns-in_err-byte-clause-reads g c =
     c.bytes.invariant.gave
     (λ more few. within_line c.args.most line more c.bytes.invariant.lacking short (omega (arith, few)))
     (omega (arith, c.bytes.invariant.counted))
-    c.bytes.invariant.failures c.bytes.invariant.ended c.in_err-byte.ensures)
+    c.bytes.invariant.failures c.bytes.invariant.ended c.in_err-byte.ensures.byte)

@@ -37,4 +37,7 @@ reads-preserved g c = record {
   failures = search rules;
   ended = search rules;
   going = search rules;
+  in_time = search rules;
+  spends = search rules;
+  still = search rules;
 }
