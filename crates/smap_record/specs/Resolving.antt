@@ -1,5 +1,13 @@
 -- For private contracts: what resolving returns.
-use Rattle.std.specs.Prelude.{◌≡◌, String, string_bytes, Result, Ok, Err}
+use Rattle.std.specs.Prelude.{◌≡◌, ℕ, List, String, string_bytes, bytes_eq, Result, Ok, Err, if◌then◌else◌}
+use Rattle.url.specs.Parser.{Parsed}
+use Rattle.url.specs.Parts.{Parts, serialize}
+use Rattle.url.specs.declared.error.ParseError.{ParseError}
+use Rattle.url.specs.declared.error.ParseError.TheVariants as parser
+use Rattle.smap_record.specs.declared.fault.Kind.TheVariants.{SourceUrl, UnstableUrl}
+use Rattle.smap_record.specs.declared.fault.ReadError.{ReadError}
+use Rattle.smap_record.specs.declared.fault.ReadError.TheVariants as errors
+use Rattle.smap_record.specs.Faults.{plain}
 use Rattle.smap_record.specs.declared.source.resolve.SourceFault.{SourceFault}
 use Rattle.smap_record.specs.declared.source.resolve.SourceFault.TheVariants.{NoUrl, Unstable, Memory}
 use Rattle.smap_record.specs.Source.{Resolved, no_url, unstable, resolved}
@@ -10,3 +18,20 @@ GivesSource (Ok text) expected = expected ≡ resolved (string_bytes text)
 GivesSource (Err NoUrl) expected = expected ≡ no_url
 GivesSource (Err Unstable) expected = expected ≡ unstable
 GivesSource (Err Memory) expected = Unit {0}
+
+-- the fault, but Memory if the parser had no room
+abbrev pub unless_out_of_room : ParseError → SourceFault → SourceFault
+unless_out_of_room parser.OutOfMemory fault = Memory
+unless_out_of_room parser.Overflow fault = Memory
+unless_out_of_room e fault = fault
+
+-- whether a URL's text, parsed again, is itself
+abbrev pub if_same_again : List ℕ → Parsed Parts → Result (Unit {0}) SourceFault
+if_same_again text (Ok url) = if bytes_eq (serialize url) text then Ok tt else Err Unstable
+if_same_again text (Err e) = Err (unless_out_of_room e Unstable)
+
+-- the error for the source with this index
+abbrev pub source_error : ℕ → SourceFault → ReadError
+source_error i NoUrl = errors.Refused (plain (SourceUrl i))
+source_error i Unstable = errors.Refused (plain (UnstableUrl i))
+source_error i Memory = errors.Memory

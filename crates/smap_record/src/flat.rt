@@ -20,6 +20,7 @@ ghost use Rattle.smap_record.specs.Flat.{source_at, source_url as source_url_of,
 ghost use Rattle.smap_record.specs.Flat.{is_too_many, bounds_of, shifted as shifted_by, listed_flat};
 ghost use Rattle.smap_record.specs.Flat.{flat_map as flat_map_of};
 ghost use Rattle.smap_record.specs.Fitting.{Fits, ListingFits};
+ghost use Rattle.smap_record.specs.Resolving.{source_error as error_of};
 ghost use Rattle.smap_record.specs.Results.{Returns};
 ghost use Rattle.smap_record.specs.Entries.{entry_of};
 ghost use Rattle.smap_record.specs.Owned.{texts_of, first_of};
@@ -38,6 +39,17 @@ use smap_shape::FlatShape;
 use std::alloc::{AllocError, Global};
 use std::vec::IntoIter;
 
+/// The error for the source with this index.
+fn source_error(i: usize, fault: SourceFault) -> ReadError
+    ensures { result ≡ error_of i fault }
+{
+    match fault {
+        SourceFault::NoUrl => refused(Kind::SourceUrl(i)),
+        SourceFault::Unstable => refused(Kind::UnstableUrl(i)),
+        SourceFault::Memory => ReadError::Memory,
+    }
+}
+
 /// The URL of a source, or the fault of the source with this index.
 fn url_at(
     alloc: Global,
@@ -51,9 +63,7 @@ fn url_at(
 {
     match resolve(alloc, base, root, source) {
         Ok(text) => Ok(text),
-        Err(SourceFault::NoUrl) => Err(refused(Kind::SourceUrl(i))),
-        Err(SourceFault::Unstable) => Err(refused(Kind::UnstableUrl(i))),
-        Err(SourceFault::Memory) => Err(ReadError::Memory),
+        Err(fault) => Err(source_error(i, fault)),
     }
 }
 

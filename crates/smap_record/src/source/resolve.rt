@@ -2,11 +2,12 @@
 //! once more, to see that it is its own URL.
 ghost use Rattle.std.specs.Prelude.{◌≡◌, ◌++◌, string_bytes, option_copied, IfOk};
 ghost use Rattle.smap_record.specs.Source.{prefix_of, resolve as url_of};
-ghost use Rattle.smap_record.specs.Resolving.{GivesSource};
+ghost use Rattle.smap_record.specs.Resolving.{GivesSource, if_same_again, unless_out_of_room};
+ghost use Rattle.url.specs.Parts.{serialize};
 
 use crate::source::Base;
 use std::alloc::{AllocError, Global};
-use url::ParseError;
+use url::{ParseError, ParseResult, Url};
 
 /// Why a source has no URL.
 #[derive(Clone, Copy, Debug, PartialEq, Eq)]
@@ -31,6 +32,28 @@ fn prefixed(alloc: Global, root: Option<&str>, source: &str) -> Result<String, A
     Ok(text)
 }
 
+/// The fault that a parser's error shows, but `Memory` if the parser had no room.
+fn unless_no_room(error: ParseError, fault: SourceFault) -> SourceFault
+    ensures { result ≡ unless_out_of_room error fault }
+{
+    match error {
+        ParseError::OutOfMemory | ParseError::Overflow => SourceFault::Memory,
+        _ => fault,
+    }
+}
+
+/// Whether a URL is the one that its own text led to. No source shows that a URL can be another one, so the
+/// contract says which fault comes when.
+fn same_again(url: &Url, again: ParseResult<Url>) -> Result<(), SourceFault>
+    ensures { result ≡ if_same_again (serialize url.now) again }
+{
+    match again {
+        Ok(again) if again.as_str() == url.as_str() => Ok(()),
+        Ok(_) => Err(SourceFault::Unstable),
+        Err(error) => Err(unless_no_room(error, SourceFault::Unstable)),
+    }
+}
+
 /// The text of the source's URL.
 #[tactic(auto, unfolding(crate::specs::Source::resolve))]
 pub(crate) fn resolve(
@@ -46,18 +69,9 @@ pub(crate) fn resolve(
     };
     let url = match base.join(text.as_str()) {
         Ok(url) => url,
-        Err(ParseError::OutOfMemory | ParseError::Overflow) => return Err(SourceFault::Memory),
-        Err(_) => return Err(SourceFault::NoUrl),
+        Err(error) => return Err(unless_no_room(error, SourceFault::NoUrl)),
     };
-    match base.join(url.as_str()) {
-        Ok(again) => {
-            if again.as_str() != url.as_str() {
-                return Err(SourceFault::Unstable);
-            }
-        }
-        Err(ParseError::OutOfMemory | ParseError::Overflow) => return Err(SourceFault::Memory),
-        Err(_) => return Err(SourceFault::Unstable),
-    }
+    same_again(&url, base.join(url.as_str()))?;
     match String::from_str(alloc, url.as_str()) {
         Ok(text) => Ok(text),
         Err(_) => Err(SourceFault::Memory),
