@@ -93,8 +93,8 @@ module _ (seen : List Script) (text script base : List ℕ) (n : ℕ) (more : Li
   )
 
   -- a map of the length that the header announces
-  mapped : (url : Parts) → n ≤ longest_input → IsNew seen script → parse_url None base ≡ Ok url → HasAt more n 10
-      → Next seen text
+  mapped : (url : Parts) → n ≤ longest_input → IsNew seen script → parse_url None base ≡ Ok url
+      → HasAt more n 10 → Next seen text
   mapped url fits new good h = go (reading url usual h.front) refl
     where
       after : more ≡ (h.front ++ 10 ∷ []) ++ h.rest
@@ -134,7 +134,8 @@ module _ (seen : List Script) (text script base : List ℕ) (n : ℕ) (more : Li
       })
 
   -- a map, once its length, its script and its base are checked
-  based : (url : Parts) → n ≤ longest_input → IsNew seen script → parse_url None base ≡ Ok url → Next seen text
+  based : (url : Parts) → n ≤ longest_input → IsNew seen script → parse_url None base ≡ Ok url
+      → Next seen text
   based url fits new good = go (feed_after more n)
     where
       go : HasAt more n 10 ⊎ (slice_get more n ≢ Some 10) → Next seen text
@@ -147,7 +148,8 @@ module _ (seen : List Script) (text script base : List ℕ) (n : ℕ) (more : Li
   headed : Next seen text
   headed = sized (cases_lt longest_input n)
     where
-      parsed : n ≤ longest_input → IsNew seen script → (r : Parsed Parts) → parse_url None base ≡ r → Next seen text
+      parsed : n ≤ longest_input → IsNew seen script → (r : Parsed Parts) → parse_url None base ≡ r
+          → Next seen text
       parsed fits new (Ok url) e = based url fits new e
       parsed fits new (Err f) e = faulty (refusal (length seen) wrong.Base)
           (no_base seen script base n (length seen) more (refusal (length seen) wrong.Base) refl fits new

@@ -180,6 +180,10 @@ pub fn canonical_in(
 ) -> Result<Vec<u8>, Memory>
     ensures text { IfOk result (λ bytes. bytes.items
         ≡ canonical_text_in (form_asked relative) base.now (record_of map.now)) }
+    // Parsed as JSON, the bytes are the canonical tree in that form.
+    ensures back { OnOk result (ReadsBack
+        (layout (spelling_in (form_asked relative) base.now) (canonical_map (record_of map.now)))) }
+    // Read as a map with this base, they have no fault, and the same record.
     ensures read_again { OnOk result
         (IsReadAgainIn (form_asked relative) base.now (record_of map.now)) }
 {

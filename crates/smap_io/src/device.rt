@@ -2,9 +2,8 @@
 ghost use Rattle.std.specs.Prelude.{◌≡◌, ◌+◌, ◌-◌, ◌^◌, ◌<◌, ◌||◌, false, true};
 ghost use Rattle.std.specs.Io.{ReadsAtMost, WritesAtMost};
 ghost use Rattle.std.specs.Io.KnownBytes.{ReadConsumes, WriteAppends, Keeps};
-ghost use Rattle.smap_io.specs.Device.{device_calls, device_inner, device_failures, has_ended, failures_after};
-ghost use Rattle.smap_io.specs.Device.{has_gone_on};
-ghost use Rattle.smap_io.specs.Device.{is_end, is_over, fails, CountsCall, TakesSome};
+ghost use Rattle.smap_io.specs.Device.{device_inner, device_calls, device_failures, has_ended, is_over};
+ghost use Rattle.smap_io.specs.Device.{has_gone_on, failures_after, fails, is_end, CountsCall, TakesSome};
 
 use std::io::{Read, Write};
 

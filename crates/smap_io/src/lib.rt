@@ -1,9 +1,10 @@
-//! Readers and writers whose failures are counted.
+//! Readers and writers whose calls and failures are counted.
 //!
-//! What a program promises about its input and output has to say when a device failed. A [`Device`] keeps
-//! that in one place: it passes each call on exactly once, counts the calls that failed, and notes the end
-//! of the input. It retries nothing, takes no memory, and costs one comparison a call. [`read_up_to`],
-//! [`read_line`], [`write_all`] and [`write_and_flush`] are the loops over it.
+//! What a program promises about its input and output has to say when a device failed, and that its work
+//! ended there. A [`Device`] keeps that in one place: it passes each call on exactly once, counts the calls
+//! and those that failed, and notes the end of the input. It retries nothing, takes no memory, and costs an
+//! addition and two tests a call. [`read_up_to`], [`read_line`], [`write_all`] and [`write_and_flush`] are
+//! the loops over it.
 #![tactic(auto)]
 
 mod device;

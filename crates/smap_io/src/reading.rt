@@ -1,7 +1,7 @@
 //! Reading as much as is wanted, with as many read calls as it takes, up to a limit. The buffer grows as
 //! the bytes come, so that a large limit alone takes no memory.
-ghost use Rattle.std.specs.Prelude.{◌≡◌, ◌+◌, ◌-◌, ◌^◌, ◌<◌, ◌≤◌, ◌||◌, IfOk, MatchResult, OnOk, false, length};
-ghost use Rattle.std.specs.Prelude.{drop, take, vec_len};
+ghost use Rattle.std.specs.Prelude.{◌≡◌, ◌+◌, ◌-◌, ◌^◌, ◌<◌, ◌≤◌, ◌||◌, IfOk, MatchResult, OnOk, false};
+ghost use Rattle.std.specs.Prelude.{drop, length, take, vec_len};
 ghost use Rattle.smap_io.specs.Calls.{SpendsCalls, StaysOpen, StopsInTime};
 ghost use Rattle.smap_io.specs.Device.{device_failures, is_over};
 ghost use Rattle.smap_io.specs.Reading.{GaveUp, IsFewerThan, IsWithinLine, ReadsByte, ReadsLine, ReadsSome};

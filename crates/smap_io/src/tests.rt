@@ -1,6 +1,6 @@
 //! Reading and writing by readers and writers in memory that move a few bytes a call, fail at a given call
-//! and count their calls. No clause can see how many calls there were, and that none came after the end or
-//! after a failure: these tests do. A call that fails here is interrupted.
+//! and count their calls. Clauses bound the calls of a device; that each is one call of its reader or writer,
+//! these tests show. A call that fails here is interrupted.
 use crate::{Device, Failed, ReadFault, read_line, read_up_to, write_all, write_and_flush};
 use smap_testing::{SlowReader, SlowWriter};
 

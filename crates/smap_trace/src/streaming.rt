@@ -219,8 +219,8 @@ fn translate_with<M: Maps, R: Read, W: Write>(
 /// # Errors
 ///
 /// `Read` where a read fails, or after 4,294,967,296 reads: the translation of all complete lines that were
-/// read has been written. `Write` where a write or the flush fails, and `Memory`: of the lines that the last
-/// read completed a prefix has been written, and of those before it everything.
+/// read has been written. `Write` where a write or the flush fails, and `Memory`: all lines that were
+/// complete before the last read have been written, and then a prefix of those that it completed.
 ///
 /// # Examples
 ///

@@ -118,3 +118,37 @@ fn failures_of_writes_and_flushes_add_up(rt: HostRuntime) {
     assert_eq!(rt; device.failures(), 2);
     assert_eq!(rt; device.into_inner().calls, 3);
 }
+
+/// The number of calls, whether the device is over, and whether a call came after that.
+fn noted<T>(device: &Device<T>) -> (u64, bool, bool) {
+    (device.calls(), device.is_over(), device.has_gone_on())
+}
+
+#[test]
+fn a_read_after_the_end_is_noted(rt: HostRuntime) {
+    let mut device = Device::new(SlowReader::new(b"a", 2, 0));
+    let mut buf = [0; 4];
+    assert_eq!(rt; noted(&device), (0, false, false));
+    assert_eq!(rt; device.read(&mut buf), Ok(1));
+    assert_eq!(rt; noted(&device), (1, false, false));
+    assert_eq!(rt; device.read(&mut buf), Ok(0));
+    assert_eq!(rt; noted(&device), (2, true, false));
+    assert_eq!(rt; device.read(&mut buf), Ok(0));
+    assert_eq!(rt; noted(&device), (3, true, true));
+}
+
+#[test]
+fn a_write_after_the_flush_or_a_failure_is_noted(rt: HostRuntime) {
+    let mut device = Device::new(SlowWriter::new(rt.alloc(), 2, 0));
+    assert_eq!(rt; device.write(b"a"), Ok(1));
+    assert_eq!(rt; noted(&device), (1, false, false));
+    assert_eq!(rt; device.flush(), Ok(()));
+    assert_eq!(rt; noted(&device), (2, true, false));
+    assert_eq!(rt; device.write(b"a"), Ok(1));
+    assert_eq!(rt; noted(&device), (3, true, true));
+    let mut failing = Device::new(SlowWriter::new(rt.alloc(), 2, 1));
+    assert_eq!(rt; failing.write(b"a"), Err(Failed));
+    assert_eq!(rt; noted(&failing), (1, true, false));
+    assert_eq!(rt; failing.flush(), Ok(()));
+    assert_eq!(rt; noted(&failing), (2, true, true));
+}

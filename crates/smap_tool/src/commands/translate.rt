@@ -24,7 +24,8 @@ fn refuse<W: Write>(
     writer: &mut Device<W>,
 ) -> Result<Outcome, RunFault>
     requires { device_failures writer.old < 2 ^ 64 - 1 }
-    ensures writes { WritesRefusal W.contents writer.old writer.new (bundle_line refusal.now ++ 10 ∷ []) result }
+    ensures writes { WritesRefusal W.contents writer.old writer.new (bundle_line refusal.now ++ 10 ∷ [])
+        result }
     ensures in_time { StopsInTime writer.old writer.new }
     ensures flushed { OnOk result (is_over writer.new ≡ true) }
 {

@@ -9,7 +9,7 @@ use Rattle.smap_c.proofs.translating.translated.Goals as goal
 pub returns-in-Ok : goal.returns-in-Ok
 returns-in-Ok c =
     whole (scripts_in c.as_slice.result.now) c.args.hide _ c.args.trace.now c.translate.new.reader.inner.now
-    c.into_inner.result.items c.in-Ok.counts c.in-Ok.ensures
+    c.into_inner.result.items c.in-Ok.counts c.in-Ok.ensures.translates
     (ap (λ (b : Bor (List ℕ)). Some b.now) c.new-reader.ensures.inner) refl
     (ap (λ (v : Vec ℕ). Some v.items) c.new-writer.ensures.inner
     ∙ ap (λ (xs : List ℕ). Some xs) c.new.ensures.items)
