@@ -27,94 +27,57 @@ use Rattle.smap_c.specs.contracts.translating.SmapTraceCounts as trace_counts
 use Rattle.smap_c.specs.contracts.written.BytesOwner as bytes_owner
 use Rattle.smap_c.specs.contracts.written.SmapBytes as bytes
 
+infixr 50 ◌then◌
+-- a field and those after it
+abbrev pub ◌then◌ : {A B : Type 0} → A → B → A × B
+a then b = (a, b)
+
 abbrev pub FaultOrder : Type 0
 FaultOrder = (f : SmapFault) → fault.the_type.as_values f
-    ≡ (
-      f.kind,
-      (
-        f.line,
-        (
-          f.segment,
-          (
-            f.has_place,
-            (
-              f.number,
-              (
-                f.depth,
-                (f.section, (f.text_len, (f.text, tt))),
-              ),
-            ),
-          ),
-        ),
-      ),
-    )
+    ≡ f.kind then f.line then f.segment then f.has_place then f.number then f.depth then f.section
+    then f.text_len then f.text then tt
 
 abbrev pub LimitsOrder : Type 0
-LimitsOrder = (l : SmapLimits) → limits.the_type.as_values l ≡ (l.items, (l.lines, tt))
+LimitsOrder = (l : SmapLimits) → limits.the_type.as_values l ≡ l.items then l.lines then tt
 
 abbrev pub CountsOrder : Type 0
 CountsOrder = (c : SmapCounts) → counts.the_type.as_values c
-    ≡ (c.sources, (c.listed_sources, (c.names, (c.mappings, (c.lines, tt)))))
+    ≡ c.sources then c.listed_sources then c.names then c.mappings then c.lines then tt
 
 abbrev pub MappingOrder : Type 0
 MappingOrder = (m : SmapMapping) → mapping.the_type.as_values m
-    ≡ (
-      m.line,
-      (
-        m.column,
-        (
-          m.has_source,
-          (
-            m.has_name,
-            (
-              m.is_ignored,
-              (m.source_line, (m.source_column, (m.source, tt))),
-            ),
-          ),
-        ),
-      ),
-    )
+    ≡ m.line then m.column then m.has_source then m.has_name then m.is_ignored then m.source_line
+    then m.source_column then m.source then tt
 
 abbrev pub ListedOrder : Type 0
 ListedOrder = (m : SmapListedMapping) → listed.the_type.as_values m
-    ≡ (
-      m.line,
-      (
-        m.column,
-        (
-          m.has_source,
-          (
-            m.has_name,
-            (m.source_line, (m.source_column, (m.source, (m.name, tt)))),
-          ),
-        ),
-      ),
-    )
+    ≡ m.line then m.column then m.has_source then m.has_name then m.source_line then m.source_column
+    then m.source then m.name then tt
 
 abbrev pub FrameOrder : Type 0
 FrameOrder = (f : SmapFrame) → frame.the_type.as_values f
-    ≡ (f.url_from, (f.url_len, (f.line, (f.column, tt))))
+    ≡ f.url_from then f.url_len then f.line then f.column then tt
 
 abbrev pub TraceCountsOrder : Type 0
 TraceCountsOrder = (c : SmapTraceCounts) → trace_counts.the_type.as_values c
-    ≡ (c.lines, (c.translated, (c.dropped, tt)))
+    ≡ c.lines then c.translated then c.dropped then tt
 
 -- ---- handles: a flag, and a pointer beside an allocator, which takes no room
 
 abbrev pub MapOrder : Type 0
-MapOrder = (h : SmapMap) → map.the_type.as_values h ≡ (h.is_open, (h.owner, tt))
+MapOrder = (h : SmapMap) → map.the_type.as_values h ≡ h.is_open then h.owner then tt
 
 abbrev pub MapOwnerOrder : Type 0
-MapOwnerOrder = (o : MapOwner) → map_owner.the_type.as_values o ≡ (o.at, (o.alloc, tt))
+MapOwnerOrder = (o : MapOwner) → map_owner.the_type.as_values o ≡ o.at then o.alloc then tt
 
 abbrev pub BytesOrder : Type 0
-BytesOrder = (h : SmapBytes) → bytes.the_type.as_values h ≡ (h.is_open, (h.owner, tt))
+BytesOrder = (h : SmapBytes) → bytes.the_type.as_values h ≡ h.is_open then h.owner then tt
 
 abbrev pub BytesOwnerOrder : Type 0
-BytesOwnerOrder = (o : BytesOwner) → bytes_owner.the_type.as_values o ≡ (o.at, (o.alloc, tt))
+BytesOwnerOrder = (o : BytesOwner) → bytes_owner.the_type.as_values o ≡ o.at then o.alloc then tt
 
 abbrev pub ScriptsOrder : Type 0
-ScriptsOrder = (h : SmapScripts) → scripts.the_type.as_values h ≡ (h.is_open, (h.owner, tt))
+ScriptsOrder = (h : SmapScripts) → scripts.the_type.as_values h ≡ h.is_open then h.owner then tt
 
 abbrev pub ScriptsOwnerOrder : Type 0
-ScriptsOwnerOrder = (o : ScriptsOwner) → scripts_owner.the_type.as_values o ≡ (o.at, (o.alloc, tt))
+ScriptsOwnerOrder = (o : ScriptsOwner) → scripts_owner.the_type.as_values o ≡ o.at then o.alloc then tt
