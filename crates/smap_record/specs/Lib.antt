@@ -20,3 +20,4 @@ pub mod Steps
 pub mod Building
 pub mod Owned
 pub mod Words
+pub mod Messages

@@ -1,6 +1,7 @@
 //! Why a map is rejected: every kind of fault with its section, its place and its message. Whoever prints a
 //! fault adds words such as `refused: ` before the message.
-ghost use Rattle.std.specs.Prelude.{◌≡◌, Some};
+ghost use Rattle.std.specs.Prelude.{◌≡◌, ◌++◌, Some, codes};
+ghost use Rattle.smap_record.specs.Messages.{said};
 ghost use Rattle.smap_record.specs.Faults.{plain, segment_fault};
 ghost use Rattle.smap_record.specs.Words.{fault_words, kind_words, number_words, place_words, section_words};
 
@@ -208,15 +209,62 @@ impl From<SegmentKind> for Kind {
     }
 }
 
-/// What is wrong with a number.
+/// The message of a kind: words, or words before and after a number.
+#[derive(Clone, Copy)]
+enum Message {
+    Plain(&'static str),
+    Numbered(&'static str, usize, &'static str),
+}
+
+/// What is wrong with a number, after its number in the segment.
 fn number_words(fault: NumberFault) -> &'static str
-    ensures { result.now ≡ number_words fault }
+    ensures { result.now ≡ codes ": " ++ number_words fault }
 {
     match fault {
-        NumberFault::Unfinished => "unfinished",
-        NumberFault::Character => "bad character",
-        NumberFault::TooLarge => "too large",
-        NumberFault::NegativeZero => "negative zero",
+        NumberFault::Unfinished => ": unfinished",
+        NumberFault::Character => ": bad character",
+        NumberFault::TooLarge => ": too large",
+        NumberFault::NegativeZero => ": negative zero",
+    }
+}
+
+/// What a kind says.
+fn message_of(kind: Kind) -> Message
+    ensures { said result ≡ kind_words kind }
+{
+    match kind {
+        Kind::Prefix => Message::Plain("prefix without line feed"),
+        Kind::Json => Message::Plain("not json"),
+        Kind::NotObject => Message::Plain("not an object"),
+        Kind::Version => Message::Plain("version"),
+        Kind::File => Message::Plain("file"),
+        Kind::Both => Message::Plain("sections beside mappings"),
+        Kind::SourceRoot => Message::Plain("sourceRoot"),
+        Kind::Sources => Message::Plain("sources"),
+        Kind::SourcesContent => Message::Plain("sourcesContent"),
+        Kind::Names => Message::Plain("names"),
+        Kind::IgnoreList => Message::Plain("ignoreList"),
+        Kind::Mappings => Message::Plain("mappings"),
+        Kind::Sections => Message::Plain("sections"),
+        Kind::Offset => Message::Plain("offset"),
+        Kind::SectionMap => Message::Plain("map"),
+        Kind::Nested => Message::Plain("nested sections"),
+        Kind::Order => Message::Plain("order"),
+        Kind::Overlap => Message::Plain("overlap"),
+        Kind::TooMany => Message::Plain("too many sources or names"),
+        Kind::SourceUrl(i) => Message::Numbered("source ", i, " is no URL"),
+        Kind::UnstableUrl(i) => Message::Numbered("source ", i, " has an unstable URL"),
+        Kind::Empty => Message::Plain("empty segment"),
+        Kind::Number(which, fault) => {
+            Message::Numbered("number ", which as usize, number_words(fault))
+        }
+        Kind::Count(count) => Message::Numbered("", count as usize, " numbers"),
+        Kind::GeneratedLine => Message::Plain("generated line"),
+        Kind::Column => Message::Plain("generated column"),
+        Kind::Source => Message::Plain("source index"),
+        Kind::OriginalLine => Message::Plain("original line"),
+        Kind::OriginalColumn => Message::Plain("original column"),
+        Kind::Name => Message::Plain("name index"),
     }
 }
 
@@ -224,46 +272,11 @@ impl fmt::Display for Kind {
     ghost output = { λ kind. Some (kind_words kind) };
 
     fn fmt<W: fmt::Write>(&self, f: &mut fmt::Formatter<W>) -> fmt::Result {
-        match *self {
-            Kind::Prefix => write!(f, "prefix without line feed"),
-            Kind::Json => write!(f, "not json"),
-            Kind::NotObject => write!(f, "not an object"),
-            Kind::Version => write!(f, "version"),
-            Kind::File => write!(f, "file"),
-            Kind::Both => write!(f, "sections beside mappings"),
-            Kind::SourceRoot => write!(f, "sourceRoot"),
-            Kind::Sources => write!(f, "sources"),
-            Kind::SourcesContent => write!(f, "sourcesContent"),
-            Kind::Names => write!(f, "names"),
-            Kind::IgnoreList => write!(f, "ignoreList"),
-            Kind::Mappings => write!(f, "mappings"),
-            Kind::Sections => write!(f, "sections"),
-            Kind::Offset => write!(f, "offset"),
-            Kind::SectionMap => write!(f, "map"),
-            Kind::Nested => write!(f, "nested sections"),
-            Kind::Order => write!(f, "order"),
-            Kind::Overlap => write!(f, "overlap"),
-            Kind::TooMany => write!(f, "too many sources or names"),
-            Kind::SourceUrl(i) => write!(f, "source {} is no URL", Buffer::new().format(i)),
-            Kind::UnstableUrl(i) => {
-                write!(f, "source {} has an unstable URL", Buffer::new().format(i))
+        match message_of(*self) {
+            Message::Plain(words) => write!(f, "{words}"),
+            Message::Numbered(before, number, after) => {
+                write!(f, "{before}{}{after}", Buffer::new().format(number))
             }
-            Kind::Empty => write!(f, "empty segment"),
-            Kind::Number(which, fault) => {
-                write!(
-                    f,
-                    "number {}: {}",
-                    Buffer::new().format(which),
-                    number_words(fault)
-                )
-            }
-            Kind::Count(count) => write!(f, "{} numbers", Buffer::new().format(count)),
-            Kind::GeneratedLine => write!(f, "generated line"),
-            Kind::Column => write!(f, "generated column"),
-            Kind::Source => write!(f, "source index"),
-            Kind::OriginalLine => write!(f, "original line"),
-            Kind::OriginalColumn => write!(f, "original column"),
-            Kind::Name => write!(f, "name index"),
         }
     }
 }
