@@ -270,10 +270,7 @@ erase_progress() {
 # Writes a list with the number and the size of each map in front, `NUMBER SIZE NAME BASE FILE`, without the
 # maps that can't be read, for which it notes that.
 measure() {
-    while IFS= read -r line; do
-        take_apart "$line"
-        printf '%s\n' "$path"
-    done <"$1" | tr '\n' '\000' | xargs -0 wc -c -- 2>/dev/null >"$room/sizes"
+    sed -e 's/^[^ ]* [^ ]* //' -e '/^\//!s,^,./,' "$1" | tr '\n' '\000' | xargs -0 wc -c -- 2>/dev/null >"$room/sizes"
     awk -v room="$room" '
         sizes {
             sub(/^ */, "")
