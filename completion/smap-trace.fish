@@ -1,0 +1,24 @@
+# Completion of smap-trace for fish. rows/completion.rows compares its options with --help.
+
+complete -c smap-trace -f
+complete -c smap-trace -s h -l help -d 'Print help'
+complete -c smap-trace -l hide-ignored -d 'Leave out frames in ignored sources'
+complete -c smap-trace -l skip-broken -d 'Leave out maps that are refused'
+complete -c smap-trace -l list -d 'List the scripts that the log names'
+complete -c smap-trace -a '(__smap_trace_maps)'
+
+# Leaves the URL alone, and completes the file or the folder after its =: maps and folders or, if there are
+# none, any file. After URL=FILE= comes another URL.
+function __smap_trace_maps
+    set -l word (commandline -ct)
+    string match -q '*=*' -- $word; or return
+    set -l path (string replace -r '.*=' '' -- $word)
+    set -l head (string replace -r '[^=]*$' '' -- $word)
+    set -l before (string replace -r '.*=' '' -- (string replace -r '=$' '' -- $head))
+    string match -q '*=*=' -- $head; and test -f $before; and return
+    set -l found $path*.map $path*/
+    set -q found[1]; or set found $path*
+    for name in $found
+        echo $head$name
+    end
+end

@@ -1,0 +1,145 @@
+# shellcheck shell=bash
+# Completion of smap, smap-trace and smap-maps for bash 4 and later. The package bash-completion loads this file
+# once one of them is completed; without that package, `. smap.bash` in ~/.bashrc does.
+
+# The options of each command. rows/completion.rows compares these lines with --help.
+_smap_options='
+smap: --help
+smap check: --help
+smap tidy: --relative --help
+smap flatten: --help
+smap lookup: --help
+smap respell: --help
+smap translate: --hide-ignored --help
+smap-trace: --hide-ignored --skip-broken --list --help
+smap-maps: --help
+smap-maps check: --base --help
+smap-maps tidy: --base --relative --write --diff --help
+smap-maps flatten: --base --write --diff --help
+'
+
+# Writes what a program takes next: the options of one of its commands, or with one argument its commands.
+_smap_words() {
+    local line
+    while IFS= read -r line; do
+        case $# in
+        1) [[ $line == "$1 "*:* ]] && line=${line%%:*} && echo "${line##* }" ;;
+        *) [[ $line == "$1${2:+ $2}: "* ]] && echo "${line#*: }" ;;
+        esac
+    done <<<"$_smap_options"
+}
+
+# Splits the line before the cursor into `words`, and sets `quote` to the quote that is open at its end. In
+# bash's own COMP_WORDS a URL is split at each of its : and =.
+_smap_split() {
+    local LC_ALL=C line=${COMP_LINE:0:COMP_POINT} word='' in_word='' i c
+    words=()
+    quote=''
+    for ((i = 0; i < ${#line}; i++)); do
+        c=${line:i:1}
+        if [[ -n $quote && $c == "$quote" ]]; then
+            quote=''
+        elif [[ $quote == \' ]]; then
+            word+=$c
+        elif [[ $c == \\ && ($quote == '' || ${line:i+1:1} == [\\\"\$\`]) ]]; then
+            word+=${line:++i:1}
+            in_word=yes
+        elif [[ -n $quote ]]; then
+            word+=$c
+        elif [[ $c == [\'\"] ]]; then
+            quote=$c
+            in_word=yes
+        elif [[ $c == [[:space:]\<\>] ]]; then
+            [[ -z $in_word ]] || words+=("$word")
+            [[ $c == [[:space:]] ]] || words+=("$c")
+            word=''
+            in_word=''
+        else
+            word+=$c
+            in_word=yes
+        fi
+    done
+    words+=("$word")
+}
+
+# Completes the name of a file that begins with $1: maps and folders or, if there are none or $4 is `any`, any
+# file. $2 is what stands before it in its word, and $3 the end of that word, which bash replaces.
+_smap_files() {
+    local name maps=() files=() head=$2 piece=$3 kept
+    while IFS= read -r name; do
+        files+=("$name")
+        [[ $name != *.map && ! -d $name ]] || maps+=("$name")
+    done < <(compgen -f -- "$1")
+    [[ ${#maps[@]} -eq 0 || $4 == any ]] || files=("${maps[@]}")
+    [[ $head$1 == *"$piece" ]] || piece=${piece//\\/}
+    kept=${head}$1
+    kept=${kept%"$piece"}
+    if [[ $kept == "$head" ]]; then
+        COMPREPLY=("${files[@]}")
+        compopt -o filenames
+        return
+    fi
+    for name in "${files[@]}"; do
+        if [[ -d $name ]]; then
+            name+=/
+            compopt -o nospace
+        fi
+        name=$head$name
+        name=${name#"$kept"}
+        [[ -n $quote ]] || printf -v name %q "$name"
+        COMPREPLY+=("$name")
+    done
+}
+
+_smap() {
+    local program=${1##*/} piece=$2 words quote word before command='' last i
+    COMPREPLY=()
+    _smap_split
+    last=$((${#words[@]} - 1))
+    word=${words[last]}
+    before=${words[last - 1]}
+    if [[ $program != smap-trace ]]; then
+        for ((i = 1; i < last; i++)); do
+            if [[ ${words[i]} == --base ]]; then
+                ((i++))
+            elif [[ ${words[i]} == [\<\>] ]]; then
+                break
+            elif [[ ${words[i]} != -* ]]; then
+                command=${words[i]}
+                break
+            fi
+        done
+    fi
+    case $program:$before in
+    *:'<')
+        case $program:$command in
+        smap:check | smap:tidy | smap:flatten | smap:lookup) _smap_files "$word" '' "$piece" ;;
+        *) _smap_files "$word" '' "$piece" any ;;
+        esac
+        return
+        ;;
+    *:'>')
+        _smap_files "$word" '' "$piece" any
+        return
+        ;;
+    smap-maps:--base) return ;;
+    esac
+    case $program:$word in
+    *:-*) mapfile -t COMPREPLY < <(compgen -W "$(_smap_words "$program" "$command")" -- "$word") ;;
+    smap-trace:*=*)
+        # After URL=FILE= comes another URL.
+        local url=${word%=*}
+        [[ -f ${url##*=} && $url == *=* ]] || _smap_files "${word##*=}" "${word%"${word##*=}"}" "$piece"
+        ;;
+    smap-trace:*) ;;
+    *)
+        if [[ -z $command ]]; then
+            mapfile -t COMPREPLY < <(compgen -W "$(_smap_words "$program")" -- "$word")
+        elif [[ $program == smap-maps ]]; then
+            _smap_files "$word" '' "$piece"
+        fi
+        ;;
+    esac
+}
+
+complete -F _smap smap smap-trace smap-maps
