@@ -16,12 +16,11 @@ one of its own.
 from __future__ import annotations
 
 import ctypes
-import ctypes.util
 import os
 from ctypes import POINTER, byref, c_bool, c_char, c_char_p, c_size_t, c_uint32, c_uint64, c_void_p
 from dataclasses import dataclass
 from pathlib import Path
-from typing import Dict, Iterator, Optional, Tuple, Union
+from typing import AnyStr, Dict, Iterator, Optional, Tuple
 
 __all__ = ["Counts", "Error", "Frame", "Map", "Mapping", "Refused", "Scripts", "Source", "TraceCounts"]
 __all__ += ["frame", "respell", "translate", "version"]
@@ -137,13 +136,15 @@ class Mapping:
 
 def _load() -> ctypes.CDLL:
     beside = Path(__file__).resolve().parent
-    installed = beside.parent.parent / "lib"
-    names = [os.environ.get("SMAP_LIBRARY"), beside / "libsmap.so.0", beside / "libsmap.so"]
-    names.append(installed / "libsmap.so.0")
-    for name in names:
-        if name and (os.path.exists(name) or name is names[0]):
-            return ctypes.CDLL(str(name))
-    return ctypes.CDLL(ctypes.util.find_library("smap") or "libsmap.so.0")
+    # scripts/install puts this folder into PREFIX/share/smap, and the library into PREFIX/lib
+    installed = beside.parent.parent.parent / "lib"
+    named = os.environ.get("SMAP_LIBRARY")
+    if named:
+        return ctypes.CDLL(named)
+    for place in (beside / "libsmap.so.0", beside / "libsmap.so", installed / "libsmap.so.0"):
+        if place.exists():
+            return ctypes.CDLL(str(place))
+    return ctypes.CDLL("libsmap.so.0")
 
 
 def _declare(lib: ctypes.CDLL) -> ctypes.CDLL:
@@ -380,7 +381,7 @@ class Map:
                 return None if became.value == 2 else out.raw[: n.value]
             room = n.value
 
-    def translate(self, trace: Union[str, bytes], url: str, hide: bool = False) -> Union[str, bytes]:
+    def translate(self, trace: AnyStr, url: str, hide: bool = False) -> AnyStr:
         """A whole trace, with the frames in the script at `url` at their positions in the sources.
 
         `hide` drops frames in ignored sources. A str gives a str, bytes give bytes.
@@ -444,7 +445,7 @@ class Scripts:
         return _taken(out), counts
 
 
-def translate(trace: Union[str, bytes], scripts: Dict[str, Map], hide: bool = False) -> Union[str, bytes]:
+def translate(trace: AnyStr, scripts: Dict[str, Map], hide: bool = False) -> AnyStr:
     """A whole trace with its frames at their positions in the sources, by the maps of scripts, keyed by URL.
 
     `hide` drops frames in ignored sources. A str gives a str, bytes give bytes.
