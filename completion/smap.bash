@@ -62,14 +62,21 @@ _smap_split() {
     words+=("$word")
 }
 
+# Completes $2 to one of the words $1. (A process substitution would want /proc, which a container may lack.)
+_smap_choose() {
+    local found
+    found=$(compgen -W "$1" -- "$2") && mapfile -t COMPREPLY <<<"$found"
+}
+
 # Completes the name of a file that begins with $1: maps and folders or, if there are none or $4 is `any`, any
 # file. $2 is what stands before it in its word, and $3 the end of that word, which bash replaces.
 _smap_files() {
-    local name maps=() files=() head=$2 piece=$3 kept
+    local name found maps=() files=() head=$2 piece=$3 kept
+    found=$(compgen -f -- "$1") || return
     while IFS= read -r name; do
         files+=("$name")
         [[ $name != *.map && ! -d $name ]] || maps+=("$name")
-    done < <(compgen -f -- "$1")
+    done <<<"$found"
     [[ ${#maps[@]} -eq 0 || $4 == any ]] || files=("${maps[@]}")
     [[ $head$1 == *"$piece" ]] || piece=${piece//\\/}
     kept=${head}$1
@@ -125,7 +132,7 @@ _smap() {
     smap-maps:--base) return ;;
     esac
     case $program:$word in
-    *:-*) mapfile -t COMPREPLY < <(compgen -W "$(_smap_words "$program" "$command")" -- "$word") ;;
+    *:-*) _smap_choose "$(_smap_words "$program" "$command")" "$word" ;;
     smap-trace:*=*)
         # After URL=FILE= comes another URL.
         local url=${word%=*}
@@ -134,7 +141,7 @@ _smap() {
     smap-trace:*) ;;
     *)
         if [[ -z $command ]]; then
-            mapfile -t COMPREPLY < <(compgen -W "$(_smap_words "$program")" -- "$word")
+            _smap_choose "$(_smap_words "$program")" "$word"
         elif [[ $program == smap-maps ]]; then
             _smap_files "$word" '' "$piece"
         fi
