@@ -3,9 +3,9 @@
 complete -c smap-maps -f
 complete -c smap-maps -s h -l help -d 'Print help'
 
-complete -c smap-maps -n __fish_use_subcommand -a check -d 'Name each map that is refused'
-complete -c smap-maps -n __fish_use_subcommand -a tidy -d 'Name each map that is not in canonical form'
-complete -c smap-maps -n __fish_use_subcommand -a flatten -d 'Name each map that is not a flat map'
+complete -c smap-maps -n 'not __fish_seen_subcommand_from check tidy flatten' -a check -d 'Name each map that is refused'
+complete -c smap-maps -n 'not __fish_seen_subcommand_from check tidy flatten' -a tidy -d 'Name each map that is not in canonical form'
+complete -c smap-maps -n 'not __fish_seen_subcommand_from check tidy flatten' -a flatten -d 'Name each map that is not a flat map'
 
 complete -c smap-maps -n '__fish_seen_subcommand_from check tidy flatten' -x -l base -d 'The URL of the folder'
 complete -c smap-maps -n '__fish_seen_subcommand_from tidy' -l relative -d 'Write source URLs relative to the map'
