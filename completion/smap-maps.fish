@@ -2,6 +2,7 @@
 
 complete -c smap-maps -f
 complete -c smap-maps -s h -l help -d 'Print help'
+complete -c smap-maps -l version -d 'Print the version'
 
 complete -c smap-maps -n 'not __fish_seen_subcommand_from check tidy flatten' -a check -d 'Name each map that is refused'
 complete -c smap-maps -n 'not __fish_seen_subcommand_from check tidy flatten' -a tidy -d 'Name each map that is not in canonical form'

@@ -2,6 +2,7 @@
 
 complete -c smap-trace -f
 complete -c smap-trace -s h -l help -d 'Print help'
+complete -c smap-trace -l version -d 'Print the version'
 complete -c smap-trace -l hide-ignored -d 'Leave out frames in ignored sources'
 complete -c smap-trace -l skip-broken -d 'Leave out maps that are refused'
 complete -c smap-trace -l list -d 'List the scripts that the log names'

@@ -4,18 +4,18 @@
 
 # The options of each command. rows/completion.rows compares these lines with --help.
 _smap_options='
-smap: --help
+smap: --version --help
 smap check: --help
 smap tidy: --relative --help
 smap flatten: --help
 smap lookup: --help
 smap respell: --help
 smap translate: --hide-ignored --help
-smap-trace: --hide-ignored --skip-broken --list --help
-smap-maps: --help
-smap-maps check: --base --help
-smap-maps tidy: --base --relative --write --diff --help
-smap-maps flatten: --base --write --diff --help
+smap-trace: --hide-ignored --skip-broken --list --version --help
+smap-maps: --version --help
+smap-maps check: --base --version --help
+smap-maps tidy: --base --relative --write --diff --version --help
+smap-maps flatten: --base --write --diff --version --help
 '
 
 # Writes what a program takes next: the options of one of its commands, or with one argument its commands.

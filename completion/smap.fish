@@ -2,6 +2,7 @@
 
 complete -c smap -f
 complete -c smap -s h -l help -d 'Print help'
+complete -c smap -n __fish_use_subcommand -l version -d 'Print the version'
 
 complete -c smap -n __fish_use_subcommand -a check -d 'Validate a map'
 complete -c smap -n __fish_use_subcommand -a tidy -d 'Write a map in canonical form'

@@ -25,10 +25,12 @@ options_in() {
         ;;
     fish)
         program=${2%% *}
-        # an option without a condition is one of each command
+        # An option without a condition is one of each command.
         sed -n "s/^complete -c $program \(.*-l [a-z-]* .*\)/\1/p" "$completion/$program.fish" |
             awk -v "command=${2#"$program"}" '
-                !/-n / || command != "" && index($0, "_from") && match($0, "[ ]" substr(command, 2) "[ \x27]")
+                !/-n / { print; next }
+                command == "" { if (/-n __fish_use_subcommand /) print; next }
+                index($0, "_from") && match($0, command "[ \x27]")
             ' | sed 's/.*-l \([a-z-]*\) .*/--\1/'
         ;;
     esac | sort -u
@@ -43,8 +45,9 @@ options_of_help() {
     esac | grep -o -e '--[a-z][-a-z]*' | sort -u
 }
 
-# Says where the options of a completion aren't those of the help, and how many commands were compared. The help
-# of smap-maps has the options of all its commands, so these are compared with those of its completion together.
+# Says where the options of a completion aren't those of the help, and how many commands were compared. The
+# help of smap-maps has the options of all its commands, so these are compared with those of its completion
+# together.
 compare() {
     : >of-maps
     all_commands >commands
