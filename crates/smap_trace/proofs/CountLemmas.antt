@@ -4,9 +4,9 @@ use Rattle.std.proofs.Common.{count_by, refl, ap, arith}
 use Rattle.std.proofs.lemmas.List.Sums.{sum_by-cons}
 use Rattle.smap_trace.specs.declared.outcome.Counts.{Counts}
 use Rattle.smap_trace.specs.Pieces.{count_line, count_lines}
-use Rattle.smap_trace.specs.Translation.{Fate, Script, dropped, fate, is_dropped, is_translated, kept}
+use Rattle.smap_trace.specs.Translation.{Fate, dropped, is_dropped, is_translated, kept}
 use Rattle.smap_trace.specs.Translation.{lines_of, translated}
-use Rattle.smap_trace.specs.Views.{at_most_u64, counts_of, outcome_of}
+use Rattle.smap_trace.specs.Views.{at_most_u64, counts_by, outcome_of}
 
 abbrev counts : ℕ → ℕ → ℕ → Counts
 counts a b d = record { lines = at_most_u64 a; translated = at_most_u64 b; dropped = at_most_u64 d }
@@ -46,15 +46,15 @@ count_by-cons p x xs = sum_by-cons (λ y. cond (p y) 1 0) x xs ∙ ap (λ n. n +
     go true = refl
     go false = refl
 
-module _ (scripts : List Script) (hide : Bool) where
+module _ (fates : List ℕ → Fate) where
   abbrev is_told : List ℕ → Bool
-  is_told line = is_translated (fate scripts hide line)
+  is_told line = is_translated (fates line)
 
   abbrev is_left : List ℕ → Bool
-  is_left line = is_dropped (fate scripts hide line)
+  is_left line = is_dropped (fates line)
 
   all_counted : (ls : List (List ℕ)) (a b d : ℕ)
-      → count_lines scripts hide (counts a b d) ls ≡ counts (a + length ls) (b + count_by is_told ls)
+      → count_lines fates (counts a b d) ls ≡ counts (a + length ls) (b + count_by is_told ls)
       (d + count_by is_left ls)
   all_counted [] a b d = same_counts _ _ _ _ _ _ (no_more a) (no_more b) (no_more d)
   all_counted (l ∷ ls) a b d =
@@ -65,11 +65,11 @@ module _ (scripts : List Script) (hide : Bool) where
       omega (arith, count_by-cons is_told l ls) in
       let three : d + u + count_by is_left ls ≡ d + count_by is_left (l ∷ ls) =
       omega (arith, count_by-cons is_left l ls) in
-      ap (λ (k : Counts). count_lines scripts hide k ls) (line_counted (fate scripts hide l) a b d)
+      ap (λ (k : Counts). count_lines fates k ls) (line_counted (fates l) a b d)
       ∙ all_counted ls (a + 1) (b + t) (d + u)
       ∙ same _ _ _ _ _ _ one two three
 
-  pub counted_all : (trace : List ℕ) → count_lines scripts hide
-      (record { lines = 0; translated = 0; dropped = 0 }) (lines_of trace) ≡ counts_of scripts hide trace
+  pub counted_all : (trace : List ℕ) → count_lines fates
+      (record { lines = 0; translated = 0; dropped = 0 }) (lines_of trace) ≡ counts_by fates trace
   counted_all trace =
       all_counted (lines_of trace) 0 0 0 ∙ same _ _ _ _ _ _ (omega arith) (omega arith) (omega arith)

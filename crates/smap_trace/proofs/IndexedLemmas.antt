@@ -1,11 +1,12 @@
 -- Scripts in a table by their URLs.
 use Rattle.std.proofs.Common.{◌≡◌, ◌∙◌, ℕ, zero, suc, ◌+◌, ◌<◌, Bool, true, false, ◌||◌, List, [], ◌∷◌, ◌++◌}
-use Rattle.std.proofs.Common.{length, map, take, Bor, get_or, option_map, refl, sym, ap, arith, bytes_eq}
+use Rattle.std.proofs.Common.{length, map, take, Bor, get_or, option_map, refl, sym, ap, arith, bytes_eq, Some, None}
 use Rattle.std.proofs.Common.{length-take}
 use Rattle.std.specs.List.{list_any, take-map}
-use Rattle.std.specs.Map.{lookup}
+use Rattle.std.specs.Map.{lookup, lookup_key}
 use Rattle.std.proofs.lemmas.List.{get_or-map, get_or-take, length-map, map-append, take_more}
 use Rattle.std.proofs.lemmas.List.Folds.{list_any_none}
+use Rattle.std.proofs.lemmas.Map.Made.{lookup_key_passes}
 use Rattle.std.proofs.lemmas.Slice.Eq.{bytes_eq-Decides}
 use Rattle.indexmap.specs.IndexMap.{insert_entry}
 use Rattle.smap_record.specs.Record.{ReadMap, record_of}
@@ -102,3 +103,19 @@ one_more es xs i d k v lt so_far distinct key value =
     ∙ ap (λ (s : Script). scripts_in (take i xs) ++ s ∷ []) last
     ∙ sym (map-append script_in (take i xs) (get_or xs i d ∷ []))
     ∙ ap (map script_in) (sym (take_more xs i d lt))
+
+-- a URL that the table finds, and its map
+pub entry_in : (url : List ℕ) (es : List Given) (k : Bor (List ℕ)) (m : Bor ReadMap)
+    → Some k ≡ lookup_key (λ (x : Bor (List ℕ)). bytes_eq url x.now) es
+    → Some m ≡ lookup (λ (x : Bor (List ℕ)). bytes_eq url x.now) es
+    → (k.now ≡ url) × (map_of (scripts_in es) url ≡ Some (record_of m.now))
+entry_in url es k m key value = (
+  sym ((bytes_eq-Decides url k.now).0
+      (lookup_key_passes (λ (x : Bor (List ℕ)). bytes_eq url x.now) es k (sym key))),
+  sym (ap (option_map (λ (x : Bor ReadMap). record_of x.now)) value ∙ found_in url es),
+)
+
+-- a URL that it doesn't find
+pub no_entry : (url : List ℕ) (es : List Given)
+    → None ≡ lookup (λ (x : Bor (List ℕ)). bytes_eq url x.now) es → map_of (scripts_in es) url ≡ None
+no_entry url es none = sym (ap (option_map (λ (x : Bor ReadMap). record_of x.now)) none ∙ found_in url es)

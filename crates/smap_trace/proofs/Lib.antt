@@ -1,6 +1,8 @@
+pub mod ByLengthLemmas
 pub mod CompleteLemmas
 pub mod CountLemmas
 pub mod CutLemmas
+pub mod CuttingLemmas
 pub mod Examples
 pub mod FrameLemmas
 pub mod HalvingLemmas
@@ -9,6 +11,8 @@ pub mod LawLemmas
 pub mod LineLemmas
 pub mod LookupLemmas
 pub mod MarkLemmas
+pub mod OccurrenceLemmas
+pub mod PieceLemmas
 pub mod PlaceLemmas
 pub mod PushLemmas
 pub mod ReadingLemmas
@@ -17,4 +21,5 @@ pub mod ScriptLemmas
 pub mod SoFarLemmas
 pub mod BodyLemmas
 pub mod SoundLemmas
+pub mod StartsLemmas
 pub mod TextLemmas

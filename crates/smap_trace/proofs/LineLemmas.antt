@@ -10,7 +10,7 @@ use Rattle.std.proofs.lemmas.Bool.Decides.{nat_tests}
 use Rattle.std.proofs.lemmas.Grind.{flat_map-append}
 use Rattle.smap_trace.specs.declared.outcome.Counts.{Counts}
 use Rattle.smap_trace.specs.Pieces.{HasNoFeed, IsWhole, Takes, count_line, count_lines}
-use Rattle.smap_trace.specs.Translation.{Script, fate, line_translation, lines_of, translation}
+use Rattle.smap_trace.specs.Translation.{Fate, line_translation_by, lines_of, translation_by}
 use Rattle.smap_trace.specs.Views.{outcome_of}
 
 is_feed : ℕ → Bool
@@ -135,29 +135,29 @@ line_taken piece at feed lt is =
     ∙ ap (λ (xs : List ℕ). take at piece ++ xs) (take_more (drop at piece) feed 0 lt
     ∙ ap (λ b. take feed (drop at piece) ++ b ∷ []) is)
 
-module _ (scripts : List Script) (hide : Bool) where
+module _ (fates : List ℕ → Fate) where
   pub translation-append : (whole more : List ℕ) → IsWhole whole
-      → translation scripts hide (whole ++ more) ≡ translation scripts hide whole
-      ++ translation scripts hide more
-  translation-append whole more is = ap (flat_map (line_translation scripts hide))
-      (lines_of-append whole more is) ∙ flat_map-append (line_translation scripts hide) (lines_of whole)
+      → translation_by fates (whole ++ more) ≡ translation_by fates whole
+      ++ translation_by fates more
+  translation-append whole more is = ap (flat_map (line_translation_by fates))
+      (lines_of-append whole more is) ∙ flat_map-append (line_translation_by fates) (lines_of whole)
       (lines_of more)
 
   pub count_lines-append : (c : Counts) (xs ys : List (List ℕ))
-      → count_lines scripts hide c (xs ++ ys) ≡ count_lines scripts hide (count_lines scripts hide c xs) ys
+      → count_lines fates c (xs ++ ys) ≡ count_lines fates (count_lines fates c xs) ys
   count_lines-append c [] ys = refl
-  count_lines-append c (x ∷ xs) ys = count_lines-append (count_line c (outcome_of (fate scripts hide x))) xs
+  count_lines-append c (x ∷ xs) ys = count_lines-append (count_line c (outcome_of (fates x))) xs
       ys
 
   pub count_lines-whole : (c : Counts) (whole more : List ℕ) → IsWhole whole
-      → count_lines scripts hide c (lines_of (whole ++ more))
-      ≡ count_lines scripts hide (count_lines scripts hide c (lines_of whole)) (lines_of more)
-  count_lines-whole c whole more is = ap (count_lines scripts hide c) (lines_of-append whole more is)
+      → count_lines fates c (lines_of (whole ++ more))
+      ≡ count_lines fates (count_lines fates c (lines_of whole)) (lines_of more)
+  count_lines-whole c whole more is = ap (count_lines fates c) (lines_of-append whole more is)
       ∙ count_lines-append c (lines_of whole) (lines_of more)
 
   pub Takes-bytes : (line piece rest old new : List ℕ) (c d : Counts) (bytes : List ℕ)
-      → Takes scripts hide line piece rest old new c d
-      → Takes scripts hide line (piece ++ bytes) (rest ++ bytes) old new c d
+      → Takes fates line piece rest old new c d
+      → Takes fates line (piece ++ bytes) (rest ++ bytes) old new c d
   Takes-bytes line piece rest old new c d bytes t = record {
     whole = t.whole;
     is_whole = t.is_whole;
@@ -168,46 +168,46 @@ module _ (scripts : List Script) (hide : Bool) where
   }
 
   pub Takes-feed : (line piece rest old new : List ℕ) (c d : Counts) → HasNoFeed rest
-      → Takes scripts hide line piece rest old new c d
-      → Takes scripts hide line (piece ++ 10 ∷ []) [] old
-      (new ++ line_translation scripts hide (rest ++ 10 ∷ [])) c
-      (count_line d (outcome_of (fate scripts hide (rest ++ 10 ∷ []))))
+      → Takes fates line piece rest old new c d
+      → Takes fates line (piece ++ 10 ∷ []) [] old
+      (new ++ line_translation_by fates (rest ++ 10 ∷ [])) c
+      (count_line d (outcome_of (fates (rest ++ 10 ∷ []))))
   Takes-feed line piece rest old new c d free t =
       let ended = rest ++ 10 ∷ [] in
-      let out = line_translation scripts hide ended in
-      let one : translation scripts hide ended ≡ out =
-      ap (flat_map (line_translation scripts hide)) (lines_of-line rest free) ∙ append-nil out in
+      let out = line_translation_by fates ended in
+      let one : translation_by fates ended ≡ out =
+      ap (flat_map (line_translation_by fates)) (lines_of-line rest free) ∙ append-nil out in
       record {
         whole = t.whole ++ ended;
         is_whole = inr (t.whole ++ rest, sym (append_assoc t.whole rest (10 ∷ [])));
         bytes = sym (append_assoc line piece (10 ∷ [])) ∙ ap (λ (xs : List ℕ). xs ++ 10 ∷ []) t.bytes
             ∙ append_assoc t.whole rest (10 ∷ []) ∙ sym (append-nil (t.whole ++ ended));
         given = ap (λ (xs : List ℕ). xs ++ out) t.given
-            ∙ append_assoc old (translation scripts hide t.whole) out
+            ∙ append_assoc old (translation_by fates t.whole) out
             ∙ ap (λ (xs : List ℕ). old ++ xs) (sym (translation-append t.whole ended t.is_whole
-            ∙ ap (λ (xs : List ℕ). translation scripts hide t.whole ++ xs) one));
+            ∙ ap (λ (xs : List ℕ). translation_by fates t.whole ++ xs) one));
         counted = sym (count_lines-whole c t.whole ended t.is_whole
-            ∙ ap (λ (k : Counts). count_lines scripts hide k (lines_of ended)) (sym t.counted)
-            ∙ ap (count_lines scripts hide d) (lines_of-line rest free));
+            ∙ ap (λ (k : Counts). count_lines fates k (lines_of ended)) (sym t.counted)
+            ∙ ap (count_lines fates d) (lines_of-line rest free));
       }
 
   -- the step of the loop over a piece
   pub record Step (line piece rest old new : List ℕ) (c d : Counts) : Type 0 where
     pub free : HasNoFeed rest
-    pub takes : Takes scripts hide line piece rest old new c d
+    pub takes : Takes fates line piece rest old new c d
 
   -- a piece's bytes up to a line feed, after the beginning of the line
   pub feed_step : (line piece after rest last old new more front : List ℕ) (c d e : Counts)
       → after ≡ piece ++ (front ++ 10 ∷ []) → last ≡ [] → HasNoFeed front
-      → more ≡ new ++ line_translation scripts hide (rest ++ (front ++ 10 ∷ []))
-      → e ≡ count_line d (outcome_of (fate scripts hide (rest ++ (front ++ 10 ∷ [])))) → HasNoFeed rest
-      → Takes scripts hide line piece rest old new c d → Step line after last old more c e
+      → more ≡ new ++ line_translation_by fates (rest ++ (front ++ 10 ∷ []))
+      → e ≡ count_line d (outcome_of (fates (rest ++ (front ++ 10 ∷ [])))) → HasNoFeed rest
+      → Takes fates line piece rest old new c d → Step line after last old more c e
   feed_step line piece after rest last old new more front c d e a l clean m k free t =
       let given : rest ++ (front ++ 10 ∷ []) ≡ (rest ++ front) ++ 10 ∷ [] =
       sym (append_assoc rest front (10 ∷ [])) in
       let after_is : after ≡ (piece ++ front) ++ 10 ∷ [] = a ∙ sym (append_assoc piece front (10 ∷ [])) in
-      let m' = m ∙ ap (λ (xs : List ℕ). new ++ line_translation scripts hide xs) given in
-      let k' = k ∙ ap (λ (xs : List ℕ). count_line d (outcome_of (fate scripts hide xs))) given in
+      let m' = m ∙ ap (λ (xs : List ℕ). new ++ line_translation_by fates xs) given in
+      let k' = k ∙ ap (λ (xs : List ℕ). count_line d (outcome_of (fates xs))) given in
       let t' = Takes-bytes line piece rest old new c d front t in
       rw (after_is, l, m', k') record {
         free = refl;
@@ -219,7 +219,7 @@ module _ (scripts : List Script) (hide : Bool) where
   -- a piece's bytes after its last line feed
   pub rest_step : (line piece after rest last old new : List ℕ) (bytes : List ℕ) (c d : Counts)
       → after ≡ piece ++ bytes → last ≡ rest ++ bytes → HasNoFeed bytes → HasNoFeed rest
-      → Takes scripts hide line piece rest old new c d → Step line after last old new c d
+      → Takes fates line piece rest old new c d → Step line after last old new c d
   rest_step line piece after rest last old new bytes c d a l clean free t =
       rw (a, l) record {
         free = HasNoFeed-append rest bytes free clean;
@@ -229,22 +229,22 @@ module _ (scripts : List Script) (hide : Bool) where
 
   -- what the last line gives, and how it is counted
   pub last_given : (line out : List ℕ) → HasNoFeed line
-      → ((0 < length line) × (out ≡ line_translation scripts hide line)) ⊎ ((length line ≡ 0) × (out ≡ []))
-      → out ≡ translation scripts hide line
+      → ((0 < length line) × (out ≡ line_translation_by fates line)) ⊎ ((length line ≡ 0) × (out ≡ []))
+      → out ≡ translation_by fates line
   last_given [] out free (inl p) = absurd (omega (arith, p.0))
   last_given [] out free (inr p) = p.1
   last_given (b ∷ bs) out free (inl p) = p.1 ∙ sym
-      (ap (flat_map (line_translation scripts hide)) (lines_of-last b bs free)
-      ∙ append-nil (line_translation scripts hide (b ∷ bs)))
+      (ap (flat_map (line_translation_by fates)) (lines_of-last b bs free)
+      ∙ append-nil (line_translation_by fates (b ∷ bs)))
   last_given (b ∷ bs) out free (inr p) = absurd (omega (arith, p.0))
 
   pub last_counted : (line : List ℕ) (c d : Counts) → HasNoFeed line
-      → ((0 < length line) × (d ≡ count_line c (outcome_of (fate scripts hide line))))
+      → ((0 < length line) × (d ≡ count_line c (outcome_of (fates line))))
       ⊎ ((length line ≡ 0) × (d ≡ c))
-      → d ≡ count_lines scripts hide c (lines_of line)
+      → d ≡ count_lines fates c (lines_of line)
   last_counted [] c d free (inl p) = absurd (omega (arith, p.0))
   last_counted [] c d free (inr p) = p.1
-  last_counted (b ∷ bs) c d free (inl p) = p.1 ∙ ap (count_lines scripts hide c)
+  last_counted (b ∷ bs) c d free (inl p) = p.1 ∙ ap (count_lines fates c)
       (sym (lines_of-last b bs free))
   last_counted (b ∷ bs) c d free (inr p) = absurd (omega (arith, p.0))
 

@@ -20,7 +20,7 @@ use Rattle.smap_trace.proofs.SoFarLemmas.{SoFar}
 use Rattle.smap_trace.specs.Pieces.{HasNoFeed, IsWhole, Takes, count_lines}
 use Rattle.smap_trace.specs.Streaming.{Translates, WritesComplete, WritesPrefix, complete_of}
 use Rattle.smap_trace.specs.Streaming.{is_read, most_of_one_read, read_lines}
-use Rattle.smap_trace.specs.Translation.{Script, lines_of, translation}
+use Rattle.smap_trace.specs.Translation.{Fate, lines_of, translation_by}
 use Rattle.smap_trace.proofs.LineLemmas.{translation-append, count_lines-whole}
 use Rattle.smap_trace.proofs.CountLemmas.{counted_all}
 
@@ -54,13 +54,13 @@ none_complete (b ∷ bs) free = go (list_any (λ c. c == 10) (b ∷ bs)) free
     go false none = refl
 
 -- a prefix of what was read gives a prefix of what is written
-pub output_front : (scripts : List Script) (hide : Bool) (whole more : List ℕ) (ended : Bool) → IsWhole whole
-    → translation scripts hide (read_lines ended (whole ++ more))
-    ≡ translation scripts hide whole ++ translation scripts hide (read_lines ended more)
-output_front scripts hide whole more true is = translation-append scripts hide whole more is
-output_front scripts hide whole more false is =
-    ap (translation scripts hide) (complete_of-append whole more is)
-    ∙ translation-append scripts hide whole (complete_of more) is
+pub output_front : (fates : List ℕ → Fate) (whole more : List ℕ) (ended : Bool) → IsWhole whole
+    → translation_by fates (read_lines ended (whole ++ more))
+    ≡ translation_by fates whole ++ translation_by fates (read_lines ended more)
+output_front fates whole more true is = translation-append fates whole more is
+output_front fates whole more false is =
+    ap (translation_by fates) (complete_of-append whole more is)
+    ∙ translation-append fates whole (complete_of more) is
 
 pub both_whole : (a b : List ℕ) → IsWhole a → IsWhole b → IsWhole (a ++ b)
 both_whole a b is (inl e) = rw (e, append-nil a) is
@@ -71,9 +71,9 @@ both_whole a b is (inr p) = inr (
 )
 
 module _ {R W : Type 0} (remaining : R → Option (List ℕ)) (contents : W → Option (List ℕ))
-    (scripts : List Script) (hide : Bool)
+    (fates : List ℕ → Fate)
     (ro rm rn : Device R) (wo wm wn : Device W) (line : List ℕ) (c : Counts)
-    (s : SoFar scripts hide (streams remaining ro rm contents wo wm) line c) (free : HasNoFeed line) where
+    (s : SoFar fates (streams remaining ro rm contents wo wm) line c) (free : HasNoFeed line) where
   -- the complete lines so far are the whole ones
   complete_so_far : complete_of (s.whole ++ line) ≡ s.whole
   complete_so_far = complete_of-append s.whole line s.is_whole
@@ -81,7 +81,7 @@ module _ {R W : Type 0} (remaining : R → Option (List ℕ)) (contents : W → 
 
   -- nothing more was read, and the whole lines were written
   pub all_so_far : Gave remaining rm rn []
-      → WritesComplete scripts hide (streams remaining ro rn contents wo wm)
+      → WritesComplete fates (streams remaining ro rn contents wo wm)
   all_so_far none = record {
     bytes = s.whole ++ line;
     read = subst (Gave remaining ro rn) (append-nil (s.whole ++ line))
@@ -91,39 +91,39 @@ module _ {R W : Type 0} (remaining : R → Option (List ℕ)) (contents : W → 
 
   -- a piece was read, and the whole lines before it were written
   pub front_so_far : (piece : List ℕ) → length piece ≤ most_of_one_read → Gave remaining rm rn piece
-      → WritesPrefix scripts hide (streams remaining ro rn contents wo wm)
+      → WritesPrefix fates (streams remaining ro rn contents wo wm)
   front_so_far piece within given = record {
     before = s.whole ++ line;
     piece = piece;
     front = [];
-    rest = translation scripts hide (read_lines (has_ended rn) (line ++ piece));
+    rest = translation_by fates (read_lines (has_ended rn) (line ++ piece));
     read = Gave-then remaining ro rm rn (s.whole ++ line) piece s.read given;
     within = within;
-    written = rw (complete_so_far, append-nil (translation scripts hide s.whole)) s.written;
+    written = rw (complete_so_far, append-nil (translation_by fates s.whole)) s.written;
     is_front = rw complete_so_far
-        (ap (λ (xs : List ℕ). translation scripts hide (read_lines (has_ended rn) xs))
-        (append_assoc s.whole line piece) ∙ output_front scripts hide s.whole (line ++ piece) (has_ended rn)
+        (ap (λ (xs : List ℕ). translation_by fates (read_lines (has_ended rn) xs))
+        (append_assoc s.whole line piece) ∙ output_front fates s.whole (line ++ piece) (has_ended rn)
         s.is_whole);
   }
 
   -- the lines of a piece were written too, in part
   pub front_with : (piece rest given : List ℕ) (d : Counts) → length piece ≤ most_of_one_read
       → Gave remaining rm rn piece
-      → Takes scripts hide line piece rest [] given c d → TookPrefix contents wm wn given
-      → WritesPrefix scripts hide (streams remaining ro rn contents wo wn)
+      → Takes fates line piece rest [] given c d → TookPrefix contents wm wn given
+      → WritesPrefix fates (streams remaining ro rn contents wo wn)
   front_with piece rest given d within read t went =
       let bytes = (s.whole ++ line) ++ piece in
       let ended = has_ended rn in
       let split : bytes ≡ s.whole ++ (t.whole ++ rest) = append_assoc s.whole line piece
       ∙ ap (λ (xs : List ℕ). s.whole ++ xs) t.bytes in
-      let last = translation scripts hide (read_lines ended rest) in
-      let parts : translation scripts hide (read_lines ended bytes)
-      ≡ translation scripts hide s.whole ++ (translation scripts hide t.whole ++ last) =
-      ap (λ (xs : List ℕ). translation scripts hide (read_lines ended xs)) split
-      ∙ output_front scripts hide s.whole (t.whole ++ rest) ended s.is_whole
-      ∙ ap (λ (xs : List ℕ). translation scripts hide s.whole ++ xs)
-      (output_front scripts hide t.whole rest ended t.is_whole) in
-      let cut : translation scripts hide t.whole ≡ take went.0 given ++ drop went.0 given = sym t.given
+      let last = translation_by fates (read_lines ended rest) in
+      let parts : translation_by fates (read_lines ended bytes)
+      ≡ translation_by fates s.whole ++ (translation_by fates t.whole ++ last) =
+      ap (λ (xs : List ℕ). translation_by fates (read_lines ended xs)) split
+      ∙ output_front fates s.whole (t.whole ++ rest) ended s.is_whole
+      ∙ ap (λ (xs : List ℕ). translation_by fates s.whole ++ xs)
+      (output_front fates t.whole rest ended t.is_whole) in
+      let cut : translation_by fates t.whole ≡ take went.0 given ++ drop went.0 given = sym t.given
       ∙ sym (take-append-drop went.0 given) in
       record {
         before = s.whole ++ line;
@@ -133,86 +133,86 @@ module _ {R W : Type 0} (remaining : R → Option (List ℕ)) (contents : W → 
         read = Gave-then remaining ro rm rn (s.whole ++ line) piece s.read read;
         within = within;
         written = rw complete_so_far
-            (Took-then contents wo wm wn (translation scripts hide s.whole) (take went.0 given) s.written
+            (Took-then contents wo wm wn (translation_by fates s.whole) (take went.0 given) s.written
             went.1);
         is_front = rw complete_so_far
-            (parts ∙ ap (λ (xs : List ℕ). translation scripts hide s.whole ++ (xs ++ last)) cut
-            ∙ ap (λ (xs : List ℕ). translation scripts hide s.whole ++ xs)
+            (parts ∙ ap (λ (xs : List ℕ). translation_by fates s.whole ++ (xs ++ last)) cut
+            ∙ ap (λ (xs : List ℕ). translation_by fates s.whole ++ xs)
             (append_assoc (take went.0 given) (drop went.0 given) last));
       }
 
   -- the lines of a piece were all written
   pub after_piece : (piece rest given : List ℕ) (d : Counts) → Gave remaining rm rn piece
-      → Takes scripts hide line piece rest [] given c d → Took contents wm wn given
-      → SoFar scripts hide (streams remaining ro rn contents wo wn) rest d
+      → Takes fates line piece rest [] given c d → Took contents wm wn given
+      → SoFar fates (streams remaining ro rn contents wo wn) rest d
   after_piece piece rest given d read t went = record {
     whole = s.whole ++ t.whole;
     is_whole = both_whole s.whole t.whole s.is_whole t.is_whole;
     read = subst (Gave remaining ro rn) (append_assoc s.whole line piece
         ∙ ap (λ (xs : List ℕ). s.whole ++ xs) t.bytes ∙ sym (append_assoc s.whole t.whole rest))
         (Gave-then remaining ro rm rn (s.whole ++ line) piece s.read read);
-    written = subst (Took contents wo wn) (ap (λ (xs : List ℕ). translation scripts hide s.whole ++ xs)
-        t.given ∙ sym (translation-append scripts hide s.whole t.whole s.is_whole))
-        (Took-then contents wo wm wn (translation scripts hide s.whole) given s.written went);
-    counted = t.counted ∙ ap (λ (k : Counts). count_lines scripts hide k (lines_of t.whole)) s.counted
-        ∙ sym (count_lines-whole scripts hide (record { lines = 0; translated = 0; dropped = 0 }) s.whole
+    written = subst (Took contents wo wn) (ap (λ (xs : List ℕ). translation_by fates s.whole ++ xs)
+        t.given ∙ sym (translation-append fates s.whole t.whole s.is_whole))
+        (Took-then contents wo wm wn (translation_by fates s.whole) given s.written went);
+    counted = t.counted ∙ ap (λ (k : Counts). count_lines fates k (lines_of t.whole)) s.counted
+        ∙ sym (count_lines-whole fates (record { lines = 0; translated = 0; dropped = 0 }) s.whole
         t.whole s.is_whole);
   }
 
   -- at the end of the input: the last line was written, or a prefix of it
   pub at_the_end : (given : List ℕ) (r : Result Counts TraceError) → Gave remaining rm rn []
       → IsAtItsEnd remaining rn → given ≡ line
-      → OnOk r (Took contents wm wn (translation scripts hide given))
-      → IfOk r (λ after. after ≡ count_lines scripts hide c (lines_of given))
-      → OnErr r (TookPrefix contents wm wn (translation scripts hide given))
+      → OnOk r (Took contents wm wn (translation_by fates given))
+      → IfOk r (λ after. after ≡ count_lines fates c (lines_of given))
+      → OnErr r (TookPrefix contents wm wn (translation_by fates given))
       → fails_by is_read r ≡ false
-      → Translates scripts hide (streams remaining ro rn contents wo wn) r
+      → Translates fates (streams remaining ro rn contents wo wn) r
   at_the_end given r none end same all counts part never =
       let read : Gave remaining ro rn (s.whole ++ line) =
       subst (Gave remaining ro rn) (append-nil (s.whole ++ line))
       (Gave-then remaining ro rm rn (s.whole ++ line) [] s.read none) in
-      answered r read end (subst (λ (xs : List ℕ). OnOk r (Took contents wm wn (translation scripts hide xs)))
+      answered r read end (subst (λ (xs : List ℕ). OnOk r (Took contents wm wn (translation_by fates xs)))
       same all)
-      (subst (λ (xs : List ℕ). IfOk r (λ after. after ≡ count_lines scripts hide c (lines_of xs))) same
+      (subst (λ (xs : List ℕ). IfOk r (λ after. after ≡ count_lines fates c (lines_of xs))) same
       counts)
-      (subst (λ (xs : List ℕ). OnErr r (TookPrefix contents wm wn (translation scripts hide xs))) same part)
+      (subst (λ (xs : List ℕ). OnErr r (TookPrefix contents wm wn (translation_by fates xs))) same part)
       never
     where
       last_in_part : Gave remaining ro rn (s.whole ++ line) → IsAtItsEnd remaining rn
-          → TookPrefix contents wm wn (translation scripts hide line)
-          → WritesPrefix scripts hide (streams remaining ro rn contents wo wn)
+          → TookPrefix contents wm wn (translation_by fates line)
+          → WritesPrefix fates (streams remaining ro rn contents wo wn)
       last_in_part read end part = record {
         before = s.whole ++ line;
         piece = [];
-        front = take part.0 (translation scripts hide line);
-        rest = drop part.0 (translation scripts hide line);
+        front = take part.0 (translation_by fates line);
+        rest = drop part.0 (translation_by fates line);
         read = rw (append-nil (s.whole ++ line)) read;
         within = omega arith;
         written = rw complete_so_far
-            (Took-then contents wo wm wn (translation scripts hide s.whole)
-            (take part.0 (translation scripts hide line)) s.written part.1);
+            (Took-then contents wo wm wn (translation_by fates s.whole)
+            (take part.0 (translation_by fates line)) s.written part.1);
         is_front = rw (end.0, append-nil (s.whole ++ line), complete_so_far)
-            (translation-append scripts hide s.whole line s.is_whole
-            ∙ ap (λ (xs : List ℕ). translation scripts hide s.whole ++ xs)
-            (sym (take-append-drop part.0 (translation scripts hide line))));
+            (translation-append fates s.whole line s.is_whole
+            ∙ ap (λ (xs : List ℕ). translation_by fates s.whole ++ xs)
+            (sym (take-append-drop part.0 (translation_by fates line))));
       }
 
       answered : (r : Result Counts TraceError) → Gave remaining ro rn (s.whole ++ line)
-          → IsAtItsEnd remaining rn → OnOk r (Took contents wm wn (translation scripts hide line))
-          → IfOk r (λ after. after ≡ count_lines scripts hide c (lines_of line))
-          → OnErr r (TookPrefix contents wm wn (translation scripts hide line)) → fails_by is_read r ≡ false
-          → Translates scripts hide (streams remaining ro rn contents wo wn) r
+          → IsAtItsEnd remaining rn → OnOk r (Took contents wm wn (translation_by fates line))
+          → IfOk r (λ after. after ≡ count_lines fates c (lines_of line))
+          → OnErr r (TookPrefix contents wm wn (translation_by fates line)) → fails_by is_read r ≡ false
+          → Translates fates (streams remaining ro rn contents wo wn) r
       answered (Ok after) read end went counted part never = (
         record {
           bytes = s.whole ++ line;
           read = read;
           at_end = end.1;
-          written = subst (Took contents wo wn) (sym (translation-append scripts hide s.whole line
-              s.is_whole)) (Took-then contents wo wm wn (translation scripts hide s.whole)
-              (translation scripts hide line) s.written went);
-          counts_are = counted ∙ ap (λ (k : Counts). count_lines scripts hide k (lines_of line)) s.counted
-              ∙ sym (count_lines-whole scripts hide (record { lines = 0; translated = 0; dropped = 0 })
-              s.whole line s.is_whole) ∙ counted_all scripts hide (s.whole ++ line);
+          written = subst (Took contents wo wn) (sym (translation-append fates s.whole line
+              s.is_whole)) (Took-then contents wo wm wn (translation_by fates s.whole)
+              (translation_by fates line) s.written went);
+          counts_are = counted ∙ ap (λ (k : Counts). count_lines fates k (lines_of line)) s.counted
+              ∙ sym (count_lines-whole fates (record { lines = 0; translated = 0; dropped = 0 })
+              s.whole line s.is_whole) ∙ counted_all fates (s.whole ++ line);
         },
         end.0,
       )
@@ -222,13 +222,13 @@ module _ {R W : Type 0} (remaining : R → Option (List ℕ)) (contents : W → 
 
 -- where nothing was read and nothing written
 pub nothing : {R W : Type 0} (remaining : R → Option (List ℕ)) (contents : W → Option (List ℕ))
-    (scripts : List Script) (hide : Bool) (r : Device R) (w : Device W)
-    → WritesPrefix scripts hide (streams remaining r r contents w w)
-nothing remaining contents scripts hide r w = record {
+    (fates : List ℕ → Fate) (r : Device R) (w : Device W)
+    → WritesPrefix fates (streams remaining r r contents w w)
+nothing remaining contents fates r w = record {
   before = [];
   piece = [];
   front = [];
-  rest = translation scripts hide (read_lines (has_ended r) []);
+  rest = translation_by fates (read_lines (has_ended r) []);
   read = Gave-none remaining r;
   within = omega arith;
   written = Took-none contents w;

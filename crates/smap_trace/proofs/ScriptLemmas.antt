@@ -9,7 +9,7 @@ use Rattle.smap_record.specs.Record.{ReadMap, record_of}
 use Rattle.smap_trace.specs.Translation.{AreDistinct, Script, map_of}
 use Rattle.smap_trace.specs.Views.{script_in, scripts_in}
 
-abbrev Given : Type 0
+abbrev pub Given : Type 0
 Given = Bor (List ℕ) × Bor ReadMap
 
 -- none of the first n URLs occurs again

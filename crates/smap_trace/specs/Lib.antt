@@ -1,10 +1,15 @@
+pub mod Anywhere
+pub mod ByLength
+pub mod Cutting
 pub mod Frame
 pub mod FrameView
 pub mod Laws
 pub mod Lookup
+pub mod OccurrenceView
 pub mod Pieces
 pub mod Positions
 pub mod Reading
+pub mod Scripts
 pub mod Streaming
 pub mod Translation
 pub mod Views

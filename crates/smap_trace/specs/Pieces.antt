@@ -5,7 +5,7 @@ use Rattle.std.specs.List.{list_any}
 use Rattle.smap_trace.specs.declared.outcome.Counts.{Counts}
 use Rattle.smap_trace.specs.declared.outcome.LineOutcome.{LineOutcome}
 use Rattle.smap_trace.specs.declared.outcome.LineOutcome.TheVariants.{Kept, Translated, Dropped}
-use Rattle.smap_trace.specs.Translation.{Script, fate, lines_of, translation}
+use Rattle.smap_trace.specs.Translation.{Fate, lines_of, translation_by}
 use Rattle.smap_trace.specs.Views.{at_most_u64, outcome_of}
 
 -- the counts with one line more
@@ -16,10 +16,10 @@ count_line c Translated =
 count_line c Dropped = record c { lines = at_most_u64 (c.lines + 1); dropped = at_most_u64 (c.dropped + 1) }
 
 -- the counts with these lines more
-abbrev pub count_lines : List Script → Bool → Counts → List (List ℕ) → Counts
-count_lines scripts hide c [] = c
-count_lines scripts hide c (line ∷ lines) =
-    count_lines scripts hide (count_line c (outcome_of (fate scripts hide line))) lines
+abbrev pub count_lines : (List ℕ → Fate) → Counts → List (List ℕ) → Counts
+count_lines fates c [] = c
+count_lines fates c (line ∷ lines) =
+    count_lines fates (count_line c (outcome_of (fates line))) lines
 
 -- nothing, or whole lines with their line feed
 abbrev pub IsWhole : List ℕ → Type 0
@@ -31,10 +31,10 @@ HasNoFeed text = not (list_any (λ b. b == 10) text) ≡ true
 
 -- A piece of the trace ends the lines `whole`, whose translation is appended, and `rest` waits for the end
 -- of its line. Before the piece, `line` was waiting.
-pub record Takes (scripts : List Script) (hide : Bool) (line piece rest old new : List ℕ)
+pub record Takes (fates : List ℕ → Fate) (line piece rest old new : List ℕ)
     (counts_old counts_new : Counts) : Type 0 where
   pub whole : List ℕ
   pub is_whole : IsWhole whole
   pub bytes : line ++ piece ≡ whole ++ rest
-  pub given : new ≡ old ++ translation scripts hide whole
-  pub counted : counts_new ≡ count_lines scripts hide counts_old (lines_of whole)
+  pub given : new ≡ old ++ translation_by fates whole
+  pub counted : counts_new ≡ count_lines fates counts_old (lines_of whole)

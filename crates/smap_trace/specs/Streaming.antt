@@ -7,8 +7,8 @@ use Rattle.smap_io.specs.Streams.{HasRead, HasWritten, ReaderFailsOrTires, Strea
 use Rattle.smap_trace.specs.declared.outcome.Counts.{Counts}
 use Rattle.smap_trace.specs.declared.error.TraceError.{TraceError}
 use Rattle.smap_trace.specs.declared.error.TraceError.TheVariants as error
-use Rattle.smap_trace.specs.Translation.{Script, translation}
-use Rattle.smap_trace.specs.Views.{counts_of}
+use Rattle.smap_trace.specs.Translation.{Fate, Script, fate, translation_by}
+use Rattle.smap_trace.specs.Views.{counts_by}
 
 -- The bytes up to the last line feed, and nothing if there is none.
 abbrev pub complete_of : List ℕ → List ℕ
@@ -29,18 +29,18 @@ is_write error.Write = true
 is_write e = false
 
 -- All was read, and its translation was written, with these counts.
-pub record WritesAll (scripts : List Script) (hide : Bool) (s : Streams) (counts : Counts) : Type 0 where
+pub record WritesAll (fates : List ℕ → Fate) (s : Streams) (counts : Counts) : Type 0 where
   pub bytes : List ℕ
   pub read : HasRead s bytes
   pub at_end : IsAtEnd s.read_after
-  pub written : HasWritten s (translation scripts hide bytes)
-  pub counts_are : counts ≡ counts_of scripts hide bytes
+  pub written : HasWritten s (translation_by fates bytes)
+  pub counts_are : counts ≡ counts_by fates bytes
 
 -- The translation of all complete lines that were read was written.
-pub record WritesComplete (scripts : List Script) (hide : Bool) (s : Streams) : Type 0 where
+pub record WritesComplete (fates : List ℕ → Fate) (s : Streams) : Type 0 where
   pub bytes : List ℕ
   pub read : HasRead s bytes
-  pub written : HasWritten s (translation scripts hide (complete_of bytes))
+  pub written : HasWritten s (translation_by fates (complete_of bytes))
 
 -- the most bytes that one read asks for
 abbrev pub most_of_one_read : ℕ
@@ -48,29 +48,33 @@ most_of_one_read = 65536
 
 -- What was read ends with a piece of at most as many bytes as one read asks for. The translation of all
 -- lines that were complete before it was written, and of the other lines a prefix.
-pub record WritesPrefix (scripts : List Script) (hide : Bool) (s : Streams) : Type 0 where
+pub record WritesPrefix (fates : List ℕ → Fate) (s : Streams) : Type 0 where
   pub before : List ℕ
   pub piece : List ℕ
   pub front : List ℕ
   pub rest : List ℕ
   pub read : HasRead s (before ++ piece)
   pub within : length piece ≤ most_of_one_read
-  pub written : HasWritten s (translation scripts hide (complete_of before) ++ front)
-  pub is_front : translation scripts hide (read_lines s.ended (before ++ piece))
-      ≡ translation scripts hide (complete_of before) ++ (front ++ rest)
+  pub written : HasWritten s (translation_by fates (complete_of before) ++ front)
+  pub is_front : translation_by fates (read_lines s.ended (before ++ piece))
+      ≡ translation_by fates (complete_of before) ++ (front ++ rest)
 
 -- All is written if counts are answered, and all complete lines if a read failed.
-abbrev pub Translates : List Script → Bool → Streams → Result Counts TraceError → Type 0
-Translates scripts hide s (Ok counts) = WritesAll scripts hide s counts × (s.ended ≡ true)
-Translates scripts hide s (Err error.Read) = WritesComplete scripts hide s
-Translates scripts hide s (Err error.Write) = WritesPrefix scripts hide s
-Translates scripts hide s (Err error.Memory) = WritesPrefix scripts hide s
+abbrev pub Translates : (List ℕ → Fate) → Streams → Result Counts TraceError → Type 0
+Translates fates s (Ok counts) = WritesAll fates s counts × (s.ended ≡ true)
+Translates fates s (Err error.Read) = WritesComplete fates s
+Translates fates s (Err error.Write) = WritesPrefix fates s
+Translates fates s (Err error.Memory) = WritesPrefix fates s
 
 -- A trace was translated to its end, or as far as that answer says. Read comes with a failure of the reader,
 -- or if the limit on reads may have been reached; Write with one of the writer; and no other answer comes
 -- with a failure.
-pub record TranslatesTrace (scripts : List Script) (hide : Bool) (s : Streams)
+pub record TranslatesBy (fates : List ℕ → Fate) (s : Streams)
     (result : Result Counts TraceError) : Type 0 where
-  pub translates : Translates scripts hide s result
+  pub translates : Translates fates s result
   pub reader_failures : ReaderFailsOrTires is_read s result
   pub writer_failures : WriterFails is_write s result
+
+-- The same where positions are found in frames.
+abbrev pub TranslatesTrace : List Script → Bool → Streams → Result Counts TraceError → Type 0
+TranslatesTrace scripts hide s result = TranslatesBy (fate scripts hide) s result

@@ -26,10 +26,14 @@ abbrev pub at_most_u64 : ℕ → ℕ
 at_most_u64 n = min n (2 ^ 64 - 1)
 
 -- The number of lines of a trace, and of those that are translated and left out, each capped at the
--- greatest `u64`.
-abbrev pub counts_of : List Script → Bool → List ℕ → Counts
-counts_of scripts hide trace = record {
+-- greatest `u64`, where each line becomes this.
+abbrev pub counts_by : (List ℕ → Fate) → List ℕ → Counts
+counts_by fates trace = record {
   lines = at_most_u64 (length (lines_of trace));
-  translated = at_most_u64 (count_by (λ line. is_translated (fate scripts hide line)) (lines_of trace));
-  dropped = at_most_u64 (count_by (λ line. is_dropped (fate scripts hide line)) (lines_of trace));
+  translated = at_most_u64 (count_by (λ line. is_translated (fates line)) (lines_of trace));
+  dropped = at_most_u64 (count_by (λ line. is_dropped (fates line)) (lines_of trace));
 }
+
+-- The same where positions are found in frames.
+abbrev pub counts_of : List Script → Bool → List ℕ → Counts
+counts_of scripts hide trace = counts_by (fate scripts hide) trace

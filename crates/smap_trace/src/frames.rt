@@ -15,7 +15,7 @@ use smap_mappings::MAX_POSITION;
 const MOST: u32 = MAX_POSITION + 1;
 
 /// The number from 1 to [`MOST`] with this decimal form.
-fn place(text: &[u8]) -> Option<u32>
+pub(crate) fn place(text: &[u8]) -> Option<u32>
     ensures { MatchOption result ((n : ℕ) → IsPlace n → text.now ≡ decimal n → ⊥)
         (λ n. IsPlace n × (text.now ≡ decimal n)) }
 {

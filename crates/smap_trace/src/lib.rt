@@ -6,23 +6,29 @@
 //! comes. Maps count lines and columns from 0, traces from 1.
 #![tactic(auto)]
 
+mod anywhere;
 mod error;
+mod finding;
 mod frames;
 pub mod laws;
 mod lines;
 mod lookups;
+mod occurrences;
 mod outcome;
 mod parts;
+mod places;
+mod position_text;
 mod scripts;
 mod searching;
 mod streaming;
 
 pub use error::TraceError;
+pub use finding::Finding;
 pub use frames::frame;
-pub use lines::translate_line;
+pub use lines::{translate_line, translate_line_by};
 pub use lookups::lookup;
 pub use outcome::{Counts, LineOutcome};
 pub use parts::Frame;
 pub use scripts::distinct_scripts;
 pub use searching::{Positions, search};
-pub use streaming::translate;
+pub use streaming::{translate, translate_by};

@@ -1,22 +1,26 @@
 //! The translation of a line.
-ghost use Rattle.std.specs.Prelude.{◌≡◌, ◌+◌, ◌++◌, ◌<◌, option_map, IfOk, OnOk, OnErr};
+ghost use Rattle.std.specs.Prelude.{◌≡◌, ◌+◌, ◌++◌, ◌<◌, ◌≤◌, List, ℕ, IfOk, OnOk, OnErr, length, option_map};
+ghost use Rattle.std.specs.Prelude.{flat_map, true};
 ghost use Rattle.std.specs.Io.{StartsWith};
+ghost use Rattle.std.specs.List.{list_any};
 ghost use Rattle.smap_record.specs.Record.{record_of};
-ghost use Rattle.smap_record.specs.Views.{origin_of_view};
+ghost use Rattle.smap_trace.specs.Anywhere.{pieces_of};
 ghost use Rattle.smap_trace.specs.Frame as frame_spec;
 ghost use Rattle.smap_trace.specs.FrameView.{parts_in};
 ghost use Rattle.smap_trace.specs.Translation as spec;
-ghost use Rattle.smap_trace.specs.Translation.{AreDistinct};
+ghost use Rattle.smap_trace.specs.Translation.{AreDistinct, Fate};
 ghost use Rattle.smap_trace.specs.Views.{outcome_of, scripts_in};
 
+use crate::anywhere::push_pieces;
+use crate::finding::Finding;
 use crate::frames::frame;
-use crate::lookups::mapping_of;
+use crate::lookups::origin_at;
 use crate::outcome::LineOutcome;
 use crate::parts::Frame;
+use crate::position_text::push_position;
 use crate::scripts::{Listed, Maps};
-use itoa::Buffer;
 use smap_mappings::Memory;
-use smap_record::{OriginalView, SourceMap};
+use smap_record::SourceMap;
 use std::alloc::AllocError;
 
 /// Appends the frame's parts with another position. If memory runs out, a prefix of that is appended.
@@ -33,11 +37,7 @@ fn push_frame(
     ensures err { OnErr result (StartsWith out.new.items out.old.items) }
 {
     out.extend_from_slice(frame.before)?;
-    out.extend_from_slice(url.as_bytes())?;
-    out.extend_from_slice(b":")?;
-    out.extend_from_slice(Buffer::new().format(line).as_bytes())?;
-    out.extend_from_slice(b":")?;
-    out.extend_from_slice(Buffer::new().format(column).as_bytes())?;
+    push_position(out, url, line, column)?;
     out.extend_from_slice(frame.after)?;
     out.extend_from_slice(feed)
 }
@@ -73,14 +73,6 @@ fn push_translated(
     }
 }
 
-/// The original of the frame's position.
-fn origin<'a>(map: &'a SourceMap, frame: &Frame) -> Option<OriginalView<'a>>
-    requires { (0 < frame.now.line) × (0 < frame.now.column) }
-    ensures { option_map origin_of_view result ≡ spec.origin_at (record_of map.now) (parts_in frame.now) }
-{
-    mapping_of(map, frame.line - 1, frame.column - 1)?.original
-}
-
 /// Appends the translation of a line whose frame was found, and whose script has this map; or leaves the
 /// bytes as they were.
 fn translate_frame(
@@ -99,7 +91,7 @@ fn translate_frame(
     ensures outcome { IfOk result (λ o. o
         ≡ outcome_of (spec.fate_in hide (parts_in frame.now) (record_of map.now))) }
 {
-    let Some(origin) = origin(map, frame) else {
+    let Some(origin) = origin_at(map, frame.line, frame.column) else {
         out.extend_from_slice(line)?;
         return Ok(LineOutcome::Kept);
     };
@@ -114,28 +106,6 @@ fn translate_frame(
     Ok(LineOutcome::Translated)
 }
 
-/// Appends the translation of a line by the maps that are found, or leaves the bytes as they were.
-pub(crate) fn translate_by<M: Maps>(
-    line: &[u8],
-    maps: &M,
-    hide: bool,
-    out: &mut Vec<u8>,
-) -> Result<LineOutcome, AllocError>
-    ensures ok { OnOk result (out.new.items ≡ out.old.items
-        ++ spec.line_translation (M.scripts maps.now) hide line.now) }
-    ensures err { OnErr result (out.new.items ≡ out.old.items) }
-    ensures outcome { IfOk result (λ o. o ≡ outcome_of (spec.fate (M.scripts maps.now) hide line.now)) }
-{
-    let (text, feed) = cut_feed(line);
-    if let Some(frame) = frame(text) {
-        if let Some(map) = maps.map_of(frame.url) {
-            return translate_frame(line, &frame, feed, map, hide, out);
-        }
-    }
-    out.extend_from_slice(line)?;
-    Ok(LineOutcome::Kept)
-}
-
 /// The line without its line feed, and the line feed if it has one.
 fn cut_feed<'a>(line: &'a [u8]) -> (&'a [u8], &'a [u8])
     ensures text { result.0.now ≡ spec.without_line_feed line.now }
@@ -145,6 +115,170 @@ fn cut_feed<'a>(line: &'a [u8]) -> (&'a [u8], &'a [u8])
         (&line[..line.len() - 1], b"\n")
     } else {
         (line, &[])
+    }
+}
+
+/// The map of the script that the frame of this line names.
+fn map_for<'a, M: Maps>(
+    text: &[u8],
+    frame: &Frame,
+    maps: &'a M,
+    ignore_query: bool,
+) -> Option<&'a SourceMap>
+    requires { length frame.now.before.now + length frame.now.after.now ≤ length text.now }
+    ensures { option_map (λ m. record_of m.now) result
+        ≡ spec.map_for ignore_query (M.scripts maps.now) text.now (parts_in frame.now) }
+{
+    if !ignore_query {
+        return maps.map_of(frame.url);
+    }
+    let position = &text[frame.before.len()..text.len() - frame.after.len()];
+    let found = maps.occurrence_at(position, true)?;
+    if found.width == position.len() {
+        Some(found.map)
+    } else {
+        None
+    }
+}
+
+/// Appends the translation of a line whose position is found if it is a frame; or leaves the bytes as they
+/// were.
+fn translate_framed<M: Maps>(
+    line: &[u8],
+    maps: &M,
+    ignore_query: bool,
+    hide: bool,
+    out: &mut Vec<u8>,
+) -> Result<LineOutcome, AllocError>
+    ensures ok { OnOk result (out.new.items ≡ out.old.items ++ spec.written
+        (spec.frame_fate ignore_query (M.scripts maps.now) hide (spec.without_line_feed line.now)) line.now) }
+    ensures err { OnErr result (out.new.items ≡ out.old.items) }
+    ensures outcome { IfOk result (λ o. o ≡ outcome_of
+        (spec.frame_fate ignore_query (M.scripts maps.now) hide (spec.without_line_feed line.now))) }
+{
+    let (text, feed) = cut_feed(line);
+    if let Some(frame) = frame(text) {
+        if let Some(map) = map_for(text, &frame, maps, ignore_query) {
+            return translate_frame(line, &frame, feed, map, hide, out);
+        }
+    }
+    out.extend_from_slice(line)?;
+    Ok(LineOutcome::Kept)
+}
+
+/// Whether a line is a frame whose source is ignored.
+fn is_hidden<M: Maps>(text: &[u8], maps: &M, ignore_query: bool) -> bool
+    ensures { result ≡ spec.is_dropped (spec.frame_fate ignore_query (M.scripts maps.now) true text.now) }
+{
+    if let Some(frame) = frame(text) {
+        if let Some(map) = map_for(text, &frame, maps, ignore_query) {
+            if let Some(origin) = origin_at(map, frame.line, frame.column) {
+                return origin.source.ignored;
+            }
+        }
+    }
+    false
+}
+
+/// Appends the line with the positions in it replaced, and its line feed if it has one; and answers whether
+/// one was replaced. If memory runs out, a prefix of that is appended.
+fn push_line<M: Maps>(
+    out: &mut Vec<u8>,
+    text: &[u8],
+    feed: &[u8],
+    maps: &M,
+    ignore_query: bool,
+) -> Result<bool, AllocError>
+    ensures ok { OnOk result (out.new.items ≡ out.old.items ++ (flat_map spec.written_for
+        (pieces_of ignore_query (M.scripts maps.now) text.now) ++ feed.now)) }
+    ensures err { OnErr result (StartsWith out.new.items out.old.items) }
+    ensures replaced { IfOk result (λ r. r
+        ≡ list_any spec.is_replaced (pieces_of ignore_query (M.scripts maps.now) text.now)) }
+{
+    let replaced = push_pieces(out, text, maps, ignore_query)?;
+    out.extend_from_slice(feed)?;
+    Ok(replaced)
+}
+
+/// Appends the line with the positions in it replaced, or leaves the bytes as they were.
+fn translate_pieces<M: Maps>(
+    text: &[u8],
+    feed: &[u8],
+    maps: &M,
+    ignore_query: bool,
+    out: &mut Vec<u8>,
+) -> Result<LineOutcome, AllocError>
+    ensures ok { OnOk result (out.new.items ≡ out.old.items ++ (flat_map spec.written_for
+        (pieces_of ignore_query (M.scripts maps.now) text.now) ++ feed.now)) }
+    ensures err { OnErr result (out.new.items ≡ out.old.items) }
+    ensures outcome { IfOk result (λ o. o ≡ outcome_of
+        (spec.fate_of_pieces (pieces_of ignore_query (M.scripts maps.now) text.now))) }
+{
+    let before = out.len();
+    match push_line(out, text, feed, maps, ignore_query) {
+        Ok(true) => Ok(LineOutcome::Translated),
+        Ok(false) => Ok(LineOutcome::Kept),
+        Err(e) => {
+            out.truncate(before);
+            Err(e)
+        }
+    }
+}
+
+/// Appends the translation of a line in which positions are found anywhere, or leaves the bytes as they
+/// were.
+fn translate_anywhere<M: Maps>(
+    line: &[u8],
+    maps: &M,
+    ignore_query: bool,
+    hide: bool,
+    out: &mut Vec<u8>,
+) -> Result<LineOutcome, AllocError>
+    ensures ok { OnOk result (out.new.items ≡ out.old.items ++ spec.written
+        (spec.anywhere_fate ignore_query (M.scripts maps.now) hide (spec.without_line_feed line.now))
+        line.now) }
+    ensures err { OnErr result (out.new.items ≡ out.old.items) }
+    ensures outcome { IfOk result (λ o. o ≡ outcome_of
+        (spec.anywhere_fate ignore_query (M.scripts maps.now) hide (spec.without_line_feed line.now))) }
+{
+    let (text, feed) = cut_feed(line);
+    if hide && is_hidden(text, maps, ignore_query) {
+        return Ok(LineOutcome::Dropped);
+    }
+    translate_pieces(text, feed, maps, ignore_query, out)
+}
+
+/// Something that translates lines.
+pub(crate) trait Translator {
+    // what becomes of a line
+    ghost fates: { Self → List ℕ → Fate };
+
+    /// Appends the translation of a line, or leaves the bytes as they were.
+    fn translate(&self, line: &[u8], out: &mut Vec<u8>) -> Result<LineOutcome, AllocError>
+        ensures ok { OnOk result (out.new.items ≡ out.old.items
+            ++ spec.line_translation_by (fates self.now) line.now) }
+        ensures err { OnErr result (out.new.items ≡ out.old.items) }
+        ensures outcome { IfOk result (λ o. o ≡ outcome_of (fates self.now line.now)) };
+}
+
+/// The maps of scripts, and how positions are found and hidden.
+#[derive(Drop)]
+pub(crate) struct ByMaps<'a, M> {
+    pub(crate) maps: &'a M,
+    pub(crate) finding: Finding,
+    pub(crate) hide: bool,
+}
+
+impl<M: Maps> Translator for ByMaps<'_, M> {
+    ghost fates = { λ s. spec.fate_by s.finding (M.scripts s.maps.now) s.hide };
+
+    fn translate(&self, line: &[u8], out: &mut Vec<u8>) -> Result<LineOutcome, AllocError> {
+        let ignore_query = self.finding.ignore_query;
+        if self.finding.anywhere {
+            translate_anywhere(line, self.maps, ignore_query, self.hide, out)
+        } else {
+            translate_framed(line, self.maps, ignore_query, self.hide, out)
+        }
     }
 }
 
@@ -183,7 +317,52 @@ pub fn translate_line(
     ensures err { OnErr result (out.new.items ≡ out.old.items) }
     ensures outcome { IfOk result (λ o. o ≡ outcome_of (spec.fate (scripts_in scripts.now) hide line.now)) }
 {
-    match translate_by(line, &Listed { scripts }, hide, out) {
+    translate_line_by(line, scripts, Finding::FRAMES, hide, out)
+}
+
+/// Appends the translation of one line to `out`, as [`translate_line`] does, where positions are found in
+/// another way as well: anywhere in the line, or with a query behind the script's URL.
+///
+/// Anywhere, the line is cut from left to right into positions and the bytes between them. Each position is
+/// replaced by the original one, if the map has a mapping there with an original, and the source has a URL.
+/// With `hide`, nothing is appended where the line is a frame in an ignored source, as if only frames were
+/// looked for; positions in ignored sources of other lines are replaced. `Translated` is answered where at
+/// least one position was replaced.
+///
+/// # Errors
+///
+/// `Memory`, and `out` is as it was.
+///
+/// # Examples
+///
+/// ```
+/// let finding = Finding { anywhere: true, ignore_query: false };
+/// let line = b"12:00 at f (http://h/m/out.js:1:2) {\n";
+/// let outcome = translate_line_by(line, &scripts, finding, false, &mut out)?;
+/// // LineOutcome::Translated; `out` has `12:00 at f (http://h/m/a.js:11:3) {` and the line feed
+/// ```
+pub fn translate_line_by(
+    line: &[u8],
+    scripts: &[(&str, &SourceMap)],
+    finding: Finding,
+    hide: bool,
+    out: &mut Vec<u8>,
+) -> Result<LineOutcome, Memory>
+    requires { AreDistinct (scripts_in scripts.now) }
+    ensures ok { OnOk result (out.new.items ≡ out.old.items
+        ++ spec.line_translation_by (spec.fate_by finding (scripts_in scripts.now) hide) line.now) }
+    ensures err { OnErr result (out.new.items ≡ out.old.items) }
+    ensures outcome { IfOk result (λ o. o
+        ≡ outcome_of (spec.fate_by finding (scripts_in scripts.now) hide line.now)) }
+{
+    let maps = Listed { scripts };
+    match (ByMaps {
+        maps: &maps,
+        finding,
+        hide,
+    })
+    .translate(line, out)
+    {
         Ok(outcome) => Ok(outcome),
         Err(_) => Err(Memory),
     }

@@ -3,12 +3,13 @@ ghost use Rattle.std.specs.Prelude.{◌≡◌, ◌<◌, ℕ, length, map, option
 ghost use Rattle.std.specs.Prelude.{IfSome};
 ghost use Rattle.smap_record.specs.Fitting.{mapping_position};
 ghost use Rattle.smap_record.specs.Record.{record_of};
-ghost use Rattle.smap_record.specs.Views.{entry_of_view, mapping_of_view};
+ghost use Rattle.smap_record.specs.Views.{entry_of_view, mapping_of_view, origin_of_view};
 ghost use Rattle.smap_trace.specs.Lookup.{FallsTo, mapping_at};
 ghost use Rattle.smap_trace.specs.Positions.{IsWithinBinaryDigits};
+ghost use Rattle.smap_trace.specs.Translation as spec;
 
 use crate::searching::{Positions, search};
-use smap_record::{SourceMap, TokenView};
+use smap_record::{OriginalView, SourceMap, TokenView};
 
 /// The positions of a map's mappings, and how often one was asked for.
 #[derive(Drop)]
@@ -82,4 +83,12 @@ pub(crate) fn mapping_of<'a>(map: &'a SourceMap, line: u32, column: u32) -> Opti
     ensures { option_map mapping_of_view result ≡ mapping_at (record_of map.now).mappings line column }
 {
     lookup(map, line, column).0
+}
+
+/// The original that a position of a trace has, which counts from 1.
+pub(crate) fn origin_at<'a>(map: &'a SourceMap, line: u32, column: u32) -> Option<OriginalView<'a>>
+    requires { (0 < line) × (0 < column) }
+    ensures { option_map origin_of_view result ≡ spec.origin_at (record_of map.now) line column }
+{
+    mapping_of(map, line - 1, column - 1)?.original
 }

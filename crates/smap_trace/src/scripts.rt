@@ -1,12 +1,17 @@
 //! The scripts that have maps.
-ghost use Rattle.std.specs.Prelude.{◌↔◌, ◌≡◌, List, IsTrue, IfOk, option_map};
+ghost use Rattle.std.specs.Prelude.{◌↔◌, ◌≡◌, List, IsTrue, IfOk, IfSome, length, option_map, true};
 ghost use Rattle.smap_record.specs.Record.{record_of};
-ghost use Rattle.smap_trace.specs.Translation.{AreDistinct, Script, map_of};
+ghost use Rattle.smap_trace.specs.Anywhere.{longest};
+ghost use Rattle.smap_trace.specs.ByLength.{are_lengths_of, of_length};
+ghost use Rattle.smap_trace.specs.OccurrenceView.{IsWithin, occurrence_in};
+ghost use Rattle.smap_trace.specs.Scripts.{AreDistinct, Script, map_of};
 ghost use Rattle.smap_trace.specs.Views.{scripts_in};
 
+use crate::occurrences::{Occurrence, longer, occurrence_of};
+use crate::places::place_after;
 use indexmap::IndexMap;
 use smap_record::SourceMap;
-use std::alloc::{AllocFailed, Global};
+use std::alloc::{AllocError, Global};
 
 /// Whether no two scripts have the same URL, byte for byte, as [`translate`](crate::translate) and
 /// [`translate_line`](crate::translate_line) require. It takes no memory, and time in the square of the
@@ -32,6 +37,12 @@ pub(crate) trait Maps {
     /// The map of the script that has this URL.
     fn map_of(&self, url: &[u8]) -> Option<&SourceMap>
         ensures { option_map (λ m. record_of m.now) result ≡ map_of (scripts self.now) url.now };
+
+    /// The occurrence of the script with the longest URL at the beginning of the text.
+    fn occurrence_at(&self, text: &[u8], ignore_query: bool) -> Option<Occurrence<'_>>
+        ensures value { option_map occurrence_in result
+            ≡ longest ignore_query (scripts self.now) text.now }
+        ensures within { IfSome result (IsWithin (length text.now)) };
 }
 
 /// The scripts as they are passed in, searched one by one, which takes no memory.
@@ -51,12 +62,53 @@ impl Maps for Listed<'_> {
         }
         None
     }
+
+    fn occurrence_at(&self, text: &[u8], ignore_query: bool) -> Option<Occurrence<'_>> {
+        let mut best = None;
+        for script in self.scripts {
+            let found = occurrence_of(script.0.as_bytes(), script.1, text, ignore_query);
+            best = longer(best, found);
+        }
+        best
+    }
 }
 
-/// The scripts in a hashed table by their URLs.
+/// The scripts in a hashed table by their URLs, and the lengths of these.
 #[derive(Drop)]
 pub(crate) struct Indexed<'a> {
     maps: IndexMap<&'a [u8], &'a SourceMap>,
+    // each once, so that a place of a text is looked up once per length and not once per script
+    lengths: Vec<usize>,
+
+    ghost of_all: { are_lengths_of lengths.items (scripts_in maps.entries) ≡ true },
+}
+
+impl Indexed<'_> {
+    /// The occurrence at the beginning of the text of the script whose URL has this length. The URL is hashed
+    /// only where a position is behind it.
+    fn occurrence_of_length(
+        &self,
+        url_len: usize,
+        text: &[u8],
+        ignore_query: bool,
+    ) -> Option<Occurrence<'_>>
+        ensures value { option_map occurrence_in result
+            ≡ of_length ignore_query (scripts_in self.now.maps.entries) text.now url_len }
+        ensures within { IfSome result (IsWithin (length text.now)) }
+    {
+        if url_len == 0 || url_len > text.len() {
+            return None;
+        }
+        let place = place_after(&text[url_len..], ignore_query)?;
+        let (url, map) = self.maps.get_key_value(&text[..url_len])?;
+        Some(Occurrence {
+            url: *url,
+            map: *map,
+            line: place.line,
+            column: place.column,
+            width: url_len + place.width,
+        })
+    }
 }
 
 impl Maps for Indexed<'_> {
@@ -68,19 +120,43 @@ impl Maps for Indexed<'_> {
             None => None,
         }
     }
+
+    fn occurrence_at(&self, text: &[u8], ignore_query: bool) -> Option<Occurrence<'_>> {
+        let mut best = None;
+        for length in &self.lengths {
+            let found = self.occurrence_of_length(*length, text, ignore_query);
+            best = longer(best, found);
+        }
+        best
+    }
+}
+
+/// The lengths of the scripts' URLs, each once.
+fn url_lengths(alloc: Global, scripts: &[(&str, &SourceMap)]) -> Result<Vec<usize>, AllocError>
+    ensures { IfOk result (λ v. are_lengths_of v.items (scripts_in scripts.now) ≡ true) }
+{
+    let mut lengths = Vec::new(alloc);
+    for script in scripts {
+        let length = script.0.len();
+        if !lengths.contains(&length) {
+            lengths.push(length)?;
+        }
+    }
+    Ok(lengths)
 }
 
 /// The scripts in a table by their URLs.
 pub(crate) fn by_url<'a>(
     alloc: Global,
     scripts: &[(&'a str, &'a SourceMap)],
-) -> Result<Indexed<'a>, AllocFailed<(&'a [u8], &'a SourceMap)>>
+) -> Result<Indexed<'a>, AllocError>
     requires { AreDistinct (scripts_in scripts.now) }
     ensures { IfOk result (λ m. scripts_in m.maps.entries ≡ scripts_in scripts.now) }
 {
+    let lengths = url_lengths(alloc, scripts)?;
     let mut maps = IndexMap::new(alloc);
     for script in scripts {
         maps.insert(script.0.as_bytes(), script.1)?;
     }
-    Ok(Indexed { maps })
+    Ok(Indexed { maps, lengths })
 }

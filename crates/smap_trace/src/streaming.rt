@@ -7,14 +7,16 @@ ghost use Rattle.smap_io.specs.Limits.{most_calls};
 ghost use Rattle.smap_io.specs.Streams.{ReaderFailsOrTires, Rises, WriterFails, fails_by, streams};
 ghost use Rattle.smap_io.specs.Writing.{Took, TookPrefix};
 ghost use Rattle.smap_trace.specs.Pieces.{HasNoFeed, Takes, count_line, count_lines};
-ghost use Rattle.smap_trace.specs.Streaming.{Translates, TranslatesTrace, is_read, is_write};
-ghost use Rattle.smap_trace.specs.Translation.{AreDistinct, fate, line_translation, lines_of, translation};
+ghost use Rattle.smap_trace.specs.Streaming.{Translates, TranslatesBy, TranslatesTrace, is_read, is_write};
+ghost use Rattle.smap_trace.specs.Translation.{AreDistinct, fate_by, line_translation_by, lines_of};
+ghost use Rattle.smap_trace.specs.Translation.{translation_by};
 ghost use Rattle.smap_trace.specs.Views.{outcome_of, scripts_in};
 
 use crate::error::TraceError;
-use crate::lines::translate_by;
+use crate::finding::Finding;
+use crate::lines::{ByMaps, Translator};
 use crate::outcome::{Counts, LineOutcome};
-use crate::scripts::{Listed, Maps, by_url};
+use crate::scripts::{Listed, by_url};
 use memchr::memchr;
 use smap_io::{Device, MOST_CALLS, write_all, write_and_flush};
 use smap_record::SourceMap;
@@ -49,9 +51,8 @@ fn counted(counts: Counts, outcome: LineOutcome) -> Counts
 
 /// Appends the translation of a line, and counts it. The line is what waits in `line`, and then these
 /// bytes, which end it.
-fn take_line<M: Maps>(
-    maps: &M,
-    hide: bool,
+fn take_line<T: Translator>(
+    lines: &T,
     line: &mut Vec<u8>,
     end: &[u8],
     out: &mut Vec<u8>,
@@ -59,26 +60,25 @@ fn take_line<M: Maps>(
 ) -> Result<Counts, AllocError>
     ensures rest { OnOk result (line.new.items ≡ []) }
     ensures out { OnOk result (out.new.items ≡ out.old.items
-        ++ line_translation (M.scripts maps.now) hide (line.old.items ++ end.now)) }
+        ++ line_translation_by (T.fates lines.now) (line.old.items ++ end.now)) }
     ensures counts { IfOk result (λ after. after
-        ≡ count_line counts (outcome_of (fate (M.scripts maps.now) hide (line.old.items ++ end.now)))) }
+        ≡ count_line counts (outcome_of (T.fates lines.now (line.old.items ++ end.now)))) }
 {
     // Nearly all lines are within one piece, and aren't copied.
     if line.is_empty() {
-        let outcome = translate_by(end, maps, hide, out)?;
+        let outcome = lines.translate(end, out)?;
         return Ok(counted(counts, outcome));
     }
     line.extend_from_slice(end)?;
-    let outcome = translate_by(line, maps, hide, out)?;
+    let outcome = lines.translate(line, out)?;
     line.clear();
     Ok(counted(counts, outcome))
 }
 
 /// Takes the next piece, and appends the translation of the lines that it ends. The rest of it waits in
 /// `line`.
-fn take_piece<M: Maps>(
-    maps: &M,
-    hide: bool,
+fn take_piece<T: Translator>(
+    lines: &T,
     line: &mut Vec<u8>,
     piece: &[u8],
     out: &mut Vec<u8>,
@@ -86,13 +86,13 @@ fn take_piece<M: Maps>(
 ) -> Result<(), AllocError>
     requires { HasNoFeed line.old.items }
     ensures rest { OnOk result (HasNoFeed line.new.items) }
-    ensures takes { OnOk result (Takes (M.scripts maps.now) hide line.old.items piece.now line.new.items
+    ensures takes { OnOk result (Takes (T.fates lines.now) line.old.items piece.now line.new.items
         out.old.items out.new.items counts.old counts.new) }
 {
     let mut at = 0;
     'lines: while let Some(feed) = memchr(b'\n', &piece[at..]) {
         let next = at + feed + 1;
-        *counts = take_line(maps, hide, line, &piece[at..next], out, *counts)?;
+        *counts = take_line(lines, line, &piece[at..next], out, *counts)?;
         at = next;
     }
     line.extend_from_slice(&piece[at..])?;
@@ -100,30 +100,28 @@ fn take_piece<M: Maps>(
 }
 
 /// Appends the translation of the last line, if there is one.
-fn end_line<M: Maps>(
-    maps: &M,
-    hide: bool,
+fn end_line<T: Translator>(
+    lines: &T,
     line: &[u8],
     out: &mut Vec<u8>,
     counts: Counts,
 ) -> Result<Counts, AllocError>
     requires free { HasNoFeed line.now }
     requires empty { out.old.items ≡ [] }
-    ensures given { OnOk result (out.new.items ≡ translation (M.scripts maps.now) hide line.now) }
+    ensures given { OnOk result (out.new.items ≡ translation_by (T.fates lines.now) line.now) }
     ensures counts { IfOk result (λ after. after
-        ≡ count_lines (M.scripts maps.now) hide counts (lines_of line.now)) }
+        ≡ count_lines (T.fates lines.now) counts (lines_of line.now)) }
 {
     if line.is_empty() {
         return Ok(counts);
     }
-    let outcome = translate_by(line, maps, hide, out)?;
+    let outcome = lines.translate(line, out)?;
     Ok(counted(counts, outcome))
 }
 
 /// Writes the translation of the last line, if there is one, and flushes.
-fn finish<M: Maps, W: Write>(
-    maps: &M,
-    hide: bool,
+fn finish<T: Translator, W: Write>(
+    lines: &T,
     line: &[u8],
     out: &mut Vec<u8>,
     counts: Counts,
@@ -133,18 +131,18 @@ fn finish<M: Maps, W: Write>(
     requires empty { out.old.items ≡ [] }
     requires writes { device_failures writer.old < 2 ^ 64 - 1 }
     ensures all { OnOk result (Took W.contents writer.old writer.new
-        (translation (M.scripts maps.now) hide line.now)) }
+        (translation_by (T.fates lines.now) line.now)) }
     ensures counts { IfOk result (λ after. after
-        ≡ count_lines (M.scripts maps.now) hide counts (lines_of line.now)) }
+        ≡ count_lines (T.fates lines.now) counts (lines_of line.now)) }
     ensures part { OnErr result (TookPrefix W.contents writer.old writer.new
-        (translation (M.scripts maps.now) hide line.now)) }
+        (translation_by (T.fates lines.now) line.now)) }
     ensures never_read { fails_by is_read result ≡ false }
     ensures writer_failures { Rises (fails_by is_write result) (device_failures writer.old)
         (device_failures writer.new) }
     ensures writes_in_time { StopsInTime writer.old writer.new }
     ensures flushed { OnOk result (is_over writer.new ≡ true) }
 {
-    let Ok(after) = end_line(maps, hide, line, out, counts) else {
+    let Ok(after) = end_line(lines, line, out, counts) else {
         return Err(TraceError::Memory);
     };
     let Ok(()) = write_and_flush(writer, out) else {
@@ -153,18 +151,17 @@ fn finish<M: Maps, W: Write>(
     Ok(after)
 }
 
-/// Reads to the end, and writes the translation of the lines with these maps.
-fn translate_with<M: Maps, R: Read, W: Write>(
+/// Reads to the end, and writes the translation of the lines.
+fn translate_with<T: Translator, R: Read, W: Write>(
     alloc: Global,
-    maps: &M,
-    hide: bool,
+    lines: &T,
     reader: &mut Device<R>,
     writer: &mut Device<W>,
 ) -> Result<Counts, TraceError>
     requires reads { device_failures reader.old < 2 ^ 64 - 1 }
     requires writes { device_failures writer.old < 2 ^ 64 - 1 }
     requires not_ended { has_ended reader.old ≡ false }
-    ensures translates { Translates (M.scripts maps.now) hide
+    ensures translates { Translates (T.fates lines.now)
         (streams R.remaining reader.old reader.new W.contents writer.old writer.new) result }
     ensures reader_failures { ReaderFailsOrTires is_read
         (streams R.remaining reader.old reader.new W.contents writer.old writer.new) result }
@@ -189,9 +186,9 @@ fn translate_with<M: Maps, R: Read, W: Write>(
             return Err(TraceError::Read);
         };
         if n == 0 {
-            return finish(maps, hide, &line, &mut out, counts, writer);
+            return finish(lines, &line, &mut out, counts, writer);
         }
-        let Ok(()) = take_piece(maps, hide, &mut line, &buf[..n], &mut out, &mut counts) else {
+        let Ok(()) = take_piece(lines, &mut line, &buf[..n], &mut out, &mut counts) else {
             return Err(TraceError::Memory);
         };
         let Ok(()) = write_all(writer, &out) else {
@@ -255,11 +252,69 @@ pub fn translate<R: Read, W: Write>(
     ensures writes_in_time { StopsInTime writer.old writer.new }
     ensures flushed { OnOk result (is_over writer.new ≡ true) }
 {
+    translate_by(alloc, reader, scripts, Finding::FRAMES, hide, writer)
+}
+
+/// Reads a stack trace to its end and writes its translation, as [`translate`] does, where positions are
+/// found in another way as well; each line as by [`translate_line_by`].
+///
+/// [`translate_line_by`]: crate::translate_line_by
+///
+/// # Errors
+///
+/// Those of [`translate`], with what was written then.
+///
+/// # Examples
+///
+/// ```
+/// let finding = Finding { anywhere: true, ignore_query: true };
+/// let counts = translate_by(alloc, &mut reader, scripts.as_slice(), finding, false, &mut writer)?;
+/// ```
+pub fn translate_by<R: Read, W: Write>(
+    alloc: Global,
+    reader: &mut Device<R>,
+    scripts: &[(&str, &SourceMap)],
+    finding: Finding,
+    hide: bool,
+    writer: &mut Device<W>,
+) -> Result<Counts, TraceError>
+    requires reads { device_failures reader.old < 2 ^ 64 - 1 }
+    requires writes { device_failures writer.old < 2 ^ 64 - 1 }
+    requires not_ended { has_ended reader.old ≡ false }
+    requires distinct { AreDistinct (scripts_in scripts.now) }
+
+    // As for `translate`, with what becomes of a line by this way of finding.
+    ensures translates { TranslatesBy (fate_by finding (scripts_in scripts.now) hide)
+        (streams R.remaining reader.old reader.new W.contents writer.old writer.new) result }
+    ensures calls { MakesAtMost most_calls reader.old reader.new }
+    ensures reads_in_time { StopsInTime reader.old reader.new }
+    ensures writes_in_time { StopsInTime writer.old writer.new }
+    ensures flushed { OnOk result (is_over writer.new ≡ true) }
+{
     if scripts.len() <= FEW {
-        return translate_with(alloc, &Listed { scripts }, hide, reader, writer);
+        let maps = Listed { scripts };
+        return translate_with(
+            alloc,
+            &ByMaps {
+                maps: &maps,
+                finding,
+                hide,
+            },
+            reader,
+            writer,
+        );
     }
     let Ok(maps) = by_url(alloc, scripts) else {
         return Err(TraceError::Memory);
     };
-    translate_with(alloc, &maps, hide, reader, writer)
+    translate_with(
+        alloc,
+        &ByMaps {
+            maps: &maps,
+            finding,
+            hide,
+        },
+        reader,
+        writer,
+    )
 }

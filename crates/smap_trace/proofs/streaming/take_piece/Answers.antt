@@ -2,7 +2,7 @@ use Rattle.std.proofs.Common.{◌≡◌, ◌∙◌, ℕ, ◌+◌, ◌<◌, List,
 use Rattle.std.proofs.Common.{length-drop}
 use Rattle.std.proofs.lemmas.Bool.{eqb-true}
 use Rattle.std.proofs.lemmas.List.{take-append-drop}
-use Rattle.smap_trace.specs.Translation.{fate, line_translation}
+use Rattle.smap_trace.specs.Translation.{line_translation_by}
 use Rattle.smap_trace.specs.Pieces.{count_line}
 use Rattle.smap_trace.specs.Views.{outcome_of}
 use Rattle.smap_trace.proofs.LineLemmas.{feed_step, rest_step, none_passed, none_there, line_end, line_taken}
@@ -11,8 +11,7 @@ use Rattle.smap_trace.proofs.streaming.take_piece.Goals as goal
 
 pub lines-preserved : goal.lines-preserved
 lines-preserved g c =
-    let scripts = g.M.Maps.scripts c.args.maps.now in
-    let hide = c.args.hide in
+    let fates = g.T.Translator.fates c.args.lines.now in
     let piece = c.args.piece.now in
     let at = c.lines.at in
     let feed = c.in-Some.feed in
@@ -20,27 +19,27 @@ lines-preserved g c =
     let lt : feed < length (drop at piece) = found.0.high in
     let is : get_or (drop at piece) feed 0 ≡ 10 = eqb-true _ 10 found.1 in
     let end = line_end piece at feed lt is in
-    let step = feed_step scripts hide c.args.line.now.items (take at piece) (take (at + feed + 1) piece)
+    let step = feed_step fates c.args.line.now.items (take at piece) (take (at + feed + 1) piece)
     c.lines.line.items c.take_line.new.line.items c.args.out.now.items c.lines.out.items
     c.take_line.new.out.items
     (take feed (drop at piece)) c.args.counts.now c.lines.counts c.in_ok-counts.field-0
     (line_taken piece at feed lt is) c.in_ok-counts.ensures.rest
     (none_passed (drop at piece) feed (λ i below. found.0.before i (omega arith) below))
     (c.in_ok-counts.ensures.out ∙ ap (λ (xs : List ℕ). c.lines.out.items
-    ++ line_translation scripts hide (c.lines.line.items ++ xs)) end)
+    ++ line_translation_by fates (c.lines.line.items ++ xs)) end)
     (c.in_ok-counts.ensures.counts ∙ ap (λ (xs : List ℕ).
-    count_line c.lines.counts (outcome_of (fate scripts hide (c.lines.line.items ++ xs)))) end)
+    count_line c.lines.counts (outcome_of (fates (c.lines.line.items ++ xs)))) end)
     c.lines.invariant.free c.lines.invariant.takes in
     record { within = omega (arith, lt, length-drop at piece); free = step.free; takes = step.takes }
 
 pub returns : goal.returns
 returns g c =
-    let scripts = g.M.Maps.scripts c.args.maps.now in
+    let fates = g.T.Translator.fates c.args.lines.now in
     let piece = c.args.piece.now in
     let at = c.lines.at in
     let left = left_is piece at in
     let none = rw left at c.in_default.ensures in
-    let step = rest_step scripts c.args.hide c.args.line.now.items (take at piece) piece c.lines.line.items
+    let step = rest_step fates c.args.line.now.items (take at piece) piece c.lines.line.items
     c.extend_from_slice.new.self.items c.args.out.now.items c.lines.out.items
     (drop at piece) c.args.counts.now c.lines.counts
     (sym (take-append-drop at piece)) (c.in_ok-extend_from_slice.ensures.items

@@ -6,7 +6,7 @@ abbrev pub invariant-lines : goal.invariant-lines
 invariant-lines g l = record {
   within : l.at ≤ length l.piece;
   free : HasNoFeed l.line.items;
-  takes : Takes (g.M.Maps.scripts l.maps) l.hide l.fn.line.items (take l.at l.piece) l.line.items
+  takes : Takes (g.T.Translator.fates l.lines) l.fn.line.items (take l.at l.piece) l.line.items
       l.fn.out.items l.out.items l.fn.counts l.counts;
 }
 

@@ -1,0 +1,345 @@
+-- Lines cut from left to right into bytes and occurrences.
+use Rattle.std.proofs.Common.{◌≡◌, ◌≢◌, ◌∙◌, ℕ, zero, suc, ◌+◌, ◌-◌, ◌<◌, ◌≤◌, ◌==◌, Bool, true, false, not, cond}
+use Rattle.std.proofs.Common.{◌&&◌, ◌||◌, List, [], ◌∷◌, ◌++◌, length, take, drop, get_or, map, flat_map}
+use Rattle.std.proofs.Common.{Option, Some, None, MatchOption, option_map, codes, decimal, nat_eq, nat_lt}
+use Rattle.std.proofs.Common.{refl, sym, ap, subst, arith, rules, append_assoc, append-nil, slice_range, inl, inr}
+use Rattle.std.specs.Char.{is_ascii_digit}
+use Rattle.std.specs.List.{list_any, prefix_len, starts_with}
+use Rattle.std.specs.Option.{is_some, option_map_or}
+use Rattle.std.proofs.Math.Seq.{drop-cons, take-add, take-suc}
+use Rattle.std.proofs.lemmas.Bool.Decides.{nat_tests, Decides-eqb}
+use Rattle.std.proofs.lemmas.Bool.{eqb-true}
+use Rattle.std.proofs.lemmas.List.{drop-drop, drop_all, get_or-drop, length-drop, take_all, take_more}
+use Rattle.std.proofs.lemmas.List.{map-append, take-append-drop}
+use Rattle.std.proofs.lemmas.List.Folds.{list_any-append}
+use Rattle.std.proofs.lemmas.Grind.{flat_map-append}
+use Rattle.smap_trace.specs.Anywhere.{Occurrence, Piece, byte, bytes_of, cut, found, longer, longest, more_of}
+use Rattle.smap_trace.specs.Anywhere.{line_and_column, number_after, occurrence_between, occurrence_of, piece_at}
+use Rattle.smap_trace.specs.Anywhere.{may_begin, pieces_of, place_after, query_len}
+use Rattle.smap_trace.specs.Cutting.{has_place, pieces_from}
+use Rattle.smap_trace.specs.Frame.{IsPlace}
+use Rattle.smap_trace.specs.OccurrenceView.{IsWithin, occurrence_in}
+use Rattle.smap_trace.specs.Reading.{place_of}
+use Rattle.smap_trace.specs.Scripts.{Script}
+use Rattle.smap_trace.specs.Translation.{is_replaced, replaced, written_for}
+use Rattle.smap_trace.specs.declared.occurrences.Occurrence.{Occurrence as CodeOccurrence}
+use Rattle.smap_trace.specs.declared.places.Place.{Place}
+use Rattle.smap_trace.proofs.LineLemmas.{left_is}
+use Rattle.smap_trace.proofs.PlaceLemmas.{IsNoPlace, place_is}
+
+-- ---- a colon and a digit
+
+no_left : (a b : Bool) → (a || b) ≡ false → (a ≡ false) × (b ≡ false)
+no_left false b h = (refl, h)
+no_left true b h = cc
+
+-- what is behind the first colon decides
+pub colon_passed : (ys : List ℕ) (k : ℕ) → k < length ys
+    → ((i : ℕ) → i < k → (get_or ys i 0 == 58) ≢ true) → get_or ys k 0 ≡ 58
+    → has_place ys ≡ (list_any is_ascii_digit (take 1 (drop (k + 1) ys)) || has_place (drop (k + 1) ys))
+colon_passed [] k lt none is = absurd (omega (arith, lt))
+colon_passed (b ∷ bs) zero lt none is = rw is refl
+colon_passed (b ∷ bs) (suc k) lt none is =
+    let one : suc k + 1 ≡ suc (k + 1) = omega arith in
+    let rest = colon_passed bs k (omega (arith, lt)) (λ i below. none (suc i) (omega arith)) is in
+    rw one (go (b == 58) refl rest)
+  where
+    go : (t : Bool) → (b == 58) ≡ t
+        → has_place bs ≡ (list_any is_ascii_digit (take 1 (drop (k + 1) bs)) || has_place (drop (k + 1) bs))
+        → ((t && list_any is_ascii_digit (take 1 bs)) || has_place bs)
+        ≡ (list_any is_ascii_digit (take 1 (drop (k + 1) bs)) || has_place (drop (k + 1) bs))
+    go true e h = absurd (none 0 (omega arith) e)
+    go false e h = h
+
+pub no_colon : (ys : List ℕ) → ((i : ℕ) → i < length ys → (get_or ys i 0 == 58) ≢ true)
+    → has_place ys ≡ false
+no_colon [] none = refl
+no_colon (b ∷ bs) none = go (b == 58) refl (no_colon bs (λ i below. none (suc i) (omega arith)))
+  where
+    go : (t : Bool) → (b == 58) ≡ t → has_place bs ≡ false
+        → ((t && list_any is_ascii_digit (take 1 bs)) || has_place bs) ≡ false
+    go true e h = absurd (none 0 (omega arith) e)
+    go false e h = h
+
+-- ---- without a colon and a digit there is no occurrence
+
+pub no_place-drop : (k : ℕ) (t : List ℕ) → has_place t ≡ false → has_place (drop k t) ≡ false
+no_place-drop zero t h = h
+no_place-drop (suc k) [] h = refl
+no_place-drop (suc k) (b ∷ bs) h =
+    no_place-drop k bs (no_left (b == 58 && list_any is_ascii_digit (take 1 bs)) (has_place bs) h).1
+
+no_digits : (bs : List ℕ) → list_any is_ascii_digit (take 1 bs) ≡ false → prefix_len is_ascii_digit bs ≡ 0
+no_digits [] h = refl
+no_digits (b ∷ bs) h = go (is_ascii_digit b) (no_left (is_ascii_digit b) false h).0
+  where
+    go : (t : Bool) → t ≡ false → cond t (1 + prefix_len is_ascii_digit bs) 0 ≡ 0
+    go true e = cc
+    go false e = refl
+
+no_number : (t : List ℕ) → has_place t ≡ false → number_after t ≡ None
+no_number [] h = refl
+no_number (b ∷ bs) h = go (58 == b) refl (no_left (b == 58 && list_any is_ascii_digit (take 1 bs)) (has_place bs) h).0
+  where
+    digitless : b ≡ 58 → (b == 58 && list_any is_ascii_digit (take 1 bs)) ≡ false
+        → list_any is_ascii_digit (take 1 bs) ≡ false
+    digitless is e = rw is at e
+
+    go : (t : Bool) → (58 == b) ≡ t → (b == 58 && list_any is_ascii_digit (take 1 bs)) ≡ false
+        → ◌≡◌ {A = Option (ℕ × ℕ)} (cond (t && true) (option_map (λ v. (v, prefix_len is_ascii_digit bs + 1))
+        (place_of (take (prefix_len is_ascii_digit bs) bs))) None) None
+    go true e f = rw (no_digits bs (digitless (sym (eqb-true 58 b e)) f)) refl
+    go false e f = refl
+
+-- what the code finds behind a colon
+pub number_is : (text : List ℕ) (n : ℕ) (r : Option ℕ) → starts_with nat_eq text (codes ":") ≡ true
+    → n ≡ prefix_len is_ascii_digit (take (length text - 1) (drop 1 text))
+    → MatchOption r (IsNoPlace (take n (take (length text - 1) (drop 1 text))))
+    (λ m. IsPlace m × (take n (take (length text - 1) (drop 1 text)) ≡ decimal m))
+    → option_map (λ v. (v, n + 1)) r ≡ number_after text
+number_is text n r starts count is =
+    let left : take (length text - 1) (drop 1 text) ≡ drop 1 text = left_is text 1 in
+    let count' = rw left at count in
+    let is' = rw left at is in
+    let place : r ≡ place_of (take n (drop 1 text)) = place_is (take n (drop 1 text)) r is' in
+    let place' : r ≡ place_of (take (prefix_len is_ascii_digit (drop 1 text)) (drop 1 text)) =
+    place ∙ ap (λ k. place_of (take k (drop 1 text))) count' in
+    rw (starts, place', count') refl
+
+no_line : (t : List ℕ) → has_place t ≡ false → line_and_column t ≡ None
+no_line t h = rw (no_number t h) refl
+
+no_place : (ignore : Bool) (t : List ℕ) → has_place t ≡ false → place_after ignore t ≡ None
+no_place false t h = no_line t h
+no_place true t h = rw (no_line (drop (query_len t) t) (no_place-drop (query_len t) t h)) refl
+
+no_occurrence_of : (ignore : Bool) (s : Script) (t : List ℕ) → has_place t ≡ false
+    → occurrence_of ignore s t ≡ None
+no_occurrence_of ignore s t h =
+    rw (no_place ignore (drop (length s.0) t) (no_place-drop (length s.0) t h))
+    (go (nat_lt 0 (length s.0) && starts_with nat_eq t s.0))
+  where
+    go : (b : Bool) → ◌≡◌ {A = Option Occurrence} (cond b None None) None
+    go true = refl
+    go false = refl
+
+no_longest : (ignore : Bool) (scripts : List Script) (t : List ℕ) → has_place t ≡ false
+    → longest ignore scripts t ≡ None
+no_longest ignore [] t h = refl
+no_longest ignore (s ∷ ss) t h = rw (no_occurrence_of ignore s t h) (no_longest ignore ss t h)
+
+no_occurrence : (ignore : Bool) (scripts : List Script) (before t : List ℕ) → has_place t ≡ false
+    → occurrence_between ignore scripts before t ≡ None
+no_occurrence ignore scripts before t h = rw (no_longest ignore scripts t h) (go (may_begin before))
+  where
+    go : (b : Bool) → ◌≡◌ {A = Option Occurrence} (cond b None None) None
+    go true = refl
+    go false = refl
+
+pub all_bytes : (ignore : Bool) (scripts : List Script) (before t : List ℕ) → has_place t ≡ false
+    → cut ignore scripts before 0 t ≡ map byte t
+all_bytes ignore scripts before [] h = refl
+all_bytes ignore scripts before (b ∷ bs) h =
+    rw (no_occurrence ignore scripts before (b ∷ bs) h)
+    (ap (λ (ps : List Piece). byte b ∷ ps)
+    (all_bytes ignore scripts (before ++ b ∷ []) bs (no_place-drop 1 (b ∷ bs) h)))
+
+-- ---- one piece more
+
+pub skipped : (ignore : Bool) (scripts : List Script) (before bs : List ℕ) (k : ℕ)
+    → cut ignore scripts before k bs ≡ cut ignore scripts (before ++ take k bs) 0 (drop k bs)
+skipped ignore scripts before bs zero = ap (λ (t : List ℕ). cut ignore scripts t 0 bs) (sym (append-nil before))
+skipped ignore scripts before [] (suc k) = refl
+skipped ignore scripts before (b ∷ bs) (suc k) =
+    skipped ignore scripts (before ++ b ∷ []) bs k
+    ∙ ap (λ (t : List ℕ). cut ignore scripts t 0 (drop k bs)) (append_assoc before (b ∷ []) (take k bs))
+
+-- where no occurrence begins, a byte
+pub byte_cut : (ignore : Bool) (scripts : List Script) (line : List ℕ) (at : ℕ) → at < length line
+    → occurrence_between ignore scripts (take at line) (drop at line) ≡ None
+    → pieces_from ignore scripts line at ≡ byte (get_or line at 0) ∷ pieces_from ignore scripts line (at + 1)
+byte_cut ignore scripts line at lt none =
+    let split : drop at line ≡ get_or line at 0 ∷ drop (suc at) line = drop-cons line at 0 lt in
+    let one : at + 1 ≡ suc at = omega arith in
+    let none' = rw split at none in
+    rw (split, one, take-suc line at 0 lt) (rw none' refl)
+
+-- where one begins, all of it
+pub found_cut : (ignore : Bool) (scripts : List Script) (line : List ℕ) (at : ℕ) (o : Occurrence)
+    → at < length line → 0 < o.width → occurrence_between ignore scripts (take at line) (drop at line) ≡ Some o
+    → pieces_from ignore scripts line at ≡ found o (take o.width (drop at line))
+    ∷ pieces_from ignore scripts line (at + o.width)
+found_cut ignore scripts line at o lt some is =
+    let split : drop at line ≡ get_or line at 0 ∷ drop (suc at) line = drop-cons line at 0 lt in
+    let is' = rw split at is in
+    let b = get_or line at 0 in
+    let bs = drop (suc at) line in
+    let first : cut ignore scripts (take at line) 0 (b ∷ bs) ≡ found o (take o.width (b ∷ bs))
+    ∷ cut ignore scripts (take at line ++ b ∷ []) (o.width - 1) bs = rw is' refl in
+    let more : drop (o.width - 1) bs ≡ drop (at + o.width) line =
+    drop-drop (o.width - 1) (suc at) line ∙ ap (λ n. drop n line) (omega arith) in
+    let front : (take at line ++ b ∷ []) ++ take (o.width - 1) bs ≡ take (at + o.width) line =
+    ap (λ (t : List ℕ). t ++ take (o.width - 1) bs) (sym (take-suc line at 0 lt))
+    ∙ sym (take-plus (suc at) (o.width - 1) line) ∙ ap (λ n. take n line) (omega arith) in
+    ap (cut ignore scripts (take at line) 0) split ∙ first
+    ∙ ap (λ (t : List ℕ). found o (take o.width t) ∷ cut ignore scripts (take at line ++ b ∷ [])
+    (o.width - 1) bs) (sym split)
+    ∙ ap (λ (ps : List Piece). found o (take o.width (drop at line)) ∷ ps)
+    (skipped ignore scripts (take at line ++ b ∷ []) bs (o.width - 1)
+    ∙ ap (λ (t : List ℕ). cut ignore scripts t 0 (drop (o.width - 1) bs)) front
+    ∙ ap (cut ignore scripts (take (at + o.width) line) 0) more)
+  where
+    take-plus : (m n : ℕ) (xs : List ℕ) → take (m + n) xs ≡ take m xs ++ take n (drop m xs)
+    take-plus m n xs = take-add m n xs
+
+-- ---- what is written for bytes
+
+pub bytes_written : (xs : List ℕ) → flat_map written_for (map byte xs) ≡ xs
+bytes_written [] = refl
+bytes_written (b ∷ bs) = ap (λ (ys : List ℕ). b ∷ ys) (bytes_written bs)
+
+pub bytes_kept : (xs : List ℕ) → list_any is_replaced (map byte xs) ≡ false
+bytes_kept [] = refl
+bytes_kept (b ∷ bs) = bytes_kept bs
+
+-- ---- a colon in the rest of a text
+
+first_of : (xs : List ℕ) (i : ℕ) → i < length xs → take 1 (drop i xs) ≡ get_or xs i 0 ∷ []
+first_of xs i lt = rw (drop-cons xs i 0 lt) refl
+
+-- what is known of a text with a colon, the first at this place or behind it
+pub record BehindColon (text : List ℕ) (at next : ℕ) : Type 0 where
+  pub with_digit : next < length text → is_ascii_digit (get_or text next 0) ≡ true
+      → has_place (drop at text) ≡ true
+  pub with_other : next < length text → is_ascii_digit (get_or text next 0) ≡ false
+      → has_place (drop at text) ≡ has_place (drop next text)
+  pub at_end : length text ≤ next → has_place (drop at text) ≡ has_place (drop next text)
+
+pub behind_colon : (text : List ℕ) (at k : ℕ) → k < length (drop at text)
+    → ((i : ℕ) → i < k → (get_or (drop at text) i 0 == 58) ≢ true) → get_or (drop at text) k 0 ≡ 58
+    → BehindColon text at (at + k + 1)
+behind_colon text at k lt none is =
+    let more : drop (k + 1) (drop at text) ≡ drop (at + k + 1) text =
+    drop-drop (k + 1) at text ∙ ap (λ n. drop n text) (omega arith) in
+    let split : has_place (drop at text) ≡ (list_any is_ascii_digit (take 1 (drop (at + k + 1) text))
+    || has_place (drop (at + k + 1) text)) = colon_passed (drop at text) k lt none is
+    ∙ ap (λ (t : List ℕ). list_any is_ascii_digit (take 1 t) || has_place t) more in
+    record {
+      with_digit = λ inside digit. split ∙ rw (first_of text (at + k + 1) inside, digit) refl;
+      with_other = λ inside other. split ∙ rw (first_of text (at + k + 1) inside, other) refl;
+      at_end = λ past. split ∙ rw (drop_all (at + k + 1) text past) refl;
+    }
+
+-- ---- from a place to the next occurrence
+
+-- what stands before a place, and a byte more
+range_more : (xs : List ℕ) (at start : ℕ) → at ≤ start → start < length xs
+    → slice_range xs at (start + 1) ≡ slice_range xs at start ++ get_or xs start 0 ∷ []
+range_more xs at start le lt =
+    let one : start + 1 - at ≡ start - at + 1 = omega arith in
+    let len : start - at < length (drop at xs) = omega (arith, length-drop at xs) in
+    let here : get_or (drop at xs) (start - at) 0 ≡ get_or xs start 0 =
+    get_or-drop at xs (start - at) 0 ∙ ap (λ n. get_or xs n 0) (omega arith) in
+    ap (λ n. take n (drop at xs)) one ∙ take_more (drop at xs) (start - at) 0 len
+    ∙ ap (λ b. take (start - at) (drop at xs) ++ b ∷ []) here
+
+module _ (ignore : Bool) (scripts : List Script) (line : List ℕ) where
+  abbrev from : ℕ → List Piece
+  from at = pieces_from ignore scripts line at
+
+  pub nothing_before : (at : ℕ) → from at ≡ map byte (slice_range line at at) ++ from at
+  nothing_before at = let none : at - at ≡ 0 = omega arith in rw none refl
+
+  pub byte_next : (at start : ℕ) → at ≤ start → start < length line
+      → None ≡ occurrence_between ignore scripts (take start line) (drop start line)
+      → from at ≡ map byte (slice_range line at start) ++ from start
+      → from at ≡ map byte (slice_range line at (start + 1)) ++ from (start + 1)
+  byte_next at start le lt none h =
+      h ∙ ap (λ (ps : List Piece). map byte (slice_range line at start) ++ ps)
+      (byte_cut ignore scripts line start lt (sym none))
+      ∙ sym (append_assoc (map byte (slice_range line at start)) (byte (get_or line start 0) ∷ [])
+      (from (start + 1)))
+      ∙ ap (λ (ps : List Piece). ps ++ from (start + 1))
+      (sym (map-append byte (slice_range line at start) (get_or line start 0 ∷ []))
+      ∙ ap (map byte) (sym (range_more line at start le lt)))
+
+  pub nothing_next : (at start : ℕ) → length line ≤ start
+      → from at ≡ map byte (slice_range line at start) ++ from start → from at ≡ map byte (drop at line)
+  nothing_next at start past h =
+      let none : from start ≡ [] = rw (drop_all start line past) refl in
+      let all : slice_range line at start ≡ drop at line =
+      take_all (start - at) (drop at line) (omega (arith, length-drop at line)) in
+      h ∙ ap (λ (ps : List Piece). map byte (slice_range line at start) ++ ps) none
+      ∙ append-nil (map byte (slice_range line at start)) ∙ ap (map byte) all
+
+  pub found_next : (at start : ℕ) (o : CodeOccurrence) → at ≤ start → start < length line
+      → IsWithin (length line - start) o
+      → ◌≡◌ {A = Option Occurrence} (Some (occurrence_in o))
+      (occurrence_between ignore scripts (take start line) (drop start line))
+      → from at ≡ map byte (slice_range line at start) ++ from start
+      → (at ≤ start) × (start + o.width ≤ length line) × IsWithin (length line) o
+      × (from at ≡ map byte (slice_range line at start)
+      ++ found (occurrence_in o) (slice_range line start (start + o.width)) ∷ from (start + o.width))
+  found_next at start o le lt within is h =
+      let wide : start + o.width - start ≡ o.width = omega arith in (
+        le,
+        omega (arith, within.1),
+        (within.0, omega (arith, within.1), within.2, within.3),
+        h ∙ ap (λ (ps : List Piece). map byte (slice_range line at start) ++ ps)
+            (found_cut ignore scripts line start (occurrence_in o) lt within.0 (sym is)
+            ∙ ap (λ n. found (occurrence_in o) (take n (drop start line)) ∷ from (start + o.width))
+            (sym wide)),
+      )
+
+-- ---- one occurrence more is written
+
+module _ (at_pieces next_pieces : List Piece) (xs : List ℕ) (piece : Piece)
+    (split : at_pieces ≡ map byte xs ++ piece ∷ next_pieces) where
+  pub written_on : (out one two whole : List ℕ) → one ≡ out ++ xs → two ≡ one ++ written_for piece
+      → out ++ flat_map written_for at_pieces ≡ whole → two ++ flat_map written_for next_pieces ≡ whole
+  written_on out one two whole e f h =
+      let rest = flat_map written_for next_pieces in
+      let parts : flat_map written_for at_pieces ≡ xs ++ (written_for piece ++ rest) =
+      ap (flat_map written_for) split ∙ flat_map-append written_for (map byte xs) (piece ∷ next_pieces)
+      ∙ ap (λ (ys : List ℕ). ys ++ (written_for piece ++ rest)) (bytes_written xs) in
+      let grouped : two ++ rest ≡ out ++ (xs ++ (written_for piece ++ rest)) =
+      rw (f, e) (append_assoc (out ++ xs) (written_for piece) rest
+      ∙ append_assoc out xs (written_for piece ++ rest)) in
+      grouped ∙ ap (λ (ys : List ℕ). out ++ ys) (sym parts) ∙ h
+
+  any_split : list_any is_replaced at_pieces ≡ (is_replaced piece || list_any is_replaced next_pieces)
+  any_split = ap (list_any is_replaced) split
+      ∙ list_any-append is_replaced (map byte xs) (piece ∷ next_pieces)
+      ∙ ap (λ t. t || (is_replaced piece || list_any is_replaced next_pieces)) (bytes_kept xs)
+
+  pub replaced_now : (r whole : Bool) → is_replaced piece ≡ true
+      → (r || list_any is_replaced at_pieces) ≡ whole → true ≡ whole
+  replaced_now r whole is h =
+      let any : list_any is_replaced at_pieces ≡ true = any_split ∙ rw is refl in
+      sym (all_or r) ∙ ap (λ t. r || t) (sym any) ∙ h
+    where
+      all_or : (t : Bool) → (t || true) ≡ true
+      all_or true = refl
+      all_or false = refl
+
+  pub replaced_later : (r whole : Bool) → is_replaced piece ≡ false
+      → (r || list_any is_replaced at_pieces) ≡ whole → (r || list_any is_replaced next_pieces) ≡ whole
+  replaced_later r whole isnt h =
+      let any : list_any is_replaced at_pieces ≡ list_any is_replaced next_pieces = any_split ∙ rw isnt refl in
+      ap (λ t. r || t) (sym any) ∙ h
+
+-- at the end
+pub written_all : (pieces : List Piece) (xs out last whole : List ℕ) → pieces ≡ map byte xs
+    → last ≡ out ++ xs → out ++ flat_map written_for pieces ≡ whole → last ≡ whole
+written_all pieces xs out last whole e f h =
+    f ∙ ap (λ (ys : List ℕ). out ++ ys) (sym (ap (flat_map written_for) e ∙ bytes_written xs)) ∙ h
+
+pub replaced_all : (pieces : List Piece) (xs : List ℕ) (r whole : Bool) → pieces ≡ map byte xs
+    → (r || list_any is_replaced pieces) ≡ whole → r ≡ whole
+replaced_all pieces xs r whole e h =
+    let none : list_any is_replaced pieces ≡ false = ap (list_any is_replaced) e ∙ bytes_kept xs in
+    sym (no_more r) ∙ ap (λ t. r || t) (sym none) ∙ h
+  where
+    no_more : (t : Bool) → (t || false) ≡ t
+    no_more true = refl
+    no_more false = refl

@@ -1,0 +1,33 @@
+use Rattle.std.proofs.Common.{◌≡◌, ◌∙◌, drop, sym, ap, arith, rules, length, option_map, List, ℕ, refl, subst, Option}
+use Rattle.std.proofs.Common.{IfSome}
+use Rattle.std.proofs.lemmas.List.{drop_all}
+use Rattle.smap_record.specs.Record.{record_of}
+use Rattle.smap_trace.specs.Anywhere.{longer, longest}
+use Rattle.smap_trace.specs.OccurrenceView.{IsWithin, occurrence_in}
+use Rattle.smap_trace.specs.Views.{scripts_in}
+use Rattle.smap_trace.proofs.OccurrenceLemmas.{one_more_script, longer-none, either_within}
+use Rattle.smap_trace.proofs.scripts.ListedMaps.occurrence_at.Goals as goal
+
+pub loop-script-preserved : goal.loop-script-preserved
+loop-script-preserved c =
+    let scripts = c.args.self.now.scripts.now in
+    let found = c.occurrence_of-found in
+    record {
+      within = either_within (length c.args.text.now) c.loop-script.best found.result c.longer-best.result
+          c.loop-script.invariant.within found.ensures.within c.longer-best.ensures.either;
+      rest = one_more_script c.args.ignore_query c.args.text.now scripts c.loop-script.script-index
+          c.script-item.result (option_map occurrence_in c.loop-script.best)
+          (option_map occurrence_in found.result) (option_map occurrence_in c.longer-best.result)
+          (longest c.args.ignore_query (scripts_in scripts) c.args.text.now) c.as_bytes.result.now
+          (record_of c.script-item.result.1.now) c.loop-script-test.true c.longer-best.ensures.value
+          found.ensures.value (search rules) (search rules) c.loop-script.invariant.rest;
+    }
+
+pub returns-clause-value : goal.returns-clause-value
+returns-clause-value c =
+    let past = drop_all c.loop-script.script-index c.args.self.now.scripts.now c.loop-script-test.false in
+    let rest = rw past at c.loop-script.invariant.rest in
+    sym (longer-none (option_map occurrence_in c.loop-script.best)) ∙ rest
+
+pub returns-clause-within : goal.returns-clause-within
+returns-clause-within c = c.loop-script.invariant.within

@@ -1,0 +1,27 @@
+use Rattle.std.proofs.Common.{◌≡◌, ◌++◌, ◌∷◌, [], arith, rules, true, take, length}
+use Rattle.smap_trace.specs.ByLength.{is_among}
+use Rattle.smap_trace.specs.Views.{scripts_in}
+use Rattle.smap_trace.proofs.ByLengthLemmas.{one_length_more, is_last, one_script_more}
+use Rattle.smap_trace.proofs.scripts.url_lengths.Goals as goal
+use Rattle.smap_trace.proofs.scripts.url_lengths.Goals.{then-not-contains+in_ok-push, else-not-contains}
+
+pub loop-script-preserved : goal.loop-script-preserved
+loop-script-preserved c =
+    let scripts = c.args.scripts.now in
+    let i = c.loop-script.script-index in
+    let given = c.script-item.result in
+    let n = length given.0.now in
+    let before = c.loop-script.lengths.items in
+    let after = c.if-not-contains.lengths.items in
+    elim c.if-not-contains.branch [
+      | then-not-contains+in_ok-push w ↦
+          let is : after ≡ before ++ n ∷ [] = search rules in
+          one_script_more after scripts i n given (omega arith) (search rules)
+          (rw is (one_length_more n before (scripts_in (take i scripts)) c.loop-script.invariant))
+          (rw is (is_last n before))
+      | else-not-contains w ↦
+          let is : after ≡ before = search rules in
+          let among : is_among before n ≡ true = search rules in
+          one_script_more after scripts i n given (omega arith) (search rules)
+          (rw is c.loop-script.invariant) (rw is among)
+    ]

@@ -1,0 +1,23 @@
+-- For private contracts: scripts by the lengths of their URLs.
+use Rattle.std.specs.Prelude.{ℕ, Bool, List, [], ◌∷◌, length, nat_eq, Option, None}
+use Rattle.std.specs.List.{filter, list_all, list_any}
+use Rattle.smap_trace.specs.Anywhere.{Occurrence, longer, longest}
+use Rattle.smap_trace.specs.Scripts.{Script}
+
+-- The occurrence at the beginning of the text of a script whose URL has this length.
+abbrev pub of_length : Bool → List Script → List ℕ → ℕ → Option Occurrence
+of_length ignore scripts text n = longest ignore (filter (λ s. nat_eq (length s.0) n) scripts) text
+
+-- the one with the longest URL among these lengths
+abbrev pub longest_of : Bool → List Script → List ℕ → List ℕ → Option Occurrence
+longest_of ignore scripts text [] = None
+longest_of ignore scripts text (n ∷ ns) =
+    longer (of_length ignore scripts text n) (longest_of ignore scripts text ns)
+
+-- whether this is among the lengths
+abbrev pub is_among : List ℕ → ℕ → Bool
+is_among lengths n = list_any (λ m. nat_eq m n) lengths
+
+-- whether the length of each script's URL is among these
+abbrev pub are_lengths_of : List ℕ → List Script → Bool
+are_lengths_of lengths scripts = list_all (λ s. is_among lengths (length s.0)) scripts
