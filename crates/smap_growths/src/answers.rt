@@ -2,10 +2,17 @@
 
 use crate::{codec, maps, runs, traces, words};
 use smap_mappings::{Memory, WIDEST};
+use smap_trace::Finding;
 use std::alloc::Global;
 
 /// The answer of a call, as a string of bytes.
 pub(crate) type Answer = Result<Vec<u8>, Memory>;
+
+/// Positions anywhere in a line.
+const ANYWHERE: Finding = Finding {
+    anywhere: true,
+    ignore_query: false,
+};
 
 /// An answer of this program's own.
 pub(crate) fn said(alloc: Global, text: &[u8]) -> Answer {
@@ -29,7 +36,8 @@ pub(crate) fn answer_of(alloc: Global, call: &str, text: &[u8]) -> Option<Answer
         "from_slice" | "canonical" | "canonical_relative" | "canonical_mappings" | "flatten" => {
             maps::written(alloc, call, text)
         }
-        "translate_line" => traces::line(alloc, text),
+        "translate_line" => traces::line(alloc, text, Finding::FRAMES),
+        "translate_line_by" => traces::line(alloc, text, ANYWHERE),
         "translate" => traces::trace(alloc, text),
         "task_of" => words::task(alloc, text),
         _ => runs::ran(alloc, runs::task_named(call)?, text),

@@ -5,7 +5,7 @@ use crate::maps::BASE;
 use smap_io::Device;
 use smap_mappings::Memory;
 use smap_record::{Base, Limits, ReadError, SourceMap};
-use smap_trace::{TraceError, distinct_scripts, translate, translate_line};
+use smap_trace::{Finding, TraceError, distinct_scripts, translate, translate_line_by};
 use std::alloc::Global;
 
 /// The worked trace, whose frames are of each kind.
@@ -32,8 +32,9 @@ fn map(alloc: Global, text: &[u8]) -> Result<Option<SourceMap>, Memory> {
     }
 }
 
-/// After bytes that have to stay where memory runs out.
-pub(crate) fn line(alloc: Global, text: &[u8]) -> Answer {
+/// A line with two positions, of which the second is no frame's. It comes after bytes that have to stay
+/// where memory runs out.
+pub(crate) fn line(alloc: Global, text: &[u8], finding: Finding) -> Answer {
     let Some(map) = map(alloc, text)? else {
         return said(alloc, b"refused");
     };
@@ -42,9 +43,10 @@ pub(crate) fn line(alloc: Global, text: &[u8]) -> Answer {
     if !distinct_scripts(&scripts) {
         return Ok(out);
     }
-    match translate_line(
-        b"    at f (http://h/m/out.js:1:2)\n",
+    match translate_line_by(
+        b"    at http://h/m/out.js:1:5 (http://h/m/out.js:1:2)\n",
         &scripts,
+        finding,
         false,
         &mut out,
     ) {

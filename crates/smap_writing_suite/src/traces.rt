@@ -1,4 +1,5 @@
 //! Stack traces: frames, lookups, lines, and whole traces.
+mod anywhere;
 mod frames;
 mod lines;
 mod lookups;
