@@ -10,12 +10,13 @@ smap tidy: --relative --help
 smap flatten: --help
 smap lookup: --help
 smap respell: --help
-smap translate: --hide-ignored --help
-smap-trace: --hide-ignored --skip-broken --list --version --help
+smap scripts: --help
+smap translate: --hide-ignored --anywhere --ignore-query --help
+smap-trace: --anywhere --ignore-query --hide-ignored --skip-broken --check-all --list --verbose --version --help
 smap-maps: --version --help
-smap-maps check: --base --version --help
-smap-maps tidy: --base --relative --write --diff --version --help
-smap-maps flatten: --base --write --diff --version --help
+smap-maps check: --base --jobs --json --version --help
+smap-maps tidy: --base --jobs --json --absolute --relative --write --drop --diff --version --help
+smap-maps flatten: --base --jobs --json --write --drop --diff --version --help
 '
 
 # Writes what a program takes next: the options of one of its commands, or with one argument its commands.
@@ -107,7 +108,7 @@ _smap() {
     before=${words[last - 1]}
     if [[ $program != smap-trace ]]; then
         for ((i = 1; i < last; i++)); do
-            if [[ ${words[i]} == --base ]]; then
+            if [[ ${words[i]} == --base || ${words[i]} == --jobs ]]; then
                 ((i++))
             elif [[ ${words[i]} == [\<\>] ]]; then
                 break
@@ -129,7 +130,7 @@ _smap() {
         _smap_files "$word" '' "$piece" any
         return
         ;;
-    smap-maps:--base) return ;;
+    smap-maps:--base | smap-maps:--jobs) return ;;
     esac
     case $program:$word in
     *:-*) _smap_choose "$(_smap_words "$program" "$command")" "$word" ;;
