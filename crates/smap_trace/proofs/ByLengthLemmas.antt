@@ -11,7 +11,7 @@ use Rattle.std.proofs.lemmas.List.Folds.{list_all-map, list_all_more, list_any-a
 use Rattle.std.proofs.lemmas.Slice.Eq.{bytes_eq-Decides}
 use Rattle.smap_record.specs.Record.{Record}
 use Rattle.smap_trace.specs.Anywhere.{Occurrence, longer, longest, occurrence_of, place_after}
-use Rattle.smap_trace.specs.ByLength.{are_lengths_of, is_among, longest_of, of_length}
+use Rattle.smap_trace.specs.ByLength.{are_firsts_of, are_lengths_of, begins_among, is_among, longest_of, of_length}
 use Rattle.smap_trace.specs.Scripts.{Script, map_of}
 use Rattle.smap_trace.specs.declared.places.Place.{Place}
 use Rattle.smap_trace.specs.Views.{script_in, scripts_in}
@@ -449,11 +449,76 @@ is_last n (m ∷ ns) = go (nat_eq m n) refl (is_last n ns)
     go true e more = rw e refl
     go false e more = rw e more
 
-pub one_script_more : (ns : List ℕ) (xs : List Given) (i n : ℕ) (d : Given) → i < length xs
-    → n ≡ length (get_or xs i d).0.now → are_lengths_of ns (scripts_in (take i xs)) ≡ true
-    → is_among ns n ≡ true → are_lengths_of ns (scripts_in (take (i + 1) xs)) ≡ true
-one_script_more ns xs i n d lt is before here =
-    list_all-map (λ (s : Script). is_among ns (length s.0)) script_in (take (i + 1) xs)
-    ∙ list_all_more (λ (x : Given). is_among ns (length x.0.now)) xs i d lt
-    ∙ rw (sym (list_all-map (λ (s : Script). is_among ns (length s.0)) script_in (take i xs)) ∙ before)
-    (ap (is_among ns) (sym is) ∙ here)
+-- a test that the first scripts pass, and the next
+pub one_script_more : (test : Script → Bool) (xs : List Given) (i : ℕ) (d : Given) → i < length xs
+    → list_all test (scripts_in (take i xs)) ≡ true → test (script_in (get_or xs i d)) ≡ true
+    → list_all test (scripts_in (take (i + 1) xs)) ≡ true
+one_script_more test xs i d lt before here =
+    list_all-map test script_in (take (i + 1) xs)
+    ∙ list_all_more (λ (x : Given). test (script_in x)) xs i d lt
+    ∙ rw (sym (list_all-map test script_in (take i xs)) ∙ before) here
+
+pub one_length_is : (ns : List ℕ) (n : ℕ) (x : Given) → n ≡ length x.0.now → is_among ns n ≡ true
+    → is_among ns (length (script_in x).0) ≡ true
+one_length_is ns n x is here = ap (is_among ns) (sym is) ∙ here
+
+-- ---- first bytes
+
+pub one_first_more : (b : ℕ) (bs : List ℕ) (ss : List Script) → are_firsts_of bs ss ≡ true
+    → are_firsts_of (bs ++ b ∷ []) ss ≡ true
+one_first_more b bs [] h = refl
+one_first_more b bs (s ∷ ss) h = go (nat_eq (length s.0) 0) refl (is_among bs (get_or s.0 0 0)) refl h
+    (one_first_more b bs ss)
+  where
+    go : (e : Bool) → nat_eq (length s.0) 0 ≡ e → (t : Bool) → is_among bs (get_or s.0 0 0) ≡ t
+        → ((e || t) && are_firsts_of bs ss) ≡ true
+        → (are_firsts_of bs ss ≡ true → are_firsts_of (bs ++ b ∷ []) ss ≡ true)
+        → are_firsts_of (bs ++ b ∷ []) (s ∷ ss) ≡ true
+    go true e t f h more = rw e (more h)
+    go false e false f h more = cc
+    go false e true f h more = rw (e, more_lengths b bs (get_or s.0 0 0) f) (more h)
+
+pub is_first : (bs : List ℕ) (s : Script) → is_among bs (get_or s.0 0 0) ≡ true → begins_among bs s ≡ true
+is_first bs s h = go (nat_eq (length s.0) 0) refl
+  where
+    go : (e : Bool) → nat_eq (length s.0) 0 ≡ e → begins_among bs s ≡ true
+    go true e = rw e refl
+    go false e = rw (e, h) refl
+
+pub is_empty_first : (bs : List ℕ) (s : Script) → length s.0 ≡ 0 → begins_among bs s ≡ true
+is_empty_first bs s h = rw h refl
+
+no_match : (text url : List ℕ) (bs : List ℕ) → nat_lt 0 (length url) ≡ true
+    → is_among bs (get_or url 0 0) ≡ true
+    → (length text ≡ 0) ⊎ (is_among bs (get_or text 0 0) ≡ false) → starts_with nat_eq text url ≡ false
+no_match text [] bs some among out = absurd (grind (arith, nat_tests))
+no_match [] (x ∷ xs) bs some among out = refl
+no_match (t ∷ ts) (x ∷ xs) bs some among (inl e) = absurd (omega arith)
+no_match (t ∷ ts) (x ∷ xs) bs some among (inr out) = go (nat_eq x t) refl
+  where
+    go : (e : Bool) → nat_eq x t ≡ e → starts_with nat_eq (t ∷ ts) (x ∷ xs) ≡ false
+    go true e =
+        let same : is_among bs x ≡ is_among bs t = ap (is_among bs) (eqb-true x t e) in
+        cc
+    go false e = rw e refl
+
+-- No script occurs in a text that begins with none of these bytes.
+pub none_begins : (ignore : Bool) (text bs : List ℕ) (ss : List Script) → are_firsts_of bs ss ≡ true
+    → (length text ≡ 0) ⊎ (is_among bs (get_or text 0 0) ≡ false) → longest ignore ss text ≡ None
+none_begins ignore text bs [] all out = refl
+none_begins ignore text bs (s ∷ ss) all out = go (nat_eq (length s.0) 0) refl (nat_lt 0 (length s.0)) refl
+    (is_among bs (get_or s.0 0 0)) refl all (λ (h : are_firsts_of bs ss ≡ true). none_begins ignore text bs ss h out)
+  where
+    go : (e : Bool) → nat_eq (length s.0) 0 ≡ e → (l : Bool) → nat_lt 0 (length s.0) ≡ l
+        → (t : Bool) → is_among bs (get_or s.0 0 0) ≡ t → ((e || t) && are_firsts_of bs ss) ≡ true
+        → (are_firsts_of bs ss ≡ true → longest ignore ss text ≡ None)
+        → longest ignore (s ∷ ss) text ≡ None
+    go true e true f t g h more = absurd (grind (arith, nat_tests))
+    go true e false f t g h more =
+        let own : occurrence_of ignore s text ≡ None = rw f refl in
+        rw own (more h)
+    go false e false f t g h more = absurd (grind (arith, nat_tests))
+    go false e true f false g h more = cc
+    go false e true f true g h more =
+        let own : occurrence_of ignore s text ≡ None = rw (f, no_match text s.0 bs f g out) refl in
+        rw own (more h)

@@ -2,7 +2,7 @@
 ghost use Rattle.std.specs.Prelude.{◌↔◌, ◌≡◌, List, IsTrue, IfOk, IfSome, length, option_map, true};
 ghost use Rattle.smap_record.specs.Record.{record_of};
 ghost use Rattle.smap_trace.specs.Anywhere.{longest};
-ghost use Rattle.smap_trace.specs.ByLength.{are_lengths_of, of_length};
+ghost use Rattle.smap_trace.specs.ByLength.{are_firsts_of, are_lengths_of, of_length};
 ghost use Rattle.smap_trace.specs.OccurrenceView.{IsWithin, occurrence_in};
 ghost use Rattle.smap_trace.specs.Scripts.{AreDistinct, Script, map_of};
 ghost use Rattle.smap_trace.specs.Views.{scripts_in};
@@ -73,14 +73,17 @@ impl Maps for Listed<'_> {
     }
 }
 
-/// The scripts in a hashed table by their URLs, and the lengths of these.
+/// The scripts in a hashed table by their URLs, and the lengths and the first bytes of these.
 #[derive(Drop)]
 pub(crate) struct Indexed<'a> {
     maps: IndexMap<&'a [u8], &'a SourceMap>,
     // each once, so that a place of a text is looked up once per length and not once per script
     lengths: Vec<usize>,
+    // each once, so that at most places of a line no length is tried
+    firsts: Vec<u8>,
 
-    ghost of_all: { are_lengths_of lengths.items (scripts_in maps.entries) ≡ true },
+    ghost all_lengths: { are_lengths_of lengths.items (scripts_in maps.entries) ≡ true },
+    ghost all_firsts: { are_firsts_of firsts.items (scripts_in maps.entries) ≡ true },
 }
 
 impl Indexed<'_> {
@@ -122,6 +125,9 @@ impl Maps for Indexed<'_> {
     }
 
     fn occurrence_at(&self, text: &[u8], ignore_query: bool) -> Option<Occurrence<'_>> {
+        if text.is_empty() || !self.firsts.contains(&text[0]) {
+            return None;
+        }
         let mut best = None;
         for length in &self.lengths {
             let found = self.occurrence_of_length(*length, text, ignore_query);
@@ -145,6 +151,20 @@ fn url_lengths(alloc: Global, scripts: &[(&str, &SourceMap)]) -> Result<Vec<usiz
     Ok(lengths)
 }
 
+/// The first bytes of the scripts' URLs, each once.
+fn first_bytes(alloc: Global, scripts: &[(&str, &SourceMap)]) -> Result<Vec<u8>, AllocError>
+    ensures { IfOk result (λ v. are_firsts_of v.items (scripts_in scripts.now) ≡ true) }
+{
+    let mut firsts = Vec::new(alloc);
+    for script in scripts {
+        let url = script.0.as_bytes();
+        if !url.is_empty() && !firsts.contains(&url[0]) {
+            firsts.push(url[0])?;
+        }
+    }
+    Ok(firsts)
+}
+
 /// The scripts in a table by their URLs.
 pub(crate) fn by_url<'a>(
     alloc: Global,
@@ -154,9 +174,14 @@ pub(crate) fn by_url<'a>(
     ensures { IfOk result (λ m. scripts_in m.maps.entries ≡ scripts_in scripts.now) }
 {
     let lengths = url_lengths(alloc, scripts)?;
+    let firsts = first_bytes(alloc, scripts)?;
     let mut maps = IndexMap::new(alloc);
     for script in scripts {
         maps.insert(script.0.as_bytes(), script.1)?;
     }
-    Ok(Indexed { maps, lengths })
+    Ok(Indexed {
+        maps,
+        lengths,
+        firsts,
+    })
 }

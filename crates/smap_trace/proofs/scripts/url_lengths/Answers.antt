@@ -1,7 +1,8 @@
-use Rattle.std.proofs.Common.{◌≡◌, ◌++◌, ◌∷◌, [], arith, rules, true, take, length}
+use Rattle.std.proofs.Common.{◌≡◌, ◌++◌, ◌∷◌, [], arith, rules, true, take, length, get_or}
 use Rattle.smap_trace.specs.ByLength.{is_among}
+use Rattle.smap_trace.specs.Scripts.{Script}
 use Rattle.smap_trace.specs.Views.{scripts_in}
-use Rattle.smap_trace.proofs.ByLengthLemmas.{one_length_more, is_last, one_script_more}
+use Rattle.smap_trace.proofs.ByLengthLemmas.{one_length_is, one_length_more, is_last, one_script_more}
 use Rattle.smap_trace.proofs.scripts.url_lengths.Goals as goal
 use Rattle.smap_trace.proofs.scripts.url_lengths.Goals.{then-not-contains+in_ok-push, else-not-contains}
 
@@ -16,12 +17,13 @@ loop-script-preserved c =
     elim c.if-not-contains.branch [
       | then-not-contains+in_ok-push w ↦
           let is : after ≡ before ++ n ∷ [] = search rules in
-          one_script_more after scripts i n given (omega arith) (search rules)
+          one_script_more (λ (s : Script). is_among after (length s.0)) scripts i given (omega arith)
           (rw is (one_length_more n before (scripts_in (take i scripts)) c.loop-script.invariant))
-          (rw is (is_last n before))
+          (one_length_is after n (get_or scripts i given) (search rules) (rw is (is_last n before)))
       | else-not-contains w ↦
           let is : after ≡ before = search rules in
           let among : is_among before n ≡ true = search rules in
-          one_script_more after scripts i n given (omega arith) (search rules)
-          (rw is c.loop-script.invariant) (rw is among)
+          one_script_more (λ (s : Script). is_among after (length s.0)) scripts i given (omega arith)
+          (rw is c.loop-script.invariant)
+          (one_length_is after n (get_or scripts i given) (search rules) (rw is among))
     ]
