@@ -1,5 +1,5 @@
 -- An input has one answer.
-use Rattle.std.proofs.Common.{◌≡◌, ◌≢◌, ◌∙◌, ◌⊎◌, inl, inr, ℕ, ◌<◌, Bool, List, [], ◌∷◌, ◌++◌, length, map}
+use Rattle.std.proofs.Common.{◌≡◌, ◌≢◌, ◌∙◌, ◌⊎◌, inl, inr, ℕ, ◌<◌, List, [], ◌∷◌, ◌++◌, length, map}
 use Rattle.std.proofs.Common.{take, get_or, Some, None, Result, Ok, Err, refl, sym, ap, subst, arith}
 use Rattle.std.proofs.Common.{append_assoc, append-nil, length-append}
 use Rattle.std.specs.Prelude.{Contains, IsErr, slice_get}
@@ -12,7 +12,7 @@ use Rattle.smap_record.specs.declared.fault.Fault.{Fault}
 use Rattle.smap_record.specs.Reading.{reading}
 use Rattle.smap_record.specs.Record.{Record, record_of}
 use Rattle.smap_io.specs.Limits.{longest_input}
-use Rattle.smap_trace.specs.Translation.{AreDistinct, Script, translation}
+use Rattle.smap_trace.specs.Translation.{AreDistinct, Fate, Script, translation_by}
 use Rattle.smap_bundle.specs.Header.{BeginsWithHeader, HasNoHeader, trace_line}
 use Rattle.smap_bundle.specs.declared.fault.EntryFault.TheVariants as wrong
 use Rattle.smap_bundle.specs.Bundle.{Answer, AreEntries, FaultAt, FaultOfEntry, FaultOfMap, IsEntry, Where}
@@ -167,21 +167,21 @@ one_entry entry rest other other_rest s t whole e f =
 
 -- ---- the answer
 
-abbrev End : Bool → List Script → List ℕ → Answer → Type 0
-End hide scripts rest answer =
-    ((trace : List ℕ) × (rest ≡ trace_line ++ trace) × (answer ≡ done (translation scripts hide trace)))
+abbrev End : (List Script → List ℕ → Fate) → List Script → List ℕ → Answer → Type 0
+End fates scripts rest answer =
+    ((trace : List ℕ) × (rest ≡ trace_line ++ trace) × (answer ≡ done (translation_by (fates scripts) trace)))
     ⊎ FaultAt scripts rest answer
 
-one_end : (hide : Bool) (scripts : List Script) (rest : List ℕ) (a b : Answer) → End hide scripts rest a
-    → End hide scripts rest b → a ≡ b
-one_end hide scripts rest a b (inl x) (inl y) =
+one_end : (fates : List Script → List ℕ → Fate) (scripts : List Script) (rest : List ℕ) (a b : Answer) → End fates scripts rest a
+    → End fates scripts rest b → a ≡ b
+one_end fates scripts rest a b (inl x) (inl y) =
     let same = append_cancel_left trace_line x.0 y.0 (sym x.1 ∙ y.1) in
-    x.2 ∙ ap (λ (t : List ℕ). done (translation scripts hide t)) same ∙ sym y.2
-one_end hide scripts rest a b (inl x) (inr y) =
+    x.2 ∙ ap (λ (t : List ℕ). done (translation_by (fates scripts) t)) same ∙ sym y.2
+one_end fates scripts rest a b (inl x) (inr y) =
     absurd (no_fault_of_trace scripts x.0 b (subst (λ (t : List ℕ). FaultAt scripts t b) x.1 y))
-one_end hide scripts rest a b (inr x) (inl y) =
+one_end fates scripts rest a b (inr x) (inl y) =
     absurd (no_fault_of_trace scripts y.0 a (subst (λ (t : List ℕ). FaultAt scripts t a) y.1 x))
-one_end hide scripts rest a b (inr x) (inr y) = one_fault scripts rest a b x y
+one_end fates scripts rest a b (inr x) (inr y) = one_fault scripts rest a b x y
 
 -- a URL that later scripts don't repeat
 new_in : (seen : List Script) (t : Script) (ts : List Script) → AreDistinct (seen ++ t ∷ ts) → IsNew seen t.0
@@ -195,31 +195,31 @@ new_in seen t ts distinct c =
     ∙ ap (λ (s : Script). s.0) (sym (get_or-append_seam seen t ts t)))
 
 -- after an entry neither the trace nor a fault comes
-no_end : (hide : Bool) (seen : List Script) (entry rest : List ℕ) (t : Script) (answer : Answer)
-    → IsEntry entry t → IsNew seen t.0 → End hide seen (entry ++ rest) answer → ⊥
-no_end hide seen entry rest t answer e new (inl x) = no_entry_of_trace entry rest x.0 t e x.1
-no_end hide seen entry rest t answer e new (inr x) = no_fault seen entry rest t answer e new x
+no_end : (fates : List Script → List ℕ → Fate) (seen : List Script) (entry rest : List ℕ) (t : Script) (answer : Answer)
+    → IsEntry entry t → IsNew seen t.0 → End fates seen (entry ++ rest) answer → ⊥
+no_end fates seen entry rest t answer e new (inl x) = no_entry_of_trace entry rest x.0 t e x.1
+no_end fates seen entry rest t answer e new (inr x) = no_fault seen entry rest t answer e new x
 
-one_chain : (hide : Bool) (ss ts seen : List Script) (e f r q : List ℕ) (a b : Answer) → AreEntries e ss
+one_chain : (fates : List Script → List ℕ → Fate) (ss ts seen : List Script) (e f r q : List ℕ) (a b : Answer) → AreEntries e ss
     → AreEntries f ts → e ++ r ≡ f ++ q
-    → AreDistinct (seen ++ ss) → AreDistinct (seen ++ ts) → End hide (seen ++ ss) r a
-    → End hide (seen ++ ts) q b → a ≡ b
-one_chain hide [] [] seen e f r q a b p g same d k x y =
+    → AreDistinct (seen ++ ss) → AreDistinct (seen ++ ts) → End fates (seen ++ ss) r a
+    → End fates (seen ++ ts) q b → a ≡ b
+one_chain fates [] [] seen e f r q a b p g same d k x y =
     let rests : q ≡ r = sym (ap (λ (xs : List ℕ). xs ++ q) g) ∙ sym same ∙ ap (λ (xs : List ℕ). xs ++ r) p in
-    one_end hide (seen ++ []) r a b x (subst (λ (t : List ℕ). End hide (seen ++ []) t b) rests y)
-one_chain hide [] (t ∷ ts) seen e f r q a b p g same d k x y =
+    one_end fates (seen ++ []) r a b x (subst (λ (t : List ℕ). End fates (seen ++ []) t b) rests y)
+one_chain fates [] (t ∷ ts) seen e f r q a b p g same d k x y =
     let text : r ≡ g.0 ++ (g.1 ++ q) = sym (ap (λ (xs : List ℕ). xs ++ r) p)
     ∙ same ∙ ap (λ (xs : List ℕ). xs ++ q) g.2 ∙ append_assoc g.0 g.1 q in
-    let end = subst (λ (xs : List ℕ). End hide (seen ++ []) xs a) text x in
-    absurd (no_end hide seen g.0 (g.1 ++ q) t a g.3 (new_in seen t ts k)
-    (subst (λ (zs : List Script). End hide zs (g.0 ++ (g.1 ++ q)) a) (append-nil seen) end))
-one_chain hide (s ∷ ss) [] seen e f r q a b p g same d k x y =
+    let end = subst (λ (xs : List ℕ). End fates (seen ++ []) xs a) text x in
+    absurd (no_end fates seen g.0 (g.1 ++ q) t a g.3 (new_in seen t ts k)
+    (subst (λ (zs : List Script). End fates zs (g.0 ++ (g.1 ++ q)) a) (append-nil seen) end))
+one_chain fates (s ∷ ss) [] seen e f r q a b p g same d k x y =
     let text : q ≡ p.0 ++ (p.1 ++ r) = sym (ap (λ (xs : List ℕ). xs ++ q) g)
     ∙ sym same ∙ ap (λ (xs : List ℕ). xs ++ r) p.2 ∙ append_assoc p.0 p.1 r in
-    let end = subst (λ (xs : List ℕ). End hide (seen ++ []) xs b) text y in
-    absurd (no_end hide seen p.0 (p.1 ++ r) s b p.3 (new_in seen s ss d)
-    (subst (λ (zs : List Script). End hide zs (p.0 ++ (p.1 ++ r)) b) (append-nil seen) end))
-one_chain hide (s ∷ ss) (t ∷ ts) seen e f r q a b p g same d k x y =
+    let end = subst (λ (xs : List ℕ). End fates (seen ++ []) xs b) text y in
+    absurd (no_end fates seen p.0 (p.1 ++ r) s b p.3 (new_in seen s ss d)
+    (subst (λ (zs : List Script). End fates zs (p.0 ++ (p.1 ++ r)) b) (append-nil seen) end))
+one_chain fates (s ∷ ss) (t ∷ ts) seen e f r q a b p g same d k x y =
     let texts : p.0 ++ (p.1 ++ r) ≡ g.0 ++ (g.1 ++ q) = sym (append_assoc p.0 p.1 r)
     ∙ sym (ap (λ (xs : List ℕ). xs ++ r) p.2) ∙ same
     ∙ ap (λ (xs : List ℕ). xs ++ q) g.2 ∙ append_assoc g.0 g.1 q in
@@ -227,13 +227,13 @@ one_chain hide (s ∷ ss) (t ∷ ts) seen e f r q a b p g same d k x y =
     let left : seen ++ (s ∷ ss) ≡ (seen ++ s ∷ []) ++ ss = sym (append_assoc seen (s ∷ []) ss) in
     let right : seen ++ (t ∷ ts) ≡ (seen ++ s ∷ []) ++ ts = ap (λ (z : Script). seen ++ (z ∷ ts)) (sym one.0)
     ∙ sym (append_assoc seen (s ∷ []) ts) in
-    one_chain hide ss ts (seen ++ s ∷ []) p.1 g.1 r q a b p.4 g.4 one.1 (subst AreDistinct left d)
+    one_chain fates ss ts (seen ++ s ∷ []) p.1 g.1 r q a b p.4 g.4 one.1 (subst AreDistinct left d)
     (subst AreDistinct right k)
-    (subst (λ (zs : List Script). End hide zs r a) left x)
-    (subst (λ (zs : List Script). End hide zs q b) right y)
+    (subst (λ (zs : List Script). End fates zs r a) left x)
+    (subst (λ (zs : List Script). End fates zs q b) right y)
 
 pub one_answer : OneAnswer
-one_answer hide input a b x y =
-    one_chain hide x.scripts y.scripts [] x.reads.entries y.reads.entries x.rest y.rest a b x.reads.are
+one_answer fates input a b x y =
+    one_chain fates x.scripts y.scripts [] x.reads.entries y.reads.entries x.rest y.rest a b x.reads.are
     y.reads.are
     (sym x.reads.whole ∙ y.reads.whole) x.reads.distinct y.reads.distinct x.is y.is

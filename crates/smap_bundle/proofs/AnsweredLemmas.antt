@@ -11,7 +11,7 @@ use Rattle.smap_record.specs.Faults.{Checked}
 use Rattle.smap_record.specs.Reading.{reading}
 use Rattle.smap_record.specs.Record.{ReadMap, record_of}
 use Rattle.smap_io.specs.Limits.{longest_input}
-use Rattle.smap_trace.specs.Translation.{AreDistinct, Script, translation}
+use Rattle.smap_trace.specs.Translation.{AreDistinct, Fate, Script, translation_by}
 use Rattle.smap_bundle.specs.declared.fault.EntryFault.TheVariants as wrong
 use Rattle.smap_bundle.specs.Header.{BeginsWithHeader, HasNoHeader, IsHeader, trace_line}
 use Rattle.smap_bundle.specs.Bundle.{Answer, IsAnswer, AreEntries, FaultAt, FaultOfEntry, IsEntry, done}
@@ -169,18 +169,18 @@ module _ (seen : List Script) (text script base : List ℕ) (n : ℕ) (more : Li
 
 -- ---- the entries
 
-abbrev Answered : Bool → List ℕ → Type 0
-Answered hide input = (answer : Answer) × IsAnswer hide input answer
+abbrev Answered : (List Script → List ℕ → Fate) → List ℕ → Type 0
+Answered fates input = (answer : Answer) × IsAnswer fates input answer
 
 -- what is left after some entries has an answer, if it has one after an entry more
-after_entries : (hide : Bool) (seen : List Script) (entries text : List ℕ) → AreEntries entries seen
-    → AreDistinct seen → ((t : TakesOne seen text) → Answered hide ((entries ++ t.entry) ++ t.rest))
-    → Answered hide (entries ++ text)
-after_entries hide seen entries text are distinct more = go (beginning text)
+after_entries : (fates : List Script → List ℕ → Fate) (seen : List Script) (entries text : List ℕ)
+    → AreEntries entries seen → AreDistinct seen → ((t : TakesOne seen text) → Answered fates ((entries ++ t.entry) ++ t.rest))
+    → Answered fates (entries ++ text)
+after_entries fates seen entries text are distinct more = go (beginning text)
   where
     ends : (answer : Answer) → ((trace : List ℕ) × (text ≡ trace_line ++ trace)
-        × (answer ≡ done (translation seen hide trace))) ⊎ FaultAt seen text answer
-        → Answered hide (entries ++ text)
+        × (answer ≡ done (translation_by (fates seen) trace))) ⊎ FaultAt seen text answer
+        → Answered fates (entries ++ text)
     ends answer is = (
       answer,
       record {
@@ -191,27 +191,27 @@ after_entries hide seen entries text are distinct more = go (beginning text)
       },
     )
 
-    next : Next seen text → Answered hide (entries ++ text)
+    next : Next seen text → Answered fates (entries ++ text)
     next (inl f) = ends f.0 (inr f.1)
-    next (inr t) = subst (Answered hide)
+    next (inr t) = subst (Answered fates)
         (append_assoc entries t.entry t.rest ∙ ap (λ (xs : List ℕ). entries ++ xs) (sym t.whole)) (more t)
 
-    go : Beginning text → Answered hide (entries ++ text)
-    go (of_trace trace e) = ends (done (translation seen hide trace)) (inl (trace, e, refl))
+    go : Beginning text → Answered fates (entries ++ text)
+    go (of_trace trace e) = ends (done (translation_by (fates seen) trace)) (inl (trace, e, refl))
     go (of_neither none) = ends (refusal (length seen) wrong.Header) (inr (inl (none, refl)))
     go (of_header script base n more b) = next (headed seen text script base n more b)
 
 -- by at most this many bytes more
-answered_within : (most : ℕ) (hide : Bool) (seen : List Script) (entries text : List ℕ) → length text < most
-    → AreEntries entries seen → AreDistinct seen → Answered hide (entries ++ text)
-answered_within zero hide seen entries text within are distinct = absurd (omega (arith, within))
-answered_within (suc most) hide seen entries text within are distinct =
-    after_entries hide seen entries text are distinct (λ t.
+answered_within : (most : ℕ) (fates : List Script → List ℕ → Fate) (seen : List Script)
+    (entries text : List ℕ) → length text < most → AreEntries entries seen → AreDistinct seen → Answered fates (entries ++ text)
+answered_within zero fates seen entries text within are distinct = absurd (omega (arith, within))
+answered_within (suc most) fates seen entries text within are distinct =
+    after_entries fates seen entries text are distinct (λ t.
     let len = ap length t.whole ∙ length-append t.entry t.rest in
-    answered_within most hide (seen ++ t.script ∷ []) (entries ++ t.entry) t.rest
+    answered_within most fates (seen ++ t.script ∷ []) (entries ++ t.entry) t.rest
     (omega (arith, len, within, t.some)) (entries_more seen entries t.entry t.script are t.is)
     (distinct_more seen t.script distinct t.new_script))
 
 pub has_answer : HasAnswer
-has_answer hide input = answered_within (length input + 1) hide [] [] input (omega arith) refl
+has_answer fates input = answered_within (length input + 1) fates [] [] input (omega arith) refl
     (λ i j d lt within. absurd (omega (arith, within)))

@@ -16,7 +16,7 @@ use Rattle.smap_record.specs.Reading.{reading}
 use Rattle.smap_record.specs.Record.{record_of}
 use Rattle.smap_io.specs.Limits.{longest_input}
 use Rattle.smap_trace.specs.Frame.{lacks}
-use Rattle.smap_trace.specs.Translation.{AreDistinct, Script}
+use Rattle.smap_trace.specs.Translation.{AreDistinct, Fate, Script}
 use Rattle.smap_io.specs.declared.device.Device.{Device}
 use Rattle.smap_io.specs.Device.{device_failures, has_ended}
 use Rattle.smap_io.specs.Reading.{Gave, IsWithinLine, ReadsLine}
@@ -335,10 +335,10 @@ distinct_more ss s distinct new i j d lt within e = go (cases_lt j (length ss))
         )
 
 -- a fault after entries is the answer
-pub answered : (hide : Bool) (ss : List Script) (entries line text : List ℕ) (answer : Answer)
+pub answered : (fates : List Script → List ℕ → Fate) (ss : List Script) (entries line text : List ℕ) (answer : Answer)
     → AreEntries entries ss → AreDistinct ss
-    → FaultAt ss (line ++ text) answer → IsAnswer hide ((entries ++ line) ++ text) answer
-answered hide ss entries line text answer are distinct fault = record {
+    → FaultAt ss (line ++ text) answer → IsAnswer fates ((entries ++ line) ++ text) answer
+answered fates ss entries line text answer are distinct fault = record {
   scripts = ss;
   rest = line ++ text;
   reads = record {

@@ -1,5 +1,5 @@
 -- Known answers of bundles.
-use Rattle.std.proofs.Common.{◌≡◌, ◌∙◌, inl, inr, ℕ, ◌<◌, ◌≤◌, Bool, true, List, [], length, codes, None}
+use Rattle.std.proofs.Common.{◌≡◌, ◌∙◌, inl, inr, ℕ, ◌<◌, ◌≤◌, true, List, [], length, codes, None}
 use Rattle.std.proofs.Common.{refl, sym, ap, arith, lit<, lit≤, append-nil, length-append, get_or, true≢false}
 use lib.Utf8.{encode}
 use Rattle.std.specs.Prelude.{IsErr}
@@ -9,6 +9,7 @@ use Rattle.url.proofs.OnLiterals.{url_on_literals}
 use Rattle.url.specs.Parser.{parse_url}
 use Rattle.smap_io.specs.Limits.{longest_input}
 use Rattle.smap_trace.specs.Frame.{lacks}
+use Rattle.smap_trace.specs.Translation.{Fate, Script}
 use Rattle.smap_bundle.specs.declared.fault.EntryFault.TheVariants as wrong
 use Rattle.smap_bundle.specs.Bundle.{Answer, IsAnswer, FaultAt, FaultOfEntry, refusal, too_long}
 use Rattle.smap_bundle.specs.Header.{BeginsWithHeader, HasNoHeader, IsNumber, IsWord, longest_header, header}
@@ -16,8 +17,8 @@ use Rattle.smap_bundle.specs.Header.{trace_line}
 use Rattle.smap_bundle.proofs.HeaderLemmas.{begun}
 
 -- a fault before any entry
-at_once : (hide : Bool) (text : List ℕ) (answer : Answer) → FaultAt [] text answer → IsAnswer hide text answer
-at_once hide text answer fault = record {
+at_once : (fates : List Script → List ℕ → Fate) (text : List ℕ) (answer : Answer) → FaultAt [] text answer → IsAnswer fates text answer
+at_once fates text answer fault = record {
   scripts = [];
   rest = text;
   reads = record {
@@ -40,8 +41,8 @@ no_header = record {
       omega (arith, first);
 }
 
-trace_without_feed : (hide : Bool) → IsAnswer hide (codes "trace") (refusal 0 wrong.Header)
-trace_without_feed hide = at_once hide (codes "trace") (refusal 0 wrong.Header) (inl (no_header, refl))
+trace_without_feed : (fates : List Script → List ℕ → Fate) → IsAnswer fates (codes "trace") (refusal 0 wrong.Header)
+trace_without_feed fates = at_once fates (codes "trace") (refusal 0 wrong.Header) (inl (no_header, refl))
 
 -- ---- the script `a`
 
@@ -70,10 +71,10 @@ begins base digits n is_word is_number short = record {
   };
 }
 
-after_header : (hide : Bool) (text base : List ℕ) (n : ℕ) (answer : Answer)
+after_header : (fates : List Script → List ℕ → Fate) (text base : List ℕ) (n : ℕ) (answer : Answer)
     → BeginsWithHeader text (codes "a") base n [] → FaultOfEntry [] (codes "a") base n [] answer
-    → IsAnswer hide text answer
-after_header hide text base n answer b fault = at_once hide text answer (inr (
+    → IsAnswer fates text answer
+after_header fates text base n answer b fault = at_once fates text answer (inr (
   (λ (none : HasNoHeader text). none.no_header (codes "a") base [] n b),
   (codes "a", base, n, [], b, fault),
 ))
@@ -98,20 +99,20 @@ unfolding is_utf8 chars encode
 host = word (codes "http://h/") (lit< tt) refl refl refl
 
 -- the length comes before the base
-too_long_map : (hide : Bool) → IsAnswer hide (codes "map a b 268435457\n") too_long
-too_long_map hide = after_header hide (codes "map a b 268435457\n") (codes "b") 268435457 too_long
+too_long_map : (fates : List Script → List ℕ → Fate) → IsAnswer fates (codes "map a b 268435457\n") too_long
+too_long_map fates = after_header fates (codes "map a b 268435457\n") (codes "b") 268435457 too_long
     (begins (codes "b") (codes "268435457") 268435457 b too_many_bytes (lit≤ tt)) (inl (lit< tt, refl))
 
 -- the base comes before the end of the input
-no_url : (hide : Bool) → IsAnswer hide (codes "map a b 0\n") (refusal 0 wrong.Base)
+no_url : (fates : List Script → List ℕ → Fate) → IsAnswer fates (codes "map a b 0\n") (refusal 0 wrong.Base)
 unfolding url_on_literals
-no_url hide = after_header hide (codes "map a b 0\n") (codes "b") 0 (refusal 0 wrong.Base)
+no_url fates = after_header fates (codes "map a b 0\n") (codes "b") 0 (refusal 0 wrong.Base)
     (begins (codes "b") (codes "0") 0 b zero_bytes (lit≤ tt))
     (inr ((λ (lt : longest_input < 0). omega (arith, lt)), inr ((λ c. omega (arith, c.1)), inl (refl, refl))))
 
-ends_in_map : (hide : Bool) → IsAnswer hide (codes "map a http://h/ 0\n") (refusal 0 wrong.CutOff)
+ends_in_map : (fates : List Script → List ℕ → Fate) → IsAnswer fates (codes "map a http://h/ 0\n") (refusal 0 wrong.CutOff)
 unfolding url_on_literals
-ends_in_map hide = after_header hide (codes "map a http://h/ 0\n") (codes "http://h/") 0
+ends_in_map fates = after_header fates (codes "map a http://h/ 0\n") (codes "http://h/") 0
     (refusal 0 wrong.CutOff) (begins (codes "http://h/") (codes "0") 0 host zero_bytes (lit≤ tt))
     (inr (
       (λ (lt : longest_input < 0). omega (arith, lt)),

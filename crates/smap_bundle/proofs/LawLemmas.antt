@@ -17,7 +17,7 @@ no_trace trace e =
     omega (arith, l)
 
 pub first_rows : FirstRows
-first_rows hide = (
+first_rows fates = (
   record {
     scripts = [];
     rest = [];

@@ -1,6 +1,6 @@
 -- The bundle that `translate` reads: entries, then the line `trace`, then the trace up to the end of the
 -- input. An entry is a header, the bytes of a map, and a line feed. The format is this project's own.
-use Rattle.std.specs.Prelude.{◌≡◌, ◌≢◌, ◌⊎◌, ℕ, ◌<◌, ◌≤◌, Bool, List, [], ◌∷◌, ◌++◌, length, Contains, map}
+use Rattle.std.specs.Prelude.{◌≡◌, ◌≢◌, ◌⊎◌, ℕ, ◌<◌, ◌≤◌, List, [], ◌∷◌, ◌++◌, length, Contains, map}
 use Rattle.std.specs.Prelude.{slice_get, take, Some, None, Ok, Err, IsErr}
 use Rattle.url.specs.Parser.{parse_url}
 use Rattle.url.specs.Parts.{Parts}
@@ -8,7 +8,7 @@ use Rattle.smap_record.specs.declared.fault.Fault.{Fault}
 use Rattle.smap_record.specs.Reading.{reading}
 use Rattle.smap_record.specs.Record.{ReadMap, record_of}
 pub use Rattle.smap_record.specs.Record.{usual}
-use Rattle.smap_trace.specs.Translation.{AreDistinct, Script, translation}
+use Rattle.smap_trace.specs.Translation.{AreDistinct, Fate, Script, translation_by}
 use Rattle.smap_io.specs.Limits.{longest_input}
 use Rattle.smap_bundle.specs.declared.fault.EntryFault.{EntryFault}
 use Rattle.smap_bundle.specs.declared.fault.EntryFault.TheVariants as wrong
@@ -90,11 +90,11 @@ FaultAt seen text answer = Where (HasNoHeader text) (answer ≡ refusal (length 
     ((script : List ℕ) × (base : List ℕ) × (n : ℕ) × (more : List ℕ)
     × BeginsWithHeader text script base n more × FaultOfEntry seen script base n more answer)
 
--- What `translate` answers for the input.
-pub record IsAnswer (hide : Bool) (input : List ℕ) (answer : Answer) : Type 0 where
+-- What `translate` answers for the input, where this becomes of a line by some scripts.
+pub record IsAnswer (fates : List Script → List ℕ → Fate) (input : List ℕ) (answer : Answer) : Type 0 where
   pub scripts : List Script
   pub rest : List ℕ
   pub reads : BeginsWithEntries input scripts rest
   pub is : ((trace : List ℕ) × (rest ≡ trace_line ++ trace)
-      × (answer ≡ done (translation scripts hide trace)))
+      × (answer ≡ done (translation_by (fates scripts) trace)))
       ⊎ FaultAt scripts rest answer

@@ -1,7 +1,7 @@
 -- Laws about bundles, for every input.
-use Rattle.std.specs.Prelude.{◌≡◌, ℕ, Bool, List, [], ◌++◌, codes}
+use Rattle.std.specs.Prelude.{◌≡◌, ℕ, List, [], ◌++◌, codes}
 use Rattle.smap_bundle.specs.declared.fault.EntryFault.TheVariants as wrong
-use Rattle.smap_trace.specs.Translation.{Script}
+use Rattle.smap_trace.specs.Translation.{Fate, Script}
 use Rattle.smap_bundle.specs.Header.{BeginsWithHeader, IsHeader, trace_line}
 use Rattle.smap_bundle.specs.Bundle.{Answer, BeginsWithEntries, IsAnswer, done, refusal}
 use Rattle.smap_bundle.specs.Reach.{EndsWithinEntry}
@@ -20,17 +20,18 @@ OneBeginning = (text script base more other_script other_base other_more : List 
 
 -- An input has at most one answer.
 abbrev pub OneAnswer : Type 0
-OneAnswer = (hide : Bool) (input : List ℕ) (a b : Answer) → IsAnswer hide input a → IsAnswer hide input b
-    → a ≡ b
+OneAnswer = (fates : List Script → List ℕ → Fate) (input : List ℕ) (a b : Answer)
+    → IsAnswer fates input a → IsAnswer fates input b → a ≡ b
 
 -- An input has an answer.
 abbrev pub HasAnswer : Type 0
-HasAnswer = (hide : Bool) (input : List ℕ) → (answer : Answer) × IsAnswer hide input answer
+HasAnswer = (fates : List Script → List ℕ → Fate) (input : List ℕ)
+    → (answer : Answer) × IsAnswer fates input answer
 
 -- The shortest inputs: an empty one has no header, and a trace without entries and lines gives nothing.
 abbrev pub FirstRows : Type 0
-FirstRows = (hide : Bool)
-    → IsAnswer hide [] (refusal 0 wrong.Header) × IsAnswer hide (codes "trace\n") (done [])
+FirstRows = (fates : List Script → List ℕ → Fate)
+    → IsAnswer fates [] (refusal 0 wrong.Header) × IsAnswer fates (codes "trace\n") (done [])
 
 -- What ends within an entry has the line `trace` after its entries at most as its end.
 abbrev pub TraceIsUnread : Type 0

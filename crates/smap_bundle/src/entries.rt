@@ -1,5 +1,5 @@
 //! Reading the entries of a bundle.
-ghost use Rattle.std.specs.Prelude.{◌≡◌, ◌≢◌, ℕ, Bool, List, ◌-◌, ◌^◌, ◌<◌, ◌≤◌, ◌++◌, ◌∷◌, [], IfOk, IfErr};
+ghost use Rattle.std.specs.Prelude.{◌≡◌, ◌≢◌, ℕ, List, ◌-◌, ◌^◌, ◌<◌, ◌≤◌, ◌++◌, ◌∷◌, [], IfOk, IfErr};
 ghost use Rattle.std.specs.Prelude.{MatchResult, OnOk, Contains, None, Some, false, length, map, min};
 ghost use Rattle.std.specs.Prelude.{slice_get, true};
 ghost use Rattle.smap_io.specs.Calls.{MakesAtMost, SpendsCalls, StopsInTime};
@@ -9,7 +9,7 @@ ghost use Rattle.smap_io.specs.Reading.{Gave};
 ghost use Rattle.smap_record.specs.Reading.{reading};
 ghost use Rattle.smap_record.specs.Record.{record_of};
 ghost use Rattle.smap_record.specs.declared.fault.Fault.{Fault};
-ghost use Rattle.smap_trace.specs.Translation.{AreDistinct};
+ghost use Rattle.smap_trace.specs.Translation.{AreDistinct, Fate, Script};
 ghost use Rattle.smap_bundle.specs.Bundle as spec;
 ghost use Rattle.smap_bundle.specs.Bundle.{usual};
 ghost use Rattle.smap_bundle.specs.Entries.{TakesEntries, TakesEntry, TakesMap, UsesCalls, IsNew, cut_off};
@@ -232,8 +232,8 @@ pub fn read_bundle<R: Read>(alloc: Global, reader: &mut Device<R>) -> Result<Bun
     // decides it: the line of the fault, or for a fault of a map the byte after the map. With Read and Memory
     // too, nothing was read past the entry or past the line `trace`. Read comes with a failure of the reader,
     // or if at least as many bytes as calls were read, and no other answer comes with a failure.
-    ensures stops { (hide : Bool) → IfErr result (Stops R.remaining reader.old reader.new most_calls
-        (spec.IsAnswer hide) ReadsNoMore) }
+    ensures stops { (fates : List Script → List ℕ → Fate) → IfErr result (Stops R.remaining reader.old
+        reader.new most_calls (spec.IsAnswer fates) ReadsNoMore) }
 
     // At most so many reads are made, and none after the end or a failure.
     ensures calls { MakesAtMost most_calls reader.old reader.new }

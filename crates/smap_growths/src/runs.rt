@@ -5,6 +5,7 @@ use crate::maps::BASE;
 use smap_io::Device;
 use smap_mappings::Memory;
 use smap_tool::{RunFault, Task, run};
+use smap_trace::Finding;
 use std::alloc::Global;
 
 /// The run with this name.
@@ -27,7 +28,10 @@ pub(crate) fn task_named(name: &str) -> Option<Task<'static>> {
             line: 0,
             column: 5,
         }),
-        "run_translate" => Some(Task::Translate { hide: false }),
+        "run_translate" => Some(Task::Translate {
+            finding: Finding::FRAMES,
+            hide: false,
+        }),
         _ => None,
     }
 }

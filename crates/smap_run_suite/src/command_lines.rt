@@ -1,5 +1,6 @@
 //! Arguments, and the tasks that they are.
 use smap_tool::{Task, WordsFault, task_of};
+use smap_trace::Finding;
 use std::alloc::Global;
 
 const BASE: &str = "http://h/m/out.js.map";
@@ -11,6 +12,15 @@ fn at(line: u32, column: u32) -> Task<'static> {
         line,
         column,
     }
+}
+
+/// The task of a translation with these flags.
+fn translating(anywhere: bool, ignore_query: bool, hide: bool) -> Task<'static> {
+    let finding = Finding {
+        anywhere,
+        ignore_query,
+    };
+    Task::Translate { finding, hide }
 }
 
 /// Whether the arguments, after the program's name, are this task.
@@ -31,7 +41,7 @@ fn refused(alloc: Global, words: &[&str]) -> Option<i32> {
 
 #[test]
 fn each_command_is_a_task_with_its_values(rt: HostRuntime) {
-    let rows: [(&[&str], Task<'static>); 13] = [
+    let rows: [(&[&str], Task<'static>); 17] = [
         (&["smap", "respell"], Task::Respell),
         (&["./smap", "respell"], Task::Respell),
         (&["", "respell"], Task::Respell),
@@ -67,11 +77,24 @@ fn each_command_is_a_task_with_its_values(rt: HostRuntime) {
             },
         ),
         (&["smap", "flatten", BASE], Task::Flatten { base: BASE }),
-        (&["smap", "translate"], Task::Translate { hide: false }),
+        (&["smap", "translate"], translating(false, false, false)),
         (
             &["smap", "translate", "--hide-ignored"],
-            Task::Translate { hide: true },
+            translating(false, false, true),
         ),
+        (
+            &["smap", "translate", "--anywhere"],
+            translating(true, false, false),
+        ),
+        (
+            &["smap", "translate", "--ignore-query"],
+            translating(false, true, false),
+        ),
+        (
+            &["smap", "translate", "--hide-ignored", "--ignore-query", "--anywhere"],
+            translating(true, true, true),
+        ),
+        (&["smap", "scripts"], Task::Scripts),
     ];
     for (words, expected) in rows {
         assert!(rt; is_task(rt.alloc(), words, expected), "{words:?}");
@@ -126,7 +149,7 @@ fn a_position_is_a_whole_number_up_to_the_greatest(rt: HostRuntime) {
 
 #[test]
 fn other_words_are_refused_and_help_is_no_failure(rt: HostRuntime) {
-    let rows: [(&[&str], i32); 30] = [
+    let rows: [(&[&str], i32); 36] = [
         (&[], 2),
         (&["smap"], 2),
         (&["smap", ""], 2),
@@ -154,9 +177,15 @@ fn other_words_are_refused_and_help_is_no_failure(rt: HostRuntime) {
             2,
         ),
         (&["smap", "translate", "--hide"], 2),
-        (&["smap", "--version"], 2),
+        (&["smap", "translate", "--anywhere", "--anywhere"], 2),
+        (&["smap", "scripts", "x"], 2),
+        (&["smap", "scripts", "--anywhere"], 2),
+        (&["smap", "check", "--version"], 2),
         (&["smap", "--", "respell"], 2),
         (&["smap", "--help"], 0),
+        (&["smap", "--version"], 0),
+        (&["smap", "-V"], 0),
+        (&["smap", "scripts", "--help"], 0),
         (&["smap", "respell", "--help"], 0),
         (&["smap", "lookup", "--help"], 0),
         (&["smap", "translate", "-h"], 0),

@@ -6,6 +6,7 @@ mod directly;
 mod flatten;
 mod lookup;
 mod respell;
+mod scripts;
 mod sections;
 mod tidy;
 mod translate;

@@ -1,5 +1,6 @@
 pub mod CheckLemmas
 pub mod LawLemmas
+pub mod ListingLemmas
 pub mod RangeLemmas
 pub mod RespellLemmas
 pub mod RoundTripLemmas

@@ -3,7 +3,7 @@ use Rattle.std.proofs.Common.{◌≡◌, ◌∙◌, List, [], ◌∷◌, inl, in
 use Rattle.smap_record.specs.Record.{Record}
 use Rattle.smap_canon.specs.Canonical.{canonical_text_in}
 use Rattle.smap_canon.proofs.LawLemmas.{is_fixed_point, read_once}
-use Rattle.smap_trace.specs.Translation.{Script, translation}
+use Rattle.smap_trace.specs.Translation.{Script, fate_by, translation_by}
 use Rattle.smap_tool.specs.SameTranslation.{Agree, IsReadFrom, SameTranslation, StandFor}
 
 read_same : (r s : Record) → IsReadFrom r s → r ≡ s
@@ -28,5 +28,6 @@ all_equal (s ∷ ss) (t ∷ ts) h =
     both a b e f = λ i. (e i, f i)
 
 pub same : SameTranslation
-same scripts others distinct also agree hide trace = ap (λ (xs : List Script). translation xs hide trace)
+same scripts others distinct also agree finding hide trace =
+    ap (λ (xs : List Script). translation_by (fate_by finding xs hide) trace)
     (all_equal scripts others agree)

@@ -15,7 +15,7 @@ use Rattle.smap_tool.specs.declared.outcome.Outcome.TheVariants.{Done, Refused}
 use Rattle.smap_tool.specs.declared.outcome.RunFault.{RunFault}
 use Rattle.smap_tool.specs.declared.outcome.RunFault.TheVariants as run
 use Rattle.smap_trace.specs.Streaming.{WritesComplete, WritesPrefix, complete_of}
-use Rattle.smap_trace.specs.Translation.{Script, translation}
+use Rattle.smap_trace.specs.Translation.{Fate, Script, translation_by}
 use Rattle.smap_bundle.specs.Header.{trace_line}
 use Rattle.smap_bundle.specs.Bundle.{IsAnswer, BeginsWithEntries, refused}
 use Rattle.smap_bundle.specs.Entries.{TakesEntries}
@@ -28,7 +28,8 @@ use Rattle.smap_bundle.specs.declared.fault.Refusal.{Refusal}
 use Rattle.smap_io.specs.Limits.{most_calls}
 use Rattle.smap_tool.specs.BundleLine.{bundle_line}
 
-module _ {R W : Type 0} (remaining : R → Option (List ℕ)) (contents : W → Option (List ℕ)) (hide : Bool)
+module _ {R W : Type 0} (remaining : R → Option (List ℕ)) (contents : W → Option (List ℕ))
+    (fates : List Script → List ℕ → Fate)
     (ro rm rn : Device R) (wo wn : Device W)
     (scripts : List Script) (t : TakesEntries remaining ro rm scripts)
     (same : device_failures rm ≡ device_failures ro) where
@@ -42,11 +43,11 @@ module _ {R W : Type 0} (remaining : R → Option (List ℕ)) (contents : W → 
     distinct = t.distinct;
   }
 
-  complete : WritesComplete scripts hide (streams remaining rm rn contents wo wn)
-      → GaveUp (CompleteAfterTrace hide) (streams remaining ro rn contents wo wn)
+  complete : WritesComplete (fates scripts) (streams remaining rm rn contents wo wn)
+      → GaveUp (CompleteAfterTrace fates) (streams remaining ro rn contents wo wn)
   complete w = record {
     input = (t.entries ++ trace_line) ++ w.bytes;
-    text = translation scripts hide (complete_of w.bytes);
+    text = translation_by (fates scripts) (complete_of w.bytes);
     read = Gave-then remaining ro rm rn (t.entries ++ trace_line) w.bytes t.gave w.read;
     written = w.written;
     is_written = inr (record {
@@ -57,11 +58,11 @@ module _ {R W : Type 0} (remaining : R → Option (List ℕ)) (contents : W → 
     });
   }
 
-  in_part : WritesPrefix scripts hide (streams remaining rm rn contents wo wn)
-      → GaveUp (PrefixAfterTrace hide (has_ended rn)) (streams remaining ro rn contents wo wn)
+  in_part : WritesPrefix (fates scripts) (streams remaining rm rn contents wo wn)
+      → GaveUp (PrefixAfterTrace fates (has_ended rn)) (streams remaining ro rn contents wo wn)
   in_part w = record {
     input = (t.entries ++ trace_line) ++ (w.before ++ w.piece);
-    text = translation scripts hide (complete_of w.before) ++ w.front;
+    text = translation_by (fates scripts) (complete_of w.before) ++ w.front;
     read = Gave-then remaining ro rm rn (t.entries ++ trace_line) (w.before ++ w.piece) t.gave w.read;
     written = w.written;
     is_written = inr (record {
@@ -78,11 +79,11 @@ module _ {R W : Type 0} (remaining : R → Option (List ℕ)) (contents : W → 
   }
 
   told : (r : Result Outcome RunFault)
-      → TranslatesTrace scripts hide (streams remaining rm rn contents wo wn) r
-      → RunTranslates hide (streams remaining ro rn contents wo wn) r
+      → TranslatesTrace (fates scripts) (streams remaining rm rn contents wo wn) r
+      → RunTranslates fates (streams remaining ro rn contents wo wn) r
   told (Ok Done) w = (
     (t.entries ++ trace_line) ++ w.0,
-    translation scripts hide w.0,
+    translation_by (fates scripts) w.0,
     Gave-then remaining ro rm rn (t.entries ++ trace_line) w.0 t.gave w.1,
     w.2,
     w.3,
@@ -115,17 +116,18 @@ module _ {R W : Type 0} (remaining : R → Option (List ℕ)) (contents : W → 
 
   -- a bundle without a fault
   pub whole_run : (r : Result Outcome RunFault)
-      → TranslatesTrace scripts hide (streams remaining rm rn contents wo wn) r
+      → TranslatesTrace (fates scripts) (streams remaining rm rn contents wo wn) r
       → ReaderFailsOrTires is_read (streams remaining rm rn contents wo wn) r
       → WriterFails is_write (streams remaining rm rn contents wo wn) r
-      → RunsTranslate hide (streams remaining ro rn contents wo wn) r
+      → RunsTranslate fates (streams remaining ro rn contents wo wn) r
   whole_run r w reads writes = record {
     translates = told r w;
     reader_failures = tired (fails_by is_read r) reads;
     writer_failures = writes;
   }
 
-module _ {R W : Type 0} (remaining : R → Option (List ℕ)) (contents : W → Option (List ℕ)) (hide : Bool)
+module _ {R W : Type 0} (remaining : R → Option (List ℕ)) (contents : W → Option (List ℕ))
+    (fates : List Script → List ℕ → Fate)
     (ro rn : Device R) where
   nothing_written : (IsWritten : List ℕ → List ℕ → Type 0) (w : Device W) (bytes : List ℕ)
       → Gave remaining ro rn bytes → EndsWithinEntry bytes
@@ -140,11 +142,11 @@ module _ {R W : Type 0} (remaining : R → Option (List ℕ)) (contents : W → 
 
   -- a bundle that is refused
   pub refused_run : (wo wn : Device W) (refusal : Refusal) (r : Result Outcome RunFault)
-      → Settled remaining ro rn (IsAnswer hide) ReadsNoMore
+      → Settled remaining ro rn (IsAnswer fates) ReadsNoMore
       (refused refusal)
       → device_failures rn ≡ device_failures ro
       → WritesRefusal contents wo wn (bundle_line refusal ++ 10 ∷ []) r
-      → RunsTranslate hide (streams remaining ro rn contents wo wn) r
+      → RunsTranslate fates (streams remaining ro rn contents wo wn) r
   refused_run wo wn refusal (Ok Done) s same w = absurd (let is = w.1 in cc)
   refused_run wo wn refusal (Ok Refused) s same w =
       record {
@@ -155,10 +157,10 @@ module _ {R W : Type 0} (remaining : R → Option (List ℕ)) (contents : W → 
   refused_run wo wn refusal (Err run.TooLong) s same w = absurd w
   refused_run wo wn refusal (Err run.Read) s same w = absurd w
   refused_run wo wn refusal (Err run.Memory) s same w =
-      subst (λ (x : Device W). RunsTranslate hide (streams remaining ro rn contents wo x) (Err run.Memory))
+      subst (λ (x : Device W). RunsTranslate fates (streams remaining ro rn contents wo x) (Err run.Memory))
       (sym w)
       (record {
-        translates = nothing_written (PrefixAfterTrace hide (has_ended rn)) wo s.bytes s.gave
+        translates = nothing_written (PrefixAfterTrace fates (has_ended rn)) wo s.bytes s.gave
             (refused refusal, s.within);
         reader_failures = same;
         writer_failures = refl;
@@ -179,18 +181,18 @@ module _ {R W : Type 0} (remaining : R → Option (List ℕ)) (contents : W → 
 
   -- a run that gave up before
   pub too_long_run : (w : Device W)
-      → Stops remaining ro rn most_calls (IsAnswer hide) ReadsNoMore fault.TooLong
-      → RunsTranslate hide (streams remaining ro rn contents w w) (Err run.TooLong)
+      → Stops remaining ro rn most_calls (IsAnswer fates) ReadsNoMore fault.TooLong
+      → RunsTranslate fates (streams remaining ro rn contents w w) (Err run.TooLong)
   too_long_run w s = record {
     translates = (s.0, s.1, s.2, s.3, Keeps-refl (streams remaining ro rn contents w w).written_before);
     reader_failures = s.4;
     writer_failures = refl;
   }
 
-  pub unread_run : (w : Device W) → Stops remaining ro rn most_calls (IsAnswer hide) ReadsNoMore fault.Read
-      → RunsTranslate hide (streams remaining ro rn contents w w) (Err run.Read)
+  pub unread_run : (w : Device W) → Stops remaining ro rn most_calls (IsAnswer fates) ReadsNoMore fault.Read
+      → RunsTranslate fates (streams remaining ro rn contents w w) (Err run.Read)
   unread_run w s = record {
-    translates = nothing_written (CompleteAfterTrace hide) w s.0 s.1 s.2;
+    translates = nothing_written (CompleteAfterTrace fates) w s.0 s.1 s.2;
     reader_failures = blamed s.3;
     writer_failures = refl;
   }
@@ -202,10 +204,10 @@ module _ {R W : Type 0} (remaining : R → Option (List ℕ)) (contents : W → 
       blamed (inl one) = inl one
       blamed (inr e) = inr (e.0, (s.0, s.1, e.1))
 
-  pub memory_run : (w : Device W) → Stops remaining ro rn most_calls (IsAnswer hide) ReadsNoMore fault.Memory
-      → RunsTranslate hide (streams remaining ro rn contents w w) (Err run.Memory)
+  pub memory_run : (w : Device W) → Stops remaining ro rn most_calls (IsAnswer fates) ReadsNoMore fault.Memory
+      → RunsTranslate fates (streams remaining ro rn contents w w) (Err run.Memory)
   memory_run w s = record {
-    translates = nothing_written (PrefixAfterTrace hide (has_ended rn)) w s.0 s.1 s.2;
+    translates = nothing_written (PrefixAfterTrace fates (has_ended rn)) w s.0 s.1 s.2;
     reader_failures = s.3;
     writer_failures = refl;
   }

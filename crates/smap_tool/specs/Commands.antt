@@ -25,11 +25,12 @@ use Rattle.smap_trace.specs.Translation.{without_line_feed}
 use Rattle.smap_tool.specs.FaultLine.{fault_line}
 use Rattle.smap_tool.specs.MapRun.{map_output}
 use Rattle.smap_tool.specs.Run.{WritesOutput, WritesOutputAgainst, Runs}
-use Rattle.smap_tool.specs.Translate.{RunsTranslate}
+use Rattle.smap_tool.specs.Scripts.{RunsScripts}
+use Rattle.smap_tool.specs.Translate.{RunsTranslate, fates_asked}
 use Rattle.smap_tool.specs.Words.{HasFlag, HasNumber, HasText, IsOneOf, flag, on_base, position_argument}
 use Rattle.smap_tool.specs.declared.commands.Task.{Task}
 use Rattle.smap_tool.specs.declared.commands.Task.TheVariants.{Respell, Check, Tidy, Flatten, Lookup}
-use Rattle.smap_tool.specs.declared.commands.Task.TheVariants.{Translate}
+use Rattle.smap_tool.specs.declared.commands.Task.TheVariants.{Scripts, Translate}
 use Rattle.smap_tool.specs.declared.outcome.Outcome.{Outcome}
 use Rattle.smap_tool.specs.declared.outcome.Outcome.TheVariants.{Done, Refused}
 use Rattle.smap_tool.specs.declared.outcome.RunFault.{RunFault}
@@ -55,17 +56,26 @@ lookup = with_rule (with_rule (on_base (codes "lookup")) (position_argument (cod
     (position_argument (codes "COLUMN"))
 
 abbrev pub translate : App
-translate = with_rule (new_app (codes "translate")) (flag (codes "hide-ignored"))
+translate = with_rule (with_rule (with_rule (new_app (codes "translate")) (flag (codes "anywhere")))
+    (flag (codes "ignore-query"))) (flag (codes "hide-ignored"))
 
--- `smap` without its subcommands: one is required, and there is no subcommand `help`
+abbrev pub scripts : App
+scripts = new_app (codes "scripts")
+
+-- `smap` without its subcommands: one is required, there is no subcommand `help`, and there is a version
 abbrev pub smap_alone : App
 smap_alone = record (new_app (codes "smap")) {
-  top = record (new_app (codes "smap")).top { subcommand_required = true; disable_help_subcommand = true };
+  top = record (new_app (codes "smap")).top {
+    has_version = true;
+    subcommand_required = true;
+    disable_help_subcommand = true;
+  };
 }
 
 abbrev pub smap : App
 smap = with_subcommand (with_subcommand (with_subcommand (with_subcommand (with_subcommand
-    (with_subcommand smap_alone respell.top) check.top) tidy.top) flatten.top) lookup.top) translate.top
+    (with_subcommand (with_subcommand smap_alone respell.top) check.top) tidy.top) flatten.top) lookup.top)
+    translate.top) scripts.top
 
 -- ---- the task of a command line
 
@@ -78,7 +88,10 @@ IsTaskOf m (Tidy base relative) = (m.0 ≡ codes "tidy") × HasText m.1 (codes "
 IsTaskOf m (Flatten base) = (m.0 ≡ codes "flatten") × HasText m.1 (codes "BASE") base.now
 IsTaskOf m (Lookup base line column) = (m.0 ≡ codes "lookup") × HasText m.1 (codes "BASE") base.now
     × HasNumber m.1 (codes "LINE") line × HasNumber m.1 (codes "COLUMN") column
-IsTaskOf m (Translate hide) = (m.0 ≡ codes "translate") × HasFlag m.1 (codes "hide-ignored") hide
+IsTaskOf m (Translate finding hide) = (m.0 ≡ codes "translate")
+    × HasFlag m.1 (codes "anywhere") finding.anywhere × HasFlag m.1 (codes "ignore-query") finding.ignore_query
+    × HasFlag m.1 (codes "hide-ignored") hide
+IsTaskOf m Scripts = m.0 ≡ codes "scripts"
 
 -- There is a subcommand, and the task is its task.
 abbrev pub TaskGiven : Option (Text × List Row) → Task → Type 0
@@ -195,4 +208,5 @@ RunsTask (Tidy base relative) = Runs (WritesOutputAgainst (parse_url None base.n
 RunsTask (Flatten base) = Runs (WritesOutputAgainst (parse_url None base.now) flatten_output)
 RunsTask (Lookup base line column) =
     Runs (WritesOutputAgainst (parse_url None base.now) (lookup_output line column))
-RunsTask (Translate hide) = RunsTranslate hide
+RunsTask (Translate finding hide) = RunsTranslate (fates_asked finding hide)
+RunsTask Scripts = RunsScripts

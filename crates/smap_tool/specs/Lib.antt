@@ -6,6 +6,7 @@ pub mod MapRun
 pub mod RoundTrips
 pub mod Run
 pub mod SameTranslation
+pub mod Scripts
 pub mod Status
 pub mod Translate
 pub mod Words

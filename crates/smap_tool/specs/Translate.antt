@@ -9,7 +9,8 @@ use Rattle.smap_io.specs.Streams.{WriterFails}
 use Rattle.smap_io.specs.Writing.{Took, TookPrefix}
 use Rattle.smap_trace.specs.Streaming.{WritesComplete, WritesPrefix, complete_of, most_of_one_read}
 use Rattle.smap_trace.specs.Streaming.{read_lines}
-use Rattle.smap_trace.specs.Translation.{Script, translation}
+use Rattle.smap_trace.specs.Translation.{Fate, Script, fate_by, translation_by}
+use Rattle.smap_trace.specs.declared.finding.Finding.{Finding}
 use Rattle.smap_tool.specs.Run.{is_read, is_write}
 use Rattle.smap_tool.specs.declared.outcome.Outcome.{Outcome}
 use Rattle.smap_tool.specs.declared.outcome.Outcome.TheVariants.{Done, Refused}
@@ -22,21 +23,25 @@ use Rattle.smap_bundle.specs.Reading.{MayFollow}
 use Rattle.smap_bundle.specs.declared.fault.Refusal.{Refusal}
 use Rattle.smap_tool.specs.BundleLine.{bundle_line}
 
+-- What becomes of a line by some scripts, with these flags.
+abbrev pub fates_asked : Finding → Bool → List Script → List ℕ → Fate
+fates_asked finding hide scripts = fate_by finding scripts hide
+
 -- The answer for what was read, and unless that was to the end, for every input that begins with it.
-abbrev pub Settles : Bool → Bool → List ℕ → Answer → Type 0
-Settles hide ended input answer =
-    (more : List ℕ) → MayFollow ended more → IsAnswer hide (input ++ more) answer
+abbrev pub Settles : (List Script → List ℕ → Fate) → Bool → List ℕ → Answer → Type 0
+Settles fates ended input answer =
+    (more : List ℕ) → MayFollow ended more → IsAnswer fates (input ++ more) answer
 
 -- The translation of all complete lines that were read after the line `trace`.
-pub record CompleteAfterTrace (hide : Bool) (input text : List ℕ) : Type 0 where
+pub record CompleteAfterTrace (fates : List Script → List ℕ → Fate) (input text : List ℕ) : Type 0 where
   pub scripts : List Script
   pub trace : List ℕ
   pub reads : BeginsWithEntries input scripts (trace_line ++ trace)
-  pub is : text ≡ translation scripts hide (complete_of trace)
+  pub is : text ≡ translation_by (fates scripts) (complete_of trace)
 
 -- What was read after the line `trace` ends with a piece of at most as many bytes as one read asks for. The
 -- text is the translation of all lines that were complete before it, and of the other lines a prefix.
-pub record PrefixAfterTrace (hide ended : Bool) (input text : List ℕ) : Type 0 where
+pub record PrefixAfterTrace (fates : List Script → List ℕ → Fate) (ended : Bool) (input text : List ℕ) : Type 0 where
   pub scripts : List Script
   pub before : List ℕ
   pub piece : List ℕ
@@ -44,9 +49,9 @@ pub record PrefixAfterTrace (hide ended : Bool) (input text : List ℕ) : Type 0
   pub rest : List ℕ
   pub reads : BeginsWithEntries input scripts (trace_line ++ (before ++ piece))
   pub within : length piece ≤ most_of_one_read
-  pub is : text ≡ translation scripts hide (complete_of before) ++ front
-  pub is_front : translation scripts hide (read_lines ended (before ++ piece))
-      ≡ translation scripts hide (complete_of before) ++ (front ++ rest)
+  pub is : text ≡ translation_by (fates scripts) (complete_of before) ++ front
+  pub is_front : translation_by (fates scripts) (read_lines ended (before ++ piece))
+      ≡ translation_by (fates scripts) (complete_of before) ++ (front ++ rest)
 
 -- What was read and written by a run that gave up, unless the bundle has a fault: nothing was written, and
 -- what was read ends within the entries or with the line `trace`; or what was written is as `IsWritten` says.
@@ -58,50 +63,50 @@ pub record GaveUp (IsWritten : List ℕ → List ℕ → Type 0) (s : Streams) :
   pub is_written : ((text ≡ []) × EndsWithinEntry input) ⊎ IsWritten input text
 
 -- What was read has a fault, nothing was read past it, and a prefix of its error line was written.
-pub record PrefixOfRefusal (hide : Bool) (s : Streams) : Type 0 where
+pub record PrefixOfRefusal (fates : List Script → List ℕ → Fate) (s : Streams) : Type 0 where
   pub input : List ℕ
   pub refusal : Refusal
   pub n : ℕ
   pub read : HasRead s input
-  pub settles : Settles hide s.ended input (refused refusal)
+  pub settles : Settles fates s.ended input (refused refusal)
   pub no_more : ReadsNoMore input (refused refusal)
   pub written : HasWritten s (take n (bundle_line refusal ++ 10 ∷ []))
 
 -- What was written is exactly the answer for what was read. Where the bundle has a fault or a map is too
 -- long, nothing was read past the line that shows it, or for a fault of a map past the byte after the map.
-abbrev pub RunTranslates : Bool → Streams → Result Outcome RunFault → Type 0
-RunTranslates hide s (Ok Done) = (input text : List ℕ) × HasRead s input × IsAtEnd s.read_after
+abbrev pub RunTranslates : (List Script → List ℕ → Fate) → Streams → Result Outcome RunFault → Type 0
+RunTranslates fates s (Ok Done) = (input text : List ℕ) × HasRead s input × IsAtEnd s.read_after
     × (s.ended ≡ true)
-    × IsAnswer hide input (done text) × HasWritten s text
-RunTranslates hide s (Ok Refused) =
-    (input : List ℕ) × (refusal : Refusal) × HasRead s input × Settles hide s.ended input (refused refusal)
+    × IsAnswer fates input (done text) × HasWritten s text
+RunTranslates fates s (Ok Refused) =
+    (input : List ℕ) × (refusal : Refusal) × HasRead s input × Settles fates s.ended input (refused refusal)
     × ReadsNoMore input (refused refusal) × HasWritten s (bundle_line refusal ++ 10 ∷ [])
-RunTranslates hide s (Err run.TooLong) =
-    (input : List ℕ) × HasRead s input × ((more : List ℕ) → IsAnswer hide (input ++ more) too_long)
+RunTranslates fates s (Err run.TooLong) =
+    (input : List ℕ) × HasRead s input × ((more : List ℕ) → IsAnswer fates (input ++ more) too_long)
     × ReadsNoMore input too_long × HasWrittenNothing s
-RunTranslates hide s (Err run.Read) = GaveUp (CompleteAfterTrace hide) s
-RunTranslates hide s (Err run.Memory) = GaveUp (PrefixAfterTrace hide s.ended) s
-RunTranslates hide s (Err run.Write) = GaveUp (PrefixAfterTrace hide s.ended) s ⊎ PrefixOfRefusal hide s
+RunTranslates fates s (Err run.Read) = GaveUp (CompleteAfterTrace fates) s
+RunTranslates fates s (Err run.Memory) = GaveUp (PrefixAfterTrace fates s.ended) s
+RunTranslates fates s (Err run.Write) = GaveUp (PrefixAfterTrace fates s.ended) s ⊎ PrefixOfRefusal fates s
 
 -- What the run promises. Read comes with a failure of the reader, or if the limit on reads may have been
 -- reached; Write with one of the writer; and no other answer comes with a failure.
-pub record RunsTranslate (hide : Bool) (s : Streams) (result : Result Outcome RunFault) : Type 0 where
-  pub translates : RunTranslates hide s result
+pub record RunsTranslate (fates : List Script → List ℕ → Fate) (s : Streams) (result : Result Outcome RunFault) : Type 0 where
+  pub translates : RunTranslates fates s result
   pub reader_failures : ReaderFailsOrTires is_read s result
   pub writer_failures : WriterFails is_write s result
 
 -- ---- the parts of a run
 
--- A trace was translated by these scripts to its end, or as far as the error says.
-abbrev pub TranslatesTrace : List Script → Bool → Streams → Result Outcome RunFault → Type 0
-TranslatesTrace scripts hide s (Ok Done) =
+-- A trace was translated to its end, or as far as the error says.
+abbrev pub TranslatesTrace : (List ℕ → Fate) → Streams → Result Outcome RunFault → Type 0
+TranslatesTrace fates s (Ok Done) =
     (trace : List ℕ) × HasRead s trace × IsAtEnd s.read_after × (s.ended ≡ true) × HasWritten s
-    (translation scripts hide trace)
-TranslatesTrace scripts hide s (Ok Refused) = ⊥
-TranslatesTrace scripts hide s (Err run.TooLong) = ⊥
-TranslatesTrace scripts hide s (Err run.Read) = WritesComplete scripts hide s
-TranslatesTrace scripts hide s (Err run.Memory) = WritesPrefix scripts hide s
-TranslatesTrace scripts hide s (Err run.Write) = WritesPrefix scripts hide s
+    (translation_by fates trace)
+TranslatesTrace fates s (Ok Refused) = ⊥
+TranslatesTrace fates s (Err run.TooLong) = ⊥
+TranslatesTrace fates s (Err run.Read) = WritesComplete fates s
+TranslatesTrace fates s (Err run.Memory) = WritesPrefix fates s
+TranslatesTrace fates s (Err run.Write) = WritesPrefix fates s
 
 -- The error line was written, or a prefix of it if a call failed.
 abbrev pub WritesRefusal : {W : Type 0} → (W → Option (List ℕ)) → Device W → Device W → List ℕ

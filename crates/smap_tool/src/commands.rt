@@ -18,6 +18,7 @@ use crate::words::{
 };
 use clap::{ArgMatches, Command};
 use smap_io::Device;
+use smap_trace::Finding;
 use std::alloc::{AllocError, Global};
 use std::io::{Read, Write};
 
@@ -25,6 +26,7 @@ mod check;
 mod flatten;
 mod lookup;
 mod respell;
+mod scripts;
 mod tidy;
 mod translate;
 
@@ -32,6 +34,7 @@ pub use check::run_check;
 pub use flatten::run_flatten;
 pub use lookup::run_lookup;
 pub use respell::run_respell;
+pub use scripts::run_scripts;
 pub use tidy::run_tidy;
 pub use translate::run_translate;
 
@@ -66,11 +69,16 @@ pub enum Task<'a> {
         /// The generated column, from 0 to 2,147,483,647.
         column: u32,
     },
-    /// `translate [--hide-ignored]`: translate a stack trace to source positions.
+    /// `translate [--anywhere] [--ignore-query] [--hide-ignored]`: translate a stack trace to source
+    /// positions.
     Translate {
+        /// How positions are found in a line.
+        finding: Finding,
         /// Whether frames in ignored sources are left out.
         hide: bool,
     },
+    /// `scripts`: list the scripts that a stack trace names.
+    Scripts,
 }
 
 fn respell_command<'a>(alloc: Global) -> Command<'a>
@@ -133,9 +141,28 @@ fn translate_command<'a>(alloc: Global) -> Result<Command<'a>, AllocError>
     ensures shape { IfOk result (λ c. app_of c ≡ line.translate) }
     ensures local { IfOk result (λ c. (fields_of c).has_globals ≡ false) }
 {
-    Command::new(alloc, "translate")
+    let command = Command::new(alloc, "translate")
         .about("Translate a stack trace to source positions")
-        .arg(flag(alloc, "hide-ignored", "Leave out frames in ignored sources"))
+        .arg(flag(
+            alloc,
+            "anywhere",
+            "Translate positions anywhere in a line, not only in frames",
+        ))?;
+    let command = command.arg(flag(
+        alloc,
+        "ignore-query",
+        "Ignore a query or a fragment behind a script's URL",
+    ))?;
+    command.arg(flag(alloc, "hide-ignored", "Leave out frames in ignored sources"))
+}
+
+fn scripts_command<'a>(alloc: Global) -> Command<'a>
+    ensures shape { app_of result ≡ line.scripts }
+    ensures local { (fields_of result).has_globals ≡ false }
+{
+    Command::new(alloc, "scripts").about(
+        "List the scripts that a stack trace names, with the number of lines that name each",
+    )
 }
 
 /// The program, without its commands.
@@ -147,6 +174,7 @@ fn alone<'a>(alloc: Global) -> Command<'a>
         .about(
             "Validate and normalize source maps, and translate stack traces, read from standard input",
         )
+        .version("0.1.0")
         .subcommand_required(true)
         .disable_help_subcommand(true)
 }
@@ -161,7 +189,8 @@ fn command<'a>(alloc: Global) -> Result<Command<'a>, AllocError>
     let command = with(command, tidy_command(alloc)?)?;
     let command = with(command, flatten_command(alloc)?)?;
     let command = with(command, lookup_command(alloc)?)?;
-    with(command, translate_command(alloc)?)
+    let command = with(command, translate_command(alloc)?)?;
+    with(command, scripts_command(alloc))
 }
 
 /// The task of the command with this name and these matches.
@@ -187,8 +216,13 @@ fn task_named<'a>(name: &str, inner: &ArgMatches<'a>) -> Option<Task<'a>>
             column: position_in(inner, "COLUMN")?,
         }),
         "translate" => Some(Task::Translate {
+            finding: Finding {
+                anywhere: is_set(inner, "anywhere"),
+                ignore_query: is_set(inner, "ignore-query"),
+            },
             hide: is_set(inner, "hide-ignored"),
         }),
+        "scripts" => Some(Task::Scripts),
         _ => None,
     }
 }
@@ -281,6 +315,7 @@ pub fn run<R: Read, W: Write>(
         Task::Lookup { base, line, column } => run_lookup(
             alloc, base, line, column, reader, writer,
         ),
-        Task::Translate { hide } => run_translate(alloc, hide, reader, writer),
+        Task::Translate { finding, hide } => run_translate(alloc, finding, hide, reader, writer),
+        Task::Scripts => run_scripts(alloc, reader, writer),
     }
 }

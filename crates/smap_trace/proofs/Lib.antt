@@ -1,3 +1,4 @@
+pub mod BodyLemmas
 pub mod ByLengthLemmas
 pub mod CompleteLemmas
 pub mod CountLemmas
@@ -11,6 +12,7 @@ pub mod LawLemmas
 pub mod LineLemmas
 pub mod LookupLemmas
 pub mod MarkLemmas
+pub mod NamingLemmas
 pub mod OccurrenceLemmas
 pub mod PieceLemmas
 pub mod PlaceLemmas
@@ -19,7 +21,7 @@ pub mod ReadingLemmas
 pub mod RunLemmas
 pub mod ScriptLemmas
 pub mod SoFarLemmas
-pub mod BodyLemmas
 pub mod SoundLemmas
 pub mod StartsLemmas
+pub mod TallyLemmas
 pub mod TextLemmas

@@ -1,10 +1,12 @@
 pub mod Anywhere
 pub mod ByLength
+pub mod Counting
 pub mod Cutting
 pub mod Frame
 pub mod FrameView
 pub mod Laws
 pub mod Lookup
+pub mod Naming
 pub mod OccurrenceView
 pub mod Pieces
 pub mod Positions

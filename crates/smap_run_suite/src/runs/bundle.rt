@@ -2,6 +2,7 @@
 use smap_io::Device;
 use smap_testing::{SlowReader, SlowWriter};
 use smap_tool::{Outcome, RunFault, run_translate};
+use smap_trace::Finding;
 use std::process::Abort;
 use std::test::Fail;
 
@@ -60,7 +61,7 @@ fn gives(
 ) {
     let mut reader = Device::new(bundle);
     let mut writer = Device::new(SlowWriter::new(rt.alloc(), 65_536, 0));
-    let found = run_translate(rt.alloc(), hide, &mut reader, &mut writer);
+    let found = run_translate(rt.alloc(), Finding::FRAMES, hide, &mut reader, &mut writer);
     assert_eq!(rt; found, answer);
     let writer = writer.into_inner();
     assert_eq!(rt; writer.bytes.as_slice(), written.as_bytes());
@@ -266,7 +267,7 @@ fn pieces_of_one_byte_change_nothing(rt: HostRuntime) -> Result<(), Fail> {
     let mut reader = Device::new(SlowReader::new(bundle.as_bytes(), 1, 0));
     let mut writer = Device::new(SlowWriter::new(rt.alloc(), 1, 0));
     assert_eq!(rt;
-        run_translate(rt.alloc(), false, &mut reader, &mut writer),
+        run_translate(rt.alloc(), Finding::FRAMES, false, &mut reader, &mut writer),
         Ok(Outcome::Done)
     );
     assert_eq!(rt; writer.into_inner().bytes.as_slice(), TOLD.as_bytes());
@@ -284,7 +285,7 @@ fn failing(
 ) -> (Result<Outcome, RunFault>, u64) {
     let mut reader = Device::new(SlowReader::new(bundle, 7, read));
     let mut writer = Device::new(SlowWriter::new(rt.alloc(), 5, write));
-    let answer = run_translate(rt.alloc(), false, &mut reader, &mut writer);
+    let answer = run_translate(rt.alloc(), Finding::FRAMES, false, &mut reader, &mut writer);
     assert_eq!(rt; reader.failures() > 0, answer == Err(RunFault::Read));
     assert_eq!(rt; writer.failures() > 0, answer == Err(RunFault::Write));
     assert!(rt; whole.starts_with(writer.into_inner().bytes.as_slice()));
@@ -364,7 +365,7 @@ fn nothing_is_read_after_the_first_fault(rt: HostRuntime) {
     ] {
         let mut reader = Device::new(SlowReader::new(bundle.as_bytes(), 7, 0));
         let mut writer = Device::new(SlowWriter::new(rt.alloc(), 80, 0));
-        let found = run_translate(rt.alloc(), false, &mut reader, &mut writer);
+        let found = run_translate(rt.alloc(), Finding::FRAMES, false, &mut reader, &mut writer);
         assert_eq!(rt; found, answer, "{bundle:?}");
         assert_eq!(rt; reader.into_inner().calls, calls, "{bundle:?}");
     }
@@ -375,7 +376,7 @@ fn a_writer_that_takes_nothing_has_failed(rt: HostRuntime) {
     for bundle in ["trace\nkept\n", "trace"] {
         let mut reader = Device::new(SlowReader::new(bundle.as_bytes(), 80, 0));
         let mut writer = Device::new(SlowWriter::new(rt.alloc(), 0, 0));
-        let answer = run_translate(rt.alloc(), false, &mut reader, &mut writer);
+        let answer = run_translate(rt.alloc(), Finding::FRAMES, false, &mut reader, &mut writer);
         assert_eq!(rt; answer, Err(RunFault::Write), "{bundle:?}");
         assert_eq!(rt; writer.failures(), 1, "{bundle:?}");
         assert_eq!(rt; writer.into_inner().calls, 1, "{bundle:?}");

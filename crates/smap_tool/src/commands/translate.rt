@@ -5,7 +5,7 @@ ghost use Rattle.smap_io.specs.Device.{device_failures, has_ended, is_over};
 ghost use Rattle.smap_io.specs.Limits.{most_calls};
 ghost use Rattle.smap_io.specs.Streams.{ReaderFailsOrTires, WriterFails, streams};
 ghost use Rattle.smap_tool.specs.Run.{is_read, is_write};
-ghost use Rattle.smap_tool.specs.Translate.{RunsTranslate, TranslatesTrace, WritesRefusal};
+ghost use Rattle.smap_tool.specs.Translate.{RunsTranslate, TranslatesTrace, WritesRefusal, fates_asked};
 ghost use Rattle.smap_tool.specs.BundleLine.{bundle_line};
 
 use crate::bundle_line::bundle_refusal;
@@ -13,7 +13,7 @@ use crate::outcome::{Outcome, RunFault};
 use crate::output::write_answer;
 use smap_bundle::{Bundle, BundleFault, Refusal, read_bundle};
 use smap_io::Device;
-use smap_trace::{TraceError, translate};
+use smap_trace::{Finding, TraceError, translate_by};
 use std::alloc::Global;
 use std::io::{Read, Write};
 
@@ -38,6 +38,7 @@ fn refuse<W: Write>(
 /// Translates the trace, up to the end of the input.
 fn translate_trace<R: Read, W: Write>(
     alloc: Global,
+    finding: Finding,
     hide: bool,
     bundle: &Bundle,
     reader: &mut Device<R>,
@@ -46,7 +47,7 @@ fn translate_trace<R: Read, W: Write>(
     requires reader { device_failures reader.old < 2 ^ 64 - 1 }
     requires writer { device_failures writer.old < 2 ^ 64 - 1 }
     requires not_ended { has_ended reader.old ≡ false }
-    ensures translates { TranslatesTrace bundle.now hide
+    ensures translates { TranslatesTrace (fates_asked finding hide bundle.now)
         (streams R.remaining reader.old reader.new W.contents writer.old writer.new) result }
     ensures reader_failures { ReaderFailsOrTires is_read
         (streams R.remaining reader.old reader.new W.contents writer.old writer.new) result }
@@ -60,7 +61,7 @@ fn translate_trace<R: Read, W: Write>(
     let Ok(scripts) = bundle.scripts(alloc) else {
         return Err(RunFault::Memory);
     };
-    match translate(alloc, reader, scripts.as_slice(), hide, writer) {
+    match translate_by(alloc, reader, scripts.as_slice(), finding, hide, writer) {
         Ok(_) => Ok(Outcome::Done),
         Err(TraceError::Read) => Err(RunFault::Read),
         Err(TraceError::Write) => Err(RunFault::Write),
@@ -70,7 +71,7 @@ fn translate_trace<R: Read, W: Write>(
 
 /// Reads a bundle, and writes the translation of its trace, line by line as it comes, or the line of the
 /// bundle's first fault with a line feed (then the answer is `Refused`). With `hide`, frames in ignored
-/// sources are left out.
+/// sources are left out; `finding` says how positions are found in a line.
 ///
 /// Nothing after the line `trace` is read before the translation begins, and nothing is written before that
 /// except the line of a fault. A fault is answered without reading on: as soon as its line was read, or for
@@ -85,6 +86,7 @@ fn translate_trace<R: Read, W: Write>(
 /// prefix of the line of the fault.
 pub fn run_translate<R: Read, W: Write>(
     alloc: Global,
+    finding: Finding,
     hide: bool,
     reader: &mut Device<R>,
     writer: &mut Device<W>,
@@ -96,7 +98,7 @@ pub fn run_translate<R: Read, W: Write>(
     // What was written is the translation of the bundle's trace, or the line of its first fault; nothing
     // was read past what shows this fault. Read and Write come with a failure of their device, and no other
     // answer does.
-    ensures answers { RunsTranslate hide
+    ensures answers { RunsTranslate (fates_asked finding hide)
         (streams R.remaining reader.old reader.new W.contents writer.old writer.new) result }
 
     // The bundle's entries are read by at most 4,294,967,296 calls, and so is the trace.
@@ -109,7 +111,7 @@ pub fn run_translate<R: Read, W: Write>(
     ensures flushed { OnOk result (is_over writer.new ≡ true) }
 {
     match read_bundle(alloc, reader) {
-        Ok(bundle) => translate_trace(alloc, hide, &bundle, reader, writer),
+        Ok(bundle) => translate_trace(alloc, finding, hide, &bundle, reader, writer),
         Err(BundleFault::Refused(refusal)) => refuse(alloc, &refusal, writer),
         Err(BundleFault::TooLong) => Err(RunFault::TooLong),
         Err(BundleFault::Read) => Err(RunFault::Read),

@@ -21,11 +21,11 @@ take_entry-requires-clause-line g c = rw c.as_slice-in-entries-2.ensures.value
     c.entries.invariant.not_ended c.in-Ok.ensures.reads).0
 
 pub returns-in-Err-clause-stops : goal.returns-in-Err-clause-stops
-returns-in-Err-clause-stops g c = λ hide.
+returns-in-Err-clause-stops g c = λ fates.
     let reads = c.entries.invariant.reads in
     gave_up_stops g.R.Read.remaining c.args.reader.now c.entries.reader c.read_line.new.reader reads.0
     (IsWithinLine longest_header) most_calls c.entries.calls c.in-Err.fault c.unread.result
-    (IsAnswer hide) ReadsNoMore reads.1 c.entries.invariant.failures reads.3
+    (IsAnswer fates) ReadsNoMore reads.1 c.entries.invariant.failures reads.3
     (λ line within. ends_within (scripts_of c.entries.scripts.entries) reads.0 line reads.2
     c.entries.invariant.distinct within) c.in-Err.ensures.reads c.unread.ensures
 
@@ -45,7 +45,7 @@ returns-then-eq-clause-takes g c =
     }
 
 pub returns-in_err-take_entry-clause-stops : goal.returns-in_err-take_entry-clause-stops
-returns-in_err-take_entry-clause-stops g c = λ hide.
+returns-in_err-take_entry-clause-stops g c = λ fates.
     let p = err_from_is_err_and c.from_residual.result c.from_residual.ensures.1 in
     let reads = c.entries.invariant.reads in
     let line = c.in-Ok.line.items in
@@ -57,11 +57,11 @@ returns-in_err-take_entry-clause-stops g c = λ hide.
     (Gave-then g.R.Read.remaining c.args.reader.now c.entries.reader c.read_line.new.reader reads.0 line
     reads.1 was.1) (was.2 ∙ c.entries.invariant.failures)
     c.take_entry.new.reader most_calls c.read_line.new.calls (λ more. FaultAt seen (line ++ more))
-    (IsAnswer hide)
+    (IsAnswer fates)
     (IsWithinEntry line) ReadsNoMore c.in_err-take_entry.field-0.0
     (λ is. let paid = c.in-Ok.ensures.calls.paid (c.in_err-take_entry.ensures.open is) in
     omega (arith, length-append reads.0 line, reads.3, paid))
-    (λ text answer fault. answered hide seen reads.0 line text answer reads.2 c.entries.invariant.distinct
+    (λ text answer fault. answered fates seen reads.0 line text answer reads.2 c.entries.invariant.distinct
     fault)
     (λ text answer within. no_more (has_ended c.read_line.new.reader) seen reads.0 line text answer reads.2
     c.entries.invariant.distinct was.0 within) stops)

@@ -18,5 +18,7 @@ returns-clause-shape c =
     (ap top_of c.in_ok-flatten_command.ensures.shape) in
     let fifth = c.in_ok-command-5.ensures.shape ∙ ap₂ with_subcommand fourth
     (ap top_of c.in_ok-lookup_command.ensures.shape) in
-    IfOk-weaker c.with-6.result _ _ (λ r h. h ∙ ap₂ with_subcommand fifth
-    (ap top_of c.in_ok-translate_command.ensures.shape)) c.with-6.ensures.shape
+    let sixth = c.in_ok-command-6.ensures.shape ∙ ap₂ with_subcommand fifth
+    (ap top_of c.in_ok-translate_command.ensures.shape) in
+    IfOk-weaker c.with-7.result _ _ (λ r h. h ∙ ap₂ with_subcommand sixth
+    (ap top_of c.scripts_command.ensures.shape)) c.with-7.ensures.shape

@@ -17,3 +17,6 @@ returns-in-Lookup-clause-answers g c = rw c.in-Lookup.is c.run_lookup.ensures.an
 
 pub returns-in-Translate-clause-answers : goal.returns-in-Translate-clause-answers
 returns-in-Translate-clause-answers g c = rw c.in-Translate.is c.run_translate.ensures.answers
+
+pub returns-in-Scripts-clause-answers : goal.returns-in-Scripts-clause-answers
+returns-in-Scripts-clause-answers g c = rw c.in-Scripts.is c.run_scripts.ensures.answers

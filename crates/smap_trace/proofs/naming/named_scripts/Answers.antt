@@ -1,0 +1,65 @@
+use Rattle.std.proofs.Common.{◌≡◌, ◌≢◌, ◌∙◌, ◌<◌, ◌≤◌, ◌++◌, ℕ, List, ap, subst, take, rules, arith, true, length}
+use Rattle.std.proofs.Common.{length-take, length-append}
+use Rattle.smap_io.specs.Device.{has_ended}
+use Rattle.smap_io.specs.Reading.{Gave}
+use Rattle.smap_io.proofs.ReadingLemmas.{Gave-then}
+use Rattle.smap_trace.specs.Counting.{named_of, with_urls}
+use Rattle.smap_trace.specs.Naming.{urls_of}
+use Rattle.smap_trace.proofs.NamingLemmas.{after_piece, at_the_end}
+use Rattle.smap_trace.proofs.naming.named_scripts.Goals as goal
+
+pub returns-then-n-eq0-clause-names : goal.returns-then-n-eq0-clause-names
+returns-then-n-eq0-clause-names g c =
+    let s = c.pieces.invariant.so_far in
+    let room : 0 < length c.read.new.buf = search rules in
+    let ended : has_ended c.read.new.self ≡ true = search rules in
+    let p = at_the_end g.R.Read.remaining c.args.reader.now c.pieces.reader c.read.new.self c.pieces.line.items
+    (named_of c.pieces.lines.entries) s (named_of c.end_line.new.lines.entries)
+    (subst (λ (k : ℕ). Gave g.R.Read.remaining c.pieces.reader c.read.new.self (take k c.read.new.buf))
+    c.if-n-eq0.true c.in-Ok.ensures.bytes.0)
+    (c.in-Ok-end_line.ensures ∙ ap (λ (xs : List ℕ). with_urls (urls_of xs) (named_of c.pieces.lines.entries))
+    c.deref.ensures.value) in
+    (
+      s.whole ++ c.pieces.line.items,
+      p.0,
+      (ended, c.in-Ok.ensures.bytes.1 c.if-n-eq0.true room),
+      c.of.ensures ∙ p.1,
+      search rules,
+    )
+
+pub returns-in_default-take_piece-clause-names : goal.returns-in_default-take_piece-clause-names
+returns-in_default-take_piece-clause-names g c =
+    let s = c.pieces.invariant.so_far in
+    let piece = take c.in-Ok.n c.read.new.buf in
+    (
+      (s.whole ++ c.pieces.line.items) ++ piece,
+      Gave-then g.R.Read.remaining c.args.reader.now c.pieces.reader c.read.new.self
+          (s.whole ++ c.pieces.line.items) piece s.read c.in-Ok.ensures.bytes.0,
+      search rules,
+    )
+
+pub pieces-preserved : goal.pieces-preserved
+pieces-preserved g c =
+    let piece = take c.in-Ok.n c.read.new.buf in
+    let much = c.pieces.invariant.much in
+    let within : c.in-Ok.n ≤ length c.read.new.buf = search rules in
+    let some : c.in-Ok.n ≢ 0 = search rules in
+    let len : length piece ≡ c.in-Ok.n = omega (arith, length-take c.in-Ok.n c.read.new.buf, within) in
+    record {
+      reads = search rules;
+      open_still = search rules;
+      free = c.in-Ok-take_piece.ensures.rest;
+      count = search rules;
+      in_time = search rules;
+      read_on = search rules;
+      so_far = after_piece g.R.Read.remaining c.args.reader.now c.pieces.reader c.read.new.self
+          c.pieces.line.items (named_of c.pieces.lines.entries) c.pieces.invariant.so_far piece
+          c.take_piece.new.line.items (named_of c.take_piece.new.lines.entries) c.in-Ok.ensures.bytes.0
+          c.in-Ok-take_piece.ensures.counts;
+      much = (
+        much.0 ++ piece,
+        Gave-then g.R.Read.remaining c.args.reader.now c.pieces.reader c.read.new.self much.0 piece much.1
+            c.in-Ok.ensures.bytes.0,
+        omega (arith, much.2, some, len, length-append much.0 piece),
+      );
+    }

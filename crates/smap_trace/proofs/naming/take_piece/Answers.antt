@@ -1,0 +1,44 @@
+use Rattle.std.proofs.Common.{◌≡◌, ◌∙◌, ℕ, ◌+◌, ◌<◌, List, ◌++◌, [], length, take, drop, get_or, sym, ap, arith}
+use Rattle.std.proofs.Common.{length-drop}
+use Rattle.std.specs.List.{cons_option}
+use Rattle.std.proofs.lemmas.Bool.{eqb-true}
+use Rattle.std.proofs.lemmas.List.{take-append-drop}
+use Rattle.smap_trace.specs.Counting.{named_of, with_urls}
+use Rattle.smap_trace.specs.Naming.{url_of}
+use Rattle.smap_trace.proofs.LineLemmas.{none_passed, none_there, line_end, line_taken, left_is}
+use Rattle.smap_trace.proofs.NamingLemmas.{feed_step, rest_step}
+use Rattle.smap_trace.proofs.naming.take_piece.Goals as goal
+
+pub lines-preserved : goal.lines-preserved
+lines-preserved c =
+    let piece = c.args.piece.now in
+    let at = c.lines.at in
+    let feed = c.in-Some.feed in
+    let found = rw (left_is piece at) at c.in-Some.ensures in
+    let lt : feed < length (drop at piece) = found.0.high in
+    let is : get_or (drop at piece) feed 0 ≡ 10 = eqb-true _ 10 found.1 in
+    let end = line_end piece at feed lt is in
+    let step = feed_step c.args.line.now.items (take at piece) (take (at + feed + 1) piece)
+    c.lines.line.items c.take_line.new.line.items (take feed (drop at piece))
+    (named_of c.args.lines.now.entries) (named_of c.lines.lines.entries) (named_of c.take_line.new.lines.entries)
+    (line_taken piece at feed lt is) c.in_ok-take_line.ensures.rest
+    (none_passed (drop at piece) feed (λ i below. found.0.before i (omega arith) below))
+    (c.in_ok-take_line.ensures.counts ∙ ap (λ (xs : List ℕ).
+    with_urls (cons_option (url_of (c.lines.line.items ++ xs)) []) (named_of c.lines.lines.entries)) end)
+    c.lines.invariant.free c.lines.invariant.counts in
+    record { within = omega (arith, lt, length-drop at piece); free = step.free; counts = step.counts }
+
+pub returns : goal.returns
+returns c =
+    let piece = c.args.piece.now in
+    let at = c.lines.at in
+    let left = left_is piece at in
+    let none = rw left at c.in_default.ensures in
+    let step = rest_step c.args.line.now.items (take at piece) piece c.lines.line.items
+    c.extend_from_slice.new.self.items (drop at piece) (named_of c.args.lines.now.entries)
+    (named_of c.lines.lines.entries)
+    (sym (take-append-drop at piece)) (c.in_ok-extend_from_slice.ensures.items
+    ∙ ap (λ (xs : List ℕ). c.lines.line.items ++ xs) left)
+    (none_there (drop at piece) (λ i below. none i (omega arith) below))
+    c.lines.invariant.free c.lines.invariant.counts in
+    record { rest = step.free; counts = step.counts }
