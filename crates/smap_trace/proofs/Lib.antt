@@ -5,6 +5,7 @@ pub mod CountLemmas
 pub mod CutLemmas
 pub mod CuttingLemmas
 pub mod Examples
+pub mod FrameAnywhereLemmas
 pub mod FrameLemmas
 pub mod HalvingLemmas
 pub mod IndexedLemmas

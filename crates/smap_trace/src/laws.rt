@@ -1,5 +1,6 @@
 //! Laws about the definitions. Each is the contract of a function that does nothing.
-ghost use Rattle.smap_trace.specs.Laws.{FrameIsComputed, LookupIsComputed, OneReading};
+ghost use Rattle.smap_trace.specs.Laws.{FrameIsComputed, FramesAreFoundAnywhere};
+ghost use Rattle.smap_trace.specs.Laws.{LookupIsComputed, OneReading};
 
 /// The function that finds frames finds exactly those of the grammar.
 pub fn frames_are_computed()
@@ -15,4 +16,10 @@ pub fn one_reading()
 /// is at most one.
 pub fn lookups_are_computed()
     ensures { LookupIsComputed }
+{}
+
+/// A line that is a frame, and holds no position but its own, has the same translation whether positions are
+/// found in frames or anywhere.
+pub fn frames_are_found_anywhere()
+    ensures { FramesAreFoundAnywhere }
 {}
