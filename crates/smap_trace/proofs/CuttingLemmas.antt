@@ -1,29 +1,26 @@
 -- Lines cut from left to right into bytes and occurrences.
-use Rattle.std.proofs.Common.{◌≡◌, ◌≢◌, ◌∙◌, ℕ, zero, suc, ◌+◌, ◌-◌, ◌<◌, ◌≤◌, ◌==◌, Bool, true, false, not, cond}
+use Rattle.std.proofs.Common.{◌≡◌, ◌≢◌, ◌∙◌, ℕ, zero, suc, ◌+◌, ◌-◌, ◌<◌, ◌≤◌, ◌==◌, Bool, true, false, cond}
 use Rattle.std.proofs.Common.{◌&&◌, ◌||◌, List, [], ◌∷◌, ◌++◌, length, take, drop, get_or, map, flat_map}
 use Rattle.std.proofs.Common.{Option, Some, None, MatchOption, option_map, codes, decimal, nat_eq, nat_lt}
-use Rattle.std.proofs.Common.{refl, sym, ap, subst, arith, rules, append_assoc, append-nil, slice_range, inl, inr}
+use Rattle.std.proofs.Common.{refl, sym, ap, arith, append_assoc, append-nil, slice_range}
 use Rattle.std.specs.Char.{is_ascii_digit}
 use Rattle.std.specs.List.{list_any, prefix_len, starts_with}
-use Rattle.std.specs.Option.{is_some, option_map_or}
 use Rattle.std.proofs.Math.Seq.{drop-cons, take-add, take-suc}
-use Rattle.std.proofs.lemmas.Bool.Decides.{nat_tests, Decides-eqb}
 use Rattle.std.proofs.lemmas.Bool.{eqb-true}
 use Rattle.std.proofs.lemmas.List.{drop-drop, drop_all, get_or-drop, length-drop, take_all, take_more}
-use Rattle.std.proofs.lemmas.List.{map-append, take-append-drop}
+use Rattle.std.proofs.lemmas.List.{map-append}
 use Rattle.std.proofs.lemmas.List.Folds.{list_any-append}
 use Rattle.std.proofs.lemmas.Grind.{flat_map-append}
-use Rattle.smap_trace.specs.Anywhere.{Occurrence, Piece, byte, bytes_of, cut, found, longer, longest, more_of}
-use Rattle.smap_trace.specs.Anywhere.{line_and_column, number_after, occurrence_between, occurrence_of, piece_at}
-use Rattle.smap_trace.specs.Anywhere.{may_begin, pieces_of, place_after, query_len}
+use Rattle.smap_trace.specs.Anywhere.{Occurrence, Piece, byte, cut, found, longest}
+use Rattle.smap_trace.specs.Anywhere.{line_and_column, number_after, occurrence_between, occurrence_of}
+use Rattle.smap_trace.specs.Anywhere.{may_begin, place_after, query_len}
 use Rattle.smap_trace.specs.Cutting.{has_place, pieces_from}
 use Rattle.smap_trace.specs.Frame.{IsPlace}
 use Rattle.smap_trace.specs.OccurrenceView.{IsWithin, occurrence_in}
 use Rattle.smap_trace.specs.Reading.{place_of}
 use Rattle.smap_trace.specs.Scripts.{Script}
-use Rattle.smap_trace.specs.Translation.{is_replaced, replaced, written_for}
+use Rattle.smap_trace.specs.Translation.{is_replaced, written_for}
 use Rattle.smap_trace.specs.declared.occurrences.Occurrence.{Occurrence as CodeOccurrence}
-use Rattle.smap_trace.specs.declared.places.Place.{Place}
 use Rattle.smap_trace.proofs.LineLemmas.{left_is}
 use Rattle.smap_trace.proofs.PlaceLemmas.{IsNoPlace, place_is}
 

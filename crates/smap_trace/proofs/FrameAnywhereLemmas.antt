@@ -27,7 +27,7 @@ use Rattle.smap_trace.specs.Laws.{FramesAreFoundAnywhere, HoldsOwnAlone}
 use Rattle.smap_trace.specs.Scripts.{AreDistinct, Script, map_of}
 use Rattle.smap_trace.specs.Translation.{anywhere_fate, dropped, Fate, fate_at, fate_in, fate_of_pieces}
 use Rattle.smap_trace.specs.Translation.{frame_fate, is_dropped, is_replaced, kept, map_for, origin_at}
-use Rattle.smap_trace.specs.Translation.{replaced, translated, written, written_for}
+use Rattle.smap_trace.specs.Translation.{replaced, translated, written_for}
 use Rattle.smap_trace.specs.declared.places.Place.{Place}
 use Rattle.smap_trace.proofs.CompleteLemmas.{complete}
 use Rattle.smap_trace.proofs.CutLemmas.{begins_with}
@@ -442,5 +442,4 @@ same_fate scripts hide line f distinct is own = go own
         (same_at hide f (origin_at o.map f.line f.column))
 
 pub are_found_anywhere : FramesAreFoundAnywhere
-are_found_anywhere scripts hide line ended f distinct is own whole =
-    ap (λ (fate : Fate). written fate ended) (same_fate scripts hide line f distinct is own)
+are_found_anywhere = same_fate

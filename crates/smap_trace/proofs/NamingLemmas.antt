@@ -1,7 +1,6 @@
 -- The URLs of a trace that comes in pieces.
-use Rattle.std.proofs.Common.{◌≡◌, ◌∙◌, ℕ, zero, suc, ◌+◌, ◌<◌, ◌≤◌, Bool, true, false, List, [], ◌∷◌, ◌++◌, length, map}
-use Rattle.std.proofs.Common.{bytes_eq, refl, sym, ap, subst, inl, inr, arith, append_assoc, append-nil, Option, Some, None}
-use Rattle.std.proofs.Common.{cond, ◌⊎◌}
+use Rattle.std.proofs.Common.{◌≡◌, ◌∙◌, ℕ, zero, suc, ◌+◌, ◌<◌, true, false, List, [], ◌∷◌, ◌++◌, length}
+use Rattle.std.proofs.Common.{bytes_eq, refl, sym, ap, subst, inl, inr, arith, append_assoc, append-nil, Option, Some}
 use Rattle.std.specs.Global.{Vec}
 use Rattle.std.specs.Prelude.{slice_get, unwrap_or}
 use Rattle.std.specs.List.{AllByRecursion, cons_option, filter_map}

@@ -1,14 +1,13 @@
 -- The longest of several occurrences.
-use Rattle.std.proofs.Common.{◌≡◌, ◌∙◌, ◌⊎◌, ℕ, suc, ◌+◌, ◌<◌, ◌≤◌, Bool, true, false, cond, ◌&&◌, List, [], ◌∷◌}
-use Rattle.std.proofs.Common.{length, drop, get_or, Bor, Option, Some, None, IfSome, option_map, nat_lt, nat_eq}
+use Rattle.std.proofs.Common.{◌≡◌, ◌∙◌, ◌⊎◌, ℕ, ◌+◌, ◌<◌, Bool, true, false, cond, List}
+use Rattle.std.proofs.Common.{length, drop, get_or, Option, Some, None, IfSome, nat_lt}
 use Rattle.std.proofs.Common.{refl, sym, ap, arith, inl, inr}
-use Rattle.std.specs.List.{starts_with}
 use Rattle.std.proofs.lemmas.Bool.Decides.{nat_tests}
 use Rattle.std.proofs.lemmas.List.{at_drop_more}
-use Rattle.smap_record.specs.Record.{ReadMap, Record, record_of}
+use Rattle.smap_record.specs.Record.{Record, record_of}
 use Rattle.smap_trace.specs.Anywhere.{longer, longest, occurrence_of, place_after}
 use Rattle.smap_trace.specs.Anywhere as spec
-use Rattle.smap_trace.specs.OccurrenceView.{IsWithin, occurrence_in}
+use Rattle.smap_trace.specs.OccurrenceView.{IsWithin}
 use Rattle.smap_trace.specs.Views.{script_in, scripts_in}
 use Rattle.smap_trace.specs.declared.occurrences.Occurrence.{Occurrence}
 use Rattle.smap_trace.proofs.ScriptLemmas.{Given}

@@ -1,7 +1,7 @@
 -- The pieces of a line, joined and as they are written.
 use Rattle.std.proofs.Common.{◌≡◌, ◌∙◌, ◌⊎◌, ℕ, zero, suc, ◌+◌, ◌-◌, ◌<◌, Bool, true, false, cond, ◌&&◌, ◌||◌}
 use Rattle.std.proofs.Common.{List, [], ◌∷◌, ◌++◌, length, take, drop, flat_map, nat_eq, nat_lt, unwrap_or}
-use Rattle.std.proofs.Common.{Option, Some, None, option_map, refl, sym, ap, subst, arith, rules, inl, inr}
+use Rattle.std.proofs.Common.{Option, Some, None, option_map, refl, sym, ap, arith, inl, inr}
 use Rattle.std.proofs.Common.{append-nil, Result, Ok, Err, OnOk}
 use Rattle.std.specs.List.{list_any, starts_with}
 use Rattle.std.specs.Option.{is_some, option_map_or}
@@ -10,14 +10,15 @@ use Rattle.std.proofs.lemmas.Bool.Decides.{Decides-eqb}
 use Rattle.std.proofs.lemmas.List.{take-append-drop}
 use Rattle.std.proofs.lemmas.Slice.Eq.{ends_is}
 use Rattle.smap_record.specs.Record.{Origin, Record}
-use Rattle.smap_trace.specs.Anywhere.{Occurrence, Piece, byte, bytes_of, cut, found, longer, longest, may_begin}
+use Rattle.smap_trace.specs.Anywhere.{Occurrence, Piece, bytes_of, cut, longer, longest, may_begin}
 use Rattle.smap_trace.specs.Anywhere.{more_of, occurrence_between, occurrence_of, piece_at, pieces_of}
 use Rattle.smap_trace.specs.Anywhere.{place_after}
 use Rattle.smap_trace.specs.Frame.{FrameParts, position_text}
+use Rattle.smap_trace.specs.Laws.{PiecesAreTheLine}
 use Rattle.smap_trace.specs.Reading.{frame_of}
 use Rattle.smap_trace.specs.Scripts.{Script}
-use Rattle.smap_trace.specs.Translation.{anywhere_fate, dropped, fate_at, fate_in, fate_of_pieces, feed_of}
-use Rattle.smap_trace.specs.Translation.{Fate, frame_fate, has_line_feed, is_dropped, is_replaced, kept, map_for}
+use Rattle.smap_trace.specs.Translation.{anywhere_fate, fate_at, fate_in, feed_of}
+use Rattle.smap_trace.specs.Translation.{frame_fate, has_line_feed, is_dropped, is_replaced, kept, map_for}
 use Rattle.smap_trace.specs.Translation.{origin_at, replaced, translated, without_line_feed, written, written_for}
 use Rattle.smap_trace.specs.declared.places.Place.{Place}
 
@@ -106,6 +107,9 @@ pieces_joined ignore scripts before zero (b ∷ bs) = go (occurrence_between ign
         (more (o.width - 1))
         ∙ ap (λ n. take n (b ∷ bs) ++ drop (o.width - 1) bs) wide
         ∙ ap (λ (t : List ℕ). b ∷ t) (take-append-drop (o.width - 1) bs)
+
+pub line_joined : PiecesAreTheLine
+line_joined ignore scripts line = pieces_joined ignore scripts [] 0 line
 
 -- ---- what is written
 

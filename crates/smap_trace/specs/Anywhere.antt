@@ -1,13 +1,12 @@
 -- Positions anywhere in a line: `U:L:C`, where U is the URL of a script. This project's own rules.
-use Rattle.std.specs.Prelude.{◌≡◌, ◌⊎◌, ℕ, zero, suc, ◌+◌, ◌-◌, ◌<◌, ◌≤◌, ◌==◌, ◌&&◌, ◌||◌, Bool, true, false}
+use Rattle.std.specs.Prelude.{ℕ, zero, suc, ◌+◌, ◌-◌, ◌==◌, ◌&&◌, ◌||◌, Bool, true, false}
 use Rattle.std.specs.Prelude.{not, nat_eq, nat_le, nat_lt, if◌then◌else◌}
-use Rattle.std.specs.Prelude.{List, [], ◌∷◌, ◌++◌, length, take, drop, codes, decimal, Contains}
+use Rattle.std.specs.Prelude.{List, [], ◌∷◌, ◌++◌, length, take, drop, codes}
 use Rattle.std.specs.Prelude.{Option, Some, None, option_map, option_and_then}
 use Rattle.std.specs.Char.{is_ascii_alphanumeric, is_ascii_digit}
-use Rattle.std.specs.List.{ends_with, list_all, list_any, prefix_len, starts_with, suffix_len}
+use Rattle.std.specs.List.{ends_with, list_any, prefix_len, starts_with, suffix_len}
 use Rattle.std.specs.Option.{option_map_or}
 use Rattle.smap_record.specs.Record.{Record}
-use Rattle.smap_trace.specs.Frame.{IsPlace, position_text}
 use Rattle.smap_trace.specs.Reading.{place_of}
 use Rattle.smap_trace.specs.Scripts.{Script}
 use Rattle.smap_trace.specs.declared.places.Place.{Place}
@@ -145,49 +144,3 @@ cut ignore scripts before zero (b ∷ bs) =
 -- The pieces of a line.
 abbrev pub pieces_of : Bool → List Script → List ℕ → List Piece
 pieces_of ignore scripts line = cut ignore scripts [] 0 line
-
--- ---- the same as relations
-
--- nothing, or the mark and bytes that it can hold
-abbrev pub IsMarked : ℕ → List ℕ → Type 0
-IsMarked mark text =
-    (text ≡ []) ⊎ ((rest : List ℕ) × (text ≡ mark ∷ rest) × (list_all is_query_byte rest ≡ true))
-
--- What may stand between a URL and its line: nothing, or if queries are ignored a query (`?`), a fragment
--- (`#`), or both.
-abbrev pub IsIgnored : Bool → List ℕ → Type 0
-IsIgnored false text = text ≡ []
-IsIgnored true text = (query : List ℕ) × (fragment : List ℕ) × (text ≡ query ++ fragment)
-    × IsMarked 63 query × IsMarked 35 fragment
-
--- The text begins with this position of one of the scripts, and no digit follows.
-pub record BeginsWith (ignore : Bool) (scripts : List Script) (text : List ℕ) (o : Occurrence) : Type 0 where
-  pub script : Contains scripts (o.url, o.map)
-  pub some_url : 0 < length o.url
-  pub ignored : List ℕ
-  pub rest : List ℕ
-  pub is_ignored : IsIgnored ignore ignored
-  pub whole : text ≡ o.url ++ (ignored ++ (position_text [] o.line o.column ++ rest))
-  pub line_place : IsPlace o.line
-  pub column_place : IsPlace o.column
-  pub no_digit : list_any is_ascii_digit (take 1 rest) ≡ false
-  pub takes : length text ≡ o.width + length rest
-
--- This is the one between these two parts of a line: a URL may begin there, and no position there has a
--- longer URL.
-pub record IsBetween (ignore : Bool) (scripts : List Script) (before text : List ℕ) (o : Occurrence) : Type
-    0 where
-  pub begins : may_begin before ≡ true
-  pub here : BeginsWith ignore scripts text o
-  pub longest : (p : Occurrence) → BeginsWith ignore scripts text p → length p.url ≤ length o.url
-
--- From left to right a line is these pieces: what was an occurrence isn't looked at again, and where none
--- begins there is a byte.
-abbrev pub IsCut : Bool → List Script → List ℕ → List ℕ → List Piece → Type 0
-IsCut ignore scripts before line [] = line ≡ []
-IsCut ignore scripts before line (byte b ∷ pieces) = (rest : List ℕ) × (line ≡ b ∷ rest)
-    × ((o : Occurrence) → IsBetween ignore scripts before line o → ⊥)
-    × IsCut ignore scripts (before ++ b ∷ []) rest pieces
-IsCut ignore scripts before line (found o text ∷ pieces) = (rest : List ℕ) × (line ≡ text ++ rest)
-    × (length text ≡ o.width) × IsBetween ignore scripts before line o
-    × IsCut ignore scripts (before ++ text) rest pieces

@@ -1,12 +1,12 @@
 -- Laws about the definitions.
-use Rattle.std.specs.Prelude.{◌≡◌, ◌↔◌, ◌⊎◌, ℕ, Bool, false, List, [], ◌∷◌, ◌++◌, map, Option, Some}
+use Rattle.std.specs.Prelude.{◌≡◌, ◌↔◌, ◌⊎◌, ℕ, Bool, false, List, ◌∷◌, ◌++◌, flat_map, map, Option, Some}
 use Rattle.smap_record.specs.Record.{Mapping}
-use Rattle.smap_trace.specs.Anywhere.{IsCut, Occurrence, Piece, byte, found, pieces_of}
+use Rattle.smap_trace.specs.Anywhere.{Occurrence, byte, bytes_of, found, pieces_of}
 use Rattle.smap_trace.specs.Frame.{IsFrame, FrameParts, position_text}
 use Rattle.smap_trace.specs.Lookup.{FallsTo, mapping_at}
 use Rattle.smap_trace.specs.Reading.{frame_of}
 use Rattle.smap_trace.specs.Scripts.{AreDistinct, Script}
-use Rattle.smap_trace.specs.Translation.{anywhere_fate, frame_fate, without_line_feed, written}
+use Rattle.smap_trace.specs.Translation.{anywhere_fate, frame_fate}
 
 -- `frame_of` computes exactly the frame that a line is.
 abbrev pub FrameIsComputed : Type 0
@@ -21,10 +21,10 @@ abbrev pub LookupIsComputed : Type 0
 LookupIsComputed = (ms : List Mapping) (line column : ℕ) (found : Option Mapping)
     → (mapping_at ms line column ≡ found) ↔ FallsTo ms line column found
 
--- `pieces_of` computes exactly the pieces of a line, so that a line is cut in one way.
-abbrev pub CutIsComputed : Type 0
-CutIsComputed = (ignore : Bool) (scripts : List Script) (line : List ℕ) (pieces : List Piece)
-    → AreDistinct scripts → (pieces_of ignore scripts line ≡ pieces) ↔ IsCut ignore scripts [] line pieces
+-- The pieces of a line, joined, are the line.
+abbrev pub PiecesAreTheLine : Type 0
+PiecesAreTheLine = (ignore : Bool) (scripts : List Script) (line : List ℕ)
+    → flat_map bytes_of (pieces_of ignore scripts line) ≡ line
 
 -- The line holds no position but that of its frame, if that is one of a script.
 abbrev pub HoldsOwnAlone : List Script → List ℕ → FrameParts → Type 0
@@ -33,10 +33,9 @@ HoldsOwnAlone scripts line f = (pieces_of false scripts line ≡ map byte line) 
     × (pieces_of false scripts line ≡ map byte f.before
     ++ found o (position_text f.url f.line f.column) ∷ map byte f.after))
 
--- A line that is a frame, and holds no further position, has the same translation in both ways. (`ended` is
--- the line with its line feed, or without one.)
+-- The same becomes of a line that is a frame and holds no further position, whether positions are found in
+-- frames or anywhere.
 abbrev pub FramesAreFoundAnywhere : Type 0
-FramesAreFoundAnywhere = (scripts : List Script) (hide : Bool) (line ended : List ℕ) (f : FrameParts)
+FramesAreFoundAnywhere = (scripts : List Script) (hide : Bool) (line : List ℕ) (f : FrameParts)
     → AreDistinct scripts → IsFrame line f → HoldsOwnAlone scripts line f
-    → without_line_feed ended ≡ line
-    → written (anywhere_fate false scripts hide line) ended ≡ written (frame_fate false scripts hide line) ended
+    → anywhere_fate false scripts hide line ≡ frame_fate false scripts hide line

@@ -1,6 +1,6 @@
 //! Laws about the definitions. Each is the contract of a function that does nothing.
 ghost use Rattle.smap_trace.specs.Laws.{FrameIsComputed, FramesAreFoundAnywhere};
-ghost use Rattle.smap_trace.specs.Laws.{LookupIsComputed, OneReading};
+ghost use Rattle.smap_trace.specs.Laws.{LookupIsComputed, OneReading, PiecesAreTheLine};
 
 /// The function that finds frames finds exactly those of the grammar.
 pub fn frames_are_computed()
@@ -18,8 +18,13 @@ pub fn lookups_are_computed()
     ensures { LookupIsComputed }
 {}
 
-/// A line that is a frame, and holds no position but its own, has the same translation whether positions are
-/// found in frames or anywhere.
+/// The pieces into which a line is cut, joined, are the line.
+pub fn pieces_are_the_line()
+    ensures { PiecesAreTheLine }
+{}
+
+/// The same becomes of a line that is a frame, and holds no position but its own, whether positions are found
+/// in frames or anywhere.
 pub fn frames_are_found_anywhere()
     ensures { FramesAreFoundAnywhere }
 {}

@@ -1,9 +1,7 @@
-use Rattle.std.proofs.Common.{◌≡◌, ◌∙◌, ℕ, ◌+◌, ◌<◌, ◌||◌, Bool, true, false, length, take, drop, get_or, refl, sym}
-use Rattle.std.proofs.Common.{ap, arith, length-drop, rules, List}
+use Rattle.std.proofs.Common.{◌≡◌, ◌∙◌, ◌+◌, ◌<◌, true, length, drop, get_or, sym}
+use Rattle.std.proofs.Common.{arith, length-drop, rules}
 use Rattle.std.specs.Char.{is_ascii_digit}
-use Rattle.std.specs.List.{list_any}
 use Rattle.std.proofs.lemmas.Bool.{eqb-true}
-use Rattle.smap_trace.specs.Cutting.{has_place}
 use Rattle.smap_trace.proofs.CuttingLemmas.{behind_colon, no_colon}
 use Rattle.smap_trace.proofs.LineLemmas.{left_is}
 use Rattle.smap_trace.proofs.anywhere.holds_place.Goals as goal

@@ -1,5 +1,4 @@
-use Rattle.std.proofs.Common.{◌≡◌, ◌∙◌, ◌+◌, ◌-◌, ◌<◌, ◌≤◌, drop, take, length, sym, ap, arith, rules, ℕ, List, Some, None}
-use Rattle.smap_trace.specs.OccurrenceView.{occurrence_in}
+use Rattle.std.proofs.Common.{drop, take, sym}
 use Rattle.smap_trace.proofs.CuttingLemmas.{all_bytes, byte_next, found_next, nothing_next, nothing_before}
 use Rattle.smap_trace.proofs.LineLemmas.{left_is}
 use Rattle.smap_trace.proofs.anywhere.next_occurrence.Goals as goal

@@ -1,5 +1,5 @@
-use Rattle.std.proofs.Common.{◌≡◌, ◌∙◌, ◌+◌, ◌-◌, ◌++◌, ◌||◌, Bool, true, ℕ, List, take, drop, length, sym, ap, arith, rules}
-use Rattle.std.proofs.Common.{flat_map, slice_range, Err, OnErr, Result}
+use Rattle.std.proofs.Common.{◌∙◌, ◌+◌, ◌++◌, ℕ, List, drop, sym, ap}
+use Rattle.std.proofs.Common.{flat_map, slice_range}
 use Rattle.std.specs.Io.{StartsWith}
 use Rattle.std.specs.List.{list_any}
 use Rattle.smap_trace.specs.Anywhere.{Piece, found, pieces_of}

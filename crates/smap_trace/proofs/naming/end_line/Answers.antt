@@ -1,4 +1,4 @@
-use Rattle.std.proofs.Common.{length, rules}
+use Rattle.std.proofs.Common.{length}
 use Rattle.smap_trace.proofs.LineLemmas.{some_length}
 use Rattle.smap_trace.proofs.NamingLemmas.{last_url}
 use Rattle.smap_trace.proofs.naming.end_line.Goals as goal

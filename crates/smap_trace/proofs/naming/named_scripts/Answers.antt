@@ -18,8 +18,7 @@ returns-then-n-eq0-clause-names g c =
     (subst (λ (k : ℕ). Gave g.R.Read.remaining c.pieces.reader c.read.new.self (take k c.read.new.buf))
     c.if-n-eq0.true c.in-Ok.ensures.bytes.0)
     (c.in-Ok-end_line.ensures ∙ ap (λ (xs : List ℕ). with_urls (urls_of xs) (named_of c.pieces.lines.entries))
-    c.deref.ensures.value) in
-    (
+    c.deref.ensures.value) in (
       s.whole ++ c.pieces.line.items,
       p.0,
       (ended, c.in-Ok.ensures.bytes.1 c.if-n-eq0.true room),
@@ -30,8 +29,7 @@ returns-then-n-eq0-clause-names g c =
 pub returns-in_default-take_piece-clause-names : goal.returns-in_default-take_piece-clause-names
 returns-in_default-take_piece-clause-names g c =
     let s = c.pieces.invariant.so_far in
-    let piece = take c.in-Ok.n c.read.new.buf in
-    (
+    let piece = take c.in-Ok.n c.read.new.buf in (
       (s.whole ++ c.pieces.line.items) ++ piece,
       Gave-then g.R.Read.remaining c.args.reader.now c.pieces.reader c.read.new.self
           (s.whole ++ c.pieces.line.items) piece s.read c.in-Ok.ensures.bytes.0,

@@ -1,9 +1,8 @@
-use Rattle.std.proofs.Common.{◌≡◌, ◌∙◌, drop, sym, ap, arith, rules, length, option_map, List, ℕ, refl, subst, Option}
-use Rattle.std.proofs.Common.{IfSome}
+use Rattle.std.proofs.Common.{◌∙◌, sym, rules, length, option_map}
 use Rattle.std.proofs.lemmas.List.{drop_all}
 use Rattle.smap_record.specs.Record.{record_of}
-use Rattle.smap_trace.specs.Anywhere.{longer, longest}
-use Rattle.smap_trace.specs.OccurrenceView.{IsWithin, occurrence_in}
+use Rattle.smap_trace.specs.Anywhere.{longest}
+use Rattle.smap_trace.specs.OccurrenceView.{occurrence_in}
 use Rattle.smap_trace.specs.Views.{scripts_in}
 use Rattle.smap_trace.proofs.OccurrenceLemmas.{one_more_script, longer-none, either_within}
 use Rattle.smap_trace.proofs.scripts.ListedMaps.occurrence_at.Goals as goal
