@@ -427,6 +427,12 @@ is_plain_line : list_all is_plain_level (built smap).subs ≡ true
 unfolding clap_on_literals
 is_plain_line = refl
 
+-- What a parse matched is what the definition gives for the words.
+pub given_rows : (old : Command) (words : List Text) (m : ArgMatches) → app_of old ≡ smap
+    → HasMatchesOf (app_of old) words m → subcommand_rows_of m ≡ subcommand_of smap words
+given_rows old words m shape matches =
+    (subst (λ (a : App). HasMatchesOf a words m) shape matches is_simple_line).1
+
 -- A parse that succeeded met a command that there is, with its values.
 pub met_command : (old : Command) (words : List Text) (m : ArgMatches) → app_of old ≡ smap
     → (out-Command old).has_globals ≡ false

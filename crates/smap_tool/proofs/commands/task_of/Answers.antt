@@ -3,11 +3,14 @@ use Rattle.clap.specs.Words.{App, HasKind, IsAmong, Kinds, fault_of, is_simple_a
 use Rattle.clap.specs.declared.error.Error.{Error}
 use Rattle.clap.specs.declared.error.kind.ErrorKind.{ErrorKind}
 use Rattle.clap.specs.declared.error.kind.ErrorKind.TheVariants.{OutOfMemory}
+use Rattle.clap.specs.Words.{Row, Text}
+use Rattle.std.proofs.Common.{List, Option}
+use Rattle.smap_tool.specs.Commands.{TaskGiven}
 use Rattle.smap_tool.specs.Words.{IsRefusalBy, IsRefusalOf}
 use Rattle.smap_tool.specs.declared.words.WordsFault.{WordsFault}
 use Rattle.smap_tool.specs.declared.words.WordsFault.TheVariants as fault
 use Rattle.smap_tool.proofs.RangeLemmas.{task_in_range}
-use Rattle.smap_tool.proofs.WordsLemmas.{is_free_line, met_command}
+use Rattle.smap_tool.proofs.WordsLemmas.{given_rows, is_free_line, met_command}
 use Rattle.smap_tool.proofs.commands.task_of.Goals as goal
 
 memory_of : (k : ErrorKind) (f : WordsFault) → IsRefusalOf k f → k ≡ OutOfMemory → f ≡ fault.Memory
@@ -55,3 +58,9 @@ unreachable-requires c =
     parse.matches parse.kinds in
     let found : false ≡ true = c.in-None.ensures.found met in
     absurd cc
+
+pub returns-in-Some-clause-task : goal.returns-in-Some-clause-task
+returns-in-Some-clause-task c =
+    subst (λ (o : Option (Text × List Row)). TaskGiven o c.in-Some.task)
+    (given_rows c.in-Ok.command (map (λ w. w.now) c.args.words.now) c.in-Ok-try_get_matches_from.matches
+    c.in-Ok.ensures.shape c.in-Ok-try_get_matches_from.ensures.matches) c.in-Some.ensures.task

@@ -15,7 +15,8 @@ returns-in-Err-Refused-clause-answers g c =
     let stops = rw c.in-Err-Refused.field-0-is at (c.in-Err-Refused.ensures.stops (fates_asked c.args.finding c.args.hide)) in
     refused_run g.R.Read.remaining g.W.Write.contents (fates_asked c.args.finding c.args.hide) c.args.reader.now c.read_bundle.new.reader
     c.args.writer.now c.refuse.new.writer
-    c.in-Err-Refused.refusal c.refuse.result stops.0 stops.1 c.refuse.ensures.writes
+    c.in-Err-Refused.refusal c.refuse.result stops.0 stops.1
+    (rw c.in-Err-Refused.field-0-is at c.refuse.ensures.writes)
 
 pub returns-in-Err-TooLong-clause-answers : goal.returns-in-Err-TooLong-clause-answers
 returns-in-Err-TooLong-clause-answers g c =
