@@ -273,11 +273,28 @@ typedef struct smap_frame_parts {
 /* OK: the line, without its line feed, is a frame as V8, Firefox or Safari writes it. NONE: it isn't. */
 uint32_t smap_frame(const void *line, size_t len, smap_frame_parts *out);
 
-/* Translates one line, with its line feed if it has one, by the map of the script at `url`. `hide` drops
- * frames in ignored sources. OK: `out` gets the line to write, and *outcome is what became of it. NOT_URL:
- * `url` isn't UTF-8. CLOSED, MEMORY. */
+/* How a trace is translated: 0, or some of these joined by `|`. Other bits aren't looked at.
+ *
+ * The parameter used to be `bool hide`. True and false mean what they meant, also where a program that was
+ * compiled then passes them. */
+enum {
+    /* Lines that are frames in ignored sources are dropped. */
+    SMAP_HIDE_IGNORED = 1,
+
+    /* Positions are found anywhere in a line, also behind a timestamp, and several of them: wherever the URL
+     * of a script stands, with a line and a column behind it. Without this bit only a line that is a frame
+     * has a position. The same lines are dropped with and without it. */
+    SMAP_ANYWHERE = 2,
+
+    /* The URL of a script may be followed by a query and a fragment, which are replaced with it, as in
+     * `out.js?v=3:1:2`. Where the URLs of several scripts fit, the longest counts. */
+    SMAP_IGNORE_QUERY = 4
+};
+
+/* Translates one line, with its line feed if it has one, by the map of the script at `url`. OK: `out` gets
+ * the line to write, and *outcome is what became of it. NOT_URL: `url` isn't UTF-8. CLOSED, MEMORY. */
 uint32_t smap_translate_line(smap_map *map, const char *url, size_t url_len, const void *line,
-                             size_t line_len, bool hide, char *out, size_t room, size_t *len,
+                             size_t line_len, uint8_t how, char *out, size_t room, size_t *len,
                              uint32_t *outcome);
 
 /* Scripts, each a URL and a map. Its fields are for the library alone. */
@@ -299,9 +316,9 @@ typedef struct smap_trace_counts {
     uint64_t lines, translated, dropped;
 } smap_trace_counts;
 
-/* Translates a whole trace. `hide` drops frames in ignored sources. OK: `out` holds the translated trace, and
- * *counts (`counts` may be NULL) says how many lines there were. CLOSED: `scripts` is; MEMORY. */
-uint32_t smap_translate(smap_scripts *scripts, const void *trace, size_t len, bool hide, smap_bytes *out,
+/* Translates a whole trace. OK: `out` holds the translated trace, and *counts (`counts` may be NULL) says how
+ * many lines there were. CLOSED: `scripts` is; MEMORY. */
+uint32_t smap_translate(smap_scripts *scripts, const void *trace, size_t len, uint8_t how, smap_bytes *out,
                         smap_trace_counts *counts);
 
 #ifdef __cplusplus
@@ -384,14 +401,14 @@ static inline uint32_t smap_frame_(const void *line, size_t len, smap_frame_part
 }
 
 static inline uint32_t smap_translate_line_(smap_map *map, const char *url, size_t url_len, const void *line,
-                                            size_t line_len, bool hide, char *out, size_t room, size_t *len,
+                                            size_t line_len, uint8_t how, char *out, size_t room, size_t *len,
                                             uint32_t *outcome)
 {
     char none;
     size_t unwanted;
     uint32_t ignored;
     return smap_translate_line(map, url ? url : smap_no_text_, url_len, line ? line : smap_no_text_, line_len,
-                               hide, out ? out : &none, room, len ? len : &unwanted,
+                               how, out ? out : &none, room, len ? len : &unwanted,
                                outcome ? outcome : &ignored);
 }
 
@@ -400,11 +417,11 @@ static inline uint32_t smap_add_script_(smap_scripts *scripts, const char *url, 
     return smap_add_script(scripts, url ? url : smap_no_text_, url_len, map);
 }
 
-static inline uint32_t smap_translate_(smap_scripts *scripts, const void *trace, size_t len, bool hide,
+static inline uint32_t smap_translate_(smap_scripts *scripts, const void *trace, size_t len, uint8_t how,
                                        smap_bytes *out, smap_trace_counts *counts)
 {
     smap_trace_counts unwanted;
-    return smap_translate(scripts, trace ? trace : smap_no_text_, len, hide, out,
+    return smap_translate(scripts, trace ? trace : smap_no_text_, len, how, out,
                           counts ? counts : &unwanted);
 }
 

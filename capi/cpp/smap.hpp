@@ -115,10 +115,10 @@ inline uint32_t add_script(Scripts &scripts, const std::string &url, Map &map)
 }
 
 /* Translates a whole trace, as smap_translate does. */
-inline uint32_t translate(Scripts &scripts, const std::string &trace, bool hide, Bytes &out,
+inline uint32_t translate(Scripts &scripts, const std::string &trace, uint8_t how, Bytes &out,
                           smap_trace_counts *counts = nullptr)
 {
-    return smap_translate(scripts.handle(), trace.data(), trace.size(), hide, out.handle(), counts);
+    return smap_translate(scripts.handle(), trace.data(), trace.size(), how, out.handle(), counts);
 }
 
 } // namespace smap

@@ -140,13 +140,13 @@ unsafe extern "C" {
     fn smap_bytes_free(bytes: Owned);
     fn smap_frame(line: Text, len: usize, out: *mut RawFrame) -> u32;
     fn smap_translate_line(
-        map: Owned, url: Text, url_len: usize, line: Text, line_len: usize, hide: bool, out: Out,
+        map: Owned, url: Text, url_len: usize, line: Text, line_len: usize, how: u8, out: Out,
         room: usize, len: Len, outcome: *mut u32,
     ) -> u32;
     fn smap_add_script(scripts: Owned, url: Text, url_len: usize, map: Owned) -> u32;
     fn smap_close_scripts(scripts: Owned);
     fn smap_translate(
-        scripts: Owned, trace: Text, len: usize, hide: bool, out: Owned, counts: *mut TraceCounts,
+        scripts: Owned, trace: Text, len: usize, how: u8, out: Owned, counts: *mut TraceCounts,
     ) -> u32;
 }
 
@@ -155,6 +155,10 @@ const REFUSED: u32 = 1;
 const NOT_URL: u32 = 2;
 const LIMITS: u32 = 3;
 const MEMORY: u32 = 4;
+
+const HIDE_IGNORED: u8 = 1;
+const ANYWHERE: u8 = 2;
+const IGNORE_QUERY: u8 = 4;
 
 /// The first fault of a map or of a mappings text: its kind (one of smap.h's SMAP_FAULT_..), the path of its
 /// section, the line and the segment, the number that the kind carries, and its words.
@@ -348,6 +352,37 @@ pub enum Line {
     Dropped,
 }
 
+/// How a trace is translated. A `bool` may stand for it, which says whether to hide.
+///
+/// ```text
+/// let options = smap::TraceOptions { anywhere: true, ..Default::default() };
+/// let (text, counts) = scripts.translate(log, options)?;
+/// ```
+#[derive(Clone, Copy, Debug, Default, PartialEq, Eq)]
+pub struct TraceOptions {
+    /// Lines that are frames in ignored sources are dropped.
+    pub hide: bool,
+    /// Positions are found anywhere in a line, not only in lines that are frames.
+    pub anywhere: bool,
+    /// The URL of a script may be followed by a query and a fragment.
+    pub ignore_query: bool,
+}
+
+impl From<bool> for TraceOptions {
+    fn from(hide: bool) -> TraceOptions {
+        TraceOptions { hide, ..TraceOptions::default() }
+    }
+}
+
+impl TraceOptions {
+    /// The bits of smap.h for them.
+    fn how(self) -> u8 {
+        let bits =
+            [(self.hide, HIDE_IGNORED), (self.anywhere, ANYWHERE), (self.ignore_query, IGNORE_QUERY)];
+        bits.iter().filter(|(is_set, _)| *is_set).map(|(_, bit)| bit).sum()
+    }
+}
+
 /// A source map. Its handle is in a cell, since each call has its handle to itself while it runs.
 pub struct Map(UnsafeCell<Handle>);
 
@@ -496,12 +531,14 @@ impl Map {
     }
 
     /// Translates a line of a trace, with its line feed where it has one, by this map of the script at `url`.
-    pub fn translate_line(&self, url: &str, line: &[u8], hide: bool) -> Result<Line, Error> {
-        let mut outcome = 0;
+    pub fn translate_line(
+        &self, url: &str, line: &[u8], options: impl Into<TraceOptions>,
+    ) -> Result<Line, Error> {
+        let (mut outcome, how) = (0, options.into().how());
         let (map, url, url_len) = (self.0.get(), url.as_ptr(), url.len());
         let (line, line_len) = (line.as_ptr(), line.len());
         let text = copied(|out, room, len| unsafe {
-            smap_translate_line(map, url, url_len, line, line_len, hide, out, room, len, &mut outcome)
+            smap_translate_line(map, url, url_len, line, line_len, how, out, room, len, &mut outcome)
         });
         match (text, outcome) {
             (None, _) => Err(Error::Memory),
@@ -542,16 +579,17 @@ impl Scripts {
         if code == OK { Ok(()) } else { Err(Error::Memory) }
     }
 
-    /// A whole trace with its frames at their positions in the sources, and the counts of its lines. `hide`
-    /// drops frames in ignored sources.
-    pub fn translate(&self, trace: &[u8], hide: bool) -> Result<(Vec<u8>, TraceCounts), Error> {
-        let mut counts = TraceCounts::default();
+    /// A whole trace with its positions replaced by those in the sources, and the counts of its lines.
+    pub fn translate(
+        &self, trace: &[u8], options: impl Into<TraceOptions>,
+    ) -> Result<(Vec<u8>, TraceCounts), Error> {
+        let (mut counts, how) = (TraceCounts::default(), options.into().how());
         let (scripts, text, len) = (self.0.get(), trace.as_ptr(), trace.len());
         if !unsafe { (*scripts).is_open } {
             counts.lines = trace.split_inclusive(|&byte| byte == b'\n').count() as u64;
             return Ok((trace.to_vec(), counts));
         }
-        written(|out| unsafe { smap_translate(scripts, text, len, hide, out, &mut counts) })
+        written(|out| unsafe { smap_translate(scripts, text, len, how, out, &mut counts) })
             .map(|told| (told, counts))
             .map_err(|_| Error::Memory)
     }

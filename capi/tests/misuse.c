@@ -205,6 +205,99 @@ static void scripts_of(smap_map *map)
     smap_bytes_free(&out);
 }
 
+/* ---- how a trace is translated: by each bit, by several, and by bits that mean nothing */
+
+static const struct {
+    const char *line;
+    uint8_t how;
+    uint32_t outcome;
+    const char *told;
+} ways[] = {
+    {"9:00 at f (http://h/m/out.js:1:2) {\n", 0, SMAP_KEPT, "9:00 at f (http://h/m/out.js:1:2) {\n"},
+    {"9:00 at f (http://h/m/out.js:1:2) {\n", SMAP_ANYWHERE, SMAP_TRANSLATED,
+     "9:00 at f (http://h/m/a.js:11:3) {\n"},
+    {"9:00 at f (http://h/m/out.js:1:2) {\n", SMAP_HIDE_IGNORED | SMAP_IGNORE_QUERY, SMAP_KEPT,
+     "9:00 at f (http://h/m/out.js:1:2) {\n"},
+    {"9:00 at f (http://h/m/out.js:1:2) {\n", 0xfd, SMAP_KEPT, "9:00 at f (http://h/m/out.js:1:2) {\n"},
+    {"http://h/m/out.js:1:2 and http://h/m/out.js:1:5", SMAP_ANYWHERE, SMAP_TRANSLATED,
+     "http://h/m/a.js:11:3 and http://h/m/a.js:13:3"},
+    {"@http://h/m/out.js?v=3:1:2", SMAP_HIDE_IGNORED | SMAP_ANYWHERE, SMAP_KEPT,
+     "@http://h/m/out.js?v=3:1:2"},
+    {"@http://h/m/out.js?v=3:1:2", SMAP_IGNORE_QUERY, SMAP_TRANSLATED, "@http://h/m/a.js:11:3"},
+    {"9:00 http://h/m/out.js?v=3:1:2,", SMAP_IGNORE_QUERY, SMAP_KEPT, "9:00 http://h/m/out.js?v=3:1:2,"},
+    {"9:00 http://h/m/out.js?v=3:1:2,", SMAP_ANYWHERE | SMAP_IGNORE_QUERY, SMAP_TRANSLATED,
+     "9:00 http://h/m/a.js:11:3,"},
+    {"@http://h/m/out.js:2:1\n", SMAP_ANYWHERE, SMAP_TRANSLATED, "@http://h/m/b.js:13:3\n"},
+    {"@http://h/m/out.js:2:1\n", SMAP_HIDE_IGNORED, SMAP_DROPPED, ""},
+    {"@http://h/m/out.js:2:1\n", 0xf9, SMAP_DROPPED, ""},
+    {"@http://h/m/out.js:2:1\n", SMAP_HIDE_IGNORED | SMAP_ANYWHERE, SMAP_DROPPED, ""},
+    {"9:00 http://h/m/out.js:2:1 {\n", SMAP_HIDE_IGNORED | SMAP_ANYWHERE, SMAP_TRANSLATED,
+     "9:00 http://h/m/b.js:13:3 {\n"},
+    {"@http://h/m/out.js?v=3:2:1", SMAP_HIDE_IGNORED | SMAP_ANYWHERE | SMAP_IGNORE_QUERY, SMAP_DROPPED, ""},
+};
+
+/* Translates the row's line by itself, and as a trace. */
+static void way_of(smap_map *map, smap_scripts *scripts, size_t i)
+{
+    const char *line = ways[i].line, *told = ways[i].told;
+    size_t n = strlen(line), told_len = strlen(told), len = 0;
+    uint32_t outcome = 9;
+    smap_bytes out = {0};
+    smap_trace_counts counts = {7, 7, 7};
+    char room[64];
+    CHECK(smap_translate_line(map, script, strlen(script), line, n, ways[i].how, room, sizeof room, &len,
+                              &outcome) == SMAP_OK);
+    CHECK(outcome == ways[i].outcome);
+    CHECK(len == told_len && memcmp(room, told, told_len) == 0);
+    CHECK(smap_translate(scripts, line, n, ways[i].how, &out, &counts) == SMAP_OK);
+    CHECK(smap_bytes_copy(&out, 0, room, sizeof room) == told_len && memcmp(room, told, told_len) == 0);
+    CHECK(counts.lines == 1);
+    CHECK(counts.translated == (ways[i].outcome == SMAP_TRANSLATED));
+    CHECK(counts.dropped == (ways[i].outcome == SMAP_DROPPED));
+    smap_bytes_free(&out);
+}
+
+static void ways_of(smap_map *map)
+{
+    smap_scripts scripts = {0};
+    CHECK(smap_add_script(&scripts, script, strlen(script), map) == SMAP_OK);
+    for (size_t i = 0; i < sizeof ways / sizeof *ways; i++) {
+        int before = failures;
+        way_of(map, &scripts, i);
+        if (failures > before) printf("  %s by %d\n", ways[i].line, ways[i].how);
+    }
+    smap_close_scripts(&scripts);
+}
+
+/* The two functions of the library as version 0.1 declared them, which what was compiled then still calls. */
+extern uint32_t line_by_bool(smap_map *map, const char *url, size_t url_len, const void *line,
+                             size_t line_len, bool hide, char *out, size_t room, size_t *len,
+                             uint32_t *outcome) __asm__("smap_translate_line");
+extern uint32_t trace_by_bool(smap_scripts *scripts, const void *trace, size_t len, bool hide,
+                              smap_bytes *out, smap_trace_counts *counts) __asm__("smap_translate");
+
+static void callers_with_bool(smap_map *map)
+{
+    static const char lines[] = "@u:2:1\n9:00 u:2:1 {\n";
+    smap_scripts scripts = {0};
+    smap_bytes out = {0};
+    smap_trace_counts counts;
+    CHECK(smap_add_script(&scripts, "u", 1, map) == SMAP_OK);
+    for (int i = 0; i < 2; i++) {
+        volatile bool hide = i;
+        char room[64];
+        size_t len;
+        uint32_t outcome;
+        CHECK(line_by_bool(map, "u", 1, lines, 7, hide, room, sizeof room, &len, &outcome) == SMAP_OK);
+        CHECK(outcome == (hide ? SMAP_DROPPED : SMAP_TRANSLATED) && len == (hide ? 0 : 22));
+        CHECK(hide || memcmp(room, "@http://h/m/b.js:13:3\n", len) == 0);
+        CHECK(trace_by_bool(&scripts, lines, strlen(lines), hide, &out, &counts) == SMAP_OK);
+        CHECK(counts.lines == 2 && counts.translated == !hide && counts.dropped == hide);
+    }
+    smap_bytes_free(&out);
+    smap_close_scripts(&scripts);
+}
+
 int main(void)
 {
     smap_map map = {0}, other = {0};
@@ -217,6 +310,8 @@ int main(void)
     bytes_of(&map);
     traces(&map);
     scripts_of(&map);
+    ways_of(&map);
+    callers_with_bool(&map);
     faults();
     CHECK(smap_share(&map, &other) == SMAP_OK && smap_same(&map, &other, &same) == SMAP_OK && same);
     CHECK(open_text(&other, "{\"version\":3,\"mappings\":\"\"}", NULL) == SMAP_OK);

@@ -103,6 +103,29 @@ class ModuleTest(unittest.TestCase):
             self.assertEqual(told, b"@http://h/m/c.js:1:1\n")
             self.assertEqual((counts.lines, counts.translated, counts.dropped), (2, 1, 1))
 
+    def test_positions_are_found_in_other_ways(self):
+        url, asked = "http://h/m/out.js", b"@http://h/m/out.js?v=3:1:2"
+        stamped = b"9:00     at f (http://h/m/out.js:1:2) {\n"
+        told = b"9:00     at f (http://h/m/a.js:11:3) {\n"
+        self.assertEqual(self.map.translate_line(stamped, url), stamped)
+        self.assertEqual(self.map.translate_line(stamped, url, ignore_query=True), stamped)
+        self.assertEqual(self.map.translate_line(stamped, url, anywhere=True), told)
+        self.assertEqual(self.map.translate(stamped.decode(), url, anywhere=True), told.decode())
+        self.assertEqual(self.map.translate_line(asked, url, anywhere=True), asked)
+        self.assertEqual(self.map.translate_line(asked, url, ignore_query=True), b"@http://h/m/a.js:11:3")
+        both = self.map.translate(b"9:00 http://h/m/out.js?v=3:1:2,", url, anywhere=True, ignore_query=True)
+        self.assertEqual(both, b"9:00 http://h/m/a.js:11:3,")
+        with smap.Scripts({"u": self.map}) as scripts:
+            told, counts = scripts.translate(b"@u:2:1\n9:00 u:2:1 {\n", True, anywhere=True)
+        self.assertEqual(told, b"9:00 http://h/m/b.js:13:3 {\n")
+        self.assertEqual((counts.lines, counts.translated, counts.dropped), (2, 1, 1))
+
+    def test_hide_may_be_passed_by_its_place(self):
+        self.assertIsNone(self.map.translate_line(b"@u:2:1", "u", True))
+        self.assertEqual(self.map.translate_line(b"@u:2:1", "u", False), b"@http://h/m/b.js:13:3")
+        self.assertEqual(self.map.translate(b"@u:2:1\n", "u", True), b"")
+        self.assertEqual(smap.translate(b"@u:2:1\n", {"u": self.map}, True), b"")
+
     def test_fields_lie_where_the_test_in_c_says(self):
         rows = re.findall(r"FIELD\((\w+), (\w+), (\d+), (\d+)\)", FIELDS.read_text())
         for name, struct in STRUCTS.items():

@@ -38,6 +38,8 @@ int main()
     CHECK(smap::translate(kept, "@u:1:2\n@v:1:2", false, bytes, &counts) == SMAP_OK);
     CHECK(smap::text(bytes) == "@http://h/m/a.js:11:3\n@v:1:2");
     CHECK(counts.lines == 2 && counts.translated == 1 && counts.dropped == 0);
+    CHECK(smap::translate(kept, "9:00 u?v=3:1:2 {", SMAP_ANYWHERE | SMAP_IGNORE_QUERY, bytes) == SMAP_OK);
+    CHECK(smap::text(bytes) == "9:00 http://h/m/a.js:11:3 {");
     CHECK(smap::code_name(SMAP_CLOSED) == "closed handle");
     CHECK(smap::open(last, "[]", base, &fault) == SMAP_REFUSED && std::string(fault.text) == "not an object");
     return failures != 0;

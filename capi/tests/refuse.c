@@ -31,6 +31,7 @@ static smap_fault fault;
 static char room[256];
 static size_t len;
 static uint32_t outcome;
+static uint8_t how;
 
 static uint32_t open_map(void)
 {
@@ -79,7 +80,7 @@ static uint32_t respell_broken(void)
 
 static uint32_t line(void)
 {
-    return smap_translate_line(&map, script, strlen(script), frame_line, strlen(frame_line), false, room,
+    return smap_translate_line(&map, script, strlen(script), frame_line, strlen(frame_line), how, room,
                                sizeof room, &len, &outcome);
 }
 
@@ -98,7 +99,7 @@ static uint32_t add_first(void)
 
 static uint32_t translate(void)
 {
-    return smap_translate(&scripts, frame_line, strlen(frame_line), false, &out, NULL);
+    return smap_translate(&scripts, frame_line, strlen(frame_line), how, &out, NULL);
 }
 
 /* Makes the call with the growth of each number refused, and counts them. */
@@ -138,6 +139,9 @@ int main(void)
     refuse("respell", respell, SMAP_OK);
     refuse("respell a broken text", respell_broken, SMAP_REFUSED);
     refuse("translate a line", line, SMAP_OK);
+    how = SMAP_ANYWHERE | SMAP_IGNORE_QUERY;
+    refuse("translate a line anywhere", line, SMAP_OK);
+    how = 0;
     refuse("add the first script", add_first, SMAP_OK);
     CHECK(smap_add_script(&scripts, "u", 1, &map) == SMAP_OK);
     refuse("add a script", add, SMAP_OK);
@@ -145,6 +149,8 @@ int main(void)
     refuse("translate", translate, SMAP_OK);
     for (char url[] = "a"; url[0] < 'g'; url[0]++) CHECK(smap_add_script(&scripts, url, 1, &map) == SMAP_OK);
     refuse("translate by many", translate, SMAP_OK);
+    how = SMAP_ANYWHERE | SMAP_IGNORE_QUERY;
+    refuse("translate anywhere by many", translate, SMAP_OK);
     smap_close_scripts(&scripts);
     smap_close(&map);
     return failures != 0;

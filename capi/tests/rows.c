@@ -70,7 +70,7 @@ static char *add_entry(smap_scripts *scripts, char *entry)
     return text + len + 1;
 }
 
-static int translate(bool hide)
+static int translate(uint8_t how)
 {
     smap_scripts scripts = {0};
     smap_bytes out = {0};
@@ -81,12 +81,24 @@ static int translate(bool hide)
     rest += 6;
     len -= (size_t)(rest - text);
     if (scripts.is_open)
-        status = write_bytes(smap_translate(&scripts, rest, len, hide, &out, NULL), &out);
+        status = write_bytes(smap_translate(&scripts, rest, len, how, &out, NULL), &out);
     else
         status = fwrite(rest, 1, len, stdout) != len;
     smap_close_scripts(&scripts);
     free(text);
     return status;
+}
+
+/* The bits of the flags of `translate`. */
+static uint8_t how_by(int argc, char **argv)
+{
+    uint8_t how = 0;
+    for (int i = 2; i < argc; i++) {
+        if (!strcmp(argv[i], "--hide-ignored")) how |= SMAP_HIDE_IGNORED;
+        if (!strcmp(argv[i], "--anywhere")) how |= SMAP_ANYWHERE;
+        if (!strcmp(argv[i], "--ignore-query")) how |= SMAP_IGNORE_QUERY;
+    }
+    return how;
 }
 
 static int check(smap_map *map)
@@ -161,7 +173,7 @@ int main(int argc, char **argv)
     const char *base = argv[relative ? 3 : 2];
     char *text;
     if (argc == 2 && !strcmp(argv[1], "respell")) return respell();
-    if (argc > 1 && !strcmp(argv[1], "translate")) return translate(argc > 2);
+    if (argc > 1 && !strcmp(argv[1], "translate")) return translate(how_by(argc, argv));
     if (argc < 3) return 2;
     text = read_input(&len);
     code = smap_open(&map, text, len, base, strlen(base), NULL, &fault);

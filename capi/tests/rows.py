@@ -27,7 +27,7 @@ def checked(m):
     )
 
 
-def translated(data, hide):
+def translated(data, flags):
     scripts, open_maps = smap.Scripts(), []
     while not data.startswith(b"trace\n"):
         header, _, data = data.partition(b"\n")
@@ -35,12 +35,14 @@ def translated(data, hide):
         open_maps.append(smap.Map.open(data[: int(length)], base))
         scripts.add(url, open_maps[-1])
         data = data[int(length) + 1 :]
-    return scripts.translate(data[6:], hide)[0]
+    anywhere, ignore_query = "--anywhere" in flags, "--ignore-query" in flags
+    hide = "--hide-ignored" in flags
+    return scripts.translate(data[6:], hide, anywhere=anywhere, ignore_query=ignore_query)[0]
 
 
 def answer(words, data):
     if words[0] == "translate":
-        return translated(data, words[1:] == ["--hide-ignored"])
+        return translated(data, words[1:])
     if words[0] == "respell":
         return smap.respell(data[:-1] if data.endswith(b"\n") else data) + b"\n"
     relative = words[1] == "--relative"

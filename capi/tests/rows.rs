@@ -3,7 +3,7 @@
 #[path = "../rust/smap.rs"]
 mod smap;
 
-use smap::{Error, Map};
+use smap::{Error, Map, TraceOptions};
 use std::io::{Read, Write};
 
 /// A name as JSON writes it.
@@ -47,7 +47,7 @@ fn checked(map: &Map) -> Result<String, Error> {
 }
 
 /// The trace of a bundle, translated by its maps.
-fn translated(mut data: &[u8], hide: bool) -> Result<Vec<u8>, Error> {
+fn translated(mut data: &[u8], flags: &[String]) -> Result<Vec<u8>, Error> {
     let mut scripts = smap::Scripts::new();
     while !data.starts_with(b"trace\n") {
         let end = data.iter().position(|&byte| byte == b'\n').unwrap();
@@ -56,7 +56,13 @@ fn translated(mut data: &[u8], hide: bool) -> Result<Vec<u8>, Error> {
         scripts.add(header[1], &Map::open(&data[end + 1..][..length], header[2])?)?;
         data = &data[end + 1 + length + 1..];
     }
-    scripts.translate(&data[6..], hide).map(|told| told.0)
+    let is_set = |flag| flags.iter().any(|given| given == flag);
+    let options = TraceOptions {
+        hide: is_set("--hide-ignored"),
+        anywhere: is_set("--anywhere"),
+        ignore_query: is_set("--ignore-query"),
+    };
+    scripts.translate(&data[6..], options).map(|told| told.0)
 }
 
 fn answer(words: &[String], data: &[u8]) -> Result<Vec<u8>, Error> {
@@ -66,7 +72,7 @@ fn answer(words: &[String], data: &[u8]) -> Result<Vec<u8>, Error> {
         return Ok(text);
     }
     if words[0] == "translate" {
-        return translated(data, words.len() > 1);
+        return translated(data, &words[1..]);
     }
     let relative = words[1] == "--relative";
     let map = Map::open(data, &words[if relative { 2 } else { 1 }])?;

@@ -2,7 +2,7 @@
 #[path = "../rust/smap.rs"]
 mod smap;
 
-use smap::{Counts, Error, Limits, ListedMapping, Map, Mapping, Scripts, TraceCounts};
+use smap::{Counts, Error, Limits, Line, ListedMapping, Map, Mapping, Scripts, TraceCounts, TraceOptions};
 
 const BASE: &str = "http://h/m/out.js.map";
 const TEXT: &[u8] = br#"{"version":3,"file":"out.js","sources":["a.js","b.js","a.js",null],
@@ -87,13 +87,36 @@ fn traces(map: &Map) -> Result<(), Error> {
     let frame = smap::frame(line).unwrap();
     assert_eq!((frame.url, frame.line, frame.column), (&b"http://h/m/out.js"[..], 1, 2));
     assert!(smap::frame(b"Error").is_none());
-    assert_eq!(map.translate_line("u", b"@u:2:1", true)?, smap::Line::Dropped);
+    assert_eq!(map.translate_line("u", b"@u:2:1", true)?, Line::Dropped);
     let (mut scripts, trace) = (Scripts::new(), b"@u:1:2\n@u:2:1\nx");
     let none = TraceCounts { lines: 3, ..TraceCounts::default() };
     assert_eq!(scripts.translate(trace, true)?, (trace.to_vec(), none));
     scripts.add("u", map)?;
     let counts = TraceCounts { lines: 3, translated: 1, dropped: 1 };
     assert_eq!(scripts.translate(trace, true)?, (b"@http://h/m/a.js:11:3\nx".to_vec(), counts));
+    Ok(())
+}
+
+/// Each option by itself, and together; and a `bool`, which stands for whether to hide.
+fn options(map: &Map) -> Result<(), Error> {
+    let anywhere = TraceOptions { anywhere: true, ..TraceOptions::default() };
+    let ignore_query = TraceOptions { ignore_query: true, ..TraceOptions::default() };
+    let hide = TraceOptions { hide: true, ..TraceOptions::default() };
+    let (stamped, asked) = (b"9:00 at f (u:1:2) {", b"@u?v=3:1:2");
+    let told = Line::Translated(b"9:00 at f (http://h/m/a.js:11:3) {".to_vec());
+    assert_eq!(map.translate_line("u", stamped, false)?, Line::Kept(stamped.to_vec()));
+    assert_eq!(map.translate_line("u", stamped, ignore_query)?, Line::Kept(stamped.to_vec()));
+    assert_eq!(map.translate_line("u", stamped, anywhere)?, told);
+    assert_eq!(map.translate_line("u", asked, anywhere)?, Line::Kept(asked.to_vec()));
+    let told = Line::Translated(b"@http://h/m/a.js:11:3".to_vec());
+    assert_eq!(map.translate_line("u", asked, ignore_query)?, told);
+    assert_eq!(map.translate_line("u", b"@u:2:1", hide)?, Line::Dropped);
+    let mut scripts = Scripts::new();
+    scripts.add("u", map)?;
+    let all = TraceOptions { hide: true, anywhere: true, ignore_query: true };
+    let counts = TraceCounts { lines: 2, translated: 1, dropped: 1 };
+    let told = b"9:00 http://h/m/b.js:13:3 {\n".to_vec();
+    assert_eq!(scripts.translate(b"@u:2:1\n9:00 u?v=3:2:1 {\n", all)?, (told, counts));
     Ok(())
 }
 
@@ -113,6 +136,7 @@ fn main() -> Result<(), Error> {
     let map = Map::open(TEXT, BASE)?;
     sources_and_lists(&map);
     traces(&map)?;
+    options(&map)?;
     errors(&map)?;
     fields()?;
     fields_of_a_fault();

@@ -17,7 +17,7 @@ from __future__ import annotations
 
 import ctypes
 import os
-from ctypes import POINTER, byref, c_bool, c_char, c_char_p, c_size_t, c_uint32, c_uint64, c_void_p
+from ctypes import POINTER, byref, c_bool, c_char, c_char_p, c_size_t, c_uint8, c_uint32, c_uint64, c_void_p
 from dataclasses import dataclass
 from pathlib import Path
 from typing import AnyStr, Dict, Iterator, Optional, Tuple
@@ -26,6 +26,7 @@ __all__ = ["Counts", "Error", "Frame", "Map", "Mapping", "Refused", "Scripts", "
 __all__ += ["frame", "respell", "translate", "version"]
 
 OK, REFUSED, NOT_URL, LIMITS, MEMORY, CLOSED, NONE, RANGE = range(8)
+HIDE_IGNORED, ANYWHERE, IGNORE_QUERY = 1, 2, 4
 
 
 class _Handle(ctypes.Structure):
@@ -174,10 +175,10 @@ def _declare(lib: ctypes.CDLL) -> ctypes.CDLL:
         ("flatten", u32, handle, handle),
         ("respell", u32, *text, handle, POINTER(_Fault)),
         ("frame", u32, *text, POINTER(_Frame)),
-        ("translate_line", u32, handle, *text, *text, c_bool, *text, n, POINTER(u32)),
+        ("translate_line", u32, handle, *text, *text, c_uint8, *text, n, POINTER(u32)),
         ("add_script", u32, handle, *text, handle),
         ("close_scripts", None, handle),
-        ("translate", u32, handle, *text, c_bool, handle, POINTER(TraceCounts)),
+        ("translate", u32, handle, *text, c_uint8, handle, POINTER(TraceCounts)),
     ]:
         function = getattr(lib, "smap_" + name)
         function.restype, function.argtypes = result, parameters
@@ -216,6 +217,10 @@ def _taken(out: _Handle) -> bytes:
     _lib.smap_bytes_copy(byref(out), 0, text, n)
     _lib.smap_bytes_free(byref(out))
     return text.raw[:n]
+
+
+def _how(hide: bool, anywhere: bool, ignore_query: bool) -> int:
+    return HIDE_IGNORED * bool(hide) | ANYWHERE * bool(anywhere) | IGNORE_QUERY * bool(ignore_query)
 
 
 def version() -> str:
@@ -366,14 +371,17 @@ class Map:
         """The map as one flat map, its lists as they are."""
         return _written(_lib.smap_flatten, byref(self._handle))
 
-    def translate_line(self, line: bytes, url: str, hide: bool = False) -> Optional[bytes]:
+    def translate_line(
+        self, line: bytes, url: str, hide: bool = False, *, anywhere: bool = False, ignore_query: bool = False
+    ) -> Optional[bytes]:
         """What to write for a line of a trace, this being the map of `url`; None where it is dropped."""
         script, n, became, room = url.encode(), c_size_t(), c_uint32(), len(line) + 512
+        how = _how(hide, anywhere, ignore_query)
         while True:
             out = ctypes.create_string_buffer(room)
             _check(
                 _lib.smap_translate_line(
-                    byref(self._handle), script, len(script), line, len(line), hide, out, room, byref(n),
+                    byref(self._handle), script, len(script), line, len(line), how, out, room, byref(n),
                     byref(became)
                 )
             )
@@ -381,12 +389,20 @@ class Map:
                 return None if became.value == 2 else out.raw[: n.value]
             room = n.value
 
-    def translate(self, trace: AnyStr, url: str, hide: bool = False) -> AnyStr:
-        """A whole trace, with the frames in the script at `url` at their positions in the sources.
+    def translate(
+        self,
+        trace: AnyStr,
+        url: str,
+        hide: bool = False,
+        *,
+        anywhere: bool = False,
+        ignore_query: bool = False,
+    ) -> AnyStr:
+        """A whole trace, with the positions in the script at `url` replaced by those in the sources.
 
-        `hide` drops frames in ignored sources. A str gives a str, bytes give bytes.
+        The words are those of `smap.translate`. A str gives a str, bytes give bytes.
         """
-        return translate(trace, {url: self}, hide)
+        return translate(trace, {url: self}, hide, anywhere=anywhere, ignore_query=ignore_query)
 
 
 @dataclass(frozen=True)
@@ -433,25 +449,38 @@ class Scripts:
         if "_lib" in globals() and _lib is not None:
             self.close()
 
-    def translate(self, trace: bytes, hide: bool = False) -> Tuple[bytes, TraceCounts]:
-        """A whole trace with its frames at their positions in the sources, and the counts of its lines.
+    def translate(
+        self, trace: bytes, hide: bool = False, *, anywhere: bool = False, ignore_query: bool = False
+    ) -> Tuple[bytes, TraceCounts]:
+        """A whole trace with its positions replaced by those in the sources, and the counts of its lines.
 
-        `hide` drops frames in ignored sources.
+        The words are those of `smap.translate`.
         """
         out, counts = _Handle(), TraceCounts()
         if not self._handle.is_open:
             return trace, TraceCounts(trace.count(b"\n") + (trace[-1:] not in (b"", b"\n")), 0, 0)
-        _check(_lib.smap_translate(byref(self._handle), trace, len(trace), hide, byref(out), byref(counts)))
+        how = _how(hide, anywhere, ignore_query)
+        _check(_lib.smap_translate(byref(self._handle), trace, len(trace), how, byref(out), byref(counts)))
         return _taken(out), counts
 
 
-def translate(trace: AnyStr, scripts: Dict[str, Map], hide: bool = False) -> AnyStr:
-    """A whole trace with its frames at their positions in the sources, by the maps of scripts, keyed by URL.
+def translate(
+    trace: AnyStr,
+    scripts: Dict[str, Map],
+    hide: bool = False,
+    *,
+    anywhere: bool = False,
+    ignore_query: bool = False,
+) -> AnyStr:
+    """A whole trace with its positions replaced by those in the sources, by maps keyed by their script's URL.
 
-    `hide` drops frames in ignored sources. A str gives a str, bytes give bytes.
+    `hide` drops frames in ignored sources. Lines that are frames have a position; with `anywhere`, positions
+    are found anywhere in a line. With `ignore_query`, a query and a fragment may follow the URL of a script.
+    A str gives a str, bytes give bytes.
     """
     if isinstance(trace, str):
         data = trace.encode("utf-8", "surrogateescape")
-        return translate(data, scripts, hide).decode("utf-8", "surrogateescape")
+        told = translate(data, scripts, hide, anywhere=anywhere, ignore_query=ignore_query)
+        return told.decode("utf-8", "surrogateescape")
     with Scripts(scripts) as known:
-        return known.translate(trace, hide)[0]
+        return known.translate(trace, hide, anywhere=anywhere, ignore_query=ignore_query)[0]

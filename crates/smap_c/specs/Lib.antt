@@ -25,3 +25,4 @@ pub mod Sharing
 pub mod Telling
 pub mod Tracing
 pub mod Versions
+pub mod Ways

@@ -1,12 +1,13 @@
 -- What the calls on scripts come to.
-use Rattle.std.specs.Prelude.{◌≡◌, ◌⊎◌, ℕ, Bool, List, [], ◌∷◌, bytes_eq, IsUtf8}
+use Rattle.std.specs.Prelude.{◌≡◌, ◌⊎◌, ℕ, List, [], ◌∷◌, bytes_eq, IsUtf8}
 use Rattle.std.specs.Prelude.{Option, Some, None, if◌then◌else◌}
 use Rattle.smap_record.specs.Record.{Record, record_of}
-use Rattle.smap_trace.specs.Translation.{Script, translation}
-use Rattle.smap_trace.specs.Views.{counts_of}
+use Rattle.smap_trace.specs.Translation.{Fate, Script, translation_by}
+use Rattle.smap_trace.specs.Views.{counts_by}
 use Rattle.smap_trace.specs.declared.outcome.Counts.{Counts}
 use Rattle.smap_c.specs.Outputs.{Holds}
 use Rattle.smap_c.specs.Codes as codes
+use Rattle.smap_c.specs.Ways.{fates}
 use Rattle.smap_c.specs.declared.opened.Opened.{Opened}
 use Rattle.smap_c.specs.declared.translating.SmapTraceCounts.{SmapTraceCounts}
 use Rattle.smap_c.specs.declared.written.Written.{Written}
@@ -40,9 +41,9 @@ AddsScript url map old new code = (IsUtf8 url × AddsMap url map old new code)
 abbrev pub told_counts : Counts → SmapTraceCounts
 told_counts c = record { lines = c.lines; translated = c.translated; dropped = c.dropped }
 
--- the translation of a trace, and its counts
-abbrev pub told_trace : List Script → Bool → List ℕ → List ℕ × Counts
-told_trace scripts hide trace = (translation scripts hide trace, counts_of scripts hide trace)
+-- the translation of a trace whose lines become this, and its counts
+abbrev pub told_trace : (List ℕ → Fate) → List ℕ → List ℕ × Counts
+told_trace fates_of trace = (translation_by fates_of trace, counts_by fates_of trace)
 
 -- The handle has the text, with its counts; or memory ran out, and both are as they were.
 abbrev pub TranslatesInto : List ℕ × Counts → Option Written → Option Written → SmapTraceCounts
@@ -52,9 +53,9 @@ TranslatesInto told old new before after code =
     ⊎ ((code ≡ codes.MEMORY) × (new ≡ old) × (after ≡ before))
 
 -- The translation by the handle's scripts.
-abbrev pub TranslatesBy : Option (List Script) → List ℕ → Bool → Option Written → Option Written
+abbrev pub TranslatesBy : Option (List Script) → List ℕ → ℕ → Option Written → Option Written
     → SmapTraceCounts → SmapTraceCounts → ℕ → Type 0
-TranslatesBy None trace hide old new before after code =
+TranslatesBy None trace how old new before after code =
     (code ≡ codes.CLOSED) × (new ≡ old) × (after ≡ before)
-TranslatesBy (Some scripts) trace hide old new before after code =
-    TranslatesInto (told_trace scripts hide trace) old new before after code
+TranslatesBy (Some scripts) trace how old new before after code =
+    TranslatesInto (told_trace (fates how scripts) trace) old new before after code

@@ -1,7 +1,9 @@
-//! What holds of the structs that cross to C.
+//! What holds of the structs that cross to C, and of calls as they were in version 0.1.
+ghost use Rattle.std.specs.Prelude.{false, true};
 ghost use Rattle.smap_c.specs.Order.{BytesOrder, BytesOwnerOrder, CountsOrder, FaultOrder, FrameOrder};
 ghost use Rattle.smap_c.specs.Order.{LimitsOrder, ListedOrder, MapOrder, MapOwnerOrder, MappingOrder};
 ghost use Rattle.smap_c.specs.Order.{ScriptsOrder, ScriptsOwnerOrder, TraceCountsOrder};
+ghost use Rattle.smap_c.specs.Ways.{AsksByBool};
 
 /// The fields of each struct lie in the order in which C declares them.
 pub fn fields_in_order()
@@ -19,4 +21,10 @@ pub fn handles_in_order()
     ensures map { MapOrder × MapOwnerOrder }
     ensures bytes { BytesOrder × BytesOwnerOrder }
     ensures scripts { ScriptsOrder × ScriptsOwnerOrder }
+{}
+
+/// A caller that passes whether to hide, as a `bool`, gets what it got when the parameter was one.
+pub fn hide_may_be_a_bool()
+    ensures shown { AsksByBool 0 false }
+    ensures hidden { AsksByBool 1 true }
 {}

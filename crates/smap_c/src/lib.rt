@@ -29,4 +29,5 @@ mod texts;
 mod traces;
 mod translating;
 mod versions;
+mod ways;
 mod written;

@@ -6,8 +6,9 @@ ghost use Rattle.smap_c.specs.Held.{held};
 use crate::codes::{CLOSED, MEMORY, NONE, NOT_URL, OK};
 use crate::copying::copy_out;
 use crate::opened::{Opened, SmapMap};
+use crate::ways::{finding_in, hides};
 use smap_record::SourceMap;
-use smap_trace::{LineOutcome, frame, translate_line};
+use smap_trace::{LineOutcome, frame, translate_line_by};
 use std::alloc::Global;
 use std::{mem, str};
 
@@ -46,15 +47,15 @@ fn line_of(
     map: &SourceMap,
     url: &str,
     line: &[u8],
-    hide: bool,
+    how: u8,
     out: &mut [u8],
     len: &mut usize,
     outcome: &mut u32,
 ) -> u32
-    ensures { LineTold url.now map.now line.now hide out.old out.new len.new outcome.old outcome.new result }
+    ensures { LineTold url.now map.now line.now how out.old out.new len.new outcome.old outcome.new result }
 {
     let mut text = Vec::new(alloc);
-    match translate_line(line, &[(url, map)], hide, &mut text) {
+    match translate_line_by(line, &[(url, map)], finding_in(how), hides(how), &mut text) {
         Ok(became) => {
             *outcome = match became {
                 LineOutcome::Kept => 0,
@@ -77,15 +78,15 @@ fn line_by(
     map: &SourceMap,
     url: &[u8],
     line: &[u8],
-    hide: bool,
+    how: u8,
     out: &mut [u8],
     len: &mut usize,
     outcome: &mut u32,
 ) -> u32
-    ensures { LineBy url.now map.now line.now hide out.old out.new len.new outcome.old outcome.new result }
+    ensures { LineBy url.now map.now line.now how out.old out.new len.new outcome.old outcome.new result }
 {
     match str::from_utf8(url) {
-        Ok(text) => line_of(alloc, map, text, line, hide, out, len, outcome),
+        Ok(text) => line_of(alloc, map, text, line, how, out, len, outcome),
         Err(_) => {
             *len = 0;
             NOT_URL
@@ -100,12 +101,12 @@ pub extern "C" fn smap_translate_line(
     map: &mut SmapMap,
     url: &[u8],
     line: &[u8],
-    hide: bool,
+    how: u8,
     out: &mut [u8],
     len: &mut usize,
     outcome: &mut u32,
 ) -> u32
-    ensures told { TellsLine (held map.old.owner.value) url.now line.now hide out.old out.new len.new
+    ensures told { TellsLine (held map.old.owner.value) url.now line.now how out.old out.new len.new
         outcome.old outcome.new result }
     ensures same { map.new.owner.value ≡ map.old.owner.value }
 {
@@ -115,16 +116,7 @@ pub extern "C" fn smap_translate_line(
             CLOSED
         }
         Some(held) => {
-            let code = line_by(
-                alloc,
-                &held.opened().map,
-                url,
-                line,
-                hide,
-                out,
-                len,
-                outcome,
-            );
+            let code = line_by(alloc, &held.opened().map, url, line, how, out, len, outcome);
             *map = SmapMap::of(held);
             code
         }

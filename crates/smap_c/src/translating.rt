@@ -4,14 +4,16 @@ ghost use Rattle.smap_record.specs.Record.{record_of};
 ghost use Rattle.smap_c.specs.Held.{held};
 ghost use Rattle.smap_c.specs.Scripting.{Adds, AddsScript, told_counts, told_trace, with_script};
 ghost use Rattle.smap_c.specs.Scripting.{TranslatesInto, TranslatesBy};
+ghost use Rattle.smap_c.specs.Ways.{fates};
 
 use crate::codes::{CLOSED, MEMORY, NOT_URL, OK};
 use crate::opened::{Shared, SmapMap};
 use crate::scripts::{Scripts, SmapScripts};
+use crate::ways::{finding_in, hides};
 use crate::written::{SmapBytes, Written};
 use smap_io::Device;
 use smap_mappings::Memory;
-use smap_trace::{Counts, translate};
+use smap_trace::{Counts, translate_by};
 use std::alloc::Global;
 use std::{mem, str};
 
@@ -108,15 +110,22 @@ fn translated(
     alloc: Global,
     scripts: &Scripts,
     trace: &[u8],
-    hide: bool,
+    how: u8,
 ) -> Result<(Vec<u8>, Counts), Memory>
     ensures { IfOk result (λ told. (told.0.items, told.1)
-        ≡ told_trace scripts.now hide trace.now) }
+        ≡ told_trace (fates how scripts.now) trace.now) }
 {
     let pairs = scripts.pairs(alloc)?;
     let mut reader = Device::new(trace);
     let mut writer = Device::new(Vec::new(alloc));
-    match translate(alloc, &mut reader, pairs.as_slice(), hide, &mut writer) {
+    match translate_by(
+        alloc,
+        &mut reader,
+        pairs.as_slice(),
+        finding_in(how),
+        hides(how),
+        &mut writer,
+    ) {
         Ok(counts) => Ok((writer.into_inner(), counts)),
         Err(_) => Err(Memory),
     }
@@ -127,14 +136,14 @@ fn translate_into(
     alloc: Global,
     scripts: &Scripts,
     trace: &[u8],
-    hide: bool,
+    how: u8,
     out: &mut SmapBytes,
     counts: &mut SmapTraceCounts,
 ) -> u32
-    ensures { TranslatesInto (told_trace scripts.now hide trace.now)
+    ensures { TranslatesInto (told_trace (fates how scripts.now) trace.now)
         out.old.owner.value out.new.owner.value counts.old counts.new result }
 {
-    let Ok((bytes, told)) = translated(alloc, scripts, trace, hide) else {
+    let Ok((bytes, told)) = translated(alloc, scripts, trace, how) else {
         return MEMORY;
     };
     let Ok(held) = Box::new(alloc, Written { bytes }) else {
@@ -151,18 +160,18 @@ pub extern "C" fn smap_translate(
     alloc: Global,
     scripts: &mut SmapScripts,
     trace: &[u8],
-    hide: bool,
+    how: u8,
     out: &mut SmapBytes,
     counts: &mut SmapTraceCounts,
 ) -> u32
-    ensures told { TranslatesBy scripts.old.owner.value trace.now hide
+    ensures told { TranslatesBy scripts.old.owner.value trace.now how
         out.old.owner.value out.new.owner.value counts.old counts.new result }
     ensures same { scripts.new.owner.value ≡ scripts.old.owner.value }
 {
     match mem::replace(scripts, SmapScripts::closed(alloc)).into_box() {
         None => CLOSED,
         Some(held) => {
-            let code = translate_into(alloc, &held, trace, hide, out, counts);
+            let code = translate_into(alloc, &held, trace, how, out, counts);
             *scripts = SmapScripts::of(held);
             code
         }
