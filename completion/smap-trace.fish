@@ -8,7 +8,7 @@ complete -c smap-trace -l ignore-query -d 'Ignore a query behind the URL of a sc
 complete -c smap-trace -l hide-ignored -d 'Leave out frames in ignored sources'
 complete -c smap-trace -l skip-broken -d 'Leave out maps that are refused'
 complete -c smap-trace -l check-all -d 'Check the maps of all scripts'
-complete -c smap-trace -s v -l verbose -d 'Say which script a map was taken for'
+complete -c smap-trace -s v -l verbose -d 'Say which maps are opened'
 complete -c smap-trace -l list -d 'List the scripts that the log names'
 complete -c smap-trace -a '(__smap_trace_maps)'
 

@@ -3,12 +3,12 @@
 
 # The options of a page, one a line.
 options_of_page() {
-    grep -o 'Fl [-a-z]*' "$1" | sed 's/Fl /-/' | sort -u
+    grep -o 'Fl [-a-zA-Z]*' "$1" | sed 's/Fl /-/' | sort -u
 }
 
 # The options that a text of help names.
 options_of_help() {
-    grep -o -e '--*[a-z][-a-z]*' | grep -e '^--[a-z]' -e '^-[hv]$' | sort -u
+    grep -o -e '--*[a-zA-Z][-a-z]*' | grep -e '^--[a-z]' -e '^-[hvV]$' | sort -u
 }
 
 # Runs the example of a page: its lines that begin with `$ ` as commands, in the folder $work. Says where

@@ -91,7 +91,13 @@ fn each_command_is_a_task_with_its_values(rt: HostRuntime) {
             translating(false, true, false),
         ),
         (
-            &["smap", "translate", "--hide-ignored", "--ignore-query", "--anywhere"],
+            &[
+                "smap",
+                "translate",
+                "--hide-ignored",
+                "--ignore-query",
+                "--anywhere",
+            ],
             translating(true, true, true),
         ),
         (&["smap", "scripts"], Task::Scripts),

@@ -23,8 +23,8 @@ pub mod round_trips;
 mod words;
 
 pub use commands::{
-    Task, run, run_check, run_flatten, run_lookup, run_respell, run_scripts, run_tidy, run_translate,
-    task_of,
+    Task, run, run_check, run_flatten, run_lookup, run_respell, run_scripts, run_tidy,
+    run_translate, task_of,
 };
 pub use fault_line::fault_text;
 pub use outcome::{Outcome, RunFault, status};
