@@ -1,7 +1,7 @@
 //! Positions anywhere in a line, as loggers, consoles and engines write them.
 use crate::reading::read;
 use smap_io::Device;
-use smap_trace::{Finding, LineOutcome, translate_by, translate_line_by};
+use smap_trace::{Finding, LineOutcome, distinct_scripts, translate_by, translate_line_by};
 use std::process::Abort;
 use std::test::Fail;
 
@@ -28,6 +28,7 @@ fn becomes(
         ("/app/out.js", &map),
         ("http://h/m/out.js?v=3", &map),
     ];
+    assert!(rt; distinct_scripts(&scripts));
     let mut out = Vec::new(rt.alloc());
     let answer = translate_line_by(line.as_bytes(), &scripts, finding, false, &mut out);
     let outcome = match expected {
@@ -181,6 +182,7 @@ fn a_trace_with_many_scripts_is_translated(rt: HostRuntime) -> Result<(), Fail> 
         ("/b.js", &map),
         ("/c.js", &map),
     ];
+    assert!(rt; distinct_scripts(&scripts));
     let mut reader = Device::new(b"(/abc.js:1:2) /a.js:1:2/b.js:1:5\nx/b.js:1:2\n".as_slice());
     let mut writer = Device::new(Vec::new(rt.alloc()));
     let counts = translate_by(
