@@ -172,7 +172,8 @@ End fates scripts rest answer =
     ((trace : List ℕ) × (rest ≡ trace_line ++ trace) × (answer ≡ done (translation_by (fates scripts) trace)))
     ⊎ FaultAt scripts rest answer
 
-one_end : (fates : List Script → List ℕ → Fate) (scripts : List Script) (rest : List ℕ) (a b : Answer) → End fates scripts rest a
+one_end : (fates : List Script → List ℕ → Fate) (scripts : List Script) (rest : List ℕ) (a b : Answer)
+    → End fates scripts rest a
     → End fates scripts rest b → a ≡ b
 one_end fates scripts rest a b (inl x) (inl y) =
     let same = append_cancel_left trace_line x.0 y.0 (sym x.1 ∙ y.1) in
@@ -195,12 +196,14 @@ new_in seen t ts distinct c =
     ∙ ap (λ (s : Script). s.0) (sym (get_or-append_seam seen t ts t)))
 
 -- after an entry neither the trace nor a fault comes
-no_end : (fates : List Script → List ℕ → Fate) (seen : List Script) (entry rest : List ℕ) (t : Script) (answer : Answer)
+no_end : (fates : List Script → List ℕ → Fate) (seen : List Script) (entry rest : List ℕ) (t : Script)
+    (answer : Answer)
     → IsEntry entry t → IsNew seen t.0 → End fates seen (entry ++ rest) answer → ⊥
 no_end fates seen entry rest t answer e new (inl x) = no_entry_of_trace entry rest x.0 t e x.1
 no_end fates seen entry rest t answer e new (inr x) = no_fault seen entry rest t answer e new x
 
-one_chain : (fates : List Script → List ℕ → Fate) (ss ts seen : List Script) (e f r q : List ℕ) (a b : Answer) → AreEntries e ss
+one_chain : (fates : List Script → List ℕ → Fate) (ss ts seen : List Script) (e f r q : List ℕ)
+    (a b : Answer) → AreEntries e ss
     → AreEntries f ts → e ++ r ≡ f ++ q
     → AreDistinct (seen ++ ss) → AreDistinct (seen ++ ts) → End fates (seen ++ ss) r a
     → End fates (seen ++ ts) q b → a ≡ b

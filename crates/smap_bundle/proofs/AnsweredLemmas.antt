@@ -174,7 +174,8 @@ Answered fates input = (answer : Answer) × IsAnswer fates input answer
 
 -- what is left after some entries has an answer, if it has one after an entry more
 after_entries : (fates : List Script → List ℕ → Fate) (seen : List Script) (entries text : List ℕ)
-    → AreEntries entries seen → AreDistinct seen → ((t : TakesOne seen text) → Answered fates ((entries ++ t.entry) ++ t.rest))
+    → AreEntries entries seen → AreDistinct seen
+    → ((t : TakesOne seen text) → Answered fates ((entries ++ t.entry) ++ t.rest))
     → Answered fates (entries ++ text)
 after_entries fates seen entries text are distinct more = go (beginning text)
   where
@@ -203,7 +204,8 @@ after_entries fates seen entries text are distinct more = go (beginning text)
 
 -- by at most this many bytes more
 answered_within : (most : ℕ) (fates : List Script → List ℕ → Fate) (seen : List Script)
-    (entries text : List ℕ) → length text < most → AreEntries entries seen → AreDistinct seen → Answered fates (entries ++ text)
+    (entries text : List ℕ) → length text < most → AreEntries entries seen → AreDistinct seen
+    → Answered fates (entries ++ text)
 answered_within zero fates seen entries text within are distinct = absurd (omega (arith, within))
 answered_within (suc most) fates seen entries text within are distinct =
     after_entries fates seen entries text are distinct (λ t.

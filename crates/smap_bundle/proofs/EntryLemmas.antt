@@ -335,7 +335,8 @@ distinct_more ss s distinct new i j d lt within e = go (cases_lt j (length ss))
         )
 
 -- a fault after entries is the answer
-pub answered : (fates : List Script → List ℕ → Fate) (ss : List Script) (entries line text : List ℕ) (answer : Answer)
+pub answered : (fates : List Script → List ℕ → Fate) (ss : List Script) (entries line text : List ℕ)
+    (answer : Answer)
     → AreEntries entries ss → AreDistinct ss
     → FaultAt ss (line ++ text) answer → IsAnswer fates ((entries ++ line) ++ text) answer
 answered fates ss entries line text answer are distinct fault = record {

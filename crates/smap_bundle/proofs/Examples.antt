@@ -17,7 +17,8 @@ use Rattle.smap_bundle.specs.Header.{trace_line}
 use Rattle.smap_bundle.proofs.HeaderLemmas.{begun}
 
 -- a fault before any entry
-at_once : (fates : List Script → List ℕ → Fate) (text : List ℕ) (answer : Answer) → FaultAt [] text answer → IsAnswer fates text answer
+at_once : (fates : List Script → List ℕ → Fate) (text : List ℕ) (answer : Answer) → FaultAt [] text answer
+    → IsAnswer fates text answer
 at_once fates text answer fault = record {
   scripts = [];
   rest = text;
@@ -41,7 +42,8 @@ no_header = record {
       omega (arith, first);
 }
 
-trace_without_feed : (fates : List Script → List ℕ → Fate) → IsAnswer fates (codes "trace") (refusal 0 wrong.Header)
+trace_without_feed : (fates : List Script → List ℕ → Fate)
+    → IsAnswer fates (codes "trace") (refusal 0 wrong.Header)
 trace_without_feed fates = at_once fates (codes "trace") (refusal 0 wrong.Header) (inl (no_header, refl))
 
 -- ---- the script `a`
@@ -110,7 +112,8 @@ no_url fates = after_header fates (codes "map a b 0\n") (codes "b") 0 (refusal 0
     (begins (codes "b") (codes "0") 0 b zero_bytes (lit≤ tt))
     (inr ((λ (lt : longest_input < 0). omega (arith, lt)), inr ((λ c. omega (arith, c.1)), inl (refl, refl))))
 
-ends_in_map : (fates : List Script → List ℕ → Fate) → IsAnswer fates (codes "map a http://h/ 0\n") (refusal 0 wrong.CutOff)
+ends_in_map : (fates : List Script → List ℕ → Fate)
+    → IsAnswer fates (codes "map a http://h/ 0\n") (refusal 0 wrong.CutOff)
 unfolding url_on_literals
 ends_in_map fates = after_header fates (codes "map a http://h/ 0\n") (codes "http://h/") 0
     (refusal 0 wrong.CutOff) (begins (codes "http://h/") (codes "0") 0 host zero_bytes (lit≤ tt))

@@ -31,4 +31,5 @@ fates how scripts = fate_by (finding_in how) scripts (hides how)
 
 -- A caller that passes a `bool`, which C makes 0 or 1, asks for frames alone, and whether to hide.
 abbrev pub AsksByBool : ℕ → Bool → Type 0
-AsksByBool how hide = (scripts : List Script) (line : List ℕ) → fates how scripts line ≡ fate scripts hide line
+AsksByBool how hide = (scripts : List Script) (line : List ℕ)
+    → fates how scripts line ≡ fate scripts hide line

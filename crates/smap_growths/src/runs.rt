@@ -28,6 +28,7 @@ pub(crate) fn task_named(name: &str) -> Option<Task<'static>> {
             line: 0,
             column: 5,
         }),
+        "run_scripts" => Some(Task::Scripts),
         "run_translate" => Some(Task::Translate {
             finding: Finding::FRAMES,
             hide: false,

@@ -89,7 +89,8 @@ IsTaskOf m (Flatten base) = (m.0 ≡ codes "flatten") × HasText m.1 (codes "BAS
 IsTaskOf m (Lookup base line column) = (m.0 ≡ codes "lookup") × HasText m.1 (codes "BASE") base.now
     × HasNumber m.1 (codes "LINE") line × HasNumber m.1 (codes "COLUMN") column
 IsTaskOf m (Translate finding hide) = (m.0 ≡ codes "translate")
-    × HasFlag m.1 (codes "anywhere") finding.anywhere × HasFlag m.1 (codes "ignore-query") finding.ignore_query
+    × HasFlag m.1 (codes "anywhere") finding.anywhere
+    × HasFlag m.1 (codes "ignore-query") finding.ignore_query
     × HasFlag m.1 (codes "hide-ignored") hide
 IsTaskOf m Scripts = m.0 ≡ codes "scripts"
 

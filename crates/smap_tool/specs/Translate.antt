@@ -41,7 +41,8 @@ pub record CompleteAfterTrace (fates : List Script → List ℕ → Fate) (input
 
 -- What was read after the line `trace` ends with a piece of at most as many bytes as one read asks for. The
 -- text is the translation of all lines that were complete before it, and of the other lines a prefix.
-pub record PrefixAfterTrace (fates : List Script → List ℕ → Fate) (ended : Bool) (input text : List ℕ) : Type 0 where
+pub record PrefixAfterTrace (fates : List Script → List ℕ → Fate) (ended : Bool) (input text : List ℕ)
+    : Type 0 where
   pub scripts : List Script
   pub before : List ℕ
   pub piece : List ℕ
@@ -90,7 +91,8 @@ RunTranslates fates s (Err run.Write) = GaveUp (PrefixAfterTrace fates s.ended) 
 
 -- What the run promises. Read comes with a failure of the reader, or if the limit on reads may have been
 -- reached; Write with one of the writer; and no other answer comes with a failure.
-pub record RunsTranslate (fates : List Script → List ℕ → Fate) (s : Streams) (result : Result Outcome RunFault) : Type 0 where
+pub record RunsTranslate (fates : List Script → List ℕ → Fate) (s : Streams)
+    (result : Result Outcome RunFault) : Type 0 where
   pub translates : RunTranslates fates s result
   pub reader_failures : ReaderFailsOrTires is_read s result
   pub writer_failures : WriterFails is_write s result

@@ -1,6 +1,7 @@
 -- The longest occurrence, found length by length.
 use Rattle.std.proofs.Common.{◌≡◌, ◌∙◌, ◌⊎◌, ℕ, ◌+◌, ◌<◌, ◌≤◌, Bool, true, false, ◌&&◌, ◌||◌, List, [], ◌∷◌}
-use Rattle.std.proofs.Common.{length, take, drop, Option, Some, None, option_map, nat_lt, nat_eq, refl, sym, ap}
+use Rattle.std.proofs.Common.{length, take, drop, Option, Some, None, option_map, nat_lt, nat_eq, refl, sym}
+use Rattle.std.proofs.Common.{ap}
 use Rattle.std.proofs.Common.{arith, inl, inr, subst, ◌++◌, bytes_eq, get_or}
 use Rattle.std.specs.List.{starts_with, list_all}
 use Rattle.std.proofs.lemmas.Bool.Decides.{nat_tests}
@@ -11,7 +12,8 @@ use Rattle.std.proofs.lemmas.List.Folds.{list_all-map, list_all_more, list_any-a
 use Rattle.std.proofs.lemmas.Slice.Eq.{bytes_eq-Decides}
 use Rattle.smap_record.specs.Record.{Record}
 use Rattle.smap_trace.specs.Anywhere.{Occurrence, longer, longest, occurrence_of, place_after}
-use Rattle.smap_trace.specs.ByLength.{are_firsts_of, are_lengths_of, begins_among, is_among, longest_of, of_length}
+use Rattle.smap_trace.specs.ByLength.{are_firsts_of, are_lengths_of, begins_among, is_among, longest_of}
+use Rattle.smap_trace.specs.ByLength.{of_length}
 use Rattle.smap_trace.specs.Scripts.{Script, map_of}
 use Rattle.smap_trace.specs.declared.places.Place.{Place}
 use Rattle.smap_trace.specs.Views.{script_in, scripts_in}
@@ -188,7 +190,8 @@ one_longest ignore text s ss None r is has rest most = go (nat_eq (length s.0) (
         ∙ ap (λ (p : Option Occurrence). longer p (of_length ignore ss text (url_length r))) is)
 one_longest ignore text s ss (Some o) None is has rest most =
     first_longest ignore text s ss o is has (λ n. omega (arith, most n))
-one_longest ignore text s ss (Some o) (Some r) is has rest most = go (nat_lt (length o.url) (length r.url)) refl
+one_longest ignore text s ss (Some o) (Some r) is has rest most =
+    go (nat_lt (length o.url) (length r.url)) refl
     (nat_eq (length s.0) (length r.url)) refl has
   where
     go : (t : Bool) → nat_lt (length o.url) (length r.url) ≡ t
@@ -354,7 +357,8 @@ pub looked_up : (ignore : Bool) (text : List ℕ) (n : ℕ) (p : Place) (ss : Li
     → 0 < n → n ≤ length text → place_after ignore (drop n text) ≡ Some p
     → of_length ignore ss text n ≡ option_map (found_at (take n text) p) (map_of ss (take n text))
 looked_up ignore text n p [] lt le is = refl
-looked_up ignore text n p (s ∷ ss) lt le is = go (bytes_eq s.0 (take n text)) refl (nat_eq (length s.0) n) refl
+looked_up ignore text n p (s ∷ ss) lt le is =
+    go (bytes_eq s.0 (take n text)) refl (nat_eq (length s.0) n) refl
     (starts_with nat_eq text s.0) refl (nat_lt 0 (length s.0)) refl (looked_up ignore text n p ss lt le is)
   where
     len : length (take n text) ≡ n
@@ -416,7 +420,8 @@ pub looked_up_is : (ignore : Bool) (text : List ℕ) (n : ℕ) (p : Place) (ss :
     ≡ of_length ignore ss text n
 looked_up_is ignore text n p ss url map lt le is same found =
     let len : n ≡ length url = sym (ap length same ∙ length-take-le n text le) in
-    ap (λ m. Some (record { url = url; map = map; line = p.line; column = p.column; width = m + p.width })) len
+    ap (λ m. Some (record { url = url; map = map; line = p.line; column = p.column; width = m + p.width }))
+    len
     ∙ ap (λ (u : List ℕ). Some (found_at u p map)) same
     ∙ sym (looked_up ignore text n p ss lt le is ∙ ap (option_map (found_at (take n text) p)) found)
 
@@ -507,7 +512,8 @@ pub none_begins : (ignore : Bool) (text bs : List ℕ) (ss : List Script) → ar
     → (length text ≡ 0) ⊎ (is_among bs (get_or text 0 0) ≡ false) → longest ignore ss text ≡ None
 none_begins ignore text bs [] all out = refl
 none_begins ignore text bs (s ∷ ss) all out = go (nat_eq (length s.0) 0) refl (nat_lt 0 (length s.0)) refl
-    (is_among bs (get_or s.0 0 0)) refl all (λ (h : are_firsts_of bs ss ≡ true). none_begins ignore text bs ss h out)
+    (is_among bs (get_or s.0 0 0)) refl all
+    (λ (h : are_firsts_of bs ss ≡ true). none_begins ignore text bs ss h out)
   where
     go : (e : Bool) → nat_eq (length s.0) 0 ≡ e → (l : Bool) → nat_lt 0 (length s.0) ≡ l
         → (t : Bool) → is_among bs (get_or s.0 0 0) ≡ t → ((e || t) && are_firsts_of bs ss) ≡ true

@@ -23,6 +23,7 @@ use Rattle.smap_trace.specs.Translation.{is_replaced, written_for}
 use Rattle.smap_trace.specs.declared.occurrences.Occurrence.{Occurrence as CodeOccurrence}
 use Rattle.smap_trace.proofs.LineLemmas.{left_is}
 use Rattle.smap_trace.proofs.PlaceLemmas.{IsNoPlace, place_is}
+use Rattle.smap_trace.proofs.PositionLemmas.{no_digit_first}
 
 -- ---- a colon and a digit
 
@@ -66,17 +67,10 @@ no_place-drop (suc k) [] h = refl
 no_place-drop (suc k) (b ∷ bs) h =
     no_place-drop k bs (no_left (b == 58 && list_any is_ascii_digit (take 1 bs)) (has_place bs) h).1
 
-no_digits : (bs : List ℕ) → list_any is_ascii_digit (take 1 bs) ≡ false → prefix_len is_ascii_digit bs ≡ 0
-no_digits [] h = refl
-no_digits (b ∷ bs) h = go (is_ascii_digit b) (no_left (is_ascii_digit b) false h).0
-  where
-    go : (t : Bool) → t ≡ false → cond t (1 + prefix_len is_ascii_digit bs) 0 ≡ 0
-    go true e = cc
-    go false e = refl
-
 no_number : (t : List ℕ) → has_place t ≡ false → number_after t ≡ None
 no_number [] h = refl
-no_number (b ∷ bs) h = go (58 == b) refl (no_left (b == 58 && list_any is_ascii_digit (take 1 bs)) (has_place bs) h).0
+no_number (b ∷ bs) h = go (58 == b) refl
+    (no_left (b == 58 && list_any is_ascii_digit (take 1 bs)) (has_place bs) h).0
   where
     digitless : b ≡ 58 → (b == 58 && list_any is_ascii_digit (take 1 bs)) ≡ false
         → list_any is_ascii_digit (take 1 bs) ≡ false
@@ -85,7 +79,7 @@ no_number (b ∷ bs) h = go (58 == b) refl (no_left (b == 58 && list_any is_asci
     go : (t : Bool) → (58 == b) ≡ t → (b == 58 && list_any is_ascii_digit (take 1 bs)) ≡ false
         → ◌≡◌ {A = Option (ℕ × ℕ)} (cond (t && true) (option_map (λ v. (v, prefix_len is_ascii_digit bs + 1))
         (place_of (take (prefix_len is_ascii_digit bs) bs))) None) None
-    go true e f = rw (no_digits bs (digitless (sym (eqb-true 58 b e)) f)) refl
+    go true e f = rw (no_digit_first bs (digitless (sym (eqb-true 58 b e)) f)) refl
     go false e f = refl
 
 -- what the code finds behind a colon
@@ -145,7 +139,8 @@ all_bytes ignore scripts before (b ∷ bs) h =
 
 pub skipped : (ignore : Bool) (scripts : List Script) (before bs : List ℕ) (k : ℕ)
     → cut ignore scripts before k bs ≡ cut ignore scripts (before ++ take k bs) 0 (drop k bs)
-skipped ignore scripts before bs zero = ap (λ (t : List ℕ). cut ignore scripts t 0 bs) (sym (append-nil before))
+skipped ignore scripts before bs zero =
+    ap (λ (t : List ℕ). cut ignore scripts t 0 bs) (sym (append-nil before))
 skipped ignore scripts before [] (suc k) = refl
 skipped ignore scripts before (b ∷ bs) (suc k) =
     skipped ignore scripts (before ++ b ∷ []) bs k
@@ -163,7 +158,8 @@ byte_cut ignore scripts line at lt none =
 
 -- where one begins, all of it
 pub found_cut : (ignore : Bool) (scripts : List Script) (line : List ℕ) (at : ℕ) (o : Occurrence)
-    → at < length line → 0 < o.width → occurrence_between ignore scripts (take at line) (drop at line) ≡ Some o
+    → at < length line → 0 < o.width
+    → occurrence_between ignore scripts (take at line) (drop at line) ≡ Some o
     → pieces_from ignore scripts line at ≡ found o (take o.width (drop at line))
     ∷ pieces_from ignore scripts line (at + o.width)
 found_cut ignore scripts line at o lt some is =
@@ -322,7 +318,8 @@ module _ (at_pieces next_pieces : List Piece) (xs : List ℕ) (piece : Piece)
   pub replaced_later : (r whole : Bool) → is_replaced piece ≡ false
       → (r || list_any is_replaced at_pieces) ≡ whole → (r || list_any is_replaced next_pieces) ≡ whole
   replaced_later r whole isnt h =
-      let any : list_any is_replaced at_pieces ≡ list_any is_replaced next_pieces = any_split ∙ rw isnt refl in
+      let any : list_any is_replaced at_pieces ≡ list_any is_replaced next_pieces =
+      any_split ∙ rw isnt refl in
       ap (λ t. r || t) (sym any) ∙ h
 
 -- at the end

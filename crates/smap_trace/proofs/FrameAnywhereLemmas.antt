@@ -1,153 +1,36 @@
 -- A frame's position, found in a frame and found anywhere.
-use Rattle.std.proofs.Common.{◌≡◌, ◌∙◌, ◌⊎◌, inl, inr, ℕ, zero, suc, ◌+◌, ◌-◌, ◌<◌, Bool, true, false}
+use Rattle.std.proofs.Common.{◌≡◌, ◌∙◌, ◌⊎◌, inl, inr, ℕ, zero, suc, ◌+◌, ◌-◌, ◌<◌, ◌≤◌, ◌==◌, Bool, true}
+use Rattle.std.proofs.Common.{false}
 use Rattle.std.proofs.Common.{cond, ◌&&◌, ◌||◌, List, [], ◌∷◌, ◌++◌, length, take, drop, map, flat_map}
-use Rattle.std.proofs.Common.{Option, Some, None, option_map, option_and_then, find, codes, decimal}
-use Rattle.std.proofs.Common.{bytes_eq, nat_eq, nat_lt, refl, sym, ap, subst, arith, append_assoc, append-nil}
-use Rattle.std.proofs.Common.{length-append}
+use Rattle.std.proofs.Common.{Option, Some, None, option_map, option_and_then, codes, decimal}
+use Rattle.std.proofs.Common.{refl, sym, ap, subst, arith, append_assoc, append-nil}
+use Rattle.std.proofs.Common.{length-append, slice_range}
 use Rattle.std.specs.Char.{is_ascii_digit}
-use Rattle.std.specs.List.{list_any, prefix_len, starts_with}
+use Rattle.std.specs.List.{list_any}
 use Rattle.std.specs.Option.{is_some, option_map_or}
-use Rattle.std.specs.Str.Parse.{AllDigits}
-use Rattle.std.specs.Prelude.{slice_index_or}
 use Rattle.std.proofs.Math.Seq.{drop-append_seam, take-append_seam}
-use Rattle.std.proofs.lemmas.Bool.{lt-ltb}
-use Rattle.std.proofs.lemmas.Bool.Decides.{nat_tests}
-use Rattle.std.proofs.lemmas.Fmt.{decimal_is_IsNumeral}
+use Rattle.std.proofs.lemmas.Bool.{eqb-true}
+use Rattle.std.proofs.lemmas.Bool.Decides.{Decides-eqb}
 use Rattle.std.proofs.lemmas.Grind.{flat_map-append}
 use Rattle.std.proofs.lemmas.List.Folds.{list_any-append}
-use Rattle.std.proofs.lemmas.Slice.Eq.{bytes_eq-Decides}
-use Rattle.std.proofs.lemmas.Str.Parse.{digit_from_value}
 use Rattle.smap_record.specs.Record.{Origin, Record}
-use Rattle.smap_trace.specs.Anywhere.{Occurrence, Piece, byte, continues, cut, found}
-use Rattle.smap_trace.specs.Anywhere.{line_and_column, longer, longest, may_begin, more_of, number_after}
-use Rattle.smap_trace.specs.Anywhere.{occurrence_between, occurrence_of, piece_at, pieces_of, place_after}
+use Rattle.smap_trace.specs.Anywhere.{Occurrence, Piece, byte, bytes_of, continues, cut, found, longest}
+use Rattle.smap_trace.specs.Anywhere.{may_begin, more_of, occurrence_between, piece_at, pieces_of}
+use Rattle.smap_trace.specs.Cuts.{IsPieceBetween}
 use Rattle.smap_trace.specs.Frame.{AfterAsync, Alone, BeginsWithAt, FrameParts, InParentheses, IsFirefox}
-use Rattle.smap_trace.specs.Frame.{IsFrame, IsLineEnd, IsPlace, IsV8, position_text}
+use Rattle.smap_trace.specs.Frame.{IsFrame, IsLineEnd, IsV8, position_text}
 use Rattle.smap_trace.specs.Laws.{FramesAreFoundAnywhere, HoldsOwnAlone}
 use Rattle.smap_trace.specs.Scripts.{AreDistinct, Script, map_of}
 use Rattle.smap_trace.specs.Translation.{anywhere_fate, dropped, Fate, fate_at, fate_in, fate_of_pieces}
 use Rattle.smap_trace.specs.Translation.{frame_fate, is_dropped, is_replaced, kept, map_for, origin_at}
 use Rattle.smap_trace.specs.Translation.{replaced, translated, written_for}
-use Rattle.smap_trace.specs.declared.places.Place.{Place}
 use Rattle.smap_trace.proofs.CompleteLemmas.{complete}
-use Rattle.smap_trace.proofs.CutLemmas.{begins_with}
+use Rattle.smap_trace.proofs.CutLemmas.{middle_part}
+use Rattle.smap_trace.proofs.CutRelationLemmas.{longest_covers, longest_of, one_there, pieces_stand}
 use Rattle.smap_trace.proofs.CuttingLemmas.{bytes_kept, bytes_written}
-use Rattle.smap_trace.proofs.PlaceLemmas.{place_of-decimal}
+use Rattle.smap_trace.proofs.KnownLemmas.{known_longest}
+use Rattle.smap_trace.proofs.PositionLemmas.{BeginsWithPosition, position_found, position_here}
 use Rattle.smap_trace.proofs.TextLemmas.{EndsIn, longer as longer_text}
-
--- ---- an occurrence is of the script with its URL
-
-one_of : (p q : Option Occurrence) (o : Occurrence) → longer p q ≡ Some o → (p ≡ Some o) ⊎ (q ≡ Some o)
-one_of None q o h = inr h
-one_of (Some p) None o h = inl h
-one_of (Some p) (Some q) o h = go (nat_lt (length p.url) (length q.url)) h
-  where
-    go : (t : Bool) → cond t (Some q) (Some p) ≡ Some o
-        → (◌≡◌ {A = Option Occurrence} (Some p) (Some o)) ⊎ (◌≡◌ {A = Option Occurrence} (Some q) (Some o))
-    go true k = inr k
-    go false k = inl k
-
-names_script : (ignore : Bool) (s : Script) (text : List ℕ) (o : Occurrence)
-    → occurrence_of ignore s text ≡ Some o → (s.0 ≡ o.url) × (s.1 ≡ o.map)
-names_script ignore s text o h =
-    go (nat_lt 0 (length s.0) && starts_with nat_eq text s.0) (place_after ignore (drop (length s.0) text)) h
-  where
-    go : (t : Bool) (p : Option Place) → cond t (option_map (λ p. record {
-      url = s.0;
-      map = s.1;
-      line = p.line;
-      column = p.column;
-      width = length s.0 + p.width;
-    }) p) None ≡ Some o
-        → (s.0 ≡ o.url) × (s.1 ≡ o.map)
-    go true (Some p) k =
-        let made : Occurrence = record {
-          url = s.0;
-          map = s.1;
-          line = p.line;
-          column = p.column;
-          width = length s.0 + p.width;
-        } in
-        let same : made ≡ o = cc in
-        (ap (λ (q : Occurrence). q.url) same, ap (λ (q : Occurrence). q.map) same)
-    go true None k = cc
-    go false p k = cc
-
--- where the script with a URL is
-place_of_script : (scripts : List Script) (url : List ℕ) (r : Record) → map_of scripts url ≡ Some r
-    → (j : ℕ) × (j < length scripts) × ((d : Script) → (slice_index_or scripts j d).0 ≡ url)
-place_of_script [] url r h = cc
-place_of_script (s ∷ ss) url r h = go (bytes_eq s.0 url) refl h (place_of_script ss url r)
-  where
-    go : (t : Bool) → bytes_eq s.0 url ≡ t
-        → option_map (λ (x : Script). x.1)
-        (cond t (Some s) (find (λ (x : Script). bytes_eq x.0 url) ss)) ≡ Some r
-        → (map_of ss url ≡ Some r
-        → (j : ℕ) × (j < length ss) × ((d : Script) → (slice_index_or ss j d).0 ≡ url))
-        → (j : ℕ) × (j < length (s ∷ ss)) × ((d : Script) → (slice_index_or (s ∷ ss) j d).0 ≡ url)
-    go true e k more = (0, omega arith, λ d. (bytes_eq-Decides s.0 url).0 e)
-    go false e k more = let there = more k in (suc there.0, omega (arith, there.1), there.2)
-
-later : (s : Script) (ss : List Script) → AreDistinct (s ∷ ss) → AreDistinct ss
-later s ss distinct i j d lt within = distinct (suc i) (suc j) d (omega (arith, lt)) (omega (arith, within))
-
-known_longest : (ignore : Bool) (scripts : List Script) (text : List ℕ) (o : Occurrence) → AreDistinct scripts
-    → longest ignore scripts text ≡ Some o → map_of scripts o.url ≡ Some o.map
-known_longest ignore [] text o distinct h = cc
-known_longest ignore (s ∷ ss) text o distinct h =
-    elim (one_of (occurrence_of ignore s text) (longest ignore ss text) o h) [
-      | inl e ↦ first (names_script ignore s text o e)
-      | inr e ↦ other (known_longest ignore ss text o (later s ss distinct) e) (bytes_eq s.0 o.url) refl
-    ]
-  where
-    first : (s.0 ≡ o.url) × (s.1 ≡ o.map) → map_of (s ∷ ss) o.url ≡ Some o.map
-    first e =
-        let same : bytes_eq s.0 o.url ≡ true = (bytes_eq-Decides s.0 o.url).1 e.0 in
-        rw same (ap (λ (r : Record). Some r) e.1)
-
-    other : map_of ss o.url ≡ Some o.map → (t : Bool) → bytes_eq s.0 o.url ≡ t
-        → map_of (s ∷ ss) o.url ≡ Some o.map
-    other k true e =
-        let there = place_of_script ss o.url o.map k in
-        absurd (distinct 0 (suc there.0) s (omega arith) (omega (arith, there.1))
-        ((bytes_eq-Decides s.0 o.url).0 e ∙ sym (there.2 s)))
-    other k false e = rw e k
-
-known_between : (ignore : Bool) (scripts : List Script) (before text : List ℕ) (o : Occurrence)
-    → AreDistinct scripts → occurrence_between ignore scripts before text ≡ Some o
-    → map_of scripts o.url ≡ Some o.map
-known_between ignore scripts before text o distinct h = go (may_begin before) h
-  where
-    go : (t : Bool) → cond t (longest ignore scripts text) None ≡ Some o → map_of scripts o.url ≡ Some o.map
-    go true k = known_longest ignore scripts text o distinct k
-    go false k = cc
-
--- each occurrence among the pieces is of the script with its URL
-abbrev AreKnown : List Script → List Piece → Type 0
-AreKnown scripts [] = Unit
-AreKnown scripts (byte b ∷ pieces) = AreKnown scripts pieces
-AreKnown scripts (found o text ∷ pieces) = (map_of scripts o.url ≡ Some o.map) × AreKnown scripts pieces
-
-known_pieces : (ignore : Bool) (scripts : List Script) (before : List ℕ) (k : ℕ) (text : List ℕ)
-    → AreDistinct scripts → AreKnown scripts (cut ignore scripts before k text)
-known_pieces ignore scripts before zero [] distinct = tt
-known_pieces ignore scripts before (suc k) [] distinct = tt
-known_pieces ignore scripts before (suc k) (b ∷ bs) distinct =
-    known_pieces ignore scripts (before ++ b ∷ []) k bs distinct
-known_pieces ignore scripts before zero (b ∷ bs) distinct =
-    go (occurrence_between ignore scripts before (b ∷ bs)) refl
-    (λ n. known_pieces ignore scripts (before ++ b ∷ []) n bs distinct)
-  where
-    go : (o : Option Occurrence) → occurrence_between ignore scripts before (b ∷ bs) ≡ o
-        → ((n : ℕ) → AreKnown scripts (cut ignore scripts (before ++ b ∷ []) n bs))
-        → AreKnown scripts (piece_at o b bs ∷ cut ignore scripts (before ++ b ∷ []) (more_of o) bs)
-    go None e more = more 0
-    go (Some o) e more = (known_between ignore scripts before (b ∷ bs) o distinct e, more (o.width - 1))
-
-known_behind : (scripts : List Script) (front : List ℕ) (o : Occurrence) (text : List ℕ) (pieces : List Piece)
-    → AreKnown scripts (map byte front ++ found o text ∷ pieces) → map_of scripts o.url ≡ Some o.map
-known_behind scripts [] o text pieces h = h.0
-known_behind scripts (b ∷ bs) o text pieces h = known_behind scripts bs o text pieces h
 
 -- ---- a line of bytes holds no occurrence
 
@@ -175,82 +58,6 @@ none_between ignore scripts before (x ∷ xs) b bs h =
         → cut ignore scripts (before ++ x ∷ []) 0 (xs ++ b ∷ bs) ≡ map byte (xs ++ b ∷ bs)
     go None k = cc
     go (Some o) k = cc
-
--- ---- the position of a frame is an occurrence
-
-no_digit_first : (t : List ℕ) → list_any is_ascii_digit (take 1 t) ≡ false → prefix_len is_ascii_digit t ≡ 0
-no_digit_first [] h = refl
-no_digit_first (b ∷ bs) h = go (is_ascii_digit b) h
-  where
-    go : (t : Bool) → (t || false) ≡ false → cond t (1 + prefix_len is_ascii_digit bs) 0 ≡ 0
-    go true e = cc
-    go false e = refl
-
-digits_passed : (ds t : List ℕ) → AllDigits 10 ds → list_any is_ascii_digit (take 1 t) ≡ false
-    → prefix_len is_ascii_digit (ds ++ t) ≡ length ds
-digits_passed [] t all stop = no_digit_first t stop
-digits_passed (d ∷ ds) t all stop =
-    let range = digit_from_value d all.0 in
-    let is : is_ascii_digit d ≡ true = grind (arith, nat_tests) in
-    rw is (ap (λ n. 1 + n) (digits_passed ds t all.1 stop) ∙ omega arith)
-
-number_here : (n : ℕ) (t : List ℕ) → IsPlace n → list_any is_ascii_digit (take 1 t) ≡ false
-    → number_after (58 ∷ (decimal n ++ t)) ≡ Some (n, length (decimal n) + 1)
-number_here n t is stop =
-    let count : prefix_len is_ascii_digit (decimal n ++ t) ≡ length (decimal n) =
-    digits_passed (decimal n) t (decimal_is_IsNumeral n (omega (arith, is.1))).0.1 stop in
-    let digits : take (length (decimal n)) (decimal n ++ t) ≡ decimal n = take-append_seam (decimal n) t in
-    rw (count, digits, place_of-decimal n is) refl
-
-place_here : (l c : ℕ) (t : List ℕ) → IsPlace l → IsPlace c → list_any is_ascii_digit (take 1 t) ≡ false
-    → (p : Place) × (line_and_column (58 ∷ (decimal l ++ (58 ∷ (decimal c ++ t)))) ≡ Some p)
-place_here l c t lp cp stop =
-    let first = number_here l (58 ∷ (decimal c ++ t)) lp refl in
-    let rest : drop (length (decimal l) + 1) (58 ∷ (decimal l ++ (58 ∷ (decimal c ++ t))))
-    ≡ 58 ∷ (decimal c ++ t) = behind (decimal l) (58 ∷ (decimal c ++ t)) in
-    let second = number_here c t cp stop in (
-      record { line = l; column = c; width = length (decimal l) + 1 + (length (decimal c) + 1) },
-      rw (first, rest, second) refl,
-    )
-  where
-    behind : (ds t : List ℕ) → drop (length ds + 1) (58 ∷ (ds ++ t)) ≡ t
-    behind ds t = let one : length ds + 1 ≡ suc (length ds) = omega arith in rw one (drop-append_seam ds t)
-
-occurs : (s : Script) (t : List ℕ) (p : Place) → 0 < length s.0 → line_and_column t ≡ Some p
-    → occurrence_of false s (s.0 ++ t) ≡ None → ⊥
-occurs s t p some is none =
-    let url : nat_lt 0 (length s.0) ≡ true = lt-ltb 0 (length s.0) some in
-    let starts : starts_with nat_eq (s.0 ++ t) s.0 ≡ true = begins_with s.0 t in
-    let rest : drop (length s.0) (s.0 ++ t) ≡ t = drop-append_seam s.0 t in
-    let there = rw (url, starts, rest, is) at none in
-    cc
-
-neither : (p q : Option Occurrence) → longer p q ≡ None → (p ≡ None) × (q ≡ None)
-neither None q h = (refl, h)
-neither (Some p) None h = cc
-neither (Some p) (Some q) h = go (nat_lt (length p.url) (length q.url)) h
-  where
-    go : (t : Bool) → ◌≡◌ {A = Option Occurrence} (cond t (Some q) (Some p)) None
-        → (◌≡◌ {A = Option Occurrence} (Some p) None) × (◌≡◌ {A = Option Occurrence} (Some q) None)
-    go true k = cc
-    go false k = cc
-
-some_longest : (scripts : List Script) (url t : List ℕ) (r : Record) (p : Place) → map_of scripts url ≡ Some r
-    → 0 < length url → line_and_column t ≡ Some p → longest false scripts (url ++ t) ≡ None → ⊥
-some_longest [] url t r p h some is none = cc
-some_longest (s ∷ ss) url t r p h some is none =
-    let both = neither (occurrence_of false s (url ++ t)) (longest false ss (url ++ t)) none in
-    go (bytes_eq s.0 url) refl h both.0 (λ k. some_longest ss url t r p k some is both.1)
-  where
-    go : (b : Bool) → bytes_eq s.0 url ≡ b
-        → option_map (λ (x : Script). x.1)
-        (cond b (Some s) (find (λ (x : Script). bytes_eq x.0 url) ss)) ≡ Some r
-        → occurrence_of false s (url ++ t) ≡ None → (map_of ss url ≡ Some r → ⊥) → ⊥
-    go true e k none_here more =
-        let same : url ≡ s.0 = sym ((bytes_eq-Decides s.0 url).0 e) in
-        occurs s t p (subst (λ (u : List ℕ). 0 < length u) same some) is
-        (subst (λ (u : List ℕ). occurrence_of false s (u ++ t) ≡ None) same none_here)
-    go false e k none_here more = more k
 
 -- ---- what is before and after the position of a frame
 
@@ -314,32 +121,236 @@ frame_stops f line is = go is.form
         ∙ end_stops v.close v.line_end (closes v.lead v.close v.form) v.ends
     go (inr (not_at, v)) = end_stops [] f.after (inl refl) v.ends
 
--- The position of a frame is cut out of the line if it is one of a script.
-frame_is_cut : (scripts : List Script) (line : List ℕ) (f : FrameParts) (r : Record) → IsFrame line f
-    → map_of scripts f.url ≡ Some r → pieces_of false scripts line ≡ map byte line → ⊥
-frame_is_cut scripts line f r is known bytes = go f.url refl is.some_url
+-- ---- the script that a frame names
+
+-- the position of a frame
+abbrev position_of : FrameParts → List ℕ
+position_of f = position_text f.url f.line f.column
+
+length_zero : (t : List ℕ) → length t ≡ 0 → t ≡ []
+length_zero [] h = refl
+length_zero (b ∷ bs) h = absurd (omega (arith, h))
+
+-- the text between what is before and after the position
+position_there : (line : List ℕ) (f : FrameParts) → IsFrame line f
+    → slice_range line (length f.before) (length line - length f.after) ≡ position_of f
+position_there line f is =
+    let whole : line ≡ f.before ++ (position_of f ++ f.after) =
+    is.whole ∙ append_assoc f.before (position_of f) f.after in
+    let all = length-append f.before (position_of f ++ f.after) in
+    let some = length-append (position_of f) f.after in
+    let end : length line - length f.after ≡ length f.before + length (position_of f) =
+    omega (arith, ap (λ (t : List ℕ). length t) whole, all, some) in
+    ap (slice_range line (length f.before)) end
+    ∙ ap (λ (t : List ℕ). slice_range t (length f.before) (length f.before + length (position_of f))) whole
+    ∙ middle_part f.before (position_of f) f.after
+
+-- The line has a position of this script where the frame has its own.
+record IsAtFrame (ignore : Bool) (scripts : List Script) (f : FrameParts) (r : Record) : Type 0 where
+  o : Occurrence
+  known : map_of scripts o.url ≡ Some o.map
+  begins : BeginsWithPosition ignore o (position_of f ++ f.after)
+
+at_frame : (ignore : Bool) (scripts : List Script) (line : List ℕ) (f : FrameParts) (r : Record)
+    → AreDistinct scripts → IsFrame line f → map_for ignore scripts line f ≡ Some r
+    → IsAtFrame ignore scripts f r
+at_frame false scripts line f r distinct is h = record {
+  o = record {
+    url = f.url;
+    map = r;
+    line = f.line;
+    column = f.column;
+    width = length (position_text (f.url ++ []) f.line f.column);
+  };
+  known = h;
+  begins = record {
+    query = [];
+    rest = f.after;
+    some_url = is.some_url;
+    ignored = refl;
+    line_place = is.line_place;
+    column_place = is.column_place;
+    stops = frame_stops f line is;
+    whole = ap (λ (u : List ℕ). position_text u f.line f.column ++ f.after) (sym (append-nil f.url));
+    width_is = refl;
+  };
+}
+at_frame true scripts line f r distinct is h =
+    let h' = ap (λ (t : List ℕ). option_and_then (λ o. if_wide (length t) o) (longest true scripts t))
+    (sym (position_there line f is)) ∙ h in
+    go (longest true scripts (position_of f)) refl h'
   where
-    behind : List ℕ
-    behind = 58 ∷ (decimal f.line ++ (58 ∷ (decimal f.column ++ f.after)))
+    if_wide : ℕ → Occurrence → Option Record
+    if_wide n o = cond (o.width == n) (Some o.map) None
 
-    whole : line ≡ f.before ++ (f.url ++ behind)
-    whole = is.whole ∙ simp append_assoc
+    wide : (o : Occurrence) (t : Bool) → (o.width == length (position_of f)) ≡ t
+        → ◌≡◌ {A = Option Record} (cond t (Some o.map) None) (Some r) → o.width ≡ length (position_of f)
+    wide o true e k = eqb-true o.width (length (position_of f)) e
+    wide o false e k = cc
 
-    go : (url : List ℕ) → f.url ≡ url → 0 < length url → ⊥
-    go [] e some = absurd (omega (arith, some))
-    go (b ∷ bs) e some =
-        let whole' : line ≡ f.before ++ b ∷ (bs ++ behind) =
-        whole ∙ ap (λ (u : List ℕ). f.before ++ (u ++ behind)) e in
-        let bytes' : cut false scripts [] 0 (f.before ++ b ∷ (bs ++ behind))
-        ≡ map byte (f.before ++ b ∷ (bs ++ behind)) =
-        subst (λ (t : List ℕ). cut false scripts [] 0 t ≡ map byte t) whole' bytes in
-        let none = none_between false scripts [] f.before b (bs ++ behind) bytes' in
-        let none' = ap (λ t. cond t (longest false scripts (b ∷ (bs ++ behind))) None)
-        (sym (frame_begins f line is)) ∙ none in
-        let there =
-        place_here f.line f.column f.after is.line_place is.column_place (frame_stops f line is) in
-        some_longest scripts (b ∷ bs) behind r there.0
-        (ap (map_of scripts) (sym e) ∙ known) some there.1 none'
+    go : (m : Option Occurrence) → longest true scripts (position_of f) ≡ m
+        → option_and_then (λ o. if_wide (length (position_of f)) o) m ≡ Some r → IsAtFrame true scripts f r
+    go None e k = cc
+    go (Some o) e k =
+        let s = longest_of true scripts (position_of f) o e in
+        let there = position_found true s.0 (position_of f) o s.1 in
+        let text = position_text (o.url ++ there.query) o.line o.column in
+        let none : there.rest ≡ [] = length_zero there.rest (omega (
+          arith,
+          wide o (o.width == length (position_of f)) refl k,
+          there.width_is,
+          ap (λ (t : List ℕ). length t) there.whole,
+          length-append text there.rest,
+        )) in
+        let all : position_of f ≡ text =
+        there.whole ∙ ap (λ (t : List ℕ). text ++ t) none ∙ append-nil text in
+        record {
+          o = o;
+          known = known_longest true scripts (position_of f) o distinct e;
+          begins = record {
+            query = there.query;
+            rest = f.after;
+            some_url = there.some_url;
+            ignored = there.ignored;
+            line_place = there.line_place;
+            column_place = there.column_place;
+            stops = frame_stops f line is;
+            whole = ap (λ (t : List ℕ). t ++ f.after) all;
+            width_is = there.width_is;
+          };
+        }
+
+length_position : (url : List ℕ) (l c : ℕ) → length url ≤ length (position_text url l c)
+length_position url l c = omega (
+  arith,
+  length-append (url ++ (58 ∷ []) ++ decimal l ++ (58 ∷ [])) (decimal c),
+  length-append (url ++ (58 ∷ []) ++ decimal l) (58 ∷ []),
+  length-append (url ++ (58 ∷ [])) (decimal l),
+  length-append url (58 ∷ []),
+)
+
+-- The position of a frame is cut out of the line if it is one of a script.
+frame_is_cut : (ignore : Bool) (scripts : List Script) (line : List ℕ) (f : FrameParts) (r : Record)
+    → AreDistinct scripts → IsFrame line f → map_for ignore scripts line f ≡ Some r
+    → pieces_of ignore scripts line ≡ map byte line → ⊥
+frame_is_cut ignore scripts line f r distinct is known bytes = go (position_of f ++ f.after) refl
+  where
+    there : IsAtFrame ignore scripts f r
+    there = at_frame ignore scripts line f r distinct is known
+
+    go : (t : List ℕ) → position_of f ++ f.after ≡ t → ⊥
+    go [] e = absurd (omega (
+      arith,
+      is.some_url,
+      length-append (position_of f) f.after,
+      ap (λ (t : List ℕ). length t) e,
+      length_position f.url f.line f.column,
+    ))
+    go (b ∷ bs) e =
+        let whole : line ≡ f.before ++ b ∷ bs = is.whole ∙ append_assoc f.before (position_of f) f.after
+        ∙ ap (λ (t : List ℕ). f.before ++ t) e in
+        let bytes' : cut ignore scripts [] 0 (f.before ++ b ∷ bs) ≡ map byte (f.before ++ b ∷ bs) =
+        subst (λ (t : List ℕ). cut ignore scripts [] 0 t ≡ map byte t) whole bytes in
+        let none = none_between ignore scripts [] f.before b bs bytes' in
+        let none' = ap (λ t. cond t (longest ignore scripts (b ∷ bs)) None) (sym (frame_begins f line is))
+        ∙ none in
+        let begins = subst (BeginsWithPosition ignore there.o) e there.begins in
+        let covered = longest_covers ignore scripts (b ∷ bs) there.o.url there.o.map there.o there.known
+        (position_here ignore (b ∷ bs) there.o begins) in
+        let some : longest ignore scripts (b ∷ bs) ≡ Some covered.0 = covered.1 in
+        cc
+
+-- ---- a position that is cut out of a frame is of the script that it names
+
+bytes_joined : (xs : List ℕ) → flat_map bytes_of (map byte xs) ≡ xs
+bytes_joined [] = refl
+bytes_joined (b ∷ bs) = ap (λ (ys : List ℕ). b ∷ ys) (bytes_joined bs)
+
+no_digit_behind : (rest after : List ℕ) → list_any is_ascii_digit (take 1 rest) ≡ false
+    → list_any is_ascii_digit (take 1 after) ≡ false
+    → list_any is_ascii_digit (take 1 (rest ++ after)) ≡ false
+no_digit_behind [] after h g = g
+no_digit_behind (b ∷ bs) after h g = h
+
+one_front : (u v tail : List ℕ) → u ++ tail ≡ v ++ tail → u ≡ v
+one_front u v tail e =
+    let len : length u ≡ length v =
+    omega (arith, length-append u tail, length-append v tail, ap (λ (t : List ℕ). length t) e) in
+    sym (take-append_seam u tail) ∙ ap (λ (t : List ℕ). take (length u) t) e
+    ∙ ap (λ n. take n (v ++ tail)) len ∙ take-append_seam v tail
+
+module _ (scripts : List Script) (line : List ℕ) (f : FrameParts) (distinct : AreDistinct scripts)
+    (is : IsFrame line f) where
+  piece_there : (ignore : Bool) (o : Occurrence) → pieces_of ignore scripts line ≡ map byte f.before
+      ++ found o (position_of f) ∷ map byte f.after
+      → IsPieceBetween ignore scripts f.before (found o (position_of f)) f.after
+  piece_there ignore o pieces =
+      subst (λ (t : List ℕ). IsPieceBetween ignore scripts t (found o (position_of f)) f.after)
+      (bytes_joined f.before)
+      (subst (IsPieceBetween ignore scripts (flat_map bytes_of (map byte f.before)) (found o (position_of f)))
+      (bytes_joined f.after)
+      (pieces_stand ignore scripts [] line (map byte f.before) (map byte f.after) (found o (position_of f))
+      distinct pieces))
+
+  named : (ignore : Bool) (o : Occurrence) → o.line ≡ f.line → o.column ≡ f.column
+      → IsPieceBetween ignore scripts f.before (found o (position_of f)) f.after
+      → map_for ignore scripts line f ≡ Some o.map
+  named false o l c (stands, is_longest) =
+      let at = stands.1 in
+      let none : at.query ≡ [] = at.ignored in
+      let tail = codes ":" ++ decimal f.line ++ codes ":" ++ decimal f.column in
+      let text : position_text f.url f.line f.column ≡ position_text o.url f.line f.column =
+      at.text_is ∙ ap (λ (u : List ℕ). position_text u o.line o.column)
+      (ap (λ (t : List ℕ). o.url ++ t) none ∙ append-nil o.url)
+      ∙ ap (λ n. position_text o.url n o.column) l ∙ ap (position_text o.url f.line) c in
+      let mine : position_text f.url f.line f.column ≡ f.url ++ tail = simp append_assoc in
+      let other : position_text o.url f.line f.column ≡ o.url ++ tail = simp append_assoc in
+      let url : f.url ≡ o.url = one_front f.url o.url tail (sym mine ∙ text ∙ other) in
+      ap (map_of scripts) url ∙ at.of_script
+  named true o l c (stands, is_longest) =
+      let at = stands.1 in
+      let whole : position_of f ≡ position_text (o.url ++ at.query) o.line o.column ++ [] =
+      at.text_is ∙ sym (append-nil (position_text (o.url ++ at.query) o.line o.column)) in
+      let begins : BeginsWithPosition true o (position_of f) = record {
+        query = at.query;
+        rest = [];
+        some_url = at.some_url;
+        ignored = at.ignored;
+        line_place = at.line_place;
+        column_place = at.column_place;
+        stops = refl;
+        whole = whole;
+        width_is = at.width_is ∙ ap (λ (t : List ℕ). length t) at.text_is;
+      } in
+      let covered = longest_covers true scripts (position_of f) o.url o.map o at.of_script
+      (position_here true (position_of f) o begins) in
+      let p = covered.0 in
+      let known = known_longest true scripts (position_of f) p distinct covered.1 in
+      let s = longest_of true scripts (position_of f) p covered.1 in
+      let other = position_found true s.0 (position_of f) p s.1 in
+      let text = position_text (p.url ++ other.query) p.line p.column in
+      let le = is_longest p text (other.rest ++ f.after)
+      (ap (λ (t : List ℕ). t ++ f.after) other.whole ∙ append_assoc text other.rest f.after) (
+        stands.0,
+        record {
+          query = other.query;
+          of_script = known;
+          some_url = other.some_url;
+          ignored = other.ignored;
+          line_place = other.line_place;
+          column_place = other.column_place;
+          text_is = refl;
+          width_is = other.width_is;
+        },
+        no_digit_behind other.rest f.after other.stops stands.2,
+      ) in
+      let same : p ≡ o = one_there true scripts (position_of f) p o other begins known at.of_script
+      (omega (arith, le, covered.2)) in
+      let there : longest true scripts (position_of f) ≡ Some o =
+      covered.1 ∙ ap (λ (q : Occurrence). Some q) same in
+      let wide : (o.width == length (position_of f)) ≡ true =
+      (Decides-eqb o.width (length (position_of f))).1 at.width_is in
+      rw (position_there line f is, there, wide) refl
 
 -- ---- what becomes of the pieces
 
@@ -403,43 +414,39 @@ settled : (in_frame of_pieces wanted pieces : Fate) → in_frame ≡ wanted → 
     → cond (is_dropped in_frame) dropped of_pieces ≡ in_frame
 settled in_frame of_pieces wanted pieces e d h = rw (e, d) h
 
-pub same_fate : (scripts : List Script) (hide : Bool) (line : List ℕ) (f : FrameParts) → AreDistinct scripts
-    → IsFrame line f → HoldsOwnAlone scripts line f
-    → anywhere_fate false scripts hide line ≡ frame_fate false scripts hide line
-same_fate scripts hide line f distinct is own = go own
+pub are_found_anywhere : FramesAreFoundAnywhere
+are_found_anywhere ignore scripts hide line f distinct is own = go own
   where
-    in_frame : frame_fate false scripts hide line ≡ option_map_or (fate_in hide f) (map_of scripts f.url) kept
+    in_frame : frame_fate ignore scripts hide line
+        ≡ option_map_or (fate_in hide f) (map_for ignore scripts line f) kept
     in_frame = ap (λ (g : Option FrameParts). option_map_or
-        (λ h. option_map_or (fate_in hide h) (map_for false scripts line h) kept) g kept) (complete line f is)
+        (λ h. option_map_or (fate_in hide h) (map_for ignore scripts line h) kept) g kept)
+        (complete line f is)
 
-    all_bytes : pieces_of false scripts line ≡ map byte line → (m : Option Record) → map_of scripts f.url ≡ m
-        → anywhere_fate false scripts hide line ≡ frame_fate false scripts hide line
-    all_bytes bytes None e =
-        settled (frame_fate false scripts hide line) (fate_of_pieces (pieces_of false scripts line)) kept kept
+    all_bytes : pieces_of ignore scripts line ≡ map byte line → (m : Option Record)
+        → map_for ignore scripts line f ≡ m
+        → anywhere_fate ignore scripts hide line ≡ frame_fate ignore scripts hide line
+    all_bytes bytes None e = settled (frame_fate ignore scripts hide line)
+        (fate_of_pieces (pieces_of ignore scripts line)) kept kept
         (in_frame ∙ ap (λ (m : Option Record). option_map_or (fate_in hide f) m kept) e)
         (ap fate_of_pieces bytes
         ∙ ap (λ t. cond t (translated (flat_map written_for (map byte line))) kept) (bytes_kept line)) refl
-    all_bytes bytes (Some r) e = absurd (frame_is_cut scripts line f r is e bytes)
+    all_bytes bytes (Some r) e = absurd (frame_is_cut ignore scripts line f r distinct is e bytes)
 
-    go : HoldsOwnAlone scripts line f
-        → anywhere_fate false scripts hide line ≡ frame_fate false scripts hide line
-    go (inl bytes) = all_bytes bytes (map_of scripts f.url) refl
-    go (inr (o, u, l, c, pieces)) =
+    go : HoldsOwnAlone ignore scripts line f
+        → anywhere_fate ignore scripts hide line ≡ frame_fate ignore scripts hide line
+    go (inl bytes) = all_bytes bytes (map_for ignore scripts line f) refl
+    go (inr (o, l, c, pieces)) =
         let position = position_text f.url f.line f.column in
-        let known : map_of scripts o.url ≡ Some o.map =
-        known_behind scripts f.before o position (map byte f.after)
-        (subst (AreKnown scripts) pieces (known_pieces false scripts [] 0 line distinct)) in
-        let known' : map_of scripts f.url ≡ Some o.map = ap (map_of scripts) (sym u) ∙ known in
+        let known = named scripts line f distinct is ignore o l c
+        (piece_there scripts line f distinct is ignore o pieces) in
         let text : replaced (found o position) ≡ text_at (origin_at o.map f.line f.column) =
         ap (λ n. text_at (origin_at o.map n o.column)) l ∙ ap (λ n. text_at (origin_at o.map f.line n)) c in
-        settled (frame_fate false scripts hide line) (fate_of_pieces (pieces_of false scripts line))
+        settled (frame_fate ignore scripts hide line) (fate_of_pieces (pieces_of ignore scripts line))
         (option_map_or (fate_at hide f) (origin_at o.map f.line f.column) kept)
         (option_map_or (λ t. translated (f.before ++ t ++ f.after))
         (text_at (origin_at o.map f.line f.column)) kept)
-        (in_frame ∙ ap (λ (m : Option Record). option_map_or (fate_in hide f) m kept) known')
+        (in_frame ∙ ap (λ (m : Option Record). option_map_or (fate_in hide f) m kept) known)
         (ap fate_of_pieces pieces ∙ fate_of_one f.before f.after (found o position)
         (text_at (origin_at o.map f.line f.column)) text)
         (same_at hide f (origin_at o.map f.line f.column))
-
-pub are_found_anywhere : FramesAreFoundAnywhere
-are_found_anywhere = same_fate

@@ -3,12 +3,14 @@ pub mod ByLengthLemmas
 pub mod CompleteLemmas
 pub mod CountLemmas
 pub mod CutLemmas
+pub mod CutRelationLemmas
 pub mod CuttingLemmas
 pub mod Examples
 pub mod FrameAnywhereLemmas
 pub mod FrameLemmas
 pub mod HalvingLemmas
 pub mod IndexedLemmas
+pub mod KnownLemmas
 pub mod LawLemmas
 pub mod LineLemmas
 pub mod LookupLemmas
@@ -17,6 +19,7 @@ pub mod NamingLemmas
 pub mod OccurrenceLemmas
 pub mod PieceLemmas
 pub mod PlaceLemmas
+pub mod PositionLemmas
 pub mod PushLemmas
 pub mod ReadingLemmas
 pub mod RunLemmas

@@ -1,6 +1,7 @@
 -- The URLs of a trace that comes in pieces.
 use Rattle.std.proofs.Common.{◌≡◌, ◌∙◌, ℕ, zero, suc, ◌+◌, ◌<◌, true, false, List, [], ◌∷◌, ◌++◌, length}
-use Rattle.std.proofs.Common.{bytes_eq, refl, sym, ap, subst, inl, inr, arith, append_assoc, append-nil, Option, Some}
+use Rattle.std.proofs.Common.{bytes_eq, refl, sym, ap, subst, inl, inr, arith, append_assoc, append-nil}
+use Rattle.std.proofs.Common.{Option, Some}
 use Rattle.std.specs.Global.{Vec}
 use Rattle.std.specs.Prelude.{slice_get, unwrap_or}
 use Rattle.std.specs.List.{AllByRecursion, cons_option, filter_map}
@@ -22,13 +23,15 @@ use Rattle.smap_trace.proofs.TallyLemmas.{all_tallied, with_urls-append}
 
 -- ---- lines
 
-pub urls_of-append : (whole more : List ℕ) → IsWhole whole → urls_of (whole ++ more) ≡ urls_of whole ++ urls_of more
+pub urls_of-append : (whole more : List ℕ) → IsWhole whole
+    → urls_of (whole ++ more) ≡ urls_of whole ++ urls_of more
 urls_of-append whole more is =
     ap (filter_map url_of) (lines_of-append whole more is)
     ∙ filter_map-append url_of (lines_of whole) (lines_of more)
 
 -- what the last line gives, which isn't empty
-pub last_url : (line : List ℕ) → HasNoFeed line → 0 < length line → urls_of line ≡ cons_option (url_of line) []
+pub last_url : (line : List ℕ) → HasNoFeed line → 0 < length line
+    → urls_of line ≡ cons_option (url_of line) []
 last_url [] free some = absurd (omega (arith, some))
 last_url (b ∷ bs) free some = ap (filter_map url_of) (lines_of-last b bs free)
 
@@ -63,7 +66,8 @@ feed_step line piece after rest last front old new more a l clean m free t =
     let ended = rest ++ (front ++ 10 ∷ []) in
     let given : ended ≡ (rest ++ front) ++ 10 ∷ [] = sym (append_assoc rest front (10 ∷ [])) in
     let one : urls_of ended ≡ cons_option (url_of ended) [] =
-    rw given (ap (filter_map url_of) (lines_of-line (rest ++ front) (HasNoFeed-append rest front free clean))) in
+    rw given (ap (filter_map url_of)
+    (lines_of-line (rest ++ front) (HasNoFeed-append rest front free clean))) in
     rw (a, l) record {
       free = refl;
       counts = record {
@@ -141,7 +145,8 @@ set_first url (e ∷ es) zero v w first at next =
     let old : v ≡ e.1 = ap (λ (o : Option ℕ). unwrap_or o v) (sym at) in
     rw first (ap (λ n. (e.0.items, n) ∷ named_of es) (next ∙ ap (λ n. at_most_u64 (n + 1)) old))
 set_first url (e ∷ es) (suc i) v w first at next =
-    rw first.0 (ap (λ (xs : List (List ℕ × ℕ)). (e.0.items, e.1) ∷ xs) (set_first url es i v w first.1 at next))
+    rw first.0 (ap (λ (xs : List (List ℕ × ℕ)). (e.0.items, e.1) ∷ xs)
+    (set_first url es i v w first.1 at next))
 
 pub insert_absent : (url : List ℕ) (es : List (Vec ℕ × ℕ)) (k : Vec ℕ) → k.items ≡ url
     → AllByRecursion (λ (x : Vec ℕ). bytes_eq url x.items ≡ false) (keys_of es)

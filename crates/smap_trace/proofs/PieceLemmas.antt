@@ -19,15 +19,12 @@ use Rattle.smap_trace.specs.Reading.{frame_of}
 use Rattle.smap_trace.specs.Scripts.{Script}
 use Rattle.smap_trace.specs.Translation.{anywhere_fate, fate_at, fate_in, feed_of}
 use Rattle.smap_trace.specs.Translation.{frame_fate, has_line_feed, is_dropped, is_replaced, kept, map_for}
-use Rattle.smap_trace.specs.Translation.{origin_at, replaced, translated, without_line_feed, written, written_for}
+use Rattle.smap_trace.specs.Translation.{origin_at, replaced, translated, without_line_feed, written}
+use Rattle.smap_trace.specs.Translation.{written_for}
 use Rattle.smap_trace.specs.declared.places.Place.{Place}
+use Rattle.smap_trace.proofs.PositionLemmas.{some_of}
 
 -- ---- an occurrence takes bytes
-
-some_of : {X Y : Type 0} (f : X → Y) (m : Option X) (y : Y) → option_map f m ≡ Some y
-    → (x : X) × (m ≡ Some x) × (f x ≡ y)
-some_of f (Some x) y h = (x, refl, cc)
-some_of f None y h = cc
 
 wide_one : (ignore : Bool) (s : Script) (text : List ℕ) (o : Occurrence)
     → occurrence_of ignore s text ≡ Some o → 0 < o.width
@@ -58,7 +55,7 @@ wide_one ignore s text o h = go (nat_lt 0 (length s.0)) (starts_with nat_eq text
     go true false e k = cc
     go false b e k = cc
 
-either : (p q : Option Occurrence) (o : Occurrence) → longer p q ≡ Some o → (p ≡ Some o) ⊎ (q ≡ Some o)
+pub either : (p q : Option Occurrence) (o : Occurrence) → longer p q ≡ Some o → (p ≡ Some o) ⊎ (q ≡ Some o)
 either None q o h = inr h
 either (Some p) None o h = inl h
 either (Some p) (Some q) o h = go (nat_lt (length p.url) (length q.url)) h
@@ -92,13 +89,14 @@ pub pieces_joined : (ignore : Bool) (scripts : List Script) (before : List ℕ) 
 pieces_joined ignore scripts before zero [] = refl
 pieces_joined ignore scripts before (suc k) [] = refl
 pieces_joined ignore scripts before (suc k) (b ∷ bs) = pieces_joined ignore scripts (before ++ b ∷ []) k bs
-pieces_joined ignore scripts before zero (b ∷ bs) = go (occurrence_between ignore scripts before (b ∷ bs)) refl
+pieces_joined ignore scripts before zero (b ∷ bs) =
+    go (occurrence_between ignore scripts before (b ∷ bs)) refl
     (λ n. pieces_joined ignore scripts (before ++ b ∷ []) n bs)
   where
     go : (o : Option Occurrence) → occurrence_between ignore scripts before (b ∷ bs) ≡ o
         → ((n : ℕ) → flat_map bytes_of (cut ignore scripts (before ++ b ∷ []) n bs) ≡ drop n bs)
-        → bytes_of (piece_at o b bs) ++ flat_map bytes_of (cut ignore scripts (before ++ b ∷ []) (more_of o) bs)
-        ≡ b ∷ bs
+        → bytes_of (piece_at o b bs)
+        ++ flat_map bytes_of (cut ignore scripts (before ++ b ∷ []) (more_of o) bs) ≡ b ∷ bs
     go None e more = ap (λ (t : List ℕ). b ∷ t) (more 0)
     go (Some o) e more =
         let some : 0 < o.width = wide_between ignore scripts before (b ∷ bs) o e in
@@ -155,7 +153,8 @@ not_hidden ignore scripts text = of_frame (frame_of text)
         of_url None = refl
         of_url (Some u) = refl
 
-    of_map : (f : FrameParts) (r : Option Record) → is_dropped (option_map_or (fate_in false f) r kept) ≡ false
+    of_map : (f : FrameParts) (r : Option Record)
+        → is_dropped (option_map_or (fate_in false f) r kept) ≡ false
     of_map f None = refl
     of_map f (Some r) = of_origin f (origin_at r f.line f.column)
 

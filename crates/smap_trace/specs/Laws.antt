@@ -1,7 +1,8 @@
 -- Laws about the definitions.
 use Rattle.std.specs.Prelude.{◌≡◌, ◌↔◌, ◌⊎◌, ℕ, Bool, false, List, ◌∷◌, ◌++◌, flat_map, map, Option, Some}
 use Rattle.smap_record.specs.Record.{Mapping}
-use Rattle.smap_trace.specs.Anywhere.{Occurrence, byte, bytes_of, found, pieces_of}
+use Rattle.smap_trace.specs.Anywhere.{Occurrence, Piece, byte, bytes_of, found, pieces_of}
+use Rattle.smap_trace.specs.Cuts.{IsCut}
 use Rattle.smap_trace.specs.Frame.{IsFrame, FrameParts, position_text}
 use Rattle.smap_trace.specs.Lookup.{FallsTo, mapping_at}
 use Rattle.smap_trace.specs.Reading.{frame_of}
@@ -21,21 +22,31 @@ abbrev pub LookupIsComputed : Type 0
 LookupIsComputed = (ms : List Mapping) (line column : ℕ) (found : Option Mapping)
     → (mapping_at ms line column ≡ found) ↔ FallsTo ms line column found
 
+-- `pieces_of` computes exactly the pieces into which a line is cut.
+abbrev pub CutIsComputed : Type 0
+CutIsComputed = (ignore : Bool) (scripts : List Script) (line : List ℕ) (pieces : List Piece)
+    → AreDistinct scripts → (pieces_of ignore scripts line ≡ pieces) ↔ IsCut ignore scripts line pieces
+
+-- A line is cut in one way.
+abbrev pub OneCut : Type 0
+OneCut = (ignore : Bool) (scripts : List Script) (line : List ℕ) (ps qs : List Piece) → AreDistinct scripts
+    → IsCut ignore scripts line ps → IsCut ignore scripts line qs → ps ≡ qs
+
 -- The pieces of a line, joined, are the line.
 abbrev pub PiecesAreTheLine : Type 0
 PiecesAreTheLine = (ignore : Bool) (scripts : List Script) (line : List ℕ)
     → flat_map bytes_of (pieces_of ignore scripts line) ≡ line
 
 -- The line holds no position but that of its frame, if that is one of a script.
-abbrev pub HoldsOwnAlone : List Script → List ℕ → FrameParts → Type 0
-HoldsOwnAlone scripts line f = (pieces_of false scripts line ≡ map byte line) ⊎ ((o : Occurrence)
-    × (o.url ≡ f.url) × (o.line ≡ f.line) × (o.column ≡ f.column)
-    × (pieces_of false scripts line ≡ map byte f.before
+abbrev pub HoldsOwnAlone : Bool → List Script → List ℕ → FrameParts → Type 0
+HoldsOwnAlone ignore scripts line f = (pieces_of ignore scripts line ≡ map byte line) ⊎ ((o : Occurrence)
+    × (o.line ≡ f.line) × (o.column ≡ f.column)
+    × (pieces_of ignore scripts line ≡ map byte f.before
     ++ found o (position_text f.url f.line f.column) ∷ map byte f.after))
 
 -- The same becomes of a line that is a frame and holds no further position, whether positions are found in
--- frames or anywhere.
+-- frames or anywhere, and whether or not queries are ignored.
 abbrev pub FramesAreFoundAnywhere : Type 0
-FramesAreFoundAnywhere = (scripts : List Script) (hide : Bool) (line : List ℕ) (f : FrameParts)
-    → AreDistinct scripts → IsFrame line f → HoldsOwnAlone scripts line f
-    → anywhere_fate false scripts hide line ≡ frame_fate false scripts hide line
+FramesAreFoundAnywhere = (ignore : Bool) (scripts : List Script) (hide : Bool) (line : List ℕ)
+    (f : FrameParts) → AreDistinct scripts → IsFrame line f → HoldsOwnAlone ignore scripts line f
+    → anywhere_fate ignore scripts hide line ≡ frame_fate ignore scripts hide line

@@ -1,6 +1,7 @@
 pub mod Anywhere
 pub mod ByLength
 pub mod Counting
+pub mod Cuts
 pub mod Cutting
 pub mod Frame
 pub mod FrameView

@@ -1,6 +1,6 @@
 //! Laws about the definitions. Each is the contract of a function that does nothing.
-ghost use Rattle.smap_trace.specs.Laws.{FrameIsComputed, FramesAreFoundAnywhere};
-ghost use Rattle.smap_trace.specs.Laws.{LookupIsComputed, OneReading, PiecesAreTheLine};
+ghost use Rattle.smap_trace.specs.Laws.{CutIsComputed, FrameIsComputed, FramesAreFoundAnywhere};
+ghost use Rattle.smap_trace.specs.Laws.{LookupIsComputed, OneCut, OneReading, PiecesAreTheLine};
 
 /// The function that finds frames finds exactly those of the grammar.
 pub fn frames_are_computed()
@@ -16,6 +16,16 @@ pub fn one_reading()
 /// is at most one.
 pub fn lookups_are_computed()
     ensures { LookupIsComputed }
+{}
+
+/// The function that cuts a line into bytes and positions cuts it exactly as the relation says.
+pub fn cuts_are_computed()
+    ensures { CutIsComputed }
+{}
+
+/// A line is cut into bytes and positions in one way.
+pub fn one_cut()
+    ensures { OneCut }
 {}
 
 /// The pieces into which a line is cut, joined, are the line.

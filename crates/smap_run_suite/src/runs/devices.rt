@@ -5,7 +5,7 @@ use smap_testing::{LongReader, SlowReader, SlowWriter};
 use smap_tool::{Outcome, RunFault, Task, run};
 
 /// Each command that reads its input to the end, and an input for it.
-const TASKS: [(Task<'static>, &str); 6] = [
+const TASKS: [(Task<'static>, &str); 7] = [
     (Task::Respell, "gAAAAC,CAACD;;"),
     (Task::Check { base: BASE }, TWO_NAMES),
     (TIDY, TWO_NAMES),
@@ -25,6 +25,7 @@ const TASKS: [(Task<'static>, &str); 6] = [
         },
         TWO_NAMES,
     ),
+    (Task::Scripts, "@b:1:1\n@a:1:1\n@b:1:1\n"),
 ];
 
 /// How many bytes a call moves.

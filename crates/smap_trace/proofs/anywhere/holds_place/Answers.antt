@@ -30,7 +30,8 @@ colons-preserved c =
     record {
       within = omega (arith, lt, length-drop at text);
       rest = c.colons.invariant.rest ∙ elim c.else-at-text.branch [
-        | else-at-text-via-then-at-text+else-is_ascii_digit w ↦ behind.with_other w.if-at-text.true (search rules)
+        | else-at-text-via-then-at-text+else-is_ascii_digit w ↦
+            behind.with_other w.if-at-text.true (search rules)
         | else-at-text-via-else-at-text w ↦ behind.at_end w.if-at-text.false
       ];
     }

@@ -6,7 +6,8 @@ use Rattle.smap_trace.specs.Anywhere.{Piece, found, pieces_of}
 use Rattle.smap_trace.specs.Cutting.{pieces_from}
 use Rattle.smap_trace.specs.OccurrenceView.{occurrence_in}
 use Rattle.smap_trace.specs.Translation.{is_replaced, written_for}
-use Rattle.smap_trace.proofs.CuttingLemmas.{replaced_all, replaced_later, replaced_now, written_all, written_on}
+use Rattle.smap_trace.proofs.CuttingLemmas.{replaced_all, replaced_later, replaced_now, written_all}
+use Rattle.smap_trace.proofs.CuttingLemmas.{written_on}
 use Rattle.smap_trace.proofs.LineLemmas.{left_is}
 use Rattle.smap_trace.proofs.StartsLemmas.{on_err, starts_append, starts_trans}
 use Rattle.smap_trace.proofs.anywhere.push_pieces.Goals as goal

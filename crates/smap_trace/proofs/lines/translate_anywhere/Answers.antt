@@ -14,14 +14,16 @@ returns-clause-ok g c =
     let line = c.args.line.now in
     let shown : is_dropped (frame_fate ignore scripts c.args.hide (without_line_feed line)) ≡ false =
     elim c.else-hide.branch [
-      | else-hide-via-then-hide+else-is_hidden w ↦ shown_one ignore scripts c.args.hide (without_line_feed line)
+      | else-hide-via-then-hide+else-is_hidden w ↦ shown_one ignore scripts c.args.hide
+          (without_line_feed line)
           w.if-hide.true (search rules)
       | else-hide-via-else-hide w ↦ shown_all ignore scripts c.args.hide (without_line_feed line)
           w.if-hide.false
     ] in
     let out = c.args.out.now.items in
     written_as c.translate_pieces.result c.translate_pieces.new.out.items
-    (out ++ (flat_map written_for (pieces_of ignore scripts c.cut_feed.result.0.now) ++ c.cut_feed.result.1.now))
+    (out ++ (flat_map written_for (pieces_of ignore scripts c.cut_feed.result.0.now)
+    ++ c.cut_feed.result.1.now))
     (out ++ written (anywhere_fate ignore scripts c.args.hide (without_line_feed line)) line)
     (rw (c.cut_feed.ensures.text, c.cut_feed.ensures.feed) (ap (λ (xs : List ℕ). out ++ xs)
     (anywhere_written ignore scripts c.args.hide line shown)))

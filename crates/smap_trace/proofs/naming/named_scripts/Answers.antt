@@ -1,4 +1,5 @@
-use Rattle.std.proofs.Common.{◌≡◌, ◌≢◌, ◌∙◌, ◌<◌, ◌≤◌, ◌++◌, ℕ, List, ap, subst, take, rules, arith, true, length}
+use Rattle.std.proofs.Common.{◌≡◌, ◌≢◌, ◌∙◌, ◌<◌, ◌≤◌, ◌++◌, ℕ, List, ap, subst, take, rules, arith, true}
+use Rattle.std.proofs.Common.{length}
 use Rattle.std.proofs.Common.{length-take, length-append}
 use Rattle.smap_io.specs.Device.{has_ended}
 use Rattle.smap_io.specs.Reading.{Gave}
@@ -13,7 +14,8 @@ returns-then-n-eq0-clause-names g c =
     let s = c.pieces.invariant.so_far in
     let room : 0 < length c.read.new.buf = search rules in
     let ended : has_ended c.read.new.self ≡ true = search rules in
-    let p = at_the_end g.R.Read.remaining c.args.reader.now c.pieces.reader c.read.new.self c.pieces.line.items
+    let p = at_the_end g.R.Read.remaining c.args.reader.now c.pieces.reader c.read.new.self
+    c.pieces.line.items
     (named_of c.pieces.lines.entries) s (named_of c.end_line.new.lines.entries)
     (subst (λ (k : ℕ). Gave g.R.Read.remaining c.pieces.reader c.read.new.self (take k c.read.new.buf))
     c.if-n-eq0.true c.in-Ok.ensures.bytes.0)

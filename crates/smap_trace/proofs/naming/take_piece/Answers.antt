@@ -1,4 +1,5 @@
-use Rattle.std.proofs.Common.{◌≡◌, ◌∙◌, ℕ, ◌+◌, ◌<◌, List, ◌++◌, [], length, take, drop, get_or, sym, ap, arith}
+use Rattle.std.proofs.Common.{◌≡◌, ◌∙◌, ℕ, ◌+◌, ◌<◌, List, ◌++◌, [], length, take, drop, get_or, sym, ap}
+use Rattle.std.proofs.Common.{arith}
 use Rattle.std.proofs.Common.{length-drop}
 use Rattle.std.specs.List.{cons_option}
 use Rattle.std.proofs.lemmas.Bool.{eqb-true}
@@ -20,7 +21,8 @@ lines-preserved c =
     let end = line_end piece at feed lt is in
     let step = feed_step c.args.line.now.items (take at piece) (take (at + feed + 1) piece)
     c.lines.line.items c.take_line.new.line.items (take feed (drop at piece))
-    (named_of c.args.lines.now.entries) (named_of c.lines.lines.entries) (named_of c.take_line.new.lines.entries)
+    (named_of c.args.lines.now.entries) (named_of c.lines.lines.entries)
+    (named_of c.take_line.new.lines.entries)
     (line_taken piece at feed lt is) c.in_ok-take_line.ensures.rest
     (none_passed (drop at piece) feed (λ i below. found.0.before i (omega arith) below))
     (c.in_ok-take_line.ensures.counts ∙ ap (λ (xs : List ℕ).

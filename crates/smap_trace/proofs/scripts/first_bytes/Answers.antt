@@ -1,9 +1,13 @@
 use Rattle.std.proofs.Common.{◌≡◌, ◌++◌, ◌∷◌, [], arith, rules, true, take, length, get_or}
 use Rattle.smap_trace.specs.ByLength.{begins_among, is_among}
 use Rattle.smap_trace.specs.Views.{script_in, scripts_in}
-use Rattle.smap_trace.proofs.ByLengthLemmas.{is_empty_first, is_first, is_last, one_first_more, one_script_more}
+use Rattle.smap_trace.proofs.ByLengthLemmas.{is_empty_first, is_first, is_last, one_first_more}
+use Rattle.smap_trace.proofs.ByLengthLemmas.{one_script_more}
 use Rattle.smap_trace.proofs.scripts.first_bytes.Goals as goal
-use Rattle.smap_trace.proofs.scripts.first_bytes.Goals.{then-not-is_empty+then-not-contains+in_ok-push, else-not-is_empty}
+use Rattle.smap_trace.proofs.scripts.first_bytes.Goals.{then-not-is_empty+then-not-contains+in_ok-push}
+use Rattle.smap_trace.proofs.scripts.first_bytes.Goals.{else-not-is_empty}
+use Rattle.smap_trace.proofs.scripts.first_bytes.Goals.{}
+use Rattle.smap_trace.proofs.scripts.first_bytes.Goals.{}
 use Rattle.smap_trace.proofs.scripts.first_bytes.Goals.{else-not-is_empty-via-then-not-is_empty+else-not-contains}
 use Rattle.smap_trace.proofs.scripts.first_bytes.Goals.{else-not-is_empty-via-else-not-is_empty}
 

@@ -11,6 +11,7 @@ loop-i-preserved c = elim c.match-get.branch [
       ∙ ap (λ (xs : List ℕ). xs ++ script_line (w.in-Some.url.now, w.in-Some.lines)) c.loop-i.invariant
       ∙ next_line c.args.named.now c.loop-i.i (w.in-Some.url.now, w.in-Some.lines) (sym w.in-Some.ensures)
   | in_default w ↦
-      let lt : c.loop-i.i < length c.args.named.now = omega (arith, c.loop-i-test.true, c.len-i-end.ensures) in
+      let lt : c.loop-i.i < length c.args.named.now =
+      omega (arith, c.loop-i-test.true, c.len-i-end.ensures) in
       absurd (none_left c.args.named.now c.loop-i.i lt (sym w.in_default.ensures))
 ]

@@ -7,7 +7,11 @@ use Rattle.smap_trace.proofs.ByLengthLemmas.{found_at, looked_up, looked_up_is, 
 use Rattle.smap_trace.proofs.IndexedLemmas.{entry_in, no_entry}
 use Rattle.smap_trace.proofs.LineLemmas.{left_is}
 use Rattle.smap_trace.proofs.scripts.Indexed.occurrence_of_length.Goals as goal
-use Rattle.smap_trace.proofs.scripts.Indexed.occurrence_of_length.Goals.{then-url_len-eq0-via-then-url_len-eq0, then-url_len-eq0-via-else-url_len-eq0+then-url_len-text}
+use Rattle.smap_trace.proofs.scripts.Indexed.occurrence_of_length.Goals.{}
+use Rattle.smap_trace.proofs.scripts.Indexed.occurrence_of_length.Goals.{}
+use Rattle.smap_trace.proofs.scripts.Indexed.occurrence_of_length.Goals.{then-url_len-eq0-via-then-url_len-eq0}
+use Rattle.smap_trace.proofs.scripts.Indexed.occurrence_of_length.Goals.{}
+use Rattle.smap_trace.proofs.scripts.Indexed.occurrence_of_length.Goals.{then-url_len-eq0-via-else-url_len-eq0+then-url_len-text}
 
 pub returns-then-url_len-eq0-clause-value : goal.returns-then-url_len-eq0-clause-value
 returns-then-url_len-eq0-clause-value c =

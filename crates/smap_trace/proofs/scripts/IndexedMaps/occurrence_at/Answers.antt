@@ -1,4 +1,5 @@
-use Rattle.std.proofs.Common.{◌≡◌, ◌∙◌, ◌≤◌, ℕ, List, false, length, get_or, sym, subst, option_map, inl, inr, rules}
+use Rattle.std.proofs.Common.{◌≡◌, ◌∙◌, ◌≤◌, ℕ, List, false, length, get_or, sym, subst, option_map, inl, inr}
+use Rattle.std.proofs.Common.{rules}
 use Rattle.std.proofs.lemmas.List.{drop_all}
 use Rattle.smap_trace.specs.ByLength.{is_among}
 use Rattle.smap_trace.specs.OccurrenceView.{occurrence_in}
@@ -7,6 +8,8 @@ use Rattle.smap_trace.proofs.ByLengthLemmas.{longest_of_all, none_begins}
 use Rattle.smap_trace.proofs.OccurrenceLemmas.{longer-none}
 use Rattle.smap_trace.proofs.scripts.IndexedMaps.occurrence_at.Goals as goal
 use Rattle.smap_trace.proofs.scripts.IndexedMaps.occurrence_at.Goals.{then-is_empty-via-then-is_empty}
+use Rattle.smap_trace.proofs.scripts.IndexedMaps.occurrence_at.Goals.{}
+use Rattle.smap_trace.proofs.scripts.IndexedMaps.occurrence_at.Goals.{}
 use Rattle.smap_trace.proofs.scripts.IndexedMaps.occurrence_at.Goals.{then-is_empty-via-else-is_empty+then-not-contains}
 
 pub returns-then-is_empty-clause-value : goal.returns-then-is_empty-clause-value

@@ -9,6 +9,7 @@ abbrev pub invariant-loop-length : goal.invariant-loop-length
 invariant-loop-length l = record {
   within : IfSome l.best (IsWithin (length l.text));
   rest : longer (option_map occurrence_in l.best)
-      (longest_of l.ignore_query (scripts_in l.self.maps.entries) l.text (drop l.length-index l.self.lengths.items))
+      (longest_of l.ignore_query (scripts_in l.self.maps.entries) l.text
+      (drop l.length-index l.self.lengths.items))
       ≡ longest_of l.ignore_query (scripts_in l.self.maps.entries) l.text l.self.lengths.items;
 }

@@ -1,0 +1,385 @@
+-- The position of one script at the beginning of a text: what is computed is what the relation says.
+use Rattle.std.proofs.Common.{◌≡◌, ◌∙◌, inl, inr, ℕ, suc, ◌+◌, ◌<◌, ◌≤◌, ◌==◌, Bool, true, false}
+use Rattle.std.proofs.Common.{cond, ◌&&◌, ◌||◌, List, [], ◌∷◌, ◌++◌, length, take, drop}
+use Rattle.std.proofs.Common.{Option, Some, None, option_map, option_and_then, codes, decimal}
+use Rattle.std.proofs.Common.{nat_eq, nat_lt, refl, sym, ap, subst, arith, append_assoc}
+use Rattle.std.proofs.Common.{length-append}
+use Rattle.std.specs.Char.{is_ascii_digit}
+use Rattle.std.specs.List.{list_all, list_any, prefix_len, starts_with}
+use Rattle.std.specs.Str.Parse.{AllDigits}
+use Rattle.std.proofs.Math.Seq.{drop-append_seam, take-add, take-append_seam}
+use Rattle.std.proofs.lemmas.Bool.{eqb-true, lt-ltb, ltb-true}
+use Rattle.std.proofs.lemmas.Bool.Decides.{nat_tests}
+use Rattle.std.proofs.lemmas.Fmt.{decimal_is_IsNumeral}
+use Rattle.std.proofs.lemmas.List.{length-drop, length-take-le, take-append-drop}
+use Rattle.std.proofs.lemmas.List.Folds.{length-prefix_len}
+use Rattle.std.proofs.lemmas.Str.Parse.{digit_from_value}
+use Rattle.smap_trace.specs.Anywhere.{Occurrence, is_query_byte, line_and_column, marked_len, number_after}
+use Rattle.smap_trace.specs.Anywhere.{occurrence_of, place_after, query_len}
+use Rattle.smap_trace.specs.Cuts.{IsIgnored, IsMarked}
+use Rattle.smap_trace.specs.Frame.{IsPlace, position_text}
+use Rattle.smap_trace.specs.Reading.{place_of}
+use Rattle.smap_trace.specs.Scripts.{Script}
+use Rattle.smap_trace.specs.declared.places.Place.{Place}
+use Rattle.smap_trace.proofs.CutLemmas.{begins, begins_with, both}
+use Rattle.smap_trace.proofs.PlaceLemmas.{place_of-decimal, place_of-some}
+
+pub some_of : {X Y : Type 0} (f : X → Y) (m : Option X) (y : Y) → option_map f m ≡ Some y
+    → (x : X) × (m ≡ Some x) × (f x ≡ y)
+some_of f (Some x) y h = (x, refl, cc)
+some_of f None y h = cc
+
+-- ---- the first bytes that pass a test
+
+stop_behind : (p : ℕ → Bool) (t : List ℕ) → list_any p (take 1 (drop (prefix_len p t) t)) ≡ false
+stop_behind p [] = refl
+stop_behind p (b ∷ bs) = go (p b) refl (stop_behind p bs)
+  where
+    go : (t : Bool) → p b ≡ t → list_any p (take 1 (drop (prefix_len p bs) bs)) ≡ false
+        → list_any p (take 1 (drop (cond t (1 + prefix_len p bs) 0) (b ∷ bs))) ≡ false
+    go true e h =
+        let one : 1 + prefix_len p bs ≡ suc (prefix_len p bs) = omega arith in
+        rw one h
+    go false e h = rw e refl
+
+all_passed : (p : ℕ → Bool) (t : List ℕ) → list_all p (take (prefix_len p t) t) ≡ true
+all_passed p [] = refl
+all_passed p (b ∷ bs) = go (p b) refl (all_passed p bs)
+  where
+    go : (t : Bool) → p b ≡ t → list_all p (take (prefix_len p bs) bs) ≡ true
+        → list_all p (take (cond t (1 + prefix_len p bs) 0) (b ∷ bs)) ≡ true
+    go true e h =
+        let one : 1 + prefix_len p bs ≡ suc (prefix_len p bs) = omega arith in
+        rw one (rw (e, h) refl)
+    go false e h = refl
+
+passed_up_to : (p : ℕ → Bool) (t : List ℕ) (y : ℕ) (ys : List ℕ) → list_all p t ≡ true → p y ≡ false
+    → prefix_len p (t ++ y ∷ ys) ≡ length t
+passed_up_to p [] y ys all stop = rw stop refl
+passed_up_to p (b ∷ bs) y ys all stop =
+    let parts = both (p b) (list_all p bs) all in
+    rw (parts.0) (ap (λ n. 1 + n) (passed_up_to p bs y ys parts.1 stop) ∙ omega arith)
+
+pub no_digit_first : (t : List ℕ) → list_any is_ascii_digit (take 1 t) ≡ false
+    → prefix_len is_ascii_digit t ≡ 0
+no_digit_first [] h = refl
+no_digit_first (b ∷ bs) h = go (is_ascii_digit b) h
+  where
+    go : (t : Bool) → (t || false) ≡ false → cond t (1 + prefix_len is_ascii_digit bs) 0 ≡ 0
+    go true e = cc
+    go false e = refl
+
+digits_passed : (ds t : List ℕ) → AllDigits 10 ds → list_any is_ascii_digit (take 1 t) ≡ false
+    → prefix_len is_ascii_digit (ds ++ t) ≡ length ds
+digits_passed [] t all stop = no_digit_first t stop
+digits_passed (d ∷ ds) t all stop =
+    let range = digit_from_value d all.0 in
+    let is : is_ascii_digit d ≡ true = grind (arith, nat_tests) in
+    rw is (ap (λ n. 1 + n) (digits_passed ds t all.1 stop) ∙ omega arith)
+
+-- ---- a colon and a number
+
+pub number_here : (n : ℕ) (t : List ℕ) → IsPlace n → list_any is_ascii_digit (take 1 t) ≡ false
+    → number_after (58 ∷ (decimal n ++ t)) ≡ Some (n, length (decimal n) + 1)
+number_here n t is stop =
+    let count : prefix_len is_ascii_digit (decimal n ++ t) ≡ length (decimal n) =
+    digits_passed (decimal n) t (decimal_is_IsNumeral n (omega (arith, is.1))).0.1 stop in
+    let digits : take (length (decimal n)) (decimal n ++ t) ≡ decimal n = take-append_seam (decimal n) t in
+    rw (count, digits, place_of-decimal n is) refl
+
+-- The text is a colon, this number in so many bytes with it, and a rest that no digit begins.
+record IsNumberThen (text : List ℕ) (number width : ℕ) : Type 0 where
+  rest : List ℕ
+  place : IsPlace number
+  stops : list_any is_ascii_digit (take 1 rest) ≡ false
+  whole : text ≡ 58 ∷ (decimal number ++ rest)
+  width_is : width ≡ length (decimal number) + 1
+
+number_found : (text : List ℕ) (number width : ℕ) → number_after text ≡ Some (number, width)
+    → IsNumberThen text number width
+number_found [] number width h = cc
+number_found (b ∷ bs) number width h = go (58 == b) refl h
+  where
+    count : ℕ
+    count = prefix_len is_ascii_digit bs
+
+    go : (t : Bool) → (58 == b) ≡ t
+        → cond (t && true) (option_map {U = ℕ × ℕ} (λ v. (v, count + 1)) (place_of (take count bs))) None
+        ≡ Some (number, width)
+        → IsNumberThen (b ∷ bs) number width
+    go true e k =
+        let v = some_of (λ (v : ℕ). (v, count + 1)) (place_of (take count bs)) (number, width) k in
+        let same : v.0 ≡ number = ap (λ (x : ℕ × ℕ). x.0) v.2 in
+        let wide : count + 1 ≡ width = ap (λ (x : ℕ × ℕ). x.1) v.2 in
+        let read = place_of-some (take count bs) number (v.1 ∙ ap (λ (n : ℕ). Some n) same) in
+        record {
+          rest = drop count bs;
+          place = read.0;
+          stops = stop_behind is_ascii_digit bs;
+          whole = ap (λ c. c ∷ bs) (sym (eqb-true 58 b e))
+              ∙ ap (λ (t : List ℕ). 58 ∷ t) (sym (take-append-drop count bs)
+              ∙ ap (λ (t : List ℕ). t ++ drop count bs) read.1);
+          width_is = sym wide ∙ ap (λ n. n + 1) (sym (length-prefix_len is_ascii_digit bs)
+              ∙ ap (λ (t : List ℕ). length t) read.1);
+        }
+    go false e k = cc
+
+-- ---- a line and a column
+
+pub place_here : (l c : ℕ) (t : List ℕ) → IsPlace l → IsPlace c → list_any is_ascii_digit (take 1 t) ≡ false
+    → line_and_column (58 ∷ (decimal l ++ (58 ∷ (decimal c ++ t))))
+    ≡ Some (record { line = l; column = c; width = length (decimal l) + 1 + (length (decimal c) + 1) })
+place_here l c t lp cp stop =
+    let first = number_here l (58 ∷ (decimal c ++ t)) lp refl in
+    let rest : drop (length (decimal l) + 1) (58 ∷ (decimal l ++ (58 ∷ (decimal c ++ t))))
+    ≡ 58 ∷ (decimal c ++ t) = behind (decimal l) (58 ∷ (decimal c ++ t)) in
+    let second = number_here c t cp stop in
+    rw (first, rest, second) refl
+  where
+    behind : (ds t : List ℕ) → drop (length ds + 1) (58 ∷ (ds ++ t)) ≡ t
+    behind ds t = let one : length ds + 1 ≡ suc (length ds) = omega arith in rw one (drop-append_seam ds t)
+
+-- The text is this place, and a rest that no digit begins.
+record IsPlaceThen (text : List ℕ) (p : Place) : Type 0 where
+  rest : List ℕ
+  line_place : IsPlace p.line
+  column_place : IsPlace p.column
+  stops : list_any is_ascii_digit (take 1 rest) ≡ false
+  whole : text ≡ 58 ∷ (decimal p.line ++ (58 ∷ (decimal p.column ++ rest)))
+  width_is : p.width ≡ length (decimal p.line) + 1 + (length (decimal p.column) + 1)
+
+line_found : (text : List ℕ) (p : Place) → line_and_column text ≡ Some p → IsPlaceThen text p
+line_found text p h = go (number_after text) refl h
+  where
+    make : (l c : ℕ × ℕ) → Place
+    make l c = record { line = l.0; column = c.0; width = l.1 + c.1 }
+
+    go : (m : Option (ℕ × ℕ)) → number_after text ≡ m
+        → option_and_then (λ l. option_map (λ c. record { line = l.0; column = c.0; width = l.1 + c.1 })
+        (number_after (drop l.1 text))) m ≡ Some p
+        → IsPlaceThen text p
+    go None e k = cc
+    go (Some l) e k =
+        let c = some_of (make l) (number_after (drop l.1 text)) p k in
+        let first = number_found text l.0 l.1 e in
+        let one : l.1 ≡ suc (length (decimal l.0)) = omega (arith, first.width_is) in
+        let behind : drop l.1 text ≡ first.rest =
+        ap (λ n. drop n text) one ∙ ap (λ (t : List ℕ). drop (suc (length (decimal l.0))) t) first.whole
+        ∙ drop-append_seam (decimal l.0) first.rest in
+        let second = number_found first.rest c.0.0 c.0.1 (sym (ap number_after behind) ∙ c.1) in
+        subst (IsPlaceThen text) c.2 (record {
+          rest = second.rest;
+          line_place = first.place;
+          column_place = second.place;
+          stops = second.stops;
+          whole = first.whole ∙ ap (λ (t : List ℕ). 58 ∷ (decimal l.0 ++ t)) second.whole;
+          width_is = ap (λ n. n + c.0.1) first.width_is
+              ∙ ap (λ n. length (decimal l.0) + 1 + n) second.width_is;
+        })
+
+-- ---- a query and a fragment
+
+marked_found : (mark : ℕ) (text : List ℕ) → IsMarked mark (take (marked_len (mark ∷ []) text) text)
+marked_found mark [] = inl refl
+marked_found mark (b ∷ bs) = go (mark == b) refl
+  where
+    count : ℕ
+    count = prefix_len is_query_byte bs
+
+    go : (t : Bool) → (mark == b) ≡ t → IsMarked mark (take (cond (t && true) (count + 1) 0) (b ∷ bs))
+    go true e =
+        let one : count + 1 ≡ suc count = omega arith in
+        rw one (inr (
+          take count bs,
+          ap (λ c. c ∷ take count bs) (sym (eqb-true mark b e)),
+          all_passed is_query_byte bs,
+        ))
+    go false e = inl refl
+
+marked_here : (mark : ℕ) (text : List ℕ) (y : ℕ) (ys : List ℕ) → IsMarked mark text → (mark == mark) ≡ true
+    → (mark == y) ≡ false → is_query_byte y ≡ false → marked_len (mark ∷ []) (text ++ y ∷ ys) ≡ length text
+marked_here mark text y ys (inl e) same other stop = rw (e, other) refl
+marked_here mark text y ys (inr (w, e, all)) same other stop =
+    rw (e, same) (ap (λ n. n + 1) (passed_up_to is_query_byte w y ys all stop) ∙ omega arith)
+
+query_found : (text : List ℕ) → IsIgnored true (take (query_len text) text)
+query_found text =
+    let n = marked_len (codes "?") text in
+    let k = marked_len (codes "#") (drop n text) in (
+      take n text,
+      take k (drop n text),
+      take-add n k text,
+      marked_found 63 text,
+      marked_found 35 (drop n text),
+    )
+
+query_here : (query rest : List ℕ) → IsIgnored true query → query_len (query ++ 58 ∷ rest) ≡ length query
+query_here query rest (a, b, e, first, second) = rw e (counted second)
+  where
+    fragment : marked_len (codes "#") (b ++ 58 ∷ rest) ≡ length b
+    fragment = marked_here 35 b 58 rest second refl refl refl
+
+    start : IsMarked 35 b → marked_len (codes "?") (a ++ (b ++ 58 ∷ rest)) ≡ length a
+    start (inl none) = rw none (marked_here 63 a 58 rest first refl refl refl)
+    start (inr (w, is, all)) = rw is (marked_here 63 a 35 (w ++ 58 ∷ rest) first refl refl refl)
+
+    counted : IsMarked 35 b → query_len ((a ++ b) ++ 58 ∷ rest) ≡ length (a ++ b)
+    counted m =
+        let apart : (a ++ b) ++ 58 ∷ rest ≡ a ++ (b ++ 58 ∷ rest) = append_assoc a b (58 ∷ rest) in
+        let n : marked_len (codes "?") (a ++ (b ++ 58 ∷ rest)) ≡ length a = start m in
+        let behind : drop (length a) (a ++ (b ++ 58 ∷ rest)) ≡ b ++ 58 ∷ rest =
+        drop-append_seam a (b ++ 58 ∷ rest) in
+        rw apart (rw n (rw (behind, fragment) (sym (length-append a b))))
+
+-- The text is what is ignored, this place, and a rest that no digit begins.
+record IsPlacedThen (ignore : Bool) (text : List ℕ) (p : Place) : Type 0 where
+  query : List ℕ
+  rest : List ℕ
+  ignored : IsIgnored ignore query
+  line_place : IsPlace p.line
+  column_place : IsPlace p.column
+  stops : list_any is_ascii_digit (take 1 rest) ≡ false
+  whole : text ≡ query ++ (58 ∷ (decimal p.line ++ (58 ∷ (decimal p.column ++ rest))))
+  width_is : p.width ≡ length query + (length (decimal p.line) + 1 + (length (decimal p.column) + 1))
+
+placed_found : (ignore : Bool) (text : List ℕ) (p : Place) → place_after ignore text ≡ Some p
+    → IsPlacedThen ignore text p
+placed_found false text p h =
+    let there = line_found text p h in
+    record {
+      query = [];
+      rest = there.rest;
+      ignored = refl;
+      line_place = there.line_place;
+      column_place = there.column_place;
+      stops = there.stops;
+      whole = there.whole;
+      width_is = omega (arith, there.width_is);
+    }
+placed_found true text p h =
+    let n = query_len text in
+    let q = some_of (λ (q : Place). record { line = q.line; column = q.column; width = n + q.width })
+    (line_and_column (drop n text)) p h in
+    let there = line_found (drop n text) q.0 q.1 in
+    let within : n ≤ length text =
+    omega (arith, length-drop n text, ap (λ (t : List ℕ). length t) there.whole) in
+    let wide : length (take n text) ≡ n = length-take-le n text within in
+    let split = ap (λ (t : List ℕ). take n text ++ t) (sym there.whole) ∙ take-append-drop n text in
+    subst (IsPlacedThen true text) q.2 (record {
+      query = take n text;
+      rest = there.rest;
+      ignored = query_found text;
+      line_place = there.line_place;
+      column_place = there.column_place;
+      stops = there.stops;
+      whole = sym split;
+      width_is = ap (λ k. n + k) there.width_is
+          ∙ ap (λ k. k + (length (decimal q.0.line) + 1 + (length (decimal q.0.column) + 1))) (sym wide);
+    })
+
+placed_here : (ignore : Bool) (text : List ℕ) (p : Place) → IsPlacedThen ignore text p
+    → place_after ignore text ≡ Some p
+placed_here false text p h =
+    let there : text ≡ 58 ∷ (decimal p.line ++ (58 ∷ (decimal p.column ++ h.rest))) = h.whole
+    ∙ ap (λ (t : List ℕ). t ++ (58 ∷ (decimal p.line ++ (58 ∷ (decimal p.column ++ h.rest))))) h.ignored in
+    let wide : length (decimal p.line) + 1 + (length (decimal p.column) + 1) ≡ p.width =
+    omega (arith, h.width_is, ap (λ (t : List ℕ). length t) h.ignored) in
+    ap line_and_column there ∙ place_here p.line p.column h.rest h.line_place h.column_place h.stops
+    ∙ ap (λ w. Some (record { line = p.line; column = p.column; width = w })) wide
+placed_here true text p h =
+    let rest = decimal p.line ++ (58 ∷ (decimal p.column ++ h.rest)) in
+    let count = query_here h.query rest h.ignored in
+    let behind : drop (length h.query) (h.query ++ 58 ∷ rest) ≡ 58 ∷ rest =
+    drop-append_seam h.query (58 ∷ rest) in
+    let there = place_here p.line p.column h.rest h.line_place h.column_place h.stops in
+    ap (place_after true) h.whole ∙ rw (count, behind, there) refl
+    ∙ ap (λ w. Some (record { line = p.line; column = p.column; width = w })) (sym h.width_is)
+
+-- ---- a position of a script
+
+-- The text begins with this position of the script with its URL, and no digit follows.
+pub record BeginsWithPosition (ignore : Bool) (o : Occurrence) (text : List ℕ) : Type 0 where
+  pub query : List ℕ
+  pub rest : List ℕ
+  pub some_url : 0 < length o.url
+  pub ignored : IsIgnored ignore query
+  pub line_place : IsPlace o.line
+  pub column_place : IsPlace o.column
+  pub stops : list_any is_ascii_digit (take 1 rest) ≡ false
+  pub whole : text ≡ position_text (o.url ++ query) o.line o.column ++ rest
+  pub width_is : o.width ≡ length (position_text (o.url ++ query) o.line o.column)
+
+-- the parts of a position, one after the other
+parts_joined : (url query rest : List ℕ) (l c : ℕ) → position_text (url ++ query) l c ++ rest
+    ≡ url ++ (query ++ (58 ∷ (decimal l ++ (58 ∷ (decimal c ++ rest)))))
+parts_joined url query rest l c = simp append_assoc
+
+parts_counted : (url query : List ℕ) (l c : ℕ) → length (position_text (url ++ query) l c)
+    ≡ length url + (length query + (length (decimal l) + 1 + (length (decimal c) + 1)))
+parts_counted url query l c =
+    let all = length-append (url ++ query ++ (58 ∷ []) ++ decimal l ++ (58 ∷ [])) (decimal c) in
+    let four = length-append (url ++ query ++ (58 ∷ []) ++ decimal l) (58 ∷ []) in
+    let three = length-append (url ++ query ++ (58 ∷ [])) (decimal l) in
+    let two = length-append (url ++ query) (58 ∷ []) in
+    omega (arith, all, four, three, two, length-append url query)
+
+pub position_found : (ignore : Bool) (s : Script) (text : List ℕ) (o : Occurrence)
+    → occurrence_of ignore s text ≡ Some o → BeginsWithPosition ignore o text
+position_found ignore s text o h =
+    go (nat_lt 0 (length s.0)) (starts_with nat_eq text s.0) refl refl h
+  where
+    made : Place → Occurrence
+    made p = record { url = s.0; map = s.1; line = p.line; column = p.column; width = length s.0 + p.width }
+
+    go : (a b : Bool) → nat_lt 0 (length s.0) ≡ a → starts_with nat_eq text s.0 ≡ b
+        → cond (a && b) (option_map (λ p. record {
+          url = s.0;
+          map = s.1;
+          line = p.line;
+          column = p.column;
+          width = length s.0 + p.width;
+        }) (place_after ignore (drop (length s.0) text))) None ≡ Some o
+        → BeginsWithPosition ignore o text
+    go true true e f k =
+        let p = some_of made (place_after ignore (drop (length s.0) text)) o k in
+        let there = placed_found ignore (drop (length s.0) text) p.0 p.1 in
+        let split : text ≡ s.0 ++ drop (length s.0) text = begins text s.0 f in
+        subst (λ (x : Occurrence). BeginsWithPosition ignore x text) p.2 (record {
+          query = there.query;
+          rest = there.rest;
+          some_url = ltb-true 0 (length s.0) e;
+          ignored = there.ignored;
+          line_place = there.line_place;
+          column_place = there.column_place;
+          stops = there.stops;
+          whole = split ∙ ap (λ (t : List ℕ). s.0 ++ t) there.whole
+              ∙ sym (parts_joined s.0 there.query there.rest p.0.line p.0.column);
+          width_is = ap (λ n. length s.0 + n) there.width_is
+              ∙ sym (parts_counted s.0 there.query p.0.line p.0.column);
+        })
+    go true false e f k = cc
+    go false b e f k = cc
+
+pub position_here : (ignore : Bool) (text : List ℕ) (o : Occurrence) → BeginsWithPosition ignore o text
+    → occurrence_of ignore (o.url, o.map) text ≡ Some o
+position_here ignore text o h =
+    let rest = h.query ++ (58 ∷ (decimal o.line ++ (58 ∷ (decimal o.column ++ h.rest)))) in
+    let whole : text ≡ o.url ++ rest = h.whole ∙ parts_joined o.url h.query h.rest o.line o.column in
+    let width : ℕ = length h.query + (length (decimal o.line) + 1 + (length (decimal o.column) + 1)) in
+    let p : Place = record { line = o.line; column = o.column; width = width } in
+    let there : place_after ignore rest ≡ Some p = placed_here ignore rest p (record {
+      query = h.query;
+      rest = h.rest;
+      ignored = h.ignored;
+      line_place = h.line_place;
+      column_place = h.column_place;
+      stops = h.stops;
+      whole = refl;
+      width_is = refl;
+    }) in
+    let some : nat_lt 0 (length o.url) ≡ true = lt-ltb 0 (length o.url) h.some_url in
+    let starts : starts_with nat_eq (o.url ++ rest) o.url ≡ true = begins_with o.url rest in
+    let behind : drop (length o.url) (o.url ++ rest) ≡ rest = drop-append_seam o.url rest in
+    ap (occurrence_of ignore (o.url, o.map)) whole ∙ rw (some, starts, behind, there) refl
+    ∙ ap (λ w. Some (record { url = o.url; map = o.map; line = o.line; column = o.column; width = w }))
+    (sym (h.width_is ∙ parts_counted o.url h.query o.line o.column))
