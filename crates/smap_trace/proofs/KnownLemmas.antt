@@ -1,6 +1,6 @@
 -- An occurrence is of the script with its URL.
-use Rattle.std.proofs.Common.{◌≡◌, ◌∙◌, ◌⊎◌, inl, inr, ℕ, zero, suc, ◌+◌, ◌-◌, ◌<◌, Bool, true, false, cond}
-use Rattle.std.proofs.Common.{◌&&◌, List, [], ◌∷◌, ◌++◌, length, drop, Option, Some, None, option_map, find}
+use Rattle.std.proofs.Common.{◌≡◌, ◌∙◌, inl, inr, ℕ, suc, ◌+◌, ◌<◌, Bool, true, false, cond}
+use Rattle.std.proofs.Common.{◌&&◌, List, [], ◌∷◌, length, drop, Option, Some, None, option_map, find}
 use Rattle.std.proofs.Common.{bytes_eq, nat_eq, nat_lt, refl, sym, ap, arith}
 use Rattle.std.specs.List.{starts_with}
 use Rattle.std.specs.Prelude.{slice_index_or}

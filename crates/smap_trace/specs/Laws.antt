@@ -1,5 +1,5 @@
 -- Laws about the definitions.
-use Rattle.std.specs.Prelude.{◌≡◌, ◌↔◌, ◌⊎◌, ℕ, Bool, false, List, ◌∷◌, ◌++◌, flat_map, map, Option, Some}
+use Rattle.std.specs.Prelude.{◌≡◌, ◌↔◌, ◌⊎◌, ℕ, Bool, List, ◌∷◌, ◌++◌, flat_map, map, Option, Some}
 use Rattle.smap_record.specs.Record.{Mapping}
 use Rattle.smap_trace.specs.Anywhere.{Occurrence, Piece, byte, bytes_of, found, pieces_of}
 use Rattle.smap_trace.specs.Cuts.{IsCut}
