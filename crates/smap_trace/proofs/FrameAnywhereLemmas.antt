@@ -47,7 +47,7 @@ one_of (Some p) (Some q) o h = go (nat_lt (length p.url) (length q.url)) h
     go true k = inr k
     go false k = inl k
 
-names_script : (ignore : Bool) (s : Script) (text : List ℕ) (o : Occurrence)
+pub names_script : (ignore : Bool) (s : Script) (text : List ℕ) (o : Occurrence)
     → occurrence_of ignore s text ≡ Some o → (s.0 ≡ o.url) × (s.1 ≡ o.map)
 names_script ignore s text o h =
     go (nat_lt 0 (length s.0) && starts_with nat_eq text s.0) (place_after ignore (drop (length s.0) text)) h

@@ -1,0 +1,89 @@
+-- Laws about the translation of whole traces.
+use Rattle.std.specs.Prelude.{◌≡◌, ◌↔◌, ◌⊎◌, ℕ, ◌+◌, Bool, true, false, List, ◌∷◌, ◌++◌, Contains, Some}
+use Rattle.std.specs.Map.{keys_of}
+use Rattle.smap_trace.specs.Anywhere.{Occurrence, found, longest, pieces_of}
+use Rattle.smap_trace.specs.Frame.{FrameParts, IsFrame, position_text}
+use Rattle.smap_trace.specs.Naming.{named_in}
+use Rattle.smap_trace.specs.Pieces.{IsWhole}
+use Rattle.smap_trace.specs.Scripts.{Script}
+use Rattle.smap_trace.specs.Translation.{Fate, fate, fate_by, lines_of, translation_by, without_line_feed}
+use Rattle.smap_trace.specs.Views.{at_most_u64, counts_by}
+use Rattle.smap_trace.specs.declared.finding.Finding.{Finding}
+use Rattle.smap_trace.specs.declared.outcome.Counts.{Counts}
+
+-- ---- a trace in two parts
+
+-- The counts of two parts, added and capped at the greatest `u64`.
+abbrev pub sum_of : Counts → Counts → Counts
+sum_of c d = record {
+  lines = at_most_u64 (c.lines + d.lines);
+  translated = at_most_u64 (c.translated + d.translated);
+  dropped = at_most_u64 (c.dropped + d.dropped);
+}
+
+-- A trace that is cut behind a line feed is translated part by part, and its counts are the sums of theirs,
+-- whatever becomes of each line.
+abbrev pub PartsAreTranslated : Type 0
+PartsAreTranslated = (fates : List ℕ → Fate) (whole rest : List ℕ) → IsWhole whole
+    → (translation_by fates (whole ++ rest) ≡ translation_by fates whole ++ translation_by fates rest)
+    × (counts_by fates (whole ++ rest) ≡ sum_of (counts_by fates whole) (counts_by fates rest))
+
+-- ---- a script that a trace doesn't name
+
+-- A line of the trace is a frame with this URL.
+pub record Names (trace url : List ℕ) : Type 0 where
+  pub line : List ℕ
+  pub frame : FrameParts
+  pub of_trace : Contains (lines_of trace) line
+  pub is_frame : IsFrame (without_line_feed line) frame
+  pub is_url : frame.url ≡ url
+
+-- The URLs that a trace is found to name are those of its frames.
+abbrev pub NamedAreOfFrames : Type 0
+NamedAreOfFrames = (trace url : List ℕ) → Contains (keys_of (named_in trace)) url ↔ Names trace url
+
+-- The translations of the trace and the counts are the same in both ways.
+abbrev pub AreAlike : (List ℕ → Fate) → (List ℕ → Fate) → List ℕ → Type 0
+AreAlike fates others trace = (translation_by fates trace ≡ translation_by others trace)
+    × (counts_by fates trace ≡ counts_by others trace)
+
+-- A script whose URL no frame of the trace has can be left out.
+abbrev pub UnnamedIsLeftOut : Type 0
+UnnamedIsLeftOut = (before after : List Script) (s : Script) (hide : Bool) (trace : List ℕ)
+    → (Names trace s.0 → ⊥)
+    → AreAlike (fate (before ++ s ∷ after) hide) (fate (before ++ after) hide) trace
+
+-- ---- the same by a way of finding
+
+-- The script with this URL is the one that the frame names; where queries are ignored, the one that is found
+-- at its position.
+abbrev pub IsOfFrame : Bool → List Script → FrameParts → List ℕ → Type 0
+IsOfFrame false scripts f url = f.url ≡ url
+IsOfFrame true scripts f url = (o : Occurrence)
+    × (longest true scripts (position_text f.url f.line f.column) ≡ Some o) × (o.url ≡ url)
+
+-- The line is a frame of the script with this URL.
+abbrev pub IsInFrame : Bool → List Script → List ℕ → List ℕ → Type 0
+IsInFrame ignore scripts text url =
+    (f : FrameParts) × IsFrame text f × IsOfFrame ignore scripts f url
+
+-- A piece of the line is a position of the script with this URL.
+abbrev pub IsAmongPieces : Bool → List Script → List ℕ → List ℕ → Type 0
+IsAmongPieces ignore scripts text url = (o : Occurrence) × (bytes : List ℕ)
+    × Contains (pieces_of ignore scripts text) (found o bytes) × (o.url ≡ url)
+
+-- The script with this URL is found in the line, in its frame, or anywhere if positions are found so.
+abbrev pub IsFoundIn : Finding → List Script → List ℕ → List ℕ → Type 0
+IsFoundIn finding scripts text url = IsInFrame finding.ignore_query scripts text url
+    ⊎ ((finding.anywhere ≡ true) × IsAmongPieces finding.ignore_query scripts text url)
+
+-- It is found in a line of the trace.
+abbrev pub Finds : Finding → List Script → List ℕ → List ℕ → Type 0
+Finds finding scripts trace url = (line : List ℕ) × Contains (lines_of trace) line
+    × IsFoundIn finding scripts (without_line_feed line) url
+
+-- A script that isn't found in the trace can be left out.
+abbrev pub UnfoundIsLeftOut : Type 0
+UnfoundIsLeftOut = (finding : Finding) (before after : List Script) (s : Script) (hide : Bool) (trace : List ℕ)
+    → (Finds finding (before ++ s ∷ after) trace s.0 → ⊥)
+    → AreAlike (fate_by finding (before ++ s ∷ after) hide) (fate_by finding (before ++ after) hide) trace
