@@ -1,9 +1,12 @@
 -- A trace in two parts.
-use Rattle.std.proofs.Common.{◌≡◌, ◌∙◌, ℕ, ◌+◌, ◌-◌, ◌^◌, Bool, cond, List, ◌++◌, length, min, count_by}
-use Rattle.std.proofs.Common.{ap, arith, length-append}
+use Rattle.std.proofs.Common.{◌≡◌, ◌∙◌, ◌⊎◌, inl, inr, ℕ, ◌+◌, ◌-◌, ◌^◌, Bool, cond, List, [], ◌∷◌, ◌++◌}
+use Rattle.std.proofs.Common.{ap, arith, count_by, length, length-append, min, refl, take}
+use Rattle.std.proofs.lemmas.Bool.Decides.{Decides-eqb}
 use Rattle.std.proofs.lemmas.List.Sums.{sum_by-append}
-use Rattle.smap_trace.specs.TraceLaws.{PartsAreTranslated, sum_of}
-use Rattle.smap_trace.specs.Translation.{is_dropped, is_translated, lines_of}
+use Rattle.std.proofs.lemmas.Slice.Eq.{ends_is}
+use Rattle.smap_trace.specs.Pieces.{IsWhole}
+use Rattle.smap_trace.specs.TraceLaws.{EndsItsLine, PartsAreTranslated, sum_of}
+use Rattle.smap_trace.specs.Translation.{has_line_feed, is_dropped, is_translated, lines_of}
 use Rattle.smap_trace.specs.Views.{at_most_u64, counts_by}
 use Rattle.smap_trace.proofs.CountLemmas.{same_counts}
 use Rattle.smap_trace.proofs.LineLemmas.{lines_of-append, translation-append}
@@ -31,15 +34,23 @@ both_long lines xs ys e =
     ap (λ (ls : List (List ℕ)). at_most_u64 (length ls)) e ∙ ap at_most_u64 (length-append xs ys)
     ∙ capped_sum (length xs) (length ys)
 
+ended_is_whole : (text : List ℕ) → EndsItsLine text → IsWhole text
+ended_is_whole text (inl e) = inl e
+ended_is_whole text (inr e) = inr (
+  take (length text - 1) text,
+  (ends_is Decides-eqb text (10 ∷ []) (has_line_feed text) refl).0 e,
+)
+
 pub parts_translated : PartsAreTranslated
-parts_translated fates whole rest is = (translation-append fates whole rest is, counts)
+parts_translated fates first rest ended =
+    let is = ended_is_whole first ended in (translation-append fates first rest is, counts is)
   where
-    counts : counts_by fates (whole ++ rest) ≡ sum_of (counts_by fates whole) (counts_by fates rest)
-    counts =
-        let xs = lines_of whole in
+    counts : IsWhole first → counts_by fates (first ++ rest) ≡ sum_of (counts_by fates first) (counts_by fates rest)
+    counts is =
+        let xs = lines_of first in
         let ys = lines_of rest in
-        let all = lines_of (whole ++ rest) in
-        let e = lines_of-append whole rest is in
+        let all = lines_of (first ++ rest) in
+        let e = lines_of-append first rest is in
         same_counts _ _ _ _ _ _ (both_long all xs ys e)
         (both_counted (λ line. is_translated (fates line)) all xs ys e)
         (both_counted (λ line. is_dropped (fates line)) all xs ys e)

@@ -1,12 +1,12 @@
 -- Laws about the translation of whole traces.
-use Rattle.std.specs.Prelude.{◌≡◌, ◌↔◌, ◌⊎◌, ℕ, ◌+◌, Bool, true, false, List, ◌∷◌, ◌++◌, Contains, Some}
+use Rattle.std.specs.Prelude.{◌≡◌, ◌↔◌, ◌⊎◌, ℕ, ◌+◌, Bool, true, false, List, [], ◌∷◌, ◌++◌, Contains, Some}
 use Rattle.std.specs.Map.{keys_of}
 use Rattle.smap_trace.specs.Anywhere.{Occurrence, found, longest, pieces_of}
 use Rattle.smap_trace.specs.Frame.{FrameParts, IsFrame, position_text}
 use Rattle.smap_trace.specs.Naming.{named_in}
-use Rattle.smap_trace.specs.Pieces.{IsWhole}
 use Rattle.smap_trace.specs.Scripts.{Script}
-use Rattle.smap_trace.specs.Translation.{Fate, fate, fate_by, lines_of, translation_by, without_line_feed}
+use Rattle.smap_trace.specs.Translation.{Fate, fate, fate_by, has_line_feed, lines_of, translation_by}
+use Rattle.smap_trace.specs.Translation.{without_line_feed}
 use Rattle.smap_trace.specs.Views.{at_most_u64, counts_by}
 use Rattle.smap_trace.specs.declared.finding.Finding.{Finding}
 use Rattle.smap_trace.specs.declared.outcome.Counts.{Counts}
@@ -21,12 +21,16 @@ sum_of c d = record {
   dropped = at_most_u64 (c.dropped + d.dropped);
 }
 
+-- nothing, or a text that ends in a line feed
+abbrev pub EndsItsLine : List ℕ → Type 0
+EndsItsLine text = (text ≡ []) ⊎ (has_line_feed text ≡ true)
+
 -- A trace that is cut behind a line feed is translated part by part, and its counts are the sums of theirs,
 -- whatever becomes of each line.
 abbrev pub PartsAreTranslated : Type 0
-PartsAreTranslated = (fates : List ℕ → Fate) (whole rest : List ℕ) → IsWhole whole
-    → (translation_by fates (whole ++ rest) ≡ translation_by fates whole ++ translation_by fates rest)
-    × (counts_by fates (whole ++ rest) ≡ sum_of (counts_by fates whole) (counts_by fates rest))
+PartsAreTranslated = (fates : List ℕ → Fate) (first rest : List ℕ) → EndsItsLine first
+    → (translation_by fates (first ++ rest) ≡ translation_by fates first ++ translation_by fates rest)
+    × (counts_by fates (first ++ rest) ≡ sum_of (counts_by fates first) (counts_by fates rest))
 
 -- ---- a script that a trace doesn't name
 
