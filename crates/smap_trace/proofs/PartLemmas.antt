@@ -1,15 +1,14 @@
 -- A trace in two parts.
 use Rattle.std.proofs.Common.{◌≡◌, ◌∙◌, ◌⊎◌, inl, inr, ℕ, ◌+◌, ◌-◌, ◌^◌, Bool, cond, List, [], ◌∷◌, ◌++◌}
-use Rattle.std.proofs.Common.{ap, arith, count_by, length, length-append, min, refl, take}
-use Rattle.std.proofs.lemmas.Bool.Decides.{Decides-eqb}
+use Rattle.std.proofs.Common.{ap, arith, count_by, length, length-append, min, take}
 use Rattle.std.proofs.lemmas.List.Sums.{sum_by-append}
-use Rattle.std.proofs.lemmas.Slice.Eq.{ends_is}
 use Rattle.smap_trace.specs.Pieces.{IsWhole}
 use Rattle.smap_trace.specs.TraceLaws.{EndsItsLine, PartsAreTranslated, sum_of}
-use Rattle.smap_trace.specs.Translation.{has_line_feed, is_dropped, is_translated, lines_of}
+use Rattle.smap_trace.specs.Translation.{is_dropped, is_translated, lines_of}
 use Rattle.smap_trace.specs.Views.{at_most_u64, counts_by}
 use Rattle.smap_trace.proofs.CountLemmas.{same_counts}
 use Rattle.smap_trace.proofs.LineLemmas.{lines_of-append, translation-append}
+use Rattle.smap_trace.proofs.SoundLemmas.{ends}
 
 capped_sum : (a b : ℕ) → at_most_u64 (a + b) ≡ at_most_u64 (at_most_u64 a + at_most_u64 b)
 capped_sum a b = step a b (2 ^ 64 - 1)
@@ -36,10 +35,7 @@ both_long lines xs ys e =
 
 ended_is_whole : (text : List ℕ) → EndsItsLine text → IsWhole text
 ended_is_whole text (inl e) = inl e
-ended_is_whole text (inr e) = inr (
-  take (length text - 1) text,
-  (ends_is Decides-eqb text (10 ∷ []) (has_line_feed text) refl).0 e,
-)
+ended_is_whole text (inr e) = inr (take (length text - 1) text, ends text 10 e)
 
 pub parts_translated : PartsAreTranslated
 parts_translated fates first rest ended =

@@ -1,5 +1,7 @@
 -- Laws about the translation of whole traces.
-use Rattle.std.specs.Prelude.{◌≡◌, ◌↔◌, ◌⊎◌, ℕ, ◌+◌, Bool, true, false, List, [], ◌∷◌, ◌++◌, Contains, Some}
+use Rattle.std.specs.Prelude.{◌≡◌, ◌↔◌, ◌⊎◌, ℕ, ◌+◌, Bool, true, false, List, [], ◌++◌, Contains, filter}
+use Rattle.std.specs.Prelude.{bytes_eq, Some}
+use Rattle.std.specs.List.{list_any}
 use Rattle.std.specs.Map.{keys_of}
 use Rattle.smap_trace.specs.Anywhere.{Occurrence, found, longest, pieces_of}
 use Rattle.smap_trace.specs.Frame.{FrameParts, IsFrame, position_text}
@@ -32,7 +34,7 @@ PartsAreTranslated = (fates : List ℕ → Fate) (first rest : List ℕ) → End
     → (translation_by fates (first ++ rest) ≡ translation_by fates first ++ translation_by fates rest)
     × (counts_by fates (first ++ rest) ≡ sum_of (counts_by fates first) (counts_by fates rest))
 
--- ---- a script that a trace doesn't name
+-- ---- scripts that a trace doesn't name
 
 -- A line of the trace is a frame with this URL.
 pub record Names (trace url : List ℕ) : Type 0 where
@@ -51,11 +53,20 @@ abbrev pub AreAlike : (List ℕ → Fate) → (List ℕ → Fate) → List ℕ �
 AreAlike fates others trace = (translation_by fates trace ≡ translation_by others trace)
     × (counts_by fates trace ≡ counts_by others trace)
 
--- A script whose URL no frame of the trace has can be left out.
-abbrev pub UnnamedIsLeftOut : Type 0
-UnnamedIsLeftOut = (before after : List Script) (s : Script) (hide : Bool) (trace : List ℕ)
-    → (Names trace s.0 → ⊥)
-    → AreAlike (fate (before ++ s ∷ after) hide) (fate (before ++ after) hide) trace
+-- Scripts that aren't kept, of which no frame of the trace has the URL, can be left out.
+abbrev pub UnnamedAreLeftOut : Type 0
+UnnamedAreLeftOut = (keeps : Script → Bool) (scripts : List Script) (hide : Bool) (trace : List ℕ)
+    → ((s : Script) → Contains scripts s → keeps s ≡ false → Names trace s.0 → ⊥)
+    → AreAlike (fate scripts hide) (fate (filter keeps scripts) hide) trace
+
+-- whether the trace is found to name the script
+abbrev pub is_named : List ℕ → Script → Bool
+is_named trace s = list_any (bytes_eq s.0) (keys_of (named_in trace))
+
+-- The scripts that a trace is found to name suffice.
+abbrev pub NamedSuffice : Type 0
+NamedSuffice = (scripts : List Script) (hide : Bool) (trace : List ℕ)
+    → AreAlike (fate scripts hide) (fate (filter (is_named trace) scripts) hide) trace
 
 -- ---- the same by a way of finding
 
@@ -76,7 +87,7 @@ abbrev pub IsAmongPieces : Bool → List Script → List ℕ → List ℕ → Ty
 IsAmongPieces ignore scripts text url = (o : Occurrence) × (bytes : List ℕ)
     × Contains (pieces_of ignore scripts text) (found o bytes) × (o.url ≡ url)
 
--- The script with this URL is found in the line, in its frame, or anywhere if positions are found so.
+-- The script with this URL is found in the line: in its frame, or anywhere if positions are found so.
 abbrev pub IsFoundIn : Finding → List Script → List ℕ → List ℕ → Type 0
 IsFoundIn finding scripts text url = IsInFrame finding.ignore_query scripts text url
     ⊎ ((finding.anywhere ≡ true) × IsAmongPieces finding.ignore_query scripts text url)
@@ -86,8 +97,9 @@ abbrev pub Finds : Finding → List Script → List ℕ → List ℕ → Type 0
 Finds finding scripts trace url = (line : List ℕ) × Contains (lines_of trace) line
     × IsFoundIn finding scripts (without_line_feed line) url
 
--- A script that isn't found in the trace can be left out.
-abbrev pub UnfoundIsLeftOut : Type 0
-UnfoundIsLeftOut = (finding : Finding) (before after : List Script) (s : Script) (hide : Bool) (trace : List ℕ)
-    → (Finds finding (before ++ s ∷ after) trace s.0 → ⊥)
-    → AreAlike (fate_by finding (before ++ s ∷ after) hide) (fate_by finding (before ++ after) hide) trace
+-- Scripts that aren't kept, and none of which is found in the trace, can be left out.
+abbrev pub UnfoundAreLeftOut : Type 0
+UnfoundAreLeftOut = (finding : Finding) (keeps : Script → Bool) (scripts : List Script) (hide : Bool)
+    (trace : List ℕ)
+    → ((s : Script) → Contains scripts s → keeps s ≡ false → Finds finding scripts trace s.0 → ⊥)
+    → AreAlike (fate_by finding scripts hide) (fate_by finding (filter keeps scripts) hide) trace
