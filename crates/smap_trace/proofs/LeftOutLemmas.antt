@@ -112,8 +112,8 @@ IsKept keeps ss (Some o) = KeepsAll keeps ss o.url
 module _ (keeps : Script → Bool) (ignore : Bool) (text : List ℕ) where
   kept_rest : (s : Script) (ss : List Script) (o : Option Occurrence) → IsKept keeps (s ∷ ss) o
       → IsKept keeps ss o
-  kept_rest s ss None kept = tt
-  kept_rest s ss (Some o) kept = keeps_rest keeps s ss o.url kept
+  kept_rest s ss None holds = tt
+  kept_rest s ss (Some o) holds = keeps_rest keeps s ss o.url holds
 
   no_longer : (ss : List Script)
       → url_length (longest ignore (filter keeps ss) text) ≤ url_length (longest ignore ss text)
@@ -133,37 +133,31 @@ module _ (keeps : Script → Bool) (ignore : Bool) (text : List ℕ) where
   -- the occurrence of a script that is left out isn't the longest
   is_later : (s : Script) (ss : List Script) (o r : Option Occurrence) → occurrence_of ignore s text ≡ o
       → keeps s ≡ false → IsKept keeps (s ∷ ss) (longer o r) → longer o r ≡ r
-  is_later s ss None r e lost kept = refl
-  is_later s ss (Some o) r e lost kept = go (either (Some o) r)
+  is_later s ss None r e lost holds = refl
+  is_later s ss (Some o) r e lost holds = go (either (Some o) r)
     where
       go : (longer (Some o) r ≡ Some o) ⊎ (longer (Some o) r ≡ r) → longer (Some o) r ≡ r
-      go (inl is) = absurd (subst (IsKept keeps (s ∷ ss)) is kept s (contains_first s ss) lost
+      go (inl is) = absurd (subst (IsKept keeps (s ∷ ss)) is holds s (contains_first s ss) lost
           (names_script ignore s text o e).0)
       go (inr is) = is
 
   longer_kept : (ss : List Script) (t o r : Option Occurrence) → (IsKept keeps ss r → o ≡ r)
       → url_length o ≤ url_length r → IsKept keeps ss (longer t r) → longer t o ≡ longer t r
-  longer_kept ss None o r same le kept = same kept
-  longer_kept ss (Some p) o r same le kept = go (either (Some p) r)
+  longer_kept ss None o r same le holds = same holds
+  longer_kept ss (Some p) o r same le holds = go (either (Some p) r)
     where
       go : (longer (Some p) r ≡ Some p) ⊎ (longer (Some p) r ≡ r) → longer (Some p) o ≡ longer (Some p) r
       go (inl is) =
           let most = (not_shorter (Some p) r).1 in
           let own : url_length (longer (Some p) r) ≡ length p.url = ap url_length is in
           stays p o (omega (arith, le, most, own)) ∙ sym is
-      go (inr is) = ap (longer (Some p)) (same (subst (IsKept keeps ss) is kept))
+      go (inr is) = ap (longer (Some p)) (same (subst (IsKept keeps ss) is holds))
 
   kept_longest : (ss : List Script) → IsKept keeps ss (longest ignore ss text)
       → longest ignore (filter keeps ss) text ≡ longest ignore ss text
-  kept_longest [] kept = refl
-  kept_longest (s ∷ ss) kept = go (keeps s) refl (kept_longest ss)
+  kept_longest [] holds = refl
+  kept_longest (s ∷ ss) holds = go (keeps s) refl (kept_longest ss)
     where
-      here : Option Occurrence
-      here = occurrence_of ignore s text
-
-      rest : Option Occurrence
-      rest = longest ignore ss text
-
       go : (b : Bool) → keeps s ≡ b
           → (IsKept keeps ss (longest ignore ss text)
           → longest ignore (filter keeps ss) text ≡ longest ignore ss text)
@@ -171,17 +165,17 @@ module _ (keeps : Script → Bool) (ignore : Bool) (text : List ℕ) where
           ≡ longest ignore (s ∷ ss) text
       go true e same = longer_kept ss (occurrence_of ignore s text) (longest ignore (filter keeps ss) text)
           (longest ignore ss text) same (no_longer ss)
-          (kept_rest s ss (longer (occurrence_of ignore s text) (longest ignore ss text)) kept)
+          (kept_rest s ss (longer (occurrence_of ignore s text) (longest ignore ss text)) holds)
       go false e same =
-          let is = is_later s ss (occurrence_of ignore s text) (longest ignore ss text) refl e kept in
-          same (kept_rest s ss (longest ignore ss text) (subst (IsKept keeps (s ∷ ss)) is kept)) ∙ sym is
+          let is = is_later s ss (occurrence_of ignore s text) (longest ignore ss text) refl e holds in
+          same (kept_rest s ss (longest ignore ss text) (subst (IsKept keeps (s ∷ ss)) is holds)) ∙ sym is
 
 -- ---- the pieces of a line, and its frame
 
 module _ (keeps : Script → Bool) (ignore : Bool) (ss : List Script) where
   kept_between : (front text : List ℕ) → IsKept keeps ss (occurrence_between ignore ss front text)
       → occurrence_between ignore (filter keeps ss) front text ≡ occurrence_between ignore ss front text
-  kept_between front text kept = go (may_begin front) kept
+  kept_between front text holds = go (may_begin front) holds
     where
       go : (t : Bool) → IsKept keeps ss (cond t (longest ignore ss text) None)
           → cond t (longest ignore (filter keeps ss) text) None ≡ cond t (longest ignore ss text) None
@@ -195,23 +189,23 @@ module _ (keeps : Script → Bool) (ignore : Bool) (ss : List Script) where
 
   first_kept : (o : Option Occurrence) (b : ℕ) (bs : List ℕ) (pieces : List Piece)
       → AreKept (piece_at o b bs ∷ pieces) → IsKept keeps ss o
-  first_kept None b bs pieces kept = tt
-  first_kept (Some o) b bs pieces kept =
-      kept o (take o.width (b ∷ bs)) (contains_first (found o (take o.width (b ∷ bs))) pieces)
+  first_kept None b bs pieces holds = tt
+  first_kept (Some o) b bs pieces holds =
+      holds o (take o.width (b ∷ bs)) (contains_first (found o (take o.width (b ∷ bs))) pieces)
 
   same_cut : (front : List ℕ) (k : ℕ) (text : List ℕ) → AreKept (cut ignore ss front k text)
       → cut ignore (filter keeps ss) front k text ≡ cut ignore ss front k text
-  same_cut front zero [] kept = refl
-  same_cut front (suc k) [] kept = refl
-  same_cut front (suc k) (b ∷ bs) kept = same_cut (front ++ b ∷ []) k bs kept
-  same_cut front zero (b ∷ bs) kept =
+  same_cut front zero [] holds = refl
+  same_cut front (suc k) [] holds = refl
+  same_cut front (suc k) (b ∷ bs) holds = same_cut (front ++ b ∷ []) k bs holds
+  same_cut front zero (b ∷ bs) holds =
       let o = occurrence_between ignore ss front (b ∷ bs) in
       let rest = cut ignore ss (front ++ b ∷ []) (more_of o) bs in
-      let same = kept_between front (b ∷ bs) (first_kept o b bs rest kept) in
+      let same = kept_between front (b ∷ bs) (first_kept o b bs rest holds) in
       ap (λ (p : Option Occurrence). piece_at p b bs
       ∷ cut ignore (filter keeps ss) (front ++ b ∷ []) (more_of p) bs) same
       ∙ ap (λ (ps : List Piece). piece_at o b bs ∷ ps) (same_cut (front ++ b ∷ []) (more_of o) bs
-      (λ q bytes c. kept q bytes (contains_later (piece_at o b bs) (found q bytes) rest c)))
+      (λ q bytes c. holds q bytes (contains_later (piece_at o b bs) (found q bytes) rest c)))
 
   -- what is before and after a frame's position leaves the position
   position_is : (text : List ℕ) (f : FrameParts) → IsFrame text f
@@ -234,8 +228,8 @@ module _ (keeps : Script → Bool) (ignore : Bool) (ss : List Script) where
 
   same_map : (g : Bool) (text : List ℕ) (f : FrameParts) → IsFrame text f → IsKeptFrame g f
       → map_for g (filter keeps ss) text f ≡ map_for g ss text f
-  same_map false text f is kept = kept_map keeps ss f.url (λ s c lost u. kept s c lost (sym u))
-  same_map true text f is kept =
+  same_map false text f is holds = kept_map keeps ss f.url (λ s c lost u. holds s c lost (sym u))
+  same_map true text f is holds =
       let given = slice_range text (length f.before) (length text - length f.after) in
       let pos = position_text f.url f.line f.column in
       let same : longest true (filter keeps ss) pos ≡ longest true ss pos =
@@ -249,12 +243,12 @@ module _ (keeps : Script → Bool) (ignore : Bool) (ss : List Script) where
       shown : (q : Option Occurrence) → longest true ss (position_text f.url f.line f.column) ≡ q
           → IsKept keeps ss q
       shown None e = tt
-      shown (Some o) e = λ s c lost u. kept s c lost (o, e, sym u)
+      shown (Some o) e = λ s c lost u. holds s c lost (o, e, sym u)
 
   same_frame : (hide : Bool) (text : List ℕ)
       → ((s : Script) → Contains ss s → keeps s ≡ false → IsInFrame ignore ss text s.0 → ⊥)
       → frame_fate ignore (filter keeps ss) hide text ≡ frame_fate ignore ss hide text
-  same_frame hide text kept = go (frame_of text) refl
+  same_frame hide text holds = go (frame_of text) refl
     where
       go : (f : Option FrameParts) → frame_of text ≡ f
           → option_map_or (λ f. option_map_or (fate_in hide f) (map_for ignore (filter keeps ss) text f) kept) f kept
@@ -263,7 +257,7 @@ module _ (keeps : Script → Bool) (ignore : Bool) (ss : List Script) where
       go (Some f) e =
           let is = sound text f e in
           ap (λ (m : Option Record). option_map_or (fate_in hide f) m kept)
-          (same_map ignore text f is (λ s c lost h. kept s c lost (f, is, h)))
+          (same_map ignore text f is (λ s c lost h. holds s c lost (f, is, h)))
 
 -- ---- a trace
 
