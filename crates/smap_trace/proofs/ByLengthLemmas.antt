@@ -30,7 +30,7 @@ url_length (Some o) = length o.url
 abbrev pub HasLength : ℕ → Option Occurrence → Type 0
 HasLength n o = (o ≡ None) ⊎ (url_length o ≡ n)
 
-either : (p q : Option Occurrence) → (longer p q ≡ p) ⊎ (longer p q ≡ q)
+pub either : (p q : Option Occurrence) → (longer p q ≡ p) ⊎ (longer p q ≡ q)
 either None q = inr refl
 either (Some p) None = inl refl
 either (Some p) (Some q) = go (nat_lt (length p.url) (length q.url)) refl
@@ -40,7 +40,7 @@ either (Some p) (Some q) = go (nat_lt (length p.url) (length q.url)) refl
     go true e = inr (rw e refl)
     go false e = inl (rw e refl)
 
-not_shorter : (p q : Option Occurrence)
+pub not_shorter : (p q : Option Occurrence)
     → (url_length p ≤ url_length (longer p q)) × (url_length q ≤ url_length (longer p q))
 not_shorter None q = (omega arith, omega arith)
 not_shorter (Some p) None = (omega arith, omega arith)
@@ -52,7 +52,7 @@ not_shorter (Some p) (Some q) = go (nat_lt (length p.url) (length q.url)) refl
     go true e = rw e (grind (arith, nat_tests), omega arith)
     go false e = rw e (omega arith, grind (arith, nat_tests))
 
-stays : (p : Occurrence) (q : Option Occurrence) → url_length q ≤ length p.url → longer (Some p) q ≡ Some p
+pub stays : (p : Occurrence) (q : Option Occurrence) → url_length q ≤ length p.url → longer (Some p) q ≡ Some p
 stays p None le = refl
 stays p (Some q) le = go (nat_lt (length p.url) (length q.url)) refl
   where
@@ -134,7 +134,7 @@ of_own_length ignore text n ss = go (length_has ignore text n ss)
 
 -- ---- the longest of all
 
-grows : (o q r : Option Occurrence) → url_length q ≤ url_length r
+pub grows : (o q r : Option Occurrence) → url_length q ≤ url_length r
     → url_length (longer o q) ≤ url_length (longer o r)
 grows o q r le = go (either o q)
   where

@@ -24,7 +24,7 @@ bit false = 0
 same : (a b d x y z : ℕ) → a ≡ x → b ≡ y → d ≡ z → counts a b d ≡ counts x y z
 same a b d x y z e f g = rw (e, f, g) refl
 
-same_counts : (a b d x y z : ℕ) → a ≡ x → b ≡ y → d ≡ z
+pub same_counts : (a b d x y z : ℕ) → a ≡ x → b ≡ y → d ≡ z
     → ◌≡◌ {A = Counts} (record { lines = a; translated = b; dropped = d })
     (record { lines = x; translated = y; dropped = z })
 same_counts a b d x y z e f g = rw (e, f, g) refl

@@ -12,7 +12,7 @@ use Rattle.smap_trace.specs.Scripts.{AreDistinct, Script, map_of}
 use Rattle.smap_trace.specs.declared.places.Place.{Place}
 use Rattle.smap_trace.proofs.PieceLemmas.{either}
 
-names_script : (ignore : Bool) (s : Script) (text : List ℕ) (o : Occurrence)
+pub names_script : (ignore : Bool) (s : Script) (text : List ℕ) (o : Occurrence)
     → occurrence_of ignore s text ≡ Some o → (s.0 ≡ o.url) × (s.1 ≡ o.map)
 names_script ignore s text o h =
     go (nat_lt 0 (length s.0) && starts_with nat_eq text s.0) (place_after ignore (drop (length s.0) text)) h

@@ -12,11 +12,15 @@ pub mod HalvingLemmas
 pub mod IndexedLemmas
 pub mod KnownLemmas
 pub mod LawLemmas
+pub mod LeftOutLemmas
 pub mod LineLemmas
 pub mod LookupLemmas
 pub mod MarkLemmas
+pub mod MemberLemmas
+pub mod NamedUrlLemmas
 pub mod NamingLemmas
 pub mod OccurrenceLemmas
+pub mod PartLemmas
 pub mod PieceLemmas
 pub mod PlaceLemmas
 pub mod PositionLemmas

@@ -14,5 +14,6 @@ pub mod Positions
 pub mod Reading
 pub mod Scripts
 pub mod Streaming
+pub mod TraceLaws
 pub mod Translation
 pub mod Views

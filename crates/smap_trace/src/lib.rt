@@ -22,6 +22,7 @@ mod position_text;
 mod scripts;
 mod searching;
 mod streaming;
+pub mod trace_laws;
 
 pub use error::TraceError;
 pub use finding::Finding;

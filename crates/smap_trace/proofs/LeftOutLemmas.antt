@@ -1,0 +1,319 @@
+-- Scripts that are left out.
+use Rattle.std.proofs.Common.{◌≡◌, ◌∙◌, ◌⊎◌, inl, inr, ℕ, zero, suc, ◌+◌, ◌-◌, ◌≤◌, ◌==◌, Bool, true, false}
+use Rattle.std.proofs.Common.{cond, List, [], ◌∷◌, ◌++◌, length, take, filter, flat_map, count_by, bytes_eq}
+use Rattle.std.proofs.Common.{Option, Some, None, option_and_then, refl, sym, ap, subst, arith, slice_range}
+use Rattle.std.proofs.Common.{length-append, append_assoc, true≢false, ◌||◌}
+use Rattle.std.specs.Prelude.{Contains}
+use Rattle.std.specs.List.{list_any}
+use Rattle.std.specs.Map.{keys_of}
+use Rattle.std.specs.Option.{option_map_or}
+use Rattle.std.proofs.lemmas.List.Sums.{sum_by-cons}
+use Rattle.std.proofs.lemmas.Slice.Eq.{bytes_eq-Decides}
+use Rattle.smap_record.specs.Record.{Record}
+use Rattle.smap_trace.specs.Anywhere.{Occurrence, Piece, cut, found, longer, longest, may_begin, more_of}
+use Rattle.smap_trace.specs.Anywhere.{occurrence_between, occurrence_of, piece_at, pieces_of}
+use Rattle.smap_trace.specs.Frame.{FrameParts, IsFrame, position_text}
+use Rattle.smap_trace.specs.Naming.{named_in}
+use Rattle.smap_trace.specs.Reading.{frame_of}
+use Rattle.smap_trace.specs.Scripts.{Script, map_of}
+use Rattle.smap_trace.specs.TraceLaws.{AreAlike, Finds, IsFoundIn, IsInFrame, IsOfFrame, NamedSuffice}
+use Rattle.smap_trace.specs.TraceLaws.{Names, UnfoundAreLeftOut, UnnamedAreLeftOut, is_named}
+use Rattle.smap_trace.specs.Translation.{Fate, dropped, fate_found, fate_in, fate_of_pieces, frame_fate}
+use Rattle.smap_trace.specs.Translation.{is_dropped, is_translated, kept, line_translation_by, lines_of, map_for}
+use Rattle.smap_trace.specs.Translation.{anywhere_fate, without_line_feed, written}
+use Rattle.smap_trace.specs.Views.{at_most_u64, counts_by}
+use Rattle.smap_trace.specs.declared.finding.Finding.{Finding}
+use Rattle.smap_trace.proofs.ByLengthLemmas.{either, grows, not_shorter, stays, url_length}
+use Rattle.smap_trace.proofs.CountLemmas.{same_counts}
+use Rattle.smap_trace.proofs.CutLemmas.{middle_part}
+use Rattle.smap_trace.proofs.KnownLemmas.{names_script}
+use Rattle.smap_trace.proofs.MemberLemmas.{contains_first, contains_later, first_or_later}
+use Rattle.smap_trace.proofs.NamedUrlLemmas.{named_of_frames}
+use Rattle.smap_trace.proofs.SoundLemmas.{sound}
+
+-- ---- traces whose lines become the same
+
+module _ (fates others : List ℕ → Fate) where
+  abbrev AgreeOn : List (List ℕ) → Type 0
+  AgreeOn ls = (line : List ℕ) → Contains ls line → fates line ≡ others line
+
+  others_agree : (l : List ℕ) (ls : List (List ℕ)) → AgreeOn (l ∷ ls) → AgreeOn ls
+  others_agree l ls agree line c = agree line (contains_later l line ls c)
+
+  written_alike : (ls : List (List ℕ)) → AgreeOn ls
+      → flat_map (line_translation_by fates) ls ≡ flat_map (line_translation_by others) ls
+  written_alike [] agree = refl
+  written_alike (l ∷ ls) agree =
+      ap (λ (f : Fate). written f l ++ flat_map (line_translation_by fates) ls)
+      (agree l (contains_first l ls))
+      ∙ ap (λ (t : List ℕ). written (others l) l ++ t) (written_alike ls (others_agree l ls agree))
+
+  counted_alike : (p : Fate → Bool) (ls : List (List ℕ)) → AgreeOn ls
+      → count_by (λ line. p (fates line)) ls ≡ count_by (λ line. p (others line)) ls
+  counted_alike p [] agree = refl
+  counted_alike p (l ∷ ls) agree =
+      sum_by-cons (λ line. cond (p (fates line)) 1 0) l ls
+      ∙ ap (λ (f : Fate). cond (p f) 1 0 + count_by (λ line. p (fates line)) ls)
+      (agree l (contains_first l ls))
+      ∙ ap (λ n. cond (p (others l)) 1 0 + n) (counted_alike p ls (others_agree l ls agree))
+      ∙ sym (sum_by-cons (λ line. cond (p (others line)) 1 0) l ls)
+
+  alike : (trace : List ℕ) → AgreeOn (lines_of trace) → AreAlike fates others trace
+  alike trace agree = (
+    written_alike (lines_of trace) agree,
+    same_counts _ _ _ _ _ _ refl (ap at_most_u64 (counted_alike is_translated (lines_of trace) agree))
+        (ap at_most_u64 (counted_alike is_dropped (lines_of trace) agree)),
+  )
+
+-- ---- the map of a script that is kept
+
+passed_over : (s : Script) (ss : List Script) (url : List ℕ) → (s.0 ≡ url → ⊥)
+    → map_of ss url ≡ map_of (s ∷ ss) url
+passed_over s ss url other = go (bytes_eq s.0 url) refl
+  where
+    go : (t : Bool) → bytes_eq s.0 url ≡ t → map_of ss url ≡ map_of (s ∷ ss) url
+    go true e = absurd (other ((bytes_eq-Decides s.0 url).0 e))
+    go false e = rw e refl
+
+one_more : (s : Script) (xs ys : List Script) (url : List ℕ) → map_of xs url ≡ map_of ys url
+    → map_of (s ∷ xs) url ≡ map_of (s ∷ ys) url
+one_more s xs ys url same = go (bytes_eq s.0 url) refl
+  where
+    go : (t : Bool) → bytes_eq s.0 url ≡ t → map_of (s ∷ xs) url ≡ map_of (s ∷ ys) url
+    go true e = rw e refl
+    go false e = rw e same
+
+-- no script with this URL is left out
+abbrev KeepsAll : (Script → Bool) → List Script → List ℕ → Type 0
+KeepsAll keeps ss url = (s : Script) → Contains ss s → keeps s ≡ false → s.0 ≡ url → ⊥
+
+module _ (keeps : Script → Bool) where
+  keeps_rest : (s : Script) (ss : List Script) (url : List ℕ) → KeepsAll keeps (s ∷ ss) url
+      → KeepsAll keeps ss url
+  keeps_rest s ss url all t c = all t (contains_later s t ss c)
+
+  kept_map : (ss : List Script) (url : List ℕ) → KeepsAll keeps ss url
+      → map_of (filter keeps ss) url ≡ map_of ss url
+  kept_map [] url all = refl
+  kept_map (s ∷ ss) url all = go (keeps s) refl (kept_map ss url (keeps_rest s ss url all))
+    where
+      go : (b : Bool) → keeps s ≡ b → map_of (filter keeps ss) url ≡ map_of ss url
+          → map_of (cond b (s ∷ filter keeps ss) (filter keeps ss)) url ≡ map_of (s ∷ ss) url
+      go true e same = one_more s (filter keeps ss) ss url same
+      go false e same = same ∙ passed_over s ss url (all s (contains_first s ss) e)
+
+-- ---- the longest occurrence
+
+-- none, or one of a script that is kept
+abbrev IsKept : (Script → Bool) → List Script → Option Occurrence → Type 0
+IsKept keeps ss None = Unit
+IsKept keeps ss (Some o) = KeepsAll keeps ss o.url
+
+module _ (keeps : Script → Bool) (ignore : Bool) (text : List ℕ) where
+  kept_rest : (s : Script) (ss : List Script) (o : Option Occurrence) → IsKept keeps (s ∷ ss) o
+      → IsKept keeps ss o
+  kept_rest s ss None holds = tt
+  kept_rest s ss (Some o) holds = keeps_rest keeps s ss o.url holds
+
+  no_longer : (ss : List Script)
+      → url_length (longest ignore (filter keeps ss) text) ≤ url_length (longest ignore ss text)
+  no_longer [] = omega arith
+  no_longer (s ∷ ss) = go (keeps s) (no_longer ss)
+    where
+      go : (b : Bool)
+          → url_length (longest ignore (filter keeps ss) text) ≤ url_length (longest ignore ss text)
+          → url_length (longest ignore (cond b (s ∷ filter keeps ss) (filter keeps ss)) text)
+          ≤ url_length (longest ignore (s ∷ ss) text)
+      go true le = grows (occurrence_of ignore s text) (longest ignore (filter keeps ss) text)
+          (longest ignore ss text) le
+      go false le =
+          let more = (not_shorter (occurrence_of ignore s text) (longest ignore ss text)).1 in
+          omega (arith, le, more)
+
+  -- the occurrence of a script that is left out isn't the longest
+  is_later : (s : Script) (ss : List Script) (o r : Option Occurrence) → occurrence_of ignore s text ≡ o
+      → keeps s ≡ false → IsKept keeps (s ∷ ss) (longer o r) → longer o r ≡ r
+  is_later s ss None r e lost holds = refl
+  is_later s ss (Some o) r e lost holds = go (either (Some o) r)
+    where
+      go : (longer (Some o) r ≡ Some o) ⊎ (longer (Some o) r ≡ r) → longer (Some o) r ≡ r
+      go (inl is) = absurd (subst (IsKept keeps (s ∷ ss)) is holds s (contains_first s ss) lost
+          (names_script ignore s text o e).0)
+      go (inr is) = is
+
+  longer_kept : (ss : List Script) (t o r : Option Occurrence) → (IsKept keeps ss r → o ≡ r)
+      → url_length o ≤ url_length r → IsKept keeps ss (longer t r) → longer t o ≡ longer t r
+  longer_kept ss None o r same le holds = same holds
+  longer_kept ss (Some p) o r same le holds = go (either (Some p) r)
+    where
+      go : (longer (Some p) r ≡ Some p) ⊎ (longer (Some p) r ≡ r) → longer (Some p) o ≡ longer (Some p) r
+      go (inl is) =
+          let most = (not_shorter (Some p) r).1 in
+          let own : url_length (longer (Some p) r) ≡ length p.url = ap url_length is in
+          stays p o (omega (arith, le, most, own)) ∙ sym is
+      go (inr is) = ap (longer (Some p)) (same (subst (IsKept keeps ss) is holds))
+
+  kept_longest : (ss : List Script) → IsKept keeps ss (longest ignore ss text)
+      → longest ignore (filter keeps ss) text ≡ longest ignore ss text
+  kept_longest [] holds = refl
+  kept_longest (s ∷ ss) holds = go (keeps s) refl (kept_longest ss)
+    where
+      go : (b : Bool) → keeps s ≡ b
+          → (IsKept keeps ss (longest ignore ss text)
+          → longest ignore (filter keeps ss) text ≡ longest ignore ss text)
+          → longest ignore (cond b (s ∷ filter keeps ss) (filter keeps ss)) text
+          ≡ longest ignore (s ∷ ss) text
+      go true e same = longer_kept ss (occurrence_of ignore s text) (longest ignore (filter keeps ss) text)
+          (longest ignore ss text) same (no_longer ss)
+          (kept_rest s ss (longer (occurrence_of ignore s text) (longest ignore ss text)) holds)
+      go false e same =
+          let is = is_later s ss (occurrence_of ignore s text) (longest ignore ss text) refl e holds in
+          same (kept_rest s ss (longest ignore ss text) (subst (IsKept keeps (s ∷ ss)) is holds)) ∙ sym is
+
+-- ---- the pieces of a line, and its frame
+
+module _ (keeps : Script → Bool) (ignore : Bool) (ss : List Script) where
+  kept_between : (front text : List ℕ) → IsKept keeps ss (occurrence_between ignore ss front text)
+      → occurrence_between ignore (filter keeps ss) front text ≡ occurrence_between ignore ss front text
+  kept_between front text holds = go (may_begin front) holds
+    where
+      go : (t : Bool) → IsKept keeps ss (cond t (longest ignore ss text) None)
+          → cond t (longest ignore (filter keeps ss) text) None ≡ cond t (longest ignore ss text) None
+      go true h = kept_longest keeps ignore text ss h
+      go false h = refl
+
+  -- none of the pieces is a position of a script that is left out
+  abbrev AreKept : List Piece → Type 0
+  AreKept pieces = (o : Occurrence) (bytes : List ℕ) → Contains pieces (found o bytes)
+      → KeepsAll keeps ss o.url
+
+  first_kept : (o : Option Occurrence) (b : ℕ) (bs : List ℕ) (pieces : List Piece)
+      → AreKept (piece_at o b bs ∷ pieces) → IsKept keeps ss o
+  first_kept None b bs pieces holds = tt
+  first_kept (Some o) b bs pieces holds =
+      holds o (take o.width (b ∷ bs)) (contains_first (found o (take o.width (b ∷ bs))) pieces)
+
+  same_cut : (front : List ℕ) (k : ℕ) (text : List ℕ) → AreKept (cut ignore ss front k text)
+      → cut ignore (filter keeps ss) front k text ≡ cut ignore ss front k text
+  same_cut front zero [] holds = refl
+  same_cut front (suc k) [] holds = refl
+  same_cut front (suc k) (b ∷ bs) holds = same_cut (front ++ b ∷ []) k bs holds
+  same_cut front zero (b ∷ bs) holds =
+      let o = occurrence_between ignore ss front (b ∷ bs) in
+      let rest = cut ignore ss (front ++ b ∷ []) (more_of o) bs in
+      let same = kept_between front (b ∷ bs) (first_kept o b bs rest holds) in
+      ap (λ (p : Option Occurrence). piece_at p b bs
+      ∷ cut ignore (filter keeps ss) (front ++ b ∷ []) (more_of p) bs) same
+      ∙ ap (λ (ps : List Piece). piece_at o b bs ∷ ps) (same_cut (front ++ b ∷ []) (more_of o) bs
+      (λ q bytes c. holds q bytes (contains_later (piece_at o b bs) (found q bytes) rest c)))
+
+  -- what is before and after a frame's position leaves the position
+  position_is : (text : List ℕ) (f : FrameParts) → IsFrame text f
+      → slice_range text (length f.before) (length text - length f.after)
+      ≡ position_text f.url f.line f.column
+  position_is text f is =
+      let pos = position_text f.url f.line f.column in
+      let whole : text ≡ f.before ++ (pos ++ f.after) = is.whole ∙ append_assoc f.before pos f.after in
+      let long : length text ≡ length f.before + (length pos + length f.after) =
+      ap length whole ∙ length-append f.before (pos ++ f.after)
+      ∙ ap (λ n. length f.before + n) (length-append pos f.after) in
+      let end : length text - length f.after ≡ length f.before + length pos = omega (arith, long) in
+      ap (slice_range text (length f.before)) end
+      ∙ ap (λ (t : List ℕ). slice_range t (length f.before) (length f.before + length pos)) whole
+      ∙ middle_part f.before pos f.after
+
+  -- none of the scripts that are left out is that of the frame
+  abbrev IsKeptFrame : Bool → FrameParts → Type 0
+  IsKeptFrame g f = (s : Script) → Contains ss s → keeps s ≡ false → IsOfFrame g ss f s.0 → ⊥
+
+  same_map : (g : Bool) (text : List ℕ) (f : FrameParts) → IsFrame text f → IsKeptFrame g f
+      → map_for g (filter keeps ss) text f ≡ map_for g ss text f
+  same_map false text f is holds = kept_map keeps ss f.url (λ s c lost u. holds s c lost (sym u))
+  same_map true text f is holds =
+      let given = slice_range text (length f.before) (length text - length f.after) in
+      let pos = position_text f.url f.line f.column in
+      let same : longest true (filter keeps ss) pos ≡ longest true ss pos =
+      kept_longest keeps true pos ss (shown (longest true ss pos) refl) in
+      let here : longest true (filter keeps ss) given ≡ longest true ss given =
+      ap (longest true (filter keeps ss)) (position_is text f is) ∙ same
+      ∙ ap (longest true ss) (sym (position_is text f is)) in
+      ap (λ (q : Option Occurrence). option_and_then
+      (λ o. cond (o.width == length given) (Some o.map) None) q) here
+    where
+      shown : (q : Option Occurrence) → longest true ss (position_text f.url f.line f.column) ≡ q
+          → IsKept keeps ss q
+      shown None e = tt
+      shown (Some o) e = λ s c lost u. holds s c lost (o, e, sym u)
+
+  same_frame : (hide : Bool) (text : List ℕ)
+      → ((s : Script) → Contains ss s → keeps s ≡ false → IsInFrame ignore ss text s.0 → ⊥)
+      → frame_fate ignore (filter keeps ss) hide text ≡ frame_fate ignore ss hide text
+  same_frame hide text holds = go (frame_of text) refl
+    where
+      go : (f : Option FrameParts) → frame_of text ≡ f
+          → option_map_or (λ f. option_map_or (fate_in hide f) (map_for ignore (filter keeps ss) text f) kept) f kept
+          ≡ option_map_or (λ f. option_map_or (fate_in hide f) (map_for ignore ss text f) kept) f kept
+      go None e = refl
+      go (Some f) e =
+          let is = sound text f e in
+          ap (λ (m : Option Record). option_map_or (fate_in hide f) m kept)
+          (same_map ignore text f is (λ s c lost h. holds s c lost (f, is, h)))
+
+-- ---- a trace
+
+module _ (finding : Finding) (keeps : Script → Bool) (ss : List Script) (hide : Bool) where
+  same_line : (text : List ℕ)
+      → ((s : Script) → Contains ss s → keeps s ≡ false → IsFoundIn finding ss text s.0 → ⊥)
+      → fate_found finding (filter keeps ss) hide text ≡ fate_found finding ss hide text
+  same_line text none = go finding.anywhere refl
+    where
+      framed : frame_fate finding.ignore_query (filter keeps ss) hide text
+          ≡ frame_fate finding.ignore_query ss hide text
+      framed = same_frame keeps finding.ignore_query ss hide text (λ s c lost h. none s c lost (inl h))
+
+      go : (t : Bool) → finding.anywhere ≡ t
+          → cond t (anywhere_fate finding.ignore_query (filter keeps ss) hide text)
+          (frame_fate finding.ignore_query (filter keeps ss) hide text)
+          ≡ cond t (anywhere_fate finding.ignore_query ss hide text)
+          (frame_fate finding.ignore_query ss hide text)
+      go false e = framed
+      go true e =
+          let pieces = same_cut keeps finding.ignore_query ss [] 0 text
+          (λ o bytes c s d lost u. none s d lost (inr (e, (o, bytes, c, sym u)))) in
+          ap (λ (f : Fate). cond (is_dropped f) dropped
+          (fate_of_pieces (pieces_of finding.ignore_query (filter keeps ss) text))) framed
+          ∙ ap (λ (ps : List Piece). cond
+          (is_dropped (frame_fate finding.ignore_query ss hide text)) dropped (fate_of_pieces ps)) pieces
+
+pub unfound_left_out : UnfoundAreLeftOut
+unfound_left_out finding keeps ss hide trace none = alike _ _ trace
+    (λ line c. sym (same_line finding keeps ss hide (without_line_feed line)
+    (λ s d lost h. none s d lost (line, c, h))))
+
+pub unnamed_left_out : UnnamedAreLeftOut
+unnamed_left_out keeps ss hide trace none =
+    unfound_left_out (record { anywhere = false; ignore_query = false }) keeps ss hide trace
+    (λ s c lost h. none s c lost (named s.0 h))
+  where
+    named : (url : List ℕ)
+        → Finds (record { anywhere = false; ignore_query = false }) ss trace url → Names trace url
+    named url (line, c, inl (f, is, u)) =
+        record { line = line; frame = f; of_trace = c; is_frame = is; is_url = u }
+    named url (line, c, inr (e, h)) = cc
+
+-- ---- the scripts that a trace names
+
+is_found : (us : List (List ℕ)) (url : List ℕ) → Contains us url → list_any (bytes_eq url) us ≡ true
+is_found [] url c = absurd (omega (arith, c.1))
+is_found (u ∷ us) url c = go (first_or_later u url us c) (bytes_eq url u) refl (is_found us url)
+  where
+    go : (u ≡ url) ⊎ Contains us url → (t : Bool) → bytes_eq url u ≡ t
+        → (Contains us url → list_any (bytes_eq url) us ≡ true) → (t || list_any (bytes_eq url) us) ≡ true
+    go h true e more = refl
+    go (inl same) false e more = absurd (true≢false (sym ((bytes_eq-Decides url u).1 (sym same)) ∙ e))
+    go (inr there) false e more = more there
+
+pub named_are_enough : NamedSuffice
+named_are_enough ss hide trace = unnamed_left_out (is_named trace) ss hide trace
+    (λ s c lost n. true≢false (sym (is_found (keys_of (named_in trace)) s.0
+    ((named_of_frames trace s.0).1 n)) ∙ lost))

@@ -1,0 +1,16 @@
+-- What a list contains.
+use Rattle.std.proofs.Common.{◌≡◌, ◌⊎◌, ℕ, zero, suc, ◌<◌, List, ◌∷◌, length, refl, inl, inr, arith}
+use Rattle.std.specs.Prelude.{Contains, slice_index_or}
+
+pub contains_first : {A : Type 0} (x : A) (xs : List A) → Contains (x ∷ xs) x
+contains_first x xs = (0, omega arith, refl)
+
+pub contains_later : {A : Type 0} (x y : A) (xs : List A) → Contains xs y → Contains (x ∷ xs) y
+contains_later x y xs c = let h = c.1 in (suc c.0, omega (arith, h), c.2)
+
+pub first_or_later : {A : Type 0} (x y : A) (xs : List A) → Contains (x ∷ xs) y → (x ≡ y) ⊎ Contains xs y
+first_or_later x y xs (k, below, same) = go k below same
+  where
+    go : (k : ℕ) → k < length (x ∷ xs) → slice_index_or (x ∷ xs) k y ≡ y → (x ≡ y) ⊎ Contains xs y
+    go zero b e = inl e
+    go (suc j) b e = inr (j, omega (arith, b), e)
