@@ -52,7 +52,8 @@ not_shorter (Some p) (Some q) = go (nat_lt (length p.url) (length q.url)) refl
     go true e = rw e (grind (arith, nat_tests), omega arith)
     go false e = rw e (omega arith, grind (arith, nat_tests))
 
-pub stays : (p : Occurrence) (q : Option Occurrence) → url_length q ≤ length p.url → longer (Some p) q ≡ Some p
+pub stays : (p : Occurrence) (q : Option Occurrence) → url_length q ≤ length p.url
+    → longer (Some p) q ≡ Some p
 stays p None le = refl
 stays p (Some q) le = go (nat_lt (length p.url) (length q.url)) refl
   where

@@ -19,9 +19,10 @@ use Rattle.smap_trace.specs.Scripts.{Script, map_of}
 use Rattle.smap_trace.specs.TraceLaws.{AreAlike, Finds, IsFoundIn, IsInFrame, IsOfFrame, NamedSuffice}
 use Rattle.smap_trace.specs.TraceLaws.{Names, UnfoundAreLeftOut, UnnamedAreLeftOut, is_named}
 use Rattle.smap_trace.specs.Translation.{Fate, dropped, fate_found, fate_in, fate_of_pieces, frame_fate}
-use Rattle.smap_trace.specs.Translation.{is_dropped, is_translated, kept, line_translation_by, lines_of, map_for}
+use Rattle.smap_trace.specs.Translation.{is_dropped, is_translated, kept, line_translation_by, lines_of}
+use Rattle.smap_trace.specs.Translation.{map_for}
 use Rattle.smap_trace.specs.Translation.{anywhere_fate, without_line_feed, written}
-use Rattle.smap_trace.specs.Views.{at_most_u64, counts_by}
+use Rattle.smap_trace.specs.Views.{at_most_u64}
 use Rattle.smap_trace.specs.declared.finding.Finding.{Finding}
 use Rattle.smap_trace.proofs.ByLengthLemmas.{either, grows, not_shorter, stays, url_length}
 use Rattle.smap_trace.proofs.CountLemmas.{same_counts}
@@ -251,7 +252,8 @@ module _ (keeps : Script → Bool) (ignore : Bool) (ss : List Script) where
   same_frame hide text holds = go (frame_of text) refl
     where
       go : (f : Option FrameParts) → frame_of text ≡ f
-          → option_map_or (λ f. option_map_or (fate_in hide f) (map_for ignore (filter keeps ss) text f) kept) f kept
+          → option_map_or (λ f. option_map_or (fate_in hide f) (map_for ignore (filter keeps ss) text f) kept)
+          f kept
           ≡ option_map_or (λ f. option_map_or (fate_in hide f) (map_for ignore ss text f) kept) f kept
       go None e = refl
       go (Some f) e =

@@ -1,5 +1,5 @@
 -- A trace in two parts.
-use Rattle.std.proofs.Common.{◌≡◌, ◌∙◌, ◌⊎◌, inl, inr, ℕ, ◌+◌, ◌-◌, ◌^◌, Bool, cond, List, [], ◌∷◌, ◌++◌}
+use Rattle.std.proofs.Common.{◌≡◌, ◌∙◌, inl, inr, ℕ, ◌+◌, ◌-◌, ◌^◌, Bool, cond, List, ◌++◌}
 use Rattle.std.proofs.Common.{ap, arith, count_by, length, length-append, min, take}
 use Rattle.std.proofs.lemmas.List.Sums.{sum_by-append}
 use Rattle.smap_trace.specs.Pieces.{IsWhole}
@@ -41,7 +41,8 @@ pub parts_translated : PartsAreTranslated
 parts_translated fates first rest ended =
     let is = ended_is_whole first ended in (translation-append fates first rest is, counts is)
   where
-    counts : IsWhole first → counts_by fates (first ++ rest) ≡ sum_of (counts_by fates first) (counts_by fates rest)
+    counts : IsWhole first
+        → counts_by fates (first ++ rest) ≡ sum_of (counts_by fates first) (counts_by fates rest)
     counts is =
         let xs = lines_of first in
         let ys = lines_of rest in

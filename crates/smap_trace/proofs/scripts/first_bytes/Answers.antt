@@ -8,6 +8,7 @@ use Rattle.smap_trace.proofs.scripts.first_bytes.Goals.{then-not-is_empty+then-n
 use Rattle.smap_trace.proofs.scripts.first_bytes.Goals.{else-not-is_empty}
 use Rattle.smap_trace.proofs.scripts.first_bytes.Goals.{}
 use Rattle.smap_trace.proofs.scripts.first_bytes.Goals.{}
+use Rattle.smap_trace.proofs.scripts.first_bytes.Goals.{}
 use Rattle.smap_trace.proofs.scripts.first_bytes.Goals.{else-not-is_empty-via-then-not-is_empty+else-not-contains}
 use Rattle.smap_trace.proofs.scripts.first_bytes.Goals.{else-not-is_empty-via-else-not-is_empty}
 

@@ -9,7 +9,9 @@ use Rattle.smap_trace.proofs.LineLemmas.{left_is}
 use Rattle.smap_trace.proofs.scripts.Indexed.occurrence_of_length.Goals as goal
 use Rattle.smap_trace.proofs.scripts.Indexed.occurrence_of_length.Goals.{}
 use Rattle.smap_trace.proofs.scripts.Indexed.occurrence_of_length.Goals.{}
+use Rattle.smap_trace.proofs.scripts.Indexed.occurrence_of_length.Goals.{}
 use Rattle.smap_trace.proofs.scripts.Indexed.occurrence_of_length.Goals.{then-url_len-eq0-via-then-url_len-eq0}
+use Rattle.smap_trace.proofs.scripts.Indexed.occurrence_of_length.Goals.{}
 use Rattle.smap_trace.proofs.scripts.Indexed.occurrence_of_length.Goals.{}
 use Rattle.smap_trace.proofs.scripts.Indexed.occurrence_of_length.Goals.{then-url_len-eq0-via-else-url_len-eq0+then-url_len-text}
 

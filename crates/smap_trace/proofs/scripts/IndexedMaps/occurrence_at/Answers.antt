@@ -10,6 +10,7 @@ use Rattle.smap_trace.proofs.scripts.IndexedMaps.occurrence_at.Goals as goal
 use Rattle.smap_trace.proofs.scripts.IndexedMaps.occurrence_at.Goals.{then-is_empty-via-then-is_empty}
 use Rattle.smap_trace.proofs.scripts.IndexedMaps.occurrence_at.Goals.{}
 use Rattle.smap_trace.proofs.scripts.IndexedMaps.occurrence_at.Goals.{}
+use Rattle.smap_trace.proofs.scripts.IndexedMaps.occurrence_at.Goals.{}
 use Rattle.smap_trace.proofs.scripts.IndexedMaps.occurrence_at.Goals.{then-is_empty-via-else-is_empty+then-not-contains}
 
 pub returns-then-is_empty-clause-value : goal.returns-then-is_empty-clause-value
