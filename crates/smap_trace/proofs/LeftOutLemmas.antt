@@ -21,7 +21,7 @@ use Rattle.smap_trace.specs.TraceLaws.{Names, UnfoundAreLeftOut, UnnamedAreLeftO
 use Rattle.smap_trace.specs.Translation.{Fate, dropped, fate_found, fate_in, fate_of_pieces, frame_fate}
 use Rattle.smap_trace.specs.Translation.{is_dropped, is_translated, kept, line_translation_by, lines_of, map_for}
 use Rattle.smap_trace.specs.Translation.{anywhere_fate, without_line_feed, written}
-use Rattle.smap_trace.specs.Views.{at_most_u64, counts_by}
+use Rattle.smap_trace.specs.Views.{at_most_u64}
 use Rattle.smap_trace.specs.declared.finding.Finding.{Finding}
 use Rattle.smap_trace.proofs.ByLengthLemmas.{either, grows, not_shorter, stays, url_length}
 use Rattle.smap_trace.proofs.CountLemmas.{same_counts}

@@ -1,5 +1,5 @@
 -- The URLs that a trace names are those of its frames.
-use Rattle.std.proofs.Common.{◌≡◌, ◌∙◌, ℕ, zero, suc, ◌+◌, ◌<◌, List, [], ◌∷◌, length, map, bytes_eq}
+use Rattle.std.proofs.Common.{◌≡◌, ◌∙◌, ℕ, List, [], ◌∷◌, map, bytes_eq}
 use Rattle.std.proofs.Common.{Option, Some, None, option_map, refl, sym, ap, subst, arith, inl, inr}
 use Rattle.std.specs.Prelude.{Contains}
 use Rattle.std.specs.List.{cons_option, filter_map}
@@ -10,7 +10,7 @@ use Rattle.smap_record.specs.Record.{distinct}
 use Rattle.smap_record.proofs.EqualLemmas.{same_bytes}
 use Rattle.smap_record.proofs.OnceLemmas.{Contains-distinct, all_distinct}
 use Rattle.smap_trace.specs.Frame.{FrameParts}
-use Rattle.smap_trace.specs.Naming.{named_in, tally, url_of, urls_of}
+use Rattle.smap_trace.specs.Naming.{named_in, url_of, urls_of}
 use Rattle.smap_trace.specs.Reading.{frame_of}
 use Rattle.smap_trace.specs.TraceLaws.{NamedAreOfFrames, Names}
 use Rattle.smap_trace.specs.Translation.{lines_of, without_line_feed}
