@@ -3,8 +3,8 @@
     python3 bench/anywhere.py crates/smap/out/smap
 
 Prints the processor time of each way (the median of some runs) less that of the same bundle with an empty
-trace, for 10 scripts and for 1,000, over the same lines: frames alone, log lines with a frame in them, and lines
-that have a colon and a digit but no position. Let nothing else run meanwhile.
+trace, for 10 scripts and for 1,000, over the same lines: frames alone, log lines with a frame in them, and
+lines that have a colon and a digit but no position. Let nothing else run meanwhile.
 """
 
 import argparse
@@ -38,7 +38,8 @@ def seconds(program, words, text):
         file.write(text)
         file.seek(0)
         before = resource.getrusage(resource.RUSAGE_CHILDREN)
-        done = subprocess.run([program, "translate", *words], stdin=file, stdout=subprocess.DEVNULL, check=False)
+        whole = [program, "translate", *words]
+        done = subprocess.run(whole, stdin=file, stdout=subprocess.DEVNULL, check=False)
         after = resource.getrusage(resource.RUSAGE_CHILDREN)
     if done.returncode:
         raise SystemExit(f"translate {' '.join(words)}: status {done.returncode}")
