@@ -1,6 +1,6 @@
 # shellcheck shell=sh
-# What scripts/run-packages tests of the Debian packages in a root of minimal Debian: they are installed, used,
-# upgraded and purged.
+# What scripts/run-packages tests of the Debian packages in a root of minimal Debian: they are installed,
+# used, upgraded and purged.
 
 # Puts the packages, and what is tried with them, into the folder /try of the root.
 prepares_root() {

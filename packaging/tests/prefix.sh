@@ -1,6 +1,6 @@
 # shellcheck shell=sh
-# What scripts/run-packages tests of what needs no root's rights: the archive, unpacked into any folder, and the
-# wheel in a virtual environment.
+# What scripts/run-packages tests of what any user can install: the archive, unpacked into any folder, and
+# the wheel in a virtual environment.
 
 usr="$work/any where/$archive"
 

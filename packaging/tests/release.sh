@@ -64,6 +64,38 @@ belongs_to_root() {
     [ -s "$work/contents" ] && ! grep -v " root/root .* $day " "$work/contents"
 }
 
+# Every Debian package in a folder names this maintainer, and so does its changelog.
+says_maintainer() {
+    for package in "$1"/*.deb; do
+        name=$(dpkg-deb -f "$package" Package)
+        [ "$(dpkg-deb -f "$package" Maintainer)" = "$2" ] || return 1
+        dpkg-deb --fsys-tarfile "$package" | tar -xO "./usr/share/doc/$name/changelog.gz" | gzip -d |
+            grep -a -F " -- $2  " || return 1
+    done
+}
+
+# Whom the environment names as Debian's tools take it, or else a placeholder. What is in the packages besides
+# makes no difference to this, so they hold a small program.
+names_maintainer() (
+    says_maintainer "$dist" 'smap maintainers <smap@example.invalid>' || return 1
+    SMAP=/bin/true
+    SMAP_CAPI=$lib
+    export SMAP SMAP_CAPI
+    DEBEMAIL=ada@example.org DEBFULLNAME='Ada R&D/Lovelace' scripts/build-packages "$work/ada" &&
+        says_maintainer "$work/ada" 'Ada R&D/Lovelace <ada@example.org>' &&
+        DEBEMAIL='Zoë <zoe@example.org>' scripts/build-packages "$work/zoe" &&
+        says_maintainer "$work/zoe" 'Zoë <zoe@example.org>'
+)
+
+# An address without a host, and one of two lines, which would be another field.
+refuses_maintainer() {
+    for address in nobody "$(printf 'a@example.org>\nOrigin: <b@example.org')"; do
+        DEBEMAIL=$address SMAP=$SMAP SMAP_CAPI=$lib scripts/build-packages "$work/refused" 2>"$work/said"
+        [ "$?" -eq 2 ] && grep '^build-packages: DEBEMAIL and DEBFULLNAME give no name and' "$work/said" &&
+            [ ! -e "$work/refused" ] || return 1
+    done
+}
+
 numbers() {
     for package in $debs; do
         [ "$(dpkg-deb -f "$package" Version)" = "$version" ] || return 1
@@ -108,6 +140,8 @@ test_release() {
     try 'nothing packed names a folder of this machine' names_no_folder
     try 'what the Debian packages hold is root'\''s' belongs_to_root
     try 'all that is made has the number of VERSION' numbers
+    try 'the Debian packages name their maintainer' names_maintainer
+    try 'what is no maintainer is refused' refuses_maintainer
     try 'the wheel names the C library that it wants' wheel_names_c_library
     try 'README names the C library that is wanted' readme_names_c_library
     if has lintian 'lintian'; then
