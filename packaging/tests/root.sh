@@ -29,12 +29,12 @@ can_be_root() {
     false
 }
 
-# Makes a root of Debian, of this machine's release.
+# Makes a root of Debian, of this machine's release unless SMAP_SUITE names another.
 make_root() {
     # shellcheck source=/dev/null
-    suite=$(. /etc/os-release && echo "${VERSION_CODENAME:-stable}")
-    as_root mmdebstrap --variant=minbase --include=man-db,bash-completion --skip=cleanup/apt/lists \
-        "$suite" "$root"
+    suite=${SMAP_SUITE:-$(. /etc/os-release && echo "${VERSION_CODENAME:-stable}")}
+    as_root mmdebstrap --variant=minbase --include=apt,man-db,bash-completion --skip=cleanup/apt/lists \
+        "$suite" "$root" ${SMAP_MIRROR:+"$SMAP_MIRROR"}
 }
 
 # What is in the root, apart from what apt, dpkg and the tests themselves keep there.
