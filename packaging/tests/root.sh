@@ -6,8 +6,8 @@ in_root() {
 }
 
 apt() {
-    in_root apt-get -q -y -o APT::Sandbox::User=root -o Acquire::Retries=1 -o Acquire::http::Timeout=20 \
-        --no-install-recommends "$@"
+    in_root apt-get -q -y -o APT::Sandbox::User=root -o Dpkg::Use-Pty=false -o Acquire::Retries=1 \
+        -o Acquire::http::Timeout=20 --no-install-recommends "$@"
 }
 
 # The first error that apt or mmdebstrap told of, which is the cause of the others.
