@@ -18,7 +18,8 @@ first_error() {
 # Whether this process can have root's rights over a folder, or else why not: what unshare says, and the
 # settings of the kernel by which it refuses user namespaces to users.
 can_be_root() {
-    as_root true 2>"$work/why" && return
+    [ "$(id -u)" -ne 0 ] || return 0
+    { unshare --map-root-user true && as_root true; } 2>"$work/why" && return
     why=$(sed 1q "$work/why")
     for forbids in kernel.unprivileged_userns_clone=0 user.max_user_namespaces=0 \
         kernel.apparmor_restrict_unprivileged_userns=1; do
