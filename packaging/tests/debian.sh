@@ -1,0 +1,144 @@
+# shellcheck shell=sh
+# What scripts/run-packages tests of the Debian packages in a root of minimal Debian: they are installed,
+# used, upgraded and purged.
+
+# Puts the packages, and what is tried with them, into the folder /try of the root.
+prepares_root() {
+    mkdir "$work/try" || return 1
+    put_example "$work/try/example" && put_program c "$work/try/c" && put_program py "$work/try/py" &&
+        put_lines "$work/try/completed" || return 1
+    # shellcheck disable=SC2086
+    cp $debs "$work/try" || return 1
+    start_bash "$work/try/bashrc" /try/completed /usr/share/bash-completion/completions
+    # the completions are to be loaded by bash-completion
+    sed -i 's|^for command .*|. /usr/share/bash-completion/bash_completion|' "$work/try/bashrc"
+    as_root cp -r "$work/try" "$root/try" && as_root cp /etc/resolv.conf "$root/etc/resolv.conf"
+}
+
+is_bare() {
+    in_root sh -c 'for tool in cc gcc python3 rt; do ! command -v "$tool" || exit 1; done'
+}
+
+installs_program() {
+    contents >"$work/before" && apt install "/try/smap_${version}_amd64.deb"
+}
+
+runs_example() {
+    in_root sh -c 'cd /try/example && sh ./command >written && diff wanted written'
+}
+
+says_number() {
+    for program in smap smap-trace smap-maps; do
+        [ "$(in_root "$program" --version)" = "smap $version" ] || return 1
+    done
+}
+
+has_page() {
+    [ "$(in_root man -w smap-trace)" = /usr/share/man/man1/smap-trace.1.gz ]
+}
+
+completes_in_root() {
+    completes "$work/lines" packaging/tests/in-root "$root" bash --noprofile --rcfile /try/bashrc -i
+}
+
+removes_program() {
+    apt purge smap && contents | diff "$work/before" - &&
+        [ -z "$(in_root dpkg-query -W 'smap*' 2>/dev/null)" ]
+}
+
+# Where the processor lacks an instruction of x86-64-v2, the package isn't installed and says why. The root
+# has no /proc of its own, so a file can stand there.
+says_processor_is_old() {
+    sed 's/^\(flags.*\) sse4_2/\1/' /proc/cpuinfo >"$work/cpuinfo"
+    as_root cp "$work/cpuinfo" "$root/proc/cpuinfo"
+    apt install "/try/smap_${version}_amd64.deb" >"$work/said" 2>&1
+    status=$?
+    as_root rm "$root/proc/cpuinfo"
+    cat "$work/said"
+    [ "$status" -ne 0 ] && grep -x 'smap needs .* x86-64-v2: sse4_2 is missing' "$work/said" && apt purge smap
+}
+
+installs_all() {
+    contents >"$work/before"
+    # shellcheck disable=SC2046
+    apt install $(cd "$work/try" && printf '/try/%s\n' *"_${version}_"*.deb)
+}
+
+runs_c_program() {
+    in_root sh -c 'cd /try/c && cc -o program program.c $(pkg-config --cflags --libs smap) &&
+        ./program <out.js.map >written && diff program.c.out written &&
+        cc -o program program.c -l:libsmap.a && ./program <out.js.map >written && diff program.c.out written'
+}
+
+runs_python_program() {
+    in_root sh -c 'cd /try/py && python3 program.py >written && diff program.py.out written'
+}
+
+# Every file is as it was packed.
+is_whole() {
+    said=$(in_root dpkg --verify smap libsmap0 libsmap-dev python3-smap) && [ -z "$said" ]
+}
+
+# Makes packages of the number 0.1.1 out of these, with one file more and one less, and upgrades to them.
+upgrades() {
+    next=${version%.*}.$((${version##*.} + 1))
+    mkdir -p "$work/next"
+    for package in $debs; do
+        rm -rf "$work/next/tree"
+        dpkg-deb -R "$package" "$work/next/tree" &&
+            sed -i "s/\<$version\>/$next/g" "$work/next/tree/DEBIAN/control" &&
+            touch "$work/next/tree/usr/share/doc/$(dpkg-deb -f "$package" Package)/next" &&
+            rm -f "$work/next/tree/usr/share/bash-completion/completions/smap" &&
+            dpkg-deb --root-owner-group -b "$work/next/tree" "$work/next" || return 1
+    done
+    as_root cp "$work"/next/*.deb "$root/try" || return 1
+    # shellcheck disable=SC2046
+    apt install $(cd "$work/next" && printf '/try/%s\n' *.deb) || return 1
+    for package in smap libsmap0 libsmap-dev python3-smap; do
+        [ "$(in_root dpkg-query -W -f '${Version}' "$package")" = "$next" ] || return 1
+        [ -e "$root/usr/share/doc/$package/next" ] || return 1
+    done
+    [ ! -e "$root/usr/share/bash-completion/completions/smap" ] &&
+        runs_example && runs_c_program && runs_python_program
+}
+
+removes_all() {
+    apt purge smap libsmap0 libsmap-dev python3-smap && contents | diff "$work/before" - &&
+        [ -z "$(in_root dpkg-query -W 'smap*' 'libsmap*' 'python3-smap' 2>/dev/null)" ] &&
+        ! in_root ldconfig -p | grep smap
+}
+
+test_debian() {
+    has mmdebstrap 'the Debian packages, installed' && can_be_root 'the Debian packages, installed' || return
+    if ! make_root >"$work/log" 2>&1; then
+        leave_out 'the Debian packages, installed' "mmdebstrap: $(first_error)"
+        return
+    fi
+    try 'the root is prepared' prepares_root || return
+    test_program
+    if apt install gcc libc6-dev pkg-config python3 >"$work/log" 2>&1; then
+        test_all
+    else
+        leave_out 'libsmap-dev and python3-smap, installed' "apt-get: $(first_error)"
+    fi
+}
+
+test_program() {
+    try 'the root has no compiler and no Python' is_bare
+    try 'a processor that is too old is told of, and nothing is installed' says_processor_is_old
+    try 'smap is installed' installs_program
+    try 'smap runs the first example of README' runs_example
+    try 'smap and the scripts say their number' says_number
+    try 'man finds its page' has_page
+    try 'a command is completed in bash' completes_in_root
+    try 'smap is purged, and nothing stays' removes_program
+}
+
+test_all() {
+    try 'all packages are installed' installs_all
+    try 'dpkg finds every file as it was packed' is_whole
+    try 'the C program of README is compiled by pkg-config' runs_c_program
+    try 'the Python program of README runs' runs_python_program
+    try 'the packages are upgraded' upgrades
+    try 'all are purged, and nothing stays' removes_all
+}

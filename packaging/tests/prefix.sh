@@ -1,0 +1,71 @@
+# shellcheck shell=sh
+# What scripts/run-packages tests of what any user can install: the archive, unpacked into any folder, and
+# the wheel in a virtual environment.
+
+usr="$work/any where/$archive"
+
+unpacks_anywhere() {
+    mkdir "$work/any where" && tar -xzf "$dist/$archive.tar.gz" -C "$work/any where" &&
+        put_example "$work/example" || return 1
+    (unset SMAP && cd "$work/example" && PATH="$usr/bin:$PATH" sh ./command >written && diff wanted written)
+}
+
+archive_compiles() {
+    put_program c "$work/compiled" || return 1
+    (
+        cd "$work/compiled" && PKG_CONFIG_PATH=$usr/lib/pkgconfig &&
+            export PKG_CONFIG_PATH && pkg-config --cflags --libs "smap = $version" >words &&
+            eval "cc -o program program.c $(cat words)" &&
+            LD_LIBRARY_PATH=$usr/lib ./program <out.js.map >written && diff program.c.out written
+    )
+}
+
+venv=$work/venv
+
+installs_wheel() {
+    "$venv/bin/python" -m pip install --no-index --disable-pip-version-check "$wheel" &&
+        "$venv/bin/python" -m pip check &&
+        [ "$(cd / && "$venv/bin/python" -c 'import smap; print(smap.version())')" = "$version" ]
+}
+
+wheel_runs_program() {
+    put_program py "$work/python" || return 1
+    (cd "$work/python" && "$venv/bin/python" program.py >written && diff program.py.out written)
+}
+
+# A type checker reads the module's types: it accepts a program that uses them well, and not one that doesn't.
+has_types() (
+    cat >"$work/well.py" <<'END'
+import smap
+
+with smap.Map.open(b"", "http://h/m/out.js.map") as m:
+    text: str = m.translate("x", "http://h/m/out.js")
+    data: bytes = m.translate(b"x", "http://h/m/out.js")
+    found = m.lookup(0, 1)
+    line: int = found.source_line if found else 0
+END
+    sed 's/data: bytes/data: str/' "$work/well.py" >"$work/badly.py"
+    set -- mypy --strict --python-executable "$venv/bin/python" --cache-dir "$work/mypy"
+    cd "$work" || return 1
+    "$@" well.py && ! "$@" badly.py >badly.log && grep '^badly.py:5: error: Incompatible types' badly.log
+)
+
+removes_wheel() {
+    "$venv/bin/python" -m pip uninstall --disable-pip-version-check -y smap &&
+        [ -z "$(find "$venv" -name '*smap*')" ]
+}
+
+test_prefix() {
+    try 'the archive, unpacked anywhere, runs the first example of README' unpacks_anywhere
+    if has cc 'a C program with the archive' && has pkg-config 'a C program with the archive'; then
+        try 'the archive compiles the C program of README' archive_compiles
+    fi
+    if ! python3 -c 'import ensurepip, venv' 2>/dev/null; then
+        leave_out 'the wheel' 'python3 has no venv here'
+    elif try 'a virtual environment is made' python3 -m venv "$venv" &&
+        try 'the wheel is installed' installs_wheel; then
+        try 'the wheel runs the Python program of README' wheel_runs_program
+        has mypy 'the types of the Python module' && try 'the wheel has types' has_types
+        try 'the wheel is removed, and nothing stays' removes_wheel
+    fi
+}

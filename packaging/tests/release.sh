@@ -1,0 +1,151 @@
+# shellcheck shell=sh
+# What scripts/run-packages tests of the files of a release themselves: that they are made twice with the same
+# bytes, hold nothing of the machine, and have the right numbers.
+
+dist=$work/dist
+archive=smap-$version-linux-x86_64
+debs="$dist/smap_${version}_amd64.deb $dist/libsmap0_${version}_amd64.deb
+    $dist/libsmap-dev_${version}_amd64.deb $dist/python3-smap_${version}_all.deb"
+
+makes() {
+    SMAP=$SMAP SMAP_CAPI=$lib scripts/build-packages "$dist"
+}
+
+# Makes them once more from a copy of the sources in another folder, at another time, with other settings.
+makes_the_same() {
+    mkdir "$work/a copy" || return 1
+    cp -r VERSION CHANGELOG.md completion docs packaging scripts "$work/a copy" || return 1
+    mkdir "$work/a copy/capi" || return 1
+    cp -r capi/smap.h capi/cpp capi/python capi/examples "$work/a copy/capi" || return 1
+    cp "$SMAP" "$work/a copy/program" && cp -r "$lib" "$work/a copy/library" || return 1
+    (
+        umask 077
+        cd / && TZ=Asia/Kolkata LC_ALL=C.UTF-8 TMPDIR="$work/a copy" SMAP="$work/a copy/program" \
+            SMAP_CAPI="$work/a copy/library" "$work/a copy/scripts/build-packages" "$work/again"
+    ) || return 1
+    diff -r "$dist" "$work/again"
+}
+
+# Six files, and the sum of each.
+sums() {
+    (
+        cd "$dist" && sha256sum -c SHA256SUMS &&
+            [ "$(find . -type f | wc -l) $(grep -c '' SHA256SUMS)" = '7 6' ]
+    )
+}
+
+# Unpacks everything into folders of $work/unpacked.
+unpacks() {
+    mkdir "$work/unpacked" || return 1
+    for package in $debs; do
+        name=${package##*/}
+        dpkg-deb -R "$package" "$work/unpacked/${name%%_*}" || return 1
+    done
+    mkdir "$work/unpacked/archive" "$work/unpacked/wheel" &&
+        tar -xzf "$dist/$archive.tar.gz" -C "$work/unpacked/archive" &&
+        python3 -m zipfile -e "$wheel" "$work/unpacked/wheel"
+}
+
+# Looks in each file, once it is decompressed, for this folder, the home, the kit's folder and the one for
+# temporary files.
+names_no_folder() {
+    printf '%s/\n' "$top" "${HOME%/}" "${TMPDIR:-/tmp}" "$(dirname "$(rt doc 2>/dev/null)")" |
+        grep '[a-z]' >"$work/folders"
+    find "$work/unpacked" -name '*.gz' -exec gzip -d {} +
+    ! grep -r -a -F -f "$work/folders" -l "$work/unpacked"
+}
+
+# Everything in the Debian packages belongs to root, and nothing is newer than the release.
+belongs_to_root() {
+    for package in $debs; do
+        dpkg-deb -c "$package"
+    done >"$work/contents" || return 1
+    day=$(sed -n "s/^## \[$version\] - //p" CHANGELOG.md)
+    [ -s "$work/contents" ] && ! grep -v " root/root .* $day " "$work/contents"
+}
+
+# Every Debian package in a folder names this maintainer, and so does its changelog.
+says_maintainer() {
+    for package in "$1"/*.deb; do
+        name=$(dpkg-deb -f "$package" Package)
+        [ "$(dpkg-deb -f "$package" Maintainer)" = "$2" ] || return 1
+        dpkg-deb --fsys-tarfile "$package" | tar -xO "./usr/share/doc/$name/changelog.gz" | gzip -d |
+            grep -a -F " -- $2  " || return 1
+    done
+}
+
+# Whom the environment names as Debian's tools take it, or else a placeholder. What is in the packages besides
+# makes no difference to this, so they hold a small program.
+names_maintainer() (
+    says_maintainer "$dist" 'smap maintainers <smap@example.invalid>' || return 1
+    SMAP=/bin/true
+    SMAP_CAPI=$lib
+    export SMAP SMAP_CAPI
+    DEBEMAIL=ada@example.org DEBFULLNAME='Ada R&D/Lovelace' scripts/build-packages "$work/ada" &&
+        says_maintainer "$work/ada" 'Ada R&D/Lovelace <ada@example.org>' &&
+        DEBEMAIL='Zoë <zoe@example.org>' scripts/build-packages "$work/zoe" &&
+        says_maintainer "$work/zoe" 'Zoë <zoe@example.org>'
+)
+
+# An address without a host, and one of two lines, which would be another field.
+refuses_maintainer() {
+    for address in nobody "$(printf 'a@example.org>\nOrigin: <b@example.org')"; do
+        DEBEMAIL=$address SMAP=$SMAP SMAP_CAPI=$lib scripts/build-packages "$work/refused" 2>"$work/said"
+        [ "$?" -eq 2 ] && grep '^build-packages: DEBEMAIL and DEBFULLNAME give no name and' "$work/said" &&
+            [ ! -e "$work/refused" ] || return 1
+    done
+}
+
+numbers() {
+    for package in $debs; do
+        [ "$(dpkg-deb -f "$package" Version)" = "$version" ] || return 1
+        [ "$(dpkg-deb -f "$package" Installed-Size)" -gt 0 ] || return 1
+    done
+    grep -x "Version: $version" "$work/unpacked/libsmap-dev/usr/lib/x86_64-linux-gnu/pkgconfig/smap.pc" &&
+        grep -x "Version: $version" "$work/unpacked/archive/$archive/lib/pkgconfig/smap.pc" &&
+        grep -x "Version: $version" "$work/unpacked/wheel/smap-$version.dist-info/METADATA"
+}
+
+# The greatest version of the C library that a symbol of these files wants: N of 2.N.
+greatest_glibc() {
+    objdump -T "$@" | sed -n 's/.*GLIBC_2\.\([0-9]*\).*/\1/p' | sort -n | tail -n 1 | grep .
+}
+
+wheel_names_c_library() {
+    greatest=$(greatest_glibc "$work/unpacked/wheel/smap/libsmap.so.0") &&
+        [ "$wheel" = "$dist/smap-$version-py3-none-manylinux_2_${greatest}_x86_64.whl" ]
+}
+
+# README says what the program and the library want together.
+readme_names_c_library() {
+    greatest=$(greatest_glibc "$work/unpacked/smap/usr/bin/smap" "$work/unpacked/wheel/smap/libsmap.so.0") &&
+        grep -F "glibc 2.$greatest or later" README.md && grep -F "${wheel##*/}" README.md
+}
+
+# No license has been chosen, so there is no file that has one. Nothing else may be an error.
+lintian_is_content() {
+    # shellcheck disable=SC2086
+    lintian --allow-root --no-tag-display-limit -L '>=error' $debs >"$work/lintian" 2>"$work/lintian.err"
+    cat "$work/lintian.err"
+    grep '^E: ' "$work/lintian" | grep -v ' no-copyright-file$' && return 1
+    [ "$(grep -c '^E: .* no-copyright-file$' "$work/lintian")" -eq 4 ]
+}
+
+test_release() {
+    try 'the packages are made' makes || return 1
+    wheel=$(echo "$dist"/smap-*.whl)
+    try 'the packages are made again, with the same bytes' makes_the_same
+    try 'the sums are right' sums
+    try 'all that is packed can be unpacked' unpacks
+    try 'nothing packed names a folder of this machine' names_no_folder
+    try 'what the Debian packages hold is root'\''s' belongs_to_root
+    try 'all that is made has the number of VERSION' numbers
+    try 'the Debian packages name their maintainer' names_maintainer
+    try 'what is no maintainer is refused' refuses_maintainer
+    try 'the wheel names the C library that it wants' wheel_names_c_library
+    try 'README names the C library that is wanted' readme_names_c_library
+    if has lintian 'lintian'; then
+        try 'lintian has no error but the missing license' lintian_is_content &&
+            echo 'lintian: no-copyright-file in each package, since no license has been chosen'
+    fi
+}
