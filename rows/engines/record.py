@@ -1,6 +1,6 @@
 #!/usr/bin/env python3
 """Records shop.js in a browser: NAME.log gets the stacks that it sends, NAME-console.log what the browser's
-console prints. Firefox takes down asynchronous callers too, as it does while its developer tools are open.
+console prints. Firefox records asynchronous callers too, as it does while its developer tools are open.
 
     python3 rows/engines/record.py chromium
     python3 rows/engines/record.py firefox-esr
@@ -53,7 +53,8 @@ def command(browser, profile):
     if browser.startswith("firefox"):
         (pathlib.Path(profile) / "user.js").write_text(PREFERENCES)
         return [browser, "--headless", "--no-remote", "--profile", profile, page]
-    return [browser, "--headless", "--no-sandbox", "--enable-logging=stderr", f"--user-data-dir={profile}", page]
+    options = ["--headless", "--no-sandbox", "--enable-logging=stderr", f"--user-data-dir={profile}"]
+    return [browser, *options, page]
 
 
 def main():
