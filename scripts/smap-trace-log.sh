@@ -14,7 +14,9 @@ find_log() {
     size=$(($(wc -c <"$log")))
     case $(od -A n -t x1 -N 3 "$log") in
     ' 1f 8b'*) say 'the log is compressed: zcat crash.log.gz | smap-trace ... reads it' ;;
-    ' ff fe'* | ' fe ff'*) say 'the log is in UTF-16: iconv -f UTF-16 -t UTF-8 crash.log | smap-trace ... reads it' ;;
+    ' ff fe'* | ' fe ff'*)
+        say 'the log is in UTF-16: iconv -f UTF-16 -t UTF-8 crash.log | smap-trace ... reads it'
+        ;;
     ' ef bb bf') tell 'the log begins with a byte order mark' ;;
     esac
 }
@@ -37,8 +39,8 @@ read_log() {
     fi
 }
 
-# Takes apart what the parts of a pipe have told. Sets `written`, `run` and `read` to the statuses of what wrote
-# the output, of smap and of what read the log, and `..._said` to what they said.
+# Takes apart what the parts of a pipe have told. Sets `written`, `run` and `read` to the statuses of what
+# wrote the output, of smap and of what read the log, and `..._said` to what they said.
 take_told() {
     written=0 run=0 read=0
     while IFS=' ' read -r word status said; do
@@ -68,9 +70,9 @@ name_scripts() {
     judge_run
 }
 
-# Adds what --anywhere finds in the log to the file `named`: texts of it that may name scripts of the list. Those
-# that frames don't name are looked for as they are, with and without their default port, as a path and as a
-# file: URL, and in capitals and small letters.
+# Adds what --anywhere finds in the log to the file `named`: texts of it that may name scripts of the list.
+# Those that frames don't name are looked for as they are, with and without their default port, as a path and
+# as a file: URL, and in capitals and small letters.
 name_texts() {
     awk '
         { print $1 }
@@ -83,13 +85,14 @@ name_texts() {
         }
         /^file:\/\/\// { print substr($1, 8) }
         /^\// { print "file://" $1 }' "$room/list" >"$room/texts" || no_room
-    tr '\000' '\n' <"$log" | grep -o -i -F -f "$room/texts" | awk '!seen[$0]++ { print 1, $0 }' >>"$room/named" || no_room
+    tr '\000' '\n' <"$log" | grep -o -i -F -f "$room/texts" |
+        awk '!seen[$0]++ { print 1, $0 }' >>"$room/named" || no_room
 }
 
 # ---- the list
 
-# Looks for signs that lines of the log have positions that aren't frames alone on their lines: writes the number
-# of lines with positions, and what else there is in some of them.
+# Looks for signs that lines of the log have positions that aren't frames alone on their lines: writes the
+# number of lines with positions, and what else there is in some of them.
 look_at_log() {
     tr '\000' '\001' | awk '
         BEGIN { escape = sprintf("%c[", 27) }
@@ -121,7 +124,8 @@ hint_at_list() {
     read -r lines signs <"$room/looked"
     frames=$(awk '{ sum += $1 } END { print sum + 0 }' "$room/named")
     if [ -z "$anywhere" ] && [ "$lines" -gt "$frames" ]; then
-        say "lines with positions that are no frames alone: $((lines - frames))${signs:+ ($signs)}; --anywhere finds these"
+        signs="$((lines - frames))${signs:+ ($signs)}"
+        say "lines with positions that are no frames alone: $signs; --anywhere finds these"
     elif [ "$frames" -eq 0 ]; then
         say 'no line of the log is a stack frame'
     fi
@@ -173,7 +177,7 @@ list_scripts() {
 # Writes the bundle and the log. The folder for temporary files goes as soon as the bundle is written.
 send() {
     trap 'rm -rf "$room"; exit 1' HUP INT TERM PIPE
-    write_bundle "$room/measured" 1 2>/dev/null
+    write_bundle "$room/batch.1" 1 2>/dev/null
     rm -rf "$room"
     trap - HUP INT TERM PIPE
     read_log
@@ -182,7 +186,7 @@ send() {
 # Translates the log. What writes the output is `cat`, since it says why it can't, where smap can't say that.
 translate() {
     measure "$room/list" >"$room/measured" || no_room
-    make_parts "$room/measured" || no_room
+    make_batches "$room/measured" >"$room/batches" || no_room
     # from here on a signal ends the script at once, however long the log is followed
     trap - EXIT HUP INT TERM PIPE
     told=$(

@@ -1,7 +1,7 @@
 # shellcheck shell=sh disable=SC2034,SC2154
-# The part of smap-trace that finds the maps: those that the arguments name, those of them that the log needs, and
-# those that scripts name. It uses smap-common.sh. The list of maps is the file `list` in the folder for temporary
-# files.
+# The part of smap-trace that finds the maps: those that the arguments name, those of them that the log needs,
+# and those that scripts name. It uses smap-common.sh. The list of maps is the file `list` in the folder for
+# temporary files.
 
 # Says something with --verbose.
 tell() {
@@ -10,18 +10,12 @@ tell() {
 
 # ---- arguments
 
-# Sets `own` to the URL of a script: that in the log, or the file: URL of a path.
+# Sets `own` to the URL of a script, where the log has a path too.
 own_url() {
     case $1 in
-    /*) path=$1 ;;
-    [A-Za-z]:[/\\]*) path=/$(printf '%s' "$1" | tr '\134' /) ;;
-    *)
-        own=$1
-        return
-        ;;
+    /* | [A-Za-z]:[/\\]*) own=$(printf '%s\n' "$1" | awk "$in_awk"'{ print own_url($0) }') ;;
+    *) own=$1 ;;
     esac
-    encode "$path"
-    own=file://$encoded
 }
 
 # Whether a file's name is that of a script, which may name its map.
@@ -32,66 +26,68 @@ is_script() {
     esac
 }
 
-# Adds a map to the list. A script in place of a map has the base `-` if it is from a folder, and else `+`,
-# followed by the base if one is given: which map it names is looked for when it is needed.
+# Adds a map to the list. Without a base, fill_list adds one. A script in place of a map has the base `-` if
+# it is from a folder, and else `+`, followed by the base if one is given: which map it names is looked for
+# when it is needed.
 add() {
     case $1 in
     '' | *' '* | *"$newline"*) fail "the URL is empty or holds a space (in a URL that is %20): '$1'" ;;
     esac
     case $2 in
-    '' | *' '* | *"$newline"*) fail "the base is empty or holds a space (in a URL that is %20): '$2'" ;;
+    *' '* | *"$newline"*) fail "the base is empty or holds a space (in a URL that is %20): '$2'" ;;
     esac
     printf '%s %s %s\n' "$1" "$2" "$3" 2>/dev/null >>"$room/list" || no_room
 }
 
-# Adds a map that is given without a base. The third argument stands for the base of a script.
-add_without_base() {
-    if is_script "$2"; then
-        base=$3
-    else
-        own_url "$1"
-        base=$own.map
-    fi
-    add "$1" "$base" "$2"
-}
-
-# Adds the maps in a folder: those of scripts below a URL, or below a path as in the log.
+# Adds the maps in a folder: those of scripts below a URL, or below a path as in the log. Of a script that has
+# no map beside it, the line is added too.
 add_folder() {
     without_slashes "$2"
     parent=$folder
+    case $1 in *"$newline"*) fail "the URL is empty or holds a space (in a URL that is %20): '$1'" ;; esac
     files_below "$parent" -name '?*.map' -o -name '?*.js' -o -name '?*.[cm]js' >"$room/names" || exit
-    # a script counts only where it has no map beside it
     awk '
         maps { if (sub(/\.map$/, "")) has[$0] = 1; next }
         !($0 in has)' maps=1 "$room/names" maps= "$room/names" >"$room/wanted" || no_room
-    found=
+    any_map || no_maps "$2"
+    : >"$room/spaces"
+    above=$1 parent=$parent awk -v room="$room" "$in_awk"'
+        {
+            file = ENVIRON["parent"] "/" $0
+            base = sub(/\.map$/, "") ? "" : "-"
+            script = ENVIRON["above"]
+            if (script ~ /^[A-Za-z]:\\/) gsub(/\//, "\\")
+            script = script (script ~ /^(\/|[A-Za-z]:[\/\\])/ ? $0 : encode($0))
+            if (script ~ / /) print file >(room "/spaces")
+            else print script " " base " " file
+        }' "$room/wanted" >>"$room/list" || no_room
     while IFS= read -r file; do
-        case $file in
-        *.map) found=yes ;;
-        *) [ -n "$found" ] || ! find_link "$parent/$file" || found=yes ;;
-        esac
-        below=${file%.map}
-        script=$1$below
-        case $1 in
-        /* | [A-Za-z]:/*) ;;
-        [A-Za-z]:\\*) script=$1$(printf '%s' "$below" | tr / '\134') ;;
-        *)
-            encode "$below"
-            script=$1$encoded
-            ;;
-        esac
-        case $script in
-        *' '*) say "left out $parent/$file: no frame is found whose path holds a space" ;;
-        *) add_without_base "$script" "$parent/$file" - ;;
-        esac
+        say "left out $file: no frame is found whose path holds a space"
+    done <"$room/spaces"
+}
+
+# Whether there is a map among the wanted files of a folder, or a script that names one.
+any_map() {
+    ! grep -q '\.map$' "$room/wanted" || return 0
+    while IFS= read -r file; do
+        ! find_link "$parent/$file" || return 0
     done <"$room/wanted"
-    [ -n "$found" ] || no_maps "$2"
+    return 1
 }
 
 # Whether a map can be read from this file.
 is_map() {
     case $1 in '' | *"$newline"*) return 1 ;; esac
     { [ -f "$1" ] || [ -p "$1" ]; } && [ -r "$1" ]
+}
+
+# Adds the map of a script: its file, and `=BASE` if one is given.
+add_map() {
+    [ "$3" != = ] || fail "the base is empty or holds a space (in a URL that is %20): ''"
+    base=${3#=}
+    ! is_script "$2" || base=+$base
+    [ ! -p "$2" ] || printf '%s\n' "$2" >>"$room/pipes" || no_room
+    add "$1" "$base" "$2"
 }
 
 # Adds what an argument names: the URL ends before the first = that is followed by the name of a file or a
@@ -105,13 +101,7 @@ add_argument() {
         file=$rest
         while :; do
             if is_map "$file"; then
-                if [ "$rest" = "$file" ]; then
-                    add_without_base "$script" "$file" +
-                else
-                    base=${rest#"$file"=}
-                    ! is_script "$file" || [ -z "$base" ] || base=+$base
-                    add "$script" "$base" "$file"
-                fi
+                add_map "$script" "$file" "${rest#"$file"}"
                 return
             fi
             if [ -n "$file" ] && [ -d "$file" ]; then
@@ -144,25 +134,8 @@ no_map() {
 
 # ---- which maps are opened
 
-# Functions of awk that more than one program needs: percent-decoding, and a URL without query and fragment.
-in_awk='
-    BEGIN {
-        for (code = 1; code < 256; code++) byte[sprintf("%02x", code)] = sprintf("%c", code)
-    }
-    function decode(text, done) {
-        while (match(text, /%[0-9A-Fa-f][0-9A-Fa-f]/)) {
-            done = done substr(text, 1, RSTART - 1) byte[tolower(substr(text, RSTART + 1, 2))]
-            text = substr(text, RSTART + 3)
-        }
-        return done text
-    }
-    function bare(url) {
-        sub(/[?#].*/, "", url)
-        return url
-    }'
-
-# Leaves those maps on the list whose scripts the log names, each under the name that the log has. If names may
-# be alike, they also match if they differ in the query or the fragment, the default port, the capitals of
+# Leaves those maps on the list whose scripts the log names, each under the name that the log has. If names
+# may be alike, they also match if they differ in the query or the fragment, the default port, the capitals of
 # the host, or in being a path or its file: URL. The file `given` has the whole list then, and `matched` a
 # line for each name in the log that has a map: the name on the list, and that in the log.
 choose_maps() {
@@ -242,8 +215,8 @@ find_link() {
     [ -s "$room/link" ]
 }
 
-# Sets `file` to the map that a script of the list names, `base` to its URL, and `which` to what it is. Answers
-# 1 if the script names none that can be read.
+# Sets `file` to the map that a script of the list names, `base` to its URL, and `which` to what it is.
+# Answers 1 if the script names none that can be read.
 follow_script() {
     which='names no map in its last line, by a relative URL or as data: in base64'
     find_link "$path" || return 1
@@ -271,73 +244,94 @@ follow_script() {
     esac
 }
 
-# Puts the maps that scripts name into the list, in their place. A pipe can be read only once, so a map that is
-# one is copied.
+# Puts the maps that scripts name into the list, in their place, and copies of maps that are pipes, which can
+# be read only once.
 settle_maps() {
-    number=0
+    awk -F '[ ]' '
+        pipes { is_pipe[$0] = 1; next }
+        { file = substr($0, length($1 $2) + 3) }
+        $2 ~ /^[-+]/ || file in is_pipe { print FNR, $0 }
+    ' pipes=1 "$room/pipes" pipes= "$room/list" >"$room/unsettled" || no_room
     while IFS= read -r line; do
-        number=$((number + 1))
-        take_apart "$line"
-        given=$file
-        case $base in
-        -)
-            if ! follow_script "$number"; then
-                tell "left out $given ($name): it $which"
-                continue
-            fi
-            tell "$given ($name): its $which is used"
-            ;;
-        +*)
-            wanted=${base#+}
-            if follow_script "$number"; then
-                say "$given ($name) is a script: its $which is used"
-            else
-                own_url "$name"
-                base=$own.map
-            fi
-            base=${wanted:-$base}
-            ;;
-        esac
-        if [ -p "$file" ]; then
-            cat "$file" >"$room/copy.$number" || no_room
-            printf '%s\n' "$file" >"$room/copy.$number.name" || no_room
-            file=$room/copy.$number
+        number=${line%% *}
+        take_apart "${line#* }"
+        ! settle_map || printf '%s %s %s %s\n' "$number" "$name" "$base" "$file" || no_room
+    done <"$room/unsettled" >"$room/settled" || no_room
+    awk '
+        file == 1 { left_out[$1] = 1; next }
+        file == 2 { line[$1] = substr($0, length($1) + 2); next }
+        FNR in line { print line[FNR] }
+        !(FNR in left_out)
+    ' file=1 "$room/unsettled" file=2 "$room/settled" file=3 "$room/list" >"$room/kept" || no_room
+    mv -f "$room/kept" "$room/list"
+}
+
+# Sets `file` to a file that can be read twice, and `base` to its URL, for the map number $number. Answers 1
+# if it is a script from a folder that names no map.
+settle_map() {
+    given=$file
+    case $base in
+    -)
+        if ! follow_script "$number"; then
+            tell "left out $given ($name): it $which"
+            return 1
         fi
-        printf '%s %s %s\n' "$name" "$base" "$file"
-    done <"$room/list" >"$room/settled" || no_room
-    mv -f "$room/settled" "$room/list"
+        tell "$given ($name): its $which is used"
+        ;;
+    +*)
+        wanted=${base#+}
+        if follow_script "$number"; then
+            say "$given ($name) is a script: its $which is used"
+        else
+            own_url "$name"
+            base=$own.map
+        fi
+        base=${wanted:-$base}
+        ;;
+    esac
+    [ -p "$file" ] || return 0
+    cat "$file" >"$room/copy.$number" || no_room
+    printf '%s\n' "$file" >"$room/copy.$number.name" || no_room
+    file=$room/copy.$number
 }
 
 # ---- checking
 
-# Notes the maps of scripts that have one already, and takes off the scripts from folders that have one besides.
-find_repeated() {
-    awk '
+# Gives each map without a base the URL of its script with .map behind it, takes off the scripts from folders
+# that have a map besides, and notes the maps of scripts that have one already.
+fill_list() {
+    awk -F '[ ]' -v room="$room" "$in_awk"'
         maps { if ($2 != "-") has[$1] = 1; next }
-        $2 != "-" || !($1 in has)' maps=1 "$room/list" maps= "$room/list" >"$room/kept" || no_room
+        $2 == "-" && $1 in has { next }
+        {
+            number++
+            if (seen[$1]++) {
+                print "1 script repeated" >(room "/" number ".fault")
+                close(room "/" number ".fault")
+            }
+            print ($2 == "" ? $1 " " own_url($1) ".map" substr($0, length($1) + 2) : $0)
+        }' maps=1 "$room/list" maps= "$room/list" >"$room/kept" || no_room
     mv -f "$room/kept" "$room/list"
-    awk -v room="$room" 'seen[$1]++ { print "1 script repeated" >(room "/" NR ".fault") }' "$room/list" || no_room
 }
 
 # Names each map of the list that has a fault. Without --skip-broken they end the run; with it they are taken
 # off the list.
 judge_maps() {
+    faulty "$room/list" >"$room/faulty" || no_room
+    [ -s "$room/faulty" ] || return 0
     worst=0
-    number=0
-    : >"$room/kept"
     while IFS= read -r line; do
-        number=$((number + 1))
-        if [ ! -f "$room/$number.fault" ]; then
-            printf '%s\n' "$line" >>"$room/kept" || no_room
-            continue
-        fi
+        number=${line%% *}
         read -r status fault <"$room/$number.fault"
         rm -f "$room/$number.fault"
-        take_apart "$line"
+        take_apart "${line#* }"
         say_fault
         [ "$status" -le "$worst" ] || worst=$status
-    done <"$room/list"
-    [ "$worst" -eq 0 ] || [ -n "$skip" ] || exit "$worst"
+    done <"$room/faulty"
+    [ -n "$skip" ] || exit "$worst"
+    awk '
+        faults { left_out[$1] = 1; next }
+        !(FNR in left_out)' faults=1 "$room/faulty" faults= "$room/list" >"$room/kept" || no_room
     mv -f "$room/kept" "$room/list"
 }
 
@@ -347,8 +341,13 @@ say_fault() {
     given=$file
     case $file in "$room/copy."*) IFS= read -r given <"$file.name" ;; esac
     case $fault in
-    'base is no URL') hint=": $base (add =BASE, the URL of the map: $name=$given=https://example.org/$name.map)" ;;
-    'not json') [ -n "$hint" ] || ! is_script "$given" || hint=' (it is a script, which names no map in its last line)' ;;
+    'base is no URL')
+        hint=": $base (add =BASE, the URL of the map: $name=$given=https://example.org/$name.map)"
+        ;;
+    'not json')
+        [ -n "$hint" ] || ! is_script "$given" ||
+            hint=' (it is a script, which names no map in its last line)'
+        ;;
     esac
     say "$given ($name): $fault$hint"
 }
