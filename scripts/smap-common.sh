@@ -1,10 +1,6 @@
 # shellcheck shell=sh disable=SC2034,SC2154
 # Functions that smap-trace and smap-maps share. Each script sets `me`, its name, and `here`, its folder,
 # before it reads this file.
-#
-# A list of maps is a file with a line `NAME BASE FILE` for each. NAME and BASE have no spaces, and no two
-# maps that are checked together have the same NAME. What is wrong with the map on line N of the list that is
-# checked is in the file N.fault of the folder for temporary files: `STATUS FAULT`.
 
 LC_ALL=C
 export LC_ALL
@@ -62,7 +58,7 @@ make_room() {
     # a reader that is gone, as after `| head`
     trap 'exit 141' PIPE
     room=$(mktemp -d 2>/dev/null) || no_room
-    { echo >"$room/line-feed" && echo trace >"$room/trace"; } 2>/dev/null || no_room
+    { echo trace >"$room/trace" && { echo && echo trace; } >"$room/end"; } 2>/dev/null || no_room
 }
 
 # Removes the temporary files. Another signal doesn't stop that.
@@ -115,7 +111,44 @@ judge_writing() {
 
 # ---- names
 
-# Sets `encoded` to a path as in a URL: each byte that a URL can't have there is percent-encoded.
+# Functions of awk that more than one program needs. `encode` gives a path as in a URL: each byte that a URL
+# can't have there is percent-encoded. `decode` is the reverse, and `bare` a URL without query and fragment.
+# `own_url` is the URL of a script: that in the log, or the file: URL of a path.
+# shellcheck disable=SC2016
+in_awk='
+    BEGIN {
+        for (code = 1; code < 256; code++) {
+            character = sprintf("%c", code)
+            byte[sprintf("%02x", code)] = character
+            in_url[character] = code < 33 || code > 126 || index("\"#%<>?\\^`{}", character) ? \
+                sprintf("%%%02X", code) : character
+        }
+    }
+    function encode(path, done, i) {
+        if (path !~ /[^A-Za-z0-9\/._~@+-]/) return path
+        for (i = 1; i <= length(path); i++) done = done in_url[substr(path, i, 1)]
+        return done
+    }
+    function decode(text, done) {
+        while (match(text, /%[0-9A-Fa-f][0-9A-Fa-f]/)) {
+            done = done substr(text, 1, RSTART - 1) byte[tolower(substr(text, RSTART + 1, 2))]
+            text = substr(text, RSTART + 3)
+        }
+        return done text
+    }
+    function bare(url) {
+        sub(/[?#].*/, "", url)
+        return url
+    }
+    function own_url(script) {
+        if (script ~ /^[A-Za-z]:[\/\\]/) {
+            gsub(/\\/, "/", script)
+            script = "/" script
+        }
+        return script ~ /^\// ? "file://" encode(script) : script
+    }'
+
+# Sets `encoded` to a path as in a URL.
 encode() {
     case $1 in
     *[!A-Za-z0-9/._~@+-]*) ;;
@@ -124,14 +157,9 @@ encode() {
         return
         ;;
     esac
-    encoded=$(printf '%s' "$1" | od -A n -v -t x1 | awk '
-        BEGIN {
-            for (code = 33; code < 127; code++) {
-                character = sprintf("%c", code)
-                if (!index("\"#%<>?\\^`{}", character)) plain[sprintf("%02x", code)] = character
-            }
-        }
-        { for (i = 1; i <= NF; i++) printf "%s", $i in plain ? plain[$i] : "%" toupper($i) }')
+    # the slash keeps line feeds at the end
+    encoded=$(printf '%s/\n' "$1" | awk "$in_awk"'{ printf "%s%s", (NR > 1 ? "%0A" : ""), encode($0) }')
+    encoded=${encoded%/}
 }
 
 # Writes the names of files in a folder and below it, relative to the folder, one a line in byte order. What
@@ -141,19 +169,33 @@ files_below() {
     given=$1
     shift
     case $folder in [!A-Za-z0-9/._]*) folder=./$folder ;; esac
-    if ! find "$folder/" \( "$@" \) ! -type d >"$room/found" 2>"$room/find.err"; then
+    # find writes twice what may be no file: links, and pipes
+    if ! find "$folder/" \( "$@" \) ! -type d \( -type f -o -print \) -print \
+        >"$room/found" 2>"$room/find.err"; then
         [ -s "$room/find.err" ] || no_room
         fail "cannot read all of $given: $(sed -e 's/^find: //' -e 1q "$room/find.err")" 3
     fi
-    sort "$room/found" | while IFS= read -r found; do
-        name=${found#"$folder/"}
-        case $found in
-        "$folder/"*.map | "$folder/"*.js | "$folder/"*.[cm]js)
-            [ ! -f "$found" ] || printf '%s\n' "${name#/}" 2>/dev/null || no_room
-            ;;
-        *) fail "a file name in $given holds a line feed: $name" ;;
-        esac
-    done || exit
+    sort "$room/found" >"$room/sorted" || no_room
+    uniq -d "$room/sorted" | while IFS= read -r found; do
+        [ -f "$found" ] || printf '%s\n' "$found" 2>/dev/null || no_room
+    done >"$room/others" || exit
+    rm -f "$room/cut"
+    folder=$folder awk -v room="$room" '
+        others { is_other[$0] = 1; next }
+        $0 == last { next }
+        {
+            last = name = $0
+            front = ENVIRON["folder"] "/"
+            is_below = index(name, front) == 1
+            if (is_below) name = substr(name, length(front) + 1)
+            if (!is_below || name !~ /\.(map|[cm]?js)$/) {
+                print name >(room "/cut")
+                exit
+            }
+            sub(/^\//, "", name)
+            if (!($0 in is_other)) print name
+        }' others=1 "$room/others" others= "$room/sorted" || no_room
+    [ ! -e "$room/cut" ] || fail "a file name in $given holds a line feed: $(cat "$room/cut")"
 }
 
 # Ends because there is no map in the folder $parent, which was given as $1.
@@ -182,236 +224,5 @@ take_apart() {
     case $file in
     /*) path=$file ;;
     *) path=./$file ;;
-    esac
-}
-
-# ---- many maps at once
-
-# Sets `jobs` to the number of processors, unless it is given.
-count_processors() {
-    : "${jobs:=$(nproc 2>/dev/null || getconf _NPROCESSORS_ONLN 2>/dev/null || echo 1)}"
-}
-
-# Calls a function with the number and the text of each line of a file, $jobs at once. The function answers 0
-# if it has written all that it had to. With a number in `progress`, how many maps of these are done is shown
-# on the terminal meanwhile.
-each_at_once() {
-    count_processors
-    left=$(($(wc -l <"$2")))
-    [ "$left" -le "$jobs" ] || left=$jobs
-    while [ "$left" -gt 0 ]; do
-        worker=$left
-        take_turns "$1" "$2" 2>/dev/null &
-        workers="$workers $!"
-        left=$((left - 1))
-    done
-    if [ -n "$progress" ]; then
-        : >>"$room/progress"
-        show_progress &
-        shower=$!
-    fi
-    # shellcheck disable=SC2086
-    [ -z "$workers" ] || wait $workers
-    workers=
-    if [ -n "$shower" ]; then
-        kill "$shower"
-        wait "$shower"
-        shower=
-        erase_progress
-    fi
-    number=0
-    while IFS= read -r line; do
-        number=$((number + 1))
-        [ -e "$2.$number.done" ] || fail 'a process that looks at maps ended early' 3
-    done <"$2"
-}
-
-# Calls a function for each line that no other worker has taken. On signals, the file that the function names
-# in `new` is removed.
-take_turns() {
-    trap - EXIT HUP INT
-    trap 'trap "" TERM; [ -z "$new" ] || rm -f "$new"; exit 143' TERM
-    new=
-    turn=0
-    while IFS= read -r line; do
-        turn=$((turn + 1))
-        # With -C only one worker can make the file.
-        set -C
-        if { command true >"$2.$turn.taken"; } 2>/dev/null; then
-            set +C
-            "$1" "$turn" "$line" && command true >"$2.$turn.done"
-        fi
-        set +C
-    done <"$2"
-}
-
-# Notes that so many maps are done: the file has a byte for each.
-finished() {
-    [ -z "$progress" ] || printf "%${1}s" '' >>"$room/progress"
-}
-
-# Shows how many maps are done, five times a second.
-show_progress() {
-    trap - EXIT HUP INT
-    trap 'exit 0' TERM
-    while :; do
-        { sleep 0.2 2>/dev/null || sleep 1; } &
-        wait "$!"
-        printf '\r%s of %s' "$(($(wc -c <"$room/progress")))" "$progress" >&2
-    done
-}
-
-erase_progress() {
-    printf '\r%40s\r' '' >&2
-}
-
-# ---- checking
-
-# Writes a list with the number and the size of each map in front, `NUMBER SIZE NAME BASE FILE`, without the
-# maps that can't be read, for which it notes that.
-measure() {
-    sed -e 's/^[^ ]* [^ ]* //' -e '/^\//!s,^,./,' "$1" | tr '\n' '\000' | xargs -0 wc -c -- 2>/dev/null >"$room/sizes"
-    awk -v room="$room" '
-        sizes {
-            sub(/^ */, "")
-            at = index($0, " ")
-            size[++count] = substr($0, 1, at - 1)
-            path[count] = substr($0, at + 1)
-            next
-        }
-        {
-            number++
-            file = $0
-            sub(/^[^ ]* [^ ]* /, "", file)
-            if (file !~ /^\//) file = "./" file
-            # wc adds a line for the total, once or more often
-            while (next_one < count && path[next_one + 1] == "total") next_one++
-            if (path[next_one + 1] == file) {
-                print number, size[++next_one], $0
-            } else {
-                print "3 cannot read it" >(room "/" number ".fault")
-                close(room "/" number ".fault")
-            }
-        }' sizes=1 "$room/sizes" sizes= "$1"
-}
-
-# Writes the names of the files that a measured list's bundle is made of, three for each map, to LIST.parts.
-make_parts() {
-    part=0
-    while IFS= read -r line; do
-        part=$((part + 1))
-        line=${line#* }
-        take_apart "${line#* }"
-        printf 'map %s %s %s\n' "$name" "$base" "${line%% *}" >"$1.$part" || return
-        printf '%s\n' "$1.$part" "$path" "$room/line-feed" || return
-    done <"$1" >"$1.parts"
-}
-
-# Writes the bundle of a measured list up to its trace, from its map number $2 on.
-write_bundle() {
-    {
-        tail -n "+$((3 * $2 - 2))" "$1.parts"
-        printf '%s\n' "$room/trace"
-    } | tr '\n' '\000' | xargs -0 cat --
-}
-
-# Checks the maps of a list, and notes their faults. A run of smap takes time to start, so each is given many
-# maps, but not so many that it takes much memory.
-check_list() {
-    measure "$1" >"$room/measured" || no_room
-    awk -v room="$room" '
-        {
-            if (!batch || maps == 100 || bytes + $2 > 16000000) {
-                if (batch) close(room "/batch." batch)
-                print ++batch
-                maps = bytes = 0
-            }
-            maps++
-            bytes += $2
-            print >(room "/batch." batch)
-        }' "$room/measured" >"$room/batches" || no_room
-    each_at_once check_batch "$room/batches"
-}
-
-# Checks the maps of a batch: a bundle of all of them, and an empty trace. Where smap refuses one, the maps
-# before it are accepted, and a bundle of those behind it comes next.
-check_batch() {
-    batch=$room/batch.$2
-    make_parts "$batch" || return
-    total=$(($(wc -l <"$batch")))
-    first=1
-    while [ "$first" -le "$total" ]; do
-        said=$(write_bundle "$batch" "$first" 2>/dev/null | "$SMAP" translate 2>&1)
-        case $?:$said in
-        0:) index=$((total - first + 1)) ;;
-        1:'refused: map '[0-9]*': '*)
-            index=${said#refused: map }
-            index=${index%%:*}
-            refuse_map "$((first + index))" "${said#refused: map "$index": }" || return
-            finished 1
-            ;;
-        *)
-            # it doesn't say which map that is
-            check_singly "$first"
-            return
-            ;;
-        esac
-        finished "$index"
-        first=$((first + index + 1))
-    done
-}
-
-# Notes the fault of a map of the batch. One that was cut off has become shorter since it was measured.
-refuse_map() {
-    sed -n "$1p" "$batch" >"$batch.refused" || return
-    IFS= read -r line <"$batch.refused"
-    if [ "$2" = 'cut off' ]; then
-        check_one
-    else
-        printf '1 %s\n' "$2" >"$room/${line%% *}.fault"
-    fi
-}
-
-# Checks each map of the batch by itself, from this one on.
-check_singly() {
-    tail -n "+$1" "$batch" >"$batch.rest" || return
-    while IFS= read -r line; do
-        check_one || return
-        finished 1
-    done <"$batch.rest"
-}
-
-# Checks the map in `line`, and notes its fault.
-check_one() {
-    number=${line%% *}
-    line=${line#* }
-    take_apart "${line#* }"
-    said=$("$SMAP" check -- "$base" 2>&1 <"$path")
-    status=$?
-    [ "$status" -ne 0 ] || return 0
-    fault_of "$status" "$said"
-    printf '%s %s\n' "$status" "$fault" >"$room/$number.fault"
-}
-
-# Sets `fault` to the fault of a map, from smap's status and output, and `status` to 1, 3 or 4.
-fault_of() {
-    status=$1
-    case $1:$2 in
-    1:'refused: '*) fault=${2#refused: } ;;
-    [34]:'smap: '*) fault=${2#smap: } ;;
-    *)
-        status=3
-        fault="smap ended with status $1"
-        ;;
-    esac
-}
-
-# Sets `hint` to what a refused file is, in parentheses, where its first bytes show it.
-hint_at_map() {
-    hint=
-    [ "$2" = 'not json' ] || return 0
-    case $(od -A n -t x1 -N 3 "$1" 2>/dev/null) in
-    ' ef bb bf'*) hint=' (it begins with a byte order mark: remove that)' ;;
-    ' 1f 8b'*) hint=' (it is compressed: gunzip it)' ;;
     esac
 }
