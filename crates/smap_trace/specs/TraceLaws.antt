@@ -53,7 +53,8 @@ abbrev pub AreAlike : (List ℕ → Fate) → (List ℕ → Fate) → List ℕ �
 AreAlike fates others trace = (translation_by fates trace ≡ translation_by others trace)
     × (counts_by fates trace ≡ counts_by others trace)
 
--- Scripts that aren't kept, of which no frame of the trace has the URL, can be left out.
+-- Where positions are found in frames, the scripts that a choice doesn't keep can be left out if no frame of
+-- the trace has the URL of one of them.
 abbrev pub UnnamedAreLeftOut : Type 0
 UnnamedAreLeftOut = (keeps : Script → Bool) (scripts : List Script) (hide : Bool) (trace : List ℕ)
     → ((s : Script) → Contains scripts s → keeps s ≡ false → Names trace s.0 → ⊥)
@@ -63,12 +64,12 @@ UnnamedAreLeftOut = (keeps : Script → Bool) (scripts : List Script) (hide : Bo
 abbrev pub is_named : List ℕ → Script → Bool
 is_named trace s = list_any (bytes_eq s.0) (keys_of (named_in trace))
 
--- The scripts that a trace is found to name suffice.
+-- Where positions are found in frames, the scripts that a trace is found to name suffice.
 abbrev pub NamedSuffice : Type 0
 NamedSuffice = (scripts : List Script) (hide : Bool) (trace : List ℕ)
     → AreAlike (fate scripts hide) (fate (filter (is_named trace) scripts) hide) trace
 
--- ---- the same by a way of finding
+-- ---- scripts that aren't found, in each way of finding positions
 
 -- The script with this URL is the one that the frame names; where queries are ignored, the one that is found
 -- at its position.
@@ -97,7 +98,7 @@ abbrev pub Finds : Finding → List Script → List ℕ → List ℕ → Type 0
 Finds finding scripts trace url = (line : List ℕ) × Contains (lines_of trace) line
     × IsFoundIn finding scripts (without_line_feed line) url
 
--- Scripts that aren't kept, and none of which is found in the trace, can be left out.
+-- The scripts that a choice doesn't keep can be left out if none of them is found in the trace.
 abbrev pub UnfoundAreLeftOut : Type 0
 UnfoundAreLeftOut = (finding : Finding) (keeps : Script → Bool) (scripts : List Script) (hide : Bool)
     (trace : List ℕ)

@@ -14,19 +14,19 @@ pub fn named_are_of_frames()
     ensures { NamedAreOfFrames }
 {}
 
-/// Scripts can be left out if no frame of a trace has the URL of one of them: the translation of the trace
-/// and the counts stay the same.
+/// Where positions are found in frames, scripts can be left out if no frame of a trace has the URL of one of
+/// them: the translation of the trace and the counts stay the same.
 pub fn unnamed_are_left_out()
     ensures { UnnamedAreLeftOut }
 {}
 
-/// A trace is translated alike with those scripts alone whose URLs [`named_scripts`](crate::named_scripts)
-/// returns for it.
+/// Where positions are found in frames, a trace is translated alike with those scripts alone whose URLs
+/// [`named_scripts`](crate::named_scripts) returns for it.
 pub fn named_suffice()
     ensures { NamedSuffice }
 {}
 
-/// Where positions are found in another way, scripts can be left out if none of them is found, neither in
+/// In each way of finding positions, scripts can be left out if none of them is found: neither as that of
 /// a frame of the trace nor, where positions are found anywhere, among the pieces of a line.
 pub fn unfound_are_left_out()
     ensures { UnfoundAreLeftOut }
