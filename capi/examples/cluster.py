@@ -1,8 +1,8 @@
 """cluster.py [OPTION].. --out FOLDER --map URL/=FOLDER/ .. LOG ..: translates logs on a cluster of Dask.
 
 Each LOG is cut at line feeds into blocks, each block is translated by the store of the worker that takes it,
-and the blocks of a log become one file of its name in FOLDER. So the result is what smap-trace writes for each
-log, with however many workers, and also where some of them end in the middle: their blocks are translated
+and the blocks of a log become one file of its name in FOLDER. So the result is what smap-trace writes for
+each log, however many workers there are, even if some of them end in the middle: their blocks are translated
 again. Workers need the module smap, and the logs, the maps and FOLDER under the same names.
 
     dask-scheduler &
@@ -43,7 +43,7 @@ class HasStore(WorkerPlugin):
 
 @contextlib.contextmanager
 def written_whole(path, room):
-    """A file that is written elsewhere first, so that it is there whole or not at all, whoever else writes it."""
+    """A file that is written elsewhere first, so that it is there whole or not at all."""
     handle, made = tempfile.mkstemp(dir=room)
     with open(handle, "wb") as out:
         yield out
@@ -101,7 +101,8 @@ def translate(words, client):
 
 
 def main():
-    parser = argparse.ArgumentParser(description=__doc__, formatter_class=argparse.RawDescriptionHelpFormatter)
+    layout = argparse.RawDescriptionHelpFormatter
+    parser = argparse.ArgumentParser(description=__doc__, formatter_class=layout)
     parser.add_argument("logs", metavar="LOG", nargs="+")
     parser.add_argument("--map", metavar="URL/=FOLDER/", action="append", required=True, dest="maps")
     parser.add_argument("--out", type=Path, required=True, help="the folder for the results")
@@ -115,7 +116,8 @@ def main():
         parser.error("two logs have one name, and so would their results")
     words.out = words.out.resolve()
     words.out.mkdir(parents=True, exist_ok=True)
-    places = {url: os.path.abspath(folder) for url, _, folder in (word.rpartition("=") for word in words.maps)}
+    places = dict(word.rpartition("=")[::2] for word in words.maps)
+    places = {url: os.path.abspath(folder) for url, folder in places.items()}
 
     with Client(words.scheduler, scheduler_file=words.scheduler_file) as client:
         client.register_worker_plugin(HasStore(places, words.cache))

@@ -1,8 +1,8 @@
-"""cluster.py [MEGABYTES]: the example cluster.py with a scheduler and two workers as processes of this machine,
-one of which is ended in the middle: all bytes are those of smap-trace.
+"""cluster.py [MEGABYTES]: the example cluster.py with a scheduler and two workers as processes of this
+machine, one of which is ended in the middle: all bytes are those of smap-trace.
 
-The log has so many MB, 40 unless it is given, in 20 files. The program is the one that SMAP names, the library
-that of SMAP_LIBRARY, and Python the one that runs this, which needs dask.distributed.
+The log has so many MB, 40 unless it is given, in 20 files. The program is the one that SMAP names, the
+library that of SMAP_LIBRARY, and Python the one that runs this, which needs dask.distributed.
 """
 
 import os
@@ -75,7 +75,8 @@ def begin_cluster(room):
 
 
 def run_example(room):
-    words = ["--scheduler-file", "scheduler.json", "--out", "out", "--map", "http://h/m/=dist", "--block", "1000000"]
+    words = ["--scheduler-file", "scheduler.json", "--out", "out", "--map", "http://h/m/=dist"]
+    words += ["--block", "1000000"]
     logs = sorted(str(path) for path in (room / "logs").iterdir())
     return subprocess.Popen(
         [sys.executable, "-B", str(TOP / "capi" / "examples" / "cluster.py"), *words, *logs],
@@ -137,7 +138,8 @@ def main():
         lines = write_inputs(room, megabytes)
         start = time.time()
         done, problems = check(room, lines)
-        print(f"{lines} lines in {time.time() - start:.1f} s, compared too; a worker ended after {done} of {FILES} files")
+        seconds = time.time() - start
+        print(f"{lines} lines, {seconds:.1f} s with smap-trace; a worker ended after {done} of {FILES} files")
         sys.exit("\n".join(problems) or 0)
 
 

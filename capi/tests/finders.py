@@ -38,7 +38,7 @@ class FoldersTest(unittest.TestCase):
         key = "http://h/m/"
         self.assertEqual(self.found(key, "http://h/m/out.js"), "http://h/m/out.js.map")
         self.assertEqual(self.found(key, "http://h/m/lazy/one.js"), "http://h/m/lazy/one.js.map")
-        for script in ["http://h/m/", "http://h/m/lazy", "http://h/m/none.js", "http://h/out.js", "out.js", ""]:
+        for script in ["http://h/m/", "http://h/m/lazy", "http://h/m/no.js", "http://h/out.js", "out.js", ""]:
             self.assertIsNone(self.found(key, script), script)
 
     def test_names_are_percent_encoded_in_one_way(self):

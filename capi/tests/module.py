@@ -157,7 +157,8 @@ class ModuleTest(unittest.TestCase):
         self.assertIsNone(smap.frame(b"Error"))
 
     def test_the_scripts_that_frames_name_are_counted(self):
-        trace = b"Error: x\n    at f (b:1:2)\r\n@a:1:1\n    at f (b:1:2)\r\n    at async b:5:6\nx a:1:1 {\n@a:2:1"
+        trace = b"Error: x\n    at f (b:1:2)\r\n@a:1:1\n    at f (b:1:2)\r\n    at async b:5:6\n"
+        trace += b"x a:1:1 {\n@a:2:1"
         self.assertEqual(list(smap.named_scripts(trace).items()), [(b"b", 3), (b"a", 2)])
         self.assertEqual(smap.named_scripts(b""), {})
 

@@ -9,12 +9,14 @@ trap 'exit 1' HUP INT TERM
 PATH=$top/scripts:$PATH
 cd "$work" || exit 1
 
-mkdir -p dist/lazy && cp "$top/rows/maps/trace.map" dist/out.js.map && cp dist/out.js.map dist/lazy/one.js.map ||
-    exit 1
+mkdir -p dist/lazy || exit 1
+cp "$top/rows/maps/trace.map" dist/out.js.map || exit 1
+cp "$top/rows/maps/trace.map" dist/lazy/one.js.map || exit 1
 awk 'BEGIN {
-    for (i = 1; i <= 40000; i++)
-        printf "Error: %d\n    at f (http://h/m/out.js:1:2)\n@http://h/m/lazy/one.js:1:%d\n@http://h/m/none.js:1:1\n",
-            i, i % 9 + 1
+    for (i = 1; i <= 40000; i++) {
+        printf "Error: %d\n    at f (http://h/m/out.js:1:2)\n", i
+        printf "@http://h/m/lazy/one.js:1:%d\n@http://h/m/none.js:1:1\n", i % 9 + 1
+    }
     printf "@http://h/m/out.js:1:5"
 }' >crash.log
 

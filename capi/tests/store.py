@@ -201,7 +201,8 @@ class ThreadsTest(unittest.TestCase):
             for _ in range(50):
                 self.assertEqual(store.translate(frames(*mine)), "".join(f"@{s}:11:3\n" for s in mine))
                 self.assertEqual(store.lookup(mine[0], 0, 0).url, mine[0])
-                self.assertEqual(store.frames([{"abs_path": mine[1], "lineno": 1, "colno": 5}])[0]["lineno"], 13)
+                (told,) = store.frames([{"abs_path": mine[1], "lineno": 1, "colno": 5}])
+                self.assertEqual(told["lineno"], 13)
                 self.assertLessEqual(store.kept_bytes, 4 * (SIZE + 1))
 
         self.run_all(work)
@@ -286,8 +287,8 @@ class LookupTest(unittest.TestCase):
         store = smap.Store(Finder({U: MAP, V: BROKEN}))
         found = store.lookup(U, 0, 7)
         self.assertEqual((found.url, found.source_line, found.source_column), ("http://h/a.js", 12, 2))
-        for script, line, column in [(U, 1, 0), (U, -1, 0), (U, 0, 1 << 40), (V, 0, 0), (W, 0, 0), ("\ud800", 0, 0)]:
-            self.assertIsNone(store.lookup(script, line, column))
+        for place in [(U, 1, 0), (U, -1, 0), (U, 0, 1 << 40), (V, 0, 0), (W, 0, 0), ("\ud800", 0, 0)]:
+            self.assertIsNone(store.lookup(*place))
         self.assertEqual(store.counts, smap.StoreCounts(lines=7, translated=1, missing=2, broken=1))
 
 

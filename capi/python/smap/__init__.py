@@ -24,5 +24,5 @@ from .store import Store, StoreCounts
 from .traces import Frame, Scripts, frame, named_scripts, translate
 
 __all__ = ["Counts", "Error", "Folders", "Found", "Frame", "Map", "Mapping", "Refused", "Repeated", "Scripts"]
-__all__ += ["Source", "Store", "StoreCounts", "TraceCounts", "code_point", "frame", "named_scripts", "respell"]
-__all__ += ["translate", "version"]
+__all__ += ["Source", "Store", "StoreCounts", "TraceCounts", "code_point", "frame", "named_scripts"]
+__all__ += ["respell", "translate", "version"]

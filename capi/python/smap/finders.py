@@ -52,7 +52,7 @@ def encoded(path: str) -> str:
 
 
 def base_of(script: str) -> str:
-    """The URL of a script's map if it isn't given: the script's with `.map` behind it; for a path a file: URL."""
+    """The URL of a script's map if none is given: the script's with `.map` behind it, a file: URL for a path."""
     if not is_path(script):
         return script + ".map"
     path = script if script.startswith("/") else "/" + script.replace("\\", "/")
@@ -78,7 +78,7 @@ class Folders:
     URL is the key with NAME behind it, percent-encoded unless the key is a path. Links to files are followed,
     links to folders aren't. Any other key is a script itself, and its value the file of its map.
 
-    Raises NotADirectoryError where there is no such folder, and ValueError where a folder's key lacks its `/`.
+    Raises NotADirectoryError if there is no such folder, and ValueError if a folder's key lacks its `/`.
     A script for which several folders have a map is `Repeated`; one that is a key is looked for in no folder.
     """
 
@@ -145,7 +145,7 @@ class Folders:
 
 
 def _name_below(key: str, rest: str) -> Optional[str]:
-    """The name below its folder of the script with this key and this rest of the URL; None where no file has it."""
+    """The name below its folder of the script with this key and this rest of the URL; None if no file has it."""
     if not is_path(key):
         name = os.fsdecode(unquote_to_bytes(rest))
         whole = encoded(name) == rest

@@ -1,4 +1,4 @@
-"""Frames as objects, in the form of error reporters: the stack interface of Sentry and those who take it over."""
+"""Frames as objects, in the form of error reporters: Sentry's stack interface, which others take over."""
 
 from __future__ import annotations
 

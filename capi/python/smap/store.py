@@ -28,9 +28,9 @@ MOST_MISSING = 10_000
 class StoreCounts:
     """How many lines there were, and what became of them. Each frame and each lookup counts as a line.
 
-    `missing` are those with a frame whose script has no map, `broken` those with a broken one. They are as they
-    were, and so are lines without a frame, and those whose position has no mapping, no source, or a source
-    without a URL. `dropped` are those in ignored sources, if these are hidden.
+    `missing` are those with a frame whose script has no map, `broken` those with a broken one. They stay as they
+    are, as do lines without a frame, and those whose position has no mapping, no source, or a source without a
+    URL. `dropped` are those in ignored sources, if these are hidden.
     """
 
     lines: int = 0
@@ -61,7 +61,7 @@ class _Way:
 
 
 class _Call:
-    """The scripts by which a call translates lines: those that its lines name, as far as the cache is large."""
+    """The scripts by which a call translates lines: those that its lines name, as far as they have room."""
 
     def __init__(self) -> None:
         self.scripts = Scripts()
@@ -89,13 +89,13 @@ class Store:
     `finder` is a dictionary for `Folders`, or a function that gets the URL of a script and returns its map
     (`Found`, or bytes), or None if there is none. It may be called by several threads at once.
 
-    At most `cache_bytes` of maps, counted by the bytes of their texts, are kept open, those that were used last.
-    A call in progress may hold up to as much again, if another thread makes room meanwhile. A map that is larger
-    than that is opened for the lines that name it, and closed behind them.
+    At most `cache_bytes` of maps are kept open, counted by the bytes of their texts: those that were used last.
+    A call in progress may hold up to as much again, if another thread makes room meanwhile. A map that is
+    larger than that is opened for the lines that name it, and closed behind them.
 
-    A script without a map, or with a broken one, leaves its lines as they are, and is counted. One without a map
-    is looked for again by each call; one that is broken stays in `broken` until `forget`. A map stays as it
-    was opened until it makes room, or until `forget`, whatever becomes of its file.
+    A script without a map, or with a broken one, leaves its lines as they are, and is counted. One without a
+    map is looked for again by each call; one that is broken stays in `broken` until `forget`. A map stays as
+    it was opened until it makes room, or until `forget`, whatever becomes of its file.
 
     A finder's OSError and smap.Error make the map broken; all other exceptions come out of the call.
     All threads may use a store at once. A pickled store has its finder and its size, and no maps.
@@ -124,7 +124,7 @@ class Store:
 
     @property
     def opened(self) -> Dict[str, int]:
-        """How often the map of each script was opened: more than once if it was closed for others in between."""
+        """How often the map of each script was opened: more than once if it made room for others meanwhile."""
         with self._lock:
             return dict(self._opened)
 
@@ -153,7 +153,7 @@ class Store:
             return self._size
 
     def forget(self, script: Optional[str] = None) -> None:
-        """Closes the map of a script, or all maps, and forgets which are broken: they are looked for again."""
+        """Closes the map of a script, or all maps, and forgets its fault: it is looked for again when needed."""
         with self._lock:
             for name in list(self._kept) if script is None else [script] * (script in self._kept):
                 self._drop(name)
@@ -182,10 +182,10 @@ class Store:
     ) -> AnyStr:
         """A whole log with its positions replaced by those in the sources.
 
-        The words are those of `smap.translate`; `anywhere` needs a finder with a method `named_in`, which gets
-        bytes and returns the scripts whose URLs they hold, as `Folders` has it. A str gives a str, bytes give
-        bytes. The last line needs no line feed: of a log that is cut into parts, each has to end behind a
-        line feed, since a part of a line isn't what the line is.
+        The words are those of `smap.translate`; `anywhere` needs a finder with a method `named_in`, which
+        gets bytes and returns the scripts whose URLs they hold, as `Folders` has it. A str gives a str, bytes
+        give bytes. The last line needs no line feed. So of a log that is cut into parts, each has to end behind
+        a line feed: the beginning of a line may be another frame.
         """
         if isinstance(log, str):
             data = log.encode("utf-8", "surrogateescape")
@@ -206,8 +206,8 @@ class Store:
     ) -> StoreCounts:
         """Translates a log from one binary file to another, and returns the counts of its lines.
 
-        Lines are written as soon as they are read, and memory doesn't grow with the log. The words are those of
-        `translate`.
+        Lines are written as soon as they are read, and memory doesn't grow with the log. The words are those
+        of `translate`.
         """
         if anywhere and not hasattr(self._finder, "named_in"):
             raise ValueError("anywhere needs a finder with a method named_in")
@@ -322,12 +322,12 @@ class Store:
 
         - `filename`: the path in the URL of the source, without slashes before it;
         - `in_app`: False in an ignored source; otherwise as it was, or True;
-        - `pre_context`, `context_line` and `post_context`: its line, and up to `context` lines before and behind
-          it, where the map has the content of the source. They are removed where it hasn't, since they show
-          the script. `colno` counts UTF-16 code units: `smap.code_point` gives the place in a str.
+        - `pre_context`, `context_line` and `post_context`: its line, and up to `context` lines before and
+          behind it, where the map has the content of the source. They are removed where it hasn't, since they
+          show the script. `colno` counts UTF-16 code units: `smap.code_point` gives the place in a str.
 
-        All else stays, `function` too. So do frames that have no such position (other types, values below 1 or
-        above 2147483648), no map, no mapping there, or a source without a URL, as a whole.
+        All else stays, `function` too. So do, as a whole, frames that have no such position (other types,
+        values below 1 or above 2147483648), no map, no mapping there, or a source without a URL.
         With `ignore_query`, a query and a fragment may follow the URL of a script.
         """
         told = list(frames)
