@@ -110,7 +110,7 @@ def table_of_maps(room, folder, words, size):
         out.write(f"| {words.lines / seconds:,.0f} | {words.lines / traced:,.0f} |\n")
         print(out.getvalue().splitlines()[-1], flush=True)
     out.write(f"\n{words.lines:,} lines; each map has {words.segments:,} mappings in {size / 1e6:.1f} MB, ")
-    out.write(f"and no contents. `smap-trace` is timed with its start, in a folder of {max(words.maps):,} maps.\n")
+    out.write(f"and no contents. The folder has {max(words.maps):,}; `smap-trace` is timed with its start.\n")
     return out.getvalue()
 
 
@@ -196,7 +196,8 @@ def table_of_workers(room, folder, words):
         day = "" if seconds is None else f"{lines / seconds * 86_400 / 1e9:.0f} thousand million"
         out.write(f"| {workers} | {' | '.join(cells)} | {day} |\n")
         print(out.getvalue().splitlines()[-1], flush=True)
-    out.write(f"\n{size / 1e6:.0f} MB in {words.files} files, {lines:,} lines, {min(100, max(words.maps))} maps; ")
+    maps = min(100, max(words.maps))
+    out.write(f"\n{size / 1e6:.0f} MB in {words.files} files, {lines:,} lines, {maps} maps; ")
     out.write("timed with the start of `smap-trace` for each part of each file, and of `cluster.py`.\n")
     return out.getvalue()
 

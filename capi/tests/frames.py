@@ -83,7 +83,8 @@ class FramesTest(unittest.TestCase):
         sent = [
             frame(4), frame(5), frame(1, line=2), frame(1, script="http://h/m/none.js"), frame(1, script=""),
             frame(0), frame(-1), frame(1, line=0), frame(2_147_483_649), frame(1 << 40),
-            frame(1, line=1 << 32 | 1), frame(True), frame(1.0), frame("1"), frame(None), frame(1, script=None), frame(1, script=["u"]),
+            frame(1, line=1 << 32 | 1), frame(True), frame(1.0), frame("1"), frame(None),
+            frame(1, script=None), frame(1, script=["u"]),
             frame(1, script="\ud800"), {}, {"abs_path": U}, None, "at f", 7, [frame(1)],
         ]
         self.assertEqual(self.store.frames(sent), sent)

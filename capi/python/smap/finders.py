@@ -52,7 +52,7 @@ def encoded(path: str) -> str:
 
 
 def base_of(script: str) -> str:
-    """The URL of a script's map if none is given: the script's with `.map` behind it, a file: URL for a path."""
+    """The URL of a script's map unless one is given: the script's and `.map`; for a path as a file: URL."""
     if not is_path(script):
         return script + ".map"
     path = script if script.startswith("/") else "/" + script.replace("\\", "/")
@@ -145,7 +145,7 @@ class Folders:
 
 
 def _name_below(key: str, rest: str) -> Optional[str]:
-    """The name below its folder of the script with this key and this rest of the URL; None if no file has it."""
+    """The name of a script below its folder, by the key and the rest of its URL; None if no file has it."""
     if not is_path(key):
         name = os.fsdecode(unquote_to_bytes(rest))
         whole = encoded(name) == rest

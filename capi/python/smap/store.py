@@ -28,9 +28,9 @@ MOST_MISSING = 10_000
 class StoreCounts:
     """How many lines there were, and what became of them. Each frame and each lookup counts as a line.
 
-    `missing` are those with a frame whose script has no map, `broken` those with a broken one. They stay as they
-    are, as do lines without a frame, and those whose position has no mapping, no source, or a source without a
-    URL. `dropped` are those in ignored sources, if these are hidden.
+    `missing` are those with a frame whose script has no map, `broken` those with a broken one. They stay as
+    they are, as do lines without a frame, and those whose position has no mapping, no source, or a source
+    without a URL. `dropped` are those in ignored sources, if these are hidden.
     """
 
     lines: int = 0
@@ -89,8 +89,7 @@ class Store:
     `finder` is a dictionary for `Folders`, or a function that gets the URL of a script and returns its map
     (`Found`, or bytes), or None if there is none. It may be called by several threads at once.
 
-    At most `cache_bytes` of maps are kept open, counted by the bytes of their texts: those that were used last.
-    A call in progress may hold up to as much again, if another thread makes room meanwhile. A map that is
+    At most `cache_bytes` of maps are kept open, by the bytes of their texts: those that were used last. A call in progress may hold up to as much again, if another thread makes room meanwhile. A map that is
     larger than that is opened for the lines that name it, and closed behind them.
 
     A script without a map, or with a broken one, leaves its lines as they are, and is counted. One without a
@@ -124,7 +123,7 @@ class Store:
 
     @property
     def opened(self) -> Dict[str, int]:
-        """How often the map of each script was opened: more than once if it made room for others meanwhile."""
+        """How often the map of each script was opened: more than once if it made room for others."""
         with self._lock:
             return dict(self._opened)
 
@@ -153,7 +152,7 @@ class Store:
             return self._size
 
     def forget(self, script: Optional[str] = None) -> None:
-        """Closes the map of a script, or all maps, and forgets its fault: it is looked for again when needed."""
+        """Closes the map of a script, or all maps, and forgets faults: maps are looked for again when needed."""
         with self._lock:
             for name in list(self._kept) if script is None else [script] * (script in self._kept):
                 self._drop(name)
@@ -184,8 +183,8 @@ class Store:
 
         The words are those of `smap.translate`; `anywhere` needs a finder with a method `named_in`, which
         gets bytes and returns the scripts whose URLs they hold, as `Folders` has it. A str gives a str, bytes
-        give bytes. The last line needs no line feed. So of a log that is cut into parts, each has to end behind
-        a line feed: the beginning of a line may be another frame.
+        give bytes. The last line needs no line feed. So of a log that is cut into parts, each has to end
+        behind a line feed: the beginning of a line may be another frame.
         """
         if isinstance(log, str):
             data = log.encode("utf-8", "surrogateescape")
