@@ -82,7 +82,8 @@ def main():
         try:
             event = read_event(line)
             if translated(event, store):
-                line = json.dumps(event, separators=(",", ":")).encode() + b"\n"
+                end = line[len(line.rstrip(b"\r\n")) :]
+                line = json.dumps(event, separators=(",", ":")).encode() + end
         except (ValueError, RecursionError) as error:
             bad += 1
             print(f"events: line {count} is left as it is: {error}", file=sys.stderr)

@@ -89,8 +89,9 @@ class Store:
     `finder` is a dictionary for `Folders`, or a function that gets the URL of a script and returns its map
     (`Found`, or bytes), or None if there is none. It may be called by several threads at once.
 
-    At most `cache_bytes` of maps are kept open, by the bytes of their texts: those that were used last. A call in progress may hold up to as much again, if another thread makes room meanwhile. A map that is
-    larger than that is opened for the lines that name it, and closed behind them.
+    At most `cache_bytes` of maps are kept open, by the bytes of their texts: those that were used last. A call
+    in progress may hold up to as much again, if another thread makes room meanwhile. A map that is larger than
+    that is opened for the lines that name it, and closed behind them.
 
     A script without a map, or with a broken one, leaves its lines as they are, and is counted. One without a
     map is looked for again by each call; one that is broken stays in `broken` until `forget`. A map stays as
@@ -152,7 +153,7 @@ class Store:
             return self._size
 
     def forget(self, script: Optional[str] = None) -> None:
-        """Closes the map of a script, or all maps, and forgets faults: maps are looked for again when needed."""
+        """Closes the map of a script, or all maps, and forgets faults: all that is looked for again."""
         with self._lock:
             for name in list(self._kept) if script is None else [script] * (script in self._kept):
                 self._drop(name)
