@@ -191,9 +191,8 @@ def table_of_workers(room, folder, words):
     for workers in words.workers:
         cells = []
         for seconds in (by_parallel(folder, logs, workers), by_cluster(room, folder, logs, workers)):
-            rates = (size / 1e6 / seconds, lines / seconds) if seconds else ()
-            cells += [f"{rate:,.0f}" for rate in rates] or ["", ""]
-        day = "" if seconds is None else f"{lines / seconds * 86_400 / 1e9:.0f} thousand million"
+            cells += [f"{size / 1e6 / seconds:.1f}", f"{lines / seconds:,.0f}"] if seconds else ["", ""]
+        day = f"{lines / seconds * 86_400 / 1e9:,.1f} billion" if seconds else ""
         out.write(f"| {workers} | {' | '.join(cells)} | {day} |\n")
         print(out.getvalue().splitlines()[-1], flush=True)
     maps = min(100, max(words.maps))
