@@ -1,7 +1,7 @@
 """cluster.py [MEGABYTES]: the example cluster.py with a scheduler and two workers as processes of this
 machine, one of which is ended in the middle: all bytes are those of smap-trace.
 
-The log has so many MB, 40 unless it is given, in 20 files. The program is the one that SMAP names, the
+The log has so many MB, 200 unless it is given, in 20 files. The program is the one that SMAP names, the
 library that of SMAP_LIBRARY, and Python the one that runs this, which needs dask.distributed.
 """
 
@@ -130,7 +130,7 @@ def check(room, lines):
 
 
 def main():
-    megabytes = int(sys.argv[1]) if len(sys.argv) > 1 else 40
+    megabytes = int(sys.argv[1]) if len(sys.argv) > 1 else 200
     with tempfile.TemporaryDirectory() as folder:
         room = Path(folder)
         for name in ("dist", "logs", "out"):

@@ -19,8 +19,9 @@ one of its own. A store may be used by all threads at once.
 from ._library import Counts, Error, Refused, TraceCounts, version
 from .finders import Folders, Found, Repeated
 from .frames import code_point
+from .logs import StoreCounts
 from .maps import Map, Mapping, Source, respell
-from .store import Store, StoreCounts
+from .store import Store
 from .traces import Frame, Scripts, frame, named_scripts, translate
 
 __all__ = ["Counts", "Error", "Folders", "Found", "Frame", "Map", "Mapping", "Refused", "Repeated", "Scripts"]

@@ -6,41 +6,24 @@ import io
 import threading
 from collections import OrderedDict
 from collections.abc import Mapping as AnyMapping
-from dataclasses import dataclass, fields
-from typing import Any, AnyStr, BinaryIO, Dict, Iterable, Iterator, List, Optional, Set, Tuple, Union
+from dataclasses import dataclass
+from typing import Any, AnyStr, BinaryIO, Dict, Iterable, List, Optional, Set, Tuple, Union
 
-from ._library import Error
+from ._library import Error, TraceCounts
 from .finders import Finder, Folders, Found, PathLike, base_of
 from .frames import Place, Sources, place_of, translated
+from .logs import StoreCounts, Way, lines_that_stay, middle, spellings, whole_lines
 from .maps import Map, Mapping
-from .traces import Scripts, named_scripts
+from .traces import Scripts, named_by
 
 __all__ = ["Store", "StoreCounts"]
-
-# How many bytes of a log are translated at once, and so may wait for their end.
-BLOCK = 1 << 20
 
 # Of how many scripts without a map the store knows the names.
 MOST_MISSING = 10_000
 
 
-@dataclass(frozen=True)
-class StoreCounts:
-    """How many lines there were, and what became of them. Each frame and each lookup counts as a line.
-
-    `missing` are those with a frame whose script has no map, `broken` those with a broken one. They stay as
-    they are, as do lines without a frame, and those whose position has no mapping, no source, or a source
-    without a URL. `dropped` are those in ignored sources, if these are hidden.
-    """
-
-    lines: int = 0
-    translated: int = 0
-    dropped: int = 0
-    missing: int = 0
-    broken: int = 0
-
-    def __add__(self, other: StoreCounts) -> StoreCounts:
-        return StoreCounts(*(getattr(self, f.name) + getattr(other, f.name) for f in fields(self)))
+# What a lookup counts as.
+_LINE, _TRANSLATED = StoreCounts(lines=1), StoreCounts(lines=1, translated=1)
 
 
 @dataclass(frozen=True)
@@ -49,15 +32,6 @@ class _Kept:
 
     map: Map
     size: int
-
-
-@dataclass(frozen=True)
-class _Way:
-    """How a log is translated."""
-
-    hide: bool
-    anywhere: bool
-    ignore_query: bool
 
 
 class _Call:
@@ -89,9 +63,9 @@ class Store:
     `finder` is a dictionary for `Folders`, or a function that gets the URL of a script and returns its map
     (`Found`, or bytes), or None if there is none. It may be called by several threads at once.
 
-    At most `cache_bytes` of maps are kept open, by the bytes of their texts: those that were used last. A call
-    in progress may hold up to as much again, if another thread makes room meanwhile. A map that is larger than
-    that is opened for the lines that name it, and closed behind them.
+    At most `cache_bytes` of maps are kept open, by the bytes of their texts: those that were used last. A
+    call in progress may hold up to as much again, if another thread makes room meanwhile. A map that is
+    larger than that is opened for the lines that name it, and closed behind them.
 
     A script without a map, or with a broken one, leaves its lines as they are, and is counted. One without a
     map is looked for again by each call; one that is broken stays in `broken` until `forget`. A map stays as
@@ -211,7 +185,7 @@ class Store:
         """
         if anywhere and not hasattr(self._finder, "named_in"):
             raise ValueError("anywhere needs a finder with a method named_in")
-        way, call, counts = _Way(hide, anywhere, ignore_query), _Call(), StoreCounts()
+        way, call, counts = Way(hide, anywhere, ignore_query), _Call(), StoreCounts()
         try:
             for block in whole_lines(source):
                 told, of_block = self._translated(block, call, way)
@@ -222,11 +196,14 @@ class Store:
             call.clear()
         return counts
 
-    def _translated(self, block: bytes, call: _Call, way: _Way) -> Tuple[bytes, StoreCounts]:
+    def _translated(self, block: bytes, call: _Call, way: Way) -> Tuple[bytes, StoreCounts]:
         """Some whole lines, translated. Where their maps have no room together, they are cut in two."""
-        named = self._named(block, way)
+        done = self._by_known(block, call, way)
+        if done is not None:
+            return done
+        named = self._named(block.split(b"\n"), way, block)
         scripts = list(dict.fromkeys(script for scripts, _ in named for script in scripts))
-        cut = _middle(block)
+        cut = middle(block)
         if not self._gather(call, scripts, cut == 0):
             first, counts = self._translated(block[:cut], call, way)
             rest, more = self._translated(block[cut:], call, way)
@@ -234,17 +211,31 @@ class Store:
         told, seen = call.scripts.translate(
             block, way.hide, anywhere=way.anywhere, ignore_query=way.ignore_query
         )
-        left = self._left(call, named)
-        counts = StoreCounts(seen.lines, seen.translated, seen.dropped, left.missing, left.broken)
-        self._count(counts)
-        return told, counts
+        return told, self._counted(call, named, seen)
 
-    def _named(self, block: bytes, way: _Way) -> List[Tuple[List[str], int]]:
-        """What may be the scripts of each URL that the lines name, and how many frames name it."""
+    def _by_known(self, block: bytes, call: _Call, way: Way) -> Optional[Tuple[bytes, StoreCounts]]:
+        """The same, if the scripts that the call has are enough; else None.
+
+        A frame that they translate names no other script, so only lines that stay are looked at, unless the
+        way of translating allows several scripts for a line, or leaves lines out.
+        """
+        if way != Way(False, False, False) or not call.names:
+            return None
+        told, seen = call.scripts.translate(block)
+        named = self._named(lines_that_stay(block, told), way, block)
+        if any(script not in call.names and script not in call.absent for (script,), _ in named):
+            return None
+        self._touch(call.names)
+        return told, self._counted(call, named, seen)
+
+    def _named(self, lines: Iterable[bytes], way: Way, block: bytes) -> List[Tuple[List[str], int]]:
+        """What may be the scripts of each URL that frames among the lines name, and how many name it. The scripts
+        that stand anywhere in the block come too, if that is asked for.
+        """
         named = []
-        for url, lines in named_scripts(block).items():
+        for url, many in named_by(lines).items():
             text = url.decode("utf-8", "replace")
-            named.append((_spellings(text) if way.ignore_query else [text], lines))
+            named.append((spellings(text) if way.ignore_query else [text], many))
         if way.anywhere:
             named += [([script], 0) for script in getattr(self._finder, "named_in")(block)]
         return named
@@ -273,6 +264,13 @@ class Store:
                 call.add(script, opened.map, opened.size)
         self._touch(scripts)
         return True
+
+    def _counted(self, call: _Call, named: List[Tuple[List[str], int]], seen: TraceCounts) -> StoreCounts:
+        """The counts of translated lines, which are added to the sums."""
+        left = self._left(call, named)
+        counts = StoreCounts(seen.lines, seen.translated, seen.dropped, left.missing, left.broken)
+        self._count(counts)
+        return counts
 
     def _left(self, call: _Call, named: Iterable[Tuple[List[str], int]]) -> StoreCounts:
         """Counts the lines whose scripts have no map, or a broken one."""
@@ -303,13 +301,22 @@ class Store:
 
         Line and column count from 0. None too where the script has no map, or a broken one.
         """
+        with self._lock:
+            kept = self._kept.get(script)
+            if kept is not None:
+                self._kept.move_to_end(script)
+                return self._looked_up(kept.map, line, column)
         opened = self._open(script)
         if opened is None:
             self._count(self._left(_Call(), [([script], 1)]) + StoreCounts(lines=1))
             return None
-        with opened.map:
-            found = opened.map.lookup(line, column)
-        self._count(StoreCounts(lines=1, translated=int(found is not None and found.url is not None)))
+        with opened.map, self._lock:
+            return self._looked_up(opened.map, line, column)
+
+    def _looked_up(self, opened: Map, line: int, column: int) -> Optional[Mapping]:
+        """What a map has for a position, which is counted. The lock is held."""
+        found = opened.lookup(line, column)
+        self._counts += _TRANSLATED if found is not None and found.url is not None else _LINE
         return found
 
     def frames(
@@ -340,10 +347,10 @@ class Store:
         done = 0
         left = StoreCounts()
         for script, of_script in numbers.items():
-            spellings = _spellings(script) if ignore_query else [script]
-            opened = next(filter(None, map(self._open, spellings)), None)
+            names = spellings(script) if ignore_query else [script]
+            opened = next(filter(None, map(self._open, names)), None)
             if opened is None:
-                left += self._left(_Call(), [(spellings, len(of_script))])
+                left += self._left(_Call(), [(names, len(of_script))])
                 continue
             with opened.map:
                 sources = Sources(opened.map)
@@ -438,33 +445,3 @@ class Store:
             for script in scripts:
                 if script in self._kept:
                     self._kept.move_to_end(script)
-
-
-def whole_lines(source: BinaryIO, most: int = BLOCK) -> Iterator[bytes]:
-    """Whole lines of a file, as they come, at most some bytes unless a line is longer."""
-    read = getattr(source, "read1", source.read)
-    pieces: List[bytes] = []
-    while True:
-        piece = read(most)
-        if not piece:
-            break
-        end = piece.rfind(b"\n") + 1
-        if end:
-            yield b"".join([*pieces, piece[:end]])
-            pieces.clear()
-        pieces.append(piece[end:])
-    rest = b"".join(pieces)
-    if rest:
-        yield rest
-
-
-def _middle(block: bytes) -> int:
-    """Where whole lines are cut in two, behind a line feed; 0 if there is one line."""
-    half = len(block) // 2
-    cut = block.rfind(b"\n", 0, half) + 1 or block.find(b"\n", half) + 1
-    return cut if cut < len(block) else 0
-
-
-def _spellings(url: str) -> List[str]:
-    """A URL, and what of it is before a `?` or a `#`: the longest first."""
-    return [url] + [url[:at] for at in range(len(url) - 1, 0, -1) if url[at] in "?#"]

@@ -5,7 +5,7 @@ from __future__ import annotations
 from collections import Counter
 from ctypes import byref
 from dataclasses import dataclass
-from typing import TYPE_CHECKING, AnyStr, Dict, Optional, Tuple
+from typing import TYPE_CHECKING, AnyStr, Dict, Iterable, Optional, Tuple
 
 from ._library import OK, FrameStruct, Handle, TraceCounts, check, how_bits, lib, taken
 
@@ -38,10 +38,15 @@ def named_scripts(trace: bytes) -> Dict[bytes, int]:
 
     The library finds the frame of each line; of equal lines only one is asked about.
     """
+    return named_by(trace.split(b"\n"))
+
+
+def named_by(lines: Iterable[bytes]) -> Dict[bytes, int]:
+    """The same for some lines, without their line feeds."""
     named: Dict[bytes, int] = {}
     parts, call = FrameStruct(), lib.smap_frame
     at = byref(parts)
-    for line, times in Counter(trace.split(b"\n")).items():
+    for line, times in Counter(lines).items():
         if call(line, len(line), at) == OK:
             url = line[parts.url_from : parts.url_from + parts.url_len]
             named[url] = named.get(url, 0) + times
