@@ -239,6 +239,24 @@ class LogTest(unittest.TestCase):
         self.assertTrue(out.getvalue() == new * 50_000 + long + new * 50_000 + b"@http://h/a.js:11:3")
         self.assertEqual(counts, smap.StoreCounts(lines=100_002, translated=100_001))
 
+    def test_later_pieces_may_name_other_scripts(self):
+        maps = {U: MAP, V: IGNORED, U + "?v=3": MAP.replace(b"a.js", b"c.js"), W: BROKEN}
+        first = b"@http://h/u.js:1:2\n" * 60_000
+        later = (frames(V, U, "n", W, U + "?v=3", U + "?v=4") + f"@{U}:2:1\n@{V}:2:1\n").encode()
+        new = b"@http://h/a.js:11:3\n" * 60_000
+        stay = f"@n:1:1\n@{W}:1:1\n".encode(), f"@{U}?v=4:1:1\n".encode(), f"@{U}:2:1\n@{V}:2:1\n".encode()
+        a, b, c = b"@http://h/a.js:11:3\n", b"@http://h/b.js:11:3\n", b"@http://h/c.js:11:3\n"
+        rows = [
+            ({}, new + b + a + stay[0] + c + stay[1] + stay[2], (60_003, 0, 2, 1)),
+            ({"hide": True}, new + a + stay[0] + c + stay[1] + stay[2], (60_002, 1, 2, 1)),
+            ({"ignore_query": True}, new + b + a + stay[0] + c + a + stay[2], (60_004, 0, 1, 1)),
+        ]
+        for words, told, counts in rows:
+            out = io.BytesIO()
+            seen = smap.Store(Finder(maps)).translate_file(io.BytesIO(first + later), out, **words)
+            self.assertTrue(out.getvalue() == told, (words, out.getvalue()[-300:]))
+            self.assertEqual(seen, smap.StoreCounts(60_008, *counts))
+
     def test_a_cut_behind_a_line_feed_changes_nothing_and_one_in_a_line_does(self):
         store = smap.Store(some(U))
         log = b"Error\n@http://h/u.js:1:5\n    at f (http://h/u.js:1:2)\r\n@http://h/u.js:1:15\n"

@@ -229,8 +229,9 @@ class Store:
         return told, self._counted(call, named, seen)
 
     def _named(self, lines: Iterable[bytes], way: Way, block: bytes) -> List[Tuple[List[str], int]]:
-        """What may be the scripts of each URL that frames among the lines name, and how many name it. The scripts
-        that stand anywhere in the block come too, if that is asked for.
+        """What may be the scripts of each URL that frames among the lines name, and how many name it.
+
+        If positions are found anywhere, the scripts that stand anywhere in the block come too.
         """
         named = []
         for url, many in named_by(lines).items():
