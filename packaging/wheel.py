@@ -38,7 +38,8 @@ def wheel(version: str, module: Path, library: Path, platform: str, seconds: int
     """Writes the wheel (PEP 427)."""
     tag = f"py3-none-{platform}"
     info = f"smap-{version}.dist-info"
-    entries = {f"smap/{name}": (module / name).read_bytes() for name in ("__init__.py", "py.typed")}
+    files = sorted([*module.glob("*.py"), module / "py.typed"])
+    entries = {f"smap/{file.name}": file.read_bytes() for file in files}
     entries["smap/libsmap.so.0"] = library.read_bytes()
     entries[f"{info}/METADATA"] = metadata(version, module).encode()
     entries[f"{info}/WHEEL"] = (

@@ -1,5 +1,6 @@
 """Tests of the Python module."""
 
+import pickle
 import re
 import sys
 import threading
@@ -8,6 +9,7 @@ from pathlib import Path
 
 sys.path.insert(0, str(Path(__file__).resolve().parent.parent / "python"))
 import smap  # noqa: E402
+from smap import _library as library  # noqa: E402
 
 FIELDS = Path(__file__).resolve().parent / "fields.c"
 BASE = "http://h/m/out.js.map"
@@ -19,14 +21,14 @@ FRAME = b"    at f (http://h/m/out.js:1:2)\n"
 
 # The structs of smap.h that the module declares: all but smap_listed_mapping.
 STRUCTS = {
-    "smap_fault": smap._Fault,
-    "smap_map": smap._Handle,
-    "smap_limits": smap._Limits,
+    "smap_fault": library.Fault,
+    "smap_map": library.Handle,
+    "smap_limits": library.Limits,
     "smap_counts": smap.Counts,
-    "smap_mapping": smap._Mapping,
-    "smap_bytes": smap._Handle,
-    "smap_frame_parts": smap._Frame,
-    "smap_scripts": smap._Handle,
+    "smap_mapping": library.MappingStruct,
+    "smap_bytes": library.Handle,
+    "smap_frame_parts": library.FrameStruct,
+    "smap_scripts": library.Handle,
     "smap_trace_counts": smap.TraceCounts,
 }
 
@@ -74,6 +76,21 @@ class ModuleTest(unittest.TestCase):
         self.map.close()
         with self.assertRaisesRegex(smap.Error, "closed handle"):
             self.map.lookup(0, 0)
+
+    def test_errors_pass_between_processes(self):
+        with self.assertRaises(smap.Refused) as raised:
+            smap.respell(b"A,B")
+        again = pickle.loads(pickle.dumps(raised.exception))
+        self.assertIsInstance(again, smap.Refused)
+        self.assertEqual(str(again), "line 0 segment 1: number 1: negative zero")
+        self.assertEqual((again.code, again.line, again.segment, again.number), (1, 0, 1, 1))
+        again = pickle.loads(pickle.dumps(smap.Error(2)))
+        self.assertEqual((type(again), again.code, str(again)), (smap.Error, 2, str(smap.Error(2))))
+
+    def test_positions_that_no_map_has_have_no_mapping(self):
+        for line, column in [(-1, 0), (0, -1), (1 << 32, 3), (0, (1 << 32) + 3)]:
+            self.assertIsNone(self.map.find(line, column))
+            self.assertIsNone(self.map.name_at(line, column))
 
     def test_two_maps_may_say_the_same(self):
         with smap.Map.open(self.map.canonical(), BASE) as tidied:
@@ -138,6 +155,12 @@ class ModuleTest(unittest.TestCase):
         line = b"    at f (http://h/m/out.js:70:900)"
         self.assertEqual(smap.frame(line), smap.Frame(b"http://h/m/out.js", 70, 900))
         self.assertIsNone(smap.frame(b"Error"))
+
+    def test_the_scripts_that_frames_name_are_counted(self):
+        trace = b"Error: x\n    at f (b:1:2)\r\n@a:1:1\n    at f (b:1:2)\r\n    at async b:5:6\n"
+        trace += b"x a:1:1 {\n@a:2:1"
+        self.assertEqual(list(smap.named_scripts(trace).items()), [(b"b", 3), (b"a", 2)])
+        self.assertEqual(smap.named_scripts(b""), {})
 
     def test_a_text_may_be_long(self):
         name = "n" * 100000

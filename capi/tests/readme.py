@@ -2,7 +2,8 @@
 
 A program is a block of c, python or rust. What it prints is the last of the blocks of plain text that come
 after it and before the next program, or, where there are none, what the next program prints. SECTION is the
-heading of the only section that is read, or empty: then all are. There is one program in each language.
+heading of the only section that is read, or empty: then all are. There is a program in each language; where
+there are several, they are program.py, program2.py and so on.
 """
 
 import re
@@ -17,15 +18,19 @@ found = []
 for section in re.split(r"^## ", page, flags=re.M):
     if wanted and section.split("\n")[0] != wanted:
         continue
-    printed, is_next = None, False
+    printed, is_next, in_section = None, False, []
     for language, text in reversed(re.findall(r"^```(\w*)\n(.*?)^```$", section, flags=re.M | re.S)):
         if not language and (printed is None or is_next):
             printed, is_next = text, False
         elif language in ENDINGS:
-            program = folder / f"program.{ENDINGS[language]}"
-            program.write_text(text)
-            program.with_suffix(program.suffix + ".out").write_text(printed)
-            found.append(program)
+            in_section.insert(0, (ENDINGS[language], text, printed))
             is_next = True
-print(*found, sep="\n")
-sys.exit(sorted(it.suffix for it in found) != [".c", ".py", ".rs"])
+    found += in_section
+written = {}
+for ending, text, printed in found:
+    written[ending] = written.get(ending, 0) + 1
+    program = folder / f"program{written[ending] if written[ending] > 1 else ''}.{ending}"
+    program.write_text(text)
+    program.with_suffix(program.suffix + ".out").write_text(printed)
+    print(program)
+sys.exit(set(written) != set(ENDINGS.values()))

@@ -1,4 +1,4 @@
-"""The commands of the program smap that ask one map or one mappings text, over the Python module."""
+"""The commands of the program smap that ask one map, one text or one log, over the Python module."""
 
 import json
 import sys
@@ -40,7 +40,13 @@ def translated(data, flags):
     return scripts.translate(data[6:], hide, anywhere=anywhere, ignore_query=ignore_query)[0]
 
 
+def named(data):
+    return b"".join(b"%d %s\n" % (lines, url) for url, lines in smap.named_scripts(data).items())
+
+
 def answer(words, data):
+    if words == ["scripts"]:
+        return named(data)
     if words[0] == "translate":
         return translated(data, words[1:])
     if words[0] == "respell":

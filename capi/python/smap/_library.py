@@ -1,0 +1,205 @@
+"""The C library by ctypes: its structs, its functions, its errors."""
+
+from __future__ import annotations
+
+import ctypes
+import os
+from ctypes import POINTER, byref, c_bool, c_char, c_char_p, c_size_t, c_uint8, c_uint32, c_uint64, c_void_p
+from pathlib import Path
+from typing import Any, Callable, List, Optional, Tuple, Type
+
+OK, REFUSED, NOT_URL, LIMITS, MEMORY, CLOSED, NONE, RANGE = range(8)
+HIDE_IGNORED, ANYWHERE, IGNORE_QUERY = 1, 2, 4
+
+
+class Handle(ctypes.Structure):
+    _fields_ = [("is_open", c_bool), ("at", c_void_p)]
+
+
+class Limits(ctypes.Structure):
+    _fields_ = [("items", c_uint32), ("lines", c_uint32)]
+
+
+class Fault(ctypes.Structure):
+    _fields_ = [
+        ("kind", c_uint32),
+        ("line", c_uint32),
+        ("segment", c_uint32),
+        ("has_place", c_bool),
+        ("number", c_size_t),
+        ("depth", c_size_t),
+        ("section", c_size_t * 8),
+        ("text_len", c_size_t),
+        ("text", c_char * 264),
+    ]
+
+
+class MappingStruct(ctypes.Structure):
+    _fields_ = [
+        ("line", c_uint32),
+        ("column", c_uint32),
+        ("has_source", c_bool),
+        ("has_name", c_bool),
+        ("is_ignored", c_bool),
+        ("source_line", c_uint32),
+        ("source_column", c_uint32),
+        ("source", c_size_t),
+    ]
+
+
+class FrameStruct(ctypes.Structure):
+    _fields_ = [("url_from", c_size_t), ("url_len", c_size_t), ("line", c_uint32), ("column", c_uint32)]
+
+
+class TraceCounts(ctypes.Structure):
+    """How many lines a trace has, and how many of them were translated and dropped."""
+
+    _fields_ = [("lines", c_uint64), ("translated", c_uint64), ("dropped", c_uint64)]
+
+
+class Counts(ctypes.Structure):
+    """How much a map holds: distinct sources, sources and names as listed, mappings, and generated lines."""
+
+    _fields_ = [
+        ("sources", c_size_t),
+        ("listed_sources", c_size_t),
+        ("names", c_size_t),
+        ("mappings", c_size_t),
+        ("lines", c_uint32),
+    ]
+
+
+class Error(Exception):
+    """A call that isn't done; `code` is one of the library's."""
+
+    def __init__(self, code: int, text: str = ""):
+        super().__init__(text or code_name(code))
+        self.code = code
+
+    def __reduce__(self) -> Tuple[Type[Error], Tuple[Any, ...]]:
+        return type(self), (self.code, str(self))
+
+
+class Refused(Error):
+    """A map or a mappings text with a fault.
+
+    `kind` is one of smap.h's SMAP_FAULT_..; `section` is the path of the section that it is in, () for none;
+    `line` and `segment` say where in the mappings text it is, or are None; `number` is that of the source, or
+    that in the segment, where the kind has one.
+    """
+
+    def __init__(self, fault: Fault):
+        super().__init__(REFUSED, fault.text.decode())
+        self._fault = fault
+        self.kind: int = fault.kind
+        self.section: Tuple[int, ...] = tuple(fault.section[: fault.depth])
+        self.line: Optional[int] = fault.line if fault.has_place else None
+        self.segment: Optional[int] = fault.segment if fault.has_place else None
+        self.number: int = fault.number
+
+    def __reduce__(self) -> Tuple[Type[Refused], Tuple[Fault]]:
+        return type(self), (self._fault,)
+
+
+def load() -> ctypes.CDLL:
+    """The library: the module's comment says where it is looked for."""
+    beside = Path(__file__).resolve().parent
+    # scripts/install puts this folder into PREFIX/share/smap, and the library into PREFIX/lib
+    installed = beside.parent.parent.parent / "lib"
+    named = os.environ.get("SMAP_LIBRARY")
+    if named:
+        return ctypes.CDLL(named)
+    for place in (beside / "libsmap.so.0", beside / "libsmap.so", installed / "libsmap.so.0"):
+        if place.exists():
+            return ctypes.CDLL(str(place))
+    return ctypes.CDLL("libsmap.so.0")
+
+
+def declare(lib: ctypes.CDLL) -> ctypes.CDLL:
+    """Gives the functions that the module calls their types."""
+    handle, n, text = POINTER(Handle), POINTER(c_size_t), (c_char_p, c_size_t)
+    u32, size = c_uint32, c_size_t
+    functions: List[Tuple[Any, ...]] = [
+        ("version", u32),
+        ("code_name", size, u32, *text),
+        ("open", u32, handle, *text, *text, POINTER(Limits), POINTER(Fault)),
+        ("close", None, handle),
+        ("share", u32, handle, handle),
+        ("same", u32, handle, handle, POINTER(c_bool)),
+        ("count", u32, handle, POINTER(Counts)),
+        ("file", u32, handle, *text, n),
+        ("lookup", u32, handle, u32, u32, POINTER(MappingStruct)),
+        ("name_at", u32, handle, u32, u32, *text, n),
+        ("token", u32, handle, size, POINTER(MappingStruct)),
+        ("source_url", u32, handle, size, *text, n),
+        ("source_content", u32, handle, size, *text, n),
+        ("is_ignored", u32, handle, size, POINTER(c_bool)),
+        ("listed_name", u32, handle, size, *text, n),
+        ("bytes_copy", size, handle, size, *text),
+        ("bytes_free", None, handle),
+        ("canonical", u32, handle, handle),
+        ("canonical_relative", u32, handle, handle),
+        ("canonical_mappings", u32, handle, handle),
+        ("flatten", u32, handle, handle),
+        ("respell", u32, *text, handle, POINTER(Fault)),
+        ("frame", u32, *text, POINTER(FrameStruct)),
+        ("translate_line", u32, handle, *text, *text, c_uint8, *text, n, POINTER(u32)),
+        ("add_script", u32, handle, *text, handle),
+        ("close_scripts", None, handle),
+        ("translate", u32, handle, *text, c_uint8, handle, POINTER(TraceCounts)),
+    ]
+    for name, result, *parameters in functions:
+        function = getattr(lib, "smap_" + name)
+        function.restype, function.argtypes = result, parameters
+    return lib
+
+
+lib = declare(load())
+
+
+def code_name(code: int) -> str:
+    """What the library calls a code, such as "closed handle"."""
+    out = ctypes.create_string_buffer(64)
+    n = lib.smap_code_name(code, out, 64)
+    return out.raw[:n].decode()
+
+
+def check(code: int, fault: Optional[Fault] = None) -> None:
+    """Raises what a code other than OK stands for."""
+    if code == REFUSED and fault is not None:
+        raise Refused(fault)
+    if code == MEMORY:
+        raise MemoryError
+    if code == RANGE:
+        raise IndexError("number out of range")
+    if code != OK:
+        raise Error(code)
+
+
+def written(call: Callable[..., int], *words: object) -> bytes:
+    """The bytes that a call writes, whose last parameter is their handle."""
+    out = Handle()
+    check(call(*words, byref(out)))
+    return taken(out)
+
+
+def taken(out: Handle) -> bytes:
+    """The bytes of a handle, which is freed."""
+    n = lib.smap_bytes_copy(byref(out), 0, b"", 0)
+    text = ctypes.create_string_buffer(n + 1)
+    lib.smap_bytes_copy(byref(out), 0, text, n)
+    lib.smap_bytes_free(byref(out))
+    return ctypes.string_at(text, n)
+
+
+def how_bits(hide: bool, anywhere: bool, ignore_query: bool) -> int:
+    """How a trace is translated, as one number."""
+    return HIDE_IGNORED * bool(hide) | ANYWHERE * bool(anywhere) | IGNORE_QUERY * bool(ignore_query)
+
+
+def version() -> str:
+    """The library's version, as "0.1.0"."""
+    n: int = lib.smap_version()
+    return f"{n // 10000}.{n // 100 % 100}.{n % 100}"
+
+

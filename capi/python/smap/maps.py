@@ -1,0 +1,221 @@
+"""Source maps: reading, lookups, canonical forms."""
+
+from __future__ import annotations
+
+from ctypes import byref, c_bool, c_size_t, c_uint32, create_string_buffer
+from dataclasses import dataclass
+from typing import AnyStr, Callable, Iterator, Optional
+
+from ._library import NONE, Counts, Fault, Handle, Limits, MappingStruct, check, how_bits, lib, taken, written
+from .traces import translate
+
+__all__ = ["Map", "Mapping", "Source", "respell"]
+
+# What a line and a column of a generated text are, at most, for the library.
+LARGEST = 0xFFFFFFFF
+
+
+@dataclass(frozen=True)
+class Source:
+    """A source: its URL and its text, where the map has them, and whether it is ignored."""
+
+    url: Optional[str]
+    content: Optional[str]
+    is_ignored: bool
+
+
+@dataclass(frozen=True)
+class Mapping:
+    """A generated position and where it comes from. `source` is None where it comes from nowhere."""
+
+    line: int
+    column: int
+    source: Optional[int]
+    source_line: int
+    source_column: int
+    is_ignored: bool
+    has_name: bool
+    url: Optional[str] = None
+    name: Optional[str] = None
+
+
+def respell(text: bytes) -> bytes:
+    """A mappings text, sorted and as short as possible. Raises Refused."""
+    out, fault = Handle(), Fault()
+    check(lib.smap_respell(text, len(text), byref(out), byref(fault)), fault)
+    return taken(out)
+
+
+class Map:
+    """A source map. `Map.open` makes it; `close`, the end of a `with` or that of the object frees it."""
+
+    def __init__(self) -> None:
+        self._handle = Handle()
+
+    @classmethod
+    def open(cls, data: bytes, base: str, items: int = 0, lines: int = 0) -> Map:
+        """Reads a map, whose URL is `base`.
+
+        `items` bounds how many sources and how many names it may list, `lines` how many generated lines it
+        may have; 0 stands for 16777216. Raises Refused, and Error where `base` is no URL or a limit is too
+        large.
+        """
+        made, fault, url = cls(), Fault(), base.encode()
+        limits = Limits(items, lines)
+        check(
+            lib.smap_open(
+                byref(made._handle), data, len(data), url, len(url), byref(limits), byref(fault)
+            ),
+            fault,
+        )
+        return made
+
+    def close(self) -> None:
+        """Frees the map. Closing it twice does nothing."""
+        lib.smap_close(byref(self._handle))
+
+    def __enter__(self) -> Map:
+        return self
+
+    def __exit__(self, *error: object) -> None:
+        self.close()
+
+    def __del__(self) -> None:
+        # at the end of the interpreter the module may be empty
+        if "lib" in globals() and lib is not None:
+            self.close()
+
+    def share(self) -> Map:
+        """The same map once more, as for another thread; nothing is copied."""
+        other = Map()
+        check(lib.smap_share(byref(self._handle), byref(other._handle)))
+        return other
+
+    def same(self, other: Map) -> bool:
+        """Whether the two maps say the same, however their texts spell it."""
+        if self is other:
+            return True
+        out = c_bool()
+        check(lib.smap_same(byref(self._handle), byref(other._handle), byref(out)))
+        return out.value
+
+    def counts(self) -> Counts:
+        """How much the map holds."""
+        counts = Counts()
+        check(lib.smap_count(byref(self._handle), byref(counts)))
+        return counts
+
+    def _text(self, call: Callable[..., int], *words: int) -> Optional[str]:
+        n, room = c_size_t(), 512
+        while True:
+            out = create_string_buffer(room)
+            code = call(byref(self._handle), *words, out, room, byref(n))
+            if code == NONE:
+                return None
+            check(code)
+            if n.value <= room:
+                return out.raw[: n.value].decode()
+            room = n.value
+
+    def file(self) -> Optional[str]:
+        """The name of the generated file."""
+        return self._text(lib.smap_file)
+
+    def url(self, source: int) -> Optional[str]:
+        """The URL of a source."""
+        return self._text(lib.smap_source_url, source)
+
+    def content(self, source: int) -> Optional[str]:
+        """The text of a source."""
+        return self._text(lib.smap_source_content, source)
+
+    def source(self, source: int) -> Source:
+        """A source by its number."""
+        ignored = c_bool()
+        check(lib.smap_is_ignored(byref(self._handle), source, byref(ignored)))
+        return Source(self.url(source), self.content(source), ignored.value)
+
+    def name_at(self, line: int, column: int) -> Optional[str]:
+        """The name of the mapping that a generated position falls to."""
+        if not (0 <= line <= LARGEST and 0 <= column <= LARGEST):
+            return None
+        return self._text(lib.smap_name_at, line, column)
+
+    def lookup(self, line: int, column: int) -> Optional[Mapping]:
+        """The mapping that a generated position falls to, with its URL and its name; or None."""
+        found = self.find(line, column)
+        if found is None or found.source is None:
+            return found
+        name = self.name_at(line, column) if found.has_name else None
+        place = (found.line, found.column, found.source, found.source_line, found.source_column)
+        return Mapping(*place, found.is_ignored, found.has_name, self.url(found.source), name)
+
+    def find(self, line: int, column: int) -> Optional[Mapping]:
+        """The same without URL and name, which is faster."""
+        if not (0 <= line <= LARGEST and 0 <= column <= LARGEST):
+            return None
+        m = MappingStruct()
+        code = lib.smap_lookup(byref(self._handle), line, column, byref(m))
+        if code == NONE:
+            return None
+        check(code)
+        return self._mapping(m)
+
+    @staticmethod
+    def _mapping(m: MappingStruct) -> Mapping:
+        source = m.source if m.has_source else None
+        place = (m.line, m.column, source, m.source_line, m.source_column)
+        return Mapping(*place, m.is_ignored, m.has_name)
+
+    def mappings(self) -> Iterator[Mapping]:
+        """All mappings, in order of line and column, without URLs and names."""
+        m = MappingStruct()
+        for i in range(self.counts().mappings):
+            check(lib.smap_token(byref(self._handle), i, byref(m)))
+            yield self._mapping(m)
+
+    def canonical(self, relative: bool = False) -> bytes:
+        """The map in canonical form: the same bytes for all maps that say the same."""
+        call = lib.smap_canonical_relative if relative else lib.smap_canonical
+        return written(call, byref(self._handle))
+
+    def canonical_mappings(self) -> bytes:
+        """The mappings of the canonical form alone."""
+        return written(lib.smap_canonical_mappings, byref(self._handle))
+
+    def flatten(self) -> bytes:
+        """The map as one flat map, its lists as they are."""
+        return written(lib.smap_flatten, byref(self._handle))
+
+    def translate_line(
+        self, line: bytes, url: str, hide: bool = False, *, anywhere: bool = False, ignore_query: bool = False
+    ) -> Optional[bytes]:
+        """What to write for a line of a trace, this being the map of `url`; None where it is dropped."""
+        script, n, became, room = url.encode(), c_size_t(), c_uint32(), len(line) + 512
+        how = how_bits(hide, anywhere, ignore_query)
+        while True:
+            out = create_string_buffer(room)
+            check(
+                lib.smap_translate_line(
+                    byref(self._handle), script, len(script), line, len(line), how, out, room, byref(n),
+                    byref(became)
+                )
+            )
+            if n.value <= room:
+                return None if became.value == 2 else out.raw[: n.value]
+            room = n.value
+
+    def translate(
+        self,
+        trace: AnyStr,
+        url: str,
+        hide: bool = False,
+        *,
+        anywhere: bool = False,
+        ignore_query: bool = False,
+    ) -> AnyStr:
+        """A whole trace, with the positions in the script at `url` replaced by those in the sources.
+
+        The words are those of `smap.translate`. A str gives a str, bytes give bytes.
+        """
+        return translate(trace, {url: self}, hide, anywhere=anywhere, ignore_query=ignore_query)

@@ -1,0 +1,146 @@
+"""cluster.py [MEGABYTES]: the example cluster.py with a scheduler and two workers as processes of this
+machine, one of which is ended in the middle: all bytes are those of smap-trace.
+
+The log has so many MB, 200 unless it is given, in 20 files. The program is the one that SMAP names, the
+library that of SMAP_LIBRARY, and Python the one that runs this, which needs dask.distributed.
+"""
+
+import os
+import random
+import signal
+import subprocess
+import sys
+import tempfile
+import time
+from pathlib import Path
+
+TOP = Path(__file__).resolve().parent.parent.parent
+MAP = b'{"version":3,"sources":["a.js"],"mappings":"AAUE,IAEA"}'
+FILES = 20
+LONG = b"x" * 3_000_000 + b"\n"
+
+
+def pieces(random_numbers):
+    """Pieces of a log, of whole lines: frames of 30 scripts, of which 25 have a map and one a broken map."""
+    for _ in range(40):
+        lines = []
+        while len(lines) < 1000:
+            script = f"http://h/m/{random_numbers.randrange(30)}.js"
+            place = f"{script}:1:{random_numbers.randrange(1, 9)}"
+            lines += [f"Error: {random_numbers.random()}\n", f"    at f ({place})\r\n", f"@{place}\n"]
+        yield "".join(lines).encode()
+
+
+def write_inputs(room, megabytes):
+    """The maps and the logs; how many lines these have."""
+    for number in range(26):
+        text = MAP if number < 25 else b"{}"
+        (room / "dist" / f"{number}.js.map").write_bytes(text)
+    random_numbers = random.Random(1)
+    some = list(pieces(random_numbers))
+    lines = 0
+    for number in range(FILES):
+        path = room / "logs" / f"{number}.log"
+        with open(path, "wb") as out:
+            while number and out.tell() < megabytes * 1_000_000 // (FILES - 1):
+                out.write(LONG if random_numbers.random() < 0.002 else random_numbers.choice(some))
+            if number % 3 == 1:
+                out.write(b"@http://h/m/1.js:1:5")  # the last line has no line feed
+        data = path.read_bytes()
+        lines += data.count(b"\n") + (number % 3 == 1)
+    return lines
+
+
+def started(room, name, *words):
+    """A program of dask.distributed, in a group of processes of its own."""
+    with open(room / f"{name}.said", "wb") as said:
+        return subprocess.Popen(
+            [sys.executable, "-B", "-m", f"distributed.cli.dask_{name.rstrip('12')}", *words],
+            stdout=said, stderr=said, cwd=room, start_new_session=True,
+            env={**os.environ, "PYTHONPATH": str(TOP / "capi" / "python")},
+        )
+
+
+def begin_cluster(room):
+    file = room / "scheduler.json"
+    words = ["--no-dashboard", "--scheduler-file", str(file)]
+    yield started(room, "scheduler", "--host", "127.0.0.1", "--port", "0", *words)
+    for _ in range(600):
+        if file.exists() and file.stat().st_size:
+            break
+        time.sleep(0.1)
+    for name in ("worker1", "worker2"):
+        own = ["--no-nanny", "--nthreads", "1", "--name", name, "--local-directory", str(room / name)]
+        yield started(room, name, *own, *words)
+
+
+def run_example(room):
+    words = ["--scheduler-file", "scheduler.json", "--out", "out", "--map", "http://h/m/=dist"]
+    words += ["--block", "1000000"]
+    logs = sorted(str(path) for path in (room / "logs").iterdir())
+    return subprocess.Popen(
+        [sys.executable, "-B", str(TOP / "capi" / "examples" / "cluster.py"), *words, *logs],
+        stdout=subprocess.PIPE, stderr=subprocess.PIPE, text=True, cwd=room,
+    )
+
+
+def end_worker_in_the_middle(room, worker, running):
+    """Ends a worker once a file is done. Says how many were done; fails if all were."""
+    while running.poll() is None:
+        done = len(list((room / "out").glob("*.log")))
+        if done:
+            os.kill(worker.pid, signal.SIGKILL)
+            return done
+        time.sleep(0.01)
+    sys.exit(f"the example ended too early: {running.communicate()}")
+
+
+def differing(room):
+    """The logs whose result isn't what smap-trace writes."""
+    for path in sorted((room / "logs").iterdir()):
+        with open(path, "rb") as log, open(room / "wanted", "wb") as wanted:
+            words = [TOP / "scripts" / "smap-trace", "--skip-broken", f"http://h/m/={room / 'dist'}/"]
+            subprocess.run(words, stdin=log, stdout=wanted, stderr=subprocess.DEVNULL, check=True)
+        if (room / "wanted").read_bytes() != (room / "out" / path.name).read_bytes():
+            yield path.name
+
+
+def check(room, lines):
+    processes = []
+    try:
+        for process in begin_cluster(room):
+            processes.append(process)
+        running = run_example(room)
+        done = end_worker_in_the_middle(room, processes[1], running)
+        told, said = running.communicate(timeout=1200)
+    finally:
+        for process in processes:
+            process.kill()
+            process.wait()
+    problems = [f"{name} differs" for name in differing(room)]
+    if done >= FILES:
+        problems.append("all was done before the worker ended")
+    if running.returncode != 1 or "cluster: http://h/m/25.js: version" not in said:
+        problems.append(f"the broken map isn't told of: {running.returncode} {said[-2000:]}")
+    if f"StoreCounts(lines={lines}, " not in told:
+        problems.append(f"not {lines} lines: {told[-300:]}")
+    if len(list((room / "out").iterdir())) != FILES:
+        problems.append("there are other files than the results")
+    return done, problems
+
+
+def main():
+    megabytes = int(sys.argv[1]) if len(sys.argv) > 1 else 200
+    with tempfile.TemporaryDirectory() as folder:
+        room = Path(folder)
+        for name in ("dist", "logs", "out"):
+            (room / name).mkdir()
+        lines = write_inputs(room, megabytes)
+        start = time.time()
+        done, problems = check(room, lines)
+        seconds = time.time() - start
+        print(f"{lines} lines, {seconds:.1f} s with smap-trace; a worker ended after {done} of {FILES} files")
+        sys.exit("\n".join(problems) or 0)
+
+
+main()
