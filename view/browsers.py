@@ -37,7 +37,7 @@ def started(command, log, ready):
     """Starts a program in a group of its own, and waits until it is ready."""
     with open(log, "wb") as out:
         process = subprocess.Popen(command, stdin=subprocess.DEVNULL, stdout=out, stderr=out, start_new_session=True)
-    end = time.monotonic() + 60
+    end = time.monotonic() + 120
     while time.monotonic() < end and process.poll() is None:
         found = ready()
         if found is not None:
@@ -153,7 +153,7 @@ class Chromium(Browser):
         data = json.dumps(values).encode() if method == "POST" else None
         request = urllib.request.Request(f"http://127.0.0.1:{self.port}{path}", data, method=method)
         try:
-            with urllib.request.urlopen(request, timeout=60) as answer:
+            with urllib.request.urlopen(request, timeout=300) as answer:
                 return json.load(answer)["value"]
         except urllib.error.HTTPError as error:
             raise DriverError(json.load(error)["value"]["message"]) from None
@@ -216,7 +216,7 @@ class Firefox(Browser):
 
     def ready(self):
         try:
-            link = socket.create_connection(("127.0.0.1", self.port), timeout=60)
+            link = socket.create_connection(("127.0.0.1", self.port), timeout=300)
         except OSError:
             return None
         return link

@@ -9,6 +9,7 @@ import os
 import pathlib
 import random
 import re
+import signal
 import subprocess
 import sys
 import tempfile
@@ -22,11 +23,14 @@ from browsers import CONTROL, DOWN, END, ENTER, HOME, LEFT, RIGHT, TAB, UP
 
 TOP = pathlib.Path(__file__).resolve().parent.parent
 SMAP = os.environ.get("SMAP", f"{TOP}/crates/smap/out/smap")
+ONLY = sys.argv[sys.argv.index("--only") + 1] if "--only" in sys.argv else ""
 counts = {"passed": 0, "failed": 0}
 
 
 def test(name, function, *values):
     """Runs a test, and shows why it failed."""
+    if ONLY not in name:
+        return
     try:
         function(*values)
         counts["passed"] += 1
@@ -617,6 +621,8 @@ def try_browser(browser, folder, made, url, simple_url, count):
 
 
 def main():
+    # so that the browsers end too
+    signal.signal(signal.SIGTERM, lambda *_: sys.exit(1))
     left_out = []
     with tempfile.TemporaryDirectory() as room:
         folder = pathlib.Path(room)
