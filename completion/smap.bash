@@ -1,5 +1,5 @@
 # shellcheck shell=bash
-# Completion of smap, smap-trace and smap-maps for bash 4 and later. The package bash-completion loads this file
+# Completion of smap, smap-trace, smap-maps and smap-view for bash 4 and later. The package bash-completion loads this file
 # once one of them is completed; without that package, `. smap.bash` in ~/.bashrc does.
 
 # The options of each command. rows/completion.rows compares these lines with --help.
@@ -13,6 +13,7 @@ smap respell: --help
 smap scripts: --help
 smap translate: --hide-ignored --anywhere --ignore-query --help
 smap-trace: --anywhere --ignore-query --hide-ignored --skip-broken --check-all --list --verbose --version --help
+smap-view: --base --version --help
 smap-maps: --version --help
 smap-maps check: --base --jobs --json --version --help
 smap-maps tidy: --base --jobs --json --absolute --relative --write --drop --diff --version --help
@@ -106,7 +107,7 @@ _smap() {
     last=$((${#words[@]} - 1))
     word=${words[last]}
     before=${words[last - 1]}
-    if [[ $program != smap-trace ]]; then
+    if [[ $program != smap-trace && $program != smap-view ]]; then
         for ((i = 1; i < last; i++)); do
             if [[ ${words[i]} == --base || ${words[i]} == --jobs ]]; then
                 ((i++))
@@ -130,7 +131,7 @@ _smap() {
         _smap_files "$word" '' "$piece" any
         return
         ;;
-    smap-maps:--base | smap-maps:--jobs) return ;;
+    smap-maps:--base | smap-maps:--jobs | smap-view:--base) return ;;
     esac
     case $program:$word in
     *:-*) _smap_choose "$(_smap_words "$program" "$command")" "$word" ;;
@@ -140,6 +141,7 @@ _smap() {
         [[ -f ${url##*=} && $url == *=* ]] || _smap_files "${word##*=}" "${word%"${word##*=}"}" "$piece"
         ;;
     smap-trace:*) ;;
+    smap-view:*) _smap_files "$word" '' "$piece" "$([[ $before != *.map ]] || echo any)" ;;
     *)
         if [[ -z $command ]]; then
             _smap_choose "$(_smap_words "$program")" "$word"
@@ -150,4 +152,4 @@ _smap() {
     esac
 }
 
-complete -F _smap smap smap-trace smap-maps
+complete -F _smap smap smap-trace smap-maps smap-view

@@ -7,7 +7,7 @@ completion=$rows/../completion
 all_commands() {
     echo smap
     smap --help | sed -n '/^Commands:/,/^$/s/^  \([a-z]*\) .*/smap \1/p'
-    printf '%s\n' smap-trace 'smap-maps check' 'smap-maps tidy' 'smap-maps flatten'
+    printf '%s\n' smap-trace smap-view 'smap-maps check' 'smap-maps tidy' 'smap-maps flatten'
 }
 
 # The long options that the completion of a shell has for a command, one a line: those of its bash, zsh or

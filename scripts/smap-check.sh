@@ -249,26 +249,3 @@ check_one() {
     fault_of "$status" "$said"
     printf '%s %s\n' "$status" "$fault" >"$room/$number.fault"
 }
-
-# Sets `fault` to the fault of a map, from smap's status and output, and `status` to 1, 3 or 4.
-fault_of() {
-    status=$1
-    case $1:$2 in
-    1:'refused: '*) fault=${2#refused: } ;;
-    [34]:'smap: '*) fault=${2#smap: } ;;
-    *)
-        status=3
-        fault="smap ended with status $1"
-        ;;
-    esac
-}
-
-# Sets `hint` to what a refused file is, in parentheses, where its first bytes show it.
-hint_at_map() {
-    hint=
-    [ "$2" = 'not json' ] || return 0
-    case $(od -A n -t x1 -N 3 "$1" 2>/dev/null) in
-    ' ef bb bf'*) hint=' (it begins with a byte order mark: remove that)' ;;
-    ' 1f 8b'*) hint=' (it is compressed: gunzip it)' ;;
-    esac
-}

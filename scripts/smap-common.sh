@@ -1,6 +1,6 @@
 # shellcheck shell=sh disable=SC2034,SC2154
-# Functions that smap-trace and smap-maps share. Each script sets `me`, its name, and `here`, its folder,
-# before it reads this file.
+# Functions that smap-trace, smap-maps and smap-view share. Each script sets `me`, its name, and `here`, its
+# folder, before it reads this file.
 
 LC_ALL=C
 export LC_ALL
@@ -224,5 +224,94 @@ take_apart() {
     case $file in
     /*) path=$file ;;
     *) path=./$file ;;
+    esac
+}
+
+# Sets `above` to the URL of a folder: the one that is given, or its own.
+url_of() {
+    above=$url
+    [ -z "$above" ] || return
+    if [ "$1" != "$entered" ]; then
+        place=$(cd -- "$1" 2>/dev/null && pwd -P) || fail "cannot enter $1" 3
+        encode "${place%/}/"
+        entered=$1
+        entered_url=file://$encoded
+    fi
+    above=$entered_url
+}
+
+# Rejects a base to which a map's path can't be added.
+check_base() {
+    case $url in
+    *' '* | *"$newline"*) fail "the base holds a space (in a URL that is %20): $url" ;;
+    *[?#]*) fail "the base has a query or a fragment: $url" ;;
+    esac
+    url=${url%/}/
+    said=$("$SMAP" check -- "$url" </dev/null 2>&1)
+    [ "$said" != 'refused: base is no URL' ] || fail "the base is no URL: $url"
+}
+
+# Sets `quoted` to a text as a string of JSON.
+quote() {
+    case $1 in
+    *[!A-Za-z0-9/._~@:\ +-]*)
+        quoted=\"$(printf '%s\n' "$1" | awk '
+            BEGIN {
+                for (code = 1; code < 32; code++) control[sprintf("%c", code)] = sprintf("\\u%04x", code)
+            }
+            {
+                for (i = 1; i <= length($0); i++) {
+                    character = substr($0, i, 1)
+                    if (character in control) character = control[character]
+                    else if (character == "\"" || character == "\\") character = "\\" character
+                    printf "%s", character
+                }
+            }')\"
+        ;;
+    *) quoted=\"$1\" ;;
+    esac
+}
+
+# Sets `fault` to the fault of a map, from smap's status and output, and `status` to 1, 3 or 4.
+fault_of() {
+    status=$1
+    case $1:$2 in
+    1:'refused: '*) fault=${2#refused: } ;;
+    [34]:'smap: '*) fault=${2#smap: } ;;
+    *)
+        status=3
+        fault="smap ended with status $1"
+        ;;
+    esac
+}
+
+# Splits the error of a refused map, `fault`: sets `section` to the path of its section, `segment` to its line and
+# segment, both empty where it has none, and `message` to the rest.
+take_place() {
+    section='' segment=''
+    message=$fault
+    case $message in
+    'section '[0-9]*': '*)
+        section=${message#section }
+        section=${section%%:*}
+        message=${message#"section $section: "}
+        ;;
+    esac
+    case $message in
+    'line '[0-9]*' segment '[0-9]*': '*)
+        segment=${message%%:*}
+        message=${message#"$segment: "}
+        segment=${segment#line }
+        ;;
+    esac
+}
+
+# Sets `hint` to what a refused file is, in parentheses, where its first bytes show it.
+hint_at_map() {
+    hint=
+    [ "$2" = 'not json' ] || return 0
+    case $(od -A n -t x1 -N 3 "$1" 2>/dev/null) in
+    ' ef bb bf'*) hint=' (it begins with a byte order mark: remove that)' ;;
+    ' 1f 8b'*) hint=' (it is compressed: gunzip it)' ;;
     esac
 }

@@ -23,6 +23,8 @@ smap-maps fl|smap-maps flatten
 smap-maps tidy --ba|smap-maps tidy --base
 smap-maps --base http://h/m/ ch|smap-maps --base http://h/m/ check
 smap-maps check d|smap-maps check dist/
+smap-view --ba|smap-view --base
+smap-view d|smap-view dist/
 END
 }
 
@@ -46,7 +48,7 @@ start_bash() {
     cat >"$1" <<END
 PS1=\$'\\005'
 cd $2
-for command in smap smap-trace smap-maps; do . "$3/\$command"; done
+for command in smap smap-trace smap-maps smap-view; do . "$3/\$command"; done
 bind -x '"\\C-x\\C-l": printf "\\002%s\\003" "\$READLINE_LINE"'
 END
 }

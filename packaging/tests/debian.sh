@@ -28,7 +28,7 @@ runs_example() {
 }
 
 says_number() {
-    for program in smap smap-trace smap-maps; do
+    for program in smap smap-trace smap-maps smap-view; do
         [ "$(in_root "$program" --version)" = "smap $version" ] || return 1
     done
 }
