@@ -52,9 +52,8 @@ for (const [kind, [map, line = null, segment = null, number = 0, limits]] of Obj
   test(`a map with the error ${kind} is refused`, () => {
     assert.throws(() => new SourceMap(map, BASE, { limits }), error => {
       assert.ok(error instanceof SmapError && error instanceof Error);
-      const { code, name } = error;
-      assert.deepEqual({ code, name, kind: error.kind, line: error.line, segment: error.segment, number: error.number },
-        { code: 'SMAP_REFUSED', name: 'SmapError', kind, line, segment, number });
+      const has = [error.name, error.code, error.kind, error.line, error.segment, error.number];
+      assert.deepEqual(has, ['SmapError', 'SMAP_REFUSED', kind, line, segment, number]);
       assert.ok(error.message.length > 3 && Array.isArray(error.section), error.message);
       return true;
     });
@@ -70,10 +69,13 @@ test('an error in a section says which', () => {
 test('the other codes', () => {
   const text = JSON.stringify(flat({}));
   const code = (code, call) => assert.throws(call, error => {
-    assert.deepEqual([error.code, error.kind, error.line, error.number, error.section], [code, null, null, null, null]);
+    const { kind, line, number, section } = error;
+    assert.deepEqual([error.code, kind, line, number, section], [code, null, null, null, null]);
     return error instanceof SmapError && error.message !== '';
   });
-  for (const url of ['no url', '', '/a', '\ud800', 'http://h/\udc00']) code('SMAP_NOT_URL', () => new SourceMap(text, url));
+  for (const url of ['no url', '', '/a', '\ud800', 'http://h/\udc00']) {
+    code('SMAP_NOT_URL', () => new SourceMap(text, url));
+  }
   code('SMAP_LIMITS', () => new SourceMap(text, BASE, { limits: { items: 2 ** 31 } }));
   code('SMAP_LIMITS', () => new SourceMap(text, BASE, { limits: { lines: 2 ** 24 + 1 } }));
   code('SMAP_RANGE', () => new SourceMap(text, BASE).content(1));

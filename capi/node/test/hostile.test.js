@@ -46,7 +46,7 @@ test('one kind of handle is not taken for the other', () => {
 test('memory that is taken away or shrinks', async () => {
   const taken = Uint8Array.from(Buffer.from(text));
   structuredClone(taken.buffer, { transfer: [taken.buffer] });
-  assert.throws(() => new SourceMap(taken, BASE), error => error instanceof TypeError || error.code === 'SMAP_REFUSED');
+  assert.throws(() => new SourceMap(taken, BASE), error => error instanceof TypeError || error.kind === 'Json');
   const given = Uint8Array.from(Buffer.from(text));
   const later = SourceMap.open(given, BASE);
   structuredClone(given.buffer, { transfer: [given.buffer] });
@@ -82,7 +82,8 @@ test('a map that is closed while it is in use', () => {
   const options = { get relative() { other.close(); return false; } };
   assert.throws(() => other.canonical(options), { code: 'SMAP_CLOSED' });
   const scripts = new Scripts();
-  assert.throws(() => scripts.translate('x', { get anywhere() { scripts.close(); return true; } }), { code: 'SMAP_CLOSED' });
+  const closes = { get anywhere() { scripts.close(); return true; } };
+  assert.throws(() => scripts.translate('x', closes), { code: 'SMAP_CLOSED' });
 });
 
 test('a table that there is no memory for', () => {
@@ -109,11 +110,13 @@ test('a Buffer that there is no memory for', () => {
   assert.ok(new SourceMap(text, BASE).canonical({ buffer: true }).length > 0);
 });
 
-test('what is written may be longer than a string can be', { skip: !process.env.SMAP_LARGE && 'it takes 3 GB' }, () => {
+const large = { skip: process.env.SMAP_LARGE ? false : 'it takes 3 GB, and runs if SMAP_LARGE is set' };
+
+test('what is written may be longer than a string can be', large, () => {
   const content = Buffer.alloc(2 ** 29, 'x');
   const parts = ['{"version":3,"sources":["a"],"mappings":"","sourcesContent":["', content, '"]}'];
-  const large = new SourceMap(Buffer.concat(parts.map(part => Buffer.from(part))), BASE);
-  assert.throws(() => large.canonical(), { code: 'SMAP_TOO_LONG' });
-  assert.throws(() => large.content(0), { code: 'SMAP_TOO_LONG' });
-  assert.ok(large.canonical({ buffer: true }).length > 2 ** 29);
+  const map = new SourceMap(Buffer.concat(parts.map(part => Buffer.from(part))), BASE);
+  assert.throws(() => map.canonical(), { code: 'SMAP_TOO_LONG' });
+  assert.throws(() => map.content(0), { code: 'SMAP_TOO_LONG' });
+  assert.ok(map.canonical({ buffer: true }).length > 2 ** 29);
 });

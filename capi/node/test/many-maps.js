@@ -11,7 +11,9 @@ function numbers(seed) {
   };
 }
 
-const NAMES = ['a.js', './b.js', 'lib/c d.js', '../e.ts', 'webpack:///f.js', '/g.js', 'http://o/h.js', './i/../j.js'];
+const NAMES = [
+  'a.js', './b.js', 'lib/c d.js', '../e.ts', 'webpack:///f.js', '/g.js', 'http://o/h.js', './i/../j.js',
+];
 const ROOTS = [undefined, '', 'src', 'src/', '/root', 'http://r/s/'];
 
 function segment(next, column, count) {

@@ -1,6 +1,6 @@
 'use strict';
-// Other packages that the tests compare with, where they are installed: Debian's are in /usr/share/nodejs, which
-// Debian's Node searches, and any other one if NODE_PATH names it.
+// Other packages that the tests compare with, where they are installed: Debian's are in /usr/share/nodejs,
+// which Debian's Node searches, and any other one if NODE_PATH names it.
 
 /** A package, or null. */
 function peer(name) {

@@ -1,5 +1,5 @@
-/* For the test build alone, which is linked with -Wl,--wrap=malloc,--wrap=calloc,--wrap=realloc: one request of
- * the addon or the library for memory is refused. */
+/* For the test build alone, which is linked with -Wl,--wrap=malloc,--wrap=calloc,--wrap=realloc: one request
+ * of the addon or the library for memory is refused. */
 #include "../native/smap_node.h"
 
 static _Thread_local int64_t left = -1;
@@ -31,8 +31,8 @@ void *__wrap_realloc(void *old, size_t size)
     return is_refused() ? NULL : __real_realloc(old, size);
 }
 
-/* refuse(n): the request after the next n of this thread is refused; -1: none is. How many of the n weren't made
- * is returned, or -1 if one was refused. */
+/* refuse(n): the request after the next n of this thread is refused; -1: none is. How many of the n weren't
+ * made is returned, or -1 if one was refused. */
 napi_value do_refuse(napi_env env, napi_callback_info info)
 {
     napi_value out;

@@ -6,8 +6,8 @@ const { makeMap } = require('./many-maps.js');
 const { peer, needs } = require('./peers.js');
 
 const map = {
-  version: 3, sourceRoot: 'src', sources: ['a.js', './my b.js', 'webpack:///c d.js', null], sourcesContent: ['A'],
-  names: ['n'], mappings: 'AAAAA,CCAC;ECCA,A,AAAA', ignoreList: [1],
+  version: 3, sourceRoot: 'src', sources: ['a.js', './my b.js', 'webpack:///c d.js', null],
+  sourcesContent: ['A'], names: ['n'], mappings: 'AAAAA,CCAC;ECCA,A,AAAA', ignoreList: [1],
 };
 
 test('sources are told as the map writes them', () => {
@@ -32,7 +32,7 @@ test('positions and segments', () => {
   assert.equal(ours.isIgnored(traced, './my b.js'), true);
   assert.equal(ours.isIgnored(traced, 'a.js'), false);
   assert.throws(() => ours.originalPositionFor(traced, { line: 0, column: 0 }), /greater than 0/);
-  assert.throws(() => ours.originalPositionFor(traced, { line: 1, column: -1 }), /greater than or equal to 0/);
+  assert.throws(() => ours.originalPositionFor(traced, { line: 1, column: -1 }), /than or equal to 0/);
 });
 
 test('mappings may be segments, and the map a map that was read', () => {
@@ -110,7 +110,8 @@ test('lookups are those of trace-mapping', needs('@jridgewell/trace-mapping', th
     for (let at = 0; at < 7 * 20; at++) {
       const [line, column] = [Math.floor(at / 20), at % 20];
       ask((T, map) => T.traceSegment(map, line, column));
-      const told = BIASES.map(bias => ask((T, map) => T.originalPositionFor(map, { line: line + 1, column, bias })));
+      const needles = BIASES.map(bias => ({ line: line + 1, column, bias }));
+      const told = needles.map(needle => ask((T, map) => T.originalPositionFor(map, needle)));
       found += told.filter(one => one.source !== null).length;
     }
     return found;
@@ -122,7 +123,8 @@ test('the way back is that of trace-mapping', needs('@jridgewell/trace-mapping',
     let found = 0;
     const sources = ask((_, map) => map.resolvedSources);
     for (let at = 0; at < sources.length * 5 * 9; at++) {
-      const needle = { source: sources[Math.floor(at / 45)], line: 1 + (at % 5), column: Math.floor(at / 5) % 9 };
+      const source = sources[Math.floor(at / 45)];
+      const needle = { source, line: 1 + (at % 5), column: Math.floor(at / 5) % 9 };
       for (const bias of BIASES) {
         ask((T, map) => T.generatedPositionFor(map, { ...needle, bias }));
         found += ask((T, map) => T.allGeneratedPositionsFor(map, { ...needle, bias })).length;
