@@ -14,12 +14,13 @@ test('the addon is given anything', () => {
     undefined, null, true, 0, -1, 2 ** 32, NaN, '', 'x'.repeat(5000), Symbol('x'), 1n, {}, [], () => 0, map(),
     native.scripts(), Buffer.alloc(3), new Int32Array(6), new Float64Array(6), new SharedArrayBuffer(4),
   ];
+  const rest = [[], [0, 0], [Buffer.alloc(1), 0], ['x', true]];
   let thrown = 0;
   for (const [name, call] of Object.entries(native)) {
     if (name === 'start') continue;
     for (const one of words()) {
       for (const other of words()) {
-        for (const more of [[], [0, 0], [Buffer.alloc(1), 0], ['x', true]]) {
+        for (const more of rest) {
           try {
             // A promise that is refused is an answer as well.
             call(one, other, ...more)?.catch?.(() => 0);
@@ -46,7 +47,7 @@ test('one kind of handle is not taken for the other', () => {
 test('memory that is taken away or shrinks', async () => {
   const taken = Uint8Array.from(Buffer.from(text));
   structuredClone(taken.buffer, { transfer: [taken.buffer] });
-  assert.throws(() => new SourceMap(taken, BASE), error => error instanceof TypeError || error.kind === 'Json');
+  assert.throws(() => new SourceMap(taken, BASE), e => e instanceof TypeError || e.kind === 'Json');
   const given = Uint8Array.from(Buffer.from(text));
   const later = SourceMap.open(given, BASE);
   structuredClone(given.buffer, { transfer: [given.buffer] });

@@ -11,7 +11,7 @@ const source: string | null | undefined = found?.source;
 const line: number | null = found!.sourceLine;
 for (const mapping of map) console.log(mapping.column + 1, mapping.isIgnored, source, line);
 const text: string = map.canonical({ relative: true });
-const log: string = map.translate('x', 'http://h/', { hideIgnored: true, anywhere: true, ignoreQuery: false });
+const log: string = map.translate('x', 'http://h/', { hideIgnored: true, anywhere: true });
 const later: Promise<SourceMap> = SourceMap.open({ version: 3 }, 'http://h/');
 const shared: number = map.share();
 map[Symbol.dispose]();
