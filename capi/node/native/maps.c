@@ -104,6 +104,17 @@ napi_value do_close(napi_env env, napi_callback_info info)
     return NULL;
 }
 
+/* told(): how many bytes V8 was told of by all addons, for tests */
+napi_value do_told(napi_env env, napi_callback_info info)
+{
+    int64_t now = 0;
+    napi_value out;
+    (void)info;
+    CALL(napi_adjust_external_memory(env, 0, &now));
+    CALL(napi_create_int64(env, now, &out));
+    return out;
+}
+
 /* held(map): how many bytes V8 was told of */
 napi_value do_held(napi_env env, napi_callback_info info)
 {

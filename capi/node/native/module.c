@@ -63,6 +63,7 @@ static const struct {
     {"open", do_open},
     {"openLater", do_open_later},
     {"close", do_close},
+    {"told", do_told},
     {"held", do_held},
     {"same", do_same},
     {"share", do_share},

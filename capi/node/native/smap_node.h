@@ -104,6 +104,7 @@ int64_t estimate_held(smap_map *map, size_t text_len);
 napi_value do_open(napi_env env, napi_callback_info info);
 napi_value do_open_later(napi_env env, napi_callback_info info);
 napi_value do_close(napi_env env, napi_callback_info info);
+napi_value do_told(napi_env env, napi_callback_info info);
 napi_value do_held(napi_env env, napi_callback_info info);
 napi_value do_same(napi_env env, napi_callback_info info);
 napi_value do_share(napi_env env, napi_callback_info info);

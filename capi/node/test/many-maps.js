@@ -11,9 +11,10 @@ function numbers(seed) {
   };
 }
 
-const NAMES = [
-  'a.js', './b.js', 'lib/c d.js', '../e.ts', 'webpack:///f.js', '/g.js', 'http://o/h.js', './i/../j.js',
-];
+// What the layers tell otherwise than the packages that they stand for is left out: an absolute URL or path
+// after a root, and characters that a URL doesn't have, below an absolute one.
+const NAMES = ['a.js', './b.js', 'lib/c-d.js', '../e.ts', './i/../j.js'];
+const ABSOLUTE = ['webpack:///f.js', '/g.js', 'http://o/h.js'];
 const ROOTS = [undefined, '', 'src', 'src/', '/root', 'http://r/s/'];
 
 function segment(next, column, count) {
@@ -30,10 +31,11 @@ function line(next, count) {
 /** A map as an object. Several mappings may be at one position. */
 function makeMap(seed) {
   const next = numbers(seed);
-  const sources = Array.from({ length: 1 + next(4) }, () => NAMES[next(NAMES.length)]);
-  const mappings = encode(Array.from({ length: next(6) }, () => line(next, sources.length)));
-  const map = { version: 3, sources, names: ['n', 'm'], mappings };
   const sourceRoot = ROOTS[next(ROOTS.length)];
+  const names = sourceRoot ? NAMES : [...NAMES, ...ABSOLUTE];
+  const sources = Array.from({ length: 1 + next(4) }, () => names[next(names.length)]);
+  const mappings = encode(Array.from({ length: 1 + next(6) }, () => line(next, sources.length)));
+  const map = { version: 3, sources, names: ['n', 'm'], mappings };
   if (sourceRoot !== undefined) map.sourceRoot = sourceRoot;
   if (next(2)) map.sourcesContent = sources.map((_, i) => (next(3) ? `content ${i}` : null));
   return map;

@@ -2,6 +2,7 @@
 const assert = require('node:assert');
 const { test } = require('node:test');
 const { SourceMap, Scripts } = require('smap');
+const native = require('../native.js');
 
 const BASE = 'http://h/m/out.js.map';
 const large = JSON.stringify({ version: 3, sources: ['a'], mappings: 'AAAA' + ',CAAC'.repeat(200000) });
@@ -50,14 +51,21 @@ test('what is refused, written and translated leaves nothing', collects, async (
   assert.ok(grown < 30, `${grown} MB`);
 });
 
-test('the collector is told what a map holds, until it is closed', () => {
-  const before = process.memoryUsage().external;
-  const map = new SourceMap(large, BASE);
+test('the collector is told what a map holds, until it is closed', collects, async () => {
+  const told = async () => {
+    global.gc();
+    await turn();
+    return native.told();
+  };
+  const bytes = Buffer.from(large);
+  const before = await told();
+  const map = new SourceMap(bytes, BASE);
   const held = map.heldBytes;
-  assert.ok(Math.abs(process.memoryUsage().external - before - held) < 1e5);
+  const open = (await told()) - before;
+  assert.ok(held > 1e6 && Math.abs(open - held) < 2e5, `${open} for ${held}`);
   map.close();
   assert.equal(map.heldBytes, 0);
-  assert.ok(Math.abs(process.memoryUsage().external - before) < 1e5);
+  assert.ok(Math.abs((await told()) - before) < 2e5);
 });
 
 test('Symbol.dispose closes', { skip: Symbol.dispose ? false : 'no Symbol.dispose here' }, () => {

@@ -25,7 +25,8 @@ test('the consumer', () => {
   assert.throws(() => consumer.eachMapping(() => 0, null, 3), /Unknown order of iteration/);
   const all = [];
   consumer.eachMapping(function (m) { all.push([this.x, m.source]); }, { x: 1 });
-  const last = 'webpack:///c d.js';
+  // The standard puts the root before each source, an absolute URL too.
+  const last = 'src/webpack:///c d.js';
   assert.deepEqual(all.map(one => one[1]), ['src/a.js', 'src/my b.js', last, null, last]);
   assert.equal(all[0][0], 1);
 });
@@ -40,6 +41,16 @@ test('column spans, and the end', () => {
   assert.deepEqual(consumer.generatedPositionFor(last), { line: 1, column: 1, lastColumn: Infinity });
   consumer.destroy();
   assert.throws(() => new SourceMapConsumer({ ...map, mappings: '!' }), { code: 'SMAP_REFUSED' });
+});
+
+test('all positions of a line', () => {
+  // 0:0 and 0:2 come from a:1:0, 0:4 from a:3:1, 1:0 from b:3:0.
+  const text = { version: 3, sources: ['a', 'b'], names: [], mappings: 'AACA,EAAA,EAEC;ACAD' };
+  const consumer = new SourceMapConsumer(text);
+  const all = (line, column) => consumer.allGeneratedPositionsFor({ source: 'a', line, column });
+  const columns = (...at) => all(...at).map(position => position.column);
+  assert.deepEqual([columns(1), columns(2), columns(3), columns(4), columns(5)], [[0, 2], [0, 2], [4], [4], []]);
+  assert.deepEqual([columns(2, 0), columns(2, 1), columns(4, 0), columns(4, 2)], [[0, 2], [], [4], []]);
 });
 
 test('flat and indexed maps', () => {
@@ -71,6 +82,13 @@ function both(ask) {
   assert.ok(count > MAPS, `${count} answers`);
 }
 
+// The mappings that have an original, in order of these.
+function originals(map) {
+  const all = [];
+  map.eachMapping(m => all.push({ ...m }), null, SourceMapConsumer.ORIGINAL_ORDER);
+  return all;
+}
+
 test('the sources are those of source-map', needs('source-map', theirs), () => {
   both(ask => ask(map => map.sources).length);
 });
@@ -96,11 +114,16 @@ test('the way back is that of source-map', needs('source-map', theirs), () => {
   both(ask => {
     let found = 0;
     const sources = ask(map => map.sources);
+    const last = new Map(ask(originals).map(m => [m.source, m]));
     for (let at = 0; at < sources.length * 5 * 9; at++) {
       const source = sources[Math.floor(at / 45)];
-      const needle = { source, line: 1 + (at % 5), column: Math.floor(at / 5) % 9 };
-      found += ask(map => map.generatedPositionFor(needle)).line !== null;
-      found += ask(map => map.allGeneratedPositionsFor(needle)).length;
+      const [line, column] = [1 + (at % 5), Math.floor(at / 5) % 9];
+      found += ask(map => map.generatedPositionFor({ source, line, column })).line !== null;
+      // Behind the last mapping of a source, it tells positions of the next one that is listed.
+      const { originalLine = 0, originalColumn } = last.get(source) ?? {};
+      if (line > originalLine || (line === originalLine && column > originalColumn)) continue;
+      if (sources.indexOf(source) !== sources.lastIndexOf(source)) continue;
+      found += ask(map => map.allGeneratedPositionsFor({ source, line, column })).length;
     }
     return found;
   });
