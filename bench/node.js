@@ -1,0 +1,216 @@
+'use strict';
+// Times the package for Node beside other readers of source maps.
+//
+//     capi/node/build.sh capi/out
+//     NODE_PATH=/usr/share/nodejs node bench/node.js [--runs N] [--into docs/PERFORMANCE.md]
+//
+// The others are @jridgewell/trace-mapping and source-map, where NODE_PATH has them, and Node's own
+// module.SourceMap. For maps of three sizes, made by make_map.py, it prints a table: opening with the first
+// lookup, since others decode then, in a fresh process and in a warm one; lookups at random positions and at
+// rising ones; all mappings; and how much the process grows up to the first lookup. Each figure is the best
+// of N processes, 3 unless given. With --into the table is put between the two lines of that file that hold
+// `figures of node.js`. Let nothing else run meanwhile.
+const fs = require('node:fs');
+const os = require('node:os');
+const path = require('node:path');
+const { execFileSync } = require('node:child_process');
+
+const TOP = path.dirname(__dirname);
+const PACKAGE = path.join(TOP, 'capi', 'node');
+const URL_OF_MAP = 'http://h/m/out.js.map';
+const SIZES = [
+  ['10 KB', 550, 4, 1300],
+  ['1 MB', 50_000, 100, 6500],
+  ['20 MB', 1_000_000, 1000, 13_000],
+];
+const BUDGET = 300; // milliseconds for a rate
+
+// ---- readers: how each opens a map, looks a position up (lines and columns from 0), and lists all mappings
+
+const ours = name => require(path.join(PACKAGE, name));
+
+function traceMapping(T) {
+  return {
+    open: text => new T.TraceMap(text, URL_OF_MAP),
+    lookup: (map, line, column) => T.originalPositionFor(map, { line: line + 1, column }),
+    all: (map, call) => T.eachMapping(map, call),
+  };
+}
+
+function sourceMap({ SourceMapConsumer }) {
+  return {
+    open: text => new SourceMapConsumer(text, URL_OF_MAP),
+    lookup: (map, line, column) => map.originalPositionFor({ line: line + 1, column }),
+    all: (map, call) => map.eachMapping(call),
+  };
+}
+
+const READERS = {
+  '`smap`, `lookup`': () => {
+    const { SourceMap } = ours('index.js');
+    return {
+      open: (text, bytes) => new SourceMap(bytes, URL_OF_MAP),
+      lookup: (map, line, column) => map.lookup(line, column),
+      all: (map, call) => map.forEach(call),
+    };
+  },
+  '`smap`, `table().find`': () => {
+    const { SourceMap } = ours('index.js');
+    return {
+      open: (text, bytes) => new SourceMap(bytes, URL_OF_MAP),
+      lookup: (map, line, column) => map.table().find(line, column),
+      all: map => map.table(),
+    };
+  },
+  '`smap/trace-mapping`': () => traceMapping(ours('trace-mapping.js')),
+  '`@jridgewell/trace-mapping`': () => traceMapping(require('@jridgewell/trace-mapping')),
+  '`smap/source-map`': () => sourceMap(ours('source-map.js')),
+  '`source-map`': () => sourceMap(require('source-map')),
+  "Node's own": () => {
+    const { SourceMap } = require('node:module');
+    return {
+      open: text => new SourceMap(JSON.parse(text)),
+      lookup: (map, line, column) => map.findEntry(line, column),
+      all: null,
+    };
+  },
+};
+
+// ---- one process: a reader and a map
+
+const milliseconds = call => {
+  const from = process.hrtime.bigint();
+  call();
+  return Number(process.hrtime.bigint() - from) / 1e6;
+};
+
+// How often a second a call can be made with each of these positions.
+function rate(call, positions) {
+  let count = 0, took = 0;
+  while (took < BUDGET) {
+    took += milliseconds(() => {
+      for (let i = 0; i < positions.length; i += 2) call(positions[i], positions[i + 1]);
+    });
+    count += positions.length / 2;
+  }
+  return (count / took) * 1000;
+}
+
+function best(call) {
+  let least = Infinity;
+  for (let from = performance.now(), i = 0; i < 3 || performance.now() - from < BUDGET; i++) {
+    least = Math.min(least, milliseconds(call));
+  }
+  return least;
+}
+
+// Positions as line, column, line, column: at random, and in order.
+function positionsOf(lines, columns) {
+  const random = [];
+  for (let i = 0, state = 1; i < 50_000; i++) {
+    state = (Math.imul(state, 1664525) + 1013904223) >>> 0;
+    random.push(state % lines, (state >>> 8) % columns);
+  }
+  const rising = Array.from({ length: 50_000 }, (_, i) => [Math.floor((i * lines) / 50_000), i % columns]);
+  rising.sort((a, b) => a[0] - b[0] || a[1] - b[1]);
+  return [Uint32Array.from(random), Uint32Array.from(rising.flat())];
+}
+
+function measure(name, file, lines, columns) {
+  const { open, lookup, all } = READERS[name]();
+  const bytes = fs.readFileSync(file);
+  const text = bytes.toString();
+  const before = process.memoryUsage().rss;
+  let map;
+  const openFirst = () => lookup((map = open(text, bytes)), lines - 1, 0);
+  const first = milliseconds(openFirst);
+  global.gc();
+  const memory = (process.memoryUsage().rss - before) / 1e6;
+  const [random, rising] = positionsOf(lines, columns);
+  const look = (line, column) => lookup(map, line, column);
+  const rates = [rate(look, random) / 1e6, rate(look, rising) / 1e6];
+  let count = 0;
+  const again = best(openFirst);
+  const mappings = all ? best(() => all(map, () => count++)) : null;
+  return { first, again, random: rates[0], rising: rates[1], mappings, memory };
+}
+
+// ---- all of them
+
+function makeMap(folder, [name, segments, sources, content]) {
+  const options = { segments, sources, content, names: Math.floor(segments / 10) };
+  const words = Object.entries(options).flatMap(([option, n]) => [`--${option}`, String(n)]);
+  const script = path.join(__dirname, 'make_map.py');
+  const file = path.join(folder, `${segments}.map`);
+  fs.writeFileSync(file, execFileSync('python3', ['-B', script, ...words], { maxBuffer: 2 ** 30 }));
+  const map = new (ours('index.js').SourceMap)(fs.readFileSync(file), URL_OF_MAP);
+  const columns = map.table().column.reduce((most, column) => Math.max(most, column), 0) + 1;
+  const { lines, mappings } = map.counts;
+  return { name, file, lines, columns, count: mappings };
+}
+
+function measured(name, { file, lines, columns }, runs) {
+  const words = ['--expose-gc', __filename, '--measure', name, file, lines, columns].map(String);
+  const all = Array.from({ length: runs }, () => JSON.parse(execFileSync(process.execPath, words)));
+  const of = (key, pick) => (all[0][key] === null ? null : pick(...all.map(one => one[key])));
+  const { min, max } = Math;
+  const picks = { first: min, again: min, random: max, rising: max, mappings: min, memory: min };
+  return Object.entries(picks).map(([key, pick]) => of(key, pick));
+}
+
+const shown = n => (n === null ? '' : n.toPrecision(n >= 100 ? Math.ceil(Math.log10(n + 1)) : 2));
+
+function isThere(name) {
+  try {
+    return Boolean(READERS[name]());
+  } catch (error) {
+    console.error(`left out: ${name} (${error.message.split('\n')[0]})`);
+    return false;
+  }
+}
+
+function table(runs) {
+  const folder = fs.mkdtempSync(path.join(os.tmpdir(), 'smap-bench-'));
+  const lines = [
+    '| map | reader | open, first / again (ms) | random lookups (million/s) | rising | all mappings (ms) |' +
+      ' memory (MB) |',
+    '|---|---|---|---|---|---|---|',
+  ];
+  try {
+    const names = Object.keys(READERS).filter(isThere);
+    for (const map of SIZES.map(size => makeMap(folder, size))) {
+      for (const name of names) {
+        const [first, again, ...rest] = measured(name, map, runs).map(shown);
+        const columns = [`${map.name}, ${map.count} mappings`, name, `${first} / ${again}`, ...rest];
+        lines.push(`| ${columns.join(' | ')} |`);
+      }
+    }
+  } finally {
+    fs.rmSync(folder, { recursive: true });
+  }
+  const [{ model }, ...more] = os.cpus();
+  const on = `Node ${process.versions.node} on ${more.length + 1} processors (${model})`;
+  lines.push('', `Measured with ${on}, at a load of ${os.loadavg()[0].toFixed(1)} when it was done.`);
+  return lines.join('\n');
+}
+
+function putInto(file, mark, text) {
+  const lines = fs.readFileSync(file, 'utf8').split('\n');
+  const marks = lines.flatMap((line, i) => (line.includes(mark) ? [i] : []));
+  if (marks.length !== 2) throw new Error(`${file} hasn't two lines with ${mark}`);
+  const kept = [...lines.slice(0, marks[0] + 1), '', text, '', ...lines.slice(marks[1])];
+  fs.writeFileSync(file, kept.join('\n'));
+}
+
+function main(words) {
+  if (words[0] === '--measure') {
+    console.log(JSON.stringify(measure(words[1], words[2], +words[3], +words[4])));
+    return;
+  }
+  const option = name => (words.includes(name) ? words[words.indexOf(name) + 1] : null);
+  const text = table(+(option('--runs') ?? 3));
+  console.log(text);
+  if (option('--into')) putInto(option('--into'), 'figures of node.js', text);
+}
+
+main(process.argv.slice(2));

@@ -1,0 +1,217 @@
+/* Maps: opened, closed, and handed to other threads. What is asked of them is in questions.c. */
+#include <pthread.h>
+
+#include "smap_node.h"
+
+/* ---- handles */
+
+boxed_map *map_of(napi_env env, napi_value value)
+{
+    void *at = NULL;
+    if (napi_get_value_external(env, value, &at) == napi_ok && at && *(uint32_t *)at == MAP_TAG) return at;
+    napi_throw_type_error(env, NULL, "not a source map");
+    return NULL;
+}
+
+boxed_map *new_map(void)
+{
+    boxed_map *boxed = calloc(1, sizeof *boxed);
+    if (boxed) boxed->tag = MAP_TAG;
+    return boxed;
+}
+
+/* Tells V8 that so many bytes more, or fewer, hang on its objects: it sees some ten bytes of a handle, and
+ * would have no reason to collect it. */
+static void tell_held(napi_env env, int64_t more)
+{
+    int64_t now;
+    if (more) napi_adjust_external_memory(env, more, &now);
+}
+
+static void free_map(napi_env env, void *at, void *hint)
+{
+    boxed_map *boxed = at;
+    (void)hint;
+    smap_close(&boxed->map);
+    tell_held(env, -boxed->held);
+    free(boxed);
+}
+
+/* A handle is freed when it has been collected, but only once the event loop turns: Node puts finalizers off
+ * until then. */
+napi_value map_out(napi_env env, boxed_map *boxed, int64_t held)
+{
+    napi_value handle;
+    if (napi_create_external(env, boxed, free_map, NULL, &handle) != napi_ok) {
+        failed(env);
+        smap_close(&boxed->map);
+        free(boxed);
+        return NULL;
+    }
+    boxed->held = held;
+    tell_held(env, held);
+    return handle;
+}
+
+int64_t estimate_held(smap_map *map, size_t text_len)
+{
+    smap_counts counts;
+    if (smap_count(map, &counts) != SMAP_OK) return 0;
+    return (int64_t)(counts.mappings * 32 + text_len / 2 + 1024);
+}
+
+/* ---- opening and closing */
+
+static uint32_t open_text(boxed_map *boxed, const text_in *text, const text_in *url,
+                          const smap_limits *limits, smap_fault *fault)
+{
+    if (!boxed) return SMAP_MEMORY;
+    return smap_open(&boxed->map, text->at, text->len, url->at, url->len, limits, fault);
+}
+
+/* open(text, url, items, lines): a handle */
+napi_value do_open(napi_env env, napi_callback_info info)
+{
+    text_in text, url;
+    smap_limits limits;
+    smap_fault fault = {0};
+    ARGUMENTS(4);
+    CALL(napi_get_value_uint32(env, w[2], &limits.items));
+    CALL(napi_get_value_uint32(env, w[3], &limits.lines));
+    if (!text_of(env, w[1], &url)) return NULL;
+    if (!text_of(env, w[0], &text)) {
+        text_done(&url);
+        return NULL;
+    }
+    boxed_map *boxed = new_map();
+    uint32_t code = open_text(boxed, &text, &url, &limits, &fault);
+    text_done(&text);
+    text_done(&url);
+    if (code == SMAP_OK) return map_out(env, boxed, estimate_held(&boxed->map, text.len));
+    free(boxed);
+    return throw_code(env, code, &fault);
+}
+
+/* close(map) */
+napi_value do_close(napi_env env, napi_callback_info info)
+{
+    ARGUMENTS(1);
+    boxed_map *boxed = map_of(env, w[0]);
+    if (!boxed) return NULL;
+    smap_close(&boxed->map);
+    tell_held(env, -boxed->held);
+    boxed->held = 0;
+    return NULL;
+}
+
+/* told(): how many bytes V8 was told of by all addons, for tests */
+napi_value do_told(napi_env env, napi_callback_info info)
+{
+    int64_t now = 0;
+    napi_value out;
+    (void)info;
+    CALL(napi_adjust_external_memory(env, 0, &now));
+    CALL(napi_create_int64(env, now, &out));
+    return out;
+}
+
+/* held(map): how many bytes V8 was told of */
+napi_value do_held(napi_env env, napi_callback_info info)
+{
+    napi_value out;
+    ARGUMENTS(1);
+    boxed_map *boxed = map_of(env, w[0]);
+    if (!boxed) return NULL;
+    CALL(napi_create_int64(env, boxed->held, &out));
+    return out;
+}
+
+/* same(map, other) */
+napi_value do_same(napi_env env, napi_callback_info info)
+{
+    bool same = false;
+    napi_value out;
+    smap_counts counts;
+    ARGUMENTS(2);
+    boxed_map *one = map_of(env, w[0]);
+    boxed_map *other = one ? map_of(env, w[1]) : NULL;
+    if (!other) return NULL;
+    /* The two have to be different handles. */
+    uint32_t code = one == other ? smap_count(&one->map, &counts) : smap_same(&one->map, &other->map, &same);
+    if (code != SMAP_OK) return throw_code(env, code, NULL);
+    CALL(napi_get_boolean(env, same || one == other, &out));
+    return out;
+}
+
+/* ---- sharing
+ *
+ * A map that is handed to another worker waits in this list, under a number, until that worker takes it. */
+
+typedef struct shared_map {
+    smap_map map;
+    int64_t held;
+    int64_t number;
+    struct shared_map *next;
+} shared_map;
+
+static pthread_mutex_t shared_lock = PTHREAD_MUTEX_INITIALIZER;
+static shared_map *shared_first;
+static int64_t shared_last;
+
+static int64_t put_shared(shared_map *one)
+{
+    pthread_mutex_lock(&shared_lock);
+    int64_t number = one->number = ++shared_last;
+    one->next = shared_first;
+    shared_first = one;
+    pthread_mutex_unlock(&shared_lock);
+    return number;
+}
+
+static shared_map *take_shared(int64_t number)
+{
+    pthread_mutex_lock(&shared_lock);
+    shared_map **at = &shared_first;
+    while (*at && (*at)->number != number) at = &(*at)->next;
+    shared_map *one = *at;
+    if (one) *at = one->next;
+    pthread_mutex_unlock(&shared_lock);
+    return one;
+}
+
+/* share(map): a number */
+napi_value do_share(napi_env env, napi_callback_info info)
+{
+    napi_value out;
+    ARGUMENTS(1);
+    boxed_map *boxed = map_of(env, w[0]);
+    if (!boxed) return NULL;
+    shared_map *one = calloc(1, sizeof *one);
+    uint32_t code = one ? smap_share(&boxed->map, &one->map) : SMAP_MEMORY;
+    if (code != SMAP_OK) {
+        free(one);
+        return throw_code(env, code, NULL);
+    }
+    one->held = boxed->held;
+    CALL(napi_create_int64(env, put_shared(one), &out));
+    return out;
+}
+
+/* take(number): a handle, once */
+napi_value do_take(napi_env env, napi_callback_info info)
+{
+    int64_t number;
+    ARGUMENTS(1);
+    CALL(napi_get_value_int64(env, w[0], &number));
+    boxed_map *boxed = new_map();
+    if (!boxed) return throw_code(env, SMAP_MEMORY, NULL);
+    shared_map *one = take_shared(number);
+    if (!one) {
+        free(boxed);
+        return throw_code(env, SMAP_CLOSED, NULL);
+    }
+    boxed->map = one->map;
+    int64_t held = one->held;
+    free(one);
+    return map_out(env, boxed, held);
+}

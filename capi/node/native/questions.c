@@ -1,0 +1,208 @@
+/* What is asked of maps. */
+#include "smap_node.h"
+
+/* The arguments and the map, which is the first of them. */
+#define MAP_AND(n)                                                                                           \
+    ARGUMENTS(n);                                                                                            \
+    boxed_map *boxed = map_of(env, w[0]);                                                                    \
+    if (!boxed) return NULL
+
+/* counts(map): [sources, listed sources, names, mappings, lines] */
+napi_value do_counts(napi_env env, napi_callback_info info)
+{
+    smap_counts counts;
+    MAP_AND(1);
+    uint32_t code = smap_count(&boxed->map, &counts);
+    if (code != SMAP_OK) return throw_code(env, code, NULL);
+    const uint64_t all[] = {counts.sources, counts.listed_sources, counts.names, counts.mappings,
+                            counts.lines};
+    return numbers_out(env, all, 5);
+}
+
+/* lookup(map, line, column): whether there is a mapping. Its numbers are in `found` then: line, column,
+ * source, source line, source column, and as bits whether it has a source, a name, and is ignored. */
+napi_value do_lookup(napi_env env, napi_callback_info info)
+{
+    thread_data *own;
+    smap_mapping m;
+    uint32_t line, column;
+    napi_value out, w[3];
+    size_t wn = 3;
+    CALL(napi_get_cb_info(env, info, &wn, w, NULL, (void **)&own));
+    boxed_map *boxed = map_of(env, w[0]);
+    if (!boxed) return NULL;
+    CALL(napi_get_value_uint32(env, w[1], &line));
+    CALL(napi_get_value_uint32(env, w[2], &column));
+    uint32_t code = smap_lookup(&boxed->map, line, column, &m);
+    if (code != SMAP_OK && code != SMAP_NONE) return throw_code(env, code, NULL);
+    if (code == SMAP_OK && own->found) {
+        own->found[0] = m.line;
+        own->found[1] = m.column;
+        own->found[2] = (uint32_t)m.source;
+        own->found[3] = m.source_line;
+        own->found[4] = m.source_column;
+        own->found[5] = (uint32_t)m.has_source | (uint32_t)m.has_name << 1 | (uint32_t)m.is_ignored << 2;
+    }
+    CALL(napi_get_boolean(env, code == SMAP_OK, &out));
+    return out;
+}
+
+/* ---- texts that are copied: the file, a source's URL or content, a name */
+
+enum { GET_FILE, GET_NAME_AT, GET_URL, GET_CONTENT, GET_LISTED_NAME };
+
+static uint32_t get(smap_map *map, uint32_t which, const uint32_t *at, char *out, size_t room, size_t *len)
+{
+    switch (which) {
+    case GET_FILE: return smap_file(map, out, room, len);
+    case GET_NAME_AT: return smap_name_at(map, at[0], at[1], out, room, len);
+    case GET_URL: return smap_source_url(map, at[0], out, room, len);
+    case GET_CONTENT: return smap_source_content(map, at[0], out, room, len);
+    default: return smap_listed_name(map, at[0], out, room, len);
+    }
+}
+
+/* The text as a string, or null if there is none. */
+static napi_value got(napi_env env, smap_map *map, uint32_t which, const uint32_t *at)
+{
+    char room[1024], *long_room;
+    size_t len = 0;
+    napi_value out = NULL;
+    uint32_t code = get(map, which, at, room, sizeof room, &len);
+    if (code == SMAP_NONE) {
+        CALL(napi_get_null(env, &out));
+        return out;
+    }
+    if (code != SMAP_OK) return throw_code(env, code, NULL);
+    if (len <= sizeof room) return string_out(env, room, len);
+    long_room = malloc(len);
+    if (!long_room) return throw_code(env, SMAP_MEMORY, NULL);
+    code = get(map, which, at, long_room, len, &len);
+    out = code == SMAP_OK ? string_out(env, long_room, len) : throw_code(env, code, NULL);
+    free(long_room);
+    return out;
+}
+
+/* text(map, which, i, j): a string or null */
+napi_value do_text(napi_env env, napi_callback_info info)
+{
+    uint32_t which, at[2];
+    MAP_AND(4);
+    CALL(napi_get_value_uint32(env, w[1], &which));
+    CALL(napi_get_value_uint32(env, w[2], &at[0]));
+    CALL(napi_get_value_uint32(env, w[3], &at[1]));
+    return got(env, &boxed->map, which, at);
+}
+
+/* texts(map, which, count): the texts of the numbers below `count` */
+napi_value do_texts(napi_env env, napi_callback_info info)
+{
+    uint32_t which, count;
+    napi_value out;
+    napi_handle_scope scope;
+    MAP_AND(3);
+    CALL(napi_get_value_uint32(env, w[1], &which));
+    CALL(napi_get_value_uint32(env, w[2], &count));
+    CALL(napi_create_array_with_length(env, count, &out));
+    for (uint32_t i = 0; i < count; i++) {
+        const uint32_t at[2] = {i, 0};
+        CALL(napi_open_handle_scope(env, &scope));
+        napi_value one = got(env, &boxed->map, which, at);
+        napi_status status = one ? napi_set_element(env, out, i, one) : napi_pending_exception;
+        if (status != napi_ok) failed(env);
+        napi_close_handle_scope(env, scope);
+        if (status != napi_ok) return NULL;
+    }
+    return out;
+}
+
+/* ---- numbers, into arrays that index.js made: there is no memory to be had here */
+
+/* The numbers of a typed array, of 32 bits each. False if it is none, and an exception is pending. */
+static bool words_of(napi_env env, napi_value value, uint32_t **at, size_t *len)
+{
+    napi_typedarray_type type;
+    if (napi_get_typedarray_info(env, value, &type, len, (void **)at, NULL, NULL) == napi_ok &&
+        (type == napi_uint32_array || type == napi_int32_array) && (*at || !*len))
+        return true;
+    napi_throw_type_error(env, NULL, "not an array of numbers of 32 bits");
+    return false;
+}
+
+/* flags(map, which, to): a number for each source or listed source: 0, whether it is ignored; 1, which source
+ * the listed one is */
+napi_value do_flags(napi_env env, napi_callback_info info)
+{
+    uint32_t which, *to;
+    size_t count;
+    MAP_AND(3);
+    CALL(napi_get_value_uint32(env, w[1], &which));
+    if (!words_of(env, w[2], &to, &count)) return NULL;
+    for (size_t i = 0; i < count; i++) {
+        bool ignored = false;
+        size_t source = 0;
+        uint32_t code = which ? smap_listed_source(&boxed->map, i, &source)
+                              : smap_is_ignored(&boxed->map, i, &ignored);
+        if (code != SMAP_OK) return throw_code(env, code, NULL);
+        to[i] = which ? (uint32_t)source : ignored;
+    }
+    return NULL;
+}
+
+/* table(map, to): the mappings as six columns one after another: line, column, listed source, its line and
+ * column, listed name; -1 for no source or name. As many as there is room for. */
+napi_value do_table(napi_env env, napi_callback_info info)
+{
+    size_t n;
+    uint32_t *to;
+    MAP_AND(2);
+    if (!words_of(env, w[1], &to, &n)) return NULL;
+    n /= 6;
+    for (size_t i = 0; i < n; i++) {
+        smap_listed_mapping m;
+        uint32_t code = smap_listed_token(&boxed->map, i, &m);
+        if (code != SMAP_OK) return throw_code(env, code, NULL);
+        to[i] = m.line;
+        to[i + n] = m.column;
+        to[i + 2 * n] = m.has_source ? m.source : UINT32_MAX;
+        to[i + 3 * n] = m.source_line;
+        to[i + 4 * n] = m.source_column;
+        to[i + 5 * n] = m.has_name ? m.name : UINT32_MAX;
+    }
+    return NULL;
+}
+
+/* ---- what is written */
+
+/* written(map, which, asBuffer): 0 canonical, 1 relative, 2 canonical mappings, 3 flat */
+napi_value do_written(napi_env env, napi_callback_info info)
+{
+    uint32_t which, code;
+    bool as_buffer;
+    smap_bytes bytes = {0};
+    MAP_AND(3);
+    CALL(napi_get_value_uint32(env, w[1], &which));
+    CALL(napi_get_value_bool(env, w[2], &as_buffer));
+    switch (which) {
+    case 0: code = smap_canonical(&boxed->map, &bytes); break;
+    case 1: code = smap_canonical_relative(&boxed->map, &bytes); break;
+    case 2: code = smap_canonical_mappings(&boxed->map, &bytes); break;
+    default: code = smap_flatten(&boxed->map, &bytes);
+    }
+    if (code != SMAP_OK) return throw_code(env, code, NULL);
+    return bytes_out(env, &bytes, as_buffer);
+}
+
+/* respell(text) */
+napi_value do_respell(napi_env env, napi_callback_info info)
+{
+    text_in text;
+    smap_bytes bytes = {0};
+    smap_fault fault = {0};
+    ARGUMENTS(1);
+    if (!text_of(env, w[0], &text)) return NULL;
+    uint32_t code = smap_respell(text.at, text.len, &bytes, &fault);
+    text_done(&text);
+    if (code != SMAP_OK) return throw_code(env, code, &fault);
+    return bytes_out(env, &bytes, false);
+}

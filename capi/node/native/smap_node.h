@@ -1,0 +1,131 @@
+/* The Node addon of libsmap, over smap.h and Node-API: what its files share.
+ *
+ * index.js calls everything here, and checks what users pass. What comes in is a handle that index.js was
+ * given, a string without lone surrogates, a Buffer, or a whole number below 2^32. A call that gets anything
+ * else throws.
+ *
+ * The module may be loaded by any number of worker threads. What belongs to one of them is in its
+ * `thread_data`; the one static variable is the list of maps on their way from a thread to another. */
+#ifndef SMAP_NODE_H
+#define SMAP_NODE_H
+
+#define NAPI_VERSION 8
+#include <node_api.h>
+#include <stdbool.h>
+#include <stdint.h>
+#include <stdlib.h>
+#include <string.h>
+
+#include "smap.h"
+
+/* What the copy of the module in one thread needs. */
+typedef struct thread_data {
+    napi_ref error;   /* the class SmapError */
+    napi_ref room;    /* a function that makes a Buffer of a length, or throws */
+    napi_ref scratch; /* keeps the array of `found` alive */
+    uint32_t *found;  /* where a lookup puts its numbers: FOUND of them, read by index.js */
+} thread_data;
+
+enum { FOUND = 8 };
+
+/* What a handle of index.js points to. The tag comes first, so that neither kind is taken for the other. */
+enum { MAP_TAG = 0x70616d73, SCRIPTS_TAG = 0x72637373 };
+
+typedef struct boxed_map {
+    uint32_t tag;
+    smap_map map;
+    int64_t held; /* what V8 was told of it, in bytes */
+} boxed_map;
+
+typedef struct boxed_scripts {
+    uint32_t tag;
+    bool is_closed; /* by the user: it isn't opened again */
+    smap_scripts scripts;
+} boxed_scripts;
+
+/* A call of Node-API fails if memory runs out, an exception is pending, a worker is being ended, or a value
+ * is of another type. */
+#define CALL(call)                                                                                           \
+    do {                                                                                                     \
+        if ((call) != napi_ok) return failed(env);                                                           \
+    } while (0)
+
+/* The arguments, as `w`: undefined where they are missing. */
+#define ARGUMENTS(n)                                                                                         \
+    napi_value w[n];                                                                                         \
+    size_t wn = n;                                                                                           \
+    CALL(napi_get_cb_info(env, info, &wn, w, NULL, NULL))
+
+/* ---- errors.c: each of these throws unless an exception is pending, and returns NULL */
+
+napi_value failed(napi_env env);
+napi_value throw_code(napi_env env, uint32_t code, const smap_fault *fault);
+
+/* ---- texts.c */
+
+/* A text that came in: a Buffer is read where it is, a short string lies in `room`, a long one is copied. */
+typedef struct text_in {
+    const char *at;
+    size_t len;
+    char *owned;
+    char room[1024];
+} text_in;
+
+/* False if an exception is pending; then there is nothing to free. */
+bool text_of(napi_env env, napi_value value, text_in *text);
+void text_done(text_in *text);
+
+/* A string; or throws, as for one that is longer than a string can be. */
+napi_value string_out(napi_env env, const char *at, size_t len);
+
+/* A string or a Buffer, or throws. The bytes are freed. */
+napi_value bytes_out(napi_env env, smap_bytes *bytes, bool as_buffer);
+
+/* An array of these numbers, or throws. */
+napi_value numbers_out(napi_env env, const uint64_t *numbers, uint32_t count);
+
+/* ---- maps.c */
+
+/* The map or the scripts of a handle, or throws. */
+boxed_map *map_of(napi_env env, napi_value value);
+boxed_scripts *scripts_of(napi_env env, napi_value value);
+
+/* A closed map, or NULL if there is no memory. */
+boxed_map *new_map(void);
+
+/* A handle of an open map, of which V8 is told that it holds so many bytes; or throws, and frees it. */
+napi_value map_out(napi_env env, boxed_map *boxed, int64_t held);
+
+/* How many bytes a map holds that was read from a text of this length, as far as it can be told. */
+int64_t estimate_held(smap_map *map, size_t text_len);
+
+/* ---- what index.js calls */
+
+napi_value do_open(napi_env env, napi_callback_info info);
+napi_value do_open_later(napi_env env, napi_callback_info info);
+napi_value do_close(napi_env env, napi_callback_info info);
+napi_value do_told(napi_env env, napi_callback_info info);
+napi_value do_held(napi_env env, napi_callback_info info);
+napi_value do_same(napi_env env, napi_callback_info info);
+napi_value do_share(napi_env env, napi_callback_info info);
+napi_value do_take(napi_env env, napi_callback_info info);
+
+napi_value do_counts(napi_env env, napi_callback_info info);
+napi_value do_lookup(napi_env env, napi_callback_info info);
+napi_value do_text(napi_env env, napi_callback_info info);
+napi_value do_texts(napi_env env, napi_callback_info info);
+napi_value do_flags(napi_env env, napi_callback_info info);
+napi_value do_table(napi_env env, napi_callback_info info);
+napi_value do_written(napi_env env, napi_callback_info info);
+napi_value do_respell(napi_env env, napi_callback_info info);
+
+napi_value do_scripts(napi_env env, napi_callback_info info);
+napi_value do_add_script(napi_env env, napi_callback_info info);
+napi_value do_close_scripts(napi_env env, napi_callback_info info);
+napi_value do_translate(napi_env env, napi_callback_info info);
+napi_value do_frame(napi_env env, napi_callback_info info);
+#ifdef SMAP_NODE_TEST
+napi_value do_refuse(napi_env env, napi_callback_info info);
+#endif
+
+#endif

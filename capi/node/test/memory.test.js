@@ -1,0 +1,79 @@
+'use strict';
+const assert = require('node:assert');
+const { test } = require('node:test');
+const { SourceMap, Scripts } = require('smap');
+const native = require('../native.js');
+
+const BASE = 'http://h/m/out.js.map';
+const large = JSON.stringify({ version: 3, sources: ['a'], mappings: 'AAAA' + ',CAAC'.repeat(200000) });
+const turn = () => new Promise(setImmediate);
+const collects = { skip: global.gc ? false : 'no --expose-gc' };
+
+// How much the process grows from a third of the turns to the last, in MB.
+async function growth(turns, call) {
+  const sizes = [];
+  for (let i = 0; i < turns; i++) {
+    await call(i);
+    global.gc();
+    await turn();
+    sizes.push(process.memoryUsage().rss / 1e6);
+  }
+  return sizes.at(-1) - sizes[Math.floor(turns / 3)];
+}
+
+test('maps that are forgotten are freed', collects, async () => {
+  const grown = await growth(12, () => { new SourceMap(large, BASE).lookup(0, 0); });
+  assert.ok(grown < 20, `${grown} MB`);
+});
+
+test('maps that are closed in a loop are freed, without the event loop', collects, async () => {
+  const grown = await growth(3, () => {
+    for (let i = 0; i < 10; i++) {
+      const map = new SourceMap(large, BASE);
+      map.table();
+      map.close();
+    }
+  });
+  assert.ok(grown < 40, `${grown} MB`);
+});
+
+test('what is refused, written and translated leaves nothing', collects, async () => {
+  const map = new SourceMap(large, BASE);
+  const broken = large.slice(0, -2) + '!"}';
+  const log = '    at f (http://h/m/out.js:1:2)\n'.repeat(20000);
+  const grown = await growth(15, async () => {
+    assert.throws(() => new SourceMap(broken, BASE), { kind: 'Character' });
+    await assert.rejects(SourceMap.open(broken, BASE), { kind: 'Character' });
+    map.canonical();
+    map.flatten({ buffer: true });
+    map.translate(log, 'http://h/m/out.js');
+  });
+  assert.ok(grown < 30, `${grown} MB`);
+});
+
+test('the collector is told what a map holds, until it is closed', collects, async () => {
+  const told = async () => {
+    global.gc();
+    await turn();
+    return native.told();
+  };
+  const bytes = Buffer.from(large);
+  const before = await told();
+  const map = new SourceMap(bytes, BASE);
+  const held = map.heldBytes;
+  const open = (await told()) - before;
+  assert.ok(held > 1e6 && Math.abs(open - held) < 2e5, `${open} for ${held}`);
+  map.close();
+  assert.equal(map.heldBytes, 0);
+  assert.ok(Math.abs((await told()) - before) < 2e5);
+});
+
+test('Symbol.dispose closes', { skip: Symbol.dispose ? false : 'no Symbol.dispose here' }, () => {
+  const map = new SourceMap(large, BASE);
+  map[Symbol.dispose]();
+  map[Symbol.dispose]();
+  assert.throws(() => map.counts, { code: 'SMAP_CLOSED' });
+  const scripts = new Scripts();
+  scripts[Symbol.dispose]();
+  assert.throws(() => scripts.translate(''), { code: 'SMAP_CLOSED' });
+});

@@ -1,0 +1,83 @@
+'use strict';
+// Each request for memory refused in turn, over the test build of build.sh: see scripts/run-node.
+const assert = require('node:assert');
+const { SourceMap, Scripts, translate, frame, respell } = require('smap');
+const native = require('../native.js');
+
+const BASE = 'http://h/m/out.js.map';
+const SCRIPT = 'http://h/m/out.js';
+const long = 'x'.repeat(5000);
+const text = JSON.stringify({
+  version: 3, file: 'o', sources: ['a.js', long], sourcesContent: ['A', long], names: ['n', long],
+  mappings: 'AAUE,IAEAA;ACAAC',
+});
+const log = `Error\n    at f (${SCRIPT}:1:2)\n`.repeat(300);
+const map = new SourceMap(text, BASE);
+const other = new SourceMap(text, BASE);
+const scripts = new Scripts({ [SCRIPT]: map });
+
+const CALLS = {
+  open: () => new SourceMap(text, BASE).close(),
+  openBytes: () => new SourceMap(Buffer.from(text), BASE + long).close(),
+  refused: () => assert.throws(() => new SourceMap('{"version":3,"mappings":"!"}', BASE), rethrown),
+  share: () => SourceMap.take(map.share()).close(),
+  same: () => assert.equal(map.same(other), true),
+  lookup: () => assert.equal(map.lookup(1, 0).name, long),
+  content: () => assert.equal(map.content(1), long),
+  names: () => assert.equal(native.texts === undefined || new SourceMap(text, BASE).names[1], long),
+  sources: () => assert.equal(new SourceMap(text, BASE).sources.length, 2),
+  table: () => assert.equal(new SourceMap(text, BASE).table().length, 3),
+  canonical: () => assert.ok(map.canonical().length > 5000),
+  relative: () => assert.ok(map.canonical({ relative: true, buffer: true }).length > 5000),
+  mappings: () => assert.equal(map.canonicalMappings().split(';').length, 2),
+  flatten: () => assert.ok(map.flatten().length > 5000),
+  scripts: () => new Scripts({ [SCRIPT]: map }).close(),
+  translate: () => assert.ok(scripts.translate(log).includes('a.js:11:3')),
+  translateAll: () => assert.ok(translate(log, { [SCRIPT]: map }, { anywhere: true }).includes('a.js:11:3')),
+  frame: () => assert.equal(frame(`f@${SCRIPT}${long}:1:2`).line, 1),
+  respell: () => assert.equal(respell('gAAAA;' + ';'.repeat(3000)), 'AAAA'),
+};
+
+// A refused request isn't taken for the error that a call expects.
+function rethrown(error) {
+  if (error.code === 'SMAP_MEMORY') throw error;
+  return error.kind === 'Character';
+}
+
+function refuseEach(name, call) {
+  for (let n = 0; ; n++) {
+    let thrown = null;
+    native.refuse(n);
+    try {
+      call();
+    } catch (error) {
+      thrown = error;
+    }
+    const was = native.refuse(-1);
+    if (was >= 0) {
+      if (thrown) throw thrown;
+      return n;
+    }
+    assert.ok(thrown && thrown.code === 'SMAP_MEMORY', `${name}, request ${n}: ${thrown}`);
+    call();
+  }
+}
+
+async function refuseLater() {
+  for (let n = 0; n < 6; n++) {
+    native.refuse(n);
+    const opened = SourceMap.open(text, BASE);
+    native.refuse(-1);
+    await opened.then(one => one.close(), error => assert.equal(error.code, 'SMAP_MEMORY'));
+  }
+}
+
+async function main() {
+  let count = 0;
+  for (const [name, call] of Object.entries(CALLS)) count += refuseEach(name, call);
+  await refuseLater();
+  assert.ok(count > 100, `${count} requests`);
+  console.log(`${Object.keys(CALLS).length} calls, ${count} requests refused`);
+}
+
+main();

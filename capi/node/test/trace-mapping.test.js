@@ -1,0 +1,135 @@
+'use strict';
+const assert = require('node:assert');
+const { test } = require('node:test');
+const ours = require('smap/trace-mapping');
+const { makeMap } = require('./many-maps.js');
+const { peer, needs } = require('./peers.js');
+
+const map = {
+  version: 3, sourceRoot: 'src', sources: ['a.js', './my b.js', 'webpack:///c d.js', null],
+  sourcesContent: ['A'], names: ['n'], mappings: 'AAAAA,CCAC;ECCA,A,AAAA', ignoreList: [1],
+};
+
+test('sources are told as the map writes them', () => {
+  const traced = new ours.TraceMap(JSON.stringify(map));
+  assert.deepEqual(traced.sources, map.sources);
+  assert.deepEqual(traced.resolvedSources.slice(0, 2), ['src/a.js', 'src/my b.js']);
+  assert.equal(traced.resolvedSources[3], null);
+  const { resolvedSources } = new ours.TraceMap(map, 'http://h/x/out.js.map');
+  assert.deepEqual(resolvedSources.slice(0, 2), ['http://h/x/src/a.js', 'http://h/x/src/my%20b.js']);
+});
+
+test('positions and segments', () => {
+  const traced = new ours.TraceMap(map);
+  const found = ours.originalPositionFor(traced, { line: 1, column: 5 });
+  assert.deepEqual(found, { source: 'src/my b.js', line: 1, column: 1, name: null });
+  assert.deepEqual(ours.traceSegment(traced, 0, 0), [0, 0, 0, 0, 0]);
+  assert.deepEqual(ours.traceSegment(traced, 9, 0), null);
+  assert.deepEqual(ours.decodedMappings(traced)[0], [[0, 0, 0, 0, 0], [1, 1, 0, 1]]);
+  const back = ours.generatedPositionFor(traced, { source: 'src/my b.js', line: 1, column: 1 });
+  assert.deepEqual(back, { line: 1, column: 1 });
+  assert.equal(ours.sourceContentFor(traced, 'src/a.js'), 'A');
+  assert.equal(ours.isIgnored(traced, './my b.js'), true);
+  assert.equal(ours.isIgnored(traced, 'a.js'), false);
+  assert.throws(() => ours.originalPositionFor(traced, { line: 0, column: 0 }), /greater than 0/);
+  assert.throws(() => ours.originalPositionFor(traced, { line: 1, column: -1 }), /than or equal to 0/);
+});
+
+test('mappings may be segments, and the map a map that was read', () => {
+  const traced = new ours.TraceMap(map);
+  assert.equal(new ours.TraceMap(traced), traced);
+  assert.equal(ours.encodedMappings(traced), map.mappings);
+  const decoded = new ours.TraceMap({ ...map, mappings: ours.decodedMappings(traced) });
+  assert.deepEqual(ours.decodedMappings(decoded), ours.decodedMappings(traced));
+  assert.equal(ours.encodedMap(decoded).mappings, map.mappings);
+  assert.deepEqual(ours.decodedMap(traced).sources, map.sources);
+});
+
+test('a map with sections', () => {
+  const inner = { version: 3, sources: ['b'], names: ['n'], mappings: 'AAAAA' };
+  const sections = [{ offset: { line: 0, column: 0 }, map }, { offset: { line: 2, column: 3 }, map: inner }];
+  const any = ours.AnyMap({ version: 3, sections });
+  assert.deepEqual(any.names, ['n', 'n']);
+  assert.deepEqual(ours.traceSegment(any, 2, 3), [3, 4, 0, 0, 1]);
+  assert.deepEqual(ours.decodedMappings(any).at(-1), [[3, 4, 0, 0, 1]]);
+  const flat = new ours.TraceMap({ ...map, sources: any.sources, names: any.names, sourceRoot: undefined,
+    sourcesContent: undefined, mappings: ours.encodedMappings(any) });
+  assert.deepEqual(ours.decodedMappings(flat), ours.decodedMappings(any));
+});
+
+test('what the reader refuses is thrown when the map is opened', () => {
+  const changes = [[{ version: '3' }, 'Version'], [{ names: [1] }, 'Names'], [{ mappings: 'A,' }, 'Empty']];
+  for (const [change, kind] of changes) {
+    assert.throws(() => new ours.TraceMap({ ...map, ...change }), { code: 'SMAP_REFUSED', kind });
+  }
+});
+
+// ---- beside trace-mapping
+
+const theirs = peer('@jridgewell/trace-mapping');
+const MAPS = 400;
+const BIASES = [undefined, ours.GREATEST_LOWER_BOUND, ours.LEAST_UPPER_BOUND];
+const URLS = [undefined, 'http://h/x/y.map', 'out/y.map'];
+
+// Each question to both, about maps that are made at random.
+function both(ask) {
+  let count = 0;
+  for (let seed = 1; seed <= MAPS; seed++) {
+    const text = makeMap(seed);
+    const url = URLS[seed % URLS.length];
+    const [one, other] = [[ours, new ours.TraceMap(text, url)], [theirs, new theirs.TraceMap(text, url)]];
+    count += ask(call => {
+      const has = call(...one);
+      assert.deepEqual(has, call(...other), `${call} of ${JSON.stringify(text)} at ${url}`);
+      return has;
+    });
+  }
+  assert.ok(count > MAPS, `${count} answers`);
+}
+
+test('the mappings are those of trace-mapping', needs('@jridgewell/trace-mapping', theirs), () => {
+  both(ask => {
+    ask((_, map) => [map.sources, map.names, map.file, map.sourceRoot, map.version, map.sourcesContent]);
+    ask((T, map) => T.encodedMappings(map));
+    const all = ask((T, map) => {
+      const all = [];
+      T.eachMapping(map, m => all.push({ ...m }));
+      return all;
+    });
+    return all.length;
+  });
+});
+
+test('sources are told as by trace-mapping', needs('@jridgewell/trace-mapping', theirs), () => {
+  both(ask => ask((_, map) => map.resolvedSources).length);
+});
+
+test('lookups are those of trace-mapping', needs('@jridgewell/trace-mapping', theirs), () => {
+  both(ask => {
+    let found = 0;
+    for (let at = 0; at < 7 * 20; at++) {
+      const [line, column] = [Math.floor(at / 20), at % 20];
+      ask((T, map) => T.traceSegment(map, line, column));
+      const needles = BIASES.map(bias => ({ line: line + 1, column, bias }));
+      const told = needles.map(needle => ask((T, map) => T.originalPositionFor(map, needle)));
+      found += told.filter(one => one.source !== null).length;
+    }
+    return found;
+  });
+});
+
+test('the way back is that of trace-mapping', needs('@jridgewell/trace-mapping', theirs), () => {
+  both(ask => {
+    let found = 0;
+    const sources = ask((_, map) => map.resolvedSources);
+    for (let at = 0; at < sources.length * 5 * 9; at++) {
+      const source = sources[Math.floor(at / 45)];
+      const needle = { source, line: 1 + (at % 5), column: Math.floor(at / 5) % 9 };
+      for (const bias of BIASES) {
+        ask((T, map) => T.generatedPositionFor(map, { ...needle, bias }));
+        found += ask((T, map) => T.allGeneratedPositionsFor(map, { ...needle, bias })).length;
+      }
+    }
+    return found;
+  });
+});

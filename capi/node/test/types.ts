@@ -1,0 +1,46 @@
+// What the types have to allow, and what they have to refuse.
+import { SourceMap, Scripts, SmapError, translate, frame, respell, version } from 'smap';
+import { TraceMap, originalPositionFor, LEAST_UPPER_BOUND, type Segment } from 'smap/trace-mapping';
+import { SourceMapConsumer, BasicSourceMapConsumer } from 'smap/source-map';
+import { install, type Options } from 'smap/support';
+import 'smap/register';
+
+const map: SourceMap = new SourceMap('{}', new URL('http://h/'), { limits: { items: 3 } });
+const found = map.lookup(0, Infinity);
+const source: string | null | undefined = found?.source;
+const line: number | null = found!.sourceLine;
+for (const mapping of map) console.log(mapping.column + 1, mapping.isIgnored, source, line);
+const text: string = map.canonical({ relative: true });
+const log: string = map.translate('x', 'http://h/', { hideIgnored: true, anywhere: true });
+const later: Promise<SourceMap> = SourceMap.open({ version: 3 }, 'http://h/');
+const shared: number = map.share();
+map[Symbol.dispose]();
+const scripts = new Scripts({ a: map }).add(new URL('http://h/'), SourceMap.take(shared));
+const { lines }: { lines: number } = scripts.translateAndCount(log);
+const told: string = translate(text, new Map([['a', map]]));
+const parts: { url: string; line: number; column: number } | null = frame(told);
+const short: string = respell(version);
+const columns: Int32Array = map.table().column;
+
+function handle(error: unknown): number | null {
+  if (!(error instanceof SmapError)) return null;
+  return error.code === 'SMAP_REFUSED' && error.kind === 'Overlap' ? error.number : error.line;
+}
+
+const segment: Segment = [0, 0, 0, 0, 1];
+const original = originalPositionFor(new TraceMap({}, null), { line: 1, column: 0, bias: LEAST_UPPER_BOUND });
+const consumer: SourceMapConsumer = new BasicSourceMapConsumer('{}');
+const options: Options = { retrieveSourceMap: script => ({ url: script, map: '{}' }), hookRequire: true };
+install(options);
+console.log(later, lines, parts, short, columns, handle, segment, original.name, consumer.sources);
+
+// @ts-expect-error: a column is missing
+map.lookup(0);
+// @ts-expect-error: no such option
+map.translate('x', 'y', { hide: true });
+// @ts-expect-error: no such kind
+if (handle instanceof SmapError && handle.kind === 'Nothing') console.log(map);
+// @ts-expect-error: a map's counts can't be written
+map.counts = null;
+// @ts-expect-error: a bias is -1 or 1
+originalPositionFor(new TraceMap('{}'), { line: 1, column: 0, bias: 2 });
