@@ -36,13 +36,17 @@ wheel_runs_program() {
 # A type checker reads the module's types: it accepts a program that uses them well, and not one that doesn't.
 has_types() (
     cat >"$work/well.py" <<'END'
-import smap
+import io, smap
 
 with smap.Map.open(b"", "http://h/m/out.js.map") as m:
     text: str = m.translate("x", "http://h/m/out.js")
     data: bytes = m.translate(b"x", "http://h/m/out.js")
     found = m.lookup(0, 1)
     line: int = found.source_line if found else 0
+store = smap.Store({"http://h/m/": "."}, cache_bytes=1)
+told: str = store.translate("x")
+same: int = store.translate_file(io.BytesIO(), io.BytesIO()).lines
+store = smap.Store(lambda script: smap.Found(b"", script))
 END
     sed 's/data: bytes/data: str/' "$work/well.py" >"$work/badly.py"
     set -- mypy --strict --python-executable "$venv/bin/python" --cache-dir "$work/mypy"
