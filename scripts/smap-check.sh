@@ -87,8 +87,9 @@ erase_progress() {
 
 # ---- checking
 
-# Writes a list with the number and the size of each map in front, `NUMBER SIZE NAME BASE FILE`, without the
-# maps that can't be read, for which it notes that.
+# Takes the sizes of the maps of a list. The file `measured` has the list with a number and a size in front of
+# each line, `NUMBER SIZE NAME BASE FILE`, without the maps that can't be read, for which it notes that. The
+# file header.NUMBER has the header of the map in a bundle, behind the line feed that ends the map before.
 measure() {
     sed -e 's/^[^ ]* [^ ]* //' -e '/^\//!s,^,./,' "$1" | tr '\n' '\000' |
         xargs -0 wc -c -- 2>/dev/null >"$room/sizes"
@@ -104,76 +105,55 @@ measure() {
             number++
             file = $0
             sub(/^[^ ]* [^ ]* /, "", file)
+            front = substr($0, 1, length($0) - length(file))
             if (file !~ /^\//) file = "./" file
             # wc adds a line for the total, once or more often
             while (next_one < count && path[next_one + 1] == "total") next_one++
             if (path[next_one + 1] == file) {
-                print number, size[++next_one], $0
+                note("header." number, "\nmap " front size[++next_one])
+                print number, size[next_one], $0
             } else {
-                print "3 cannot read it" >(room "/" number ".fault")
-                close(room "/" number ".fault")
+                note(number ".fault", "3 cannot read it")
             }
-        }' sizes=1 "$room/sizes" sizes= "$1"
+        }
+        function note(name, text) {
+            name = room "/" name
+            print text >name
+            close(name)
+        }' sizes=1 "$room/sizes" sizes= "$1" >"$room/measured" || no_room
 }
 
-# Splits a measured list into batches, each of at most $2 maps, and of some with $3 bytes together, and writes
-# their numbers; without these limits there is one batch, even of no map. Batch N is the file batch.N, and
-# batch.N.parts names the files that its bundle is made of, two for each map and one for the line `trace`. The
-# line feed behind a map is at the beginning of the next file.
-make_batches() {
-    awk -F '[ ]' -v room="$room" -v most="$2" -v most_bytes="$3" '
-        function begin() {
-            print ++batch
-            list = room "/batch." batch
-            parts = list ".parts"
-            maps = bytes = 0
-        }
-        function finish() {
-            print room (maps ? "/end" : "/trace") >parts
-            close(parts)
-            close(list)
-        }
-        NR == 1 { begin() }
-        most && (maps == most || maps && bytes + $2 > most_bytes) {
-            finish()
-            begin()
-        }
-        {
-            bytes += $2
-            print >list
-            header = list "." (++maps)
-            print (maps > 1 ? "\n" : "") "map", $3, $4, $2 >header
-            close(header)
-            file = $0
-            sub(/^[^ ]* [^ ]* [^ ]* [^ ]* /, "", file)
-            if (file !~ /^\//) file = "./" file
-            print header "\n" file >parts
-        }
-        END {
-            if (!NR && !most) begin()
-            if (batch) finish()
-        }' "$1"
-}
-
-# Writes the bundle of a batch up to its trace, from its map number $2 on.
+# Writes the bundle of measured maps up to its trace: of a file with their lines, from its line $2 on.
 write_bundle() {
-    from=1
-    if [ "$2" -gt 1 ]; then
-        sed 1d "$1.$2"
-        from=$((2 * $2))
-    fi
-    tail -n "+$from" "$1.parts" | tr '\n' '\000' | xargs -0 cat --
+    awk -F '[ ]' -v from="$2" 'NR == from { print "map", $3, $4, $2 }' "$1"
+    awk -v from="$2" -v room="$room" '
+        NR >= from {
+            if (NR > from) print room "/header." $1
+            sub(/^[^ ]* [^ ]* [^ ]* [^ ]* /, "")
+            print (/^\// ? "" : "./") $0
+        }
+        END { print room (NR < from ? "/trace" : "/end") }' "$1" | tr '\n' '\000' | xargs -0 cat --
 }
 
 # Checks the maps of a list, and notes their faults. A run of smap takes time to start, so each is given many
 # maps, but not so many that it takes much memory.
 check_list() {
-    measure "$1" >"$room/measured" || no_room
+    measure "$1"
     count_processors
     most=$(($(wc -l <"$room/measured") / jobs + 1))
     [ "$most" -ge 100 ] || most=100
     [ "$most" -le 500 ] || most=500
-    make_batches "$room/measured" "$most" 16000000 >"$room/batches" || no_room
+    awk -v room="$room" -v most="$most" '
+        {
+            if (!batch || maps == most || bytes + $2 > 16000000) {
+                if (batch) close(room "/batch." batch)
+                print ++batch
+                maps = bytes = 0
+            }
+            maps++
+            bytes += $2
+            print >(room "/batch." batch)
+        }' "$room/measured" >"$room/batches" || no_room
     each_at_once check_batch "$room/batches"
 }
 

@@ -177,7 +177,7 @@ list_scripts() {
 # Writes the bundle and the log. The folder for temporary files goes as soon as the bundle is written.
 send() {
     trap 'rm -rf "$room"; exit 1' HUP INT TERM PIPE
-    write_bundle "$room/batch.1" 1 2>/dev/null
+    write_bundle "$room/measured" 1 2>/dev/null
     rm -rf "$room"
     trap - HUP INT TERM PIPE
     read_log
@@ -185,8 +185,7 @@ send() {
 
 # Translates the log. What writes the output is `cat`, since it says why it can't, where smap can't say that.
 translate() {
-    measure "$room/list" >"$room/measured" || no_room
-    make_batches "$room/measured" >"$room/batches" || no_room
+    cmp -s "$room/list" "$room/checked" || measure "$room/list"
     # from here on a signal ends the script at once, however long the log is followed
     trap - EXIT HUP INT TERM PIPE
     told=$(
