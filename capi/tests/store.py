@@ -128,10 +128,10 @@ class CacheTest(unittest.TestCase):
         log = frames(*finder.maps)
         store.translate(log)
         before = resource.getrusage(resource.RUSAGE_SELF).ru_maxrss
-        for _ in range(100):
+        for turn in range(40):
             store.translate(log)
-            store.forget(f"http://h/{_ % 10}")
-        self.assertGreaterEqual(sum(store.opened.values()), 500)
+            store.forget(f"http://h/{turn % 10}")
+        self.assertGreaterEqual(sum(store.opened.values()), 200)
         self.assertLess(resource.getrusage(resource.RUSAGE_SELF).ru_maxrss - before, 20_000)
 
     def test_other_errors_of_a_finder_come_out_and_the_store_goes_on(self):

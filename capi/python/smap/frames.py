@@ -9,7 +9,7 @@ from urllib.parse import urlsplit
 
 from .maps import Map
 
-__all__ = ["Place", "Sources", "code_point", "place_of", "translated"]
+__all__ = ["code_point", "places_by_script", "translate_all"]
 
 # A line ends as in ECMAScript.
 ENDS = re.compile("\r\n|[\n\r\u2028\u2029]")
@@ -46,6 +46,26 @@ def place_of(frame: object) -> Optional[Place]:
     if type(line) is not int or type(column) is not int:  # a bool is an int, and no position
         return None
     return (script, line, column) if 1 <= line <= GREATEST and 1 <= column <= GREATEST else None
+
+
+def places_by_script(frames: List[Any]) -> Dict[str, Dict[int, Place]]:
+    """For each script the numbers of its frames in the list, with the places that they name."""
+    found: Dict[str, Dict[int, Place]] = {}
+    for number, place in enumerate(map(place_of, frames)):
+        if place is not None:
+            found.setdefault(place[0], {})[number] = place
+    return found
+
+
+def translate_all(frames: List[Any], places: Dict[int, Place], opened: Map, context: int) -> int:
+    """Replaces frames of one script in the list by those in the sources; returns how many."""
+    sources, done = Sources(opened), 0
+    for number, place in places.items():
+        told = translated(frames[number], place, opened, sources, context)
+        if told is not None:
+            frames[number] = told
+            done += 1
+    return done
 
 
 class Sources:

@@ -11,7 +11,7 @@ from typing import Any, AnyStr, BinaryIO, Dict, Iterable, List, Optional, Set, T
 
 from ._library import Error, TraceCounts
 from .finders import Finder, Folders, Found, PathLike, base_of
-from .frames import Place, Sources, place_of, translated
+from .frames import places_by_script, translate_all
 from .logs import StoreCounts, Way, lines_that_stay, middle, spellings, whole_lines
 from .maps import Map, Mapping
 from .traces import Scripts, named_by
@@ -339,26 +339,15 @@ class Store:
         With `ignore_query`, a query and a fragment may follow the URL of a script.
         """
         told = list(frames)
-        places: Dict[int, Place] = {}
-        numbers: Dict[str, List[int]] = {}
-        for number, place in enumerate(map(place_of, told)):
-            if place is not None:
-                places[number] = place
-                numbers.setdefault(place[0], []).append(number)
-        done = 0
-        left = StoreCounts()
-        for script, of_script in numbers.items():
+        done, left = 0, StoreCounts()
+        for script, places in places_by_script(told).items():
             names = spellings(script) if ignore_query else [script]
             opened = next(filter(None, map(self._open, names)), None)
             if opened is None:
-                left += self._left(_Call(), [(names, len(of_script))])
+                left += self._left(_Call(), [(names, len(places))])
                 continue
             with opened.map:
-                sources = Sources(opened.map)
-                for number in of_script:
-                    new = translated(told[number], places[number], opened.map, sources, context)
-                    done += new is not None
-                    told[number] = told[number] if new is None else new
+                done += translate_all(told, places, opened.map, context)
         self._count(left + StoreCounts(lines=len(told), translated=done))
         return told
 
