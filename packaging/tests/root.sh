@@ -30,12 +30,13 @@ can_be_root() {
     false
 }
 
-# Makes a root of Debian, of this machine's release unless SMAP_SUITE names another.
+# Makes a root of Debian, of this machine's release unless SMAP_SUITE names another. Nobody needs it after a
+# crash of the machine, so dpkg needn't wait until the disk has each file.
 make_root() {
     # shellcheck source=/dev/null
     suite=${SMAP_SUITE:-$(. /etc/os-release && echo "${VERSION_CODENAME:-stable}")}
     as_root mmdebstrap --variant=minbase --include=apt,man-db,bash-completion --skip=cleanup/apt/lists \
-        "$suite" "$root" ${SMAP_MIRROR:+"$SMAP_MIRROR"}
+        --dpkgopt=force-unsafe-io "$suite" "$root" ${SMAP_MIRROR:+"$SMAP_MIRROR"}
 }
 
 # What is in the root, apart from what apt, dpkg and the tests themselves keep there.
