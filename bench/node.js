@@ -9,7 +9,7 @@
 // lookup, since others decode then, in a fresh process and in a warm one; lookups at random positions and at
 // rising ones; all mappings; and how much the process grows up to the first lookup. Each figure is the best
 // of N processes, 3 unless given. With --into the table is put between the two lines of that file that hold
-// `figures of node.js`. Let nothing else run meanwhile.
+// `figures of node.js`. Time is processor time. Let nothing else run meanwhile.
 const fs = require('node:fs');
 const os = require('node:os');
 const path = require('node:path');
@@ -78,10 +78,12 @@ const READERS = {
 
 // ---- one process: a reader and a map
 
+// Of processor time, of all threads.
 const milliseconds = call => {
-  const from = process.hrtime.bigint();
+  const from = process.cpuUsage();
   call();
-  return Number(process.hrtime.bigint() - from) / 1e6;
+  const { user, system } = process.cpuUsage(from);
+  return (user + system) / 1000;
 };
 
 // How often a second a call can be made with each of these positions.
@@ -98,8 +100,10 @@ function rate(call, positions) {
 
 function best(call) {
   let least = Infinity;
-  for (let from = performance.now(), i = 0; i < 3 || performance.now() - from < BUDGET; i++) {
-    least = Math.min(least, milliseconds(call));
+  for (let took = 0, i = 0; i < 3 || took < BUDGET; i++) {
+    const one = milliseconds(call);
+    took += Math.max(one, 0.01);
+    least = Math.min(least, one);
   }
   return least;
 }

@@ -82,8 +82,9 @@ static const struct {
     {"translate", do_translate},
     {"frame", do_frame},
 #ifdef SMAP_NODE_TEST
-    /* tests/refuse.c */
+    /* test/refuse.c */
     {"refuse", do_refuse},
+    {"allocated", do_allocated},
 #endif
 };
 

@@ -96,8 +96,8 @@ boxed_map *new_map(void);
 /* A handle of an open map, of which V8 is told that it holds so many bytes; or throws, and frees it. */
 napi_value map_out(napi_env env, boxed_map *boxed, int64_t held);
 
-/* How many bytes a map holds that was read from a text of this length, as far as it can be told. */
-int64_t estimate_held(smap_map *map, size_t text_len);
+/* How many bytes a map holds, as far as it can be told from outside. */
+int64_t estimate_held(smap_map *map);
 
 /* ---- what index.js calls */
 
@@ -126,6 +126,7 @@ napi_value do_translate(napi_env env, napi_callback_info info);
 napi_value do_frame(napi_env env, napi_callback_info info);
 #ifdef SMAP_NODE_TEST
 napi_value do_refuse(napi_env env, napi_callback_info info);
+napi_value do_allocated(napi_env env, napi_callback_info info);
 #endif
 
 #endif

@@ -1,5 +1,6 @@
 'use strict';
-// Each request for memory refused in turn, over the test build of build.sh: see scripts/run-node.
+// Each request for memory refused in turn, and what maps hold beside what the collector is told; over the
+// test build of build.sh: see scripts/run-node.
 const assert = require('node:assert');
 const { SourceMap, Scripts, translate, frame, respell } = require('smap');
 const native = require('../native.js');
@@ -24,7 +25,7 @@ const CALLS = {
   same: () => assert.equal(map.same(other), true),
   lookup: () => assert.equal(map.lookup(1, 0).name, long),
   content: () => assert.equal(map.content(1), long),
-  names: () => assert.equal(native.texts === undefined || new SourceMap(text, BASE).names[1], long),
+  names: () => assert.equal(new SourceMap(text, BASE).names[1], long),
   sources: () => assert.equal(new SourceMap(text, BASE).sources.length, 2),
   table: () => assert.equal(new SourceMap(text, BASE).table().length, 3),
   canonical: () => assert.ok(map.canonical().length > 5000),
@@ -72,7 +73,31 @@ async function refuseLater() {
   }
 }
 
+// Maps of which most is mappings, contents, sources or names.
+const strings = (count, length) => Array.from({ length: count }, (_, i) => `${i}${'x'.repeat(length)}`);
+const HELD = {
+  mappings: { version: 3, sources: ['a'], mappings: 'AAAA' + ',CAAC'.repeat(100000) },
+  lines: { version: 3, sources: ['a'], mappings: 'AAAA' + ';AACA,gBAAgB'.repeat(50000) },
+  contents: { version: 3, sources: strings(50, 5), sourcesContent: strings(50, 50000), mappings: 'AAAA' },
+  escaped: { version: 3, sources: ['a'], sourcesContent: ['\n"'.repeat(500000)], mappings: 'AAAA' },
+  sources: { version: 3, sources: strings(50000, 20), mappings: 'AAAA' },
+  names: { version: 3, sources: ['a'], names: strings(100000, 10), mappings: 'AAAA' },
+  small: { version: 3, sources: strings(4, 9), sourcesContent: strings(4, 900), names: strings(50, 8),
+    mappings: 'AAAA' + ',CAAC'.repeat(500) },
+};
+
+function heldIsNear(name, text) {
+  const before = native.allocated();
+  const map = new SourceMap(text, BASE);
+  const held = native.allocated() - before;
+  const ratio = map.heldBytes / held;
+  assert.ok(ratio > 0.75 && ratio < 1.25, `${name}: ${map.heldBytes} told for ${held}`);
+  map.close();
+  assert.ok(native.allocated() - before < 200, `${name}: ${native.allocated() - before} bytes are left`);
+}
+
 async function main() {
+  for (const [name, text] of Object.entries(HELD)) heldIsNear(name, text);
   let count = 0;
   for (const [name, call] of Object.entries(CALLS)) count += refuseEach(name, call);
   await refuseLater();
