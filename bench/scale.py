@@ -163,6 +163,8 @@ def by_cluster(room, folder, logs, workers):
     running = [subprocess.Popen(words, **quiet)]
     try:
         while not (file.exists() and file.stat().st_size):
+            if running[0].poll() is not None:
+                raise SystemExit("the scheduler ended")
             time.sleep(0.1)
         for number in range(workers):
             own = ["--no-nanny", "--nthreads", "1", "--local-directory", str(room / f"{workers}.{number}")]

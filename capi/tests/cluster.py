@@ -19,6 +19,9 @@ MAP = b'{"version":3,"sources":["a.js"],"mappings":"AAUE,IAEA"}'
 FILES = 20
 LONG = b"x" * 3_000_000 + b"\n"
 
+# For how many seconds the example may do nothing that is seen.
+PATIENCE = 900
+
 
 def pieces(random_numbers):
     """Pieces of a log, of whole lines: frames of 30 scripts, of which 25 have a map and one a broken map."""
@@ -85,14 +88,17 @@ def run_example(room):
 
 
 def end_worker_in_the_middle(room, worker, running):
-    """Ends a worker once a file is done. Says how many were done; fails if all were."""
-    while running.poll() is None:
+    """Ends a worker once a file is done. Says how many were done; fails if none was for a long time."""
+    deadline = time.time() + PATIENCE
+    while running.poll() is None and time.time() < deadline:
         done = len(list((room / "out").glob("*.log")))
         if done:
             os.kill(worker.pid, signal.SIGKILL)
             return done
         time.sleep(0.01)
-    sys.exit(f"the example ended too early: {running.communicate()}")
+    ended = running.poll()
+    running.kill()
+    sys.exit(f"no file was done: {'too slow' if ended is None else ended} {running.communicate()}")
 
 
 def differing(room):
@@ -111,8 +117,9 @@ def check(room, lines):
         for process in begin_cluster(room):
             processes.append(process)
         running = run_example(room)
+        processes.append(running)
         done = end_worker_in_the_middle(room, processes[1], running)
-        told, said = running.communicate(timeout=1200)
+        told, said = running.communicate(timeout=PATIENCE)
     finally:
         for process in processes:
             process.kill()
