@@ -137,6 +137,8 @@ def check(room, lines):
 
 
 def main():
+    # so that what was started ends, and what was written goes, with this
+    signal.signal(signal.SIGTERM, lambda *_: sys.exit("ended from outside"))
     megabytes = int(sys.argv[1]) if len(sys.argv) > 1 else 200
     with tempfile.TemporaryDirectory() as folder:
         room = Path(folder)
