@@ -26,7 +26,6 @@ def test(name, function, *values):
     try:
         function(*values)
         counts["passed"] += 1
-        print(f"passed: {name}", flush=True)
     except Exception:  # whatever it is, it is told
         counts["failed"] += 1
         print(f"FAILED: {name}")
@@ -71,6 +70,8 @@ def main():
         test("the page uses no markup", contents.uses_no_markup)
         test("every character comes through", contents.escapes_everything, folder)
         for kind, count in (browsers.Chromium, 200), (browsers.Firefox, 40):
+            if ": " in ONLY and not ONLY.startswith(kind.name):
+                continue
             missing = kind.missing()
             if missing:
                 left_out.append(f"{kind.name} (no {missing} here)")
