@@ -41,6 +41,8 @@ POINT = """
                 const range = document.createRange();
                 range.setStart(span.firstChild, column - at);
                 range.setEnd(span.firstChild, column - at + 1);
+                const pane = document.getElementById('generated'), edge = pane.getBoundingClientRect();
+                pane.scrollLeft += Math.max(0, range.getBoundingClientRect().right - edge.right + 30);
                 const box = range.getBoundingClientRect();
                 return [box.left + Math.min(box.width / 2, 5), box.top + box.height / 2];
             }
@@ -74,7 +76,10 @@ def as_lookup(status):
     if status.endswith(" has a mapping without a source"):
         line, column = status.split(" ")[0].split(":")
         return f"{int(line) - 1}:{int(column) - 1} unmapped"
-    line, column, row, offset, url, _, name = SAYS.match(status).groups()
+    found = SAYS.match(status)
+    if not found:
+        return f"what the page says isn't known: {status!r}"
+    line, column, row, offset, url, _, name = found.groups()
     if url.startswith("source "):
         url = "null"
     text = f"{int(line) - 1}:{int(column) - 1} {url}:{int(row) - 1}:{int(offset) - 1}"
