@@ -36,7 +36,8 @@ def free_port():
 def started(command, log, ready):
     """Starts a program in a group of its own, and waits until it is ready."""
     with open(log, "wb") as out:
-        process = subprocess.Popen(command, stdin=subprocess.DEVNULL, stdout=out, stderr=out, start_new_session=True)
+        process = subprocess.Popen(command, stdin=subprocess.DEVNULL, stdout=out, stderr=out,
+                                   start_new_session=True)
     end = time.monotonic() + 120
     while time.monotonic() < end and process.poll() is None:
         found = ready()
@@ -121,7 +122,8 @@ class Browser:
 
     def press_with(self, held, key):
         kinds = ("keyDown", held), ("keyDown", key), ("keyUp", key), ("keyUp", held)
-        self.act({"type": "key", "id": "keys", "actions": [{"type": kind, "value": value} for kind, value in kinds]})
+        actions = [{"type": kind, "value": value} for kind, value in kinds]
+        self.act({"type": "key", "id": "keys", "actions": actions})
 
     def picture(self, path):
         with open(path, "wb") as file:
@@ -145,7 +147,8 @@ class Chromium(Browser):
 
     paths = {
         "navigate": ("POST", "/url"), "script": ("POST", "/execute/sync"), "actions": ("POST", "/actions"),
-        "screenshot": ("GET", "/screenshot"), "dialog": ("GET", "/alert/text"), "cdp": ("POST", "/goog/cdp/execute"),
+        "screenshot": ("GET", "/screenshot"), "dialog": ("GET", "/alert/text"),
+        "cdp": ("POST", "/goog/cdp/execute"),
         "log": ("POST", "/se/log"),
     }
 
@@ -172,10 +175,10 @@ class Chromium(Browser):
         self.port = free_port()
         self.process, _ = started(["chromedriver", f"--port={self.port}"], f"{self.room}/log", self.ready)
         options = {"binary": shutil.which("chromium"), "args": [
-            "--headless=new", "--no-sandbox", "--disable-gpu", "--disable-dev-shm-usage", "--hide-scrollbars=false",
-            "--disable-background-networking", f"--user-data-dir={self.room}/profile", "--force-color-profile=srgb"]}
-        wanted = {"goog:chromeOptions": options, "goog:loggingPrefs": {"browser": "ALL", "performance": "ALL"},
-                  "unhandledPromptBehavior": "ignore"}
+            "--headless=new", "--no-sandbox", "--disable-gpu", "--disable-dev-shm-usage",
+            "--disable-background-networking", f"--user-data-dir={self.room}/profile"]}
+        wanted = {"goog:chromeOptions": options, "unhandledPromptBehavior": "ignore",
+                  "goog:loggingPrefs": {"browser": "ALL", "performance": "ALL"}}
         made = self.call("POST", "/session", {"capabilities": {"alwaysMatch": wanted}})
         self.session = f"/session/{made['sessionId']}"
         self.version = made["capabilities"]["browserVersion"]
@@ -197,8 +200,10 @@ class Chromium(Browser):
 
     def requests(self):
         """URLs that were requested since the last call."""
-        events = [json.loads(line["message"])["message"] for line in self.command("log", {"type": "performance"})]
-        return [event["params"]["request"]["url"] for event in events if event["method"] == "Network.requestWillBeSent"]
+        lines = self.command("log", {"type": "performance"})
+        events = [json.loads(line["message"])["message"] for line in lines]
+        sent = [event["params"] for event in events if event["method"] == "Network.requestWillBeSent"]
+        return [event["request"]["url"] for event in sent]
 
 
 class Firefox(Browser):
@@ -209,7 +214,8 @@ class Firefox(Browser):
         return "" if shutil.which("firefox-esr") else "firefox-esr"
 
     commands = {
-        "navigate": "WebDriver:Navigate", "script": "WebDriver:ExecuteScript", "actions": "WebDriver:PerformActions",
+        "navigate": "WebDriver:Navigate", "script": "WebDriver:ExecuteScript",
+        "actions": "WebDriver:PerformActions",
         "screenshot": "WebDriver:TakeScreenshot", "dialog": "WebDriver:GetAlertText",
         "context": "Marionette:SetContext", "size": "WebDriver:SetWindowRect",
     }
@@ -225,19 +231,22 @@ class Firefox(Browser):
         self.port = free_port()
         os.mkdir(f"{self.room}/profile")
         settings = {
-            "marionette.port": self.port, "browser.shell.checkDefaultBrowser": False, "app.update.enabled": False,
-            "datareporting.policy.dataSubmissionEnabled": False, "toolkit.telemetry.reportingpolicy.firstRun": False,
+            "marionette.port": self.port, "browser.shell.checkDefaultBrowser": False,
+            "app.update.enabled": False, "datareporting.policy.dataSubmissionEnabled": False,
+            "toolkit.telemetry.reportingpolicy.firstRun": False,
             "browser.aboutwelcome.enabled": False, "network.captive-portal-service.enabled": False,
             "network.connectivity-service.enabled": False, "services.settings.server": "data:,x",
         }
         with open(f"{self.room}/profile/user.js", "w") as file:
-            file.writelines(f"user_pref({json.dumps(name)}, {json.dumps(value)});\n" for name, value in settings.items())
+            for name, value in settings.items():
+                file.write(f"user_pref({json.dumps(name)}, {json.dumps(value)});\n")
         command = ["firefox-esr", "--headless", "--marionette", "--remote-allow-system-access", "--no-remote",
                    "--profile", f"{self.room}/profile"]
         self.process, self.link = started(command, f"{self.room}/log", self.ready)
         self.count = 0
         self.receive()
-        made = self.send("WebDriver:NewSession", {"capabilities": {"alwaysMatch": {"unhandledPromptBehavior": "ignore"}}})
+        wanted = {"alwaysMatch": {"unhandledPromptBehavior": "ignore"}}
+        made = self.send("WebDriver:NewSession", {"capabilities": wanted})
         self.version = made["capabilities"]["browserVersion"]
 
     def receive(self):
@@ -279,8 +288,8 @@ class Firefox(Browser):
         self.command("size", {"width": width + inner[0], "height": height + inner[1]})
 
     def scheme(self, name):
-        self.with_rights("Services.prefs.setIntPref('layout.css.prefers-color-scheme.content-override', arguments[0])",
-                         {"dark": 0, "light": 1}[name])
+        self.with_rights("Services.prefs.setIntPref(...arguments)",
+                         "layout.css.prefers-color-scheme.content-override", {"dark": 0, "light": 1}[name])
 
     def complaints(self):
         """Errors and warnings of pages in the console since the last call."""

@@ -1,4 +1,4 @@
-"""Maps and scripts to look at. Each is made here with what it means, so that a page can be compared with it."""
+"""Maps and scripts to look at, made together with what they mean, with which a page can be compared."""
 
 import json
 import random
@@ -30,7 +30,8 @@ class Maker:
         self.first = True
 
     def add(self, text, *numbers):
-        """Adds a piece without a line end. The numbers are those of its mapping after the column, if it has one."""
+        """Adds a piece without a line end. The numbers are those of its mapping, after the column; None stands
+        for no mapping."""
         if numbers != (None,):
             values = (self.column, *numbers)
             if not self.first:
@@ -57,9 +58,10 @@ class Maker:
         return text
 
 
-WORDS = ["render", "state", "props", "=>", "(", ")", "{", "}", "return", "42", '"text"', "élan", "漢字", "🙂", "\t", ";"]
-SOURCES = ["src/app.js", "src/parts/list.js", "src/parts/item.js", "src/util/dates.js", "node_modules/lib/index.js",
-           "node_modules/lib/deep/core.js", None, "no-content.js"]
+WORDS = ["render", "state", "props", "=>", "(", ")", "{", "}", "return", "42", '"text"', "élan", "漢字", "🙂",
+         "\t", ";"]
+SOURCES = ["src/app.js", "src/parts/list.js", "src/parts/item.js", "src/util/dates.js",
+           "node_modules/lib/index.js", "node_modules/lib/deep/core.js", None, "no-content.js"]
 NAMES = ["render", "state", "<b>name</b>"]
 
 
@@ -68,8 +70,9 @@ def source_lines(rng, lines):
 
 
 def small(folder):
-    """A script of all kinds: long and short lines, ends of several kinds, sources that are ignored, without content
-    or without a URL, mappings without a source, several in one place, characters of one to four bytes."""
+    """A script of all kinds: long and short lines, ends of several kinds, sources that are ignored, without
+    content or without a URL, mappings without a source, several in one place, characters of one to four
+    bytes."""
     rng = random.Random(46)
     contents = [source_lines(rng, 60) for _ in SOURCES]
     made, sizes = Maker(), [0] * (len(SOURCES) + 2)
@@ -105,7 +108,7 @@ def small(folder):
 
 
 def large(folder, mappings=1_000_000, sources=300):
-    """A script as bundlers write it: four lines, a mapping for every ten columns, five in a line of a source."""
+    """A script as bundlers write it: four lines, a mapping for every ten columns."""
     rng = random.Random(10)
     pieces = ["".join(rng.choice("abcdefghij(){};=.") for _ in range(9)) + ";" for _ in range(1000)]
     line = mappings // 4
@@ -128,9 +131,12 @@ def large(folder, mappings=1_000_000, sources=300):
 
 
 HOSTILE = [
-    "</script><script>alert(1)</script>", "<!--<script>", "<img src=http://127.0.0.1:PORT/img onerror=alert(2)>",
-    "<style>@import 'http://127.0.0.1:PORT/css';</style>", "javascript:alert(3)", "]]>-->", "\u2028\u2029\u0000\u202e",
-    "<svg onload=alert(4)>", "${alert(5)}", "__proto__", "constructor", "'\"`\\", "<link rel=prefetch href=//127.0.0.1:PORT/>",
+    "</script><script>alert(1)</script>", "<!--<script>",
+    "<img src=http://127.0.0.1:PORT/img onerror=alert(2)>",
+    "<style>@import 'http://127.0.0.1:PORT/css';</style>", "javascript:alert(3)", "]]>-->",
+    "\u2028\u2029\u0000\u202e",
+    "<svg onload=alert(4)>", "${alert(5)}", "__proto__", "constructor", "'\"`\\",
+    "<link rel=prefetch href=//127.0.0.1:PORT/>",
 ]
 
 

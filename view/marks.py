@@ -1,0 +1,156 @@
+"""Tests of what is marked: after clicks, keys, links and searches."""
+
+import pages
+from browsers import CONTROL, DOWN, END, ENTER, HOME, LEFT, RIGHT, TAB, UP
+from common import CLEAR, MARKED, POINT, as_lookup, equal, follow, lookup, make_page, places, status
+
+
+def clicks(browser, folder, made, url, count):
+    """What is marked after a click is what `smap lookup` answers."""
+    browser.open(url)
+    wrong = []
+    for line, column in places(made, count):
+        wanted = lookup(folder, made["name"], line, column)
+        follow(browser, f"#generated={line + 1}:{column + 1}")
+        linked = as_lookup(browser.run(MARKED)["status"])
+        # what is there after the click comes from the click
+        browser.run(CLEAR)
+        browser.click(*browser.run(POINT, line, column))
+        marked = browser.run(MARKED)
+        if not (linked == as_lookup(marked["status"]) == wanted and (
+                "://" not in wanted or wanted.split(" ")[1].startswith(marked["shown"].split(" ")[0] + ":"))):
+            wrong.append((line, column, linked, wanted, marked))
+    assert not wrong, f"{len(wrong)} of {count}: {wrong[:2]}"
+    return count
+
+
+# ---- keyboard, links, search
+
+FOCUSED = "return document.activeElement.id || document.activeElement.getAttribute('aria-label') || " \
+          "document.activeElement.textContent"
+
+
+def tab_to(browser, wanted):
+    for _ in range(20):
+        browser.press(TAB)
+        if browser.run(FOCUSED) == wanted:
+            return
+    raise AssertionError(f"{wanted} isn't reached by Tab")
+
+
+def simple(folder):
+    """A map whose answers are plain: FIRST to FIFTH, below."""
+    made = pages.Maker()
+    made.add("ff ", 0, 0, 4, 0)
+    made.add("g ", 0, 1, 2)
+    made.add("un ")
+    made.add("h", 1, 1, 2, 1)
+    made.end_line()
+    made.add("(", None)
+    made.add("f)", 0, 0, 4)
+    made.write(folder, "simple.js", sources=["a.js", "b.js"], names=["n", "</b>"],
+               sourcesContent=["let foo;\n  bar;", "\nx y z"])
+    return make_page(folder, "simple.js.map", "--base", "http://h/m", "simple.js.map")
+
+
+A_JS, B_JS = "http://h/m/a.js", "http://h/m/b.js"
+FIRST = f'1:1 to 1:4 comes from 1:5 of {A_JS}, name "n"; place 1 of 2 with this original position'
+SECOND = f"1:4 to 1:6 comes from 2:3 of {A_JS}"
+THIRD = "1:6 to 1:9 has a mapping without a source"
+FOURTH = f'1:9 to 1:10 comes from 2:3 of {B_JS}, name "</b>"'
+FIFTH = f"2:2 to 2:4 comes from 1:5 of {A_JS}; place 2 of 2 with this original position"
+
+
+def keyboard(browser, url):
+    """Without a pointer: both panes, both views, the areas and the table."""
+    browser.open(url)
+    tab_to(browser, "texts-tab")
+    tab_to(browser, "generated")
+    for key, wanted in ((RIGHT, FIRST), (RIGHT, SECOND), (RIGHT, THIRD), (RIGHT, FOURTH), (RIGHT, FIFTH),
+                        (LEFT, FOURTH), (HOME, FIRST), (DOWN, "2:1 has no mapping"), (END, FIFTH),
+                        (UP, SECOND), (HOME, FIRST), (ENTER, FIFTH), (ENTER, FIRST)):
+        browser.press(key)
+        equal(status(browser), wanted)
+    browser.press_with(CONTROL, END)
+    equal(status(browser), FIFTH)
+    browser.press_with(CONTROL, HOME)
+    equal(status(browser), FIRST)
+    tab_to(browser, "source")
+    browser.press(RIGHT)
+    equal(status(browser), SECOND)
+    browser.press(HOME)
+    equal(status(browser), f"2:1 of {A_JS} has no mapping")
+    browser.press(UP)
+    equal(status(browser), f"1:1 of {A_JS} has no mapping")
+
+
+def keyboard_bytes(browser, url):
+    browser.open(url)
+    tab_to(browser, "texts-tab")
+    browser.press(RIGHT)
+    equal(browser.run(FOCUSED), "bytes-tab")
+    browser.press(TAB)
+    first = browser.run(FOCUSED)
+    browser.press(RIGHT)
+    second = browser.run(FOCUSED)
+    equal((first, second), (f"{A_JS}: 7 bytes, 53.8%", f"{B_JS}: 2 bytes, 15.4%"))
+    tab_to(browser, B_JS)
+    browser.press(ENTER)
+    equal(browser.run(FOCUSED), "source")
+    equal(browser.run(MARKED)["shown"], B_JS)
+
+
+def links(browser, url):
+    for link, wanted, marks in (
+            ("#generated=1:5", SECOND, ("g ", "bar;")), ("#generated=2:1", "2:1 has no mapping", ("", "")),
+            ("#generated=2", "2:1 has no mapping", ("", "")), ("#source=1:1:6", FIRST, ("ff ", "foo;")),
+            ("#source=2:2:3", FOURTH, ("h", "y z")),
+            ("#source=2:2:2", f"2:2 of {B_JS} has no mapping", ("", "")),
+            ("#generated=3:1", "simple.js has 2 lines", None),
+            ("#generated=1:99", "Line 1 of simple.js has 9 columns", None),
+            ("#generated=0:1", "Lines and columns count from 1", None),
+            ("#source=3:1:1", "The map has 2 sources", None), ("#source=1:9:1", f"{A_JS} has 2 lines", None),
+            ("#generated=x", '"x" is no position: write line:column, both from 1', None)):
+        equal(follow(browser, link), wanted)
+        if marks:
+            got = browser.run(MARKED)
+            equal((link, got["generated"], got["source"]), (link, *marks))
+    browser.open("about:blank")
+    browser.open(f"{url}#source=2:2:3")
+    equal(status(browser), FOURTH)
+
+
+def search(browser, url):
+    browser.open(url)
+    for form, text, wanted in (("generated-go", "1:5", SECOND), ("source-go", "1:6", FIRST),
+                               ("generated-go", " 2 , 3 ", FIFTH),
+                               ("source-go", "7:1", f"{A_JS} has 2 lines"),
+                               ("generated-go", "1:x", '"1:x" is no position: write line:column, both from 1')):
+        browser.run("""
+            const field = document.querySelector(`#${arguments[0]} input`);
+            field.value = '';
+            field.focus();""", form)
+        browser.press(*text, ENTER)
+        equal(status(browser), wanted)
+    browser.wait("return location.hash === '#generated=2:3'")
+
+
+def source_clicks(browser, url):
+    """A click on a source marks each place of the generated text in turn; a pointer shows both sides."""
+    browser.open(f"{url}#source=1")
+    span = """
+        const span = [...document.querySelectorAll(`#${arguments[0]} .range`)]
+            .find(one => one.textContent === arguments[1]);
+        const box = span.getBoundingClientRect();
+        return [box.left + 4, box.top + box.height / 2];"""
+    point = browser.run(span, "source", "foo;")
+    for wanted, mark in (FIRST, "ff "), (FIFTH, "f)"), (FIRST, "ff "):
+        browser.click(*point)
+        equal((status(browser), browser.run(MARKED)["generated"]), (wanted, mark))
+    browser.point(*browser.run(span, "generated", "g "))
+    hovered = """
+        return ['generated', 'source'].map(pane => document.querySelector(`#${pane} .hover`)?.textContent);"""
+    equal(browser.run(hovered), ["g ", "bar;"])
+    equal(browser.run("return document.getElementById('tip').textContent"), SECOND)
+    browser.point(2, 2)
+    equal(browser.run(hovered), [None, None])
