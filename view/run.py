@@ -32,7 +32,13 @@ def test(name, function, *values):
         print("  " + "\n  ".join(traceback.format_exc(limit=-2).splitlines()[-8:])[:1500], flush=True)
 
 
-def console_is_quiet(browser):
+def console_is_quiet(browser, url):
+    """Nothing is told there, whatever was done before, and while the panes are scrolled."""
+    browser.open(url)
+    for top in 100, 300, 200:
+        browser.run("for (const pane of document.querySelectorAll('.pane')) pane.scrollTop = arguments[0]", top)
+        time.sleep(0.2)
+    assert browser.run("return Number(document.querySelector('#generated .row').dataset.column)") > 0
     equal(browser.complaints(), [])
 
 
@@ -50,7 +56,7 @@ def try_browser(browser, folder, made, url, simple_url, count):
     test(f"{browser.name}: clicks in a source, and the pointer", marks.source_clicks, browser, simple_url)
     test(f"{browser.name}: contrasts", looks.contrasts, browser, url, refused)
     test(f"{browser.name}: refused maps", contents.refusals, browser, folder)
-    test(f"{browser.name}: the console", console_is_quiet, browser)
+    test(f"{browser.name}: the console", console_is_quiet, browser, url)
     test(f"{browser.name}: hostile maps", contents.hostile, browser, folder)
 
 
