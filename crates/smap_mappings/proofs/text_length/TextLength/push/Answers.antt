@@ -5,7 +5,7 @@ use Rattle.smap_mappings.specs.Text.{mappings_text}
 use Rattle.smap_mappings.specs.Writing.{segment_from, running_after, separator, at_line}
 use Rattle.smap_mappings.specs.Feeding.{Encoded}
 use Rattle.smap_mappings.proofs.EncodingLemmas.{goes_on}
-use Rattle.smap_mappings.proofs.length.TextLength.push.Goals as goal
+use Rattle.smap_mappings.proofs.text_length.TextLength.push.Goals as goal
 
 pub returns : goal.returns
 returns c tokens e h =

@@ -1,7 +1,7 @@
 use Rattle.std.proofs.Common.{[], refl}
 use Rattle.smap_mappings.specs.Text.{mappings_text}
 use Rattle.smap_mappings.proofs.EncodingLemmas.{starts}
-use Rattle.smap_mappings.proofs.length.TextLength.new.Goals as goal
+use Rattle.smap_mappings.proofs.text_length.TextLength.new.Goals as goal
 
 pub returns : goal.returns
 unfolding mappings_text
