@@ -6,6 +6,7 @@ pub mod SourceLemmas
 pub mod RelativeLemmas
 pub mod FewerLemmas
 pub mod NumberedLemmas
+pub mod StepLemmas
 pub mod EntryLemmas
 pub mod FlagLemmas
 pub mod OnceLemmas

@@ -6,11 +6,14 @@ use Rattle.smap_record.specs.Building.{listing_so_far}
 use Rattle.smap_record.proofs.sections.+nested.Given as goal
 
 -- an index map of each further level is read once more
+abbrev pub decreases-with_map : goal.decreases-with_map
+decreases-with_map l = 3 * (8 - l.level)
+
 abbrev pub decreases-with_section : goal.decreases-with_section
-decreases-with_section l = 2 * (8 - l.level)
+decreases-with_section l = 3 * (8 - l.level) + 1
 
 abbrev pub decreases-with_sections : goal.decreases-with_sections
-decreases-with_sections l = 2 * (8 - l.level) + 1
+decreases-with_sections l = 3 * (8 - l.level) + 2
 
 -- the sections that are left, after what is listed, are read as all of them are
 abbrev pub invariant-with_sections-loop-k : goal.invariant-with_sections-loop-k
