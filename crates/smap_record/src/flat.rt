@@ -10,14 +10,15 @@ ghost use Rattle.smap_record.specs.Flat.{listed_flat, flat_map as flat_map_of};
 ghost use Rattle.smap_record.specs.Fitting.{Fits, ListingFits};
 ghost use Rattle.smap_record.specs.Results.{Returns};
 ghost use Rattle.smap_record.specs.Owned.{texts_of};
-ghost use Rattle.smap_record.specs.Building.{listing_so_far, any_after};
+ghost use Rattle.smap_record.specs.MapView.{listing_of};
+ghost use Rattle.smap_record.specs.Building.{any_after};
 
 mod sources;
 mod tokens;
 
 use crate::fault::{Kind, ReadError, refused};
 use crate::limits::Limits;
-use crate::listing_builder::ListingBuilder;
+use crate::listing::Listing;
 use crate::map::SourceMap;
 use crate::source::Base;
 use smap_mappings::Position;
@@ -48,26 +49,26 @@ fn with_names(
 /// the offset.
 fn with_contents(
     alloc: Global,
-    before: ListingBuilder,
+    before: Listing,
     shape: &FlatShape<'_>,
     contents: Vec<Option<String>>,
     base: &Base,
     limits: Limits,
     offset: Position,
-) -> Result<ListingBuilder, ReadError>
+) -> Result<Listing, ReadError>
     requires offset { IsPosition offset }
     requires none_after { any_after offset before.tokens.items ≡ false }
-    requires fits { ListingFits base.now limits (listing_so_far before) }
-    ensures reads { Returns listing_so_far result
-        (listed_flat base.now limits offset (listing_so_far before)
+    requires fits { ListingFits base.now limits (listing_of before) }
+    ensures reads { Returns listing_of result
+        (listed_flat base.now limits offset (listing_of before)
         (flat_with (texts_of contents.items) shape.now)) }
-    ensures fits { IfOk result (λ g. ListingFits base.now limits (listing_so_far g)) }
+    ensures fits { IfOk result (λ g. ListingFits base.now limits (listing_of g)) }
 {
     if is_too_many(&before, shape, limits) {
         return Err(refused(Kind::TooMany));
     }
     let bounds = bounds(shape, limits, offset);
-    let ListingBuilder {
+    let Listing {
         sources,
         names,
         tokens,
@@ -84,7 +85,7 @@ fn with_contents(
         name_count,
     )?;
     let names = with_names(alloc, names, shape)?;
-    Ok(ListingBuilder {
+    Ok(Listing {
         sources,
         names,
         tokens,
@@ -95,18 +96,18 @@ fn with_contents(
 /// first fault. The map's contents are copied. No earlier token is after the offset.
 pub(crate) fn with_flat(
     alloc: Global,
-    before: ListingBuilder,
+    before: Listing,
     shape: &FlatShape<'_>,
     base: &Base,
     limits: Limits,
     offset: Position,
-) -> Result<ListingBuilder, ReadError>
+) -> Result<Listing, ReadError>
     requires offset { IsPosition offset }
     requires none_after { any_after offset before.tokens.items ≡ false }
-    requires fits { ListingFits base.now limits (listing_so_far before) }
-    ensures reads { Returns listing_so_far result
-        (listed_flat base.now limits offset (listing_so_far before) shape.now) }
-    ensures fits { IfOk result (λ g. ListingFits base.now limits (listing_so_far g)) }
+    requires fits { ListingFits base.now limits (listing_of before) }
+    ensures reads { Returns listing_of result
+        (listed_flat base.now limits offset (listing_of before) shape.now) }
+    ensures fits { IfOk result (λ g. ListingFits base.now limits (listing_of g)) }
 {
     let contents = copied_contents(alloc, shape)?;
     with_contents(alloc, before, shape, contents, base, limits, offset)
@@ -126,8 +127,8 @@ pub(crate) fn flat_map(
     ensures listing_fits { IfOk result (λ m. ListingFits base.now limits m.listing) }
 {
     let start = Position { line: 0, column: 0 };
-    let before = ListingBuilder::new(alloc);
+    let before = Listing::new(alloc);
     let listed = with_contents(alloc, before, shape, contents, base, limits, start)?;
     let file = copied(alloc, shape.file())?;
-    Ok(listed.into_map(file))
+    Ok(SourceMap::new(file, listed))
 }

@@ -14,13 +14,14 @@ ghost use Rattle.smap_record.specs.Sections.{index_map as index_map_of, own_offs
 ghost use Rattle.smap_record.specs.Fitting.{Fits, ListingFits};
 ghost use Rattle.smap_record.specs.Results.{Returns};
 ghost use Rattle.smap_mappings.specs.Position.{IsPosition, NeverFalls, position_of};
-ghost use Rattle.smap_record.specs.Building.{listing_so_far, any_after, error_in, both, HasRoom};
+ghost use Rattle.smap_record.specs.MapView.{listing_of};
+ghost use Rattle.smap_record.specs.Building.{any_after, error_in, both, HasRoom};
 ghost use Rattle.smap_record.specs.Building.{section_start, listed_map};
 
 use crate::fault::{Fault, Kind, ReadError, refused};
 use crate::flat::{copied, with_flat};
 use crate::limits::Limits;
-use crate::listing_builder::{ListingBuilder, falls, overlaps};
+use crate::listing::{Listing, falls, overlaps};
 use crate::map::SourceMap;
 use crate::source::Base;
 use serde_json::Value;
@@ -75,14 +76,14 @@ fn own_offset(section: &SectionShape<'_>) -> Position
 /// Where a section with this own offset starts, in a map that starts at `outer`, or why it can't be added to
 /// what is listed before it. `last` is the own offset of the previous section.
 fn start_of(
-    before: &ListingBuilder,
+    before: &Listing,
     last: Option<Position>,
     own: Position,
     outer: Position,
 ) -> Result<Position, ReadError>
     requires { NeverFalls (mapped position_of before.now.tokens.items) }
     ensures starts { Returns (λ p. p) result
-        (section_start outer last (listing_so_far before.now) own) }
+        (section_start outer last (listing_of before.now) own) }
     ensures within { IfOk result IsPosition }
     ensures none_after { IfOk result (λ offset. any_after offset before.now.tokens.items ≡ false) }
 {
@@ -103,21 +104,21 @@ fn start_of(
 #[cycle(nested)]
 fn with_map(
     alloc: Global,
-    before: ListingBuilder,
+    before: Listing,
     tree: &Value,
     base: &Base,
     limits: Limits,
     offset: Position,
     level: u8,
-) -> Result<ListingBuilder, ReadError>
+) -> Result<Listing, ReadError>
     requires first { 1 ≤ level }
     requires last { level ≤ max_level }
     requires offset { IsPosition offset }
     requires none_after { any_after offset before.tokens.items ≡ false }
-    requires fits { ListingFits base.now limits (listing_so_far before) }
-    ensures reads { Returns listing_so_far result
-        (listed_map (map_at_level base.now limits level) offset (listing_so_far before) (view tree.now)) }
-    ensures fits { IfOk result (λ g. ListingFits base.now limits (listing_so_far g)) }
+    requires fits { ListingFits base.now limits (listing_of before) }
+    ensures reads { Returns listing_of result
+        (listed_map (map_at_level base.now limits level) offset (listing_of before) (view tree.now)) }
+    ensures fits { IfOk result (λ g. ListingFits base.now limits (listing_of g)) }
 {
     match shape(tree) {
         Ok(Shape::Flat(members)) => with_flat(alloc, before, &members, base, limits, offset),
@@ -138,22 +139,22 @@ fn with_map(
 #[cycle(nested)]
 fn with_section(
     alloc: Global,
-    before: ListingBuilder,
+    before: Listing,
     last: Option<Position>,
     tree: &Value,
     base: &Base,
     limits: Limits,
     outer: Position,
     level: u8,
-) -> Result<(Position, ListingBuilder), ReadError>
+) -> Result<(Position, Listing), ReadError>
     requires first { 1 ≤ level }
     requires last { level ≤ max_level }
     requires outer { IsPosition outer }
-    requires fits { ListingFits base.now limits (listing_so_far before) }
+    requires fits { ListingFits base.now limits (listing_of before) }
     ensures reads { Returns both result
         (listed_section level (map_at_level base.now limits level) outer last
-        (listing_so_far before) (view tree.now)) }
-    ensures fits { IfOk result (λ r. ListingFits base.now limits (listing_so_far r.1)) }
+        (listing_of before) (view tree.now)) }
+    ensures fits { IfOk result (λ r. ListingFits base.now limits (listing_of r.1)) }
 {
     let section = section_shape(tree, level)?;
     let own = own_offset(&section);
@@ -167,21 +168,21 @@ fn with_section(
 #[cycle(nested)]
 fn with_sections(
     alloc: Global,
-    before: ListingBuilder,
+    before: Listing,
     shape: &IndexShape<'_>,
     base: &Base,
     limits: Limits,
     outer: Position,
     level: u8,
-) -> Result<ListingBuilder, ReadError>
+) -> Result<Listing, ReadError>
     requires first { 1 ≤ level }
     requires last { level ≤ max_level }
     requires outer { IsPosition outer }
-    requires fits { ListingFits base.now limits (listing_so_far before) }
-    ensures reads { Returns listing_so_far result
+    requires fits { ListingFits base.now limits (listing_of before) }
+    ensures reads { Returns listing_of result
         (listed_sections level (map_at_level base.now limits level) outer 0 None
-        (listing_so_far before) (mapped view shape.now.sections)) }
-    ensures fits { IfOk result (λ g. ListingFits base.now limits (listing_so_far g)) }
+        (listing_of before) (mapped view shape.now.sections)) }
+    ensures fits { IfOk result (λ g. ListingFits base.now limits (listing_of g)) }
 {
     let mut last = None;
     let mut listed = before;
@@ -210,8 +211,8 @@ pub(crate) fn index_map(
     ensures listing_fits { IfOk result (λ m. ListingFits base.now limits m.listing) }
 {
     let start = Position { line: 0, column: 0 };
-    let before = ListingBuilder::new(alloc);
+    let before = Listing::new(alloc);
     let listed = with_sections(alloc, before, shape, base, limits, start, 1)?;
     let file = copied(alloc, shape.file())?;
-    Ok(listed.into_map(file))
+    Ok(SourceMap::new(file, listed))
 }

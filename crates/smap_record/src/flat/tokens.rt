@@ -9,11 +9,11 @@ ghost use Rattle.smap_record.specs.Faults.{of_segments};
 ghost use Rattle.smap_record.specs.Flat.{is_too_many, bounds_of, shifted as shifted_by};
 ghost use Rattle.smap_record.specs.Results.{Returns};
 ghost use Rattle.smap_record.specs.Steps.{joined_tokens};
-ghost use Rattle.smap_record.specs.Building.{listing_so_far};
+ghost use Rattle.smap_record.specs.MapView.{listing_of};
 
 use crate::fault::{Fault, ReadError};
 use crate::limits::Limits;
-use crate::listing_builder::ListingBuilder;
+use crate::listing::Listing;
 use smap_mappings::{Bounds, MappingsError, Original, Position, Token, decode};
 use smap_shape::FlatShape;
 use std::alloc::{AllocError, Global};
@@ -26,8 +26,8 @@ fn is_beyond(most: usize, before: usize, more: usize) -> bool
 }
 
 /// Whether more is listed with the map than the limits allow.
-pub(crate) fn is_too_many(before: &ListingBuilder, shape: &FlatShape<'_>, limits: Limits) -> bool
-    ensures { result ≡ is_too_many limits (listing_so_far before.now) shape.now }
+pub(crate) fn is_too_many(before: &Listing, shape: &FlatShape<'_>, limits: Limits) -> bool
+    ensures { result ≡ is_too_many limits (listing_of before.now) shape.now }
 {
     let items = limits.items() as usize;
     is_beyond(items, before.sources.listed_count(), shape.source_count())

@@ -9,10 +9,10 @@ use Rattle.smap_shape.specs.Contents.{with_contents}
 use Rattle.smap_record.specs.Owned.{texts_of}
 use Rattle.smap_record.specs.Results.{Fails}
 use Rattle.smap_record.specs.Record.{Allowed}
-use Rattle.smap_record.specs.declared.listing_builder.ListingBuilder.{ListingBuilder}
+use Rattle.smap_record.specs.declared.listing.Listing.{Listing as Fields}
 use Rattle.smap_record.specs.Flat.{listed_flat, bounds_of}
 use Rattle.smap_record.specs.Steps.{joined_tokens}
-use Rattle.smap_record.specs.Building.{listing_so_far}
+use Rattle.smap_record.specs.MapView.{listing_of}
 use Rattle.smap_record.proofs.StepLemmas.{then_ok, first_fails, then_fails}
 use Rattle.smap_record.proofs.FlatLemmas.{too_many, flat_in_steps, flat_fits}
 use Rattle.smap_record.proofs.flat.with_contents.Goals as goal
@@ -24,7 +24,7 @@ owned contents m = with_contents (texts_of contents) m
 
 pub returns-then-is_too_many-clause-reads : goal.returns-then-is_too_many-clause-reads
 returns-then-is_too_many-clause-reads c = rw c.refused.ensures
-    (too_many c.args.base.now c.args.limits c.args.offset (listing_so_far c.args.before)
+    (too_many c.args.base.now c.args.limits c.args.offset (listing_of c.args.before)
     (owned c.args.contents.items c.args.shape.now) (sym c.is_too_many.ensures ∙ c.if-is_too_many.true))
 
 pub returns-in_err-sources-clause-reads : goal.returns-in_err-sources-clause-reads
@@ -33,13 +33,13 @@ returns-in_err-sources-clause-reads c =
     rw (
       p.1,
       p.2,
-      flat_in_steps c.args.base.now c.args.limits c.args.offset (listing_so_far c.args.before)
+      flat_in_steps c.args.base.now c.args.limits c.args.offset (listing_of c.args.before)
           (owned c.args.contents.items c.args.shape.now) (sym c.is_too_many.ensures ∙ c.if-is_too_many.false),
     )
     (first_fails _ _ _ c.in_err-sources.ensures.lists)
 
 -- what the code makes of the mappings is what the definition makes of them
-tokens_are : (before : ListingBuilder) (limits : Allowed) (offset : Position) (m : Flat) (sources names : ℕ)
+tokens_are : (before : Fields) (limits : Allowed) (offset : Position) (m : Flat) (sources names : ℕ)
     (bounds : Bounds) (text : List ℕ)
     → sources ≡ length before.sources → names ≡ length before.names.items → bounds ≡ bounds_of limits offset m
     → text ≡ m.mappings
@@ -58,7 +58,7 @@ returns-in_err-tokens-clause-reads c =
     rw (
       p.1,
       p.2,
-      flat_in_steps c.args.base.now c.args.limits c.args.offset (listing_so_far c.args.before)
+      flat_in_steps c.args.base.now c.args.limits c.args.offset (listing_of c.args.before)
           (owned c.args.contents.items c.args.shape.now) (sym c.is_too_many.ensures ∙ c.if-is_too_many.false),
     )
     (then_fails _ _ _ _ c.in_ok-sources.ensures.lists (first_fails _ _ _
@@ -70,8 +70,8 @@ returns-in_err-tokens-clause-reads c =
 
 -- the definition gives what is listed then
 reads : (c : In_ok-names) → listed_flat c.args.base.now c.args.limits c.args.offset
-    (listing_so_far c.args.before) (owned c.args.contents.items c.args.shape.now)
-    ≡ Ok (listing_so_far (record {
+    (listing_of c.args.before) (owned c.args.contents.items c.args.shape.now)
+    ≡ Ok (listing_of (record {
       sources = c.in_ok-sources.sources;
       names = c.in_ok-names.names;
       tokens = c.in_ok-tokens.tokens;
@@ -79,7 +79,7 @@ reads : (c : In_ok-names) → listed_flat c.args.base.now c.args.limits c.args.o
 reads c =
     let len = c.len-name_count.ensures in
     let kept = c.args.before.names.ok in
-    flat_in_steps c.args.base.now c.args.limits c.args.offset (listing_so_far c.args.before)
+    flat_in_steps c.args.base.now c.args.limits c.args.offset (listing_of c.args.before)
     (owned c.args.contents.items c.args.shape.now) (sym c.is_too_many.ensures ∙ c.if-is_too_many.false)
     ∙ then_ok _ _ _ _ c.in_ok-sources.ensures.lists (then_ok _ _ _ _
     (sym (tokens_are c.args.before c.args.limits c.args.offset (owned c.args.contents.items c.args.shape.now)
@@ -96,10 +96,10 @@ returns-clause-reads c = reads c
 
 pub returns-clause-fits : goal.returns-clause-fits
 returns-clause-fits c =
-    flat_fits c.args.base.now c.args.limits c.args.offset (listing_so_far c.args.before)
+    flat_fits c.args.base.now c.args.limits c.args.offset (listing_of c.args.before)
     (owned c.args.contents.items c.args.shape.now) c.requires.offset c.bounds-bounds.ensures.items
     c.bounds-bounds.ensures.lines c.requires.fits c.requires.none_after (sym c.is_too_many.ensures ∙ c.if-is_too_many.false)
-    (listing_so_far (record {
+    (listing_of (record {
       sources = c.in_ok-sources.sources;
       names = c.in_ok-names.names;
       tokens = c.in_ok-tokens.tokens;

@@ -17,7 +17,8 @@ use Rattle.smap_record.specs.Record.{Listing}
 use Rattle.smap_record.specs.Results.{Fails, Returns}
 use Rattle.smap_record.specs.Faults.{Checked, of_shape}
 use Rattle.smap_record.specs.Sections.{own_offset, section_map, listed_section, listed_sections}
-use Rattle.smap_record.specs.Building.{listing_so_far, error_in, both, section_start, listed_map}
+use Rattle.smap_record.specs.MapView.{listing_of}
+use Rattle.smap_record.specs.Building.{error_in, both, section_start, listed_map}
 use Rattle.smap_record.proofs.StepLemmas.{then_ok, first_fails, then_fails}
 use Rattle.smap_record.proofs.SectionLemmas.{section_in_steps, sections_more, sections_fault, sections_all}
 use Rattle.smap_record.proofs.DepthLemmas.{section_depth, map_depth, has_room, map_of_flat, map_of_index}
@@ -34,9 +35,9 @@ with_map-returns-in-Ok-Flat-clause-reads t c =
     let m = c.in-Ok-Flat.members in
     let read : shape_of (view c.args.tree.now) ≡ Ok (flat m) =
     sym c.in-Ok-Flat.ensures ∙ ap (λ (x : Shape). has (shape_members x)) c.in-Ok-Flat.field-0-is in
-    subst (Returns listing_so_far c.with_flat.result)
+    subst (Returns listing_of c.with_flat.result)
     (sym (then_ok _ (flat m) _ _ (ap of_shape read)
-    (map_of_flat c.args.base.now c.args.limits (8 - c.args.level) c.args.offset (listing_so_far c.args.before)
+    (map_of_flat c.args.base.now c.args.limits (8 - c.args.level) c.args.offset (listing_of c.args.before)
     m)))
     c.with_flat.ensures.reads
 
@@ -48,7 +49,7 @@ with_map-returns-then-level-eq-MAX_LEVEL-clause-reads t c =
     sym c.in-Ok-Index.ensures ∙ ap (λ (x : Shape). has (shape_members x)) c.in-Ok-Index.field-0-is in
     rw c.refused.ensures
     (then_ok _ (index i) _ _ (ap of_shape read)
-    (map_of_deepest c.args.base.now c.args.limits c.args.level c.args.offset (listing_so_far c.args.before) i
+    (map_of_deepest c.args.base.now c.args.limits c.args.level c.args.offset (listing_of c.args.before) i
     c.if-level-eq-MAX_LEVEL.true))
 
 pub with_map-returns-else-level-eq-MAX_LEVEL-clause-reads :
@@ -59,9 +60,9 @@ with_map-returns-else-level-eq-MAX_LEVEL-clause-reads t c =
     let i = index_members c.in-Ok-Index.members in
     let read : shape_of (view c.args.tree.now) ≡ Ok (index i) =
     sym c.in-Ok-Index.ensures ∙ ap (λ (x : Shape). has (shape_members x)) c.in-Ok-Index.field-0-is in
-    subst (Returns listing_so_far c.with_sections.result)
+    subst (Returns listing_of c.with_sections.result)
     (sym (then_ok _ (index i) _ _ (ap of_shape read)
-    (map_of_index c.args.base.now c.args.limits c.args.level c.args.offset (listing_so_far c.args.before) i
+    (map_of_index c.args.base.now c.args.limits c.args.level c.args.offset (listing_of c.args.before) i
     (omega (arith, most, other)))))
     c.with_sections.ensures.reads
 
@@ -76,7 +77,7 @@ pub with_section-returns-in_err-offset-clause-reads : goal.with_section-returns-
 with_section-returns-in_err-offset-clause-reads t c =
     let p = err_from_is_err_and c.from_residual-in_err-offset.result c.from_residual-in_err-offset.ensures.1 in
     let error = c.in_err-offset.field-0.0 in
-    let before = listing_so_far c.args.before in
+    let before = listing_of c.args.before in
     rw (
       p.1,
       p.2,
@@ -97,7 +98,7 @@ pub with_section-returns-in_err-now-clause-reads : goal.with_section-returns-in_
 with_section-returns-in_err-now-clause-reads t c =
     let p = err_from_is_err_and c.from_residual-in_err-now.result c.from_residual-in_err-now.ensures.1 in
     let error = c.in_err-now.field-0.0 in
-    let before = listing_so_far c.args.before in
+    let before = listing_of c.args.before in
     let inner = section_map c.args.base.now c.args.limits (8 - c.args.level) in
     rw (p.1, p.2, section_in_steps inner c.args.outer c.args.last before c.args.level (view c.args.tree.now))
     (then_fails _ _ _ _ c.in_ok-section.ensures (then_fails _ _ _ _
@@ -108,7 +109,7 @@ with_section-returns-in_err-now-clause-reads t c =
 
 pub with_section-returns-clause-reads : goal.with_section-returns-clause-reads
 with_section-returns-clause-reads t c =
-    let before = listing_so_far c.args.before in
+    let before = listing_of c.args.before in
     let inner = section_map c.args.base.now c.args.limits (8 - c.args.level) in
     section_in_steps inner c.args.outer c.args.last before c.args.level (view c.args.tree.now)
     ∙ then_ok _ _ _ _ c.in_ok-section.ensures (then_ok _ _ _ _
@@ -116,7 +117,7 @@ with_section-returns-clause-reads t c =
     c.own_offset-own.ensures c.in_ok-offset.ensures.starts)
     (then_ok _ _ _ _ (ap (λ tree. listed_map inner c.in_ok-offset.offset before (view tree)) (sym c.map.ensures)
     ∙ c.in_ok-now.ensures.reads)
-    (λ j. Ok (sym c.own_offset-own.ensures j, listing_so_far c.in_ok-now.now))))
+    (λ j. Ok (sym c.own_offset-own.ensures j, listing_of c.in_ok-now.now))))
 
 -- ---- all sections
 
@@ -126,9 +127,9 @@ with_sections-in_section-requires t c =
     let inner = section_map c.args.base.now c.args.limits n in
     let first = c.requires.first in
     has_room n c.in-Err.error (listed_section c.args.level inner c.args.outer c.loop-k.last
-    (listing_so_far c.loop-k.listed) (view c.section_value-tree.result.now)) (omega (arith, first))
+    (listing_of c.loop-k.listed) (view c.section_value-tree.result.now)) (omega (arith, first))
     (section_depth c.args.level inner n (map_depth c.args.base.now c.args.limits n) c.args.outer c.loop-k.last
-    (listing_so_far c.loop-k.listed) (view c.section_value-tree.result.now))
+    (listing_of c.loop-k.listed) (view c.section_value-tree.result.now))
     c.in-Err.ensures.reads
 
 pub with_sections-returns-in-Err-clause-reads : goal.with_sections-returns-in-Err-clause-reads
@@ -140,7 +141,7 @@ with_sections-returns-in-Err-clause-reads t c =
     (subst (λ (r : Checked Listing). Fails (error_in c.loop-k.k c.in-Err.error) r)
     (sym c.loop-k.invariant.reads)
     (sections_fault c.args.level (section_map c.args.base.now c.args.limits (8 - c.args.level)) c.args.outer
-    c.loop-k.k c.loop-k.last (listing_so_far c.loop-k.listed) all (view c.section_value-tree.result.now) at
+    c.loop-k.k c.loop-k.last (listing_of c.loop-k.listed) all (view c.section_value-tree.result.now) at
     c.in-Err.error c.in-Err.ensures.reads))
 
 pub with_sections-loop-k-preserved : goal.with_sections-loop-k-preserved
@@ -151,7 +152,7 @@ with_sections-loop-k-preserved t c =
     record {
       reads = c.loop-k.invariant.reads
           ∙ sections_more c.args.level (section_map c.args.base.now c.args.limits (8 - c.args.level))
-          c.args.outer c.loop-k.k c.loop-k.last (listing_so_far c.loop-k.listed) all
+          c.args.outer c.loop-k.k c.loop-k.last (listing_of c.loop-k.listed) all
           (view c.section_value-tree.result.now) at (both (c.in-Ok.own, c.in-Ok.now)) c.in-Ok.ensures.reads;
       fits = c.in-Ok.ensures.fits;
     }
@@ -162,6 +163,6 @@ with_sections-returns-clause-reads t c =
     let end : length all ≤ c.loop-k.k = omega (arith, length-map c.args.shape.now.sections view) in
     c.loop-k.invariant.reads
     ∙ ap (listed_sections c.args.level (section_map c.args.base.now c.args.limits (8 - c.args.level))
-    c.args.outer c.loop-k.k c.loop-k.last (listing_so_far c.loop-k.listed)) (drop_of_length-le all end)
+    c.args.outer c.loop-k.k c.loop-k.last (listing_of c.loop-k.listed)) (drop_of_length-le all end)
     ∙ sections_all c.args.level (section_map c.args.base.now c.args.limits (8 - c.args.level)) c.args.outer
-    c.loop-k.k c.loop-k.last (listing_so_far c.loop-k.listed)
+    c.loop-k.k c.loop-k.last (listing_of c.loop-k.listed)
