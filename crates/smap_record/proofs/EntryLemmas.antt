@@ -13,7 +13,8 @@ use Rattle.smap_record.specs.Faults.{Checked, ◌>>=◌}
 use Rattle.smap_record.specs.Flat.{source_at, source_entry, source_url, entries_from}
 use Rattle.smap_record.specs.Source.{Resolved, no_url, unstable, resolved, resolve}
 use Rattle.smap_record.specs.Steps.{after, with_one, FollowsSource}
-use Rattle.smap_record.proofs.ListLemmas.{drop_next}
+use Rattle.smap_record.proofs.ListLemmas.{drop_next, get-end}
+use Rattle.smap_record.proofs.StepLemmas.{bound}
 
 module _ (base : Parts) (root : Option (List ℕ)) (ignored : List ℕ)
     (sources contents : List (Option (List ℕ))) where
@@ -88,17 +89,10 @@ module _ (base : Parts) (root : Option (List ℕ)) where
   url_of : (i : ℕ) (source content : Option (List ℕ)) (ignored : Bool) (entry : Entry)
       → source_entry base root i source content ignored ≡ Ok entry
       → source_url base root i source ≡ Ok entry.url
-  url_of i source content ignored entry is = go (source_url base root i source) is
-    where
-      go : (r : Checked (Option (List ℕ)))
-          → (r >>= λ url. Ok (record { url = url; content = content; ignored = ignored })) ≡ Ok entry
-          → r ≡ Ok entry.url
-      go (Ok url) same = cc
-      go (Err fault) same = cc
-
-  at_end : (front : List Entry) (entry : Entry) → slice_get (front ++ entry ∷ []) (length front) ≡ Some entry
-  at_end [] entry = refl
-  at_end (e ∷ es) entry = at_end es entry
+  url_of i source content ignored entry is =
+      let read = bound (source_url base root i source)
+      (λ url. Ok (record { url = url; content = content; ignored = ignored })) entry is in
+      let at = read.1 in let same = read.2 in cc
 
   last_follows : (sources : List (Option (List ℕ))) (i : ℕ) (source content : Option (List ℕ))
       (ignored : Bool) (front : List Entry) (entry : Entry)
@@ -109,7 +103,7 @@ module _ (base : Parts) (root : Option (List ℕ)) where
       let last : length (front ++ entry ∷ []) - 1 ≡ length front = omega (arith, counted) in
       let back : i + 1 - 1 ≡ i = omega arith in (
         entry,
-        ap (slice_get (front ++ entry ∷ [])) last ∙ at_end front entry,
+        ap (slice_get (front ++ entry ∷ [])) last ∙ get-end front entry,
         λ other here k.
             let same : Some source ≡ Some other = sym at ∙ ap (slice_get sources) (sym back) ∙ here in
             let is_same : other ≡ source = cc in

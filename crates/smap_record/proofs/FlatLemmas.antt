@@ -20,7 +20,7 @@ use Rattle.smap_record.specs.declared.fault.Kind.TheVariants.{TooMany}
 use Rattle.smap_record.specs.Record.{Entry, Listing, Allowed}
 use Rattle.smap_record.specs.Source.{Resolved, no_url, unstable, resolved, resolve}
 use Rattle.smap_record.specs.Faults.{Checked, ◌>>=◌, refuse, refuse_if, of_segments}
-use Rattle.smap_record.specs.Flat.{is_too_many, nothing, bounds_of, listed_flat, shifted, shifted_original}
+use Rattle.smap_record.specs.Flat.{is_too_many, bounds_of, listed_flat, shifted, shifted_original}
 use Rattle.smap_record.specs.Flat.{source_at, source_url, source_entry, entries_from}
 use Rattle.smap_record.specs.Listings.{IsListedOriginal, IsListedToken}
 use Rattle.smap_record.specs.Fitting.{IsOwnUrl, HasOwnUrl, ListingFits}
@@ -29,6 +29,7 @@ use Rattle.smap_record.specs.Building.{any_after}
 use Rattle.std.proofs.lemmas.Bool.{ltb-false, or_parts}
 use Rattle.std.proofs.lemmas.List.{map-append}
 use Rattle.smap_record.proofs.SourceLemmas.{resolve-own}
+use Rattle.smap_record.proofs.StepLemmas.{bound}
 use Rattle.smap_record.proofs.ListLemmas.{all_append, all_map, all_both, all_weaker}
 use Rattle.smap_record.proofs.JoinedLemmas.{none_after, join_NeverFalls}
 
@@ -43,41 +44,39 @@ module _ (base : Parts) (limits : Allowed) (offset : Position) (before : Listing
     tokens = before.tokens ++ map (shifted (length before.sources) (length before.names)) ts;
   }
 
+  abbrev parts : Bool → Checked (List Entry) → Checked Listing
+  parts many entries = refuse_if TooMany many >>= λ u. entries >>= λ es.
+      of_segments (decoded (bounds_of limits offset m) m.mappings) >>= λ ts. Ok (listed es ts)
+
+  abbrev entries : Checked (List Entry)
+  entries = entries_from base m.root m.ignored 0 m.sources m.contents
+
   -- with other contents that give the same sources, the same is listed
   pub same_entries : (contents : List (Option (List ℕ)))
-      → entries_from base m.root m.ignored 0 m.sources contents
-      ≡ entries_from base m.root m.ignored 0 m.sources m.contents
+      → entries_from base m.root m.ignored 0 m.sources contents ≡ entries
       → listed_flat base limits offset before (record m { contents = contents })
       ≡ listed_flat base limits offset before m
   unfolding listed_flat
-  same_entries contents same = ap (λ (r : Checked (List Entry)).
-      refuse_if TooMany (is_too_many limits before m) >>= λ u. r >>= λ es.
-      of_segments (decoded (bounds_of limits offset m) m.mappings) >>= λ ts. Ok (listed es ts)) same
+  same_entries contents same = ap (parts (is_too_many limits before m)) same
 
   pub too_many : is_too_many limits before m ≡ true
       → listed_flat base limits offset before m ≡ refuse TooMany
   unfolding listed_flat
-  too_many many = ap (λ b. refuse_if TooMany b >>= λ u.
-      entries_from base m.root m.ignored 0 m.sources m.contents >>= λ es.
-      of_segments (decoded (bounds_of limits offset m) m.mappings) >>= λ ts. Ok (listed es ts)) many
+  too_many many = ap (λ b. parts b entries) many
 
   module _ (few : is_too_many limits before m ≡ false) where
-    pub few_listed : listed_flat base limits offset before m
-        ≡ (entries_from base m.root m.ignored 0 m.sources m.contents >>= λ es.
+    pub few_listed : listed_flat base limits offset before m ≡ (entries >>= λ es.
         of_segments (decoded (bounds_of limits offset m) m.mappings) >>= λ ts. Ok (listed es ts))
     unfolding listed_flat
-    few_listed = ap (λ b. refuse_if TooMany b >>= λ u.
-        entries_from base m.root m.ignored 0 m.sources m.contents >>= λ es.
-        of_segments (decoded (bounds_of limits offset m) m.mappings) >>= λ ts. Ok (listed es ts)) few
+    few_listed = ap (λ b. parts b entries) few
 
     -- the sources, then the tokens, each behind those before them
     pub flat_in_steps : listed_flat base limits offset before m
-        ≡ (after before.sources (entries_from base m.root m.ignored 0 m.sources m.contents) >>= λ sources.
+        ≡ (after before.sources entries >>= λ sources.
         joined_tokens before.tokens (length before.sources) (length before.names) (bounds_of limits offset m)
         m.mappings >>= λ tokens.
         Ok (record { sources = sources; names = before.names ++ m.names; tokens = tokens }))
-    flat_in_steps = few_listed ∙ by (entries_from base m.root m.ignored 0 m.sources m.contents)
-        (of_segments (decoded (bounds_of limits offset m) m.mappings))
+    flat_in_steps = few_listed ∙ by entries (of_segments (decoded (bounds_of limits offset m) m.mappings))
       where
         by : (es : Checked (List Entry)) (ts : Checked (List Token))
             → (es >>= λ es. ts >>= λ ts. Ok (listed es ts))
@@ -165,15 +164,6 @@ from_start : (bounds : Bounds) (ts : List Token) → AllByRecursion (IsFromStart
 from_start bounds =
     all_map (IsFromStart bounds) (λ p. is_before p (start_of bounds) ≡ false) position_of (λ t h. h)
 
-pub nothing_fits : (base : Parts) (limits : Allowed) → ListingFits base limits nothing
-nothing_fits base limits = record {
-  listing = record { sources = omega arith; names = omega arith; encodable = (tt, tt); listed = tt };
-  few_sources = omega arith;
-  few_names = omega arith;
-  urls = tt;
-  lines = tt;
-}
-
 -- ---- each URL is its own
 
 module _ (base : Parts) (root : Option (List ℕ)) (ignored : List ℕ) where
@@ -192,24 +182,19 @@ module _ (base : Parts) (root : Option (List ℕ)) (ignored : List ℕ) where
   unfolding source_url
   own_urls i None None ok = tt
   own_urls i None (Some u) ok = absurd cc
-  own_urls i (Some source) url ok = by (source_at i (resolve base root source)) refl ok
-    where
-      by : (r : Checked (List ℕ)) → source_at i (resolve base root source) ≡ r
-          → (r >>= λ text. Ok (Some text)) ≡ Ok url → IfSome url (IsOwnUrl base)
-      by (Ok text) at same =
-          let is : Some text ≡ url = cc in subst (λ (o : Option (List ℕ)). IfSome o (IsOwnUrl base)) is
-          (own_url i source (resolve base root source) refl text at)
-      by (Err e) at same = absurd cc
+  own_urls i (Some source) url ok =
+      let read = bound (source_at i (resolve base root source)) (λ text. Ok (Some text)) url ok in
+      let same = read.2 in let is : Some read.0 ≡ url = cc in
+      subst (λ (o : Option (List ℕ)). IfSome o (IsOwnUrl base)) is
+      (own_url i source (resolve base root source) refl read.0 read.1)
 
   own_entry : (i : ℕ) (source content : Option (List ℕ)) (flag : Bool) (e : Entry)
       → source_entry base root i source content flag ≡ Ok e → IsOwn e
-  own_entry i source content flag e ok = by (source_url base root i source) refl ok
-    where
-      by : (r : Checked (Option (List ℕ))) → source_url base root i source ≡ r
-          → (r >>= λ url. Ok (record { url = url; content = content; ignored = flag })) ≡ Ok e → IsOwn e
-      by (Ok url) at same = let is : record { url = url; content = content; ignored = flag } ≡ e = cc in
-          subst IsOwn is (own_urls i source url at)
-      by (Err f) at same = absurd cc
+  own_entry i source content flag e ok =
+      let read = bound (source_url base root i source)
+      (λ url. Ok (record { url = url; content = content; ignored = flag })) e ok in
+      let same = read.2 in let is : record { url = read.0; content = content; ignored = flag } ≡ e = cc in
+      subst IsOwn is (own_urls i source read.0 read.1)
 
   pub own_entries : (i : ℕ) (sources contents : List (Option (List ℕ))) (es : List Entry)
       → entries_from base root ignored i sources contents ≡ Ok es → AllByRecursion IsOwn es
@@ -217,24 +202,13 @@ module _ (base : Parts) (root : Option (List ℕ)) (ignored : List ℕ) where
   own_entries i [] contents es ok = let is : [] ≡ es = cc in subst (AllByRecursion IsOwn) is tt
   own_entries i (s ∷ ss) [] es ok = let is : [] ≡ es = cc in subst (AllByRecursion IsOwn) is tt
   own_entries i (s ∷ ss) (c ∷ cs) es ok =
-      by (own_entries (i + 1) ss cs) (source_entry base root i s c (is_listed i ignored)) refl ok
-    where
-      by_rest : ((rest : List Entry) → entries_from base root ignored (i + 1) ss cs ≡ Ok rest
-          → AllByRecursion IsOwn rest) → (e : Entry) → IsOwn e
-          → (r : Checked (List Entry)) → entries_from base root ignored (i + 1) ss cs ≡ r
-          → (r >>= λ entries. Ok (e ∷ entries)) ≡ Ok es → AllByRecursion IsOwn es
-      by_rest more e own (Ok rest) at same =
-          let is : e ∷ rest ≡ es = cc in subst (AllByRecursion IsOwn) is (own, more rest at)
-      by_rest more e own (Err f) at same = absurd cc
-
-      by : ((rest : List Entry) → entries_from base root ignored (i + 1) ss cs ≡ Ok rest
-          → AllByRecursion IsOwn rest)
-          → (r : Checked Entry) → source_entry base root i s c (is_listed i ignored) ≡ r
-          → (r >>= λ entry. entries_from base root ignored (i + 1) ss cs >>= λ entries. Ok (entry ∷ entries))
-          ≡ Ok es → AllByRecursion IsOwn es
-      by more (Ok e) at same = by_rest more e (own_entry i s c (is_listed i ignored) e at)
-          (entries_from base root ignored (i + 1) ss cs) refl same
-      by more (Err f) at same = absurd cc
+      let first = bound (source_entry base root i s c (is_listed i ignored)) (λ entry.
+      entries_from base root ignored (i + 1) ss cs >>= λ entries. Ok (entry ∷ entries)) es ok in
+      let rest = bound (entries_from base root ignored (i + 1) ss cs) (λ entries. Ok (first.0 ∷ entries)) es
+      first.2 in
+      let same = rest.2 in let is : first.0 ∷ rest.0 ≡ es = cc in
+      subst (AllByRecursion IsOwn) is
+      (own_entry i s c (is_listed i ignored) first.0 first.1, own_entries (i + 1) ss cs rest.0 rest.1)
 
 -- ---- a listing that fits, with a map after it
 

@@ -16,7 +16,7 @@ mod OwnedLemmas
 pub mod JoinedLemmas
 pub mod SectionLemmas
 pub mod DepthLemmas
+pub mod LevelLemmas
 pub mod OneLevelLemmas
 mod Examples
 pub mod StabilityLemmas
-pub mod LevelLemmas

@@ -1,9 +1,16 @@
 -- One step of a definition after the other.
-use Rattle.std.proofs.Common.{◌≡◌, ◌∙◌, ap, sym, subst, Ok}
+use Rattle.std.proofs.Common.{◌≡◌, ◌∙◌, ap, refl, sym, subst, Ok, Err}
+use Rattle.std.specs.Prelude.{Result}
 use Rattle.smap_record.specs.declared.fault.ReadError.{ReadError}
 use Rattle.smap_record.specs.declared.fault.ReadError.TheVariants.{Refused, Memory}
 use Rattle.smap_record.specs.Results.{Fails}
 use Rattle.smap_record.specs.Faults.{Checked, ◌>>=◌}
+
+-- a value was there at each step, if there is one at the end
+pub bound : {A B F : Type 0} (r : Result A F) (f : A → Result B F) (y : B) → (r >>= f) ≡ Ok y
+    → (x : A) × (r ≡ Ok x) × (f x ≡ Ok y)
+bound (Ok x) f y h = (x, refl, h)
+bound (Err e) f y h = absurd cc
 
 -- the first step has a value
 pub then_ok : {A B : Type 0} (r : Checked A) (x : A) (f : A → Checked B) (whole : Checked B)
