@@ -6,6 +6,7 @@ pub mod SourceLemmas
 pub mod RelativeLemmas
 pub mod FewerLemmas
 pub mod NumberedLemmas
+pub mod StepLemmas
 pub mod EntryLemmas
 pub mod FlagLemmas
 pub mod OnceLemmas
@@ -15,7 +16,7 @@ mod OwnedLemmas
 pub mod JoinedLemmas
 pub mod SectionLemmas
 pub mod DepthLemmas
+pub mod LevelLemmas
 pub mod OneLevelLemmas
 mod Examples
 pub mod StabilityLemmas
-pub mod LevelLemmas

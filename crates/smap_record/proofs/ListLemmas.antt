@@ -1,6 +1,6 @@
 -- Lists that are gone through one by one.
 use Rattle.std.proofs.Common.{◌≡◌, ℕ, zero, suc, ◌+◌, List, [], ◌∷◌, ◌++◌, take, drop, map, Some, slice_get}
-use Rattle.std.proofs.Common.{ap, ◌∙◌, arith, subst}
+use Rattle.std.proofs.Common.{ap, ◌∙◌, arith, length, refl, subst}
 use Rattle.std.specs.List.{AllByRecursion}
 use Rattle.std.proofs.lemmas.List.{map-append}
 
@@ -56,6 +56,11 @@ drop_at (y ∷ ys) (suc i) x h = drop_at ys i x h
 pub drop_next : {A : Type 0} (xs : List A) (i : ℕ) (x : A) → slice_get xs i ≡ Some x
     → drop i xs ≡ x ∷ drop (i + 1) xs
 drop_next xs i x h = let next : suc i ≡ i + 1 = omega arith in drop_at xs i x h ∙ ap (λ n. x ∷ drop n xs) next
+
+-- one more is last
+pub get-end : {A : Type 0} (xs : List A) (x : A) → slice_get (xs ++ x ∷ []) (length xs) ≡ Some x
+get-end [] x = refl
+get-end (y ∷ ys) x = get-end ys x
 
 pub map-push : {A B : Type 0} (f : A → B) (xs : List A) (x : A) → map f (xs ++ x ∷ []) ≡ map f xs ++ f x ∷ []
 map-push f xs x = map-append f xs (x ∷ [])

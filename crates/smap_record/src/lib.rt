@@ -14,7 +14,7 @@ mod fault;
 mod flat;
 pub mod laws;
 mod limits;
-mod listing_builder;
+mod listing;
 mod map;
 mod path;
 mod reading;

@@ -2,7 +2,7 @@ use Rattle.std.proofs.Common.{◌≡◌, ◌∙◌, ◌+◌, ◌-◌, sym, lengt
 use Rattle.smap_mappings.specs.declared.token.Token.{Token}
 use Rattle.smap_mappings.specs.Position.{is_before, position_of}
 use Rattle.smap_record.proofs.JoinedLemmas.{last_tells}
-use Rattle.smap_record.proofs.listing_builder.overlaps.Goals as goal
+use Rattle.smap_record.proofs.listing.overlaps.Goals as goal
 
 abbrev no_token : Token
 no_token = record { line = 0; column = 0; original = None }

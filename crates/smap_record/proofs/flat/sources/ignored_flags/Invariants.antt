@@ -1,6 +1,6 @@
 use Rattle.std.proofs.Common.{◌≡◌, length, take}
 use Rattle.smap_record.specs.Steps.{AreFlags}
-use Rattle.smap_record.proofs.flat.ignored_flags.Given as goal
+use Rattle.smap_record.proofs.flat.sources.ignored_flags.Given as goal
 
 -- those that were gone through are flagged
 abbrev pub invariant-loop-k : goal.invariant-loop-k

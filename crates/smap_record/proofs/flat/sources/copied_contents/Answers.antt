@@ -3,7 +3,7 @@ use Rattle.std.proofs.Common.{string_bytes, List, Option, ℕ}
 use Rattle.std.specs.Prelude.{option_copied}
 use Rattle.smap_record.specs.Owned.{texts_of}
 use Rattle.smap_record.proofs.ListLemmas.{take_next, map-push}
-use Rattle.smap_record.proofs.flat.copied_contents.Goals as goal
+use Rattle.smap_record.proofs.flat.sources.copied_contents.Goals as goal
 
 pub loop-i-preserved : goal.loop-i-preserved
 loop-i-preserved c =

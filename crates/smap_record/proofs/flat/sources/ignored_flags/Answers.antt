@@ -2,7 +2,7 @@ use Rattle.std.proofs.Common.{◌∙◌}
 use Rattle.std.specs.Prelude.{true}
 use Rattle.std.proofs.Math.ListN.{length-set}
 use Rattle.smap_record.proofs.FlagLemmas.{flags_more}
-use Rattle.smap_record.proofs.flat.ignored_flags.Goals as goal
+use Rattle.smap_record.proofs.flat.sources.ignored_flags.Goals as goal
 
 pub loop-k-preserved : goal.loop-k-preserved
 loop-k-preserved c =

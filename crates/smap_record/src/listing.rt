@@ -1,48 +1,33 @@
-//! The listing while it is built: a flat map, or the sections of an index map one after the other, are added
-//! to it.
-ghost use Rattle.std.specs.Prelude.{◌≡◌, map, string_bytes, option_map};
+//! What a map lists. It is built by adding a flat map, or the sections of an index map one after the other.
+ghost use Rattle.std.specs.Prelude.{◌≡◌, map};
 ghost use Rattle.smap_mappings.specs.Position.{position_of, NeverFalls};
-ghost use Rattle.smap_record.specs.Listings.{IsListing};
 ghost use Rattle.smap_record.specs.Flat.{nothing};
 ghost use Rattle.smap_record.specs.Sections.{falls as falls_behind};
-ghost use Rattle.smap_record.specs.Building.{listing_so_far, any_after};
+ghost use Rattle.smap_record.specs.MapView.{listing_of};
+ghost use Rattle.smap_record.specs.Building.{any_after};
 
-use crate::map::SourceMap;
 use crate::sources::Sources;
 use smap_mappings::{Position, Token};
 use std::alloc::Global;
 
-/// The sources, names and tokens that are listed so far.
+/// Sources and names as listed, and tokens with indices into these.
 #[derive(Drop)]
-pub(crate) struct ListingBuilder {
+pub(crate) struct Listing {
     pub(crate) sources: Sources,
     pub(crate) names: Vec<String>,
     pub(crate) tokens: Vec<Token>,
 }
 
-impl ListingBuilder {
+impl Listing {
     /// Nothing is listed yet.
-    pub(crate) fn new(alloc: Global) -> ListingBuilder
-        ensures { listing_so_far result ≡ nothing }
+    pub(crate) fn new(alloc: Global) -> Listing
+        ensures { listing_of result ≡ nothing }
     {
-        ListingBuilder {
+        Listing {
             sources: Sources::new(alloc),
             names: Vec::new(alloc),
             tokens: Vec::new(alloc),
         }
-    }
-
-    /// The map with this file and what is listed.
-    pub(crate) fn into_map(self, file: Option<String>) -> SourceMap
-        requires { IsListing (listing_so_far self) }
-        ensures { result ≡ record { file = option_map string_bytes file; listing = listing_so_far self } }
-    {
-        let ListingBuilder {
-            sources,
-            names,
-            tokens,
-        } = self;
-        SourceMap::new(file, sources, names, tokens)
     }
 }
 

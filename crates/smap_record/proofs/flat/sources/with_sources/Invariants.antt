@@ -4,7 +4,7 @@ use Rattle.smap_shape.specs.Members.{fitted}
 use Rattle.smap_record.specs.Flat.{entries_from}
 use Rattle.smap_record.specs.Owned.{texts_of}
 use Rattle.smap_record.specs.Steps.{after, FollowsSource}
-use Rattle.smap_record.proofs.flat.with_sources.Given as goal
+use Rattle.smap_record.proofs.flat.sources.with_sources.Given as goal
 
 -- what is listed, followed by what is still to come, is the whole
 abbrev pub invariant-loop-i : goal.invariant-loop-i
