@@ -14,6 +14,8 @@ pub mod FlatLemmas
 mod OwnedLemmas
 pub mod JoinedLemmas
 pub mod SectionLemmas
+mod WrittenLemmas
+mod WrittenCountLemmas
 pub mod DepthLemmas
 pub mod OneLevelLemmas
 mod Examples
