@@ -15,6 +15,8 @@ pub mod FlatLemmas
 mod OwnedLemmas
 pub mod JoinedLemmas
 pub mod SectionLemmas
+mod WrittenLemmas
+mod WrittenCountLemmas
 pub mod DepthLemmas
 pub mod LevelLemmas
 pub mod OneLevelLemmas

@@ -18,11 +18,13 @@ mod listing;
 mod map;
 mod path;
 mod reading;
+mod reading_as_written;
 mod sections;
 mod source;
 mod sources;
 mod text;
 mod view;
+mod written;
 
 pub use fault::{BaseFault, Fault, Kind, ReadError};
 pub use limits::Limits;
@@ -30,3 +32,4 @@ pub use map::SourceMap;
 pub use path::Path;
 pub use source::Base;
 pub use view::{OriginalView, SourceView, TokenView};
+pub use written::WrittenSources;
