@@ -4,7 +4,7 @@ ghost use Rattle.std.specs.Prelude.{IfSome};
 ghost use Rattle.smap_record.specs.Fitting.{mapping_position};
 ghost use Rattle.smap_record.specs.Record.{record_of};
 ghost use Rattle.smap_record.specs.Views.{entry_of_view, mapping_of_view, origin_of_view};
-ghost use Rattle.smap_trace.specs.Lookup.{FallsTo, mapping_at};
+ghost use Rattle.smap_trace.specs.Lookup.{FallsTo, FallsToIndex, mapping_at};
 ghost use Rattle.smap_trace.specs.Positions.{IsWithinBinaryDigits};
 ghost use Rattle.smap_trace.specs.Translation as spec;
 
@@ -34,14 +34,34 @@ impl Positions for Places<'_> {
     }
 }
 
-/// The mapping for a generated position: the last one on the same line, in the map's order, whose column
-/// isn't greater. There is none before the first mapping of a line, whatever earlier lines have. Line and
-/// column count from 0; the column is in the map's unit. That the last of several mappings at one position
-/// counts is this project's own rule.
+/// The index of the mapping for a generated position, as [`SourceMap::token`] counts them: that of the last
+/// mapping on the same line, in the map's order, whose column isn't greater. There is none before the first
+/// mapping of a line, whatever earlier lines have. Line and column count from 0; the column is in the map's
+/// unit. That the last of several mappings at one position counts is this project's own rule.
 ///
 /// The second value is the number of probes, each of which compares one mapping's position with the one
 /// asked for. It is at most the number of binary digits of `token_count`, and 0 only for a map without
 /// mappings. It takes no memory.
+pub fn find(map: &SourceMap, line: u32, column: u32) -> (Option<usize>, u32)
+    ensures found { FallsToIndex (record_of map.now).mappings line column result.0 }
+
+    ensures most { IsWithinBinaryDigits result.1 (length (record_of map.now).mappings) }
+    ensures least { 0 < length (record_of map.now).mappings → 0 < result.1 }
+{
+    // What this call promises besides the count: the positions of a map's mappings never fall.
+    let _ = map.token_count();
+    let mut places = Places { map, probes: 0 };
+    let n = search(&mut places, line, column);
+    let found = if n > 0 && map.listed_token(n - 1).line == line {
+        Some(n - 1)
+    } else {
+        None
+    };
+    (found, places.probes)
+}
+
+/// The mapping for a generated position, which is the one at the index that [`find`] returns, and the number
+/// of probes.
 ///
 /// # Examples
 ///
@@ -61,21 +81,11 @@ pub fn lookup<'a>(map: &'a SourceMap, line: u32, column: u32) -> (Option<TokenVi
     ensures most { IsWithinBinaryDigits result.1 (length (record_of map.now).mappings) }
     ensures least { 0 < length (record_of map.now).mappings → 0 < result.1 }
 {
-    // What this call promises besides the count: the positions of a map's mappings never fall.
-    let _ = map.token_count();
-    let mut places = Places { map, probes: 0 };
-    let n = search(&mut places, line, column);
-    let found = if n > 0 {
-        let token = map.token(n - 1);
-        if token.line == line {
-            Some(token)
-        } else {
-            None
-        }
-    } else {
-        None
-    };
-    (found, places.probes)
+    let (found, probes) = find(map, line, column);
+    match found {
+        Some(i) => (Some(map.token(i)), probes),
+        None => (None, probes),
+    }
 }
 
 /// The mapping alone.
