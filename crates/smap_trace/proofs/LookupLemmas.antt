@@ -20,6 +20,11 @@ use Rattle.smap_record.specs.Fitting.{mapping_position}
 use Rattle.smap_trace.specs.Laws.{LookupIsComputed}
 use Rattle.smap_trace.specs.Lookup.{FallsTo, FallsToIndex, LiesAfter, is_within, mapping_at}
 
+-- the mapping of a listed token
+pub token_here : (l : Listing) (i : ℕ) (t : Token) → slice_get l.tokens i ≡ Some t
+    → slice_get (map (mapping_of l) l.tokens) i ≡ Some (mapping_of l t)
+token_here l i t at = slice_get-map (mapping_of l) l.tokens i ∙ ap (option_map (mapping_of l)) at
+
 -- one position against the count
 pub past_count : (ps : List Position) (q x : Position) (i : ℕ) → NeverFalls ps → slice_get ps i ≡ Some x
     → count_at_most ps q ≤ i → is_at_most x q ≡ false
@@ -51,7 +56,7 @@ pub earlier_line : (l m : Mapping) (line column : ℕ)
 earlier_line l m line column h k ne = grind (arith, nat_tests)
 
 module _ (ms : List Mapping) (line column : ℕ) (sorted : NeverFalls (map mapping_position ms)) where
-  here : (i : ℕ) (d : Mapping) → i < length ms → slice_get (map mapping_position ms) i
+  pub here : (i : ℕ) (d : Mapping) → i < length ms → slice_get (map mapping_position ms) i
       ≡ Some (mapping_position (get_or ms i d))
   here i d lt = slice_get-map mapping_position ms i
       ∙ ap (option_map mapping_position) (slice_get-get_or ms i d lt)
