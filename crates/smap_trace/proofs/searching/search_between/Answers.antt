@@ -1,13 +1,13 @@
-use Rattle.std.proofs.Common.{◌≡◌, true, false, rules, ◌+◌, ◌*◌, ◌-◌, ◌/◌, ◌≤◌, length, arith, Some}
+use Rattle.std.proofs.Common.{◌≡◌, true, false, rules, ◌+◌, ◌*◌, ◌-◌, ◌/◌, ◌≤◌, arith, Some}
 use Rattle.std.proofs.Common.{slice_get, ◌∙◌}
 use Rattle.smap_trace.specs.Positions.{position_in, is_at_most}
 use Rattle.smap_trace.proofs.HalvingLemmas.{few, halved_once, one_step, counts_past, counts_up_to}
-use Rattle.smap_trace.proofs.searching.search.Goals as goal
+use Rattle.smap_trace.proofs.searching.search_between.Goals as goal
 
 pub at-requires-clause-room : goal.at-requires-clause-room
 at-requires-clause-room g c =
     let k = g.P.Positions.probes c.loop-size.p in
-    let below = few k (length (g.P.Positions.positions c.args.p.now)) c.loop-size.invariant.steps
+    let below = few k (c.args.to - c.args.from) c.loop-size.invariant.steps
     (omega arith) in
     omega arith
 
