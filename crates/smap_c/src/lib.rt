@@ -10,7 +10,6 @@ mod comparing;
 mod copying;
 mod counting;
 mod crossing;
-mod fault_codes;
 mod faults;
 mod finding;
 mod getting;

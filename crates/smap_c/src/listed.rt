@@ -6,7 +6,7 @@ ghost use Rattle.smap_c.specs.Held.{held};
 
 use crate::codes::{CLOSED, OK, RANGE};
 use crate::copying::copy_out;
-use crate::opened::{Opened, SmapMap};
+use crate::opened::SmapMap;
 use smap_mappings::Token;
 use smap_record::SourceMap;
 use std::alloc::Global;

@@ -9,7 +9,7 @@ ghost use Rattle.smap_c.specs.Held.{held};
 
 use crate::codes::{CLOSED, MEMORY, OK};
 use crate::copying::copy_out;
-use crate::opened::{Opened, SmapMap};
+use crate::opened::SmapMap;
 use crate::written::{SmapBytes, Written};
 use smap_canon::{canonical, canonical_mappings, canonical_relative, flatten};
 use smap_mappings::Memory;

@@ -4,7 +4,7 @@ ghost use Rattle.smap_c.specs.Held.{held};
 ghost use Rattle.smap_c.specs.Sharing.{Shares};
 
 use crate::codes::{CLOSED, MEMORY, OK};
-use crate::opened::{Shared, SmapMap};
+use crate::opened::SmapMap;
 use std::alloc::Global;
 use std::mem;
 

@@ -5,7 +5,7 @@ ghost use Rattle.smap_c.specs.Held.{held};
 
 use crate::codes::{CLOSED, MEMORY, NONE, NOT_URL, OK};
 use crate::copying::copy_out;
-use crate::opened::{Opened, SmapMap};
+use crate::opened::SmapMap;
 use crate::ways::{finding_in, hides};
 use smap_record::SourceMap;
 use smap_trace::{LineOutcome, frame, translate_line_by};
