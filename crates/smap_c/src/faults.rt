@@ -1,12 +1,11 @@
 //! Faults, as C sees them.
 ghost use Rattle.std.specs.Prelude.{◌≡◌, ◌<◌, ◌≤◌, ◌^◌, All, length, string_bytes, IfOk};
 ghost use Rattle.smap_record.specs.Words.{fault_words};
-ghost use Rattle.smap_c.specs.FaultBounds.{FaultFits, KindFits, PlaceFits};
-ghost use Rattle.smap_c.specs.Faults.{code_and_number, padded_path, padded_words, spelling_code};
-ghost use Rattle.smap_c.specs.Faults.{told_with, IsWhole, TellsFault};
+ghost use Rattle.smap_c.specs.Faults.{FaultFits, KindFits, PlaceFits, code_and_number, padded_path};
+ghost use Rattle.smap_c.specs.Faults.{padded_words, spelling_code, told_with, IsWhole, TellsFault};
 
 use crate::codes::{MEMORY, REFUSED};
-use crate::copying::copy_out;
+use crate::strings::copy_out;
 use smap_mappings::{Memory, NumberFault, SegmentPlace};
 use smap_record::{Fault, Kind, Path};
 use std::alloc::Global;
@@ -116,7 +115,7 @@ fn fault_fits(fault: &Fault)
 }
 
 /// The words of a fault.
-#[tactic(auto, using(crate::proofs::WordsLemmas::words_are_short))]
+#[tactic(auto, using(crate::proofs::FaultLemmas::words_are_short))]
 fn fault_text(alloc: Global, fault: &Fault) -> Result<String, Memory>
     ensures words { IfOk result (λ text. string_bytes text ≡ fault_words fault.now) }
     ensures short { length (fault_words fault.now) ≤ 260 }
