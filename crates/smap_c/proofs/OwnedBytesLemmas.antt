@@ -28,8 +28,8 @@ use Rattle.std.specs.contracts.alloc.Global as global
 use Rattle.std.proofs.alloc.Global.TheLaws as global_laws
 use Rattle.std.specs.contracts.impls.GlobalAllocator.TheImpl as heap
 use Rattle.smap_c.specs.OwnedBytes.{owned}
-use Rattle.smap_c.specs.contracts.written.Written as boxed
-use Rattle.smap_c.specs.contracts.written.BytesOwner as owner
+use Rattle.smap_c.specs.contracts.bytes.Written as boxed
+use Rattle.smap_c.specs.contracts.handles.BytesOwner as owner
 use Rattle.smap_c.proofs.LooseLemmas.{both, al}
 
 abbrev pub R : RattleType

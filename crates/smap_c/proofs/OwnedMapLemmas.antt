@@ -28,8 +28,8 @@ use Rattle.std.specs.contracts.alloc.Global as global
 use Rattle.std.proofs.alloc.Global.TheLaws as global_laws
 use Rattle.std.specs.contracts.impls.GlobalAllocator.TheImpl as heap
 use Rattle.smap_c.specs.OwnedMap.{owned}
-use Rattle.smap_c.specs.contracts.opened.Shared as boxed
-use Rattle.smap_c.specs.contracts.opened.MapOwner as owner
+use Rattle.smap_c.specs.contracts.maps.Shared as boxed
+use Rattle.smap_c.specs.contracts.handles.MapOwner as owner
 use Rattle.smap_c.proofs.LooseLemmas.{both, al}
 
 abbrev pub R : RattleType

@@ -29,7 +29,7 @@ use Rattle.std.proofs.alloc.Global.TheLaws as global_laws
 use Rattle.std.specs.contracts.impls.GlobalAllocator.TheImpl as heap
 use Rattle.smap_c.specs.OwnedScripts.{owned}
 use Rattle.smap_c.specs.contracts.scripts.Scripts as boxed
-use Rattle.smap_c.specs.contracts.scripts.ScriptsOwner as owner
+use Rattle.smap_c.specs.contracts.handles.ScriptsOwner as owner
 use Rattle.smap_c.proofs.LooseLemmas.{both, al}
 
 abbrev pub R : RattleType

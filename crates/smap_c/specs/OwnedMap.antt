@@ -5,8 +5,8 @@ use Rattle.std.specs.declared.alloc.Global.{Global}
 use Rattle.std.specs.contracts.impls.GlobalAllocator.TheImpl.{ghosts}
 use base.Fml.{Fml, ftrue}
 use denote.RawPtr.{Ptr}
-use Rattle.smap_c.specs.declared.opened.Shared.{Shared}
-use Rattle.smap_c.specs.contracts.opened.Shared.{the_row}
+use Rattle.smap_c.specs.declared.maps.Shared.{Shared}
+use Rattle.smap_c.specs.contracts.maps.Shared.{the_row}
 
 -- the value in the block at p of the allocator, and the right to free the block; nothing where there is no
 -- value

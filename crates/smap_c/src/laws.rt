@@ -3,7 +3,7 @@ ghost use Rattle.std.specs.Prelude.{false, true};
 ghost use Rattle.smap_c.specs.Order.{BytesOrder, BytesOwnerOrder, CountsOrder, FaultOrder, FrameOrder};
 ghost use Rattle.smap_c.specs.Order.{LimitsOrder, ListedOrder, MapOrder, MapOwnerOrder, MappingOrder};
 ghost use Rattle.smap_c.specs.Order.{ScriptsOrder, ScriptsOwnerOrder, TraceCountsOrder};
-ghost use Rattle.smap_c.specs.Ways.{AsksByBool};
+ghost use Rattle.smap_c.specs.Traces.{AsksByBool};
 
 /// The fields of each struct lie in the order in which C declares them.
 pub fn fields_in_order()

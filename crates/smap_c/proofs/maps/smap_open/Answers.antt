@@ -1,8 +1,8 @@
 -- Where memory runs out after the reading, the answer is Memory.
 use Rattle.std.proofs.Common.{refl, Err}
-use Rattle.smap_c.specs.Held.{held}
-use Rattle.smap_c.specs.declared.opening.OpenFault.TheVariants as faults
-use Rattle.smap_c.proofs.OpeningLemmas.{refused_told}
+use Rattle.smap_c.specs.Handles.{held}
+use Rattle.smap_c.specs.declared.maps.OpenFault.TheVariants as faults
+use Rattle.smap_c.proofs.MapLemmas.{refused_told}
 use Rattle.smap_c.proofs.maps.smap_open.Goals as goal
 
 pub returns-in-Err-clause-opened : goal.returns-in-Err-clause-opened
