@@ -6,7 +6,7 @@
 prepares_root() {
     mkdir "$work/try" || return 1
     put_example "$work/try/example" && put_program c "$work/try/c" && put_program py "$work/try/py" &&
-        put_lines "$work/try/completed" || return 1
+        put_node_programs "$work/try/node" && put_lines "$work/try/completed" || return 1
     # shellcheck disable=SC2086
     cp $debs "$work/try" || return 1
     start_bash "$work/try/bashrc" /try/completed /usr/share/bash-completion/completions
@@ -74,9 +74,17 @@ runs_python_program() {
     in_root sh -c 'cd /try/py && python3 program.py >written && diff program.py.out written'
 }
 
+# The first program of the manual of the package for Node, and a stack with smap/register.
+runs_node_program() {
+    [ -e "$node_deb" ] || return 0
+    in_root sh -c 'cd /try/node && node program0.cjs >written && diff program0.cjs.out written &&
+        node --require smap/register thrown.js 2>written; grep -F "at f (/try/node/a.ts:3:7)" written'
+}
+
 # Every file is as it was packed.
 is_whole() {
-    said=$(in_root dpkg --verify smap libsmap0 libsmap-dev python3-smap) && [ -z "$said" ]
+    # shellcheck disable=SC2086
+    said=$(in_root dpkg --verify $names) && [ -z "$said" ]
 }
 
 # Makes packages of the number 0.1.1 out of these, with one file more and one less, and upgrades to them.
@@ -94,17 +102,18 @@ upgrades() {
     as_root cp "$work"/next/*.deb "$root/try" || return 1
     # shellcheck disable=SC2046
     apt install $(cd "$work/next" && printf '/try/%s\n' *.deb) || return 1
-    for package in smap libsmap0 libsmap-dev python3-smap; do
+    for package in $names; do
         [ "$(in_root dpkg-query -W -f '${Version}' "$package")" = "$next" ] || return 1
         [ -e "$root/usr/share/doc/$package/next" ] || return 1
     done
     [ ! -e "$root/usr/share/bash-completion/completions/smap" ] &&
-        runs_example && runs_c_program && runs_python_program
+        runs_example && runs_c_program && runs_python_program && runs_node_program
 }
 
 removes_all() {
-    apt purge smap libsmap0 libsmap-dev python3-smap && contents | diff "$work/before" - &&
-        [ -z "$(in_root dpkg-query -W 'smap*' 'libsmap*' 'python3-smap' 2>/dev/null)" ] &&
+    # shellcheck disable=SC2086
+    apt purge $names && contents | diff "$work/before" - &&
+        [ -z "$(in_root dpkg-query -W 'smap*' 'libsmap*' 'python3-smap' 'node-smap' 2>/dev/null)" ] &&
         ! in_root ldconfig -p | grep smap
 }
 
@@ -116,10 +125,14 @@ test_debian() {
     fi
     try 'the root is prepared' prepares_root || return
     test_program
-    if apt install gcc libc6-dev pkg-config python3 >"$work/log" 2>&1; then
+    names='smap libsmap0 libsmap-dev python3-smap'
+    wanted='gcc libc6-dev pkg-config python3'
+    [ ! -e "$node_deb" ] || { names="$names node-smap" && wanted="$wanted nodejs"; }
+    # shellcheck disable=SC2086
+    if apt install $wanted >"$work/log" 2>&1; then
         test_all
     else
-        leave_out 'libsmap-dev and python3-smap, installed' "apt-get: $(first_error)"
+        leave_out 'libsmap-dev, python3-smap and node-smap, installed' "apt-get: $(first_error)"
     fi
 }
 
@@ -139,6 +152,7 @@ test_all() {
     try 'dpkg finds every file as it was packed' is_whole
     try 'the C program of README is compiled by pkg-config' runs_c_program
     try 'the Python program of README runs' runs_python_program
+    [ ! -e "$node_deb" ] || try "the first program of Node's manual runs, and smap/register" runs_node_program
     try 'the packages are upgraded' upgrades
     try 'all are purged, and nothing stays' removes_all
 }

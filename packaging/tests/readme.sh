@@ -25,3 +25,14 @@ put_program() {
         cp rows/maps/trace.map "$2/out.js.map" &&
         printf 'Error: x\n    at f (http://h/m/out.js:1:2)\n' >"$2/crash.log"
 }
+
+# Puts the programs of the manual of the package for Node into a folder, and a script that throws, with its map.
+put_node_programs() {
+    [ -e "$node_deb" ] || return 0
+    node capi/node/test/manual.js capi/node/README.md "$1" && cat >"$1/thrown.js" <<'END' &&
+function f() { throw new Error('x'); }
+f();
+//# sourceMappingURL=thrown.js.map
+END
+    echo '{"version":3,"sources":["a.ts"],"mappings":"AAEM"}' >"$1/thrown.js.map"
+}
