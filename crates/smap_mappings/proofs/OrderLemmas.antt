@@ -49,8 +49,9 @@ in_order-more (u ∷ []) t zero d len e h = rw e refl
 in_order-more (u ∷ []) t (suc k) d len e h = absurd (omega arith)
 in_order-more (u ∷ v ∷ us) t zero d len e h = absurd (omega arith)
 in_order-more (u ∷ v ∷ us) t (suc k) d len e h =
-    let b = and_parts (not (is_before (position_of v) (position_of u))) (in_order (map position_of (v ∷ us))) h in
-    rw (not-true (is_before (position_of v) (position_of u)) b.0, in_order-more (v ∷ us) t k d (omega arith) e b.1) refl
+    let falls = is_before (position_of v) (position_of u) in
+    let b = and_parts (not falls) (in_order (map position_of (v ∷ us))) h in
+    rw (not-true falls b.0, in_order-more (v ∷ us) t k d (omega arith) e b.1) refl
 
 pub in_order-first : (ts : List Token) (t : Token)
     → length ts ≡ 0 → in_order (map position_of (ts ++ t ∷ [])) ≡ true
