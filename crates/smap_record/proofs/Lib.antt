@@ -15,7 +15,7 @@ mod OwnedLemmas
 pub mod JoinedLemmas
 pub mod SectionLemmas
 mod WrittenLemmas
-mod WrittenCountLemmas
+mod WrittenUrlLemmas
 pub mod DepthLemmas
 pub mod OneLevelLemmas
 mod Examples
