@@ -11,7 +11,8 @@ use Rattle.smap_mappings.specs.declared.position.Position.{Position}
 use Rattle.smap_mappings.specs.Decoded.{decoded}
 use Rattle.smap_shape.specs.declared.fault.ShapeFault.{ShapeFault}
 use Rattle.smap_shape.specs.declared.fault.ShapeFault.TheVariants.{NotObject, Both, SourceRoot, Sources}
-use Rattle.smap_shape.specs.declared.fault.ShapeFault.TheVariants.{SourcesContent, Names, IgnoreList, Mappings}
+use Rattle.smap_shape.specs.declared.fault.ShapeFault.TheVariants.{SourcesContent, Names, Mappings}
+use Rattle.smap_shape.specs.declared.fault.ShapeFault.TheVariants.{IgnoreList}
 use Rattle.smap_shape.specs.Members.{Flat, MapMembers, flat, index, fitted, is_listed}
 use Rattle.smap_shape.specs.Reading.{shape_of, section_of, file_of, flat_of, index_of, flat_or_index}
 use Rattle.smap_shape.specs.Reading.{list_member, text_or_null, optional, number_below, ignored_member}
