@@ -7,6 +7,7 @@ mod refusals;
 mod sections;
 mod urls;
 mod words;
+mod written;
 
 use smap_mappings::Original;
 use smap_record::{Base, Fault, Limits, OriginalView, ReadError, SourceMap};

@@ -16,7 +16,7 @@ mod OwnedLemmas
 pub mod JoinedLemmas
 pub mod SectionLemmas
 mod WrittenLemmas
-mod WrittenCountLemmas
+mod WrittenUrlLemmas
 pub mod DepthLemmas
 pub mod LevelLemmas
 pub mod OneLevelLemmas

@@ -1,10 +1,13 @@
 -- Sources as the text of a map writes them, which are resolved to URLs elsewhere (ECMA-426, "Source map
 -- format", "Index source map"). They are in the order of the listing.
-use Rattle.std.specs.Prelude.{ℕ, zero, suc, ◌-◌, List, [], map, flat_map, Option, Result, Ok, Err}
+use Rattle.std.specs.Prelude.{ℕ, zero, suc, ◌-◌, List, [], map, flat_map, Option, Some, None, Result, Ok, Err}
+use Rattle.std.specs.Prelude.{option_and_then}
+use Rattle.url.specs.Parts.{Parts}
 use Rattle.serde_json.specs.Data.{Data}
 use Rattle.smap_shape.specs.Limits.{max_level}
 use Rattle.smap_shape.specs.Members.{Flat, MapMembers, flat, index}
 use Rattle.smap_shape.specs.Reading.{shape_of, section_of}
+use Rattle.smap_record.specs.Source.{Resolved, no_url, unstable, resolved, resolve}
 use Rattle.smap_record.specs.Reading.{map_tree}
 
 -- A source as it is written: its entry of `sources`, None for a null; and the `sourceRoot` of the flat map
@@ -41,3 +44,15 @@ of_tree tree = if_read (of_members max_level) (shape_of tree)
 -- The sources of a map as its text writes them.
 abbrev pub as_written : List ℕ → List Spelling
 as_written bytes = if_read of_tree (map_tree bytes)
+
+-- ---- their URLs
+
+-- the URL that a source resolved to, if there is one
+abbrev pub url_if : Resolved → Option (List ℕ)
+url_if no_url = None
+url_if unstable = None
+url_if (resolved text) = Some text
+
+-- The URL of a source that is written so, resolved with its root against the base; none for a null.
+abbrev pub url_of : Parts → Spelling → Option (List ℕ)
+url_of base s = option_and_then (λ source. url_if (resolve base s.root source)) s.source

@@ -1,11 +1,11 @@
 //! A map together with its sources as its text writes them, both from one JSON tree.
-ghost use Rattle.std.specs.Prelude.{◌≡◌, IfOk, length};
+ghost use Rattle.std.specs.Prelude.{◌≡◌, IfOk, length, map};
 ghost use Rattle.serde_json.specs.View.{view};
 ghost use Rattle.smap_record.specs.Record.{record_of};
 ghost use Rattle.smap_record.specs.Reading.{reading, tree_map};
 ghost use Rattle.smap_record.specs.Fitting.{Fits, ListingFits};
 ghost use Rattle.smap_record.specs.Results.{Returns};
-ghost use Rattle.smap_record.specs.Written.{of_tree, as_written};
+ghost use Rattle.smap_record.specs.Written.{of_tree, as_written, url_of};
 
 use crate::fault::ReadError;
 use crate::limits::Limits;
@@ -30,6 +30,8 @@ fn tree_map_of(
     ensures listing_fits { IfOk result (λ r. ListingFits base.now limits r.0.listing) }
     ensures written { IfOk result (λ r. r.1 ≡ of_tree (view tree)) }
     ensures count { IfOk result (λ r. length r.1 ≡ length r.0.listing.sources) }
+    ensures urls { IfOk result (λ r.
+        map (λ e. e.url) r.0.listing.sources ≡ map (url_of base.now) r.1) }
 {
     let (contents, tree) = split_contents(alloc, tree)?;
     let map = split_map_of(alloc, contents, &tree, base, limits)?;
@@ -56,6 +58,8 @@ impl SourceMap {
         ensures listing_fits { IfOk result (λ r. ListingFits base.now limits r.0.listing) }
         ensures written { IfOk result (λ r. r.1 ≡ as_written bytes.now) }
         ensures count { IfOk result (λ r. length r.1 ≡ length r.0.listing.sources) }
+        ensures urls { IfOk result (λ r.
+            map (λ e. e.url) r.0.listing.sources ≡ map (url_of base.now) r.1) }
     {
         let tree = map_tree_of(alloc, bytes)?;
         tree_map_of(alloc, tree, base, limits)
@@ -79,6 +83,8 @@ impl SourceMap {
         ensures listing_fits { IfOk result (λ r. ListingFits base.now limits r.0.listing) }
         ensures written { IfOk result (λ r. r.1 ≡ as_written bytes.items) }
         ensures count { IfOk result (λ r. length r.1 ≡ length r.0.listing.sources) }
+        ensures urls { IfOk result (λ r.
+            map (λ e. e.url) r.0.listing.sources ≡ map (url_of base.now) r.1) }
     {
         let tree = map_tree_of(alloc, bytes.as_slice())?;
         drop(bytes);
