@@ -76,7 +76,7 @@ runs_python_program() {
 
 # The first program of the manual of the package for Node, and a stack with smap/register.
 runs_node_program() {
-    [ -e "$node_deb" ] || return 0
+    [ -n "$with_node" ] || return 0
     in_root sh -c 'cd /try/node && node program0.cjs >written && diff program0.cjs.out written &&
         node --require smap/register thrown.js 2>written; grep -F "at f (/try/node/a.ts:3:7)" written'
 }
@@ -123,11 +123,15 @@ test_debian() {
         leave_out 'the Debian packages, installed' "mmdebstrap: $(first_error)"
         return
     fi
+    # The programs of its manual are read out of it by Node.
+    with_node=
+    [ ! -e "$node_deb" ] || { has node 'node-smap, installed' && with_node=yes; }
+    [ -n "$with_node" ] || debs=${debs% "$node_deb"}
     try 'the root is prepared' prepares_root || return
     test_program
     names='smap libsmap0 libsmap-dev python3-smap'
     wanted='gcc libc6-dev pkg-config python3'
-    [ ! -e "$node_deb" ] || { names="$names node-smap" && wanted="$wanted nodejs"; }
+    [ -z "$with_node" ] || { names="$names node-smap" && wanted="$wanted nodejs"; }
     # shellcheck disable=SC2086
     if apt install $wanted >"$work/log" 2>&1; then
         test_all
@@ -152,7 +156,7 @@ test_all() {
     try 'dpkg finds every file as it was packed' is_whole
     try 'the C program of README is compiled by pkg-config' runs_c_program
     try 'the Python program of README runs' runs_python_program
-    [ ! -e "$node_deb" ] || try "the first program of Node's manual runs, and smap/register" runs_node_program
+    [ -z "$with_node" ] || try "the first program of Node's manual runs, and smap/register" runs_node_program
     try 'the packages are upgraded' upgrades
     try 'all are purged, and nothing stays' removes_all
 }

@@ -1,0 +1,167 @@
+'use strict';
+// Runs another package's own tests over the layer that takes its place.
+//
+//     node run.js NAME FOLDER
+//
+// NAME is `source-map` or `remapping`, and FOLDER has its sources, as scripts/peer-suites puts them there. What
+// differs on purpose is listed in differences.json with its reason: such a test has to fail, and any other one
+// to pass. Only tests that ask the layer are counted. Before, all of them are run over the package itself, and
+// have to pass. The last line is 'N passed, M failed'. The status is 3, and the line a reason, if the tests
+// aren't those that the list is for, or need a package that isn't here.
+const fs = require('node:fs');
+const Module = require('node:module');
+const path = require('node:path');
+const assert = require('node:assert');
+const { spawnSync } = require('node:child_process');
+
+const SUITES = {
+  // The generator and SourceNode stay those of source-map.
+  'source-map': {
+    layers: { '../../source-map.js': /(^source-map|\/source-map-consumer(\.js)?)$/ },
+    load: loadExports,
+    needs: [],
+  },
+  remapping: {
+    layers: { '../../trace-mapping.js': /^@jridgewell\/trace-mapping$/, '../../source-map.js': /^source-map$/ },
+    load: loadTypeScript,
+    needs: ['typescript', '@jridgewell/gen-mapping', '@jridgewell/trace-mapping', 'source-map'],
+  },
+};
+
+// ---- how each suite's tests are found: a map of names to calls
+
+// Tests are what a file exports as `test ..`.
+function loadExports(folder) {
+  const tests = new Map();
+  const files = fs.readdirSync(path.join(folder, 'test')).filter(file => /^test-.*\.js$/.test(file));
+  for (const file of files) {
+    const all = Object.entries(require(path.join(folder, 'test', file)));
+    for (const [name, call] of all) if (name.startsWith('test')) tests.set(`${file}: ${name}`, call);
+  }
+  return tests;
+}
+
+function loadTypeScript(folder) {
+  // It wants version 0.1, and this is a later one, where two calls have other names.
+  const writer = require('@jridgewell/gen-mapping');
+  substitute(name => name === '@jridgewell/gen-mapping' &&
+    { ...writer, encodedMap: writer.toEncodedMap, decodedMap: writer.toDecodedMap });
+  const { transpileModule, ModuleKind, ScriptTarget } = require('typescript');
+  const compilerOptions = { module: ModuleKind.CommonJS, target: ScriptTarget.ES2020, esModuleInterop: true };
+  Module._extensions['.ts'] = (module, file) =>
+    module._compile(transpileModule(fs.readFileSync(file, 'utf8'), { compilerOptions }).outputText, file);
+  const tests = new Map();
+  let file;
+  require('./jest.js').start((name, call) => tests.set(`${file}: ${name}`, call));
+  const files = filesBelow(path.join(folder, 'test'), '').filter(file => file.endsWith('.ts'));
+  for (file of files) require(path.join(folder, 'test', file));
+  return tests;
+}
+
+function filesBelow(folder, name) {
+  const entries = fs.readdirSync(path.join(folder, name), { withFileTypes: true });
+  return entries.flatMap(entry => {
+    const inner = path.posix.join(name, entry.name);
+    return entry.isDirectory() ? filesBelow(folder, inner) : [inner];
+  });
+}
+
+// ---- the layers in place of the packages
+
+let asked = 0; // how often anything of a layer was called
+
+const counting = {
+  apply: (...call) => (asked++, Reflect.apply(...call)),
+  construct: (call, args) => (asked++, Reflect.construct(call, args)),
+  get: (call, key) => (key === 'fromSourceMap' && asked++, call[key]),
+};
+
+function counted(exports) {
+  const of = value => (typeof value === 'function' ? new Proxy(value, counting) : value);
+  return Object.fromEntries(Object.entries(exports).map(([name, value]) => [name, of(value)]));
+}
+
+function replace(layers) {
+  const wrapped = Object.entries(layers).map(([file, names]) => [names, counted(require(file))]);
+  substitute(name => wrapped.find(([names]) => names.test(name))?.[1]);
+}
+
+// From here on `require` answers what `pick` has for a name, if it has something.
+function substitute(pick) {
+  const load = Module._load;
+  Module._load = (name, ...rest) => pick(name) || load.call(Module, name, ...rest);
+}
+
+// ---- running
+
+async function failureOf(call) {
+  try {
+    await call(assert);
+    return null;
+  } catch (error) {
+    return error;
+  }
+}
+
+// Each test's name, what it failed with, and whether it asked the layer.
+async function resultsOf(tests) {
+  const results = [];
+  for (const [name, call] of tests) {
+    const before = asked;
+    const failure = await failureOf(call);
+    results.push({ name, failure, hasAsked: asked > before });
+  }
+  return results;
+}
+
+async function runTheirs({ load }, folder) {
+  const failures = (await resultsOf(load(folder))).filter(({ failure }) => failure);
+  for (const { name, failure } of failures) console.log(`FAILED over the package itself: ${name}: ${failure}`);
+  process.exitCode = failures.length ? 1 : 0;
+}
+
+async function runOurs({ load, layers }, folder, differences) {
+  replace(layers);
+  const results = (await resultsOf(load(folder))).filter(({ failure, hasAsked }) => failure || hasAsked);
+  const wrong = results.filter(({ name, failure }) => Boolean(failure) !== name in differences);
+  for (const { name, failure } of wrong) {
+    console.log(`FAILED: ${name}: ${failure?.stack ?? 'passes, and is listed as differing'}`);
+  }
+  const lost = Object.keys(differences).filter(name => !results.some(result => result.name === name));
+  for (const name of lost) console.log(`FAILED: ${name}: listed as differing, and not there`);
+  const passed = results.filter(({ failure }) => !failure).length;
+  console.log(`${results.length} tests ask the layer, ${Object.keys(differences).length} differ as listed`);
+  console.log(`${passed} passed, ${wrong.length + lost.length} failed`);
+  process.exitCode = wrong.length + lost.length ? 1 : 0;
+}
+
+function leaveOut(why) {
+  console.log(why);
+  process.exit(3);
+}
+
+function isMissing(name) {
+  try {
+    require.resolve(name);
+    return false;
+  } catch {
+    return true;
+  }
+}
+
+async function main([name, folder, which]) {
+  const suite = SUITES[name];
+  if (!suite) leaveOut(`capi/node/test/suites/run.js doesn't know the tests of ${name}`);
+  const missing = suite.needs.filter(isMissing);
+  if (missing.length) leaveOut(`no package ${missing.join(', ')} here`);
+  const { version, tests } = require('./differences.json')[name];
+  const has = JSON.parse(fs.readFileSync(path.join(folder, 'package.json'), 'utf8')).version;
+  if (has !== version) leaveOut(`they are of version ${has}, and the differences listed are of ${version}`);
+  if (which === '--theirs') return runTheirs(suite, folder);
+  const words = [__filename, name, folder, '--theirs'];
+  const { status } = spawnSync(process.execPath, words, { stdio: 'inherit' });
+  await runOurs(suite, folder, tests);
+  if (status !== 0) process.exitCode = 1;
+}
+
+main(process.argv.slice(2));
