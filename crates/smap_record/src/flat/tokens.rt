@@ -27,7 +27,8 @@ fn is_beyond(most: usize, before: usize, more: usize) -> bool
 
 /// Whether more is listed with the map than the limits allow.
 pub(crate) fn is_too_many(before: &Listing, shape: &FlatShape<'_>, limits: Limits) -> bool
-    ensures { result ≡ is_too_many limits (listing_of before.now) shape.now }
+    ensures value { result ≡ is_too_many limits (listing_of before.now) shape.now }
+    ensures items { limits.items < POSITIONS }
 {
     let items = limits.items() as usize;
     is_beyond(items, before.sources.listed_count(), shape.source_count())
@@ -36,15 +37,14 @@ pub(crate) fn is_too_many(before: &Listing, shape: &FlatShape<'_>, limits: Limit
 
 /// The bounds of the map's mappings string.
 pub(crate) fn bounds(shape: &FlatShape<'_>, limits: Limits, offset: Position) -> Bounds
+    requires items { limits.items < POSITIONS }
     requires sources { length shape.now.sources ≤ limits.items }
     requires names { length shape.now.names ≤ limits.items }
     requires offset { IsPosition offset }
     ensures value { result ≡ bounds_of limits offset shape.now }
     ensures are { AreBounds result }
-    ensures items { limits.items < POSITIONS }
     ensures lines { limits.lines ≤ LINES }
 {
-    let _items = limits.items();
     Bounds {
         start_line: offset.line,
         start_column: offset.column,

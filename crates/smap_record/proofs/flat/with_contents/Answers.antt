@@ -25,7 +25,7 @@ owned contents m = with_contents (texts_of contents) m
 pub returns-then-is_too_many-clause-reads : goal.returns-then-is_too_many-clause-reads
 returns-then-is_too_many-clause-reads c = rw c.refused.ensures
     (too_many c.args.base.now c.args.limits c.args.offset (listing_of c.args.before)
-    (owned c.args.contents.items c.args.shape.now) (sym c.is_too_many.ensures ∙ c.if-is_too_many.true))
+    (owned c.args.contents.items c.args.shape.now) (sym c.is_too_many.ensures.value ∙ c.if-is_too_many.true))
 
 pub returns-in_err-sources-clause-reads : goal.returns-in_err-sources-clause-reads
 returns-in_err-sources-clause-reads c =
@@ -34,7 +34,7 @@ returns-in_err-sources-clause-reads c =
       p.1,
       p.2,
       flat_in_steps c.args.base.now c.args.limits c.args.offset (listing_of c.args.before)
-          (owned c.args.contents.items c.args.shape.now) (sym c.is_too_many.ensures ∙ c.if-is_too_many.false),
+          (owned c.args.contents.items c.args.shape.now) (sym c.is_too_many.ensures.value ∙ c.if-is_too_many.false),
     )
     (first_fails _ _ _ c.in_err-sources.ensures.lists)
 
@@ -59,7 +59,7 @@ returns-in_err-tokens-clause-reads c =
       p.1,
       p.2,
       flat_in_steps c.args.base.now c.args.limits c.args.offset (listing_of c.args.before)
-          (owned c.args.contents.items c.args.shape.now) (sym c.is_too_many.ensures ∙ c.if-is_too_many.false),
+          (owned c.args.contents.items c.args.shape.now) (sym c.is_too_many.ensures.value ∙ c.if-is_too_many.false),
     )
     (then_fails _ _ _ _ c.in_ok-sources.ensures.lists (first_fails _ _ _
     (subst (Fails c.in_err-tokens.field-0.0)
@@ -80,7 +80,7 @@ reads c =
     let len = c.len-name_count.ensures in
     let kept = c.args.before.names.ok in
     flat_in_steps c.args.base.now c.args.limits c.args.offset (listing_of c.args.before)
-    (owned c.args.contents.items c.args.shape.now) (sym c.is_too_many.ensures ∙ c.if-is_too_many.false)
+    (owned c.args.contents.items c.args.shape.now) (sym c.is_too_many.ensures.value ∙ c.if-is_too_many.false)
     ∙ then_ok _ _ _ _ c.in_ok-sources.ensures.lists (then_ok _ _ _ _
     (sym (tokens_are c.args.before c.args.limits c.args.offset (owned c.args.contents.items c.args.shape.now)
     _ _ _ _ c.listed_count-source_count.ensures (omega (arith, len, kept)) c.bounds-bounds.ensures.value
@@ -97,8 +97,8 @@ returns-clause-reads c = reads c
 pub returns-clause-fits : goal.returns-clause-fits
 returns-clause-fits c =
     flat_fits c.args.base.now c.args.limits c.args.offset (listing_of c.args.before)
-    (owned c.args.contents.items c.args.shape.now) c.requires.offset c.bounds-bounds.ensures.items
-    c.bounds-bounds.ensures.lines c.requires.fits c.requires.none_after (sym c.is_too_many.ensures ∙ c.if-is_too_many.false)
+    (owned c.args.contents.items c.args.shape.now) c.requires.offset c.is_too_many.ensures.items
+    c.bounds-bounds.ensures.lines c.requires.fits c.requires.none_after (sym c.is_too_many.ensures.value ∙ c.if-is_too_many.false)
     (listing_of (record {
       sources = c.in_ok-sources.sources;
       names = c.in_ok-names.names;
