@@ -138,7 +138,7 @@ fn token_by(names: &UsedNames<'_>, map: &SourceMap, token: Token) -> Token
 }
 
 /// What tokens are passed to one by one: it writes their mappings string, or counts its bytes.
-trait TokenSink {
+pub(crate) trait TokenSink {
     // it was passed these tokens
     ghost was_passed: { Self → List SpecToken → Type 0 };
 
@@ -152,7 +152,6 @@ trait TokenSink {
 impl TokenSink for Encoder {
     ghost was_passed = { Encodes };
 
-    #[inline(always)]
     fn take(&mut self, token: Token) -> Result<(), Memory> {
         self.push(token)
     }
@@ -161,7 +160,6 @@ impl TokenSink for Encoder {
 impl TokenSink for TextLength {
     ghost was_passed = { Measures };
 
-    #[inline(always)]
     fn take(&mut self, token: Token) -> Result<(), Memory> {
         self.push(token);
         Ok(())
@@ -169,7 +167,7 @@ impl TokenSink for TextLength {
 }
 
 /// Passes on the tokens with these indices, in one pass over the mappings. No second array of them is made.
-fn pass_numbered<S: TokenSink>(
+pub(crate) fn pass_numbered<S: TokenSink>(
     sink: &mut S,
     map: &SourceMap,
     names: &UsedNames<'_>,
@@ -199,16 +197,6 @@ pub(crate) fn numbered_mappings(
     let mut encoder = Encoder::with_capacity(alloc, map.token_count())?;
     pass_numbered(&mut encoder, map, names)?;
     Ok(encoder.finish())
-}
-
-/// The length of that mappings string, which isn't made for it.
-pub(crate) fn numbered_length(map: &SourceMap, names: &UsedNames<'_>) -> Result<u128, Memory>
-    requires { AreUsedNames map.now names.now }
-    ensures { IfOk result (λ len. len ≡ length (canonical_mappings_text (record_of map.now))) }
-{
-    let mut text = TextLength::new();
-    pass_numbered(&mut text, map, names)?;
-    Ok(text.len())
 }
 
 /// The mappings string of the tokens as listed.

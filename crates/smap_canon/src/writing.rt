@@ -13,9 +13,9 @@ ghost use Rattle.smap_canon.specs.Writing.{map_of};
 
 use crate::layout::FlatMap;
 use crate::listing_to_write::ListingToWrite;
-use crate::numbering::{numbered_length, numbered_mappings, used_names};
+use crate::numbering::{numbered_mappings, pass_numbered, used_names};
 use crate::spelling::Spelling;
-use smap_mappings::Memory;
+use smap_mappings::{Memory, TextLength};
 use smap_record::{Base, SourceMap};
 use std::alloc::Global;
 
@@ -89,8 +89,9 @@ pub fn canonical_mappings_len(alloc: Global, map: &SourceMap) -> Result<u128, Me
     ensures { IfOk result (λ len. len ≡ length (canonical_mappings_text (record_of map.now))) }
 {
     let names = used_names(alloc, map)?;
-    let len = numbered_length(map, &names)?;
-    Ok(len)
+    let mut text = TextLength::new();
+    pass_numbered(&mut text, map, &names)?;
+    Ok(text.len())
 }
 
 /// The canonical form of a map: one flat map as compact JSON, which `docs/OUTPUT.md` specifies byte by

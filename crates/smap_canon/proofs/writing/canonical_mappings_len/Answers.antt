@@ -1,7 +1,7 @@
 use Rattle.smap_record.specs.Record.{record_of}
 use Rattle.smap_canon.specs.Canonical.{canonical_listing}
 use Rattle.smap_canon.proofs.LengthLemmas.{whole-length}
-use Rattle.smap_canon.proofs.numbering.numbered_length.Goals as goal
+use Rattle.smap_canon.proofs.writing.canonical_mappings_len.Goals as goal
 
 pub returns : goal.returns
 returns c =
