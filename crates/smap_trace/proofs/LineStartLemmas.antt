@@ -1,6 +1,7 @@
 -- Where the mappings of each line begin, and what the count of a search is at least and at most.
-use Rattle.std.proofs.Common.{◌≡◌, ◌∙◌, ℕ, ◌+◌, ◌-◌, ◌/◌, ◌<◌, ◌≤◌, Bool, true, false, List, length, map, get_or}
-use Rattle.std.proofs.Common.{nat_le, nat_lt, Option, None, arith, ap, sym, inl, inr, slice_get, slice_index, Some, refl, cond, []}
+use Rattle.std.proofs.Common.{◌≡◌, ◌∙◌, ℕ, ◌+◌, ◌-◌, ◌/◌, ◌<◌, ◌≤◌, Bool, true, false, List, length, map}
+use Rattle.std.proofs.Common.{get_or, nat_le, nat_lt, Option, None, arith, ap, sym, inl, inr, slice_get}
+use Rattle.std.proofs.Common.{slice_index, Some, refl, cond, []}
 use Rattle.std.specs.List.{range_with_len}
 use Rattle.std.proofs.lemmas.Bool.{cases_lt, ltb-false, ltb-true}
 use Rattle.std.proofs.lemmas.Bool.Decides.{nat_tests}
@@ -27,7 +28,8 @@ start_within ms line = prefix_len-le-length _ ms
 pub before_start : (ms : List Mapping) (line i : ℕ) (d : Mapping) → i < line_start ms line
     → (get_or ms i d).line < line
 before_start ms line i d lt =
-    let h : nat_le line (get_or ms i d).line ≡ false = fails_before_first (λ m. nat_le line m.line) ms i d lt in
+    let h : nat_le line (get_or ms i d).line ≡ false =
+    fails_before_first (λ m. nat_le line m.line) ms i d lt in
     grind (arith, nat_tests)
 
 pub at_start : (ms : List Mapping) (line : ℕ) (d : Mapping) → line_start ms line < length ms
@@ -76,10 +78,12 @@ module _ (ms : List Mapping) (line column : ℕ) (sorted : NeverFalls (map mappi
   abbrev counted : ℕ
   counted = count_at_most (map mapping_position ms) (position_in (line, column))
 
-  earlier : (m : Mapping) → m.line < line → is_at_most (mapping_position m) (position_in (line, column)) ≡ true
+  earlier : (m : Mapping) → m.line < line
+      → is_at_most (mapping_position m) (position_in (line, column)) ≡ true
   earlier m h = grind (arith, nat_tests)
 
-  later : (m : Mapping) → line < m.line → is_at_most (mapping_position m) (position_in (line, column)) ≡ false
+  later : (m : Mapping) → line < m.line
+      → is_at_most (mapping_position m) (position_in (line, column)) ≡ false
   later m h = grind (arith, nat_tests)
 
   at_least : line_start ms line ≤ counted

@@ -30,4 +30,5 @@ returns-in-Some c =
 
 pub returns-in-None-clause-most_of_line : goal.returns-in-None-clause-most_of_line
 returns-in-None-clause-most_of_line c listed =
-    absurd (omega (arith, listed, no_range c.args.starts.now c.args.line (sym c.of_line.ensures ∙ c.in-None.is)))
+    let none = no_range c.args.starts.now c.args.line (sym c.of_line.ensures ∙ c.in-None.is) in
+    absurd (omega (arith, listed, none))
