@@ -4,10 +4,10 @@
 //     node run.js NAME FOLDER
 //
 // NAME is `source-map` or `remapping`, and FOLDER has its sources, as scripts/peer-suites puts them there. What
-// differs on purpose is listed in differences.json with its reason: such a test has to fail, and any other one
-// to pass. Only tests that ask the layer are counted. Before, all of them are run over the package itself, and
-// have to pass. The last line is 'N passed, M failed'. The status is 3, and the line a reason, if the tests
-// aren't those that the list is for, or need a package that isn't here.
+// differs on purpose is listed in differences.json with its reason: such a test has to fail with the error that
+// stands there, and any other one to pass. Only tests that ask the layer are counted. Before, all of them are
+// run over the package itself, and have to pass. The last line is 'N passed, M failed'. The status is 3, and the
+// line a reason, if the tests aren't those that the list is for, or need a package that isn't here.
 const fs = require('node:fs');
 const Module = require('node:module');
 const path = require('node:path');
@@ -123,12 +123,14 @@ async function runTheirs({ load }, folder) {
 async function runOurs({ load, layers }, folder, differences) {
   replace(layers);
   const results = (await resultsOf(load(folder))).filter(({ failure, hasAsked }) => failure || hasAsked);
-  const wrong = results.filter(({ name, failure }) => Boolean(failure) !== name in differences);
+  const isWrong = ({ name, failure }) =>
+    name in differences ? !failure?.message.includes(differences[name].error) : failure;
+  const wrong = results.filter(isWrong);
   for (const { name, failure } of wrong) {
-    console.log(`FAILED: ${name}: ${failure?.stack ?? 'passes, and is listed as differing'}`);
+    console.log(`FAILED: ${name}: ${failure?.stack ?? 'it passes, and is listed as differing'}`);
   }
   const lost = Object.keys(differences).filter(name => !results.some(result => result.name === name));
-  for (const name of lost) console.log(`FAILED: ${name}: listed as differing, and not there`);
+  for (const name of lost) console.log(`FAILED: ${name}: it is listed as differing, and isn't there`);
   const passed = results.filter(({ failure }) => !failure).length;
   console.log(`${results.length} tests ask the layer, ${Object.keys(differences).length} differ as listed`);
   console.log(`${passed} passed, ${wrong.length + lost.length} failed`);
@@ -152,8 +154,8 @@ function isMissing(name) {
 async function main([name, folder, which]) {
   const suite = SUITES[name];
   if (!suite) leaveOut(`capi/node/test/suites/run.js doesn't know the tests of ${name}`);
-  const missing = suite.needs.filter(isMissing);
-  if (missing.length) leaveOut(`no package ${missing.join(', ')} here`);
+  const missing = suite.needs.find(isMissing);
+  if (missing) leaveOut(`no package ${missing} here`);
   const { version, tests } = require('./differences.json')[name];
   const has = JSON.parse(fs.readFileSync(path.join(folder, 'package.json'), 'utf8')).version;
   if (has !== version) leaveOut(`they are of version ${has}, and the differences listed are of ${version}`);
