@@ -2,7 +2,5 @@ pub mod BytesLemmas
 pub mod FaultLemmas
 pub mod LooseLemmas
 pub mod MapLemmas
-pub mod OwnedBytesLemmas
-pub mod OwnedMapLemmas
-pub mod OwnedScriptsLemmas
+pub mod OwnerLemmas
 pub mod ScriptLemmas

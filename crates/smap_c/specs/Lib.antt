@@ -7,9 +7,7 @@ pub mod Lists
 pub mod Lookups
 pub mod Maps
 pub mod Order
-pub mod OwnedBytes
-pub mod OwnedMap
-pub mod OwnedScripts
+pub mod Owned
 pub mod Scripts
 pub mod ScriptsView
 pub mod Sources

@@ -8,12 +8,12 @@ ghost use Rattle.smap_mappings.specs.Limits.{widest};
 ghost use Rattle.smap_c.specs.Strings.{copied};
 ghost use Rattle.smap_c.specs.Bytes.{Tidies, TidiesRelative, Flattens, SpellsMappings, Puts, IsCopied, IsAt};
 ghost use Rattle.smap_c.specs.Bytes.{respelling, Respells, ReturnsText};
-ghost use Rattle.smap_c.specs.Handles.{held};
+ghost use Rattle.smap_c.specs.Handles.{held_bytes, held_map};
 ghost use Rattle.smap_c.specs.Faults.{IsWhole};
 
 use crate::codes::{CLOSED, MEMORY, OK};
 use crate::faults::{SmapFault, tell_fault};
-use crate::handles::{SmapBytes, SmapMap};
+use crate::handles::{Held, SmapBytes, SmapMap};
 use crate::strings::copy_out;
 use smap_canon::{canonical, canonical_mappings, canonical_relative, flatten};
 use smap_mappings::{MappingsError, Memory, Token, WIDEST, decode, encode};
@@ -35,15 +35,15 @@ pub extern "C" fn smap_bytes_data(
     at: &mut *const u8,
     len: &mut usize,
 ) -> u32
-    ensures at { IsAt bytes.old.owner.value at.old at.new len.new result }
+    ensures at { IsAt (held_bytes bytes.old.owner.value) at.old at.new len.new result }
     ensures same { bytes.new.owner.value ≡ bytes.old.owner.value }
 {
     *len = 0;
     match mem::replace(bytes, SmapBytes::closed(alloc)).into_box() {
         None => CLOSED,
         Some(held) => {
-            *at = held.bytes.as_ptr();
-            *len = held.bytes.len();
+            *at = held.written().bytes.as_ptr();
+            *len = held.written().bytes.len();
             *bytes = SmapBytes::of(held);
             OK
         }
@@ -58,15 +58,16 @@ pub extern "C" fn smap_bytes_copy(
     from: usize,
     out: &mut [u8],
 ) -> usize
-    ensures copied { IsCopied bytes.old.owner.value from out.old out.new result }
+    ensures copied { IsCopied (held_bytes bytes.old.owner.value) from out.old out.new result }
     ensures same { bytes.new.owner.value ≡ bytes.old.owner.value }
 {
     match mem::replace(bytes, SmapBytes::closed(alloc)).into_box() {
         None => 0,
         Some(held) => {
-            let len = held.bytes.len();
+            let text = held.written().bytes.as_slice();
+            let len = text.len();
             if from <= len {
-                copy_out(&held.bytes.as_slice()[from..], out);
+                copy_out(&text[from..], out);
             }
             *bytes = SmapBytes::of(held);
             len
@@ -84,12 +85,12 @@ pub extern "C" fn smap_bytes_free(alloc: Global, bytes: &mut SmapBytes)
 
 /// Puts bytes into a handle.
 fn put(alloc: Global, answer: Result<Vec<u8>, Memory>, out: &mut SmapBytes) -> u32
-    ensures { Puts answer out.old.owner.value out.new.owner.value result }
+    ensures { Puts answer (held_bytes out.old.owner.value) (held_bytes out.new.owner.value) result }
 {
     let Ok(bytes) = answer else {
         return MEMORY;
     };
-    match Box::new(alloc, Written { bytes }) {
+    match Held::Bytes(Written { bytes }).boxed(alloc) {
         Ok(held) => {
             *out = SmapBytes::of(held);
             OK
@@ -101,7 +102,8 @@ fn put(alloc: Global, answer: Result<Vec<u8>, Memory>, out: &mut SmapBytes) -> u
 /// The canonical bytes of a map.
 #[unsafe(no_mangle)]
 pub extern "C" fn smap_canonical(alloc: Global, map: &mut SmapMap, out: &mut SmapBytes) -> u32
-    ensures bytes { Tidies (held map.old.owner.value) out.old.owner.value out.new.owner.value result }
+    ensures bytes { Tidies (held_map map.old.owner.value) (held_bytes out.old.owner.value)
+        (held_bytes out.new.owner.value) result }
     ensures same { map.new.owner.value ≡ map.old.owner.value }
 {
     match mem::replace(map, SmapMap::closed(alloc)).into_box() {
@@ -121,7 +123,8 @@ pub extern "C" fn smap_canonical_relative(
     map: &mut SmapMap,
     out: &mut SmapBytes,
 ) -> u32
-    ensures bytes { TidiesRelative (held map.old.owner.value) out.old.owner.value out.new.owner.value result }
+    ensures bytes { TidiesRelative (held_map map.old.owner.value) (held_bytes out.old.owner.value)
+        (held_bytes out.new.owner.value) result }
     ensures same { map.new.owner.value ≡ map.old.owner.value }
 {
     match mem::replace(map, SmapMap::closed(alloc)).into_box() {
@@ -147,7 +150,8 @@ pub extern "C" fn smap_canonical_mappings(
     map: &mut SmapMap,
     out: &mut SmapBytes,
 ) -> u32
-    ensures bytes { SpellsMappings (held map.old.owner.value) out.old.owner.value out.new.owner.value result }
+    ensures bytes { SpellsMappings (held_map map.old.owner.value) (held_bytes out.old.owner.value)
+        (held_bytes out.new.owner.value) result }
     ensures same { map.new.owner.value ≡ map.old.owner.value }
 {
     match mem::replace(map, SmapMap::closed(alloc)).into_box() {
@@ -163,7 +167,8 @@ pub extern "C" fn smap_canonical_mappings(
 /// A map as one flat map, its lists as they are.
 #[unsafe(no_mangle)]
 pub extern "C" fn smap_flatten(alloc: Global, map: &mut SmapMap, out: &mut SmapBytes) -> u32
-    ensures bytes { Flattens (held map.old.owner.value) out.old.owner.value out.new.owner.value result }
+    ensures bytes { Flattens (held_map map.old.owner.value) (held_bytes out.old.owner.value)
+        (held_bytes out.new.owner.value) result }
     ensures same { map.new.owner.value ≡ map.old.owner.value }
 {
     match mem::replace(map, SmapMap::closed(alloc)).into_box() {
@@ -209,7 +214,8 @@ pub extern "C" fn smap_respell(
     out: &mut SmapBytes,
     fault: &mut SmapFault,
 ) -> u32
-    ensures respelled { Respells text.now out.old.owner.value out.new.owner.value fault.old fault.new result }
+    ensures respelled { Respells text.now (held_bytes out.old.owner.value)
+        (held_bytes out.new.owner.value) fault.old fault.new result }
     ensures whole { IsWhole fault.new result }
 {
     match respelled(alloc, text) {

@@ -1,16 +1,80 @@
-//! The handles of maps, bytes and scripts.
-ghost use Rattle.std.specs.Prelude.{◌≡◌, ◌↔◌, Option, Some, None, IsSome, IsTrue, MatchOption};
+//! The handles of maps, bytes and scripts: structs of the caller's. Each owns what it holds in a box, by a
+//! pointer that C carries.
+ghost use Rattle.std.specs.Prelude.{◌≡◌, ◌↔◌, Option, Some, None, IfOk, IfSome, IsSome, IsTrue, MatchOption};
 ghost use Rattle.std.specs.Box.Ownership.{box_owns};
-ghost use Rattle.smap_c.specs.declared.maps.Shared.{Shared};
-ghost use Rattle.smap_c.specs.declared.bytes.Written.{Written};
-ghost use Rattle.smap_c.specs.declared.scripts.Scripts.{Scripts};
+ghost use Rattle.smap_c.specs.Handles.{held_bytes, held_map, held_scripts, is_bytes, is_map, is_scripts};
+ghost use Rattle.smap_c.specs.Handles.{is_none_or};
+ghost use Rattle.smap_c.specs.declared.handles.Held.{Held};
 
 use crate::bytes::Written;
-use crate::maps::Shared;
+use crate::maps::{Opened, Shared};
 use crate::scripts::Scripts;
+use smap_mappings::Memory;
 use std::alloc::{Allocator, Global};
 use std::marker::Model;
 
+/// What a handle holds: a share in a map, bytes, or scripts.
+#[derive(Drop)]
+pub enum Held {
+    Map(Shared),
+    Bytes(Written),
+    Scripts(Scripts),
+}
+
+impl Held {
+    /// The same in a box.
+    pub(crate) fn boxed(self, alloc: Global) -> Result<Box<Held>, Memory>
+        ensures { IfOk result (λ b. b.value ≡ self) }
+    {
+        match Box::new(alloc, self) {
+            Ok(held) => Ok(held),
+            Err(_) => Err(Memory),
+        }
+    }
+
+    /// The share in a map.
+    pub(crate) fn shared(&self) -> &Shared
+        requires { IsTrue (is_map self.now) }
+        ensures { held_map (Some self.now) ≡ Some result.now.arc.value }
+    {
+        match self {
+            Held::Map(shared) => shared,
+            Held::Bytes(_) | Held::Scripts(_) => unreachable!(),
+        }
+    }
+
+    /// The map that it has a share in.
+    pub(crate) fn opened(&self) -> &Opened
+        requires { IsTrue (is_map self.now) }
+        ensures { held_map (Some self.now) ≡ Some result.now }
+    {
+        self.shared().opened()
+    }
+
+    /// The bytes.
+    pub(crate) fn written(&self) -> &Written
+        requires { IsTrue (is_bytes self.now) }
+        ensures { held_bytes (Some self.now) ≡ Some result.now }
+    {
+        match self {
+            Held::Bytes(written) => written,
+            Held::Map(_) | Held::Scripts(_) => unreachable!(),
+        }
+    }
+
+    /// The scripts.
+    pub(crate) fn scripts(&self) -> &Scripts
+        requires { IsTrue (is_scripts self.now) }
+        ensures { held_scripts (Some self.now) ≡ Some result.now }
+    {
+        match self {
+            Held::Scripts(scripts) => scripts,
+            Held::Map(_) | Held::Bytes(_) => unreachable!(),
+        }
+    }
+}
+
+/// A box as its pointer.
 pub(crate) struct Loose<T, A: Allocator> {
     pub(crate) at: *mut T,
     pub(crate) alloc: A,
@@ -37,52 +101,64 @@ impl<T: Drop, A: Allocator> Loose<T, A> {
     }
 }
 
-/// Owns a share in a box, or nothing, through a pointer that C carries. Dropping it forgets what it owns, so
-/// it is dropped only when it owns nothing.
+/// Owns one in a box, or nothing, through a pointer that C carries. Dropping it forgets what it owns, so it is
+/// dropped only when it owns nothing.
 #[repr(C)]
 #[derive(Drop)]
-pub struct MapOwner {
+pub struct Owner {
     at: *mut u8,
     alloc: Global,
-    pub ghost value: { Option Shared },
+    pub ghost value: { Option Held },
 }
 
-impl Model for MapOwner {
-    ghost use Rattle.smap_c.specs.OwnedMap.{owned};
+impl Model for Owner {
+    ghost use Rattle.smap_c.specs.Owned.{owned};
 
     ghost also_owns = { λ h. owned h.alloc h.at h.value };
 }
 
-unsafe impl Send for MapOwner {}
+unsafe impl Send for Owner {}
 
-impl MapOwner {
-    fn none(alloc: Global) -> MapOwner
+impl Owner {
+    fn none(alloc: Global) -> Owner
         ensures { result.value ≡ None }
     {
-        MapOwner {
+        Owner {
             at: std::ptr::null_mut(),
             alloc,
         }
     }
 
-    fn of(held: Loose<Shared, Global>) -> MapOwner
+    fn of(held: Loose<Held, Global>) -> Owner
         ensures { result.value ≡ Some held.value }
     {
         let Loose { at, alloc } = held;
-        MapOwner {
+        Owner {
             at: at as *mut u8,
             alloc,
         }
     }
 
-    fn into_loose(self) -> Loose<Shared, Global>
+    fn into_loose(self) -> Loose<Held, Global>
         requires { IsSome self.value }
         ensures { Some result.value ≡ self.value }
     {
-        let MapOwner { at, alloc } = self;
+        let Owner { at, alloc } = self;
         Loose {
-            at: at as *mut Shared,
+            at: at as *mut Held,
             alloc,
+        }
+    }
+
+    /// What it owns; `is_open` says whether it owns something.
+    fn into_box(self, is_open: bool) -> Option<Box<Held>>
+        requires { IsTrue is_open ↔ IsSome self.value }
+        ensures { MatchOption result (self.value ≡ None) (λ b. self.value ≡ Some b.value) }
+    {
+        if is_open {
+            Some(self.into_loose().into_box())
+        } else {
+            None
         }
     }
 }
@@ -91,8 +167,9 @@ impl MapOwner {
 #[repr(C)]
 pub struct SmapMap {
     is_open: bool,
-    pub owner: MapOwner,
+    pub owner: Owner,
     ghost tied: { IsTrue is_open ↔ IsSome owner.value },
+    ghost kind: { IsTrue (is_none_or is_map owner.value) },
 }
 
 impl Drop for SmapMap {
@@ -108,80 +185,28 @@ impl SmapMap {
     {
         SmapMap {
             is_open: false,
-            owner: MapOwner::none(alloc),
+            owner: Owner::none(alloc),
         }
     }
 
     /// The handle that owns this.
-    pub(crate) fn of(held: Box<Shared>) -> SmapMap
+    pub(crate) fn of(held: Box<Held>) -> SmapMap
+        requires { IsTrue (is_map held.value) }
         ensures { result.owner.value ≡ Some held.value }
     {
         SmapMap {
             is_open: true,
-            owner: MapOwner::of(Loose::of(held)),
+            owner: Owner::of(Loose::of(held)),
         }
     }
 
     /// What it owns.
-    pub(crate) fn into_box(self) -> Option<Box<Shared>>
-        ensures { MatchOption result (self.owner.value ≡ None) (λ b. self.owner.value ≡ Some b.value) }
+    pub(crate) fn into_box(self) -> Option<Box<Held>>
+        ensures value { MatchOption result (self.owner.value ≡ None) (λ b. self.owner.value ≡ Some b.value) }
+        ensures kind { IfSome result (λ b. IsTrue (is_map b.value)) }
     {
         let SmapMap { is_open, owner } = self;
-        if is_open {
-            Some(owner.into_loose().into_box())
-        } else {
-            None
-        }
-    }
-}
-
-/// Owns one in a box, or nothing, through a pointer that C carries. Dropping it forgets what it owns, so that
-/// happens only when it owns nothing.
-#[repr(C)]
-#[derive(Drop)]
-pub struct BytesOwner {
-    at: *mut u8,
-    alloc: Global,
-    pub ghost value: { Option Written },
-}
-
-impl Model for BytesOwner {
-    ghost use Rattle.smap_c.specs.OwnedBytes.{owned};
-
-    ghost also_owns = { λ h. owned h.alloc h.at h.value };
-}
-
-unsafe impl Send for BytesOwner {}
-
-impl BytesOwner {
-    fn none(alloc: Global) -> BytesOwner
-        ensures { result.value ≡ None }
-    {
-        BytesOwner {
-            at: std::ptr::null_mut(),
-            alloc,
-        }
-    }
-
-    fn of(held: Loose<Written, Global>) -> BytesOwner
-        ensures { result.value ≡ Some held.value }
-    {
-        let Loose { at, alloc } = held;
-        BytesOwner {
-            at: at as *mut u8,
-            alloc,
-        }
-    }
-
-    fn into_loose(self) -> Loose<Written, Global>
-        requires { IsSome self.value }
-        ensures { Some result.value ≡ self.value }
-    {
-        let BytesOwner { at, alloc } = self;
-        Loose {
-            at: at as *mut Written,
-            alloc,
-        }
+        owner.into_box(is_open)
     }
 }
 
@@ -189,8 +214,9 @@ impl BytesOwner {
 #[repr(C)]
 pub struct SmapBytes {
     is_open: bool,
-    pub owner: BytesOwner,
+    pub owner: Owner,
     ghost tied: { IsTrue is_open ↔ IsSome owner.value },
+    ghost kind: { IsTrue (is_none_or is_bytes owner.value) },
 }
 
 impl Drop for SmapBytes {
@@ -206,80 +232,28 @@ impl SmapBytes {
     {
         SmapBytes {
             is_open: false,
-            owner: BytesOwner::none(alloc),
+            owner: Owner::none(alloc),
         }
     }
 
     /// The handle that owns this.
-    pub(crate) fn of(held: Box<Written>) -> SmapBytes
+    pub(crate) fn of(held: Box<Held>) -> SmapBytes
+        requires { IsTrue (is_bytes held.value) }
         ensures { result.owner.value ≡ Some held.value }
     {
         SmapBytes {
             is_open: true,
-            owner: BytesOwner::of(Loose::of(held)),
+            owner: Owner::of(Loose::of(held)),
         }
     }
 
     /// What it owns.
-    pub(crate) fn into_box(self) -> Option<Box<Written>>
-        ensures { MatchOption result (self.owner.value ≡ None) (λ b. self.owner.value ≡ Some b.value) }
+    pub(crate) fn into_box(self) -> Option<Box<Held>>
+        ensures value { MatchOption result (self.owner.value ≡ None) (λ b. self.owner.value ≡ Some b.value) }
+        ensures kind { IfSome result (λ b. IsTrue (is_bytes b.value)) }
     {
         let SmapBytes { is_open, owner } = self;
-        if is_open {
-            Some(owner.into_loose().into_box())
-        } else {
-            None
-        }
-    }
-}
-
-/// Owns one in a box, or nothing, through a pointer that C carries. Dropping it forgets what it owns, so that
-/// happens only when it owns nothing.
-#[repr(C)]
-#[derive(Drop)]
-pub struct ScriptsOwner {
-    at: *mut u8,
-    alloc: Global,
-    pub ghost value: { Option Scripts },
-}
-
-impl Model for ScriptsOwner {
-    ghost use Rattle.smap_c.specs.OwnedScripts.{owned};
-
-    ghost also_owns = { λ h. owned h.alloc h.at h.value };
-}
-
-unsafe impl Send for ScriptsOwner {}
-
-impl ScriptsOwner {
-    fn none(alloc: Global) -> ScriptsOwner
-        ensures { result.value ≡ None }
-    {
-        ScriptsOwner {
-            at: std::ptr::null_mut(),
-            alloc,
-        }
-    }
-
-    fn of(held: Loose<Scripts, Global>) -> ScriptsOwner
-        ensures { result.value ≡ Some held.value }
-    {
-        let Loose { at, alloc } = held;
-        ScriptsOwner {
-            at: at as *mut u8,
-            alloc,
-        }
-    }
-
-    fn into_loose(self) -> Loose<Scripts, Global>
-        requires { IsSome self.value }
-        ensures { Some result.value ≡ self.value }
-    {
-        let ScriptsOwner { at, alloc } = self;
-        Loose {
-            at: at as *mut Scripts,
-            alloc,
-        }
+        owner.into_box(is_open)
     }
 }
 
@@ -287,8 +261,9 @@ impl ScriptsOwner {
 #[repr(C)]
 pub struct SmapScripts {
     is_open: bool,
-    pub owner: ScriptsOwner,
+    pub owner: Owner,
     ghost tied: { IsTrue is_open ↔ IsSome owner.value },
+    ghost kind: { IsTrue (is_none_or is_scripts owner.value) },
 }
 
 impl Drop for SmapScripts {
@@ -304,29 +279,27 @@ impl SmapScripts {
     {
         SmapScripts {
             is_open: false,
-            owner: ScriptsOwner::none(alloc),
+            owner: Owner::none(alloc),
         }
     }
 
     /// The handle that owns this.
-    pub(crate) fn of(held: Box<Scripts>) -> SmapScripts
+    pub(crate) fn of(held: Box<Held>) -> SmapScripts
+        requires { IsTrue (is_scripts held.value) }
         ensures { result.owner.value ≡ Some held.value }
     {
         SmapScripts {
             is_open: true,
-            owner: ScriptsOwner::of(Loose::of(held)),
+            owner: Owner::of(Loose::of(held)),
         }
     }
 
     /// What it owns.
-    pub(crate) fn into_box(self) -> Option<Box<Scripts>>
-        ensures { MatchOption result (self.owner.value ≡ None) (λ b. self.owner.value ≡ Some b.value) }
+    pub(crate) fn into_box(self) -> Option<Box<Held>>
+        ensures value { MatchOption result (self.owner.value ≡ None) (λ b. self.owner.value ≡ Some b.value) }
+        ensures kind { IfSome result (λ b. IsTrue (is_scripts b.value)) }
     {
         let SmapScripts { is_open, owner } = self;
-        if is_open {
-            Some(owner.into_loose().into_box())
-        } else {
-            None
-        }
+        owner.into_box(is_open)
     }
 }

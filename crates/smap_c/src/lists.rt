@@ -2,7 +2,7 @@
 ghost use Rattle.std.specs.Prelude.{◌≡◌};
 ghost use Rattle.smap_c.specs.Lists.{listed_told, SourceTold, NameTold, TokenTold, ListedSource, ListedName};
 ghost use Rattle.smap_c.specs.Lists.{ListedToken};
-ghost use Rattle.smap_c.specs.Handles.{held};
+ghost use Rattle.smap_c.specs.Handles.{held_map};
 
 use crate::codes::{CLOSED, OK, RANGE};
 use crate::handles::SmapMap;
@@ -94,7 +94,7 @@ pub extern "C" fn smap_listed_source(
     i: usize,
     out: &mut usize,
 ) -> u32
-    ensures told { ListedSource (held map.old.owner.value) i out.old out.new result }
+    ensures told { ListedSource (held_map map.old.owner.value) i out.old out.new result }
     ensures same { map.new.owner.value ≡ map.old.owner.value }
 {
     match mem::replace(map, SmapMap::closed(alloc)).into_box() {
@@ -116,7 +116,7 @@ pub extern "C" fn smap_listed_name(
     out: &mut [u8],
     len: &mut usize,
 ) -> u32
-    ensures told { ListedName (held map.old.owner.value) i out.old out.new len.new result }
+    ensures told { ListedName (held_map map.old.owner.value) i out.old out.new len.new result }
     ensures same { map.new.owner.value ≡ map.old.owner.value }
 {
     match mem::replace(map, SmapMap::closed(alloc)).into_box() {
@@ -140,7 +140,7 @@ pub extern "C" fn smap_listed_token(
     i: usize,
     out: &mut SmapListedMapping,
 ) -> u32
-    ensures told { ListedToken (held map.old.owner.value) i out.old out.new result }
+    ensures told { ListedToken (held_map map.old.owner.value) i out.old out.new result }
     ensures same { map.new.owner.value ≡ map.old.owner.value }
 {
     match mem::replace(map, SmapMap::closed(alloc)).into_box() {

@@ -1,7 +1,7 @@
 //! Lookups, and mappings by their numbers.
 ghost use Rattle.std.specs.Prelude.{◌≡◌, Some, None};
 ghost use Rattle.smap_c.specs.Lookups.{told, Finds, LooksUp, NameTold, NameAt, TokenTold, Token};
-ghost use Rattle.smap_c.specs.Handles.{held};
+ghost use Rattle.smap_c.specs.Handles.{held_map};
 
 use crate::codes::{CLOSED, NONE, OK, RANGE};
 use crate::handles::SmapMap;
@@ -76,7 +76,7 @@ pub extern "C" fn smap_lookup(
     column: u32,
     out: &mut SmapMapping,
 ) -> u32
-    ensures found { LooksUp (held map.old.owner.value) line column out.old out.new result }
+    ensures found { LooksUp (held_map map.old.owner.value) line column out.old out.new result }
     ensures same { map.new.owner.value ≡ map.old.owner.value }
 {
     match mem::replace(map, SmapMap::closed(alloc)).into_box() {
@@ -111,7 +111,7 @@ pub extern "C" fn smap_name_at(
     out: &mut [u8],
     len: &mut usize,
 ) -> u32
-    ensures told { NameAt (held map.old.owner.value) line column out.old out.new len.new result }
+    ensures told { NameAt (held_map map.old.owner.value) line column out.old out.new len.new result }
     ensures same { map.new.owner.value ≡ map.old.owner.value }
 {
     match mem::replace(map, SmapMap::closed(alloc)).into_box() {
@@ -146,7 +146,7 @@ pub extern "C" fn smap_token(
     i: usize,
     out: &mut SmapMapping,
 ) -> u32
-    ensures told { Token (held map.old.owner.value) i out.old out.new result }
+    ensures told { Token (held_map map.old.owner.value) i out.old out.new result }
     ensures same { map.new.owner.value ≡ map.old.owner.value }
 {
     match mem::replace(map, SmapMap::closed(alloc)).into_box() {

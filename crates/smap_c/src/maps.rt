@@ -1,14 +1,14 @@
 //! The calls on a map as a whole: it is opened, closed, shared, compared and counted.
-ghost use Rattle.std.specs.Prelude.{◌≡◌, ◌↔◌, IsSome, IfSome, Option, Some, None, IfOk};
+ghost use Rattle.std.specs.Prelude.{◌≡◌, ◌↔◌, IsSome, IfSome, IsTrue, Option, Some, None, IfOk};
 ghost use Rattle.smap_mappings.specs.Text.{line_count};
 ghost use Rattle.smap_c.specs.Maps.{allowed, AreLimits, or_usual, Opens, OpensInto, Shares, Compares};
 ghost use Rattle.smap_c.specs.Maps.{counts_of, Counts, FileTold, File};
 ghost use Rattle.smap_c.specs.Faults.{IsWhole};
-ghost use Rattle.smap_c.specs.Handles.{held};
+ghost use Rattle.smap_c.specs.Handles.{held_map, is_map};
 
 use crate::codes::{CLOSED, LIMITS, MEMORY, NOT_URL, OK};
 use crate::faults::{SmapFault, tell_fault};
-use crate::handles::SmapMap;
+use crate::handles::{Held, SmapMap};
 use crate::strings::tell;
 use smap_canon::same;
 use smap_mappings::{MAX_LINES, Memory};
@@ -54,17 +54,15 @@ pub struct Shared {
 }
 
 impl Shared {
-    /// The first share.
-    pub(crate) fn new(alloc: Global, opened: Opened) -> Result<Box<Shared>, Memory>
-        ensures { IfOk result (λ b. b.value.arc.value ≡ opened) }
+    /// The first share, to be held.
+    pub(crate) fn new(alloc: Global, opened: Opened) -> Result<Box<Held>, Memory>
+        ensures value { IfOk result (λ b. held_map (Some b.value) ≡ Some opened) }
+        ensures kind { IfOk result (λ b. IsTrue (is_map b.value)) }
     {
         let Ok(arc) = Arc::new(alloc, opened) else {
             return Err(Memory);
         };
-        match Box::new(alloc, Shared { arc }) {
-            Ok(held) => Ok(held),
-            Err(_) => Err(Memory),
-        }
+        Held::Map(Shared { arc }).boxed(alloc)
     }
 
     /// One more share.
@@ -77,15 +75,13 @@ impl Shared {
         }
     }
 
-    /// One more share, in a box.
-    pub(crate) fn again(&self, alloc: Global) -> Result<Box<Shared>, Memory>
-        ensures { IfOk result (λ b. b.value.arc.value ≡ self.now.arc.value) }
+    /// One more share, to be held.
+    pub(crate) fn again(&self, alloc: Global) -> Result<Box<Held>, Memory>
+        ensures value { IfOk result (λ b. held_map (Some b.value) ≡ Some self.now.arc.value) }
+        ensures kind { IfOk result (λ b. IsTrue (is_map b.value)) }
     {
         let part = self.part()?;
-        match Box::new(alloc, part) {
-            Ok(held) => Ok(held),
-            Err(_) => Err(Memory),
-        }
+        Held::Map(part).boxed(alloc)
     }
 
     /// What it owns.
@@ -143,8 +139,8 @@ pub extern "C" fn smap_open(
     limits: &SmapLimits,
     fault: &mut SmapFault,
 ) -> u32
-    ensures opened { OpensInto bytes.now base.now limits.now (held map.old.owner.value)
-        (held map.new.owner.value) fault.old fault.new result }
+    ensures opened { OpensInto bytes.now base.now limits.now (held_map map.old.owner.value)
+        (held_map map.new.owner.value) fault.old fault.new result }
     ensures whole { IsWhole fault.new result }
 {
     match open(alloc, bytes, base, limits) {
@@ -173,14 +169,14 @@ pub extern "C" fn smap_close(alloc: Global, map: &mut SmapMap)
 /// Makes the other handle one of the same map, as for another thread. What it had is freed.
 #[unsafe(no_mangle)]
 pub extern "C" fn smap_share(alloc: Global, map: &mut SmapMap, other: &mut SmapMap) -> u32
-    ensures shared { Shares (held map.old.owner.value) (held other.old.owner.value)
-        (held other.new.owner.value) result }
+    ensures shared { Shares (held_map map.old.owner.value) (held_map other.old.owner.value)
+        (held_map other.new.owner.value) result }
     ensures same { map.new.owner.value ≡ map.old.owner.value }
 {
     let Some(it) = mem::replace(map, SmapMap::closed(alloc)).into_box() else {
         return CLOSED;
     };
-    let answer = it.again(alloc);
+    let answer = it.shared().again(alloc);
     *map = SmapMap::of(it);
     match answer {
         Ok(again) => {
@@ -199,7 +195,7 @@ pub extern "C" fn smap_same(
     other: &mut SmapMap,
     out: &mut bool,
 ) -> u32
-    ensures compared { Compares (held one.old.owner.value) (held other.old.owner.value)
+    ensures compared { Compares (held_map one.old.owner.value) (held_map other.old.owner.value)
         out.old out.new result }
     ensures one { one.new.owner.value ≡ one.old.owner.value }
     ensures other { other.new.owner.value ≡ other.old.owner.value }
@@ -255,7 +251,7 @@ fn counts_of(map: &SourceMap) -> SmapCounts
 /// How much a map holds.
 #[unsafe(no_mangle)]
 pub extern "C" fn smap_count(alloc: Global, map: &mut SmapMap, out: &mut SmapCounts) -> u32
-    ensures counts { Counts (held map.old.owner.value) out.old out.new result }
+    ensures counts { Counts (held_map map.old.owner.value) out.old out.new result }
     ensures same { map.new.owner.value ≡ map.old.owner.value }
 {
     match mem::replace(map, SmapMap::closed(alloc)).into_box() {
@@ -282,7 +278,7 @@ pub extern "C" fn smap_file(
     out: &mut [u8],
     len: &mut usize,
 ) -> u32
-    ensures told { File (held map.old.owner.value) out.old out.new len.new result }
+    ensures told { File (held_map map.old.owner.value) out.old out.new len.new result }
     ensures same { map.new.owner.value ≡ map.old.owner.value }
 {
     match mem::replace(map, SmapMap::closed(alloc)).into_box() {

@@ -1,16 +1,17 @@
 //! Scripts, each a URL and a map, and the translation of a whole trace by them.
-ghost use Rattle.std.specs.Prelude.{◌≡◌, [], Some, None, IfOk, OnOk, OnErr, string_bytes};
+ghost use Rattle.std.specs.Prelude.{◌≡◌, [], Some, None, IfOk, IsTrue, OnOk, OnErr, option_map};
+ghost use Rattle.std.specs.Prelude.{string_bytes};
 ghost use Rattle.smap_record.specs.Record.{record_of};
 ghost use Rattle.smap_trace.specs.Translation.{AreDistinct};
 ghost use Rattle.smap_trace.specs.Views.{scripts_in};
 ghost use Rattle.smap_c.specs.Scripts.{with_script, Adds, AddsScript, told_counts, told_trace};
 ghost use Rattle.smap_c.specs.Scripts.{TranslatesInto, TranslatesBy};
-ghost use Rattle.smap_c.specs.Handles.{held};
+ghost use Rattle.smap_c.specs.Handles.{held_bytes, held_map, held_scripts, is_scripts};
 ghost use Rattle.smap_c.specs.Traces.{fates};
 
 use crate::bytes::Written;
 use crate::codes::{CLOSED, MEMORY, NOT_URL, OK};
-use crate::handles::{SmapBytes, SmapMap, SmapScripts};
+use crate::handles::{Held, SmapBytes, SmapMap, SmapScripts};
 use crate::maps::Shared;
 use crate::traces::{finding_in, hides};
 use indexmap::IndexMap;
@@ -91,21 +92,34 @@ pub struct SmapTraceCounts {
 }
 
 /// The scripts of a handle that had none.
-fn first(alloc: Global, url: String, shared: Shared) -> Result<Box<Scripts>, Memory>
-    ensures { IfOk result (λ b. b.value
-        ≡ with_script (string_bytes url) (record_of shared.arc.value.map) []) }
+fn first(alloc: Global, url: String, shared: Shared) -> Result<Box<Held>, Memory>
+    ensures value { IfOk result (λ b. held_scripts (Some b.value)
+        ≡ Some (with_script (string_bytes url) (record_of shared.arc.value.map) [])) }
+    ensures kind { IfOk result (λ b. IsTrue (is_scripts b.value)) }
 {
     let scripts = Scripts::new(alloc, url, shared)?;
-    match Box::new(alloc, scripts) {
-        Ok(held) => Ok(held),
-        Err(_) => Err(Memory),
+    Held::Scripts(scripts).boxed(alloc)
+}
+
+/// Puts a script among those that are held, in place of one of the same URL.
+fn put(held: &mut Held, url: String, shared: Shared) -> Result<(), Memory>
+    requires { IsTrue (is_scripts held.old) }
+    ensures kind { IsTrue (is_scripts held.new) }
+    ensures ok { OnOk result (held_scripts (Some held.new)
+        ≡ option_map (with_script (string_bytes url) (record_of shared.arc.value.map))
+        (held_scripts (Some held.old))) }
+    ensures err { OnErr result (held.new ≡ held.old) }
+{
+    match held {
+        Held::Scripts(scripts) => scripts.put(url, shared),
+        Held::Map(_) | Held::Bytes(_) => unreachable!(),
     }
 }
 
 /// Puts a script among those of the handle, in place of one of the same URL.
 fn add(alloc: Global, scripts: &mut SmapScripts, url: String, shared: Shared) -> u32
     ensures { Adds (string_bytes url) (record_of shared.arc.value.map)
-        scripts.old.owner.value scripts.new.owner.value result }
+        (held_scripts scripts.old.owner.value) (held_scripts scripts.new.owner.value) result }
 {
     let Some(mut held) = mem::replace(scripts, SmapScripts::closed(alloc)).into_box() else {
         let Ok(held) = first(alloc, url, shared) else {
@@ -114,7 +128,7 @@ fn add(alloc: Global, scripts: &mut SmapScripts, url: String, shared: Shared) ->
         *scripts = SmapScripts::of(held);
         return OK;
     };
-    let answer = held.put(url, shared);
+    let answer = put(&mut held, url, shared);
     *scripts = SmapScripts::of(held);
     match answer {
         Ok(_) => OK,
@@ -130,8 +144,8 @@ pub extern "C" fn smap_add_script(
     url: &[u8],
     map: &mut SmapMap,
 ) -> u32
-    ensures added { AddsScript url.now (held map.old.owner.value) scripts.old.owner.value
-        scripts.new.owner.value result }
+    ensures added { AddsScript url.now (held_map map.old.owner.value) (held_scripts scripts.old.owner.value)
+        (held_scripts scripts.new.owner.value) result }
     ensures same { map.new.owner.value ≡ map.old.owner.value }
 {
     let Ok(text) = str::from_utf8(url) else {
@@ -140,7 +154,7 @@ pub extern "C" fn smap_add_script(
     let Some(it) = mem::replace(map, SmapMap::closed(alloc)).into_box() else {
         return CLOSED;
     };
-    let part = it.part();
+    let part = it.shared().part();
     *map = SmapMap::of(it);
     let Ok(shared) = part else {
         return MEMORY;
@@ -205,12 +219,12 @@ fn translate_into(
     counts: &mut SmapTraceCounts,
 ) -> u32
     ensures { TranslatesInto (told_trace (fates how scripts.now) trace.now)
-        out.old.owner.value out.new.owner.value counts.old counts.new result }
+        (held_bytes out.old.owner.value) (held_bytes out.new.owner.value) counts.old counts.new result }
 {
     let Ok((bytes, told)) = translated(alloc, scripts, trace, how) else {
         return MEMORY;
     };
-    let Ok(held) = Box::new(alloc, Written { bytes }) else {
+    let Ok(held) = Held::Bytes(Written { bytes }).boxed(alloc) else {
         return MEMORY;
     };
     *out = SmapBytes::of(held);
@@ -228,14 +242,14 @@ pub extern "C" fn smap_translate(
     out: &mut SmapBytes,
     counts: &mut SmapTraceCounts,
 ) -> u32
-    ensures told { TranslatesBy scripts.old.owner.value trace.now how
-        out.old.owner.value out.new.owner.value counts.old counts.new result }
+    ensures told { TranslatesBy (held_scripts scripts.old.owner.value) trace.now how
+        (held_bytes out.old.owner.value) (held_bytes out.new.owner.value) counts.old counts.new result }
     ensures same { scripts.new.owner.value ≡ scripts.old.owner.value }
 {
     match mem::replace(scripts, SmapScripts::closed(alloc)).into_box() {
         None => CLOSED,
         Some(held) => {
-            let code = translate_into(alloc, &held, trace, how, out, counts);
+            let code = translate_into(alloc, held.scripts(), trace, how, out, counts);
             *scripts = SmapScripts::of(held);
             code
         }

@@ -1,7 +1,7 @@
 //! What a source has, by its number.
 ghost use Rattle.std.specs.Prelude.{◌≡◌};
 ghost use Rattle.smap_c.specs.Sources.{UrlTold, ContentTold, SourceUrl, SourceContent, IgnoredTold, Ignored};
-ghost use Rattle.smap_c.specs.Handles.{held};
+ghost use Rattle.smap_c.specs.Handles.{held_map};
 
 use crate::codes::{CLOSED, OK, RANGE};
 use crate::handles::SmapMap;
@@ -52,7 +52,7 @@ pub extern "C" fn smap_source_url(
     out: &mut [u8],
     len: &mut usize,
 ) -> u32
-    ensures told { SourceUrl (held map.old.owner.value) i out.old out.new len.new result }
+    ensures told { SourceUrl (held_map map.old.owner.value) i out.old out.new len.new result }
     ensures same { map.new.owner.value ≡ map.old.owner.value }
 {
     match mem::replace(map, SmapMap::closed(alloc)).into_box() {
@@ -77,7 +77,7 @@ pub extern "C" fn smap_source_content(
     out: &mut [u8],
     len: &mut usize,
 ) -> u32
-    ensures told { SourceContent (held map.old.owner.value) i out.old out.new len.new result }
+    ensures told { SourceContent (held_map map.old.owner.value) i out.old out.new len.new result }
     ensures same { map.new.owner.value ≡ map.old.owner.value }
 {
     match mem::replace(map, SmapMap::closed(alloc)).into_box() {
@@ -96,7 +96,7 @@ pub extern "C" fn smap_source_content(
 /// Whether the i-th distinct source is ignored.
 #[unsafe(no_mangle)]
 pub extern "C" fn smap_is_ignored(alloc: Global, map: &mut SmapMap, i: usize, out: &mut bool) -> u32
-    ensures told { Ignored (held map.old.owner.value) i out.old out.new result }
+    ensures told { Ignored (held_map map.old.owner.value) i out.old out.new result }
     ensures same { map.new.owner.value ≡ map.old.owner.value }
 {
     match mem::replace(map, SmapMap::closed(alloc)).into_box() {

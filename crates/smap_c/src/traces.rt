@@ -1,7 +1,7 @@
 //! The calls on the lines of a trace.
 ghost use Rattle.std.specs.Prelude.{◌≡◌};
 ghost use Rattle.smap_c.specs.Traces.{finding_in, hides, FrameTold, LineTold, LineBy, TellsLine};
-ghost use Rattle.smap_c.specs.Handles.{held};
+ghost use Rattle.smap_c.specs.Handles.{held_map};
 
 use crate::codes::{CLOSED, MEMORY, NONE, NOT_URL, OK};
 use crate::handles::SmapMap;
@@ -131,7 +131,7 @@ pub extern "C" fn smap_translate_line(
     len: &mut usize,
     outcome: &mut u32,
 ) -> u32
-    ensures told { TellsLine (held map.old.owner.value) url.now line.now how out.old out.new len.new
+    ensures told { TellsLine (held_map map.old.owner.value) url.now line.now how out.old out.new len.new
         outcome.old outcome.new result }
     ensures same { map.new.owner.value ≡ map.old.owner.value }
 {

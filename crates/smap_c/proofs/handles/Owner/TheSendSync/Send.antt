@@ -13,10 +13,10 @@ use denote.Param.Send.{IsSend, Quiet, AllSend, part_keyless, owning_send, struct
 use Rattle.std.specs.declared.alloc.Global.{Global}
 use Rattle.std.proofs.Crossing.{frees}
 use Rattle.std.proofs.alloc.Global.TheSendSync as heap
-use Rattle.smap_c.specs.OwnedBytes.{owned}
-use Rattle.smap_c.specs.contracts.bytes.Written as written
-use Rattle.smap_c.proofs.bytes.Written.TheSendSync.{the_send}
-use Rattle.smap_c.specs.contracts.handles.BytesOwner.{the_row, the_type}
+use Rattle.smap_c.specs.Owned.{owned}
+use Rattle.smap_c.specs.contracts.handles.Held as held
+use Rattle.smap_c.proofs.handles.Held.TheSendSync.{the_send}
+use Rattle.smap_c.specs.contracts.handles.Owner.{the_row, the_type}
 
 quiet : {D X : Type 0} (f : D → X) (e : Exit X) → Quiet e → Quiet (hidden (under f e))
 quiet f unchanged q = λ x w. tt
@@ -26,12 +26,12 @@ lies : (R : RattleType) → IsSend R → (p : Ptr) (x : R.Denot) → Keyless (li
 lies R s (block_ptr b o) x = part_keyless R s full_share x b o
 lies R s null_ptr x = tt
 
-owned_keyless : (a : Global) (p : Ptr) (x : Option (written.the_row).Denot) → Keyless (owned a p x)
+owned_keyless : (a : Global) (p : Ptr) (x : Option (held.the_row).Denot) → Keyless (owned a p x)
 owned_keyless a p None = tt
 owned_keyless a p (Some x) = (
-  lies written.the_row the_send p x,
+  lies held.the_row the_send p x,
   frees.frees a (raw (lone
-      (written.the_row).mir)) p,
+      (held.the_row).mir)) p,
 )
 
 pub send : IsSend the_row

@@ -1,5 +1,5 @@
--- The machine values of a `ScriptsOwner`: its pointer, which is null where nothing is owned, and its
--- allocator. Assumes `Logic`.
+-- The machine values of an `Owner`: its pointer, which is null where nothing is owned, and its allocator.
+-- Assumes `Logic`.
 use Rattle.std.proofs.Common.{◌≡◌, ℕ, List, [], ◌∷◌, ◌++◌, refl, subst, lit<}
 use mathlib.Core.Bool.{Bool, true, not, ◌&&◌}
 use lib.Dec.{T}
@@ -27,9 +27,9 @@ use Rattle.std.proofs.ResultValues.{and_tt}
 use Rattle.std.specs.contracts.alloc.Global as global
 use Rattle.std.proofs.alloc.Global.TheLaws as global_laws
 use Rattle.std.specs.contracts.impls.GlobalAllocator.TheImpl as heap
-use Rattle.smap_c.specs.OwnedScripts.{owned}
-use Rattle.smap_c.specs.contracts.scripts.Scripts as boxed
-use Rattle.smap_c.specs.contracts.handles.ScriptsOwner as owner
+use Rattle.smap_c.specs.Owned.{owned}
+use Rattle.smap_c.specs.contracts.handles.Held as boxed
+use Rattle.smap_c.specs.contracts.handles.Owner as owner
 use Rattle.smap_c.proofs.LooseLemmas.{both, al}
 
 abbrev pub R : RattleType

@@ -20,11 +20,11 @@ use Rattle.std.specs.Prelude.{Some, IsSome}
 use Rattle.std.proofs.alloc.Calls.{Goes-blank}
 use Rattle.std.proofs.raw_atomic.Walks.{proved_at, leaves}
 use Rattle.smap_c.proofs.LooseLemmas.{both, loose_good, loose_in}
-use Rattle.smap_c.proofs.OwnedMapLemmas.{R, Z, LZ, g, Own, owner_out, owned_full}
-use Rattle.smap_c.specs.contracts.handles.MapOwner.into_loose.{ended, clauses}
-use Rattle.smap_c.specs.contracts.handles.MapOwner.into_loose.Key.{name as #self}
-use Rattle.smap_c.proofs.handles.MapOwner.into_loose.Statement.{statement}
-use Rattle.smap_c.proofs.handles.MapOwner.into_loose.Code as code
+use Rattle.smap_c.proofs.OwnerLemmas.{R, Z, LZ, g, Own, owner_out, owned_full}
+use Rattle.smap_c.specs.contracts.handles.Owner.into_loose.{ended, clauses}
+use Rattle.smap_c.specs.contracts.handles.Owner.into_loose.Key.{name as #self}
+use Rattle.smap_c.proofs.handles.Owner.into_loose.Statement.{statement}
+use Rattle.smap_c.proofs.handles.Owner.into_loose.Code as code
 
 pub into_loose_spec : {M : Type 1} → statement M
 into_loose_spec 𝓤 𝓛 𝓜 𝓡 wired =

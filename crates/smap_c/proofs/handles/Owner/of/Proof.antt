@@ -20,11 +20,11 @@ use Rattle.std.specs.Prelude.{Some}
 use Rattle.std.proofs.alloc.Calls.{Goes-blank}
 use Rattle.std.proofs.raw_atomic.Walks.{proved_at, leaves}
 use Rattle.smap_c.proofs.LooseLemmas.{both, Loose, loose_good, loose_out}
-use Rattle.smap_c.proofs.OwnedBytesLemmas.{R, Z, LZ, g, owner_in}
-use Rattle.smap_c.specs.contracts.handles.BytesOwner.of.{ended, clauses}
-use Rattle.smap_c.specs.contracts.handles.BytesOwner.of.Key.{name as #self}
-use Rattle.smap_c.proofs.handles.BytesOwner.of.Statement.{statement}
-use Rattle.smap_c.proofs.handles.BytesOwner.of.Code as code
+use Rattle.smap_c.proofs.OwnerLemmas.{R, Z, LZ, g, owner_in}
+use Rattle.smap_c.specs.contracts.handles.Owner.of.{ended, clauses}
+use Rattle.smap_c.specs.contracts.handles.Owner.of.Key.{name as #self}
+use Rattle.smap_c.proofs.handles.Owner.of.Statement.{statement}
+use Rattle.smap_c.proofs.handles.Owner.of.Code as code
 
 pub of_spec : {M : Type 1} → statement M
 of_spec 𝓤 𝓛 𝓜 𝓡 wired =

@@ -20,11 +20,11 @@ use Rattle.std.specs.Prelude.{None}
 use Rattle.std.proofs.alloc.Calls.{handle_tells}
 use Rattle.std.proofs.raw_atomic.Walks.{proved_at, leaves}
 use Rattle.smap_c.proofs.LooseLemmas.{both, al}
-use Rattle.smap_c.proofs.OwnedBytesLemmas.{R, Z, LZ, g, owner_good, owner_in}
-use Rattle.smap_c.specs.contracts.handles.BytesOwner.none.{ended, clauses}
-use Rattle.smap_c.specs.contracts.handles.BytesOwner.none.Key.{name as #self}
-use Rattle.smap_c.proofs.handles.BytesOwner.none.Statement.{statement}
-use Rattle.smap_c.proofs.handles.BytesOwner.none.Code as code
+use Rattle.smap_c.proofs.OwnerLemmas.{R, Z, LZ, g, owner_good, owner_in}
+use Rattle.smap_c.specs.contracts.handles.Owner.none.{ended, clauses}
+use Rattle.smap_c.specs.contracts.handles.Owner.none.Key.{name as #self}
+use Rattle.smap_c.proofs.handles.Owner.none.Statement.{statement}
+use Rattle.smap_c.proofs.handles.Owner.none.Code as code
 
 pub none_spec : {M : Type 1} → statement M
 none_spec 𝓤 𝓛 𝓜 𝓡 wired =
