@@ -1,6 +1,7 @@
 //! A source map that was read. Every getter takes constant time and no memory.
 ghost use Rattle.std.specs.Prelude.{◌≡◌, ◌<◌, length, slice_get, Some, IfSome, option_map};
 ghost use Rattle.std.specs.Prelude.{option_copied, string_bytes};
+ghost use Rattle.smap_mappings.specs.Text.{line_count};
 ghost use Rattle.smap_record.specs.Record.{record_of, origin_of};
 ghost use Rattle.smap_record.specs.Listings.{IsListing, IsListedOriginal};
 ghost use Rattle.smap_record.specs.MapView.{listing_of};
@@ -125,6 +126,17 @@ impl SourceMap {
         ensures listing { IsListing self.now.listing }
     {
         self.listing.tokens.len()
+    }
+
+    /// One more than the generated line of the last mapping, or 0 without one.
+    pub fn line_count(&self) -> u32
+        ensures { result ≡ line_count self.now.listing.tokens }
+    {
+        let count = self.token_count();
+        if count == 0 {
+            return 0;
+        }
+        self.listed_token(count - 1).line + 1
     }
 
     /// The i-th mapping by generated line and column, with indices into the listed sources and names. `i`
