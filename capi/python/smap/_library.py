@@ -198,7 +198,7 @@ def how_bits(hide: bool, anywhere: bool, ignore_query: bool) -> int:
 
 
 def version() -> str:
-    """The library's version, as "0.1.0"."""
+    """The library's version, as "0.2.0"."""
     n: int = lib.smap_version()
     return f"{n // 10000}.{n // 100 % 100}.{n % 100}"
 

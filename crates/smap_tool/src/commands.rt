@@ -96,7 +96,7 @@ fn alone<'a>(alloc: Global) -> Command<'a>
         .about(
             "Validate and normalize source maps, and translate stack traces, read from standard input",
         )
-        .version("0.1.0")
+        .version("0.2.0")
         .subcommand_required(true)
         .disable_help_subcommand(true)
 }
