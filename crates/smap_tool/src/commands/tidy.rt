@@ -12,7 +12,7 @@ ghost use Rattle.smap_tool.specs.Commands as arguments;
 
 use crate::map_run::{MapCommand, run_on_map};
 use crate::outcome::{Outcome, RunFault};
-use crate::words::{flag, on_base};
+use crate::words::{on_base, with_flag};
 use clap::Command;
 use smap_canon::canonical_in;
 use smap_io::Device;
@@ -27,11 +27,12 @@ pub(crate) fn tidy_command<'a>(alloc: Global) -> Result<Command<'a>, AllocError>
     ensures local { IfOk result (λ c. (fields_of c).has_globals ≡ false) }
 {
     let command = on_base(alloc, "tidy", "Write a map in canonical form")?;
-    command.arg(flag(
+    with_flag(
         alloc,
+        command,
         "relative",
         "Write source URLs relative to BASE where that round-trips",
-    ))
+    )
 }
 
 #[derive(Drop)]

@@ -14,7 +14,7 @@ ghost use Rattle.smap_tool.specs.Commands as arguments;
 use crate::bundle_line::bundle_refusal;
 use crate::outcome::{Outcome, RunFault};
 use crate::output::write_answer;
-use crate::words::flag;
+use crate::words::with_flag;
 use clap::Command;
 use smap_bundle::{Bundle, BundleFault, Refusal, read_bundle};
 use smap_io::Device;
@@ -27,19 +27,26 @@ pub(crate) fn translate_command<'a>(alloc: Global) -> Result<Command<'a>, AllocE
     ensures shape { IfOk result (λ c. app_of c ≡ arguments.translate) }
     ensures local { IfOk result (λ c. (fields_of c).has_globals ≡ false) }
 {
-    let command = Command::new(alloc, "translate")
-        .about("Translate a stack trace to source positions")
-        .arg(flag(
-            alloc,
-            "anywhere",
-            "Translate positions anywhere in a line, not only in frames",
-        ))?;
-    let command = command.arg(flag(
+    let about = "Translate a stack trace to source positions";
+    let command = Command::new(alloc, "translate").about(about);
+    let command = with_flag(
         alloc,
+        command,
+        "anywhere",
+        "Translate positions anywhere in a line, not only in frames",
+    )?;
+    let command = with_flag(
+        alloc,
+        command,
         "ignore-query",
         "Ignore a query or a fragment behind a script's URL",
-    ))?;
-    command.arg(flag(alloc, "hide-ignored", "Leave out frames in ignored sources"))
+    )?;
+    with_flag(
+        alloc,
+        command,
+        "hide-ignored",
+        "Leave out frames in ignored sources",
+    )
 }
 
 /// Writes the line of a bundle's first fault.
