@@ -113,6 +113,10 @@ enum {
     SMAP_FAULT_NAME = 33             /* a name index is out of range */
 };
 
+/* Copies the name of a kind of error, as docs/OUTPUT.md has it, into `out`, such as "SourceUrl", and returns
+ * its length, or 0 if the number is no kind. */
+size_t smap_fault_name(uint32_t kind, char *out, size_t room);
+
 /* The first error of a map or of a mappings string. */
 typedef struct smap_fault {
     uint32_t kind;     /* SMAP_FAULT_.. */
@@ -167,6 +171,11 @@ typedef struct smap_counts {
 
 /* OK, CLOSED. */
 uint32_t smap_count(smap_map *map, smap_counts *out);
+
+/* OK: *out is about how many bytes of memory the map takes, its strings and mappings included: what counts in
+ * a cache, for instance. Handles that share a map share them. The time grows with the numbers of sources and
+ * names, and no memory is taken. CLOSED. */
+uint32_t smap_held(smap_map *map, size_t *out);
 
 /* Copies the name of the generated file. OK; NONE: the map has none; CLOSED. */
 uint32_t smap_file(smap_map *map, char *out, size_t room, size_t *len);
@@ -347,6 +356,12 @@ static inline size_t smap_code_name_(uint32_t code, char *out, size_t room)
     return smap_code_name(code, out ? out : &none, room);
 }
 
+static inline size_t smap_fault_name_(uint32_t kind, char *out, size_t room)
+{
+    char none;
+    return smap_fault_name(kind, out ? out : &none, room);
+}
+
 static inline uint32_t smap_file_(smap_map *map, char *out, size_t room, size_t *len)
 {
     char none;
@@ -427,6 +442,7 @@ static inline uint32_t smap_translate_(smap_scripts *scripts, const void *trace,
 
 #define smap_open smap_open_
 #define smap_code_name smap_code_name_
+#define smap_fault_name smap_fault_name_
 #define smap_file smap_file_
 #define smap_name_at smap_name_at_
 #define smap_source_url smap_source_url_

@@ -42,6 +42,13 @@ inline std::string code_name(uint32_t code)
     return std::string(name, smap_code_name(code, name, sizeof name));
 }
 
+/* The name of a kind of error. */
+inline std::string fault_name(uint32_t kind)
+{
+    char name[64];
+    return std::string(name, smap_fault_name(kind, name, sizeof name));
+}
+
 /* The bytes as a string. */
 inline std::string text(Bytes &bytes)
 {

@@ -20,6 +20,7 @@ static void closed_handles(void)
     CHECK(smap_listed_source(&closed, 0, &number) == SMAP_CLOSED);
     CHECK(smap_listed_name(&closed, 0, NULL, 0, &len) == SMAP_CLOSED && len == 0);
     CHECK(smap_count(&closed, &counts) == SMAP_CLOSED);
+    CHECK(smap_held(&closed, &number) == SMAP_CLOSED);
     CHECK(smap_file(&closed, NULL, 0, NULL) == SMAP_CLOSED);
     CHECK(smap_name_at(&closed, 0, 0, NULL, 0, &len) == SMAP_CLOSED && len == 0);
     CHECK(smap_source_url(&closed, 0, NULL, 0, NULL) == SMAP_CLOSED);
@@ -58,6 +59,11 @@ static void buffers(smap_map *map)
     CHECK(smap_code_name(SMAP_MEMORY, room, 3) == 13 && memcmp(room, "out.js", 6) == 0);
     CHECK(smap_code_name(SMAP_NONE + 100, NULL, 0) == 0);
     for (uint32_t code = SMAP_OK; code <= SMAP_RANGE; code++) CHECK(smap_code_name(code, NULL, 0) > 3);
+    CHECK(smap_fault_name(SMAP_FAULT_OVERLAP, room, sizeof room) == 7 && memcmp(room, "Overlap", 7) == 0);
+    CHECK(smap_fault_name(SMAP_FAULT_SOURCE_URL, room, 3) == 9 && memcmp(room, "Sourlap", 7) == 0);
+    CHECK(smap_fault_name(0, NULL, 0) == 0 && smap_fault_name(SMAP_FAULT_NAME + 1, NULL, 0) == 0);
+    for (uint32_t kind = SMAP_FAULT_PREFIX; kind <= SMAP_FAULT_NAME; kind++)
+        CHECK(smap_fault_name(kind, NULL, 0) >= 4);
 }
 
 static void numbers(smap_map *map)
@@ -70,6 +76,9 @@ static void numbers(smap_map *map)
     CHECK(smap_count(map, &counts) == SMAP_OK);
     CHECK(counts.sources == 3 && counts.listed_sources == 4 && counts.names == 3);
     CHECK(counts.mappings == 4 && counts.lines == 2);
+    /* the map and "out.js", three sources with two URLs of 15 bytes and "x", four listed, three names of one */
+    CHECK(smap_held(map, &n) == SMAP_OK);
+    CHECK(n == 1024 + 6 + (3 * 144 + 2 * 15 + 1) + 4 * 8 + 3 * (48 + 1) + 4 * 32);
     CHECK(smap_token(map, 4, &m) == SMAP_RANGE && smap_token(map, SIZE_MAX, &m) == SMAP_RANGE && m.line == 0);
     CHECK(smap_token(map, 2, &m) == SMAP_OK && m.line == 1 && m.source == 1 && m.has_name && m.is_ignored);
     CHECK(smap_listed_token(map, 2, &listed) == SMAP_OK && listed.source == 1 && listed.name == 2);

@@ -41,6 +41,7 @@ int main()
     CHECK(smap::translate(kept, "9:00 u?v=3:1:2 {", SMAP_ANYWHERE | SMAP_IGNORE_QUERY, bytes) == SMAP_OK);
     CHECK(smap::text(bytes) == "9:00 http://h/m/a.js:11:3 {");
     CHECK(smap::code_name(SMAP_CLOSED) == "closed handle");
+    CHECK(smap::fault_name(SMAP_FAULT_NOT_OBJECT) == "NotObject" && smap::fault_name(0) == "");
     CHECK(smap::open(last, "[]", base, &fault) == SMAP_REFUSED && std::string(fault.text) == "not an object");
     return failures != 0;
 }

@@ -105,6 +105,12 @@ class Map:
         check(lib.smap_count(byref(self._handle), byref(counts)))
         return counts
 
+    def held(self) -> int:
+        """About how many bytes of memory the map takes, its strings and mappings included."""
+        n = c_size_t()
+        check(lib.smap_held(byref(self._handle), byref(n)))
+        return n.value
+
     def _text(self, call: Callable[..., int], *words: int) -> Optional[str]:
         n, room = c_size_t(), 512
         while True:

@@ -75,7 +75,7 @@ found [] i e h = cc
 found (x ∷ xs) zero e h = cc
 found (x ∷ xs) (suc i) e h = found xs i e h
 
-take_next : {A : Type 0} (es : List A) (i : ℕ) (e : A) → slice_get es i ≡ Some e
+pub take_next : {A : Type 0} (es : List A) (i : ℕ) (e : A) → slice_get es i ≡ Some e
     → take (i + 1) es ≡ take i es ++ e ∷ []
 take_next {A = A} es i e h =
     take_more es i e (slice_get_within es i e h) ∙ ap (λ (x : A). take i es ++ x ∷ []) (found es i e h)

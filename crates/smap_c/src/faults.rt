@@ -1,6 +1,8 @@
 //! Faults, as C sees them.
 ghost use Rattle.std.specs.Prelude.{◌≡◌, ◌<◌, ◌≤◌, ◌^◌, All, length, string_bytes, IfOk};
 ghost use Rattle.smap_record.specs.Words.{fault_words};
+ghost use Rattle.smap_c.specs.FaultCodes.{fault_name};
+ghost use Rattle.smap_c.specs.Strings.{copied};
 ghost use Rattle.smap_c.specs.Faults.{FaultFits, KindFits, PlaceFits, code_and_number, padded_path};
 ghost use Rattle.smap_c.specs.Faults.{padded_words, spelling_code, told_with, IsWhole, TellsFault};
 
@@ -176,4 +178,55 @@ pub(crate) fn tell_fault(alloc: Global, fault: &Fault, out: &mut SmapFault) -> u
         }
         Err(_) => MEMORY,
     }
+}
+
+/// The name of a kind of faults, or nothing for a number that is none.
+fn fault_name(kind: u32) -> &'static str
+    ensures { result.now ≡ fault_name kind }
+{
+    match kind {
+        1 => "Prefix",
+        2 => "Json",
+        3 => "NotObject",
+        4 => "Version",
+        5 => "File",
+        6 => "Both",
+        7 => "SourceRoot",
+        8 => "Sources",
+        9 => "SourcesContent",
+        10 => "Names",
+        11 => "IgnoreList",
+        12 => "Mappings",
+        13 => "Sections",
+        14 => "Offset",
+        15 => "SectionMap",
+        16 => "Nested",
+        17 => "Order",
+        18 => "Overlap",
+        19 => "TooMany",
+        20 => "SourceUrl",
+        21 => "UnstableUrl",
+        22 => "Empty",
+        23 => "Unfinished",
+        24 => "Character",
+        25 => "TooLarge",
+        26 => "NegativeZero",
+        27 => "Count",
+        28 => "GeneratedLine",
+        29 => "Column",
+        30 => "Source",
+        31 => "OriginalLine",
+        32 => "OriginalColumn",
+        33 => "Name",
+        _ => "",
+    }
+}
+
+/// Copies the name of a kind, and answers how long it is.
+#[unsafe(no_mangle)]
+pub extern "C" fn smap_fault_name(kind: u32, out: &mut [u8]) -> usize
+    ensures len { result ≡ length (fault_name kind) }
+    ensures copied { out.new ≡ copied (fault_name kind) out.old }
+{
+    copy_out(fault_name(kind).as_bytes(), out)
 }

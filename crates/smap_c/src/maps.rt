@@ -1,8 +1,13 @@
 //! The calls on a map as a whole: it is opened, closed, shared, compared and counted.
 ghost use Rattle.std.specs.Prelude.{◌≡◌, ◌↔◌, IsSome, IfSome, IsTrue, Option, Some, None, IfOk};
+ghost use Rattle.std.specs.Prelude.{option_copied, sum_by};
+ghost use Rattle.smap_record.specs.Record.{record_of};
+ghost use Rattle.smap_record.specs.Views.{entry_of_view};
 ghost use Rattle.smap_mappings.specs.Text.{line_count};
 ghost use Rattle.smap_c.specs.Maps.{allowed, AreLimits, or_usual, Opens, OpensInto, Shares, Compares};
 ghost use Rattle.smap_c.specs.Maps.{counts_of, Counts, FileTold, File};
+ghost use Rattle.smap_c.specs.Maps.{capped, memory_of, name_memory, source_memory, text_memory};
+ghost use Rattle.smap_c.specs.Maps.{TakesMemory};
 ghost use Rattle.smap_c.specs.Faults.{IsWhole};
 ghost use Rattle.smap_c.specs.Handles.{held_map, is_map};
 
@@ -12,7 +17,7 @@ use crate::handles::{Held, SmapMap};
 use crate::strings::tell;
 use smap_canon::same;
 use smap_mappings::{MAX_LINES, Memory};
-use smap_record::{Base, BaseFault, Fault, Limits, ReadError, SourceMap};
+use smap_record::{Base, BaseFault, Fault, Limits, ReadError, SourceMap, SourceView};
 use std::alloc::Global;
 use std::sync::Arc;
 use std::{mem, str};
@@ -258,6 +263,83 @@ pub extern "C" fn smap_count(alloc: Global, map: &mut SmapMap, out: &mut SmapCou
         None => CLOSED,
         Some(held) => {
             *out = counts_of(&held.opened().map);
+            *map = SmapMap::of(held);
+            OK
+        }
+    }
+}
+
+/// What a map takes besides its strings and the things below: its base, and tables that are nearly empty.
+const OF_MAP: usize = 1024;
+
+/// What a distinct source takes besides its strings, with its place in the table that finds it.
+const OF_SOURCE: usize = 144;
+
+/// What a name takes besides its bytes.
+const OF_NAME: usize = 48;
+
+/// A source as listed is a number.
+const OF_LISTED_SOURCE: usize = 8;
+
+const OF_MAPPING: usize = 32;
+
+fn text_memory(text: Option<&str>) -> usize
+    ensures { result ≡ text_memory (option_copied text.entry) }
+{
+    match text {
+        Some(text) => text.len(),
+        None => 0,
+    }
+}
+
+fn source_memory(source: SourceView<'_>) -> usize
+    ensures { result ≡ capped (source_memory (entry_of_view source.entry)) }
+{
+    let texts = text_memory(source.url).saturating_add(text_memory(source.content));
+    texts.saturating_add(OF_SOURCE)
+}
+
+fn sources_memory(map: &SourceMap) -> usize
+    ensures { result ≡ capped (sum_by source_memory (record_of map.now).sources) }
+{
+    let mut total: usize = 0;
+    for i in 0..map.source_count() {
+        total = total.saturating_add(source_memory(map.source(i)));
+    }
+    total
+}
+
+fn names_memory(map: &SourceMap) -> usize
+    ensures { result ≡ capped (sum_by name_memory map.now.listing.names) }
+{
+    let mut total: usize = 0;
+    for i in 0..map.name_count() {
+        let name = map.name(i).len().saturating_add(OF_NAME);
+        total = total.saturating_add(name);
+    }
+    total
+}
+
+fn memory_of(map: &SourceMap) -> usize
+    ensures { result ≡ capped (memory_of map.now) }
+{
+    let own = text_memory(map.file()).saturating_add(OF_MAP);
+    let listed = map.listed_count().saturating_mul(OF_LISTED_SOURCE);
+    let mappings = map.token_count().saturating_mul(OF_MAPPING);
+    let lists = names_memory(map).saturating_add(listed.saturating_add(mappings));
+    own.saturating_add(sources_memory(map).saturating_add(lists))
+}
+
+/// About how many bytes of memory a map takes.
+#[unsafe(no_mangle)]
+pub extern "C" fn smap_held(alloc: Global, map: &mut SmapMap, out: &mut usize) -> u32
+    ensures told { TakesMemory (held_map map.old.owner.value) out.old out.new result }
+    ensures same { map.new.owner.value ≡ map.old.owner.value }
+{
+    match mem::replace(map, SmapMap::closed(alloc)).into_box() {
+        None => CLOSED,
+        Some(held) => {
+            *out = memory_of(&held.opened().map);
             *map = SmapMap::of(held);
             OK
         }
