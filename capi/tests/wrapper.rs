@@ -68,6 +68,8 @@ fn sources_and_lists(map: &Map) {
     assert_eq!((map.url(1).as_deref(), map.url(2), map.url(3)), (Some("http://h/m/b.js"), None, None));
     assert_eq!((map.listed_source(2), map.listed_source(3), map.listed_source(4)), (Some(0), Some(2), None));
     assert_eq!((map.listed_name(2).as_deref(), map.listed_name(3)), (Some("f"), None));
+    assert_eq!((map.written_source(2).as_deref(), map.written_source(3)), (Some("a.js"), None));
+    assert_eq!((map.written_root(2), map.written_source(4)), (None, None));
     let columns: Vec<u32> = map.mappings().map(|m| m.column).collect();
     assert_eq!(columns, [0, 4, 0, 2]);
     let third = ListedMapping {

@@ -7,7 +7,7 @@ use Rattle.smap_c.specs.Faults.{TellsFault}
 use Rattle.smap_c.specs.Maps.{Opens, OpensInto}
 use Rattle.smap_c.specs.declared.faults.SmapFault.{SmapFault}
 use Rattle.smap_c.specs.declared.maps.SmapLimits.{SmapLimits}
-use Rattle.smap_c.specs.declared.maps.Opened.{Opened}
+use Rattle.smap_c.specs.declared.opened.Opened.{Opened}
 use Rattle.smap_c.specs.declared.maps.OpenFault.TheVariants as faults
 
 -- ---- the line of the last mapping
