@@ -107,6 +107,22 @@ inline uint32_t source_content(Map &map, size_t source, std::string &out)
         out);
 }
 
+/* The i-th source that the map lists, as its text writes it. */
+inline uint32_t written_source(Map &map, size_t i, std::string &out)
+{
+    smap_map *handle = map.handle();
+    return copied(
+        [=](char *at, size_t n, size_t *len) { return smap_written_source(handle, i, at, n, len); }, out);
+}
+
+/* The `sourceRoot` that applies to it. */
+inline uint32_t written_root(Map &map, size_t i, std::string &out)
+{
+    smap_map *handle = map.handle();
+    return copied(
+        [=](char *at, size_t n, size_t *len) { return smap_written_root(handle, i, at, n, len); }, out);
+}
+
 /* The i-th name that the map lists. */
 inline uint32_t listed_name(Map &map, size_t i, std::string &out)
 {

@@ -131,6 +131,8 @@ unsafe extern "C" {
     fn smap_source_content(map: Owned, source: usize, out: Out, room: usize, len: Len) -> u32;
     fn smap_is_ignored(map: Owned, source: usize, out: *mut bool) -> u32;
     fn smap_listed_source(map: Owned, i: usize, out: Len) -> u32;
+    fn smap_written_source(map: Owned, i: usize, out: Out, room: usize, len: Len) -> u32;
+    fn smap_written_root(map: Owned, i: usize, out: Out, room: usize, len: Len) -> u32;
     fn smap_listed_name(map: Owned, i: usize, out: Out, room: usize, len: Len) -> u32;
     fn smap_listed_token(map: Owned, i: usize, out: *mut RawListed) -> u32;
     fn smap_canonical(map: Owned, out: Owned) -> u32;
@@ -508,6 +510,16 @@ impl Map {
         let mut out = 0;
         let code = unsafe { smap_listed_source(self.0.get(), i, &mut out) };
         (code == OK).then_some(out)
+    }
+
+    /// The i-th source that the map's text lists, as it is written there; none for a null.
+    pub fn written_source(&self, i: usize) -> Option<String> {
+        text_of(|out, room, len| unsafe { smap_written_source(self.0.get(), i, out, room, len) })
+    }
+
+    /// The `sourceRoot` that applies to the i-th source that the map's text lists.
+    pub fn written_root(&self, i: usize) -> Option<String> {
+        text_of(|out, room, len| unsafe { smap_written_root(self.0.get(), i, out, room, len) })
     }
 
     /// The i-th name that the map's text lists.

@@ -19,6 +19,8 @@ static void closed_handles(void)
     CHECK(smap_listed_token(&closed, 0, &listed) == SMAP_CLOSED);
     CHECK(smap_listed_source(&closed, 0, &number) == SMAP_CLOSED);
     CHECK(smap_listed_name(&closed, 0, NULL, 0, &len) == SMAP_CLOSED && len == 0);
+    CHECK(smap_written_source(&closed, 0, NULL, 0, NULL) == SMAP_CLOSED);
+    CHECK(smap_written_root(&closed, 0, NULL, 0, NULL) == SMAP_CLOSED);
     CHECK(smap_count(&closed, &counts) == SMAP_CLOSED);
     CHECK(smap_held(&closed, &number) == SMAP_CLOSED);
     CHECK(smap_file(&closed, NULL, 0, NULL) == SMAP_CLOSED);
@@ -100,6 +102,33 @@ static void numbers(smap_map *map)
     CHECK(smap_lookup(map, UINT32_MAX, UINT32_MAX, &m) == SMAP_NONE);
     CHECK(smap_lookup(map, 1, UINT32_MAX, &m) == SMAP_OK && !m.has_source);
     CHECK(smap_name_at(map, 0, 4, NULL, 0, NULL) == SMAP_NONE);
+}
+
+/* Sources as they are written, in an index map with a root of its own for each section. */
+static void written_sources(smap_map *map)
+{
+    const char sections[] =
+        "{\"version\":3,\"sections\":[{\"offset\":{\"line\":0,\"column\":0},\"map\":{\"version\":3,"
+        "\"sourceRoot\":\"r\",\"sources\":[\"../a.js\",null],\"mappings\":\"\"}},"
+        "{\"offset\":{\"line\":1,\"column\":0},\"map\":{\"version\":3,\"sourceRoot\":\"\","
+        "\"sources\":[\"b.js\"],\"mappings\":\"\"}}]}";
+    smap_map index = {0};
+    char room[8];
+    size_t len = 7;
+    memset(room, '.', sizeof room);
+    CHECK(smap_written_source(map, 2, room, sizeof room, &len) == SMAP_OK && len == 4);
+    CHECK(memcmp(room, "a.js....", 8) == 0);
+    CHECK(smap_written_source(map, 3, room, sizeof room, &len) == SMAP_NONE && len == 0);
+    CHECK(smap_written_root(map, 0, NULL, 0, NULL) == SMAP_NONE);
+    CHECK(smap_written_source(map, 4, NULL, 0, NULL) == SMAP_RANGE);
+    CHECK(smap_written_root(map, 4, NULL, 0, NULL) == SMAP_RANGE);
+    CHECK(open_text(&index, sections, NULL) == SMAP_OK);
+    CHECK(smap_written_source(&index, 0, room, sizeof room, &len) == SMAP_OK && len == 7);
+    CHECK(memcmp(room, "../a.js.", 8) == 0);
+    CHECK(smap_written_source(&index, 1, NULL, 0, NULL) == SMAP_NONE);
+    CHECK(smap_written_root(&index, 1, room, sizeof room, &len) == SMAP_OK && len == 1 && room[0] == 'r');
+    CHECK(smap_written_root(&index, 2, NULL, 0, &len) == SMAP_OK && len == 0);
+    smap_close(&index);
 }
 
 static void faults(void)
@@ -316,6 +345,7 @@ int main(void)
     CHECK(open_text(&map, text, NULL) == SMAP_OK);
     buffers(&map);
     numbers(&map);
+    written_sources(&map);
     bytes_of(&map);
     traces(&map);
     scripts_of(&map);

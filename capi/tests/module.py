@@ -57,6 +57,14 @@ class ModuleTest(unittest.TestCase):
         held = 1024 + 6 + (3 * 144 + 2 * 15 + 3) + 3 * 8 + (48 + 1) + 4 * 32
         self.assertEqual(self.map.held(), held)
 
+    def test_sources_are_as_the_text_writes_them(self):
+        self.assertEqual(self.map.written_sources(), [("a.js", None), ("b.js", None), (None, None)])
+        with smap.Map.open(
+            b'{"version":3,"sourceRoot":"../r","sources":["a.js",null],"mappings":""}', BASE
+        ) as rooted:
+            self.assertEqual(rooted.written_sources(), [("a.js", "../r"), (None, "../r")])
+            self.assertEqual(rooted.url(0), "http://h/r/a.js")
+
     def test_a_fault_has_its_fields(self):
         with self.assertRaises(smap.Refused) as raised:
             section = b'{"offset":{"line":0,"column":0},"map":' + TEXT[:-2] + b',"}}'

@@ -138,6 +138,8 @@ def declare(lib: ctypes.CDLL) -> ctypes.CDLL:
         ("source_url", u32, handle, size, *text, n),
         ("source_content", u32, handle, size, *text, n),
         ("is_ignored", u32, handle, size, POINTER(c_bool)),
+        ("written_source", u32, handle, size, *text, n),
+        ("written_root", u32, handle, size, *text, n),
         ("listed_name", u32, handle, size, *text, n),
         ("bytes_copy", size, handle, size, *text),
         ("bytes_free", None, handle),

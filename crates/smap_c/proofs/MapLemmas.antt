@@ -9,7 +9,7 @@ use Rattle.smap_c.specs.Faults.{TellsFault}
 use Rattle.smap_c.specs.Maps.{capped, Opens, OpensInto}
 use Rattle.smap_c.specs.declared.faults.SmapFault.{SmapFault}
 use Rattle.smap_c.specs.declared.maps.SmapLimits.{SmapLimits}
-use Rattle.smap_c.specs.declared.maps.Opened.{Opened}
+use Rattle.smap_c.specs.declared.opened.Opened.{Opened}
 use Rattle.smap_c.specs.declared.maps.OpenFault.TheVariants as faults
 use Rattle.smap_c.proofs.ScriptLemmas.{take_next}
 

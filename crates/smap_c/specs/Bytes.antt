@@ -17,7 +17,7 @@ use Rattle.smap_record.specs.declared.fault.ReadError.{ReadError}
 use Rattle.smap_record.specs.Results.{Returns}
 use Rattle.smap_record.specs.Faults.{Checked, segment_fault}
 use Rattle.smap_c.specs.Strings.{copied}
-use Rattle.smap_c.specs.declared.maps.Opened.{Opened}
+use Rattle.smap_c.specs.declared.opened.Opened.{Opened}
 use Rattle.smap_c.specs.declared.bytes.Written.{Written}
 use Rattle.smap_c.specs.Faults.{TellsFault}
 use Rattle.smap_c.specs.declared.faults.SmapFault.{SmapFault}

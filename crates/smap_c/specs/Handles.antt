@@ -4,7 +4,7 @@ use Rattle.smap_trace.specs.Translation.{Script}
 use Rattle.smap_c.specs.declared.bytes.Written.{Written}
 use Rattle.smap_c.specs.declared.handles.Held.{Held}
 use Rattle.smap_c.specs.declared.handles.Held.TheVariants as held
-use Rattle.smap_c.specs.declared.maps.Opened.{Opened}
+use Rattle.smap_c.specs.declared.opened.Opened.{Opened}
 
 -- ---- what it is
 

@@ -3,9 +3,10 @@ use Rattle.std.specs.Prelude.{◌≡◌, ℕ, true, false, List, length, slice_g
 use Rattle.smap_mappings.specs.declared.token.Token.{Token}
 use Rattle.smap_mappings.specs.declared.token.Original.{Original}
 use Rattle.smap_record.specs.Record.{Entry, ReadMap, record_of}
-use Rattle.smap_c.specs.Strings.{copied}
+use Rattle.smap_record.specs.Written.{Spelling}
+use Rattle.smap_c.specs.Strings.{copied, TextTold, ClosedTold}
 use Rattle.smap_c.specs.declared.lists.SmapListedMapping.{SmapListedMapping}
-use Rattle.smap_c.specs.declared.maps.Opened.{Opened}
+use Rattle.smap_c.specs.declared.opened.Opened.{Opened}
 use Rattle.smap_c.specs.Codes as codes
 
 -- a mapping without an original
@@ -69,6 +70,18 @@ TokenIs (Some t) before after code = (code ≡ codes.OK) × (after ≡ listed_to
 abbrev pub TokenTold : ReadMap → ℕ → SmapListedMapping → SmapListedMapping → ℕ → Type 0
 TokenTold m i before after code = TokenIs (slice_get m.listing.tokens i) before after code
 
+-- of a source as it is written, or there is no such source
+abbrev pub SpellingTold : (Spelling → Option (List ℕ)) → Option Spelling → List ℕ → List ℕ → ℕ → ℕ → Type 0
+SpellingTold text None before after len code = (code ≡ codes.RANGE) × (len ≡ 0) × (after ≡ before)
+SpellingTold text (Some s) before after len code = TextTold (text s) before after len code
+
+abbrev pub WrittenSourceTold : List Spelling → ℕ → List ℕ → List ℕ → ℕ → ℕ → Type 0
+WrittenSourceTold ss i before after len code =
+    SpellingTold (λ s. s.source) (slice_get ss i) before after len code
+
+abbrev pub WrittenRootTold : List Spelling → ℕ → List ℕ → List ℕ → ℕ → ℕ → Type 0
+WrittenRootTold ss i before after len code = SpellingTold (λ s. s.root) (slice_get ss i) before after len code
+
 -- ---- the same of a handle
 
 abbrev pub ListedSource : Option Opened → ℕ → ℕ → ℕ → ℕ → Type 0
@@ -82,3 +95,11 @@ ListedName (Some o) i before after len code = NameTold o.map i before after len 
 abbrev pub ListedToken : Option Opened → ℕ → SmapListedMapping → SmapListedMapping → ℕ → Type 0
 ListedToken None i before after code = (code ≡ codes.CLOSED) × (after ≡ before)
 ListedToken (Some o) i before after code = TokenTold o.map i before after code
+
+abbrev pub WrittenSource : Option Opened → ℕ → List ℕ → List ℕ → ℕ → ℕ → Type 0
+WrittenSource None i before after len code = ClosedTold before after len code
+WrittenSource (Some o) i before after len code = WrittenSourceTold o.written i before after len code
+
+abbrev pub WrittenRoot : Option Opened → ℕ → List ℕ → List ℕ → ℕ → ℕ → Type 0
+WrittenRoot None i before after len code = ClosedTold before after len code
+WrittenRoot (Some o) i before after len code = WrittenRootTold o.written i before after len code

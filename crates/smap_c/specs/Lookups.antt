@@ -8,7 +8,7 @@ use Rattle.smap_record.specs.Record.{Record, ReadMap, record_of, Mapping}
 use Rattle.smap_record.specs.Views.{entry_of_view, mapping_of_view}
 use Rattle.smap_trace.specs.Lookup.{FallsTo}
 use Rattle.smap_c.specs.declared.lookups.SmapMapping.{SmapMapping}
-use Rattle.smap_c.specs.declared.maps.Opened.{Opened}
+use Rattle.smap_c.specs.declared.opened.Opened.{Opened}
 use Rattle.smap_c.specs.Strings.{TextTold, ClosedTold}
 use Rattle.smap_c.specs.Codes as codes
 

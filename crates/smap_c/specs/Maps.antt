@@ -1,17 +1,18 @@
 -- What the calls that open, share, compare and count maps come to.
 use Rattle.std.specs.Prelude.{ℕ, ◌≤◌, ◌==◌, if◌then◌else◌, ◌≡◌, ◌⊎◌, List, Option, Some, None, Result, Ok}
-use Rattle.std.specs.Prelude.{◌+◌, ◌-◌, ◌*◌, ◌^◌, Err, IsErr, IsUtf8, ◌↔◌, Bool, IsTrue, length, min, sum_by}
+use Rattle.std.specs.Prelude.{◌+◌, ◌-◌, ◌*◌, ◌^◌, Err, IsErr, IsUtf8, ◌↔◌, Bool, IsTrue, length, map, min, sum_by}
 use Rattle.smap_vlq.specs.Limits.{max_position}
 use Rattle.smap_mappings.specs.Limits.{max_lines}
 use Rattle.smap_record.specs.Record.{Allowed, Entry, record_of, ReadMap}
 use Rattle.url.specs.Parts.{Parts}
 use Rattle.url.specs.Parser.{parse_url}
 use Rattle.smap_record.specs.Reading.{reading}
+use Rattle.smap_record.specs.Written.{as_written, url_of}
 use Rattle.smap_mappings.specs.Text.{line_count}
 use Rattle.smap_c.specs.declared.maps.SmapLimits.{SmapLimits}
 use Rattle.smap_c.specs.Faults.{fault_told}
 use Rattle.smap_c.specs.declared.faults.SmapFault.{SmapFault}
-use Rattle.smap_c.specs.declared.maps.Opened.{Opened}
+use Rattle.smap_c.specs.declared.opened.Opened.{Opened}
 use Rattle.smap_c.specs.declared.maps.OpenFault.{OpenFault}
 use Rattle.smap_c.specs.declared.maps.SmapCounts.{SmapCounts}
 use Rattle.smap_c.specs.Strings.{TextTold, ClosedTold}
@@ -38,12 +39,17 @@ AreLimits asked = (or_usual asked.items ≤ max_position) × (or_usual asked.lin
 abbrev pub MayOpen : List ℕ → SmapLimits → Type 0
 MayOpen base limits = AreLimits limits × IsUtf8 base
 
+-- The sources as the text writes them, which are those that the map lists: each has the URL of the other.
+abbrev pub IsWritten : List ℕ → Opened → Type 0
+IsWritten bytes m = (m.written ≡ as_written bytes) × (length m.written ≡ length m.map.listing.sources)
+    × (map (λ e. e.url) m.map.listing.sources ≡ map (url_of m.base) m.written)
+
 -- The map that the definition gives for the bytes against the base that the text is, or why there is none:
 -- the limits, else the base, else the map; unless memory ran out.
 abbrev pub Opens : List ℕ → List ℕ → SmapLimits → Result Opened OpenFault → Type 0
 Opens bytes base limits (Ok m) =
     MayOpen base limits × (parse_url None base ≡ Ok m.base)
-    × (reading m.base (allowed limits) bytes ≡ Ok m.map)
+    × (reading m.base (allowed limits) bytes ≡ Ok m.map) × IsWritten bytes m
 Opens bytes base limits (Err (faults.Refused f)) =
     (p : Parts) × MayOpen base limits × (parse_url None base ≡ Ok p)
     × (reading p (allowed limits) bytes ≡ Err f)

@@ -6,7 +6,7 @@ use Rattle.smap_trace.specs.Views.{counts_by}
 use Rattle.smap_trace.specs.declared.outcome.Counts.{Counts}
 use Rattle.smap_c.specs.Bytes.{Holds}
 use Rattle.smap_c.specs.Traces.{fates}
-use Rattle.smap_c.specs.declared.maps.Opened.{Opened}
+use Rattle.smap_c.specs.declared.opened.Opened.{Opened}
 use Rattle.smap_c.specs.declared.scripts.SmapTraceCounts.{SmapTraceCounts}
 use Rattle.smap_c.specs.declared.bytes.Written.{Written}
 use Rattle.smap_c.specs.Codes as codes

@@ -2,7 +2,7 @@
 use Rattle.std.specs.Prelude.{◌≡◌, ℕ, List, slice_get, Option, Some, None, Bool}
 use Rattle.smap_record.specs.Record.{Entry, ReadMap, record_of}
 use Rattle.smap_c.specs.Strings.{TextTold, ClosedTold}
-use Rattle.smap_c.specs.declared.maps.Opened.{Opened}
+use Rattle.smap_c.specs.declared.opened.Opened.{Opened}
 use Rattle.smap_c.specs.Codes as codes
 
 -- of a source, or there is no such source

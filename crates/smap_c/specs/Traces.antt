@@ -8,7 +8,7 @@ use Rattle.smap_record.specs.Record.{ReadMap, record_of}
 use Rattle.smap_trace.specs.Frame.{FrameParts}
 use Rattle.smap_trace.specs.Reading.{frame_of}
 use Rattle.smap_c.specs.Strings.{copied}
-use Rattle.smap_c.specs.declared.maps.Opened.{Opened}
+use Rattle.smap_c.specs.declared.opened.Opened.{Opened}
 use Rattle.smap_c.specs.declared.traces.SmapFrame.{SmapFrame}
 use Rattle.smap_c.specs.Codes as codes
 

@@ -7,7 +7,8 @@ ghost use Rattle.smap_c.specs.Handles.{is_none_or};
 ghost use Rattle.smap_c.specs.declared.handles.Held.{Held};
 
 use crate::bytes::Written;
-use crate::maps::{Opened, Shared};
+use crate::maps::Shared;
+use crate::opened::Opened;
 use crate::scripts::Scripts;
 use smap_mappings::Memory;
 use std::alloc::{Allocator, Global};

@@ -1,14 +1,15 @@
 //! What a map lists, by its numbers.
 ghost use Rattle.std.specs.Prelude.{◌≡◌};
 ghost use Rattle.smap_c.specs.Lists.{listed_told, SourceTold, NameTold, TokenTold, ListedSource, ListedName};
-ghost use Rattle.smap_c.specs.Lists.{ListedToken};
+ghost use Rattle.smap_c.specs.Lists.{ListedToken, WrittenSource, WrittenRoot};
+ghost use Rattle.smap_c.specs.Lists.{WrittenSourceTold, WrittenRootTold};
 ghost use Rattle.smap_c.specs.Handles.{held_map};
 
 use crate::codes::{CLOSED, OK, RANGE};
 use crate::handles::SmapMap;
-use crate::strings::copy_out;
+use crate::strings::{copy_out, tell};
 use smap_mappings::Token;
-use smap_record::SourceMap;
+use smap_record::{SourceMap, WrittenSources};
 use std::alloc::Global;
 use std::mem;
 
@@ -86,6 +87,28 @@ fn token_of(map: &SourceMap, i: usize, out: &mut SmapListedMapping) -> u32
     }
 }
 
+fn written_source_of(written: &WrittenSources, i: usize, out: &mut [u8], len: &mut usize) -> u32
+    ensures { WrittenSourceTold written.now i out.old out.new len.new result }
+{
+    if i < written.len() {
+        tell(written.source(i), out, len)
+    } else {
+        *len = 0;
+        RANGE
+    }
+}
+
+fn written_root_of(written: &WrittenSources, i: usize, out: &mut [u8], len: &mut usize) -> u32
+    ensures { WrittenRootTold written.now i out.old out.new len.new result }
+{
+    if i < written.len() {
+        tell(written.root(i), out, len)
+    } else {
+        *len = 0;
+        RANGE
+    }
+}
+
 /// The number of the i-th listed source among the distinct ones.
 #[unsafe(no_mangle)]
 pub extern "C" fn smap_listed_source(
@@ -147,6 +170,56 @@ pub extern "C" fn smap_listed_token(
         None => CLOSED,
         Some(held) => {
             let code = token_of(&held.opened().map, i, out);
+            *map = SmapMap::of(held);
+            code
+        }
+    }
+}
+
+/// The i-th listed source as the text of the map writes it.
+#[unsafe(no_mangle)]
+pub extern "C" fn smap_written_source(
+    alloc: Global,
+    map: &mut SmapMap,
+    i: usize,
+    out: &mut [u8],
+    len: &mut usize,
+) -> u32
+    ensures told { WrittenSource (held_map map.old.owner.value) i out.old out.new len.new result }
+    ensures same { map.new.owner.value ≡ map.old.owner.value }
+{
+    match mem::replace(map, SmapMap::closed(alloc)).into_box() {
+        None => {
+            *len = 0;
+            CLOSED
+        }
+        Some(held) => {
+            let code = written_source_of(&held.opened().written, i, out, len);
+            *map = SmapMap::of(held);
+            code
+        }
+    }
+}
+
+/// The `sourceRoot` that applies to the i-th listed source.
+#[unsafe(no_mangle)]
+pub extern "C" fn smap_written_root(
+    alloc: Global,
+    map: &mut SmapMap,
+    i: usize,
+    out: &mut [u8],
+    len: &mut usize,
+) -> u32
+    ensures told { WrittenRoot (held_map map.old.owner.value) i out.old out.new len.new result }
+    ensures same { map.new.owner.value ≡ map.old.owner.value }
+{
+    match mem::replace(map, SmapMap::closed(alloc)).into_box() {
+        None => {
+            *len = 0;
+            CLOSED
+        }
+        Some(held) => {
+            let code = written_root_of(&held.opened().written, i, out, len);
             *map = SmapMap::of(held);
             code
         }

@@ -5,9 +5,10 @@ ghost use Rattle.smap_c.specs.Handles.{held_map};
 
 use crate::codes::{CLOSED, NONE, OK, RANGE};
 use crate::handles::SmapMap;
+use crate::opened::Opened;
 use crate::strings::tell;
 use smap_record::{SourceMap, TokenView};
-use smap_trace::lookup;
+use smap_trace::lookup_in;
 use std::alloc::Global;
 use std::mem;
 
@@ -54,10 +55,10 @@ fn told(token: TokenView<'_>) -> SmapMapping
 }
 
 /// The mapping that a generated position falls to, or that there is none.
-fn find(map: &SourceMap, line: u32, column: u32, out: &mut SmapMapping) -> u32
-    ensures { Finds map.now line column out.old out.new result }
+fn find(opened: &Opened, line: u32, column: u32, out: &mut SmapMapping) -> u32
+    ensures { Finds opened.now.map line column out.old out.new result }
 {
-    let (found, _) = lookup(map, line, column);
+    let (found, _) = lookup_in(&opened.map, &opened.starts, line, column);
     match found {
         Some(token) => {
             *out = told(token);
@@ -82,17 +83,17 @@ pub extern "C" fn smap_lookup(
     match mem::replace(map, SmapMap::closed(alloc)).into_box() {
         None => CLOSED,
         Some(held) => {
-            let code = find(&held.opened().map, line, column, out);
+            let code = find(held.opened(), line, column, out);
             *map = SmapMap::of(held);
             code
         }
     }
 }
 
-fn name_at(map: &SourceMap, line: u32, column: u32, out: &mut [u8], len: &mut usize) -> u32
-    ensures { NameTold map.now line column out.old out.new len.new result }
+fn name_at(opened: &Opened, line: u32, column: u32, out: &mut [u8], len: &mut usize) -> u32
+    ensures { NameTold opened.now.map line column out.old out.new len.new result }
 {
-    match lookup(map, line, column).0 {
+    match lookup_in(&opened.map, &opened.starts, line, column).0 {
         Some(token) => match token.original {
             Some(original) => tell(original.name, out, len),
             None => tell(None, out, len),
@@ -120,7 +121,7 @@ pub extern "C" fn smap_name_at(
             CLOSED
         }
         Some(held) => {
-            let code = name_at(&held.opened().map, line, column, out, len);
+            let code = name_at(held.opened(), line, column, out, len);
             *map = SmapMap::of(held);
             code
         }

@@ -14,6 +14,7 @@ ghost use Rattle.smap_c.specs.Handles.{held_map, is_map};
 use crate::codes::{CLOSED, LIMITS, MEMORY, NOT_URL, OK};
 use crate::faults::{SmapFault, tell_fault};
 use crate::handles::{Held, SmapMap};
+use crate::opened::Opened;
 use crate::strings::tell;
 use smap_canon::same;
 use smap_mappings::{MAX_LINES, Memory};
@@ -43,13 +44,6 @@ fn limits_of(asked: &SmapLimits) -> Option<Limits>
     ensures value { IfSome result (λ l. l ≡ allowed asked.now) }
 {
     Limits::new(or_usual(asked.items), or_usual(asked.lines))
-}
-
-/// A map and the base that it was read against.
-#[derive(Drop)]
-pub struct Opened {
-    pub base: Base,
-    pub map: SourceMap,
 }
 
 /// A share in one. There may be several, in any threads.
@@ -124,8 +118,11 @@ fn open(alloc: Global, bytes: &[u8], base: &[u8], limits: &SmapLimits) -> Result
         return Err(OpenFault::NotUrl);
     };
     match Base::new(alloc, text) {
-        Ok(base) => match SourceMap::from_slice(alloc, bytes, &base, limits) {
-            Ok(map) => Ok(Opened { base, map }),
+        Ok(base) => match SourceMap::from_slice_as_written(alloc, bytes, &base, limits) {
+            Ok((map, written)) => match Opened::new(alloc, base, map, written) {
+                Ok(opened) => Ok(opened),
+                Err(_) => Err(OpenFault::Memory),
+            },
             Err(ReadError::Refused(fault)) => Err(OpenFault::Refused(fault)),
             Err(ReadError::Memory) => Err(OpenFault::Memory),
         },

@@ -2,7 +2,7 @@
 use Rattle.std.proofs.Common.{◌≡◌, Option, Some, ap, sym, subst, ◌∙◌}
 use Rattle.smap_record.specs.Record.{record_of}
 use Rattle.smap_canon.specs.Canonical.{canonical_mappings_text}
-use Rattle.smap_c.specs.declared.maps.Opened.{Opened}
+use Rattle.smap_c.specs.declared.opened.Opened.{Opened}
 use Rattle.smap_c.specs.declared.handles.SmapMap.{SmapMap}
 use Rattle.smap_c.specs.Bytes.{SpellsMappings}
 use Rattle.smap_c.specs.Handles.{held_bytes, held_map}
