@@ -5,6 +5,7 @@ ghost use Rattle.smap_record.specs.Record.{record_of};
 
 use crate::reading::read;
 use smap_record::{SourceMap, TokenView};
+use smap_testing::{equal, holds};
 use smap_trace::{Positions, lookup, search};
 use std::alloc::{AllocError, Global};
 use std::fmt::Write;
@@ -49,13 +50,13 @@ fn falls_to(
     let map = read(rt, text);
     let (found, _probes) = lookup(&map, line, column);
     let answer = told(rt.alloc(), found)?;
-    assert_eq!(rt; answer.as_str(), expected, "{line} {column} in {text}");
+    equal(rt, (line, column, text), answer.as_str(), expected);
     Ok(())
 }
 
 #[test]
 fn a_position_falls_to_the_last_mapping_of_its_line(rt: HostRuntime) -> Result<(), Fail> {
-    for (text, line, column, expected) in [
+    for &(text, line, column, expected) in &[
         (SECTIONS, 0, 0, "0:0 http://h/m/a.js:0:0 unnamed"),
         (SECTIONS, 0, 9, "0:0 http://h/m/a.js:0:0 unnamed"),
         (SECTIONS, 0, 10, "0:10 http://h/m/a.js:0:0 n"),
@@ -134,10 +135,10 @@ fn probes_at(
 ) -> Result<u32, Fail> {
     let (found, probes) = lookup(map, line, column);
     let counted = count_of_search(map, line, column);
-    assert_eq!(rt; probes, counted, "{line} {column}");
+    equal(rt, (line, column), probes, counted);
     let answer = told(rt.alloc(), found)?;
     let expected = told(rt.alloc(), scanned(map, line, column))?;
-    assert_eq!(rt; answer.as_str(), expected.as_str(), "{line} {column}");
+    equal(rt, (line, column), answer.as_str(), expected.as_str());
     Ok(probes)
 }
 
@@ -153,9 +154,10 @@ fn are_found(
 ) -> Result<(), Fail> {
     for column in 0..columns {
         let probes = probes_at(rt, map, line, column)?;
-        assert!(rt;
+        holds(
+            rt,
+            (probes, line, column),
             least <= probes && probes <= most,
-            "{probes} at {line} {column}"
         );
     }
     Ok(())
@@ -165,7 +167,7 @@ fn are_found(
 fn probes_are_few_and_the_answer_is_that_of_a_scan(rt: HostRuntime) -> Result<(), Fail> {
     let thousand = crowded(rt.alloc(), 1000)?;
     let power = crowded(rt.alloc(), 1024)?;
-    for (text, columns, least, most) in [
+    for &(text, columns, least, most) in &[
         (r#"{"version":3,"mappings":""}"#, 3, 0, 0),
         (UNMAPPED, 3, 1, 1),
         (SECTIONS, 12, 1, 2),
