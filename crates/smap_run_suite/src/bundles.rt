@@ -2,7 +2,7 @@
 use smap_bundle::{Bundle, BundleFault, EntryFault, Refusal, read_bundle};
 use smap_io::Device;
 use smap_record::{Fault, Kind, Path};
-use smap_testing::SlowReader;
+use smap_testing::{SlowReader, equal, holds};
 use std::process::Abort;
 use std::test::Fail;
 
@@ -22,7 +22,7 @@ fn read(rt: &impl AllocGlobal, bundle: &[u8]) -> Result<Bundle, BundleFault> {
 fn refuses(rt: &(impl Abort + AllocGlobal), bundle: &[u8], fault: BundleFault) {
     match read(rt, bundle) {
         Ok(_bundle) => assert!(rt; false, "it was read"),
-        Err(found) => assert_eq!(rt; found, fault),
+        Err(found) => equal(rt, "fault", &found, &fault),
     }
 }
 
@@ -46,11 +46,11 @@ fn a_bundle_is_read_to_its_line_trace(rt: HostRuntime) -> Result<(), Fail> {
     for step in [1, 7, usize::MAX] {
         let mut reader = Device::new(SlowReader::new(TWO, step, 0));
         match read_bundle(rt.alloc(), &mut reader) {
-            Ok(bundle) => assert_eq!(rt; urls(&rt, &bundle)?.as_str(), "uv", "{step}"),
+            Ok(bundle) => equal(&rt, step, urls(&rt, &bundle)?.as_str(), "uv"),
             Err(_) => assert!(rt; false, "{step} bytes a call"),
         }
-        assert!(rt; !reader.ended(), "{step} bytes a call");
-        assert_eq!(rt; reader.into_inner().rest, b"@u:1:1\n".as_slice(), "{step}");
+        holds(&rt, step, !reader.ended());
+        equal(&rt, step, reader.into_inner().rest, b"@u:1:1\n".as_slice());
     }
     Ok(())
 }
@@ -137,10 +137,10 @@ fn the_kth_read_fails(rt: HostRuntime) {
     for k in 1..reads + 2 {
         let mut reader = Device::new(SlowReader::new(TWO, 7, k));
         match read_bundle(rt.alloc(), &mut reader) {
-            Ok(_bundle) => assert_eq!(rt; k, reads + 1),
-            Err(fault) => assert_eq!(rt; fault, BundleFault::Read, "{k}"),
+            Ok(_bundle) => equal(&rt, "reads", k, reads + 1),
+            Err(fault) => equal(&rt, k, &fault, &BundleFault::Read),
         }
-        assert_eq!(rt; reader.failures() > 0, k <= reads, "{k}");
-        assert_eq!(rt; reader.into_inner().calls, k.min(reads), "{k}");
+        equal(&rt, k, reader.failures() > 0, k <= reads);
+        equal(&rt, k, reader.into_inner().calls, k.min(reads));
     }
 }

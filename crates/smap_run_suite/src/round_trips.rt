@@ -3,7 +3,7 @@ use crate::runs::{BASE, TWO_NAMES, TWO_SECTIONS};
 use smap_canon::same;
 use smap_io::Device;
 use smap_record::{Base, Limits, ReadError, SourceMap};
-use smap_testing::{SlowReader, SlowWriter};
+use smap_testing::{SlowReader, SlowWriter, equal, holds};
 use smap_tool::round_trips::read_again;
 use smap_trace::translate;
 use std::process::Abort;
@@ -40,23 +40,36 @@ fn tells(rt: &(impl Abort + AllocGlobal), one: &SourceMap, two: &SourceMap) {
         false,
         &mut writer,
     );
-    assert!(rt; answer.is_ok());
-    assert_eq!(rt; writer.into_inner().bytes.as_slice(), TOLD.as_bytes());
+    holds(rt, "answer", answer.is_ok());
+    equal(
+        rt,
+        "bytes",
+        writer.into_inner().bytes.as_slice(),
+        TOLD.as_bytes(),
+    );
+}
+
+/// By each of two maps for the one script, and each of two for the other, the trace is told alike.
+fn all_tell(
+    rt: &(impl Abort + AllocGlobal),
+    ones: &(SourceMap, SourceMap),
+    twos: &(SourceMap, SourceMap),
+) {
+    tells(rt, &ones.0, &twos.0);
+    tells(rt, &ones.0, &twos.1);
+    tells(rt, &ones.1, &twos.0);
+    tells(rt, &ones.1, &twos.1);
 }
 
 #[test]
 fn a_map_and_what_its_canonical_bytes_say_translate_alike(rt: HostRuntime) {
     let base = Base::new(rt.alloc(), BASE).expect(&rt, "it is a URL");
-    for relative in [false, true] {
-        let (names, names_again) = both(&rt, TWO_NAMES, &base, relative);
-        let (sections, sections_again) = both(&rt, TWO_SECTIONS, &base, relative);
-        assert!(rt; same(&names, &names_again), "{relative}");
-        assert!(rt; same(&sections, &sections_again), "{relative}");
-        for one in [&names, &names_again] {
-            for two in [&sections, &sections_again] {
-                tells(&rt, one, two);
-            }
-        }
+    for &relative in &[false, true] {
+        let names = both(&rt, TWO_NAMES, &base, relative);
+        let sections = both(&rt, TWO_SECTIONS, &base, relative);
+        holds(&rt, relative, same(&names.0, &names.1));
+        holds(&rt, relative, same(&sections.0, &sections.1));
+        all_tell(&rt, &names, &sections);
     }
 }
 
@@ -66,7 +79,7 @@ fn a_text_with_a_fault_is_refused(rt: HostRuntime) {
     for relative in [false, true] {
         match read_again(rt.alloc(), b"[]", &base, Limits::usual(), relative) {
             Ok(_maps) => assert!(rt; false, "it was read"),
-            Err(fault) => assert!(rt; matches!(fault, ReadError::Refused(_))),
+            Err(fault) => holds(&rt, "refused", matches!(fault, ReadError::Refused(_))),
         }
     }
 }

@@ -1,4 +1,6 @@
 //! What no contract says: the rows of each command by name, devices that fail, and how many calls there were.
+ghost use Rattle.std.specs.Prelude.{◌<◌};
+
 mod bundle;
 mod check;
 mod devices;
@@ -12,8 +14,9 @@ mod tidy;
 mod translate;
 
 use smap_io::Device;
-use smap_testing::{SlowReader, SlowWriter};
-use smap_tool::{Outcome, Task, run};
+use smap_testing::{SlowReader, SlowWriter, equal};
+use smap_tool::{Outcome, RunFault, Task, run};
+use std::alloc::Global;
 use std::process::Abort;
 
 /// The base that a test reads against where it names none.
@@ -36,6 +39,82 @@ pub(crate) const TWO_SECTIONS: &str = concat!(
     r#""b.js"],"names":["n"],"mappings":"AAAAA;CCCC"}}]}"#,
 );
 
+/// What came of a run, what it wrote, and how often its devices were called.
+#[derive(Drop)]
+pub(crate) struct Ran {
+    pub(crate) answer: Result<Outcome, RunFault>,
+    pub(crate) bytes: Vec<u8>,
+    pub(crate) ended: bool,
+    pub(crate) reads: u64,
+    pub(crate) failed_reads: u64,
+    /// Writes and flushes.
+    pub(crate) writes: u64,
+    pub(crate) failed_writes: u64,
+    pub(crate) flushes: u64,
+    pub(crate) written_after_flush: bool,
+}
+
+/// Runs a task over these devices.
+pub(crate) fn run_over(
+    alloc: Global,
+    task: Task<'_>,
+    reader: SlowReader<'_>,
+    writer: SlowWriter,
+) -> Ran {
+    let mut reader = Device::new(reader);
+    let mut writer = Device::new(writer);
+    let answer = run(alloc, task, &mut reader, &mut writer);
+    let (ended, failed_reads) = (reader.ended(), reader.failures());
+    let failed_writes = writer.failures();
+    let writer = writer.into_inner();
+    Ran {
+        answer,
+        ended,
+        reads: reader.into_inner().calls,
+        failed_reads,
+        writes: writer.calls,
+        failed_writes,
+        flushes: writer.flushes,
+        written_after_flush: writer.written_after_flush,
+        bytes: writer.bytes,
+    }
+}
+
+/// For this input, which is read to its end, a task writes this output and flushes once, with this many
+/// bytes a call.
+fn writes_by(
+    rt: &(impl Abort + AllocGlobal),
+    task: Task<'_>,
+    input: &str,
+    output: &str,
+    outcome: Outcome,
+    step: usize,
+) -> Ran
+    requires { 0 < step }
+{
+    let reader = SlowReader::new(input.as_bytes(), step, 0);
+    let ran = run_over(
+        rt.alloc(),
+        task,
+        reader,
+        SlowWriter::new(rt.alloc(), step, 0),
+    );
+    equal(
+        rt,
+        (task, input),
+        (ran.answer, ran.ended),
+        (Ok(outcome), true),
+    );
+    equal(rt, (task, input), ran.bytes.as_slice(), output.as_bytes());
+    equal(
+        rt,
+        (task, input),
+        (ran.flushes, ran.written_after_flush),
+        (1, false),
+    );
+    ran
+}
+
 /// For this input, which is read to its end, a task writes this output and flushes once, whether the bytes
 /// come and go one by one or at once. One by one, each byte is a read call, and so is the end.
 fn writes(
@@ -45,23 +124,8 @@ fn writes(
     output: &str,
     outcome: Outcome,
 ) {
-    for step in [1, usize::MAX] {
-        let mut reader = Device::new(SlowReader::new(input.as_bytes(), step, 0));
-        let mut writer = Device::new(SlowWriter::new(rt.alloc(), step, 0));
-        let answer = run(rt.alloc(), task, &mut reader, &mut writer);
-        assert_eq!(rt; answer, Ok(outcome), "{task:?} of {input}");
-        assert!(rt; reader.ended(), "{task:?} of {input}");
-        if step == 1 {
-            let calls = input.len() as u64 + 1;
-            assert_eq!(rt; reader.into_inner().calls, calls, "{task:?} of {input}");
-        }
-        let written = writer.into_inner();
-        assert_eq!(rt;
-            written.bytes.as_slice(),
-            output.as_bytes(),
-            "{task:?} of {input}"
-        );
-        assert_eq!(rt; written.flushes, 1, "{task:?} of {input}");
-        assert!(rt; !written.written_after_flush, "{task:?} of {input}");
-    }
+    let calls = input.len() as u64 + 1;
+    let ran = writes_by(rt, task, input, output, outcome, 1);
+    equal(rt, (task, input), ran.reads, calls);
+    let _at_once = writes_by(rt, task, input, output, outcome, usize::MAX);
 }

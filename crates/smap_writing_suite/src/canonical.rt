@@ -6,7 +6,7 @@ use crate::reading::{base, read};
 use smap_canon::round_trips::{flattened, have_equal_bytes, tidied};
 use smap_canon::{canonical, canonical_mappings, canonical_relative, flatten, same};
 use smap_record::{Kind, Limits, ReadError};
-use smap_testing::{parts, rows};
+use smap_testing::{equal, holds, parts, rows};
 use std::process::Abort;
 use std::test::Fail;
 
@@ -98,7 +98,7 @@ fn canonical_bytes(rt: &(impl Abort + AllocGlobal), text: &str) -> Vec<u8> {
 /// Asserts that these are the canonical bytes of the map of a text.
 fn has_canonical(rt: &(impl Abort + AllocGlobal), text: &str, want: &str) {
     let bytes = canonical_bytes(rt, text);
-    assert!(rt; bytes.as_slice() == want.as_bytes(), "{text}");
+    holds(rt, text, bytes.as_slice() == want.as_bytes());
 }
 
 /// The canonical bytes of the map of a text, in the relative form.
@@ -109,7 +109,7 @@ fn relative_bytes(rt: &(impl Abort + AllocGlobal), text: &str) -> Vec<u8> {
 /// Asserts that these are the canonical bytes of the map of a text, in the relative form.
 fn has_relative(rt: &(impl Abort + AllocGlobal), text: &str, want: &str) {
     let bytes = relative_bytes(rt, text);
-    assert!(rt; bytes.as_slice() == want.as_bytes(), "{text}");
+    holds(rt, text, bytes.as_slice() == want.as_bytes());
 }
 
 /// The flat bytes of the map of a text.
@@ -120,7 +120,7 @@ fn flat_bytes(rt: &(impl Abort + AllocGlobal), text: &str) -> Vec<u8> {
 /// Asserts that these are the flat bytes of the map of a text.
 fn has_flat(rt: &(impl Abort + AllocGlobal), text: &str, want: &str) {
     let bytes = flat_bytes(rt, text);
-    assert!(rt; bytes.as_slice() == want.as_bytes(), "{text}");
+    holds(rt, text, bytes.as_slice() == want.as_bytes());
 }
 
 /// Asserts that one call makes these canonical bytes of a text, in the relative form if that is set.
@@ -133,18 +133,20 @@ fn tidies_to(rt: &(impl Abort + AllocGlobal), text: &str, want: &str, relative: 
         Limits::usual(),
         relative,
     );
-    assert!(rt;
+    holds(
+        rt,
+        text,
         bytes.expect(rt, text).as_slice() == want.as_bytes(),
-        "{text}"
     );
 }
 
 /// Asserts that one call makes these flat bytes of a text.
 fn flattens_to(rt: &(impl Abort + AllocGlobal), text: &str, want: &str) {
     let bytes = flattened(rt.alloc(), text.as_bytes(), &base(rt), Limits::usual());
-    assert!(rt;
+    holds(
+        rt,
+        text,
         bytes.expect(rt, text).as_slice() == want.as_bytes(),
-        "{text}"
     );
 }
 
@@ -171,14 +173,15 @@ fn are_equal(rt: &(impl Abort + AllocGlobal), one: &str, other: &str, relative: 
 /// canonical bytes.
 fn is_tidied(rt: &(impl Abort + AllocGlobal), text: &str, want: &str) {
     has_canonical(rt, text, want);
-    assert!(rt; are_same(rt, text, want), "{text}");
+    holds(rt, text, are_same(rt, text, want));
     has_canonical(rt, want, want);
     tidies_to(rt, text, want, false);
 }
 
 #[test]
 fn a_record_has_one_text_which_is_its_own(rt: HostRuntime) -> Result<(), Fail> {
-    for row in rows(rt.alloc(), TIDIED)? {
+    let table = rows(rt.alloc(), TIDIED)?;
+    for row in &table {
         let (text, want) = parts(row.as_str())?;
         is_tidied(&rt, text, want);
     }
@@ -198,22 +201,22 @@ fn mappings_of(rt: &(impl Abort + AllocGlobal), text: &str) -> Vec<u8> {
 
 #[test]
 fn the_mappings_are_those_of_the_text(rt: HostRuntime) {
-    for (text, want) in [
+    for &(text, want) in &[
         (SMALL, "AAAAA,CAACC"),
         (LONGER, "AAAAA,CAACC"),
         (EMPTY, ""),
         (TWO_SECTIONS, "AAAA,UAAAA;CCCC"),
     ] {
         let mappings = mappings_of(&rt, text);
-        assert!(rt; mappings.as_slice() == want.as_bytes(), "{text}");
+        holds(&rt, text, mappings.as_slice() == want.as_bytes());
     }
 }
 
 #[test]
 fn equal_records_are_the_same(rt: HostRuntime) {
-    assert!(rt; are_same(&rt, SMALL, LONGER));
-    assert!(rt; !are_same(&rt, SMALL, EMPTY));
-    assert!(rt; !are_same(&rt, EMPTY, SMALL));
+    holds(&rt, "same", are_same(&rt, SMALL, LONGER));
+    holds(&rt, "same", !are_same(&rt, SMALL, EMPTY));
+    holds(&rt, "same", !are_same(&rt, EMPTY, SMALL));
 }
 
 /// A map, and others that each differ from it in one part.
@@ -242,8 +245,9 @@ const OTHERS: &str =
 
 #[test]
 fn each_part_of_a_record_counts(rt: HostRuntime) -> Result<(), Fail> {
-    for other in rows(rt.alloc(), OTHERS)? {
-        assert!(rt; !are_same(&rt, WHOLE, other.as_str()), "{other}");
+    let table = rows(rt.alloc(), OTHERS)?;
+    for other in &table {
+        holds(&rt, other.as_str(), !are_same(&rt, WHOLE, other.as_str()));
     }
     Ok(())
 }
@@ -251,7 +255,7 @@ fn each_part_of_a_record_counts(rt: HostRuntime) -> Result<(), Fail> {
 #[test]
 fn a_list_is_not_tidied(rt: HostRuntime) {
     match tidied(rt.alloc(), b"[]", &base(&rt), Limits::usual(), false) {
-        Err(ReadError::Refused(fault)) => assert_eq!(rt; fault.kind, Kind::NotObject),
+        Err(ReadError::Refused(fault)) => equal(&rt, "kind", fault.kind, Kind::NotObject),
         _ => assert!(rt; false, "a list is no map"),
     }
 }
@@ -259,13 +263,14 @@ fn a_list_is_not_tidied(rt: HostRuntime) {
 /// Asserts that these are the map's flat bytes, and have the same record.
 fn is_flattened(rt: &(impl Abort + AllocGlobal), text: &str, want: &str) {
     has_flat(rt, text, want);
-    assert!(rt; are_same(rt, text, want), "{text}");
+    holds(rt, text, are_same(rt, text, want));
     flattens_to(rt, text, want);
 }
 
 #[test]
 fn flat_bytes_list_what_the_map_lists(rt: HostRuntime) -> Result<(), Fail> {
-    for row in rows(rt.alloc(), FLATTENED)? {
+    let table = rows(rt.alloc(), FLATTENED)?;
+    for row in &table {
         let (text, want) = parts(row.as_str())?;
         is_flattened(&rt, text, want);
     }
@@ -274,7 +279,7 @@ fn flat_bytes_list_what_the_map_lists(rt: HostRuntime) -> Result<(), Fail> {
 
 #[test]
 fn equal_bytes_say_equal_records(rt: HostRuntime) {
-    for (other, want) in [(SMALL, true), (LONGER, true), (EMPTY, false)] {
-        assert_eq!(rt; are_equal(&rt, SMALL, other, false), want, "{other}");
+    for &(other, want) in &[(SMALL, true), (LONGER, true), (EMPTY, false)] {
+        equal(&rt, other, are_equal(&rt, SMALL, other, false), want);
     }
 }

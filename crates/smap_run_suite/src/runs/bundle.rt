@@ -1,8 +1,9 @@
 //! Whole bundles, as they come in and what goes out.
-use smap_io::Device;
-use smap_testing::{SlowReader, SlowWriter};
-use smap_tool::{Outcome, RunFault, run_translate};
+use super::{run_over, writes};
+use smap_testing::{SlowReader, SlowWriter, equal, holds};
+use smap_tool::{Outcome, RunFault, Task};
 use smap_trace::Finding;
+use std::alloc::AllocError;
 use std::process::Abort;
 use std::test::Fail;
 
@@ -51,6 +52,12 @@ fn worked(rt: &impl AllocGlobal, map: &str, trace: &str) -> Result<String, Fail>
     Ok(bundle)
 }
 
+/// A translation of the frames alone.
+fn translating(hide: bool) -> Task<'static> {
+    let finding = Finding::FRAMES;
+    Task::Translate { finding, hide }
+}
+
 /// Checks what a run writes for a bundle that comes whole, and what it answers.
 fn gives(
     rt: &(impl Abort + AllocGlobal),
@@ -59,76 +66,80 @@ fn gives(
     written: &str,
     answer: Result<Outcome, RunFault>,
 ) {
-    let mut reader = Device::new(bundle);
-    let mut writer = Device::new(SlowWriter::new(rt.alloc(), 65_536, 0));
-    let found = run_translate(rt.alloc(), Finding::FRAMES, hide, &mut reader, &mut writer);
-    assert_eq!(rt; found, answer);
-    let writer = writer.into_inner();
-    assert_eq!(rt; writer.bytes.as_slice(), written.as_bytes());
-    if answer.is_ok() {
-        assert_eq!(rt; writer.flushes, 1);
-        assert!(rt; !writer.written_after_flush);
-    }
+    let reader = SlowReader::new(bundle, usize::MAX, 0);
+    let writer = SlowWriter::new(rt.alloc(), 65_536, 0);
+    let ran = run_over(rt.alloc(), translating(hide), reader, writer);
+    equal(rt, bundle, ran.answer, answer);
+    equal(rt, bundle, ran.bytes.as_slice(), written.as_bytes());
+    let flushes = if answer.is_ok() { 1 } else { 0 };
+    equal(
+        rt,
+        bundle,
+        (ran.flushes, ran.written_after_flush),
+        (flushes, false),
+    );
 }
 
 #[test]
 fn the_worked_trace_is_translated(rt: HostRuntime) -> Result<(), Fail> {
-    let done = Ok(Outcome::Done);
-    gives(&rt, worked(&rt, MAP, TRACE)?.as_bytes(), false, TOLD, done);
-    gives(&rt, worked(&rt, MAP, TRACE)?.as_bytes(), true, TOLD, done);
-    gives(&rt, worked(&rt, TIDY, TRACE)?.as_bytes(), false, TOLD, done);
-    gives(
-        &rt,
-        worked(&rt, IGNORED, TRACE)?.as_bytes(),
-        false,
-        TOLD,
-        done,
-    );
-    gives(
-        &rt,
-        worked(&rt, IGNORED, TRACE)?.as_bytes(),
-        true,
-        KEPT,
-        done,
-    );
-    gives(&rt, worked(&rt, MAP, "")?.as_bytes(), false, "", done);
+    for &(map, trace, hide, told) in &[
+        (MAP, TRACE, false, TOLD),
+        (MAP, TRACE, true, TOLD),
+        (TIDY, TRACE, false, TOLD),
+        (IGNORED, TRACE, false, TOLD),
+        (IGNORED, TRACE, true, KEPT),
+        (MAP, "", false, ""),
+    ] {
+        let bundle = worked(&rt, map, trace)?;
+        gives(&rt, bundle.as_bytes(), hide, told, Ok(Outcome::Done));
+    }
     Ok(())
 }
 
-#[test]
-fn bundles_without_a_fault(rt: HostRuntime) -> Result<(), Fail> {
-    let alloc = rt.alloc();
-    gives(&rt, b"trace\n", false, "", Ok(Outcome::Done));
-    gives(
-        &rt,
-        b"trace\nrefused: map 0: version\n",
+/// A bundle of the scripts `u`, `v` and so on with these maps, and the trace after it.
+fn bundle_of(rt: &impl AllocGlobal, maps: &[&str], trace: &str) -> Result<String, AllocError> {
+    let mut bundle = String::new(rt.alloc());
+    for (map, script) in maps.iter().zip(&["u", "v"]) {
+        let entry = format!(in rt.alloc(); "map {script} http://h/m/x {}\n{map}\n", map.len())?;
+        bundle.push_str(entry.as_str())?;
+    }
+    bundle.push_str("trace\n")?;
+    bundle.push_str(trace)?;
+    Ok(bundle)
+}
+
+/// The maps of a bundle, its trace, whether lines of ignored sources are left out, and what is written.
+const ACCEPTED: [(&[&str], &str, bool, &str); 6] = [
+    (&[], "", false, ""),
+    (
+        &[],
+        "refused: map 0: version\n",
         false,
         "refused: map 0: version\n",
-        Ok(Outcome::Done),
-    );
-    let two = format!(in alloc;
-        "map u http://h/m/x 50\n{}\nmap v http://h/m/x 50\n{}\ntrace\n@u:1:1\n@v:1:9\n@w:1:1\n",
-        A, B
-    )?;
-    let told = "@http://h/m/a.js:1:1\n@http://h/m/b.js:1:1\n@w:1:1\n";
-    gives(&rt, two.as_bytes(), false, told, Ok(Outcome::Done));
-    let null = format!(in alloc; "map u http://h/m/x 48\n{}\ntrace\n@u:1:1\n", NULL)?;
-    gives(&rt, null.as_bytes(), false, "@u:1:1\n", Ok(Outcome::Done));
-    let ignored = format!(in alloc; "map u http://h/m/x 65\n{}\ntrace\n@u:1:1\n", NULL_IGNORED)?;
-    gives(
-        &rt,
-        ignored.as_bytes(),
+    ),
+    (
+        &[A, B],
+        "@u:1:1\n@v:1:9\n@w:1:1\n",
         false,
-        "@u:1:1\n",
-        Ok(Outcome::Done),
-    );
-    gives(&rt, ignored.as_bytes(), true, "", Ok(Outcome::Done));
+        "@http://h/m/a.js:1:1\n@http://h/m/b.js:1:1\n@w:1:1\n",
+    ),
+    (&[NULL], "@u:1:1\n", false, "@u:1:1\n"),
+    (&[NULL_IGNORED], "@u:1:1\n", false, "@u:1:1\n"),
+    (&[NULL_IGNORED], "@u:1:1\n", true, ""),
+];
+
+#[test]
+fn bundles_without_a_fault(rt: HostRuntime) -> Result<(), Fail> {
+    for &(maps, trace, hide, told) in &ACCEPTED {
+        let bundle = bundle_of(&rt, maps, trace)?;
+        gives(&rt, bundle.as_bytes(), hide, told, Ok(Outcome::Done));
+    }
     Ok(())
 }
 
 #[test]
 fn the_first_fault_of_a_bundle_is_told(rt: HostRuntime) {
-    for (bundle, line) in [
+    for &(bundle, line) in &[
         (b"".as_slice(), "refused: bundle header 0\n"),
         (b"trace", "refused: bundle header 0\n"),
         (
@@ -184,29 +195,19 @@ fn a_script_that_comes_again_is_told(rt: HostRuntime) -> Result<(), Fail> {
 #[test]
 fn a_length_above_the_limit_is_too_long(rt: HostRuntime) {
     let too_long = Err(RunFault::TooLong);
-    gives(&rt, b"map u http://h/ 268435457\n", false, "", too_long);
-    gives(&rt, b"map u nobase 268435457\n", false, "", too_long);
-    gives(
-        &rt,
-        b"map u http://h/ 18446744073709551616\n",
-        false,
-        "",
-        too_long,
-    );
-    gives(
-        &rt,
-        b"map u http://h/ 99999999999999999999999999999999\n",
-        false,
-        "",
-        too_long,
-    );
-    gives(
-        &rt,
-        b"map u http://h/ 268435456\n{}\n",
-        false,
+    for &bundle in &[
+        "map u http://h/ 268435457\n",
+        "map u nobase 268435457\n",
+        "map u http://h/ 18446744073709551616\n",
+        "map u http://h/ 99999999999999999999999999999999\n",
+    ] {
+        gives(&rt, bundle.as_bytes(), false, "", too_long);
+    }
+    let (longest, line) = (
+        "map u http://h/ 268435456\n{}\n",
         "refused: map 0: cut off\n",
-        Ok(Outcome::Refused),
     );
+    gives(&rt, longest.as_bytes(), false, line, Ok(Outcome::Refused));
 }
 
 /// The header of a script with a map of this many bytes, whose map `{}` has no version.
@@ -222,21 +223,13 @@ fn long_header(rt: &impl AllocGlobal, script: usize) -> Result<String, Fail> {
 #[test]
 fn a_header_has_at_most_65536_bytes(rt: HostRuntime) -> Result<(), Fail> {
     let longest = 65_536 - "map  http://h/ 2\n".len();
-    let refused = Ok(Outcome::Refused);
-    gives(
-        &rt,
-        long_header(&rt, longest)?.as_bytes(),
-        false,
-        "refused: map 0: version\n",
-        refused,
-    );
-    gives(
-        &rt,
-        long_header(&rt, longest + 1)?.as_bytes(),
-        false,
-        "refused: bundle header 0\n",
-        refused,
-    );
+    for &(more, line) in &[
+        (0, "refused: map 0: version\n"),
+        (1, "refused: bundle header 0\n"),
+    ] {
+        let bundle = long_header(&rt, longest + more)?;
+        gives(&rt, bundle.as_bytes(), false, line, Ok(Outcome::Refused));
+    }
     Ok(())
 }
 
@@ -264,13 +257,13 @@ fn a_bundle_that_is_cut_off_is_told(rt: HostRuntime) -> Result<(), Fail> {
 #[test]
 fn pieces_of_one_byte_change_nothing(rt: HostRuntime) -> Result<(), Fail> {
     let bundle = worked(&rt, MAP, TRACE)?;
-    let mut reader = Device::new(SlowReader::new(bundle.as_bytes(), 1, 0));
-    let mut writer = Device::new(SlowWriter::new(rt.alloc(), 1, 0));
-    assert_eq!(rt;
-        run_translate(rt.alloc(), Finding::FRAMES, false, &mut reader, &mut writer),
-        Ok(Outcome::Done)
+    writes(
+        &rt,
+        translating(false),
+        bundle.as_str(),
+        TOLD,
+        Outcome::Done,
     );
-    assert_eq!(rt; writer.into_inner().bytes.as_slice(), TOLD.as_bytes());
     Ok(())
 }
 
@@ -283,13 +276,17 @@ fn failing(
     write: u64,
     whole: &[u8],
 ) -> (Result<Outcome, RunFault>, u64) {
-    let mut reader = Device::new(SlowReader::new(bundle, 7, read));
-    let mut writer = Device::new(SlowWriter::new(rt.alloc(), 5, write));
-    let answer = run_translate(rt.alloc(), Finding::FRAMES, false, &mut reader, &mut writer);
-    assert_eq!(rt; reader.failures() > 0, answer == Err(RunFault::Read));
-    assert_eq!(rt; writer.failures() > 0, answer == Err(RunFault::Write));
-    assert!(rt; whole.starts_with(writer.into_inner().bytes.as_slice()));
-    (answer, reader.into_inner().calls)
+    let reader = SlowReader::new(bundle, 7, read);
+    let writer = SlowWriter::new(rt.alloc(), 5, write);
+    let ran = run_over(rt.alloc(), translating(false), reader, writer);
+    let failed = (ran.failed_reads > 0, ran.failed_writes > 0);
+    let expected = (
+        ran.answer == Err(RunFault::Read),
+        ran.answer == Err(RunFault::Write),
+    );
+    equal(rt, (read, write), failed, expected);
+    holds(rt, (read, write), whole.starts_with(ran.bytes.as_slice()));
+    (ran.answer, ran.reads)
 }
 
 /// How many reads of at most 7 bytes the worked bundle takes: the header and the line `trace` byte by byte,
@@ -306,8 +303,7 @@ fn the_kth_read_fails(rt: HostRuntime) -> Result<(), Fail> {
         } else {
             Ok(Outcome::Done)
         };
-        assert_eq!(rt; answer, expected);
-        assert_eq!(rt; reads, k.min(READS));
+        equal(&rt, k, (answer, reads), (expected, k.min(READS)));
     }
     Ok(())
 }
@@ -324,8 +320,8 @@ fn the_kth_write_fails(rt: HostRuntime) -> Result<(), Fail> {
         } else {
             Ok(Outcome::Done)
         };
-        assert_eq!(rt; answer, expected);
-        assert!(rt; reads == READS || k < writes);
+        equal(&rt, k, answer, expected);
+        holds(&rt, k, reads == READS || k < writes);
     }
     Ok(())
 }
@@ -340,9 +336,9 @@ fn the_kth_write_of_a_refusal_fails(rt: HostRuntime) {
         } else {
             Ok(Outcome::Refused)
         };
-        assert_eq!(rt; answer, expected);
+        equal(&rt, k, answer, expected);
         // The header byte by byte, and the map with its line feed.
-        assert_eq!(rt; reads, 18 + 1);
+        equal(&rt, k, reads, 18 + 1);
     }
 }
 
@@ -351,7 +347,7 @@ fn nothing_is_read_after_the_first_fault(rt: HostRuntime) {
     let refused = Ok(Outcome::Refused);
     let too_long = Err(RunFault::TooLong);
     // A line up to its line feed byte by byte, and a map with its line feed by sevens.
-    for (bundle, answer, calls) in [
+    for &(bundle, answer, calls) in &[
         ("", refused, 1),
         ("trace", refused, 6),
         ("trace \n@u:1:1\n", refused, 7),
@@ -363,22 +359,24 @@ fn nothing_is_read_after_the_first_fault(rt: HostRuntime) {
         ("map u http://h/ 8\n{}\ntrace\n", refused, 20),
         ("map u http://h/ 9\n{}\ntrace\n", refused, 21),
     ] {
-        let mut reader = Device::new(SlowReader::new(bundle.as_bytes(), 7, 0));
-        let mut writer = Device::new(SlowWriter::new(rt.alloc(), 80, 0));
-        let found = run_translate(rt.alloc(), Finding::FRAMES, false, &mut reader, &mut writer);
-        assert_eq!(rt; found, answer, "{bundle:?}");
-        assert_eq!(rt; reader.into_inner().calls, calls, "{bundle:?}");
+        let reader = SlowReader::new(bundle.as_bytes(), 7, 0);
+        let writer = SlowWriter::new(rt.alloc(), 80, 0);
+        let ran = run_over(rt.alloc(), translating(false), reader, writer);
+        equal(&rt, bundle, (ran.answer, ran.reads), (answer, calls));
     }
 }
 
 #[test]
 fn a_writer_that_takes_nothing_has_failed(rt: HostRuntime) {
-    for bundle in ["trace\nkept\n", "trace"] {
-        let mut reader = Device::new(SlowReader::new(bundle.as_bytes(), 80, 0));
-        let mut writer = Device::new(SlowWriter::new(rt.alloc(), 0, 0));
-        let answer = run_translate(rt.alloc(), Finding::FRAMES, false, &mut reader, &mut writer);
-        assert_eq!(rt; answer, Err(RunFault::Write), "{bundle:?}");
-        assert_eq!(rt; writer.failures(), 1, "{bundle:?}");
-        assert_eq!(rt; writer.into_inner().calls, 1, "{bundle:?}");
+    for &bundle in &["trace\nkept\n", "trace"] {
+        let reader = SlowReader::new(bundle.as_bytes(), 80, 0);
+        let ran = run_over(
+            rt.alloc(),
+            translating(false),
+            reader,
+            SlowWriter::new(rt.alloc(), 0, 0),
+        );
+        equal(&rt, bundle, ran.answer, Err(RunFault::Write));
+        equal(&rt, bundle, (ran.writes, ran.failed_writes), (1, 1));
     }
 }

@@ -89,7 +89,7 @@ const ROWS: [(&str, &str, Outcome); 18] = [
 
 #[test]
 fn each_map_is_counted_or_refused(rt: HostRuntime) {
-    for (input, output, outcome) in ROWS {
+    for &(input, output, outcome) in &ROWS {
         writes(&rt, CHECK, input, output, outcome);
     }
 }

@@ -1,8 +1,10 @@
 //! Devices that fail.
-use super::{BASE, TIDY, TWO_NAMES};
+use super::{BASE, Ran, TIDY, TWO_NAMES, run_over};
 use smap_io::Device;
-use smap_testing::{LongReader, SlowReader, SlowWriter};
+use smap_testing::{LongReader, SlowReader, SlowWriter, equal, holds};
 use smap_tool::{Outcome, RunFault, Task, run};
+use std::alloc::Global;
+use std::process::Abort;
 
 /// Each command that reads its input to the end, and an input for it.
 const TASKS: [(Task<'static>, &str); 7] = [
@@ -31,25 +33,40 @@ const TASKS: [(Task<'static>, &str); 7] = [
 /// How many bytes a call moves.
 const STEP: usize = 5;
 
+/// Runs a task over devices of which the read or the write with these numbers fails; 0 means none.
+fn failing(alloc: Global, task: Task<'_>, input: &str, read: u64, write: u64) -> Ran {
+    let reader = SlowReader::new(input.as_bytes(), STEP, read);
+    run_over(alloc, task, reader, SlowWriter::new(alloc, STEP, write))
+}
+
+/// How many reads it takes to find the end of an input.
+fn reads_of(input: &str) -> u64 {
+    input.len().div_ceil(STEP) as u64 + 1
+}
+
+/// Asserts that the read that fails is the last, and nothing is written.
+fn ends_with_read(rt: &(impl Abort + AllocGlobal), task: Task<'_>, input: &str, fails_at: u64) {
+    let ran = failing(rt.alloc(), task, input, fails_at, 0);
+    equal(rt, (task, fails_at), ran.answer, Err(RunFault::Read));
+    equal(
+        rt,
+        (task, fails_at),
+        (ran.reads, ran.failed_reads),
+        (fails_at, 1),
+    );
+    equal(
+        rt,
+        (task, fails_at),
+        (ran.writes, ran.failed_writes),
+        (0, 0),
+    );
+}
+
 #[test]
 fn each_read_that_fails_is_the_last_and_nothing_is_written(rt: HostRuntime) {
-    for (task, input) in TASKS {
-        // The last call finds the end.
-        let calls = input.len().div_ceil(STEP) as u64 + 1;
-        for fails_at in 1..=calls {
-            let mut reader = Device::new(SlowReader::new(input.as_bytes(), STEP, fails_at));
-            let mut writer = Device::new(SlowWriter::new(rt.alloc(), STEP, 0));
-            let answer = run(rt.alloc(), task, &mut reader, &mut writer);
-            assert_eq!(rt; answer, Err(RunFault::Read), "{task:?} at {fails_at}");
-            assert_eq!(rt; reader.failures(), 1, "{task:?} at {fails_at}");
-            assert_eq!(rt;
-                reader.into_inner().calls,
-                fails_at,
-                "{task:?} at {fails_at}"
-            );
-            assert_eq!(rt; writer.failures(), 0, "{task:?} at {fails_at}");
-            let written = writer.into_inner();
-            assert_eq!(rt; written.calls, 0, "{task:?} at {fails_at}");
+    for &(task, input) in &TASKS {
+        for fails_at in 1..=reads_of(input) {
+            ends_with_read(&rt, task, input, fails_at);
         }
     }
 }
@@ -59,77 +76,74 @@ fn one_byte_past_the_limit_is_too_long_and_nothing_is_written(rt: HostRuntime) {
     let mut reader = Device::new(LongReader { left: 268_435_457 });
     let mut writer = Device::new(SlowWriter::new(rt.alloc(), STEP, 0));
     let answer = run(rt.alloc(), Task::Respell, &mut reader, &mut writer);
-    assert_eq!(rt; answer, Err(RunFault::TooLong));
-    assert_eq!(rt; reader.failures(), 0);
-    let written = writer.into_inner();
-    assert_eq!(rt; written.calls, 0);
+    equal(&rt, "answer", answer, Err(RunFault::TooLong));
+    equal(&rt, "failed reads", reader.failures(), 0);
+    equal(&rt, "writes", writer.into_inner().calls, 0);
+}
+
+/// Asserts that the write or flush that fails is the last, and what was taken begins the text.
+fn ends_with_write(
+    rt: &(impl Abort + AllocGlobal),
+    task: Task<'_>,
+    input: &str,
+    fails_at: u64,
+    whole: &[u8],
+) {
+    let ran = failing(rt.alloc(), task, input, 0, fails_at);
+    equal(rt, (task, fails_at), ran.answer, Err(RunFault::Write));
+    equal(
+        rt,
+        (task, fails_at),
+        (ran.writes, ran.failed_writes),
+        (fails_at, 1),
+    );
+    equal(rt, (task, fails_at), ran.failed_reads, 0);
+    holds(
+        rt,
+        (task, fails_at),
+        whole.starts_with(ran.bytes.as_slice()),
+    );
 }
 
 #[test]
 fn each_write_or_flush_that_fails_is_told_after_a_front_of_the_text(rt: HostRuntime) {
-    for (task, input) in TASKS {
-        let mut reader = Device::new(SlowReader::new(input.as_bytes(), STEP, 0));
-        let mut writer = Device::new(SlowWriter::new(rt.alloc(), STEP, 0));
-        let answer = run(rt.alloc(), task, &mut reader, &mut writer);
-        assert_eq!(rt; answer, Ok(Outcome::Done), "{task:?}");
-        let calls = input.len().div_ceil(STEP) as u64 + 1;
-        assert_eq!(rt; reader.into_inner().calls, calls, "{task:?}");
-        let whole = writer.into_inner();
-        for fails_at in 1..=whole.calls {
-            let mut reader = Device::new(SlowReader::new(input.as_bytes(), STEP, 0));
-            let mut writer = Device::new(SlowWriter::new(rt.alloc(), STEP, fails_at));
-            let answer = run(rt.alloc(), task, &mut reader, &mut writer);
-            assert_eq!(rt; answer, Err(RunFault::Write), "{task:?} at {fails_at}");
-            assert_eq!(rt; reader.failures(), 0, "{task:?} at {fails_at}");
-            assert_eq!(rt; writer.failures(), 1, "{task:?} at {fails_at}");
-            let written = writer.into_inner();
-            assert_eq!(rt; written.calls, fails_at, "{task:?} at {fails_at}");
-            assert!(rt;
-                whole.bytes.starts_with(&written.bytes),
-                "{task:?} at {fails_at}"
-            );
+    for &(task, input) in &TASKS {
+        let whole = failing(rt.alloc(), task, input, 0, 0);
+        let read_to_end = (Ok(Outcome::Done), reads_of(input));
+        equal(&rt, task, (whole.answer, whole.reads), read_to_end);
+        for fails_at in 1..=whole.writes {
+            ends_with_write(&rt, task, input, fails_at, whole.bytes.as_slice());
         }
     }
 }
 
 #[test]
 fn a_writer_that_takes_nothing_has_failed(rt: HostRuntime) {
-    for (task, input) in TASKS {
-        let mut reader = Device::new(SlowReader::new(input.as_bytes(), STEP, 0));
-        let mut writer = Device::new(SlowWriter::new(rt.alloc(), 0, 0));
-        let answer = run(rt.alloc(), task, &mut reader, &mut writer);
-        assert_eq!(rt; answer, Err(RunFault::Write), "{task:?}");
-        assert_eq!(rt; writer.failures(), 1, "{task:?}");
-        assert_eq!(rt; writer.into_inner().calls, 1, "{task:?}");
+    for &(task, input) in &TASKS {
+        let reader = SlowReader::new(input.as_bytes(), STEP, 0);
+        let ran = run_over(rt.alloc(), task, reader, SlowWriter::new(rt.alloc(), 0, 0));
+        equal(&rt, task, ran.answer, Err(RunFault::Write));
+        equal(&rt, task, (ran.writes, ran.failed_writes), (1, 1));
     }
+}
+
+/// Asserts that a task is refused for its base before anything is read.
+fn has_no_base(rt: &(impl Abort + AllocGlobal), task: Task<'_>) {
+    let ran = failing(rt.alloc(), task, TWO_NAMES, 0, 0);
+    equal(rt, task, (ran.answer, ran.reads), (Ok(Outcome::Refused), 0));
+    let line = b"refused: base is no URL\n".as_slice();
+    equal(rt, task, (ran.bytes.as_slice(), ran.flushes), (line, 1));
 }
 
 #[test]
 fn a_base_that_is_no_url_is_refused_before_anything_is_read(rt: HostRuntime) {
-    for base in ["nobase", "", "http://["] {
-        let (line, column) = (0, 0);
-        for task in [
-            Task::Check { base },
-            Task::Tidy {
-                base,
-                relative: false,
-            },
-            Task::Tidy {
-                base,
-                relative: true,
-            },
-            Task::Flatten { base },
-            Task::Lookup { base, line, column },
-        ] {
-            let mut reader = Device::new(SlowReader::new(TWO_NAMES.as_bytes(), STEP, 0));
-            let mut writer = Device::new(SlowWriter::new(rt.alloc(), STEP, 0));
-            let answer = run(rt.alloc(), task, &mut reader, &mut writer);
-            assert_eq!(rt; answer, Ok(Outcome::Refused), "{task:?}");
-            assert_eq!(rt; reader.into_inner().calls, 0, "{task:?}");
-            let written = writer.into_inner();
-            let line = b"refused: base is no URL\n".as_slice();
-            assert_eq!(rt; written.bytes.as_slice(), line, "{task:?}");
-            assert_eq!(rt; written.flushes, 1, "{task:?}");
+    let (line, column) = (0, 0);
+    for &base in &["nobase", "", "http://["] {
+        for &relative in &[false, true] {
+            has_no_base(&rt, Task::Tidy { base, relative });
         }
+        has_no_base(&rt, Task::Check { base });
+        has_no_base(&rt, Task::Flatten { base });
+        has_no_base(&rt, Task::Lookup { base, line, column });
     }
 }

@@ -4,8 +4,11 @@ ghost use Rattle.smap_io.specs.Device.{device_failures, has_ended};
 
 use super::{BASE, TWO_NAMES};
 use smap_io::Device;
-use smap_testing::{SlowReader, SlowWriter};
-use smap_tool::{Outcome, RunFault, run_check, run_flatten, run_lookup, run_respell, run_tidy};
+use smap_testing::{SlowReader, SlowWriter, equal};
+use smap_tool::{
+    Outcome, RunFault, run_check, run_flatten, run_lookup, run_respell, run_tidy, run_translate,
+};
+use smap_trace::Finding;
 use std::process::Abort;
 
 /// How many bytes a call moves.
@@ -34,13 +37,17 @@ fn wrote(
     writer: Device<SlowWriter>,
     output: &str,
 ) {
-    assert_eq!(rt; answer, Ok(Outcome::Done), "{output}");
-    assert!(rt; reader.ended(), "{output}");
+    equal(
+        rt,
+        output,
+        (answer, reader.ended()),
+        (Ok(Outcome::Done), true),
+    );
     let calls = input.len().div_ceil(STEP) as u64 + 1;
-    assert_eq!(rt; reader.into_inner().calls, calls, "{output}");
+    equal(rt, output, reader.into_inner().calls, calls);
     let written = writer.into_inner();
-    assert_eq!(rt; written.bytes.as_slice(), output.as_bytes());
-    assert_eq!(rt; written.flushes, 1, "{output}");
+    equal(rt, "bytes", written.bytes.as_slice(), output.as_bytes());
+    equal(rt, output, written.flushes, 1);
 }
 
 #[test]
@@ -67,7 +74,7 @@ fn a_map_is_tidied_in_both_forms(rt: HostRuntime) {
     let absolute =
         r#"{"mappings":"AAAAA,CAACC","names":["y","x"],"sources":["http://h/m/a.js"],"version":3}"#;
     let relative = r#"{"mappings":"AAAAA,CAACC","names":["y","x"],"sources":["a.js"],"version":3}"#;
-    for (is_relative, output) in [(false, absolute), (true, relative)] {
+    for &(is_relative, output) in &[(false, absolute), (true, relative)] {
         let (mut from, mut to) = (reader(TWO_NAMES), writer(&rt));
         let answer = run_tidy(rt.alloc(), BASE, is_relative, &mut from, &mut to);
         wrote(&rt, TWO_NAMES, answer, from, to, output);
@@ -89,4 +96,17 @@ fn a_position_is_looked_up(rt: HostRuntime) {
     let answer = run_lookup(rt.alloc(), BASE, 0, 7, &mut from, &mut to);
     let output = "0:1 http://h/m/a.js:0:1 \"x\"\n";
     wrote(&rt, TWO_NAMES, answer, from, to, output);
+}
+
+#[test]
+fn a_trace_is_translated(rt: HostRuntime) {
+    let (mut from, mut to) = (reader("trace\nkept\n"), writer(&rt));
+    let answer = run_translate(rt.alloc(), Finding::FRAMES, false, &mut from, &mut to);
+    equal(&rt, "answer", answer, Ok(Outcome::Done));
+    equal(
+        &rt,
+        "bytes",
+        to.into_inner().bytes.as_slice(),
+        b"kept\n".as_slice(),
+    );
 }

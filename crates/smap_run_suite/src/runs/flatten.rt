@@ -33,14 +33,14 @@ const ROWS: [(&str, &str); 4] = [
 
 #[test]
 fn each_map_is_written_with_its_lists_as_they_are(rt: HostRuntime) {
-    for (input, output) in ROWS {
+    for &(input, output) in &ROWS {
         writes(&rt, FLATTEN, input, output, Outcome::Done);
     }
 }
 
 #[test]
 fn a_flat_map_is_its_own_and_tidies_as_the_map_does(rt: HostRuntime) {
-    for (_, output) in ROWS {
+    for &(_, output) in &ROWS {
         writes(&rt, FLATTEN, output, output, Outcome::Done);
     }
     let tidy = concat!(

@@ -51,7 +51,7 @@ const ROWS: [(&str, u32, u32, &str); 13] = [
 
 #[test]
 fn each_position_falls_to_the_last_mapping_in_front_of_it(rt: HostRuntime) {
-    for (input, line, column, output) in ROWS {
+    for &(input, line, column, output) in &ROWS {
         let base = BASE;
         writes(
             &rt,

@@ -100,14 +100,14 @@ const ROWS: [(&str, &str, Outcome); 24] = [
 
 #[test]
 fn each_mappings_text_is_written_in_its_shortest_spelling(rt: HostRuntime) {
-    for (input, output, outcome) in ROWS {
+    for &(input, output, outcome) in &ROWS {
         writes(&rt, Task::Respell, input, output, outcome);
     }
 }
 
 #[test]
 fn what_is_written_is_written_again(rt: HostRuntime) {
-    for (_, output, outcome) in ROWS {
+    for &(_, output, outcome) in &ROWS {
         if outcome == Outcome::Done {
             writes(&rt, Task::Respell, output, output, Outcome::Done);
         }

@@ -22,7 +22,7 @@ fn each_url_is_listed_once_with_the_number_of_its_lines(rt: HostRuntime) {
         // no number is from 0
         ("@a:0:1\n@a:1:1\n", "1 a\n"),
     ];
-    for (trace, output) in rows {
+    for &(trace, output) in &rows {
         writes(&rt, Task::Scripts, trace, output, Outcome::Done);
     }
 }

@@ -99,14 +99,14 @@ const REFUSED: [(&str, &str); 10] = [
 
 #[test]
 fn an_index_map_tidies_to_one_flat_map(rt: HostRuntime) {
-    for (input, output) in TIDIED {
+    for &(input, output) in &TIDIED {
         writes(&rt, TIDY, input, output, Outcome::Done);
     }
 }
 
 #[test]
 fn a_fault_of_an_index_map_names_its_section(rt: HostRuntime) {
-    for (input, output) in REFUSED {
+    for &(input, output) in &REFUSED {
         writes(&rt, TIDY, input, output, Outcome::Refused);
     }
 }

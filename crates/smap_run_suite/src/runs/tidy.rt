@@ -63,14 +63,14 @@ const ACCEPTED: [(&str, &str); 10] = [
 
 #[test]
 fn each_map_is_written_in_its_canonical_form(rt: HostRuntime) {
-    for (input, output) in ACCEPTED {
+    for &(input, output) in &ACCEPTED {
         writes(&rt, TIDY, input, output, Outcome::Done);
     }
 }
 
 #[test]
 fn a_canonical_form_is_its_own(rt: HostRuntime) {
-    for (_, output) in ACCEPTED {
+    for &(_, output) in &ACCEPTED {
         writes(&rt, TIDY, output, output, Outcome::Done);
     }
 }
@@ -95,7 +95,7 @@ fn a_refused_map_is_one_line(rt: HostRuntime) {
         (BASE, "[]", "refused: not an object\n"),
         (BASE, ")]}'", "refused: prefix without line feed\n"),
     ];
-    for (base, input, output) in rows {
+    for &(base, input, output) in &rows {
         writes(
             &rt,
             Task::Tidy {

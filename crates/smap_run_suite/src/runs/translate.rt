@@ -17,7 +17,7 @@ const THREE_LINES: &str = "map http://h/o.js http://h/m/out.js.map 50\n\
 #[test]
 fn lines_of_ignored_sources_are_left_out_only_where_that_is_asked_for(rt: HostRuntime) {
     let rows = [(false, "@http://h/m/a.js:1:1\nkept\n"), (true, "kept\n")];
-    for (hide, output) in rows {
+    for &(hide, output) in &rows {
         let task = Task::Translate {
             finding: Finding::FRAMES,
             hide,
@@ -50,7 +50,7 @@ fn each_flag_finds_more_positions(rt: HostRuntime) {
             "@http://h/m/a.js:1:1\n@http://h/m/a.js:1:1\nsee http://h/m/a.js:1:1, please\n",
         ),
     ];
-    for (anywhere, ignore_query, output) in rows {
+    for &(anywhere, ignore_query, output) in &rows {
         let finding = Finding {
             anywhere,
             ignore_query,

@@ -1,6 +1,6 @@
 //! The relative form. Each row has its sources in that form; everything else is as in the absolute form.
 use super::{EMPTY, SMALL, are_equal, are_same, canonical_bytes, has_relative, tidies_to};
-use smap_testing::{parts, rows};
+use smap_testing::{equal, holds, parts, rows};
 use std::process::Abort;
 use std::test::Fail;
 
@@ -26,7 +26,8 @@ const RELATIVE: &str =
 
 #[test]
 fn sources_are_spelled_from_the_base(rt: HostRuntime) -> Result<(), Fail> {
-    for row in rows(rt.alloc(), RELATIVE)? {
+    let table = rows(rt.alloc(), RELATIVE)?;
+    for row in &table {
         let (text, want) = parts(row.as_str())?;
         has_relative(&rt, text, want);
     }
@@ -41,14 +42,15 @@ fn have_one_form(rt: &(impl Abort + AllocGlobal), one: &str, other: &str) -> boo
 /// Asserts that the second text is its own relative form, and that both have the same record and the same
 /// canonical bytes.
 fn say_the_same(rt: &(impl Abort + AllocGlobal), text: &str, want: &str) {
-    assert!(rt; are_same(rt, text, want), "{text}");
+    holds(rt, text, are_same(rt, text, want));
     tidies_to(rt, want, want, true);
-    assert!(rt; have_one_form(rt, text, want), "{text}");
+    holds(rt, text, have_one_form(rt, text, want));
 }
 
 #[test]
 fn a_relative_text_is_its_own_and_says_the_same(rt: HostRuntime) -> Result<(), Fail> {
-    for row in rows(rt.alloc(), RELATIVE)? {
+    let table = rows(rt.alloc(), RELATIVE)?;
+    for row in &table {
         let (text, want) = parts(row.as_str())?;
         say_the_same(&rt, text, want);
     }
@@ -59,7 +61,7 @@ fn a_relative_text_is_its_own_and_says_the_same(rt: HostRuntime) -> Result<(), F
 fn equal_relative_bytes_say_equal_records(rt: HostRuntime) {
     let absolute =
         r#"{"version":3,"sources":["http://h/m/a.js"],"names":["x","y"],"mappings":"AAAAC,CAACD"}"#;
-    for (other, want) in [(SMALL, true), (absolute, true), (EMPTY, false)] {
-        assert_eq!(rt; are_equal(&rt, SMALL, other, true), want, "{other}");
+    for &(other, want) in &[(SMALL, true), (absolute, true), (EMPTY, false)] {
+        equal(&rt, other, are_equal(&rt, SMALL, other, true), want);
     }
 }

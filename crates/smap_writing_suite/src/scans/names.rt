@@ -2,6 +2,7 @@
 use super::{Scanned, joined, push_item, scan};
 use crate::reading::read;
 use smap_canon::canonical;
+use smap_testing::{equal, holds};
 use std::alloc::{AllocError, Global};
 use std::process::Abort;
 use std::test::Fail;
@@ -156,18 +157,18 @@ fn scanned_names(alloc: Global) -> Result<Scanned<usize>, AllocError> {
 /// bytes.
 fn is_written(rt: &(impl Abort + AllocGlobal), text: &str, want: &str) {
     let map = read(rt, text);
-    assert_eq!(rt; map.name_count(), LISTED);
-    assert_eq!(rt; map.token_count(), MAPPINGS);
+    equal(rt, "name count", map.name_count(), LISTED);
+    equal(rt, "token count", map.token_count(), MAPPINGS);
     let bytes = canonical(rt.alloc(), &map).expect(rt, "there is memory");
-    assert!(rt; bytes.as_slice() == want.as_bytes());
+    holds(rt, "canonical bytes", bytes.as_slice() == want.as_bytes());
 }
 
 #[test]
 fn names_are_numbered_as_a_scan_numbers_them(rt: HostRuntime) -> Result<(), Fail> {
     let scanned = scanned_names(rt.alloc())?;
     // Of 45 distinct names 37 are used, by 68 mappings.
-    assert_eq!(rt; scanned.distinct.len(), 37);
-    assert_eq!(rt; scanned.places.len(), 68);
+    equal(&rt, "distinct", scanned.distinct.len(), 37);
+    equal(&rt, "places", scanned.places.len(), 68);
     let want = canonical_text(
         rt.alloc(),
         scanned.distinct.as_slice(),

@@ -2,16 +2,17 @@
 use super::{Scanned, joined, push_item, scan};
 use crate::reading::read;
 use smap_record::{SourceMap, SourceView};
+use smap_testing::{equal, holds};
 use std::alloc::{AllocError, Global};
 use std::process::Abort;
 use std::test::Fail;
 
 /// Asserts that the listed sources have these indices among the distinct ones.
 fn are_numbered(rt: &impl Abort, map: &SourceMap, numbers: &[usize]) {
-    assert_eq!(rt; map.listed_count(), numbers.len());
+    equal(rt, "listed count", map.listed_count(), numbers.len());
     for i in 0..numbers.len() {
         assert!(rt; i < map.listed_count());
-        assert_eq!(rt; map.listed(i), numbers[i]);
+        equal(rt, i, map.listed(i), numbers[i]);
     }
 }
 
@@ -19,7 +20,7 @@ fn are_numbered(rt: &impl Abort, map: &SourceMap, numbers: &[usize]) {
 /// indices among them.
 fn lists(rt: &(impl Abort + AllocGlobal), text: &str, distinct: usize, numbers: &[usize]) {
     let map = read(rt, text);
-    assert_eq!(rt; map.source_count(), distinct);
+    equal(rt, "source count", map.source_count(), distinct);
     are_numbered(rt, &map, numbers);
 }
 
@@ -47,7 +48,7 @@ fn in_turn(alloc: Global) -> Result<Vec<usize>, AllocError> {
 fn five_thousand_sources_are_five(rt: HostRuntime) -> Result<(), Fail> {
     let numbers = in_turn(rt.alloc())?;
     let text = listing(rt.alloc(), numbers.as_slice())?;
-    assert_eq!(rt; numbers.len(), 5000);
+    equal(&rt, "numbers", numbers.len(), 5000);
     lists(&rt, text.as_str(), 5, numbers.as_slice());
     Ok(())
 }
@@ -202,14 +203,14 @@ fn listing_of_kinds(alloc: Global, list: &[ListedSource]) -> Result<String, Allo
 
 /// Asserts that a map's source is this one.
 fn is_source(rt: &impl Abort, seen: SourceView<'_>, source: Source) {
-    assert!(rt; seen.url == source.url);
-    assert!(rt; seen.content == source.content);
-    assert!(rt; seen.ignored == source.ignored);
+    holds(rt, "url", seen.url == source.url);
+    holds(rt, "content", seen.content == source.content);
+    holds(rt, "ignored", seen.ignored == source.ignored);
 }
 
 /// Asserts that the distinct sources are these.
 fn are_sources(rt: &impl Abort, map: &SourceMap, sources: &[Source]) {
-    assert_eq!(rt; map.source_count(), sources.len());
+    equal(rt, "source count", map.source_count(), sources.len());
     for i in 0..sources.len() {
         assert!(rt; i < map.source_count());
         is_source(rt, map.source(i), sources[i]);
@@ -230,7 +231,7 @@ fn sources_of_all_kinds_are_numbered_as_a_scan_numbers_them(rt: HostRuntime) -> 
     let sources = sources_of(rt.alloc(), list.as_slice())?;
     let scanned = scan(rt.alloc(), sources.as_slice())?;
     // Found by hand: the rows of the table without those that are equal to an earlier one.
-    assert_eq!(rt; scanned.distinct.len(), 12);
+    equal(&rt, "distinct", scanned.distinct.len(), 12);
     let text = listing_of_kinds(rt.alloc(), list.as_slice())?;
     lists_sources(&rt, text.as_str(), &scanned);
     Ok(())

@@ -1,6 +1,7 @@
 //! Positions anywhere in a line, as loggers, consoles and engines write them.
 use crate::reading::read;
 use smap_io::Device;
+use smap_testing::{equal, holds};
 use smap_trace::{Finding, LineOutcome, distinct_scripts, translate_by, translate_line_by};
 use std::process::Abort;
 use std::test::Fail;
@@ -35,11 +36,12 @@ fn becomes(
         Some(_) => LineOutcome::Translated,
         None => LineOutcome::Kept,
     };
-    assert_eq!(rt; answer, Ok(outcome), "{line}");
-    assert_eq!(rt;
+    equal(rt, line, answer, Ok(outcome));
+    equal(
+        rt,
+        line,
         out.as_slice(),
         expected.unwrap_or(line).as_bytes(),
-        "{line}"
     );
     Ok(())
 }
@@ -158,7 +160,7 @@ fn only_a_frame_is_left_out(rt: HostRuntime) -> Result<(), Fail> {
     let scripts = [("/app/out.js", &map)];
     let mut out = Vec::new(rt.alloc());
     let frame = translate_line_by(b"@/app/out.js:1:2\n", &scripts, ANYWHERE, true, &mut out);
-    assert_eq!(rt; frame, Ok(LineOutcome::Dropped));
+    equal(&rt, "frame", frame, Ok(LineOutcome::Dropped));
     let other = translate_line_by(
         b"at /app/out.js:1:2 {\n",
         &scripts,
@@ -166,8 +168,13 @@ fn only_a_frame_is_left_out(rt: HostRuntime) -> Result<(), Fail> {
         true,
         &mut out,
     );
-    assert_eq!(rt; other, Ok(LineOutcome::Translated));
-    assert_eq!(rt; out.as_slice(), b"at http://h/m/a.js:11:3 {\n".as_slice());
+    equal(&rt, "other", other, Ok(LineOutcome::Translated));
+    equal(
+        &rt,
+        "translations",
+        out.as_slice(),
+        b"at http://h/m/a.js:11:3 {\n".as_slice(),
+    );
     Ok(())
 }
 
@@ -193,10 +200,16 @@ fn a_trace_with_many_scripts_is_translated(rt: HostRuntime) -> Result<(), Fail> 
         false,
         &mut writer,
     );
-    assert!(rt; counts.is_ok_and(|c| c.lines == 2 && c.translated == 1 && c.dropped == 0));
-    assert_eq!(rt;
+    holds(
+        &rt,
+        "counts",
+        counts.is_ok_and(|c| c.lines == 2 && c.translated == 1 && c.dropped == 0),
+    );
+    equal(
+        &rt,
+        "translation",
         writer.into_inner().as_slice(),
-        b"(http://h/m/a.js:11:3) http://h/m/a.js:13:3\nx/b.js:1:2\n".as_slice()
+        b"(http://h/m/a.js:11:3) http://h/m/a.js:13:3\nx/b.js:1:2\n".as_slice(),
     );
     Ok(())
 }

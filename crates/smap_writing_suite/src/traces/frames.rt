@@ -1,4 +1,5 @@
 //! The rows of the table of frames.
+use smap_testing::{equal, holds};
 use smap_trace::frame;
 use std::process::Abort;
 use std::test::Fail;
@@ -8,15 +9,15 @@ fn is_frame(rt: &impl Abort, line: &str, before: &str, url: &str, places: (u32, 
     let Some(found) = frame(line.as_bytes()) else {
         panic!(rt; "{line}");
     };
-    assert_eq!(rt; found.before, before.as_bytes(), "{line}");
-    assert_eq!(rt; found.url, url.as_bytes(), "{line}");
-    assert_eq!(rt; (found.line, found.column), places, "{line}");
-    assert_eq!(rt; found.after, after.as_bytes(), "{line}");
+    equal(rt, line, found.before, before.as_bytes());
+    equal(rt, line, found.url, url.as_bytes());
+    equal(rt, line, (found.line, found.column), places);
+    equal(rt, line, found.after, after.as_bytes());
 }
 
 #[test]
 fn lines_of_v8_and_firefox_are_frames(rt: HostRuntime) {
-    for (line, before, url, places, after) in [
+    for &(line, before, url, places, after) in &[
         (
             "    at f (http://h/o.js:1:2)",
             "    at f (",
@@ -75,7 +76,7 @@ fn other_lines_are_none(rt: HostRuntime) {
         "",
         "@u:1:1\n",
     ] {
-        assert!(rt; frame(line.as_bytes()).is_none(), "{line}");
+        holds(&rt, line, frame(line.as_bytes()).is_none());
     }
 }
 
@@ -85,11 +86,11 @@ fn a_number_of_a_million_digits_is_no_place(rt: HostRuntime) -> Result<(), Fail>
     for _ in 0..1000000 {
         line.push(b'1')?;
     }
-    assert!(rt; frame(&line).is_none());
+    holds(&rt, "line", frame(&line).is_none());
     line.extend_from_slice(b":1")?;
-    assert!(rt; frame(&line).is_none());
+    holds(&rt, "line", frame(&line).is_none());
     line.extend_from_slice(b":1:1")?;
     let found = frame(&line).ok_or("the digits are part of the URL")?;
-    assert_eq!(rt; found.url.len(), 1000004);
+    equal(&rt, "url", found.url.len(), 1000004);
     Ok(())
 }

@@ -1,5 +1,6 @@
 //! Translations of single lines.
 use crate::reading::read;
+use smap_testing::{equal, holds};
 use smap_trace::{LineOutcome, distinct_scripts, translate_line};
 use std::process::Abort;
 use std::test::Fail;
@@ -25,14 +26,14 @@ fn is_translated(
     let map = read(rt, map);
     let mut out = Vec::from_slice(rt.alloc(), b"> ")?;
     let answer = translate_line(line.as_bytes(), &[("u", &map)], hide, &mut out);
-    assert_eq!(rt; answer, Ok(outcome), "{line}");
-    assert_eq!(rt; out.as_slice(), expected.as_bytes(), "{line}");
+    equal(rt, line, answer, Ok(outcome));
+    equal(rt, line, out.as_slice(), expected.as_bytes());
     Ok(())
 }
 
 #[test]
 fn a_line_is_kept_translated_or_dropped(rt: HostRuntime) -> Result<(), Fail> {
-    for (map, hide, line, outcome, expected) in [
+    for &(map, hide, line, outcome, expected) in &[
         (
             NAMED,
             false,
@@ -83,7 +84,15 @@ fn a_line_is_kept_translated_or_dropped(rt: HostRuntime) -> Result<(), Fail> {
 #[test]
 fn scripts_are_distinct_by_their_urls(rt: HostRuntime) {
     let map = read(&rt, NAMED);
-    assert!(rt; distinct_scripts(&[]));
-    assert!(rt; distinct_scripts(&[("u", &map), ("v", &map), ("uv", &map)]));
-    assert!(rt; !distinct_scripts(&[("u", &map), ("v", &map), ("u", &map)]));
+    holds(&rt, "no script", distinct_scripts(&[]));
+    holds(
+        &rt,
+        "scripts",
+        distinct_scripts(&[("u", &map), ("v", &map), ("uv", &map)]),
+    );
+    holds(
+        &rt,
+        "scripts",
+        !distinct_scripts(&[("u", &map), ("v", &map), ("u", &map)]),
+    );
 }

@@ -1,15 +1,19 @@
 //! Lookups in example maps, and their probes.
-ghost use Rattle.std.specs.Prelude.{map};
+ghost use Rattle.std.specs.Prelude.{◌≡◌, map};
 ghost use Rattle.smap_record.specs.Fitting.{mapping_position};
 ghost use Rattle.smap_record.specs.Record.{record_of};
+ghost use Rattle.smap_trace.specs.LineStarts.{line_starts};
 
 use crate::reading::read;
 use smap_record::{SourceMap, TokenView};
-use smap_trace::{Positions, lookup, search};
+use smap_testing::{equal, holds};
+use smap_trace::{LineStarts, Positions, find, find_in, lookup, lookup_in, search};
 use std::alloc::{AllocError, Global};
 use std::fmt::Write;
 use std::process::Abort;
 use std::test::Fail;
+
+const EMPTY: &str = r#"{"version":3,"mappings":""}"#;
 
 const SECTIONS: &str = r#"{"version":3,"sections":[
     {"offset":{"line":0,"column":0},"map":{"version":3,"sources":["a.js"],"mappings":"AAAA"}},
@@ -19,6 +23,10 @@ const SECTIONS: &str = r#"{"version":3,"sections":[
 const UNMAPPED: &str = r#"{"version":3,"mappings":"A"}"#;
 
 const TIES: &str = r#"{"version":3,"sources":["a.js"],"mappings":"AAAA,AACA"}"#;
+
+/// Two mappings on line 8. The table of its lines is empty, since they are more than twice the mappings and
+/// two.
+const FAR: &str = r#"{"version":3,"sources":["a.js"],"mappings":";;;;;;;;AAAA,CAAC"}"#;
 
 fn told(alloc: Global, found: Option<TokenView>) -> Result<String, Fail> {
     let Some(token) = found else {
@@ -49,13 +57,13 @@ fn falls_to(
     let map = read(rt, text);
     let (found, _probes) = lookup(&map, line, column);
     let answer = told(rt.alloc(), found)?;
-    assert_eq!(rt; answer.as_str(), expected, "{line} {column} in {text}");
+    equal(rt, (line, column, text), answer.as_str(), expected);
     Ok(())
 }
 
 #[test]
 fn a_position_falls_to_the_last_mapping_of_its_line(rt: HostRuntime) -> Result<(), Fail> {
-    for (text, line, column, expected) in [
+    for &(text, line, column, expected) in &[
         (SECTIONS, 0, 0, "0:0 http://h/m/a.js:0:0 unnamed"),
         (SECTIONS, 0, 9, "0:0 http://h/m/a.js:0:0 unnamed"),
         (SECTIONS, 0, 10, "0:10 http://h/m/a.js:0:0 n"),
@@ -102,16 +110,22 @@ fn count_of_search(map: &SourceMap, line: u32, column: u32) -> u32 {
     asked.count
 }
 
-/// The mapping that a linear scan finds.
-fn scanned<'a>(map: &'a SourceMap, line: u32, column: u32) -> Option<TokenView<'a>> {
+/// The mapping that a linear scan finds, after its index.
+fn scanned<'a>(
+    map: &'a SourceMap,
+    line: u32,
+    column: u32,
+) -> (Option<usize>, Option<TokenView<'a>>) {
+    let mut index = None;
     let mut found = None;
     for i in 0..map.token_count() {
         let token = map.token(i);
         if token.line == line && token.column <= column {
+            index = Some(i);
             found = Some(token);
         }
     }
-    found
+    (index, found)
 }
 
 /// A map with this many mappings on one line, three of them at each column.
@@ -134,10 +148,10 @@ fn probes_at(
 ) -> Result<u32, Fail> {
     let (found, probes) = lookup(map, line, column);
     let counted = count_of_search(map, line, column);
-    assert_eq!(rt; probes, counted, "{line} {column}");
+    equal(rt, (line, column), probes, counted);
     let answer = told(rt.alloc(), found)?;
-    let expected = told(rt.alloc(), scanned(map, line, column))?;
-    assert_eq!(rt; answer.as_str(), expected.as_str(), "{line} {column}");
+    let expected = told(rt.alloc(), scanned(map, line, column).1)?;
+    equal(rt, (line, column), answer.as_str(), expected.as_str());
     Ok(probes)
 }
 
@@ -153,9 +167,10 @@ fn are_found(
 ) -> Result<(), Fail> {
     for column in 0..columns {
         let probes = probes_at(rt, map, line, column)?;
-        assert!(rt;
+        holds(
+            rt,
+            (probes, line, column),
             least <= probes && probes <= most,
-            "{probes} at {line} {column}"
         );
     }
     Ok(())
@@ -165,8 +180,8 @@ fn are_found(
 fn probes_are_few_and_the_answer_is_that_of_a_scan(rt: HostRuntime) -> Result<(), Fail> {
     let thousand = crowded(rt.alloc(), 1000)?;
     let power = crowded(rt.alloc(), 1024)?;
-    for (text, columns, least, most) in [
-        (r#"{"version":3,"mappings":""}"#, 3, 0, 0),
+    for &(text, columns, least, most) in &[
+        (EMPTY, 3, 0, 0),
         (UNMAPPED, 3, 1, 1),
         (SECTIONS, 12, 1, 2),
         (thousand.as_str(), 336, 9, 10),
@@ -176,6 +191,74 @@ fn probes_are_few_and_the_answer_is_that_of_a_scan(rt: HostRuntime) -> Result<()
         for line in 0..3 {
             are_found(&rt, &map, line, columns, least, most)?;
         }
+    }
+    Ok(())
+}
+
+/// Asserts that the lookups by the table of a map's lines find what a scan finds.
+fn is_found_by_table(
+    rt: &(impl Abort + AllocGlobal),
+    map: &SourceMap,
+    starts: &LineStarts,
+    line: u32,
+    column: u32,
+) -> Result<(), Fail>
+    requires { starts.now ≡ line_starts (record_of map.now).mappings }
+{
+    let (index, expected) = scanned(map, line, column);
+    let (found, _probes) = find_in(map, starts, line, column);
+    equal(rt, (line, column), found, index);
+    let (found, _probes) = lookup_in(map, starts, line, column);
+    let answer = told(rt.alloc(), found)?;
+    let expected = told(rt.alloc(), expected)?;
+    equal(rt, (line, column), answer.as_str(), expected.as_str());
+    Ok(())
+}
+
+/// Asserts the same of the first columns of some lines, the last of them past the end of each map.
+fn are_found_by_table(rt: &(impl Abort + AllocGlobal), text: &str) -> Result<(), Fail> {
+    let map = read(rt, text);
+    let starts = LineStarts::new(rt.alloc(), &map).expect(rt, text);
+    for &line in &[0, 1, 2, 7, 8, 9, 2147483647] {
+        for column in 0..12 {
+            is_found_by_table(rt, &map, &starts, line, column)?;
+        }
+    }
+    Ok(())
+}
+
+#[test]
+fn the_table_of_lines_finds_what_a_scan_finds(rt: HostRuntime) -> Result<(), Fail> {
+    let crowded = crowded(rt.alloc(), 10)?;
+    for &text in &[EMPTY, UNMAPPED, TIES, SECTIONS, FAR, crowded.as_str()] {
+        are_found_by_table(&rt, text)?;
+    }
+    Ok(())
+}
+
+/// Asserts the index of the mapping for a position of line 0.
+fn is_at(rt: &(impl Abort + AllocGlobal), text: &str, column: u32, index: Option<usize>) {
+    let map = read(rt, text);
+    let (found, _probes) = find(&map, 0, column);
+    equal(rt, (text, column), found, index);
+}
+
+#[test]
+fn the_last_of_several_mappings_at_a_position_is_found(rt: HostRuntime) -> Result<(), Fail> {
+    let crowded = crowded(rt.alloc(), 10)?;
+    for &(text, column, index) in &[
+        (EMPTY, 0, None),
+        (TIES, 0, Some(1)),
+        (TIES, 1, Some(1)),
+        (SECTIONS, 9, Some(0)),
+        (FAR, 0, None),
+        (crowded.as_str(), 0, Some(2)),
+        (crowded.as_str(), 1, Some(5)),
+        (crowded.as_str(), 2, Some(8)),
+        (crowded.as_str(), 3, Some(9)),
+        (crowded.as_str(), 2147483647, Some(9)),
+    ] {
+        is_at(&rt, text, column, index);
     }
     Ok(())
 }

@@ -4,7 +4,7 @@ ghost use Rattle.std.specs.Prelude.{◌<◌};
 use crate::reading::read;
 use smap_io::Device;
 use smap_record::SourceMap;
-use smap_testing::{SlowReader, SlowWriter, WatchedWriter, WatchingReader};
+use smap_testing::{SlowReader, SlowWriter, WatchedWriter, WatchingReader, equal, holds};
 use smap_trace::{Counts, TraceError, translate};
 use std::alloc::{AllocError, Global};
 use std::cell::Cell;
@@ -123,14 +123,10 @@ fn is_told(rt: &(impl Abort + AllocGlobal), map: &SourceMap, case: Case<'_>, ste
     let reader = SlowReader::new(case.trace.as_bytes(), step, 0);
     let writer = SlowWriter::new(rt.alloc(), step, 0);
     let (answer, _reader, writer) = run(rt.alloc(), map, case.hide, reader, writer);
-    assert_eq!(rt; answer, Ok(case.counts), "{step} bytes a call");
-    assert_eq!(rt;
-        writer.bytes.as_slice(),
-        case.written.as_bytes(),
-        "{step} bytes a call"
-    );
-    assert_eq!(rt; writer.flushes, 1, "{step} bytes a call");
-    assert!(rt; !writer.written_after_flush, "{step} bytes a call");
+    equal(rt, step, answer, Ok(case.counts));
+    equal(rt, step, writer.bytes.as_slice(), case.written.as_bytes());
+    equal(rt, step, writer.flushes, 1);
+    holds(rt, step, !writer.written_after_flush);
 }
 
 /// Asserts what comes of a case, with few bytes a call and with many.
@@ -146,7 +142,7 @@ fn the_worked_trace_is_told_with_its_counts(rt: HostRuntime) -> Result<(), Fail>
     let texts = worked(rt.alloc())?;
     let trace = texts.trace.as_str();
     let told = texts.told.as_str();
-    for (map, hide, trace, written, counts) in [
+    for &(map, hide, trace, written, counts) in &[
         (MAP, false, trace, told, TOLD),
         (MAP, true, trace, told, TOLD),
         (IGNORED, false, trace, told, TOLD),
@@ -178,9 +174,9 @@ fn ends_with_read(rt: &(impl Abort + AllocGlobal), map: &SourceMap, trace: &[u8]
     let reader = SlowReader::new(trace, 50, k);
     let writer = SlowWriter::new(rt.alloc(), 50, 0);
     let (answer, reader, writer) = run(rt.alloc(), map, false, reader, writer);
-    assert_eq!(rt; answer, Err(TraceError::Read), "read {k}");
-    assert_eq!(rt; reader.calls, k, "read {k}");
-    assert_eq!(rt; writer.flushes, 0, "read {k}");
+    equal(rt, ("read", k), answer, Err(TraceError::Read));
+    equal(rt, ("read", k), reader.calls, k);
+    equal(rt, ("read", k), writer.flushes, 0);
 }
 
 /// Asserts that a translation ends with the k-th write if that fails, and what it wrote before is right.
@@ -188,11 +184,12 @@ fn ends_with_write(rt: &(impl Abort + AllocGlobal), map: &SourceMap, texts: &Tex
     let reader = SlowReader::new(texts.trace.as_bytes(), 50, 0);
     let writer = SlowWriter::new(rt.alloc(), 50, k);
     let (answer, _reader, writer) = run(rt.alloc(), map, false, reader, writer);
-    assert_eq!(rt; answer, Err(TraceError::Write), "write {k}");
-    assert_eq!(rt; writer.calls, k, "write {k}");
-    assert!(rt;
+    equal(rt, ("write", k), answer, Err(TraceError::Write));
+    equal(rt, ("write", k), writer.calls, k);
+    holds(
+        rt,
+        ("write", k),
         texts.told.as_bytes().starts_with(&writer.bytes),
-        "write {k}"
     );
 }
 
@@ -201,8 +198,8 @@ fn ends_if_nothing_is_taken(rt: &(impl Abort + AllocGlobal), map: &SourceMap, tr
     let reader = SlowReader::new(trace, 50, 0);
     let writer = SlowWriter::new(rt.alloc(), 0, 0);
     let (answer, _reader, writer) = run(rt.alloc(), map, false, reader, writer);
-    assert_eq!(rt; answer, Err(TraceError::Write));
-    assert_eq!(rt; writer.calls, 1);
+    equal(rt, "answer", answer, Err(TraceError::Write));
+    equal(rt, "calls", writer.calls, 1);
 }
 
 #[test]
@@ -211,7 +208,7 @@ fn a_call_that_fails_gives_the_trace_up(rt: HostRuntime) -> Result<(), Fail> {
     let trace = texts.trace.as_bytes();
     let map = read(&rt, MAP);
     let (reads, writes) = calls(rt.alloc(), &map, trace);
-    assert_eq!(rt; reads, trace.len().div_ceil(50) as u64 + 1);
+    equal(&rt, "reads", reads, trace.len().div_ceil(50) as u64 + 1);
     for k in 1..reads.saturating_add(1) {
         ends_with_read(&rt, &map, trace, k);
     }
@@ -234,10 +231,10 @@ fn is_told_by_pieces(rt: &(impl Abort + AllocGlobal), trace: &str) {
         translated: 10000,
         dropped: 0,
     };
-    assert_eq!(rt; answer, Ok(counts));
-    assert_eq!(rt; reader.calls, pieces as u64 + 1);
-    assert_eq!(rt; writer.calls, pieces as u64 + 1);
-    assert_eq!(rt; writer.flushes, 1);
+    equal(rt, "answer", answer, Ok(counts));
+    equal(rt, "calls", reader.calls, pieces as u64 + 1);
+    equal(rt, "calls", writer.calls, pieces as u64 + 1);
+    equal(rt, "flushes", writer.flushes, 1);
 }
 
 #[test]
@@ -271,12 +268,14 @@ fn complete_lines_are_written_before_the_next_read(rt: HostRuntime) -> Result<()
         false,
         &mut writer,
     );
-    assert!(rt; answer.is_ok());
+    holds(&rt, "answer", answer.is_ok());
     let seen = reader.into_inner().seen;
-    assert_eq!(rt; seen.as_slice(), [0, 9, 41, 50, 50].as_slice());
-    assert_eq!(rt;
+    equal(&rt, "seen", seen.as_slice(), [0, 9, 41, 50, 50].as_slice());
+    equal(
+        &rt,
+        "bytes",
         writer.into_inner().bytes.as_slice(),
-        b"Error: x\n    at f (http://h/m/a.js:11:3)\n    at g\nx".as_slice()
+        b"Error: x\n    at f (http://h/m/a.js:11:3)\n    at g\nx".as_slice(),
     );
     Ok(())
 }
@@ -292,9 +291,13 @@ fn are_two_lines(rt: &(impl Abort + AllocGlobal), trace: &[u8]) {
         translated: 1,
         dropped: 0,
     };
-    assert_eq!(rt; answer, Ok(counts));
-    assert!(rt; writer.bytes.starts_with(b"@http://h/m/a.js:11:3\n@@"));
-    assert_eq!(rt; writer.bytes.len(), 1000022);
+    equal(rt, "answer", answer, Ok(counts));
+    holds(
+        rt,
+        "the long line",
+        writer.bytes.starts_with(b"@http://h/m/a.js:11:3\n@@"),
+    );
+    equal(rt, "bytes", writer.bytes.len(), 1000022);
 }
 
 #[test]
