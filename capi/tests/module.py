@@ -65,6 +65,11 @@ class ModuleTest(unittest.TestCase):
             self.assertEqual(rooted.written_sources(), [("a.js", "../r"), (None, "../r")])
             self.assertEqual(rooted.url(0), "http://h/r/a.js")
 
+    def test_an_index_is_that_of_the_mapping_found(self):
+        self.assertEqual([self.map.index_at(0, 3), self.map.index_at(0, 4), self.map.index_at(1, 9)], [0, 1, 3])
+        self.assertIsNone(self.map.index_at(2, 0))
+        self.assertIsNone(self.map.index_at(-1, 0))
+
     def test_a_fault_has_its_fields(self):
         with self.assertRaises(smap.Refused) as raised:
             section = b'{"offset":{"line":0,"column":0},"map":' + TEXT[:-2] + b',"}}'
