@@ -199,6 +199,10 @@ typedef struct smap_mapping {
  * (smap_open), and no memory is taken. OK, NONE, CLOSED. */
 uint32_t smap_lookup(smap_map *map, uint32_t line, uint32_t column, smap_mapping *out);
 
+/* OK: *out is the number of the mapping that smap_lookup finds there, for smap_token and smap_listed_token.
+ * NONE, CLOSED. */
+uint32_t smap_find(smap_map *map, uint32_t line, uint32_t column, size_t *out);
+
 /* Copies the name that the mapping there has. OK; NONE: there is no mapping, or it has no name; CLOSED. */
 uint32_t smap_name_at(smap_map *map, uint32_t line, uint32_t column, char *out, size_t room, size_t *len);
 

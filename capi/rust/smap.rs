@@ -125,6 +125,7 @@ unsafe extern "C" {
     fn smap_held(map: Owned, out: Len) -> u32;
     fn smap_file(map: Owned, out: Out, room: usize, len: Len) -> u32;
     fn smap_lookup(map: Owned, line: u32, column: u32, out: *mut RawMapping) -> u32;
+    fn smap_find(map: Owned, line: u32, column: u32, out: Len) -> u32;
     fn smap_name_at(map: Owned, line: u32, column: u32, out: Out, room: usize, len: Len) -> u32;
     fn smap_token(map: Owned, i: usize, out: *mut RawMapping) -> u32;
     fn smap_source_url(map: Owned, source: usize, out: Out, room: usize, len: Len) -> u32;
@@ -464,6 +465,13 @@ impl Map {
         let mut m = RawMapping::default();
         let code = unsafe { smap_lookup(self.0.get(), line, column, &mut m) };
         (code == OK).then(|| m.into())
+    }
+
+    /// The number of that mapping, for `mapping` and `listed_mapping`.
+    pub fn index_at(&self, line: u32, column: u32) -> Option<usize> {
+        let mut out = 0;
+        let code = unsafe { smap_find(self.0.get(), line, column, &mut out) };
+        (code == OK).then_some(out)
     }
 
     /// The i-th mapping, in order of line and column.

@@ -1,4 +1,4 @@
-/* smap_held is right within a quarter for maps of several shapes: compared with the blocks that malloc gave and
+/* smap_held is right within a quarter for maps of several shapes: it is compared with the blocks of malloc
  * that are held while the map is open. Link it with -Wl,--wrap=malloc,--wrap=realloc,--wrap=free. */
 #define _DEFAULT_SOURCE
 #include "maps.h"

@@ -15,6 +15,7 @@ static void closed_handles(void)
     uint32_t outcome;
     CHECK(open_text(&open, text, NULL) == SMAP_OK);
     CHECK(smap_lookup(&closed, 0, 0, &m) == SMAP_CLOSED);
+    CHECK(smap_find(&closed, 0, 0, &number) == SMAP_CLOSED);
     CHECK(smap_token(&closed, 0, &m) == SMAP_CLOSED);
     CHECK(smap_listed_token(&closed, 0, &listed) == SMAP_CLOSED);
     CHECK(smap_listed_source(&closed, 0, &number) == SMAP_CLOSED);
@@ -78,7 +79,7 @@ static void numbers(smap_map *map)
     CHECK(smap_count(map, &counts) == SMAP_OK);
     CHECK(counts.sources == 3 && counts.listed_sources == 4 && counts.names == 3);
     CHECK(counts.mappings == 4 && counts.lines == 2);
-    /* the map and "out.js", three sources with two URLs of 15 bytes and "x", four listed, three names of one */
+    /* the map and "out.js", three sources with two URLs of 15 bytes and "x", four listed, three names */
     CHECK(smap_held(map, &n) == SMAP_OK);
     CHECK(n == 1024 + 6 + (3 * 144 + 2 * 15 + 1) + 4 * 8 + 3 * (48 + 1) + 4 * 32);
     CHECK(smap_token(map, 4, &m) == SMAP_RANGE && smap_token(map, SIZE_MAX, &m) == SMAP_RANGE && m.line == 0);
@@ -100,6 +101,9 @@ static void numbers(smap_map *map)
     CHECK(smap_is_ignored(map, 3, &flag) == SMAP_RANGE);
     CHECK(smap_lookup(map, 0, 4, &m) == SMAP_OK && m.column == 4 && m.source_line == 12 && !m.has_name);
     CHECK(smap_lookup(map, UINT32_MAX, UINT32_MAX, &m) == SMAP_NONE);
+    CHECK(smap_find(map, 0, 3, &n) == SMAP_OK && n == 0 && smap_find(map, 0, 4, &n) == SMAP_OK && n == 1);
+    CHECK(smap_find(map, 1, UINT32_MAX, &n) == SMAP_OK && n == 3);
+    CHECK(smap_find(map, UINT32_MAX, 0, &n) == SMAP_NONE && n == 3);
     CHECK(smap_lookup(map, 1, UINT32_MAX, &m) == SMAP_OK && !m.has_source);
     CHECK(smap_name_at(map, 0, 4, NULL, 0, NULL) == SMAP_NONE);
 }

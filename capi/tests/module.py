@@ -53,7 +53,7 @@ class ModuleTest(unittest.TestCase):
             self.map.source(3)
         self.assertEqual([m.column for m in self.map.mappings()], [0, 4, 0, 2])
         self.assertEqual((self.map.file(), self.map.counts().names), ("out.js", 1))
-        # the map and "out.js", three sources with two URLs of 15 bytes and a text of 3, "f", four mappings
+        # the map and "out.js", three sources with two URLs of 15 bytes and a text of 3, "f", mappings
         held = 1024 + 6 + (3 * 144 + 2 * 15 + 3) + 3 * 8 + (48 + 1) + 4 * 32
         self.assertEqual(self.map.held(), held)
 
@@ -64,6 +64,11 @@ class ModuleTest(unittest.TestCase):
         ) as rooted:
             self.assertEqual(rooted.written_sources(), [("a.js", "../r"), (None, "../r")])
             self.assertEqual(rooted.url(0), "http://h/r/a.js")
+
+    def test_an_index_is_that_of_the_mapping_found(self):
+        self.assertEqual([self.map.index_at(0, 3), self.map.index_at(0, 4), self.map.index_at(1, 9)], [0, 1, 3])
+        self.assertIsNone(self.map.index_at(2, 0))
+        self.assertIsNone(self.map.index_at(-1, 0))
 
     def test_a_fault_has_its_fields(self):
         with self.assertRaises(smap.Refused) as raised:

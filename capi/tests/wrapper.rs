@@ -33,6 +33,7 @@ fn fields() -> Result<(), Error> {
         let (source, has_name) = (source.map(|it| it.0), name.is_some());
         let place = Mapping { line, column, source, source_line, source_column, has_name, is_ignored };
         assert_eq!((map.mapping(i), map.lookup(line, column + 1)), (Some(place), Some(place)));
+        assert_eq!(map.index_at(line, column + 1), Some(i));
         let listed = ListedMapping { line, column, source: listed_source, source_line, source_column, name };
         assert_eq!(map.listed_mapping(i), Some(listed));
     }

@@ -133,6 +133,7 @@ def declare(lib: ctypes.CDLL) -> ctypes.CDLL:
         ("held", u32, handle, n),
         ("file", u32, handle, *text, n),
         ("lookup", u32, handle, u32, u32, POINTER(MappingStruct)),
+        ("find", u32, handle, u32, u32, n),
         ("name_at", u32, handle, u32, u32, *text, n),
         ("token", u32, handle, size, POINTER(MappingStruct)),
         ("source_url", u32, handle, size, *text, n),

@@ -177,6 +177,17 @@ class Map:
         check(code)
         return self._mapping(m)
 
+    def index_at(self, line: int, column: int) -> Optional[int]:
+        """The number of the mapping that a generated position falls to, in the order of `mappings`."""
+        if not (0 <= line <= LARGEST and 0 <= column <= LARGEST):
+            return None
+        i = c_size_t()
+        code = lib.smap_find(byref(self._handle), line, column, byref(i))
+        if code == NONE:
+            return None
+        check(code)
+        return i.value
+
     @staticmethod
     def _mapping(m: MappingStruct) -> Mapping:
         source = m.source if m.has_source else None

@@ -2,7 +2,6 @@
 use Rattle.std.proofs.Common.{◌≡◌, ℕ, List, Option, Result, Ok, Err, IfOk, inr, subst, ap, refl}
 use Rattle.std.specs.Global.{Vec}
 use Rattle.std.specs.declared.alloc.AllocError.{AllocError}
-use Rattle.smap_c.specs.declared.bytes.Written.{Written}
 use Rattle.smap_c.specs.Bytes.{Puts, Writes, respelled, respelling, RespellsAs}
 use Rattle.smap_mappings.specs.declared.token.Token.{Token}
 use Rattle.smap_mappings.specs.Limits.{widest}
@@ -18,7 +17,7 @@ use Rattle.smap_c.specs.declared.faults.SmapFault.{SmapFault}
 
 -- ---- what was put into a handle, where the answer is known
 
-pub put_told : (text : List ℕ) (answer : Result (Vec ℕ) AllocError) (old new : Option Written) (code : ℕ)
+pub put_told : (text : List ℕ) (answer : Result (Vec ℕ) AllocError) (old new : Option (Vec ℕ)) (code : ℕ)
     → IfOk answer (λ v. v.items ≡ text) → Puts answer old new code → Writes text old new code
 put_told text (Ok v) old new code h p = subst (λ (t : List ℕ). Writes t old new code) h p
 put_told text (Err e) old new code h p = inr p
@@ -41,7 +40,7 @@ says_fault text place p kind k fault said same_place same_kind is =
     rw (is, same_place, same_kind) (says text (Err (place, kind)) said)
 
 -- where memory runs out, that may stand for any answer
-pub no_memory : (said : Checked (List ℕ)) (old : Option Written) (before : SmapFault)
+pub no_memory : (said : Checked (List ℕ)) (old : Option (Vec ℕ)) (before : SmapFault)
     → RespellsAs said old old before before MEMORY
 no_memory (Ok text) old before = (inr (refl, refl), refl)
 no_memory (Err fault) old before = (inr (refl, refl), refl)

@@ -1,7 +1,7 @@
 -- What handles hold.
-use Rattle.std.specs.Prelude.{Bool, true, false, List, Option, Some, None}
+use Rattle.std.specs.Prelude.{ℕ, Bool, true, false, List, Option, Some, None}
+use Rattle.std.specs.Global.{Vec}
 use Rattle.smap_trace.specs.Translation.{Script}
-use Rattle.smap_c.specs.declared.bytes.Written.{Written}
 use Rattle.smap_c.specs.declared.handles.Held.{Held}
 use Rattle.smap_c.specs.declared.handles.Held.TheVariants as held
 use Rattle.smap_c.specs.declared.opened.Opened.{Opened}
@@ -13,7 +13,7 @@ is_map (held.Map s) = true
 is_map h = false
 
 abbrev pub is_bytes : Held → Bool
-is_bytes (held.Bytes w) = true
+is_bytes (held.Bytes v) = true
 is_bytes h = false
 
 abbrev pub is_scripts : Held → Bool
@@ -32,8 +32,8 @@ abbrev pub held_map : Option Held → Option Opened
 held_map (Some (held.Map s)) = Some s.arc.value
 held_map h = None
 
-abbrev pub held_bytes : Option Held → Option Written
-held_bytes (Some (held.Bytes w)) = Some w
+abbrev pub held_bytes : Option Held → Option (Vec ℕ)
+held_bytes (Some (held.Bytes v)) = Some v
 held_bytes h = None
 
 abbrev pub held_scripts : Option Held → Option (List Script)

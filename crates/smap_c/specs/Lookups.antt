@@ -6,7 +6,7 @@ use Rattle.smap_record.specs.declared.view.TokenView.{TokenView}
 use Rattle.smap_record.specs.declared.view.OriginalView.{OriginalView}
 use Rattle.smap_record.specs.Record.{Record, ReadMap, record_of, Mapping}
 use Rattle.smap_record.specs.Views.{entry_of_view, mapping_of_view}
-use Rattle.smap_trace.specs.Lookup.{FallsTo}
+use Rattle.smap_trace.specs.Lookup.{FallsTo, FallsToIndex}
 use Rattle.smap_c.specs.declared.lookups.SmapMapping.{SmapMapping}
 use Rattle.smap_c.specs.declared.opened.Opened.{Opened}
 use Rattle.smap_c.specs.Strings.{TextTold, ClosedTold}
@@ -57,6 +57,21 @@ Finds m line column before after code = (t : Option TokenView)
 abbrev pub LooksUp : Option Opened → ℕ → ℕ → SmapMapping → SmapMapping → ℕ → Type 0
 LooksUp None line column before after code = (code ≡ codes.CLOSED) × (after ≡ before)
 LooksUp (Some o) line column before after code = Finds o.map line column before after code
+
+-- the code, and the index
+abbrev pub IsIndexTold : Option ℕ → ℕ → ℕ → ℕ → Type 0
+IsIndexTold None before after code = (code ≡ codes.NONE) × (after ≡ before)
+IsIndexTold (Some i) before after code = (code ≡ codes.OK) × (after ≡ i)
+
+-- The index of the mapping that the position falls to.
+abbrev pub FindsIndex : ReadMap → ℕ → ℕ → ℕ → ℕ → ℕ → Type 0
+FindsIndex m line column before after code = (i : Option ℕ)
+    × FallsToIndex (record_of m).mappings line column i × IsIndexTold i before after code
+
+-- The same of a handle.
+abbrev pub LooksUpIndex : Option Opened → ℕ → ℕ → ℕ → ℕ → ℕ → Type 0
+LooksUpIndex None line column before after code = (code ≡ codes.CLOSED) × (after ≡ before)
+LooksUpIndex (Some o) line column before after code = FindsIndex o.map line column before after code
 
 -- ---- one mapping, by its number
 

@@ -1,5 +1,6 @@
 -- What the calls on scripts come to.
 use Rattle.std.specs.Prelude.{◌≡◌, ◌⊎◌, ℕ, List, [], ◌∷◌, bytes_eq, IsUtf8, Option, Some, None, if◌then◌else◌}
+use Rattle.std.specs.Global.{Vec}
 use Rattle.smap_record.specs.Record.{Record, record_of}
 use Rattle.smap_trace.specs.Translation.{Fate, Script, translation_by}
 use Rattle.smap_trace.specs.Views.{counts_by}
@@ -8,7 +9,6 @@ use Rattle.smap_c.specs.Bytes.{Holds}
 use Rattle.smap_c.specs.Traces.{fates}
 use Rattle.smap_c.specs.declared.opened.Opened.{Opened}
 use Rattle.smap_c.specs.declared.scripts.SmapTraceCounts.{SmapTraceCounts}
-use Rattle.smap_c.specs.declared.bytes.Written.{Written}
 use Rattle.smap_c.specs.Codes as codes
 
 -- the scripts with this one: in place of one with the same URL, or else after the others
@@ -45,14 +45,14 @@ abbrev pub told_trace : (List ℕ → Fate) → List ℕ → List ℕ × Counts
 told_trace fates_of trace = (translation_by fates_of trace, counts_by fates_of trace)
 
 -- The handle has the text, with its counts; or memory ran out, and both are as they were.
-abbrev pub TranslatesInto : List ℕ × Counts → Option Written → Option Written → SmapTraceCounts
+abbrev pub TranslatesInto : List ℕ × Counts → Option (Vec ℕ) → Option (Vec ℕ) → SmapTraceCounts
     → SmapTraceCounts → ℕ → Type 0
 TranslatesInto told old new before after code =
     ((code ≡ codes.OK) × Holds told.0 new × (after ≡ told_counts told.1))
     ⊎ ((code ≡ codes.MEMORY) × (new ≡ old) × (after ≡ before))
 
 -- The translation by the handle's scripts.
-abbrev pub TranslatesBy : Option (List Script) → List ℕ → ℕ → Option Written → Option Written
+abbrev pub TranslatesBy : Option (List Script) → List ℕ → ℕ → Option (Vec ℕ) → Option (Vec ℕ)
     → SmapTraceCounts → SmapTraceCounts → ℕ → Type 0
 TranslatesBy None trace how old new before after code =
     (code ≡ codes.CLOSED) × (new ≡ old) × (after ≡ before)

@@ -21,12 +21,6 @@ use smap_record::{Fault, ReadError, SourceMap};
 use std::alloc::Global;
 use std::mem;
 
-/// The bytes of an answer.
-#[derive(Drop)]
-pub struct Written {
-    pub bytes: Vec<u8>,
-}
-
 /// Where bytes lie, and how many there are: there they stay until the handle is closed or written into.
 #[unsafe(no_mangle)]
 pub extern "C" fn smap_bytes_data(
@@ -42,8 +36,8 @@ pub extern "C" fn smap_bytes_data(
     match mem::replace(bytes, SmapBytes::closed(alloc)).into_box() {
         None => CLOSED,
         Some(held) => {
-            *at = held.written().bytes.as_ptr();
-            *len = held.written().bytes.len();
+            *at = held.bytes().as_ptr();
+            *len = held.bytes().len();
             *bytes = SmapBytes::of(held);
             OK
         }
@@ -64,7 +58,7 @@ pub extern "C" fn smap_bytes_copy(
     match mem::replace(bytes, SmapBytes::closed(alloc)).into_box() {
         None => 0,
         Some(held) => {
-            let text = held.written().bytes.as_slice();
+            let text = held.bytes().as_slice();
             let len = text.len();
             if from <= len {
                 copy_out(&text[from..], out);
@@ -90,7 +84,7 @@ fn put(alloc: Global, answer: Result<Vec<u8>, Memory>, out: &mut SmapBytes) -> u
     let Ok(bytes) = answer else {
         return MEMORY;
     };
-    match Held::Bytes(Written { bytes }).boxed(alloc) {
+    match Held::Bytes(bytes).boxed(alloc) {
         Ok(held) => {
             *out = SmapBytes::of(held);
             OK

@@ -6,7 +6,6 @@ ghost use Rattle.smap_c.specs.Handles.{held_bytes, held_map, held_scripts, is_by
 ghost use Rattle.smap_c.specs.Handles.{is_none_or};
 ghost use Rattle.smap_c.specs.declared.handles.Held.{Held};
 
-use crate::bytes::Written;
 use crate::maps::Shared;
 use crate::opened::Opened;
 use crate::scripts::Scripts;
@@ -18,7 +17,7 @@ use std::marker::Model;
 #[derive(Drop)]
 pub enum Held {
     Map(Shared),
-    Bytes(Written),
+    Bytes(Vec<u8>),
     Scripts(Scripts),
 }
 
@@ -53,12 +52,12 @@ impl Held {
     }
 
     /// The bytes.
-    pub(crate) fn written(&self) -> &Written
+    pub(crate) fn bytes(&self) -> &Vec<u8>
         requires { IsTrue (is_bytes self.now) }
         ensures { held_bytes (Some self.now) ≡ Some result.now }
     {
         match self {
-            Held::Bytes(written) => written,
+            Held::Bytes(bytes) => bytes,
             Held::Map(_) | Held::Scripts(_) => unreachable!(),
         }
     }
@@ -102,8 +101,8 @@ impl<T: Drop, A: Allocator> Loose<T, A> {
     }
 }
 
-/// Owns one in a box, or nothing, through a pointer that C carries. Dropping it forgets what it owns, so it is
-/// dropped only when it owns nothing.
+/// Owns one in a box, or nothing, through a pointer that C carries. Dropping it forgets what it owns, so that
+/// happens only when it owns nothing.
 #[repr(C)]
 #[derive(Drop)]
 pub struct Owner {

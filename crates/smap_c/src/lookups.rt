@@ -1,6 +1,7 @@
 //! Lookups, and mappings by their numbers.
 ghost use Rattle.std.specs.Prelude.{◌≡◌, Some, None};
-ghost use Rattle.smap_c.specs.Lookups.{told, Finds, LooksUp, NameTold, NameAt, TokenTold, Token};
+ghost use Rattle.smap_c.specs.Lookups.{told, Finds, FindsIndex, LooksUp, LooksUpIndex, NameTold, NameAt};
+ghost use Rattle.smap_c.specs.Lookups.{TokenTold, Token};
 ghost use Rattle.smap_c.specs.Handles.{held_map};
 
 use crate::codes::{CLOSED, NONE, OK, RANGE};
@@ -8,7 +9,7 @@ use crate::handles::SmapMap;
 use crate::opened::Opened;
 use crate::strings::tell;
 use smap_record::{SourceMap, TokenView};
-use smap_trace::lookup_in;
+use smap_trace::{find_in, lookup_in};
 use std::alloc::Global;
 use std::mem;
 
@@ -55,7 +56,7 @@ fn told(token: TokenView<'_>) -> SmapMapping
 }
 
 /// The mapping that a generated position falls to, or that there is none.
-fn find(opened: &Opened, line: u32, column: u32, out: &mut SmapMapping) -> u32
+fn find_mapping(opened: &Opened, line: u32, column: u32, out: &mut SmapMapping) -> u32
     ensures { Finds opened.now.map line column out.old out.new result }
 {
     let (found, _) = lookup_in(&opened.map, &opened.starts, line, column);
@@ -83,7 +84,42 @@ pub extern "C" fn smap_lookup(
     match mem::replace(map, SmapMap::closed(alloc)).into_box() {
         None => CLOSED,
         Some(held) => {
-            let code = find(held.opened(), line, column, out);
+            let code = find_mapping(held.opened(), line, column, out);
+            *map = SmapMap::of(held);
+            code
+        }
+    }
+}
+
+/// The number of the mapping that a generated position falls to, or that there is none.
+fn find_index(opened: &Opened, line: u32, column: u32, out: &mut usize) -> u32
+    ensures { FindsIndex opened.now.map line column out.old out.new result }
+{
+    match find_in(&opened.map, &opened.starts, line, column).0 {
+        Some(i) => {
+            *out = i;
+            OK
+        }
+        None => NONE,
+    }
+}
+
+/// The number of the mapping that a generated position falls to.
+#[unsafe(no_mangle)]
+pub extern "C" fn smap_find(
+    alloc: Global,
+    map: &mut SmapMap,
+    line: u32,
+    column: u32,
+    out: &mut usize,
+) -> u32
+    ensures found { LooksUpIndex (held_map map.old.owner.value) line column out.old out.new result }
+    ensures same { map.new.owner.value ≡ map.old.owner.value }
+{
+    match mem::replace(map, SmapMap::closed(alloc)).into_box() {
+        None => CLOSED,
+        Some(held) => {
+            let code = find_index(held.opened(), line, column, out);
             *map = SmapMap::of(held);
             code
         }

@@ -9,7 +9,6 @@ ghost use Rattle.smap_c.specs.Scripts.{TranslatesInto, TranslatesBy};
 ghost use Rattle.smap_c.specs.Handles.{held_bytes, held_map, held_scripts, is_scripts};
 ghost use Rattle.smap_c.specs.Traces.{fates};
 
-use crate::bytes::Written;
 use crate::codes::{CLOSED, MEMORY, NOT_URL, OK};
 use crate::handles::{Held, SmapBytes, SmapMap, SmapScripts};
 use crate::maps::Shared;
@@ -224,7 +223,7 @@ fn translate_into(
     let Ok((bytes, told)) = translated(alloc, scripts, trace, how) else {
         return MEMORY;
     };
-    let Ok(held) = Held::Bytes(Written { bytes }).boxed(alloc) else {
+    let Ok(held) = Held::Bytes(bytes).boxed(alloc) else {
         return MEMORY;
     };
     *out = SmapBytes::of(held);
