@@ -1,7 +1,7 @@
 -- Maps: the line of the last mapping, and what opening comes to where the map is refused.
 use Rattle.std.proofs.Common.{◌≡◌, ℕ, ◌-◌, suc, List, [], ◌∷◌, length, map, slice_get, Some, ap, subst, arith}
-use Rattle.std.proofs.Common.{◌+◌, ◌∙◌, Option, Err, refl, inl, inr, take}
-use Rattle.std.specs.Prelude.{sum_by}
+use Rattle.std.proofs.Common.{◌+◌, ◌∙◌, Option, None, Err, refl, inl, inr, take}
+use Rattle.std.specs.Prelude.{sum_by, option_map}
 use Rattle.std.proofs.lemmas.List.Sums.{sum_by_push}
 use Rattle.smap_mappings.specs.Text.{last_or}
 use Rattle.smap_record.specs.declared.fault.Fault.{Fault}
@@ -50,3 +50,9 @@ capped_next f xs i x so_far next before at is =
   where
     capped_plus : (a b : ℕ) → capped (capped a + capped b) ≡ capped (a + b)
     capped_plus a b = omega arith
+
+-- what a value is made of, by what it is mapped to
+pub mapped_from : {A B : Type 0} (f : A → B) (x : Option A) (y : B) → option_map f x ≡ Some y
+    → (a : A) × (x ≡ Some a) × (f a ≡ y)
+mapped_from f (Some a) y e = (a, refl, cc)
+mapped_from f None y e = absurd cc
