@@ -1,9 +1,8 @@
--- Maps: the line of the last mapping, and what opening comes to where the map is refused.
-use Rattle.std.proofs.Common.{◌≡◌, ℕ, ◌-◌, suc, List, [], ◌∷◌, length, map, slice_get, Some, ap, subst, arith}
-use Rattle.std.proofs.Common.{◌+◌, ◌∙◌, Option, Err, refl, inl, inr, take}
-use Rattle.std.specs.Prelude.{sum_by}
+-- Maps: what opening comes to where the map is refused, and how much memory a map takes.
+use Rattle.std.proofs.Common.{◌≡◌, ◌+◌, ◌∙◌, ℕ, List, Option, Some, None, Err, slice_get, take}
+use Rattle.std.proofs.Common.{ap, arith, refl, inl, inr}
+use Rattle.std.specs.Prelude.{sum_by, option_map}
 use Rattle.std.proofs.lemmas.List.Sums.{sum_by_push}
-use Rattle.smap_mappings.specs.Text.{last_or}
 use Rattle.smap_record.specs.declared.fault.Fault.{Fault}
 use Rattle.smap_c.specs.Faults.{TellsFault}
 use Rattle.smap_c.specs.Maps.{capped, Opens, OpensInto}
@@ -12,19 +11,6 @@ use Rattle.smap_c.specs.declared.maps.SmapLimits.{SmapLimits}
 use Rattle.smap_c.specs.declared.opened.Opened.{Opened}
 use Rattle.smap_c.specs.declared.maps.OpenFault.TheVariants as faults
 use Rattle.smap_c.proofs.ScriptLemmas.{take_next}
-
--- ---- the line of the last mapping
-
--- the last element, by its place
-pub last_at : {A : Type 0} (f : A → ℕ) (d : ℕ) (xs : List A) (x : A)
-    → slice_get xs (length xs - 1) ≡ Some x → last_or d (map f xs) ≡ f x
-last_at f d [] x e = absurd cc
-last_at f d (y ∷ []) x e =
-    let same : y ≡ x = cc in
-    ap f same
-last_at f d (y ∷ z ∷ zs) x e =
-    let place : length (y ∷ z ∷ zs) - 1 ≡ suc (length (z ∷ zs) - 1) = omega arith in
-    last_at f (f y) (z ∷ zs) x (subst (λ (i : ℕ). slice_get (y ∷ z ∷ zs) i ≡ Some x) place e)
 
 -- ---- what opening comes to where the map is refused
 
@@ -50,3 +36,9 @@ capped_next f xs i x so_far next before at is =
   where
     capped_plus : (a b : ℕ) → capped (capped a + capped b) ≡ capped (a + b)
     capped_plus a b = omega arith
+
+-- what a value is made of, by what it is mapped to
+pub mapped_from : {A B : Type 0} (f : A → B) (x : Option A) (y : B) → option_map f x ≡ Some y
+    → (a : A) × (x ≡ Some a) × (f a ≡ y)
+mapped_from f (Some a) y e = (a, refl, cc)
+mapped_from f None y e = absurd cc

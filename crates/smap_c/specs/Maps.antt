@@ -1,13 +1,14 @@
 -- What the calls that open, share, compare and count maps come to.
 use Rattle.std.specs.Prelude.{ℕ, ◌≤◌, ◌==◌, if◌then◌else◌, ◌≡◌, ◌⊎◌, List, Option, Some, None, Result, Ok}
-use Rattle.std.specs.Prelude.{◌+◌, ◌-◌, ◌*◌, ◌^◌, Err, IsErr, IsUtf8, ◌↔◌, Bool, IsTrue, length, map, min, sum_by}
+use Rattle.std.specs.Prelude.{◌+◌, ◌-◌, ◌*◌, ◌/◌, ◌^◌, nat_le, Err, IsErr, IsUtf8, ◌↔◌, Bool, IsTrue}
+use Rattle.std.specs.Prelude.{length, map, min, sum_by}
 use Rattle.smap_vlq.specs.Limits.{max_position}
 use Rattle.smap_mappings.specs.Limits.{max_lines}
 use Rattle.smap_record.specs.Record.{Allowed, Entry, record_of, ReadMap}
 use Rattle.url.specs.Parts.{Parts}
 use Rattle.url.specs.Parser.{parse_url}
 use Rattle.smap_record.specs.Reading.{reading}
-use Rattle.smap_record.specs.Written.{as_written, url_of}
+use Rattle.smap_record.specs.Written.{Spelling, as_written, url_of}
 use Rattle.smap_mappings.specs.Text.{line_count}
 use Rattle.smap_c.specs.declared.maps.SmapLimits.{SmapLimits}
 use Rattle.smap_c.specs.Faults.{fault_told}
@@ -125,6 +126,20 @@ abbrev pub memory_of : ReadMap → ℕ
 memory_of m = (1024 + text_memory m.file) + (sum_by source_memory (record_of m).sources
     + (sum_by name_memory m.listing.names + (8 * length m.listing.sources + 32 * length m.listing.tokens)))
 
+-- a source as it is written
+abbrev pub written_memory : Spelling → ℕ
+written_memory s = 48 + text_memory s.source
+
+-- the table of its lines, which has one more number than lines, or nothing for a map of few mappings
+abbrev pub table_memory : ReadMap → ℕ
+table_memory m =
+    if nat_le (line_count m.listing.tokens / 2) (length m.listing.tokens)
+    then 8 * (line_count m.listing.tokens + 1) else 0
+
+-- a map with its sources as they are written and the table of its lines
+abbrev pub memory_with : Opened → ℕ
+memory_with o = memory_of o.map + (sum_by written_memory o.written + table_memory o.map)
+
 -- as much of it as a number of C takes
 abbrev pub capped : ℕ → ℕ
 capped n = min n (2 ^ 64 - 1)
@@ -132,7 +147,7 @@ capped n = min n (2 ^ 64 - 1)
 -- The memory of a handle's map.
 abbrev pub TakesMemory : Option Opened → ℕ → ℕ → ℕ → Type 0
 TakesMemory None before after code = (code ≡ codes.CLOSED) × (after ≡ before)
-TakesMemory (Some o) before after code = (code ≡ codes.OK) × (after ≡ capped (memory_of o.map))
+TakesMemory (Some o) before after code = (code ≡ codes.OK) × (after ≡ capped (memory_with o))
 
 -- ---- the name of the generated file
 

@@ -3,11 +3,10 @@ ghost use Rattle.std.specs.Prelude.{◌≡◌, ◌↔◌, IsSome, IfSome, IsTrue
 ghost use Rattle.std.specs.Prelude.{option_copied, sum_by};
 ghost use Rattle.smap_record.specs.Record.{record_of};
 ghost use Rattle.smap_record.specs.Views.{entry_of_view};
-ghost use Rattle.smap_mappings.specs.Text.{line_count};
 ghost use Rattle.smap_c.specs.Maps.{allowed, AreLimits, or_usual, Opens, OpensInto, Shares, Compares};
 ghost use Rattle.smap_c.specs.Maps.{counts_of, Counts, FileTold, File};
 ghost use Rattle.smap_c.specs.Maps.{capped, memory_of, name_memory, source_memory, text_memory};
-ghost use Rattle.smap_c.specs.Maps.{TakesMemory};
+ghost use Rattle.smap_c.specs.Maps.{memory_with, table_memory, written_memory, TakesMemory};
 ghost use Rattle.smap_c.specs.Faults.{IsWhole};
 ghost use Rattle.smap_c.specs.Handles.{held_map, is_map};
 
@@ -18,7 +17,9 @@ use crate::opened::Opened;
 use crate::strings::tell;
 use smap_canon::same;
 use smap_mappings::{MAX_LINES, Memory};
-use smap_record::{Base, BaseFault, Fault, Limits, ReadError, SourceMap, SourceView};
+use smap_record::{
+    Base, BaseFault, Fault, Limits, ReadError, SourceMap, SourceView, WrittenSources,
+};
 use std::alloc::Global;
 use std::sync::Arc;
 use std::{mem, str};
@@ -227,17 +228,6 @@ pub struct SmapCounts {
     pub lines: u32,
 }
 
-/// One more than the line of the last mapping, or 0 without one.
-fn line_count(map: &SourceMap) -> u32
-    ensures { result ≡ line_count map.now.listing.tokens }
-{
-    let count = map.token_count();
-    if count == 0 {
-        return 0;
-    }
-    map.listed_token(count - 1).line + 1
-}
-
 fn counts_of(map: &SourceMap) -> SmapCounts
     ensures { result ≡ counts_of map.now }
 {
@@ -246,7 +236,7 @@ fn counts_of(map: &SourceMap) -> SmapCounts
         listed_sources: map.listed_count(),
         names: map.name_count(),
         mappings: map.token_count(),
-        lines: line_count(map),
+        lines: map.line_count(),
     }
 }
 
@@ -279,6 +269,12 @@ const OF_NAME: usize = 48;
 const OF_LISTED_SOURCE: usize = 8;
 
 const OF_MAPPING: usize = 32;
+
+/// What a source as it is written takes besides its text.
+const OF_WRITTEN: usize = 48;
+
+/// A line of the table of lines is a number.
+const OF_LINE: usize = 8;
 
 fn text_memory(text: Option<&str>) -> usize
     ensures { result ≡ text_memory (option_copied text.entry) }
@@ -327,6 +323,35 @@ fn memory_of(map: &SourceMap) -> usize
     own.saturating_add(sources_memory(map).saturating_add(lists))
 }
 
+fn written_memory(written: &WrittenSources) -> usize
+    ensures { result ≡ capped (sum_by written_memory written.now) }
+{
+    let mut total: usize = 0;
+    for i in 0..written.len() {
+        let source = text_memory(written.source(i)).saturating_add(OF_WRITTEN);
+        total = total.saturating_add(source);
+    }
+    total
+}
+
+fn table_memory(map: &SourceMap) -> usize
+    ensures { result ≡ table_memory map.now }
+{
+    let lines = map.line_count() as usize;
+    if lines / 2 <= map.token_count() {
+        OF_LINE * (lines + 1)
+    } else {
+        0
+    }
+}
+
+fn memory_with(opened: &Opened) -> usize
+    ensures { result ≡ capped (memory_with opened.now) }
+{
+    let beside = written_memory(&opened.written).saturating_add(table_memory(&opened.map));
+    memory_of(&opened.map).saturating_add(beside)
+}
+
 /// About how many bytes of memory a map takes.
 #[unsafe(no_mangle)]
 pub extern "C" fn smap_held(alloc: Global, map: &mut SmapMap, out: &mut usize) -> u32
@@ -336,7 +361,7 @@ pub extern "C" fn smap_held(alloc: Global, map: &mut SmapMap, out: &mut usize) -
     match mem::replace(map, SmapMap::closed(alloc)).into_box() {
         None => CLOSED,
         Some(held) => {
-            *out = memory_of(&held.opened().map);
+            *out = memory_with(held.opened());
             *map = SmapMap::of(held);
             OK
         }
