@@ -5,7 +5,9 @@ use crate::maps::BASE;
 use smap_io::Device;
 use smap_mappings::Memory;
 use smap_record::{Base, Limits, ReadError, SourceMap};
-use smap_trace::{Finding, TraceError, distinct_scripts, translate, translate_line_by};
+use smap_trace::{
+    Finding, LineStarts, TraceError, distinct_scripts, find_in, translate, translate_line_by,
+};
 use std::alloc::Global;
 
 /// The worked trace, whose frames are of each kind.
@@ -30,6 +32,17 @@ fn map(alloc: Global, text: &[u8]) -> Result<Option<SourceMap>, Memory> {
         Err(ReadError::Refused(_)) => Ok(None),
         Err(ReadError::Memory) => Err(Memory),
     }
+}
+
+/// The index of the mapping for a position, by the table of the map's lines.
+pub(crate) fn by_table(alloc: Global, text: &[u8]) -> Answer {
+    let Some(map) = map(alloc, text)? else {
+        return said(alloc, b"refused");
+    };
+    let starts = LineStarts::new(alloc, &map)?;
+    let (found, _probes) = find_in(&map, &starts, 0, 5);
+    let shown = format!(in alloc; "{found:?}")?;
+    Ok(shown.into_bytes())
 }
 
 /// A line with two positions, of which the second is no frame's. It comes after bytes that have to stay
