@@ -3,11 +3,12 @@
 //
 //     node run.js NAME FOLDER
 //
-// NAME is `source-map` or `remapping`, and FOLDER has its sources, as scripts/peer-suites puts them there. What
-// differs on purpose is listed in differences.json with its reason: such a test has to fail with the error that
-// stands there, and any other one to pass. Only tests that ask the layer are counted. Before, all of them are
-// run over the package itself, and have to pass. The last line is 'N passed, M failed'. The status is 3, and the
-// line a reason, if the tests aren't those that the list is for, or need a package that isn't here.
+// NAME is `source-map` or `remapping`, and FOLDER has its sources, as scripts/peer-suites puts them there.
+// What differs on purpose is listed in differences.json with its reason: such a test has to fail with the
+// error that stands there, and any other one to pass. Only tests that ask the layer are counted. Before, all
+// of them are run over the package itself, and have to pass. The last line is 'N passed, M failed'. The
+// status is 3, and the line a reason, if the tests aren't those that the list is for, or need a package that
+// isn't here.
 const fs = require('node:fs');
 const Module = require('node:module');
 const path = require('node:path');
@@ -22,7 +23,10 @@ const SUITES = {
     needs: [],
   },
   remapping: {
-    layers: { '../../trace-mapping.js': /^@jridgewell\/trace-mapping$/, '../../source-map.js': /^source-map$/ },
+    layers: {
+      '../../trace-mapping.js': /^@jridgewell\/trace-mapping$/,
+      '../../source-map.js': /^source-map$/,
+    },
     load: loadTypeScript,
     needs: ['typescript', '@jridgewell/gen-mapping', '@jridgewell/trace-mapping', 'source-map'],
   },
@@ -116,7 +120,7 @@ async function resultsOf(tests) {
 
 async function runTheirs({ load }, folder) {
   const failures = (await resultsOf(load(folder))).filter(({ failure }) => failure);
-  for (const { name, failure } of failures) console.log(`FAILED over the package itself: ${name}: ${failure}`);
+  for (const { name, failure } of failures) console.log(`FAILED over the package: ${name}: ${failure}`);
   process.exitCode = failures.length ? 1 : 0;
 }
 
