@@ -8,8 +8,9 @@
 // module.SourceMap. For maps of three sizes, made by make_map.py, it prints a table: opening with the first
 // lookup, since others decode then, in a fresh process and in a warm one; lookups at random positions and at
 // rising ones; all mappings; and how much the process grows up to the first lookup. Each figure is the best
-// of N processes, 3 unless given. With --into the table is put between the two lines of that file that hold
-// `figures of node.js`. Time is processor time. Let nothing else run meanwhile.
+// of N processes, 3 unless given. A second table has the parts of opening the smallest map. With --into they
+// are put between the two lines of that file that hold `figures of node.js`, and `parts of node.js`. Time is
+// processor time. Let nothing else run meanwhile.
 const fs = require('node:fs');
 const os = require('node:os');
 const path = require('node:path');
@@ -25,7 +26,8 @@ const SIZES = [
 ];
 const BUDGET = 300; // milliseconds for a rate
 
-// ---- readers: how each opens a map, looks a position up (lines and columns from 0), and lists all mappings
+// ---- readers: how each opens a map, looks a position up (lines and columns from 0), lists all mappings, and
+// closes a map, where it has a call for that
 
 const ours = name => require(path.join(PACKAGE, name));
 
@@ -42,6 +44,7 @@ function sourceMap({ SourceMapConsumer }) {
     open: text => new SourceMapConsumer(text, URL_OF_MAP),
     lookup: (map, line, column) => map.originalPositionFor({ line: line + 1, column }),
     all: (map, call) => map.eachMapping(call),
+    close: map => map.destroy?.(),
   };
 }
 
@@ -52,6 +55,7 @@ const READERS = {
       open: (text, bytes) => new SourceMap(bytes, URL_OF_MAP),
       lookup: (map, line, column) => map.lookup(line, column),
       all: (map, call) => map.forEach(call),
+      close: map => map.close(),
     };
   },
   '`smap`, `table().find`': () => {
@@ -60,6 +64,7 @@ const READERS = {
       open: (text, bytes) => new SourceMap(bytes, URL_OF_MAP),
       lookup: (map, line, column) => map.table().find(line, column),
       all: map => map.table(),
+      close: map => map.close(),
     };
   },
   '`smap/trace-mapping`': () => traceMapping(ours('trace-mapping.js')),
@@ -98,12 +103,13 @@ function rate(call, positions) {
   return (count / took) * 1000;
 }
 
-function best(call) {
+function best(call, after = () => {}) {
   let least = Infinity;
   for (let took = 0, i = 0; i < 3 || took < BUDGET; i++) {
     const one = milliseconds(call);
     took += Math.max(one, 0.01);
     least = Math.min(least, one);
+    after();
   }
   return least;
 }
@@ -121,7 +127,7 @@ function positionsOf(lines, columns) {
 }
 
 function measure(name, file, lines, columns) {
-  const { open, lookup, all } = READERS[name]();
+  const { open, lookup, all, close = () => {} } = READERS[name]();
   const bytes = fs.readFileSync(file);
   const text = bytes.toString();
   const before = process.memoryUsage().rss;
@@ -134,9 +140,41 @@ function measure(name, file, lines, columns) {
   const look = (line, column) => lookup(map, line, column);
   const rates = [rate(look, random) / 1e6, rate(look, rising) / 1e6];
   let count = 0;
-  const again = best(openFirst);
   const mappings = all ? best(() => all(map, () => count++)) : null;
+  const again = best(openFirst, () => close(map));
   return { first, again, random: rates[0], rising: rates[1], mappings, memory };
+}
+
+// ---- the parts of opening a map, in microseconds, each the least of many
+
+function least(call) {
+  const nanoseconds = () => process.hrtime.bigint();
+  let found = Infinity;
+  for (let i = 0; i < 3000; i++) {
+    const from = nanoseconds();
+    for (let k = 0; k < 10; k++) call();
+    found = Math.min(found, Number(nanoseconds() - from) / 10_000);
+  }
+  return found;
+}
+
+function parts(file) {
+  const { SourceMap } = ours('index.js');
+  const bytes = fs.readFileSync(file);
+  const text = bytes.toString();
+  const empty = Buffer.from('{"version":3,"mappings":""}');
+  const opened = bytes => new SourceMap(bytes, URL_OF_MAP);
+  const withLookup = map => {
+    map.lookup(0, 0);
+    map.close();
+  };
+  return [
+    ['the string made bytes, where a string is given', least(() => Buffer.from(text))],
+    ['an empty map opened and closed: two calls, a handle, the URL', least(() => opened(empty).close())],
+    ['the map opened and closed', least(() => opened(bytes).close())],
+    ['the same with a lookup', least(() => withLookup(opened(bytes)))],
+    ['the map opened, and left to the collector', least(() => opened(bytes))],
+  ];
 }
 
 // ---- all of them
@@ -173,29 +211,31 @@ function isThere(name) {
   }
 }
 
-function table(runs) {
-  const folder = fs.mkdtempSync(path.join(os.tmpdir(), 'smap-bench-'));
+function table(runs, maps) {
   const lines = [
     '| map | reader | open, first / again (ms) | random lookups (million/s) | rising | all mappings (ms) |' +
       ' memory (MB) |',
     '|---|---|---|---|---|---|---|',
   ];
-  try {
-    const names = Object.keys(READERS).filter(isThere);
-    for (const map of SIZES.map(size => makeMap(folder, size))) {
-      for (const name of names) {
-        const [first, again, ...rest] = measured(name, map, runs).map(shown);
-        const columns = [`${map.name}, ${map.count} mappings`, name, `${first} / ${again}`, ...rest];
-        lines.push(`| ${columns.join(' | ')} |`);
-      }
+  const names = Object.keys(READERS).filter(isThere);
+  for (const map of maps) {
+    for (const name of names) {
+      const [first, again, ...rest] = measured(name, map, runs).map(shown);
+      const columns = [`${map.name}, ${map.count} mappings`, name, `${first} / ${again}`, ...rest];
+      lines.push(`| ${columns.join(' | ')} |`);
     }
-  } finally {
-    fs.rmSync(folder, { recursive: true });
   }
   const [{ model }, ...more] = os.cpus();
   const on = `Node ${process.versions.node} on ${more.length + 1} processors (${model})`;
   lines.push('', `Measured with ${on}, at a load of ${os.loadavg()[0].toFixed(1)} when it was done.`);
   return lines.join('\n');
+}
+
+function tableOfParts(map) {
+  const words = ['--expose-gc', __filename, '--parts', map.file];
+  const all = JSON.parse(execFileSync(process.execPath, words));
+  const lines = all.map(([part, took]) => `| ${part} | ${shown(took)} |`);
+  return [`| ${map.name}, ${map.count} mappings | µs |`, '|---|---|', ...lines].join('\n');
 }
 
 function putInto(file, mark, text) {
@@ -211,10 +251,25 @@ function main(words) {
     console.log(JSON.stringify(measure(words[1], words[2], +words[3], +words[4])));
     return;
   }
+  if (words[0] === '--parts') {
+    console.log(JSON.stringify(parts(words[1])));
+    return;
+  }
   const option = name => (words.includes(name) ? words[words.indexOf(name) + 1] : null);
-  const text = table(+(option('--runs') ?? 3));
-  console.log(text);
-  if (option('--into')) putInto(option('--into'), 'figures of node.js', text);
+  const folder = fs.mkdtempSync(path.join(os.tmpdir(), 'smap-bench-'));
+  try {
+    const maps = SIZES.map(size => makeMap(folder, size));
+    const all = {
+      'parts of node.js': tableOfParts(maps[0]),
+      'figures of node.js': table(+(option('--runs') ?? 3), maps),
+    };
+    for (const [mark, text] of Object.entries(all)) {
+      console.log(`${text}\n`);
+      if (option('--into')) putInto(option('--into'), mark, text);
+    }
+  } finally {
+    fs.rmSync(folder, { recursive: true });
+  }
 }
 
 main(process.argv.slice(2));
