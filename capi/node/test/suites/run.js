@@ -126,7 +126,8 @@ async function runTheirs({ load }, folder) {
 
 async function runOurs({ load, layers }, folder, differences) {
   replace(layers);
-  const results = (await resultsOf(load(folder))).filter(({ failure, hasAsked }) => failure || hasAsked);
+  const tests = load(folder);
+  const results = (await resultsOf(tests)).filter(({ failure, hasAsked }) => failure || hasAsked);
   const isWrong = ({ name, failure }) =>
     name in differences ? !failure?.message.includes(differences[name].error) : failure;
   const wrong = results.filter(isWrong);
@@ -136,7 +137,8 @@ async function runOurs({ load, layers }, folder, differences) {
   const lost = Object.keys(differences).filter(name => !results.some(result => result.name === name));
   for (const name of lost) console.log(`FAILED: ${name}: it is listed as differing, and isn't there`);
   const passed = results.filter(({ failure }) => !failure).length;
-  console.log(`${results.length} tests ask the layer, ${Object.keys(differences).length} differ as listed`);
+  const differ = Object.keys(differences).length;
+  console.log(`${results.length} of ${tests.size} tests ask the layer, ${differ} differ as listed`);
   console.log(`${passed} passed, ${wrong.length + lost.length} failed`);
   process.exitCode = wrong.length + lost.length ? 1 : 0;
 }
