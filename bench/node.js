@@ -63,7 +63,10 @@ const READERS = {
     return {
       open: (text, bytes) => new SourceMap(bytes, URL_OF_MAP),
       lookup: (map, line, column) => map.table().find(line, column),
-      all: map => map.table(),
+      all: (map, call) => {
+        const { length, column } = map.table();
+        for (let i = 0; i < length; i++) call(column[i]);
+      },
       close: map => map.close(),
     };
   },

@@ -9,7 +9,8 @@ const large = JSON.stringify({ version: 3, sources: ['a'], mappings: 'AAAA' + ',
 const turn = () => new Promise(setImmediate);
 const collects = { skip: global.gc ? false : 'no --expose-gc' };
 
-// How much the process grows from a third of the turns to the last, in MB.
+// How much the process grows from the second third of the turns to the last one, in MB: from the least that it
+// has in the one to the least in the other, since threads that free memory may be late.
 async function growth(turns, call) {
   const sizes = [];
   for (let i = 0; i < turns; i++) {
@@ -18,7 +19,8 @@ async function growth(turns, call) {
     await turn();
     sizes.push(process.memoryUsage().rss / 1e6);
   }
-  return sizes.at(-1) - sizes[Math.floor(turns / 3)];
+  const third = Math.floor(turns / 3);
+  return Math.min(...sizes.slice(-third)) - Math.min(...sizes.slice(third, 2 * third));
 }
 
 test('maps that are forgotten are freed', collects, async () => {
@@ -27,7 +29,7 @@ test('maps that are forgotten are freed', collects, async () => {
 });
 
 test('maps that are closed in a loop are freed, without the event loop', collects, async () => {
-  const grown = await growth(3, () => {
+  const grown = await growth(9, () => {
     for (let i = 0; i < 10; i++) {
       const map = new SourceMap(large, BASE);
       map.table();
