@@ -48,7 +48,7 @@ extern "C" {
 /* ---- the version */
 
 #define SMAP_VERSION_MAJOR 0
-#define SMAP_VERSION_MINOR 1
+#define SMAP_VERSION_MINOR 2
 #define SMAP_VERSION_PATCH 0
 
 /* The version of this header: two decimal digits each for the minor and the patch version. */
@@ -113,6 +113,10 @@ enum {
     SMAP_FAULT_NAME = 33             /* a name index is out of range */
 };
 
+/* Copies the name of a kind of error, as docs/OUTPUT.md has it, into `out`, such as "SourceUrl", and returns
+ * its length, or 0 if the number is no kind. */
+size_t smap_fault_name(uint32_t kind, char *out, size_t room);
+
 /* The first error of a map or of a mappings string. */
 typedef struct smap_fault {
     uint32_t kind;     /* SMAP_FAULT_.. */
@@ -142,7 +146,10 @@ typedef struct smap_limits {
 
 /* Reads a map, whose URL is `base`. The text may be freed afterwards. NULL for `limits` means the usual ones.
  * OK: `map` holds it. REFUSED: *fault says why (`fault` may be NULL). NOT_URL: the base is no absolute URL.
- * LIMITS: a limit is too large, whatever the base is. MEMORY. */
+ * LIMITS: a limit is too large, whatever the base is. MEMORY.
+ * Beside the map the handle keeps its sources as the text writes them, and a table of its lines, by which
+ * lookups are faster. The table takes at most 16 bytes for each mapping and 16 more, and nothing if the
+ * number of the last mapping's line is more than twice the number of mappings. */
 uint32_t smap_open(smap_map *map, const void *text, size_t len, const char *base, size_t base_len,
                    const smap_limits *limits, smap_fault *fault);
 
@@ -168,6 +175,11 @@ typedef struct smap_counts {
 /* OK, CLOSED. */
 uint32_t smap_count(smap_map *map, smap_counts *out);
 
+/* OK: *out is about how many bytes of memory the map takes, its strings and mappings included: what counts in
+ * a cache, for instance. Handles that share a map share them. The time grows with the numbers of sources and
+ * names, and no memory is taken. CLOSED. */
+uint32_t smap_held(smap_map *map, size_t *out);
+
 /* Copies the name of the generated file. OK; NONE: the map has none; CLOSED. */
 uint32_t smap_file(smap_map *map, char *out, size_t room, size_t *len);
 
@@ -183,7 +195,8 @@ typedef struct smap_mapping {
 } smap_mapping;
 
 /* The mapping for a generated position: the last one of the line whose column isn't greater. The time grows
- * with the logarithm of the number of mappings, and no memory is taken. OK, NONE, CLOSED. */
+ * with the logarithm of the number of mappings on that line, or of all mappings without a table of lines
+ * (smap_open), and no memory is taken. OK, NONE, CLOSED. */
 uint32_t smap_lookup(smap_map *map, uint32_t line, uint32_t column, smap_mapping *out);
 
 /* Copies the name that the mapping there has. OK; NONE: there is no mapping, or it has no name; CLOSED. */
@@ -216,6 +229,14 @@ typedef struct smap_listed_mapping {
 
 /* OK: *out is the number, among the distinct ones, of the i-th source in the list. RANGE, CLOSED. */
 uint32_t smap_listed_source(smap_map *map, size_t i, size_t *out);
+
+/* Copies the i-th source in the list as the text of the map writes it: not resolved, and without its
+ * `sourceRoot`. OK; NONE: it is null; RANGE; CLOSED. */
+uint32_t smap_written_source(smap_map *map, size_t i, char *out, size_t room, size_t *len);
+
+/* Copies the `sourceRoot` that applies to the i-th source in the list, which may be empty: in an index map
+ * that of the section's map. OK; NONE: there is none; RANGE; CLOSED. */
+uint32_t smap_written_root(smap_map *map, size_t i, char *out, size_t room, size_t *len);
 
 /* Copies the i-th name in the list. OK, RANGE, CLOSED. */
 uint32_t smap_listed_name(smap_map *map, size_t i, char *out, size_t room, size_t *len);
@@ -347,6 +368,12 @@ static inline size_t smap_code_name_(uint32_t code, char *out, size_t room)
     return smap_code_name(code, out ? out : &none, room);
 }
 
+static inline size_t smap_fault_name_(uint32_t kind, char *out, size_t room)
+{
+    char none;
+    return smap_fault_name(kind, out ? out : &none, room);
+}
+
 static inline uint32_t smap_file_(smap_map *map, char *out, size_t room, size_t *len)
 {
     char none;
@@ -374,6 +401,20 @@ static inline uint32_t smap_source_content_(smap_map *map, size_t source, char *
     char none;
     size_t unwanted;
     return smap_source_content(map, source, out ? out : &none, room, len ? len : &unwanted);
+}
+
+static inline uint32_t smap_written_source_(smap_map *map, size_t i, char *out, size_t room, size_t *len)
+{
+    char none;
+    size_t unwanted;
+    return smap_written_source(map, i, out ? out : &none, room, len ? len : &unwanted);
+}
+
+static inline uint32_t smap_written_root_(smap_map *map, size_t i, char *out, size_t room, size_t *len)
+{
+    char none;
+    size_t unwanted;
+    return smap_written_root(map, i, out ? out : &none, room, len ? len : &unwanted);
 }
 
 static inline uint32_t smap_listed_name_(smap_map *map, size_t i, char *out, size_t room, size_t *len)
@@ -427,10 +468,13 @@ static inline uint32_t smap_translate_(smap_scripts *scripts, const void *trace,
 
 #define smap_open smap_open_
 #define smap_code_name smap_code_name_
+#define smap_fault_name smap_fault_name_
 #define smap_file smap_file_
 #define smap_name_at smap_name_at_
 #define smap_source_url smap_source_url_
 #define smap_source_content smap_source_content_
+#define smap_written_source smap_written_source_
+#define smap_written_root smap_written_root_
 #define smap_listed_name smap_listed_name_
 #define smap_bytes_copy smap_bytes_copy_
 #define smap_respell smap_respell_

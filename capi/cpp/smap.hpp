@@ -42,6 +42,13 @@ inline std::string code_name(uint32_t code)
     return std::string(name, smap_code_name(code, name, sizeof name));
 }
 
+/* The name of a kind of error. */
+inline std::string fault_name(uint32_t kind)
+{
+    char name[64];
+    return std::string(name, smap_fault_name(kind, name, sizeof name));
+}
+
 /* The bytes as a string. */
 inline std::string text(Bytes &bytes)
 {
@@ -98,6 +105,22 @@ inline uint32_t source_content(Map &map, size_t source, std::string &out)
     return copied(
         [=](char *at, size_t n, size_t *len) { return smap_source_content(handle, source, at, n, len); },
         out);
+}
+
+/* The i-th source that the map lists, as its text writes it. */
+inline uint32_t written_source(Map &map, size_t i, std::string &out)
+{
+    smap_map *handle = map.handle();
+    return copied(
+        [=](char *at, size_t n, size_t *len) { return smap_written_source(handle, i, at, n, len); }, out);
+}
+
+/* The `sourceRoot` that applies to it. */
+inline uint32_t written_root(Map &map, size_t i, std::string &out)
+{
+    smap_map *handle = map.handle();
+    return copied(
+        [=](char *at, size_t n, size_t *len) { return smap_written_root(handle, i, at, n, len); }, out);
 }
 
 /* The i-th name that the map lists. */

@@ -113,6 +113,7 @@ type Len = *mut usize;
 unsafe extern "C" {
     fn smap_version() -> u32;
     fn smap_code_name(code: u32, out: Out, room: usize) -> usize;
+    fn smap_fault_name(kind: u32, out: Out, room: usize) -> usize;
     fn smap_open(
         map: Owned, text: Text, len: usize, base: Text, base_len: usize, limits: *const Limits,
         fault: *mut RawFault,
@@ -121,6 +122,7 @@ unsafe extern "C" {
     fn smap_share(map: Owned, other: Owned) -> u32;
     fn smap_same(one: Owned, other: Owned, out: *mut bool) -> u32;
     fn smap_count(map: Owned, out: *mut Counts) -> u32;
+    fn smap_held(map: Owned, out: Len) -> u32;
     fn smap_file(map: Owned, out: Out, room: usize, len: Len) -> u32;
     fn smap_lookup(map: Owned, line: u32, column: u32, out: *mut RawMapping) -> u32;
     fn smap_name_at(map: Owned, line: u32, column: u32, out: Out, room: usize, len: Len) -> u32;
@@ -129,6 +131,8 @@ unsafe extern "C" {
     fn smap_source_content(map: Owned, source: usize, out: Out, room: usize, len: Len) -> u32;
     fn smap_is_ignored(map: Owned, source: usize, out: *mut bool) -> u32;
     fn smap_listed_source(map: Owned, i: usize, out: Len) -> u32;
+    fn smap_written_source(map: Owned, i: usize, out: Out, room: usize, len: Len) -> u32;
+    fn smap_written_root(map: Owned, i: usize, out: Out, room: usize, len: Len) -> u32;
     fn smap_listed_name(map: Owned, i: usize, out: Out, room: usize, len: Len) -> u32;
     fn smap_listed_token(map: Owned, i: usize, out: *mut RawListed) -> u32;
     fn smap_canonical(map: Owned, out: Owned) -> u32;
@@ -171,6 +175,13 @@ pub struct Fault {
     pub words: String,
 }
 
+impl Fault {
+    /// What docs/OUTPUT.md calls its kind, such as "SourceUrl".
+    pub fn name(&self) -> String {
+        named(|out, room| unsafe { smap_fault_name(self.kind, out, room) })
+    }
+}
+
 /// Why there is no answer.
 #[derive(Clone, Debug)]
 pub enum Error {
@@ -197,13 +208,18 @@ impl fmt::Display for Error {
         if let Error::Refused(fault) = self {
             return f.write_str(&fault.words);
         }
-        let mut name = [0; 64];
-        let len = unsafe { smap_code_name(self.code(), name.as_mut_ptr(), name.len()) };
-        f.write_str(&String::from_utf8_lossy(&name[..len.min(64)]))
+        f.write_str(&named(|out, room| unsafe { smap_code_name(self.code(), out, room) }))
     }
 }
 
 impl std::error::Error for Error {}
+
+/// The name of a code or a kind, which a call copies into a buffer.
+fn named(call: impl FnOnce(*mut u8, usize) -> usize) -> String {
+    let mut name = [0; 64];
+    let len = call(name.as_mut_ptr(), name.len());
+    String::from_utf8_lossy(&name[..len.min(64)]).into_owned()
+}
 
 fn no_fault() -> RawFault {
     // zeros are a value of each of its fields
@@ -436,6 +452,13 @@ impl Map {
         counts
     }
 
+    /// About how many bytes of memory the map takes, its strings and mappings included.
+    pub fn held(&self) -> usize {
+        let mut out = 0;
+        unsafe { smap_held(self.0.get(), &mut out) };
+        out
+    }
+
     /// The mapping that a generated position falls to.
     pub fn lookup(&self, line: u32, column: u32) -> Option<Mapping> {
         let mut m = RawMapping::default();
@@ -487,6 +510,16 @@ impl Map {
         let mut out = 0;
         let code = unsafe { smap_listed_source(self.0.get(), i, &mut out) };
         (code == OK).then_some(out)
+    }
+
+    /// The i-th source that the map's text lists, as it is written there; none for a null.
+    pub fn written_source(&self, i: usize) -> Option<String> {
+        text_of(|out, room, len| unsafe { smap_written_source(self.0.get(), i, out, room, len) })
+    }
+
+    /// The `sourceRoot` that applies to the i-th source that the map's text lists.
+    pub fn written_root(&self, i: usize) -> Option<String> {
+        text_of(|out, room, len| unsafe { smap_written_root(self.0.get(), i, out, room, len) })
     }
 
     /// The i-th name that the map's text lists.

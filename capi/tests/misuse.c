@@ -19,7 +19,10 @@ static void closed_handles(void)
     CHECK(smap_listed_token(&closed, 0, &listed) == SMAP_CLOSED);
     CHECK(smap_listed_source(&closed, 0, &number) == SMAP_CLOSED);
     CHECK(smap_listed_name(&closed, 0, NULL, 0, &len) == SMAP_CLOSED && len == 0);
+    CHECK(smap_written_source(&closed, 0, NULL, 0, NULL) == SMAP_CLOSED);
+    CHECK(smap_written_root(&closed, 0, NULL, 0, NULL) == SMAP_CLOSED);
     CHECK(smap_count(&closed, &counts) == SMAP_CLOSED);
+    CHECK(smap_held(&closed, &number) == SMAP_CLOSED);
     CHECK(smap_file(&closed, NULL, 0, NULL) == SMAP_CLOSED);
     CHECK(smap_name_at(&closed, 0, 0, NULL, 0, &len) == SMAP_CLOSED && len == 0);
     CHECK(smap_source_url(&closed, 0, NULL, 0, NULL) == SMAP_CLOSED);
@@ -58,6 +61,11 @@ static void buffers(smap_map *map)
     CHECK(smap_code_name(SMAP_MEMORY, room, 3) == 13 && memcmp(room, "out.js", 6) == 0);
     CHECK(smap_code_name(SMAP_NONE + 100, NULL, 0) == 0);
     for (uint32_t code = SMAP_OK; code <= SMAP_RANGE; code++) CHECK(smap_code_name(code, NULL, 0) > 3);
+    CHECK(smap_fault_name(SMAP_FAULT_OVERLAP, room, sizeof room) == 7 && memcmp(room, "Overlap", 7) == 0);
+    CHECK(smap_fault_name(SMAP_FAULT_SOURCE_URL, room, 3) == 9 && memcmp(room, "Sourlap", 7) == 0);
+    CHECK(smap_fault_name(0, NULL, 0) == 0 && smap_fault_name(SMAP_FAULT_NAME + 1, NULL, 0) == 0);
+    for (uint32_t kind = SMAP_FAULT_PREFIX; kind <= SMAP_FAULT_NAME; kind++)
+        CHECK(smap_fault_name(kind, NULL, 0) >= 4);
 }
 
 static void numbers(smap_map *map)
@@ -70,6 +78,9 @@ static void numbers(smap_map *map)
     CHECK(smap_count(map, &counts) == SMAP_OK);
     CHECK(counts.sources == 3 && counts.listed_sources == 4 && counts.names == 3);
     CHECK(counts.mappings == 4 && counts.lines == 2);
+    /* the map and "out.js", three sources with two URLs of 15 bytes and "x", four listed, three names of one */
+    CHECK(smap_held(map, &n) == SMAP_OK);
+    CHECK(n == 1024 + 6 + (3 * 144 + 2 * 15 + 1) + 4 * 8 + 3 * (48 + 1) + 4 * 32);
     CHECK(smap_token(map, 4, &m) == SMAP_RANGE && smap_token(map, SIZE_MAX, &m) == SMAP_RANGE && m.line == 0);
     CHECK(smap_token(map, 2, &m) == SMAP_OK && m.line == 1 && m.source == 1 && m.has_name && m.is_ignored);
     CHECK(smap_listed_token(map, 2, &listed) == SMAP_OK && listed.source == 1 && listed.name == 2);
@@ -91,6 +102,33 @@ static void numbers(smap_map *map)
     CHECK(smap_lookup(map, UINT32_MAX, UINT32_MAX, &m) == SMAP_NONE);
     CHECK(smap_lookup(map, 1, UINT32_MAX, &m) == SMAP_OK && !m.has_source);
     CHECK(smap_name_at(map, 0, 4, NULL, 0, NULL) == SMAP_NONE);
+}
+
+/* Sources as they are written, in an index map with a root of its own for each section. */
+static void written_sources(smap_map *map)
+{
+    const char sections[] =
+        "{\"version\":3,\"sections\":[{\"offset\":{\"line\":0,\"column\":0},\"map\":{\"version\":3,"
+        "\"sourceRoot\":\"r\",\"sources\":[\"../a.js\",null],\"mappings\":\"\"}},"
+        "{\"offset\":{\"line\":1,\"column\":0},\"map\":{\"version\":3,\"sourceRoot\":\"\","
+        "\"sources\":[\"b.js\"],\"mappings\":\"\"}}]}";
+    smap_map index = {0};
+    char room[8];
+    size_t len = 7;
+    memset(room, '.', sizeof room);
+    CHECK(smap_written_source(map, 2, room, sizeof room, &len) == SMAP_OK && len == 4);
+    CHECK(memcmp(room, "a.js....", 8) == 0);
+    CHECK(smap_written_source(map, 3, room, sizeof room, &len) == SMAP_NONE && len == 0);
+    CHECK(smap_written_root(map, 0, NULL, 0, NULL) == SMAP_NONE);
+    CHECK(smap_written_source(map, 4, NULL, 0, NULL) == SMAP_RANGE);
+    CHECK(smap_written_root(map, 4, NULL, 0, NULL) == SMAP_RANGE);
+    CHECK(open_text(&index, sections, NULL) == SMAP_OK);
+    CHECK(smap_written_source(&index, 0, room, sizeof room, &len) == SMAP_OK && len == 7);
+    CHECK(memcmp(room, "../a.js.", 8) == 0);
+    CHECK(smap_written_source(&index, 1, NULL, 0, NULL) == SMAP_NONE);
+    CHECK(smap_written_root(&index, 1, room, sizeof room, &len) == SMAP_OK && len == 1 && room[0] == 'r');
+    CHECK(smap_written_root(&index, 2, NULL, 0, &len) == SMAP_OK && len == 0);
+    smap_close(&index);
 }
 
 static void faults(void)
@@ -307,6 +345,7 @@ int main(void)
     CHECK(open_text(&map, text, NULL) == SMAP_OK);
     buffers(&map);
     numbers(&map);
+    written_sources(&map);
     bytes_of(&map);
     traces(&map);
     scripts_of(&map);

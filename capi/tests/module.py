@@ -53,6 +53,17 @@ class ModuleTest(unittest.TestCase):
             self.map.source(3)
         self.assertEqual([m.column for m in self.map.mappings()], [0, 4, 0, 2])
         self.assertEqual((self.map.file(), self.map.counts().names), ("out.js", 1))
+        # the map and "out.js", three sources with two URLs of 15 bytes and a text of 3, "f", four mappings
+        held = 1024 + 6 + (3 * 144 + 2 * 15 + 3) + 3 * 8 + (48 + 1) + 4 * 32
+        self.assertEqual(self.map.held(), held)
+
+    def test_sources_are_as_the_text_writes_them(self):
+        self.assertEqual(self.map.written_sources(), [("a.js", None), ("b.js", None), (None, None)])
+        with smap.Map.open(
+            b'{"version":3,"sourceRoot":"../r","sources":["a.js",null],"mappings":""}', BASE
+        ) as rooted:
+            self.assertEqual(rooted.written_sources(), [("a.js", "../r"), (None, "../r")])
+            self.assertEqual(rooted.url(0), "http://h/r/a.js")
 
     def test_a_fault_has_its_fields(self):
         with self.assertRaises(smap.Refused) as raised:
@@ -61,7 +72,7 @@ class ModuleTest(unittest.TestCase):
         fault = raised.exception
         self.assertEqual(str(fault), "section 0: line 1 segment 2: empty segment")
         self.assertEqual((fault.section, fault.line, fault.segment, fault.kind), ((0,), 1, 2, 22))
-        self.assertEqual(fault.number, 0)
+        self.assertEqual((fault.number, fault.kind_name), (0, "Empty"))
         with self.assertRaises(smap.Refused) as raised:
             smap.respell(b"A,B")
         self.assertEqual(str(raised.exception), "line 0 segment 1: number 1: negative zero")

@@ -29,6 +29,8 @@ int main()
     CHECK(smap::source_content(last, 0, out) == SMAP_OK && out == "x");
     CHECK(smap::name_at(last, 0, 1, out) == SMAP_OK && out == "f");
     CHECK(smap::listed_name(last, 0, out) == SMAP_OK && out == "f");
+    CHECK(smap::written_source(last, 0, out) == SMAP_OK && out == "a.js");
+    CHECK(smap::written_root(last, 0, out) == SMAP_NONE && out == "");
     CHECK(smap::file(last, out) == SMAP_OK && out == "out.js" && smap::file(map, out) == SMAP_CLOSED);
     CHECK(smap_canonical_mappings(last.handle(), bytes.handle()) == SMAP_OK && smap::text(bytes) == "AAUEA");
     CHECK(smap::translate(scripts, "@u:1:2\n", false, bytes) == SMAP_CLOSED && smap::text(bytes) == "AAUEA");
@@ -41,6 +43,7 @@ int main()
     CHECK(smap::translate(kept, "9:00 u?v=3:1:2 {", SMAP_ANYWHERE | SMAP_IGNORE_QUERY, bytes) == SMAP_OK);
     CHECK(smap::text(bytes) == "9:00 http://h/m/a.js:11:3 {");
     CHECK(smap::code_name(SMAP_CLOSED) == "closed handle");
+    CHECK(smap::fault_name(SMAP_FAULT_NOT_OBJECT) == "NotObject" && smap::fault_name(0) == "");
     CHECK(smap::open(last, "[]", base, &fault) == SMAP_REFUSED && std::string(fault.text) == "not an object");
     return failures != 0;
 }

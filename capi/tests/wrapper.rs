@@ -58,6 +58,7 @@ fn fields_of_a_fault() {
         panic!("not refused");
     };
     assert_eq!((fault.kind, fault.place, fault.number), (24, Some((5, 6)), 3));
+    assert_eq!(fault.name(), "Character");
     assert_eq!(fault.section, [1, 2]);
     assert_eq!(fault.words, "section 1.2: line 5 segment 6: number 3: bad character");
 }
@@ -68,6 +69,10 @@ fn sources_and_lists(map: &Map) {
     assert_eq!((map.url(1).as_deref(), map.url(2), map.url(3)), (Some("http://h/m/b.js"), None, None));
     assert_eq!((map.listed_source(2), map.listed_source(3), map.listed_source(4)), (Some(0), Some(2), None));
     assert_eq!((map.listed_name(2).as_deref(), map.listed_name(3)), (Some("f"), None));
+    // the map and "out.js", three sources with two URLs of 15 bytes and "x", four listed, three names of one
+    assert_eq!(map.held(), 1024 + 6 + (3 * 144 + 2 * 15 + 1) + 4 * 8 + 3 * (48 + 1) + 4 * 32);
+    assert_eq!((map.written_source(2).as_deref(), map.written_source(3)), (Some("a.js"), None));
+    assert_eq!((map.written_root(2), map.written_source(4)), (None, None));
     let columns: Vec<u32> = map.mappings().map(|m| m.column).collect();
     assert_eq!(columns, [0, 4, 0, 2]);
     let third = ListedMapping {

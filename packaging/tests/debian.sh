@@ -89,7 +89,7 @@ is_whole() {
     said=$(in_root dpkg --verify $names) && [ -z "$said" ]
 }
 
-# Makes packages of the number 0.1.1 out of these, with one file more and one less, and upgrades to them.
+# Makes packages of the next number out of these, with one file more and one less, and upgrades to them.
 upgrades() {
     next=${version%.*}.$((${version##*.} + 1))
     mkdir -p "$work/next"

@@ -83,15 +83,17 @@ class Error(Exception):
 class Refused(Error):
     """A map or a mappings text with a fault.
 
-    `kind` is one of smap.h's SMAP_FAULT_..; `section` is the path of the section that it is in, () for none;
-    `line` and `segment` say where in the mappings text it is, or are None; `number` is that of the source, or
-    that in the segment, where the kind has one.
+    `kind` is one of smap.h's SMAP_FAULT_.., and `kind_name` what docs/OUTPUT.md calls it, such as
+    "SourceUrl"; `section` is the path of the section that it is in, () for none; `line` and `segment` say
+    where in the mappings text it is, or are None; `number` is that of the source, or that in the segment,
+    where the kind has one.
     """
 
     def __init__(self, fault: Fault):
         super().__init__(REFUSED, fault.text.decode())
         self._fault = fault
         self.kind: int = fault.kind
+        self.kind_name: str = fault_name(fault.kind)
         self.section: Tuple[int, ...] = tuple(fault.section[: fault.depth])
         self.line: Optional[int] = fault.line if fault.has_place else None
         self.segment: Optional[int] = fault.segment if fault.has_place else None
@@ -122,11 +124,13 @@ def declare(lib: ctypes.CDLL) -> ctypes.CDLL:
     functions: List[Tuple[Any, ...]] = [
         ("version", u32),
         ("code_name", size, u32, *text),
+        ("fault_name", size, u32, *text),
         ("open", u32, handle, *text, *text, POINTER(Limits), POINTER(Fault)),
         ("close", None, handle),
         ("share", u32, handle, handle),
         ("same", u32, handle, handle, POINTER(c_bool)),
         ("count", u32, handle, POINTER(Counts)),
+        ("held", u32, handle, n),
         ("file", u32, handle, *text, n),
         ("lookup", u32, handle, u32, u32, POINTER(MappingStruct)),
         ("name_at", u32, handle, u32, u32, *text, n),
@@ -134,6 +138,8 @@ def declare(lib: ctypes.CDLL) -> ctypes.CDLL:
         ("source_url", u32, handle, size, *text, n),
         ("source_content", u32, handle, size, *text, n),
         ("is_ignored", u32, handle, size, POINTER(c_bool)),
+        ("written_source", u32, handle, size, *text, n),
+        ("written_root", u32, handle, size, *text, n),
         ("listed_name", u32, handle, size, *text, n),
         ("bytes_copy", size, handle, size, *text),
         ("bytes_free", None, handle),
@@ -161,6 +167,13 @@ def code_name(code: int) -> str:
     """What the library calls a code, such as "closed handle"."""
     out = ctypes.create_string_buffer(64)
     n = lib.smap_code_name(code, out, 64)
+    return out.raw[:n].decode()
+
+
+def fault_name(kind: int) -> str:
+    """What docs/OUTPUT.md calls a kind of fault, such as "SourceUrl"."""
+    out = ctypes.create_string_buffer(64)
+    n = lib.smap_fault_name(kind, out, 64)
     return out.raw[:n].decode()
 
 
@@ -198,7 +211,7 @@ def how_bits(hide: bool, anywhere: bool, ignore_query: bool) -> int:
 
 
 def version() -> str:
-    """The library's version, as "0.1.0"."""
+    """The library's version, as "0.2.0"."""
     n: int = lib.smap_version()
     return f"{n // 10000}.{n // 100 % 100}.{n % 100}"
 

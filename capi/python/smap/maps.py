@@ -4,7 +4,7 @@ from __future__ import annotations
 
 from ctypes import byref, c_bool, c_size_t, c_uint32, create_string_buffer
 from dataclasses import dataclass
-from typing import AnyStr, Callable, Iterator, Optional
+from typing import AnyStr, Callable, Iterator, List, Optional, Tuple
 
 from ._library import NONE, Counts, Fault, Handle, Limits, MappingStruct, check, how_bits, lib, taken, written
 from .traces import translate
@@ -105,6 +105,12 @@ class Map:
         check(lib.smap_count(byref(self._handle), byref(counts)))
         return counts
 
+    def held(self) -> int:
+        """About how many bytes of memory the map takes, its strings and mappings included."""
+        n = c_size_t()
+        check(lib.smap_held(byref(self._handle), byref(n)))
+        return n.value
+
     def _text(self, call: Callable[..., int], *words: int) -> Optional[str]:
         n, room = c_size_t(), 512
         while True:
@@ -134,6 +140,16 @@ class Map:
         ignored = c_bool()
         check(lib.smap_is_ignored(byref(self._handle), source, byref(ignored)))
         return Source(self.url(source), self.content(source), ignored.value)
+
+    def written_sources(self) -> List[Tuple[Optional[str], Optional[str]]]:
+        """The sources that the map lists, with repeats, as its text writes them: each with its `sourceRoot`.
+
+        A source is None where the text has a null, and a root where there is none.
+        """
+        return [
+            (self._text(lib.smap_written_source, i), self._text(lib.smap_written_root, i))
+            for i in range(self.counts().listed_sources)
+        ]
 
     def name_at(self, line: int, column: int) -> Optional[str]:
         """The name of the mapping that a generated position falls to."""

@@ -1,72 +1,47 @@
 -- What is wrong with an entry, and what an entry is.
-use Rattle.std.proofs.Common.{◌≡◌, ◌≢◌, ◌∙◌, ◌⊎◌, inl, inr, ℕ, ◌+◌, ◌-◌, ◌^◌, ◌<◌, ◌≤◌, Bool, true, false}
-use Rattle.std.proofs.Common.{List, [], ◌∷◌, ◌++◌, length, map, min, take, get_or, codes, Option, Some, None}
-use Rattle.std.proofs.Common.{Result, Ok, Err, is_err, refl, sym, ap, subst, arith, append_assoc, append-nil}
-use Rattle.std.proofs.Common.{length-append, true≢false}
-use Rattle.std.specs.Prelude.{Contains, IsErr, slice_get}
+use Rattle.std.proofs.Common.{◌≡◌, ◌≢◌, ◌∙◌, ◌⊎◌, inl, inr, ℕ, ◌+◌, ◌-◌, ◌^◌, ◌<◌, ◌≤◌, ◌==◌, Bool, true}
+use Rattle.std.proofs.Common.{false, if◌then◌else◌, List, [], ◌∷◌, ◌++◌, length, map, min, take, drop, get_or}
+use Rattle.std.proofs.Common.{codes, Option, Some, None, option_and_then, Result, Ok, Err, refl, sym, ap, subst}
+use Rattle.std.proofs.Common.{arith, append_assoc, append-nil, length-append, length-drop, true≢false}
+use Rattle.std.specs.Prelude.{IsErr, slice_get}
 use Rattle.std.proofs.Math.ListN.{get_or-append}
-use Rattle.std.proofs.Math.Seq.{get_or-append_seam, take-append_seam}
-use Rattle.std.proofs.lemmas.Bool.{cases_lt}
+use Rattle.std.proofs.Math.Seq.{drop-append_seam, get_or-append_seam, take-append_seam}
+use Rattle.std.proofs.NetLemmas.Options.{and_then_some, cond_some}
+use Rattle.std.proofs.lemmas.Bool.{cases_lt, le-ltb, lt-ltb}
+use Rattle.std.proofs.lemmas.Bool.Decides.{Decides-eqb}
+use Rattle.std.proofs.lemmas.Cmp.{nat_list_eq_equiv}
 use Rattle.std.proofs.lemmas.List.{get_or-map, length-map}
-use Rattle.std.proofs.lemmas.Option.{get_or_from_slice_get, slice_get_past}
-use Rattle.url.specs.Parser.{parse_url}
+use Rattle.std.proofs.lemmas.Map.Views.{list_any-from_Contains}
+use Rattle.std.proofs.lemmas.Option.{get_or_from_slice_get, none-some, same_Some, slice_get_past}
+use Rattle.std.proofs.lemmas.Option.{slice_get_within}
+use Rattle.url.specs.Parser.{Parsed, parse_url}
 use Rattle.url.specs.Parts.{Parts}
+use Rattle.smap_record.specs.Faults.{◌>>=◌}
 use Rattle.smap_record.specs.declared.fault.Fault.{Fault}
 use Rattle.smap_record.specs.Reading.{reading}
-use Rattle.smap_record.specs.Record.{record_of}
+use Rattle.smap_record.specs.Record.{ReadMap, record_of}
 use Rattle.smap_io.specs.Limits.{longest_input}
 use Rattle.smap_trace.specs.Frame.{lacks}
-use Rattle.smap_trace.specs.Translation.{AreDistinct, Fate, Script}
+use Rattle.smap_trace.specs.Translation.{AreDistinct, Script}
 use Rattle.smap_io.specs.declared.device.Device.{Device}
 use Rattle.smap_io.specs.Device.{device_failures, has_ended}
 use Rattle.smap_io.specs.Reading.{Gave, IsWithinLine, ReadsLine}
+use Rattle.smap_bundle.specs.declared.fault.BundleFault.{BundleFault}
+use Rattle.smap_bundle.specs.declared.fault.BundleFault.TheVariants.{TooLong}
+use Rattle.smap_bundle.specs.declared.fault.EntryFault.{EntryFault}
 use Rattle.smap_bundle.specs.declared.fault.EntryFault.TheVariants as wrong
-use Rattle.smap_bundle.specs.Header.{BeginsWithHeader, HasNoHeader, IsHeader, longest_header, trace_line}
-use Rattle.smap_bundle.specs.Bundle.{Answer, IsAnswer, AreEntries, FaultAt, FaultOfEntry, FaultOfMap, IsEntry}
-use Rattle.smap_bundle.specs.Bundle.{refusal, too_long, usual}
-use Rattle.smap_bundle.specs.Entries.{IsNew, TakesEntry, TakesMap, cut_off}
+use Rattle.smap_bundle.specs.Header.{BeginsWithHeader, HeaderParts, IsHeader, after, header_in}
+use Rattle.smap_bundle.specs.Header.{longest_header, trace_line}
+use Rattle.smap_bundle.specs.Bundle.{BeginsWithEntries, Checked, base_url, entry_in, entry_with, fault_after, has_script, map_in}
+use Rattle.smap_bundle.specs.Bundle.{map_read, or_fault, refuse_if, sized, usual}
+use Rattle.smap_bundle.specs.Entries.{IsFaultAt, IsNew, TakesEntry, TakesMap, refusal}
 use Rattle.smap_bundle.specs.Reach.{EndsWithinEntry, IsWithinEntry, IsWithinMap, ReadsNoMore}
 use Rattle.smap_bundle.specs.Reading.{IsLine, MayFollow}
 use Rattle.smap_bundle.proofs.TextLemmas.{lacks_rest, no_end_within, one_cut}
-use Rattle.smap_bundle.proofs.HeaderLemmas.{begun, inside, inside_lacks, line_is}
+use Rattle.smap_bundle.proofs.HeaderLemmas.{begun, inside, inside_lacks, line_is, no_header_of_trace}
+use Rattle.smap_bundle.proofs.ComputedLemmas.{after_is, header_is, header_there}
 
--- ---- the faults of an entry
-
-small : (n : ℕ) → n ≤ longest_input → longest_input < n → ⊥
-small n le lt = omega (arith, le, lt)
-
-pub ok_isnt : {A E : Type 0} (r : Result A E) (x : A) → r ≡ Ok x → IsErr r → ⊥
-ok_isnt r x e h = true≢false (sym h ∙ ap is_err e)
-
-pub repeated : (seen : List Script) (script base : List ℕ) (n entry : ℕ) (more : List ℕ) (answer : Answer)
-    → entry ≡ length seen → n ≤ longest_input
-    → Contains (map (λ (s : Script). s.0) seen) script → answer ≡ refusal entry wrong.Repeated
-    → FaultOfEntry seen script base n more answer
-repeated seen script base n entry more answer at fits known is =
-    inr (small n fits, inl (known, subst (λ (i : ℕ). answer ≡ refusal i wrong.Repeated) at is))
-
-pub no_base : (seen : List Script) (script base : List ℕ) (n entry : ℕ) (more : List ℕ) (answer : Answer)
-    → entry ≡ length seen → n ≤ longest_input
-    → IsNew seen script → IsErr (parse_url None base) → answer ≡ refusal entry wrong.Base
-    → FaultOfEntry seen script base n more answer
-no_base seen script base n entry more answer at fits new bad is =
-    inr (small n fits, inr (new, inl (bad, subst (λ (i : ℕ). answer ≡ refusal i wrong.Base) at is)))
-
--- a fault of the map of an entry whose base is a URL
-map_fault : (seen : List Script) (script base : List ℕ) (n : ℕ) (more : List ℕ) (answer : Answer)
-    (url : Parts) → n ≤ longest_input → IsNew seen script
-    → parse_url None base ≡ Ok url → FaultOfMap (length seen) base n more answer
-    → FaultOfEntry seen script base n more answer
-map_fault seen script base n more answer url fits new good fault =
-    inr (small n fits, inr (new, inr (ok_isnt (parse_url None base) url good, fault)))
-
-pub cut_entry : (seen : List Script) (script base : List ℕ) (n entry : ℕ) (more : List ℕ) (answer : Answer)
-    (url : Parts) → entry ≡ length seen → n ≤ longest_input
-    → IsNew seen script → parse_url None base ≡ Ok url → cut_off entry n more answer
-    → FaultOfEntry seen script base n more answer
-cut_entry seen script base n entry more answer url at fits new good cut =
-    map_fault seen script base n more answer url fits new good
-    (inl (cut.0, subst (λ (i : ℕ). answer ≡ refusal i wrong.CutOff) at cut.1))
+-- ---- the map of an entry
 
 -- the byte after this many, where the input ends before it
 pub past_the_end : (bytes more : List ℕ) (n : ℕ) → length bytes ≤ n → more ≡ []
@@ -91,32 +66,156 @@ pub byte_after : (xs : List ℕ) (y : ℕ) (ys : List ℕ) → slice_get (xs ++ 
 byte_after [] y ys = refl
 byte_after (x ∷ xs) y ys = byte_after xs y ys
 
-pub bad_map : (seen : List Script) (script base bytes more : List ℕ) (n entry : ℕ) (fault : Fault)
-    (answer : Answer) (url : Parts) → entry ≡ length seen → n ≤ longest_input
-    → length bytes ≡ n → IsNew seen script → parse_url None base ≡ Ok url
-    → reading url usual bytes ≡ Err fault
-    → answer ≡ refusal entry (wrong.Map fault)
-    → FaultOfEntry seen script base n ((bytes ++ 10 ∷ []) ++ more) answer
-bad_map seen script base bytes more n entry fault answer url at fits len new good bad is =
+pub map_there : (bytes more : List ℕ) (n : ℕ) → length bytes ≡ n
+    → map_in n ((bytes ++ 10 ∷ []) ++ more) ≡ Some (bytes, more)
+map_there bytes more n len =
     let text : (bytes ++ 10 ∷ []) ++ more ≡ bytes ++ 10 ∷ more = append_assoc bytes (10 ∷ []) more in
-    let feed : slice_get ((bytes ++ 10 ∷ []) ++ more) n ≡ Some 10 =
-    ap (λ (xs : List ℕ). slice_get xs n) text ∙ ap (slice_get (bytes ++ 10 ∷ more)) (sym len)
-    ∙ byte_after bytes 10 more in
-    let front : take n ((bytes ++ 10 ∷ []) ++ more) ≡ bytes =
-    ap (take n) text ∙ ap (λ k. take k (bytes ++ 10 ∷ more)) (sym len) ∙ take-append_seam bytes (10 ∷ more) in
-    map_fault seen script base n ((bytes ++ 10 ∷ []) ++ more) answer url fits new good (inr (
-      (λ (lost : slice_get ((bytes ++ 10 ∷ []) ++ more) n ≢ Some 10). lost feed),
-      (
-        fault,
-        record { url = url; is_base = good; is_fault = ap (reading url usual) front ∙ bad },
-        subst (λ (i : ℕ). answer ≡ refusal i (wrong.Map fault)) at is,
-      ),
-    ))
+    let rest : drop (length bytes + 1) (bytes ++ 10 ∷ more) ≡ more =
+    ap (λ (xs : List ℕ). drop (length bytes + 1) xs) (sym text)
+    ∙ ap (λ k. drop k ((bytes ++ 10 ∷ []) ++ more)) (sym (length-append bytes (10 ∷ [])))
+    ∙ drop-append_seam (bytes ++ 10 ∷ []) more in
+    rw (text, sym len, byte_after bytes 10 more, take-append_seam bytes (10 ∷ more), rest) refl
+
+abbrev parts_at : ℕ → List ℕ → List ℕ × List ℕ
+parts_at n text = (take n text, drop (n + 1) text)
+
+pub no_map : (n : ℕ) (text : List ℕ) → slice_get text n ≢ Some 10 → map_in n text ≡ None
+no_map n text none = go (slice_get text n) refl
+  where
+    byte : (b : ℕ) (t : Bool) → (b == 10) ≡ t → slice_get text n ≡ Some b
+        → (if b == 10 then Some (parts_at n text) else None) ≡ None
+    byte b true e h = absurd (none (h ∙ ap (λ (x : ℕ). Some x) ((Decides-eqb b 10).0 e)))
+    byte b false e h = rw e refl
+
+    go : (o : Option ℕ) → slice_get text n ≡ o
+        → option_and_then (λ b. if b == 10 then Some (parts_at n text) else None) o ≡ None
+    go None h = refl
+    go (Some b) h = byte b (b == 10) refl h
+
+-- how much follows a map
+map_leaves : (n : ℕ) (text : List ℕ) (parts : List ℕ × List ℕ) → map_in n text ≡ Some parts
+    → length text ≡ n + 1 + length parts.1
+map_leaves n text parts e = and_then_some _ (slice_get text n) parts e (λ b at kept.
+    let c = cond_some _ _ _ kept in
+    let rest : length parts.1 ≡ length (drop (n + 1) text) =
+    ap (λ (p : List ℕ × List ℕ). length p.1) (sym c.1) in
+    omega (arith, slice_get_within text n b at, rest, length-drop (n + 1) text))
+
+-- ---- the faults of an entry
+
+-- a fault of the entry after some scripts, told by its index
+pub refused_at : {A : Type 0} {r : Checked A} (seen : List Script) (i : ℕ) (fault : EntryFault)
+    (found : BundleFault) → i ≡ length seen → found ≡ refusal i fault → r ≡ Err (fault_after seen fault)
+    → r ≡ Err found
+refused_at {A = A} seen i fault found at is e =
+    e ∙ sym (ap (λ (f : BundleFault). Err f) (is ∙ ap (λ k. refusal k fault) at))
+
+not_url : (seen : List Script) (r : Parsed Parts) → IsErr r
+    → base_url seen r ≡ Err (fault_after seen wrong.Base)
+not_url seen (Ok url) bad = absurd (true≢false (sym bad))
+not_url seen (Err e) bad = refl
+
+module _ (seen : List Script) (script base : List ℕ) (n : ℕ) where
+  abbrev told : HeaderParts
+  told = record { script = script; base = base; bytes = n }
+
+  pub too_long : (text : List ℕ) → longest_input < n → entry_with seen told text ≡ Err TooLong
+  too_long text long = rw (lt-ltb longest_input n long) refl
+
+  pub repeated : (text : List ℕ) → n ≤ longest_input → has_script seen script ≡ true
+      → entry_with seen told text ≡ Err (fault_after seen wrong.Repeated)
+  repeated text fits known = rw (le-ltb longest_input n fits, known) refl
+
+  module _ (fits : n ≤ longest_input) (new : IsNew seen script) where
+    pub no_base : (text : List ℕ) → IsErr (parse_url None base)
+        → entry_with seen told text ≡ Err (fault_after seen wrong.Base)
+    no_base text bad = rw (le-ltb longest_input n fits, new, not_url seen (parse_url None base) bad) refl
+
+    module _ (url : Parts) (good : parse_url None base ≡ Ok url) where
+      pub cut_entry : (text : List ℕ) → map_in n text ≡ None
+          → entry_with seen told text ≡ Err (fault_after seen wrong.CutOff)
+      cut_entry text none = rw (le-ltb longest_input n fits, new, good, none) refl
+
+      pub bad_map : (bytes more : List ℕ) (fault : Fault) → length bytes ≡ n
+          → reading url usual bytes ≡ Err fault
+          → entry_with seen told ((bytes ++ 10 ∷ []) ++ more) ≡ Err (fault_after seen (wrong.Map fault))
+      bad_map bytes more fault len bad =
+          rw (le-ltb longest_input n fits, new, good, map_there bytes more n len, bad) refl
+
+      pub good_map : (bytes more : List ℕ) (m : ReadMap) → length bytes ≡ n → reading url usual bytes ≡ Ok m
+          → entry_with seen told ((bytes ++ 10 ∷ []) ++ more) ≡ Ok ((script, record_of m), more)
+      good_map bytes more m len is =
+          rw (le-ltb longest_input n fits, new, good, map_there bytes more n len, is) refl
+
+-- ---- the next entry
+
+pub entry_begun : (seen : List Script) (text script base : List ℕ) (n : ℕ) (more : List ℕ)
+    → BeginsWithHeader text script base n more
+    → entry_in seen text ≡ entry_with seen (record { script = script; base = base; bytes = n }) more
+unfolding entry_in
+entry_begun seen text script base n more b = rw (header_there text script base n more b) refl
+
+-- no entry begins with the line `trace`
+pub trace_isnt : (text script base : List ℕ) (n : ℕ) (more : List ℕ)
+    → BeginsWithHeader text script base n more → after trace_line text ≡ None
+trace_isnt text script base n more b = go (after trace_line text) refl
+  where
+    go : (o : Option (List ℕ)) → after trace_line text ≡ o → o ≡ None
+    go None e = refl
+    go (Some trace) e = absurd (no_header_of_trace script base more trace n
+        (subst (λ (xs : List ℕ). BeginsWithHeader xs script base n more)
+        (after_is trace_line text trace e) b))
+
+then_ok : {A B F P : Type 0} (r : Result A F) (f : A → Result B F) (y : B) → (r >>= f) ≡ Ok y
+    → ((x : A) → r ≡ Ok x → f x ≡ Ok y → P) → P
+then_ok (Ok x) f y e k = k x refl e
+then_ok (Err d) f y e k = absurd cc
+
+found : {A : Type 0} (seen : List Script) (fault : EntryFault) (o : Option A) (x : A)
+    → or_fault seen fault o ≡ Ok x → o ≡ Some x
+found seen fault None x e = absurd cc
+found seen fault (Some y) x e = cc
+
+-- what is known of a text that an entry was taken from
+pub record Taken (text rest : List ℕ) : Type 0 where
+  pub header : HeaderParts
+  pub more : List ℕ
+  pub begins : BeginsWithHeader text header.script header.base header.bytes more
+  pub leaves : length more ≡ header.bytes + 1 + length rest
+
+pub taken : (seen : List Script) (text : List ℕ) (e : Script × List ℕ) → entry_in seen text ≡ Ok e
+    → Taken text e.1
+unfolding entry_in
+taken seen text e is =
+    then_ok (or_fault seen wrong.Header (header_in text)) _ e is (λ start at e1.
+    then_ok (sized start.0.bytes) _ e e1 (λ fits a e2.
+    then_ok (refuse_if seen wrong.Repeated (has_script seen start.0.script)) _ e e2 (λ new b e3.
+    then_ok (base_url seen (parse_url None start.0.base)) _ e e3 (λ url c e4.
+    then_ok (or_fault seen wrong.CutOff (map_in start.0.bytes start.1)) _ e e4 (λ parts d e5.
+    then_ok (map_read seen (reading url usual parts.0)) _ e e5 (λ m f e6.
+    let rest : parts.1 ≡ e.1 = last parts.1 (start.0.script, record_of m) e6 in
+    record {
+      header = start.0;
+      more = start.1;
+      begins = header_is text start.0 start.1 (found seen wrong.Header (header_in text) start at);
+      leaves = map_leaves start.0.bytes start.1 parts (found seen wrong.CutOff _ parts d)
+          ∙ ap (λ (xs : List ℕ). start.0.bytes + 1 + length xs) rest;
+    }))))))
+  where
+    last : (rest : List ℕ) (s : Script) → ◌≡◌ {A = Checked (Script × List ℕ)} (Ok (s, rest)) (Ok e)
+        → rest ≡ e.1
+    last rest s told = let pair : ◌≡◌ {A = Script × List ℕ} (s, rest) e = cc in
+        ap (λ (p : Script × List ℕ). p.1) pair
 
 -- ---- the line of an entry
 
+-- The text begins neither with the line `trace` nor with a header.
+record HasNoHeader (text : List ℕ) : Type 0 where
+  pub no_trace : (trace : List ℕ) → text ≢ trace_line ++ trace
+  pub no_header : (script base more : List ℕ) (n : ℕ) → BeginsWithHeader text script base n more → ⊥
+
 -- Where the line is no header and isn't `trace`, none comes.
-pub has_none : (ended : Bool) (line more : List ℕ) → IsLine ended line → MayFollow ended more
+has_none : (ended : Bool) (line more : List ℕ) → IsLine ended line → MayFollow ended more
     → line ≢ trace_line
     → ((script base : List ℕ) (n : ℕ) → IsHeader line script base n → ⊥) → HasNoHeader (line ++ more)
 has_none ended line more (inl w) may isnt none = record {
@@ -158,6 +257,44 @@ has_none ended line more (inr w) may isnt none = record {
         ∙ ap length e ∙ length-append xs rest in
         omega (arith, all)
 
+-- the fault of such a text
+pub no_entry : (seen : List Script) (ended : Bool) (line more : List ℕ) → IsLine ended line
+    → MayFollow ended more → line ≢ trace_line
+    → ((script base : List ℕ) (n : ℕ) → IsHeader line script base n → ⊥)
+    → IsFaultAt seen (line ++ more) (fault_after seen wrong.Header)
+unfolding entry_in
+no_entry seen ended line more is may isnt none =
+    (trace (after trace_line (line ++ more)) refl, header (header_in (line ++ more)) refl)
+  where
+    neither : HasNoHeader (line ++ more)
+    neither = has_none ended line more is may isnt none
+
+    trace : (o : Option (List ℕ)) → after trace_line (line ++ more) ≡ o → o ≡ None
+    trace None e = refl
+    trace (Some t) e = absurd (neither.no_trace t (after_is trace_line (line ++ more) t e))
+
+    header : (o : Option (HeaderParts × List ℕ)) → header_in (line ++ more) ≡ o
+        → (or_fault seen wrong.Header o >>= λ start. entry_with seen start.0 start.1)
+        ≡ Err (fault_after seen wrong.Header)
+    header None e = refl
+    header (Some h) e = absurd (neither.no_header h.0.script h.0.base h.1 h.0.bytes
+        (header_is (line ++ more) h.0 h.1 e))
+
+-- a fault after a header is one of the text
+pub fault_of_entry : (seen : List Script) (line script base : List ℕ) (n : ℕ) (more : List ℕ)
+    (fault : BundleFault) → IsHeader line script base n
+    → entry_with seen (record { script = script; base = base; bytes = n }) more ≡ Err fault
+    → IsFaultAt seen (line ++ more) fault
+fault_of_entry seen line script base n more fault h is =
+    let b : BeginsWithHeader (line ++ more) script base n more = record {
+      line = line;
+      whole = refl;
+      header = h;
+    } in (
+      trace_isnt (line ++ more) script base n more b,
+      entry_begun seen (line ++ more) script base n more b ∙ is,
+    )
+
 -- ---- an entry that is taken
 
 -- a line that is a header was read whole
@@ -183,41 +320,23 @@ entry_taken remaining a b before after line script base n len old new h is t = r
   bytes = t.bytes ++ 10 ∷ [];
   gave = t.gave;
   calls = t.calls;
-  entry = record {
-    base = base;
-    url = t.url;
-    bytes = t.bytes;
-    map_text = t.map_text;
-    begins = record {
-      line = line;
-      whole = refl;
-      header = subst (IsHeader line script base) (is_len n len is t.fits ∙ sym t.len_is) h;
-    };
-    fits = omega (arith, t.len_is, t.fits);
-    is_base = t.is_base;
-    is_map = t.is_map;
-    record_is = refl;
-  };
+  entry = λ more.
+      entry_begun old (line ++ ((t.bytes ++ 10 ∷ []) ++ more)) script base n ((t.bytes ++ 10 ∷ []) ++ more)
+      (record { line = line; whole = refl; header = h })
+      ∙ good_map old script base n (omega (arith, same, t.fits)) t.new_script t.url t.is_base t.bytes more
+      t.map_text (t.len_is ∙ sym same) t.is_map;
   new_script = t.new_script;
   added = t.added;
 }
-
--- a fault after a header is one of the text
-pub fault_after : (seen : List Script) (line script base : List ℕ) (n : ℕ) (more : List ℕ) (answer : Answer)
-    → IsHeader line script base n
-    → FaultOfEntry seen script base n more answer → FaultAt seen (line ++ more) answer
-fault_after seen line script base n more answer h fault =
-    let begins : BeginsWithHeader (line ++ more) script base n more = record {
-      line = line;
-      whole = refl;
-      header = h;
-    } in
-    inr (
-      (λ (none : HasNoHeader (line ++ more)). none.no_header script base more n begins),
-      (script, base, n, more, begins, fault),
-    )
+  where
+    same : n ≡ len
+    same = is_len n len is t.fits
 
 -- ---- how far was read
+
+-- These bytes are the entries of these scripts, whatever follows.
+abbrev pub AreEntries : List ℕ → List Script → Type 0
+AreEntries entries ss = (rest : List ℕ) → BeginsWithEntries [] (entries ++ rest) ss rest
 
 -- a line as it is read is at most one line
 is_within_line : (ended : Bool) (line : List ℕ) → IsLine ended line → IsWithinLine longest_header line
@@ -239,73 +358,47 @@ is_within_line ended line (inr w) = record {
 }
 
 -- what was read after entries and a line
-pub no_more : (ended : Bool) (ss : List Script) (entries line text : List ℕ) (answer : Answer)
-    → AreEntries entries ss → AreDistinct ss → IsLine ended line → IsWithinEntry line text answer
-    → ReadsNoMore ((entries ++ line) ++ text) answer
-no_more ended ss entries line text answer are distinct is_line within = record {
+pub no_more : (ended : Bool) (ss : List Script) (entries line text : List ℕ) (fault : BundleFault)
+    → AreEntries entries ss → IsLine ended line → IsWithinEntry line text fault
+    → ReadsNoMore ((entries ++ line) ++ text) fault
+no_more ended ss entries line text fault are is_line within = record {
   scripts = ss;
   line = line;
   more = text;
-  reads = record {
-    entries = entries;
-    whole = append_assoc entries line text;
-    are = are;
-    distinct = distinct;
-  };
+  reads = subst (λ (xs : List ℕ). BeginsWithEntries [] xs ss (line ++ text))
+      (sym (append_assoc entries line text)) (are (line ++ text));
   is_line = is_within_line ended line is_line;
   within = within;
 }
 
 -- entries, and part of a line or all of it
-pub ends_within : (ss : List Script) (entries line : List ℕ) → AreEntries entries ss → AreDistinct ss
+pub ends_within : (ss : List Script) (entries line : List ℕ) → AreEntries entries ss
     → IsWithinLine longest_header line → EndsWithinEntry (entries ++ line)
-ends_within ss entries line are distinct is_line = (
-  too_long,
+ends_within ss entries line are is_line = (
+  TooLong,
   record {
     scripts = ss;
     line = line;
     more = [];
-    reads = record {
-      entries = entries;
-      whole = ap (λ (text : List ℕ). entries ++ text) (sym (append-nil line));
-      are = are;
-      distinct = distinct;
-    };
+    reads = subst (λ (xs : List ℕ). BeginsWithEntries [] (entries ++ xs) ss (line ++ []))
+        (append-nil line) (are (line ++ []));
     is_line = is_line;
     within = inl refl;
   },
 )
 
--- a map and its line feed, where no answer was found
+-- a map and its line feed, where no fault was found
 pub within_map : (n : ℕ) (bytes : List ℕ) → length bytes ≡ n
-    → (answer : Answer) × IsWithinMap n (bytes ++ 10 ∷ []) answer
+    → (fault : BundleFault) × IsWithinMap n (bytes ++ 10 ∷ []) fault
 within_map n bytes len =
-    (refusal 0 wrong.CutOff, inr (tt, omega (arith, length-append bytes (10 ∷ []), len)))
+    (fault_after [] wrong.CutOff, inr (tt, omega (arith, length-append bytes (10 ∷ []), len)))
 
 -- part of a map
 pub within_part : (n : ℕ) (bytes : List ℕ) → length bytes < n + 1
-    → (answer : Answer) × IsWithinMap n bytes answer
-within_part n bytes few = (refusal 0 wrong.CutOff, inr (tt, omega (arith, few)))
+    → (fault : BundleFault) × IsWithinMap n bytes fault
+within_part n bytes few = (fault_after [] wrong.CutOff, inr (tt, omega (arith, few)))
 
--- ---- entries one after another
-
-pub entries_more : (ss : List Script) (text entry : List ℕ) (s : Script) → AreEntries text ss
-    → IsEntry entry s → AreEntries (text ++ entry) (ss ++ s ∷ [])
-entries_more [] text entry s are is = (
-  entry,
-  [],
-  ap (λ (xs : List ℕ). xs ++ entry) are
-      ∙ sym (append-nil entry),
-  is,
-  refl,
-)
-entries_more (t ∷ ts) text entry s are is = (
-  are.0,
-  are.1 ++ entry,
-  ap (λ (xs : List ℕ). xs ++ entry) are.2 ∙ append_assoc are.0 are.1 entry,
-  are.3,
-  entries_more ts are.1 entry s are.4 is,
-)
+-- ---- scripts one after another
 
 -- a script with a new URL after others
 pub distinct_more : (ss : List Script) (s : Script) → AreDistinct ss → IsNew ss s.0
@@ -327,29 +420,11 @@ distinct_more ss s distinct new i j d lt within e = go (cases_lt j (length ss))
         let here : get_or (ss ++ s ∷ []) j d ≡ s = ap (λ k. get_or (ss ++ s ∷ []) k d) last
         ∙ get_or-append_seam ss s [] d in
         let same : (get_or ss i d).0 ≡ s.0 = sym (first before) ∙ e ∙ ap (λ (t : Script). t.0) here in
-        new (
+        true≢false (sym (list_any-from_Contains nat_list_eq_equiv s.0 (map (λ (t : Script). t.0) ss) (
           i,
           omega (arith, before, length-map ss (λ (t : Script). t.0)),
-          get_or-map (λ (t : Script). t.0)
-              ss i d s.0 before ∙ same,
-        )
-
--- a fault after entries is the answer
-pub answered : (fates : List Script → List ℕ → Fate) (ss : List Script) (entries line text : List ℕ)
-    (answer : Answer)
-    → AreEntries entries ss → AreDistinct ss
-    → FaultAt ss (line ++ text) answer → IsAnswer fates ((entries ++ line) ++ text) answer
-answered fates ss entries line text answer are distinct fault = record {
-  scripts = ss;
-  rest = line ++ text;
-  reads = record {
-    entries = entries;
-    whole = append_assoc entries line text;
-    are = are;
-    distinct = distinct;
-  };
-  is = inr fault;
-}
+          get_or-map (λ (t : Script). t.0) ss i d s.0 before ∙ same,
+        )) ∙ new)
 
 -- ---- lines as they are read
 

@@ -1,22 +1,12 @@
--- Headers are read in one way.
-use Rattle.std.proofs.Common.{◌≡◌, ◌∙◌, ℕ, ◌==◌, Bool, true, false, List, [], ◌∷◌, ◌++◌, drop, get_or, codes}
-use Rattle.std.proofs.Common.{refl, sym, ap, arith, subst, append_assoc}
+-- A header as a text.
+use Rattle.std.proofs.Common.{◌≡◌, ◌∙◌, ℕ, ◌==◌, Bool, true, false, List, [], ◌∷◌, ◌++◌, get_or, codes}
+use Rattle.std.proofs.Common.{refl, sym, ap, arith, append_assoc}
 use Rattle.std.specs.Char.{is_ascii_digit}
 use Rattle.std.specs.List.{list_all}
-use Rattle.std.specs.Str.Parse.{digits_value}
 use Rattle.std.proofs.lemmas.Bool.Decides.{Decides-eqb}
 use Rattle.smap_trace.specs.Frame.{lacks}
 use Rattle.smap_bundle.specs.Header.{BeginsWithHeader, IsHeader, header, trace_line}
-use Rattle.smap_bundle.specs.Laws.{OneBeginning, OneHeader}
-use Rattle.smap_bundle.proofs.TextLemmas.{both, lacks_both, one_cut, one_end}
-
-pub one_header : OneHeader
-one_header line script base other_script other_base n m h k =
-    let whole = ap (drop 4) (sym h.whole ∙ k.whole) in
-    let first = one_cut 32 script other_script _ _ refl h.script_word.no_space k.script_word.no_space whole in
-    let second = one_cut 32 base other_base _ _ refl h.base_word.no_space k.base_word.no_space first.1 in
-    let third = one_end 10 h.digits k.digits second.1 in
-    (first.0, second.0, sym h.number.value ∙ ap (digits_value 10) third ∙ k.number.value)
+use Rattle.smap_bundle.proofs.TextLemmas.{both, lacks_both}
 
 -- ---- the end of a header
 
@@ -77,20 +67,6 @@ pub begun : (text script base more : List ℕ) (n : ℕ) (b : BeginsWithHeader t
 begun text script base more n b =
     b.whole ∙ ap (λ (xs : List ℕ). xs ++ more) (line_is b.line script base n b.header)
     ∙ append_assoc (inside script base b.header.digits) (10 ∷ []) more
-
-pub one_beginning : OneBeginning
-one_beginning text script base more other_script other_base other_more n m b d =
-    let cut = one_cut 10 (inside script base b.header.digits) (inside other_script other_base d.header.digits)
-    more other_more refl
-    (inside_lacks b.line script base n b.header) (inside_lacks d.line other_script other_base m d.header)
-    (sym (begun text script base more n b) ∙ begun text other_script other_base other_more m d) in
-    let lines : d.line ≡ b.line = line_is d.line other_script other_base m d.header
-    ∙ ap (λ (xs : List ℕ). xs ++ 10 ∷ []) (sym cut.0)
-    ∙ sym (line_is b.line script base n b.header) in
-    let same : IsHeader b.line other_script other_base m =
-    subst (λ (l : List ℕ). IsHeader l other_script other_base m) lines d.header in
-    let one = one_header b.line script base other_script other_base n m b.header same in
-    (one.0, one.1, one.2, cut.1)
 
 -- A header isn't the line `trace`.
 pub no_header_of_trace : (script base more trace : List ℕ) (n : ℕ)

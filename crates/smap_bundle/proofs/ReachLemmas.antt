@@ -1,15 +1,21 @@
 -- What ends within an entry has no trace.
-use Rattle.std.proofs.Common.{◌≡◌, ◌∙◌, ◌⊎◌, inl, inr, ℕ, ◌+◌, ◌<◌, ◌≤◌, List, [], ◌∷◌, ◌++◌, length}
-use Rattle.std.proofs.Common.{codes, refl, sym, ap, subst, arith, append_assoc, append-nil, length-append}
+use Rattle.std.proofs.Common.{◌≡◌, ◌∙◌, ◌⊎◌, inl, inr, ℕ, suc, ◌+◌, ◌<◌, ◌≤◌, List, [], ◌∷◌, ◌++◌, length}
+use Rattle.std.proofs.Common.{codes, Option, Some, None, Ok, Err, refl, sym, ap, subst, arith}
+use Rattle.std.proofs.Common.{append-nil, length-append}
+use Rattle.std.specs.Option.{option_map_or}
 use Rattle.std.proofs.lemmas.Bool.{cases_lt}
+use Rattle.smap_record.specs.Faults.{◌>>=◌}
 use Rattle.smap_io.specs.Reading.{IsWithinLine}
 use Rattle.smap_trace.specs.Translation.{Script}
-use Rattle.smap_bundle.specs.Header.{BeginsWithHeader, IsHeader, longest_header, trace_line}
-use Rattle.smap_bundle.specs.Bundle.{Answer, AreEntries, IsEntry}
+use Rattle.smap_bundle.specs.declared.fault.BundleFault.{BundleFault}
+use Rattle.smap_bundle.specs.Header.{BeginsWithHeader, IsHeader, after, longest_header, trace_line}
+use Rattle.smap_bundle.specs.Bundle.{Checked, bundle_from, bundle_of, entry_in}
 use Rattle.smap_bundle.specs.Reach.{IsWithinEntry}
 use Rattle.smap_bundle.specs.Laws.{TraceIsUnread}
-use Rattle.smap_bundle.proofs.AnswerLemmas.{entry_begins, no_entry_of_trace, one_entry}
-use Rattle.smap_bundle.proofs.HeaderLemmas.{inside, line_is, no_header_of_trace, one_beginning}
+use Rattle.smap_bundle.proofs.BundleLemmas.{nothing_left, of_entries}
+use Rattle.smap_bundle.proofs.ComputedLemmas.{after_is, one_beginning}
+use Rattle.smap_bundle.proofs.EntryLemmas.{Taken, taken}
+use Rattle.smap_bundle.proofs.HeaderLemmas.{inside, line_is, no_header_of_trace}
 use Rattle.smap_bundle.proofs.TextLemmas.{no_end_within}
 
 empty : (text : List ℕ) → length text ≤ 0 → text ≡ []
@@ -31,13 +37,13 @@ module _ (line : List ℕ) (is_line : IsWithinLine longest_header line) where
       (sym is_line.whole ∙ sym (append-nil line) ∙ ap (λ (xs : List ℕ). line ++ xs) (sym none) ∙ same)
 
   -- with the line `trace`
-  at_trace : (more trace : List ℕ) (answer : Answer) → IsWithinEntry line more answer
+  at_trace : (more trace : List ℕ) (fault : BundleFault) → IsWithinEntry line more fault
       → line ++ more ≡ trace_line ++ trace → trace ≡ []
-  at_trace more trace answer (inr h) same =
+  at_trace more trace fault (inr h) same =
       absurd (no_header_of_trace h.0 h.1 more trace h.2
       (subst (λ (text : List ℕ). BeginsWithHeader text h.0 h.1 h.2 more) same
       (header_begins line more h.0 h.1 h.2 h.3)))
-  at_trace more trace answer (inl none) same = go (cases_lt (length trace_line) (length line))
+  at_trace more trace fault (inl none) same = go (cases_lt (length trace_line) (length line))
     where
       len : length line + length more ≡ length trace_line + length trace
       len = sym (length-append line more) ∙ ap length same ∙ length-append trace_line trace
@@ -47,65 +53,51 @@ module _ (line : List ℕ) (is_line : IsWithinLine longest_header line) where
       go (inr short) = empty trace (omega (arith, len, short, ap length none))
 
   -- no entry, and more after it
-  no_entry : (more entry rest : List ℕ) (s : Script) (answer : Answer) → IsEntry entry s → 0 < length rest
-      → IsWithinEntry line more answer → line ++ more ≡ entry ++ rest → ⊥
-  no_entry more entry rest s answer e some within same = go within
+  no_entry : (more rest : List ℕ) (fault : BundleFault) → Taken (line ++ more) rest → 0 < length rest
+      → IsWithinEntry line more fault → ⊥
+  no_entry more rest fault t some within = go within
     where
-      b : BeginsWithHeader (line ++ more) s.0 e.base (length e.bytes) ((e.bytes ++ 10 ∷ []) ++ rest)
-      b = subst (λ (text : List ℕ). BeginsWithHeader text s.0 e.base (length e.bytes)
-          ((e.bytes ++ 10 ∷ []) ++ rest)) (sym same) (entry_begins entry rest s e)
-
-      after : length ((e.bytes ++ 10 ∷ []) ++ rest) ≡ length e.bytes + 1 + length rest
-      after = length-append (e.bytes ++ 10 ∷ []) rest
-          ∙ ap (λ n. n + length rest) (length-append e.bytes (10 ∷ []))
-
       ended : more ≡ [] → ⊥
       ended none =
-          let is = line_is b.line s.0 e.base (length e.bytes) b.header in
-          let front = inside s.0 e.base b.header.digits in
-          let len = sym (length-append line more) ∙ ap length b.whole
-          ∙ length-append b.line ((e.bytes ++ 10 ∷ []) ++ rest) in
-          no_end more front ((e.bytes ++ 10 ∷ []) ++ rest) none
-          (omega (arith, len, ap length is, ap length none, after))
-          (b.whole ∙ ap (λ (xs : List ℕ). xs ++ ((e.bytes ++ 10 ∷ []) ++ rest)) is)
+          let b = t.begins in
+          let is = line_is b.line t.header.script t.header.base t.header.bytes b.header in
+          let front = inside t.header.script t.header.base b.header.digits in
+          let len = sym (length-append line more) ∙ ap length b.whole ∙ length-append b.line t.more in
+          no_end more front t.more none (omega (arith, len, ap length is, ap length none, t.leaves))
+          (b.whole ∙ ap (λ (xs : List ℕ). xs ++ t.more) is)
 
-      go : IsWithinEntry line more answer → ⊥
+      go : IsWithinEntry line more fault → ⊥
       go (inl none) = ended none
       go (inr (script, base, n, h, inl none)) = ended none
       go (inr (script, base, n, h, inr (of_map, few))) =
-          let one = one_beginning (line ++ more) script base more s.0 e.base ((e.bytes ++ 10 ∷ []) ++ rest) n
-          (length e.bytes) (header_begins line more script base n h) b in
-          omega (arith, one.2, ap length one.3, after, few, some)
+          let one = one_beginning (line ++ more) script base more t.header.script t.header.base t.more n
+          t.header.bytes (header_begins line more script base n h) t.begins in
+          omega (arith, one.2, ap length one.3, t.leaves, few, some)
 
-  chain : (ss ts : List Script) (e f more trace : List ℕ) (answer : Answer) → AreEntries e ss
-      → AreEntries f ts
-      → IsWithinEntry line more answer → e ++ (line ++ more) ≡ f ++ (trace_line ++ trace) → trace ≡ []
-  chain [] [] e f more trace answer p g within same =
-      at_trace more trace answer within (sym (ap (λ (xs : List ℕ). xs ++ (line ++ more)) p) ∙ same
-      ∙ ap (λ (xs : List ℕ). xs ++ (trace_line ++ trace)) g)
-  chain [] (t ∷ ts) e f more trace answer p g within same =
-      let text : line ++ more ≡ g.0 ++ (g.1 ++ (trace_line ++ trace)) =
-      sym (ap (λ (xs : List ℕ). xs ++ (line ++ more)) p) ∙ same
-      ∙ ap (λ (xs : List ℕ). xs ++ (trace_line ++ trace)) g.2
-      ∙ append_assoc g.0 g.1 (trace_line ++ trace) in
-      let some = length-append g.1 (trace_line ++ trace) in
-      let six = length-append trace_line trace in
-      absurd (no_entry more g.0 (g.1 ++ (trace_line ++ trace)) t answer g.3 (omega (arith, some, six)) within
-      text)
-  chain (s ∷ ss) [] e f more trace answer p g within same =
-      absurd (no_entry_of_trace p.0 (p.1 ++ (line ++ more)) trace s p.3
-      (sym (append_assoc p.0 p.1 (line ++ more)) ∙ sym (ap (λ (xs : List ℕ). xs ++ (line ++ more)) p.2) ∙ same
-      ∙ ap (λ (xs : List ℕ). xs ++ (trace_line ++ trace)) g))
-  chain (s ∷ ss) (t ∷ ts) e f more trace answer p g within same =
-      let texts : p.0 ++ (p.1 ++ (line ++ more)) ≡ g.0 ++ (g.1 ++ (trace_line ++ trace)) =
-      sym (append_assoc p.0 p.1 (line ++ more)) ∙ sym (ap (λ (xs : List ℕ). xs ++ (line ++ more)) p.2) ∙ same
-      ∙ ap (λ (xs : List ℕ). xs ++ (trace_line ++ trace)) g.2
-      ∙ append_assoc g.0 g.1 (trace_line ++ trace) in
-      let one = one_entry p.0 (p.1 ++ (line ++ more)) g.0 (g.1 ++ (trace_line ++ trace)) s t texts p.3 g.3 in
-      chain ss ts p.1 g.1 more trace answer p.4 g.4 within one.1
+  -- what follows some entries, if it is a bundle
+  rest_is : (more trace : List ℕ) (seen scripts : List Script) (most : ℕ) (fault : BundleFault)
+      → IsWithinEntry line more fault
+      → bundle_from (suc most) seen (line ++ more) ≡ Ok (scripts, trace) → trace ≡ []
+  unfolding bundle_from
+  rest_is more trace seen scripts most fault within is =
+      go (after trace_line (line ++ more)) refl (entry_in seen (line ++ more)) refl is
+    where
+      go : (o : Option (List ℕ)) → after trace_line (line ++ more) ≡ o
+          → (r : Checked (Script × List ℕ)) → entry_in seen (line ++ more) ≡ r
+          → option_map_or (λ t. Ok (seen, t)) o (r >>= λ e. bundle_from most (seen ++ e.0 ∷ []) e.1)
+          ≡ Ok (scripts, trace) → trace ≡ []
+      go (Some t) e r f same =
+          let both : ◌≡◌ {A = List Script × List ℕ} (seen, t) (scripts, trace) = cc in
+          sym (ap (λ (b : List Script × List ℕ). b.1) both)
+          ∙ at_trace more t fault within (after_is trace_line (line ++ more) t e)
+      go None e (Err bad) f same = absurd cc
+      go None e (Ok (s, [])) f same = absurd (nothing_left most (seen ++ s ∷ []) (scripts, trace) same)
+      go None e (Ok (s, x ∷ xs)) f same =
+          absurd (no_entry more (x ∷ xs) fault (taken seen (line ++ more) (s, x ∷ xs) f) (omega arith) within)
 
 pub trace_is_unread : TraceIsUnread
 trace_is_unread input scripts trace ends b =
     let r = ends.1 in
-    chain r.line r.is_line r.scripts scripts r.reads.entries b.entries r.more trace ends.0 r.reads.are b.are
-    r.within (sym r.reads.whole ∙ b.whole)
+    let text = r.line ++ r.more in
+    rest_is r.line r.is_line r.more trace r.scripts scripts (length text) ends.0 r.within
+    (sym (of_entries r.scripts input text (suc (length text)) r.reads (omega arith)) ∙ b)

@@ -1,19 +1,17 @@
 -- Scripts in a table by their URLs.
-use Rattle.std.proofs.Common.{◌≡◌, ◌∙◌, ◌⊎◌, inl, inr, ℕ, zero, suc, ◌+◌, Bool, true, false, ◌||◌, List, []}
+use Rattle.std.proofs.Common.{◌≡◌, ◌∙◌, ℕ, zero, suc, ◌+◌, Bool, true, false, ◌||◌, List, []}
 use Rattle.std.proofs.Common.{◌∷◌, ◌++◌, map, take, get_or, Bor, String, Some, refl, sym, ap, arith, bytes_eq}
-use Rattle.std.proofs.Common.{string_bytes, true≢false}
-use Rattle.std.specs.Prelude.{Contains, is_some, slice_get}
+use Rattle.std.proofs.Common.{string_bytes}
+use Rattle.std.specs.Prelude.{is_some, slice_get}
 use Rattle.std.specs.List.{list_any}
 use Rattle.std.specs.Map.{lookup}
-use Rattle.std.proofs.lemmas.Cmp.{nat_list_eq_equiv}
 use Rattle.std.proofs.lemmas.List.{map-append, take_more}
 use Rattle.std.proofs.lemmas.Option.{slice_get_within}
-use Rattle.std.proofs.lemmas.Map.Views.{list_any-from_Contains}
-use Rattle.std.proofs.lemmas.Slice.Eq.{bytes_eq-Decides}
 use Rattle.indexmap.specs.IndexMap.{insert_entry}
 use Rattle.smap_record.specs.Record.{ReadMap, record_of}
 use Rattle.smap_trace.specs.Translation.{Script}
 use Rattle.smap_trace.specs.Views.{script_in, scripts_in}
+use Rattle.smap_bundle.specs.Bundle.{has_script}
 use Rattle.smap_bundle.specs.Entries.{IsNew}
 use Rattle.smap_bundle.specs.Scripts.{script_of, scripts_of}
 
@@ -35,45 +33,17 @@ found_in {A = A} q (e ∷ es) = step (bytes_eq q (string_bytes e.0)) refl (found
     step true f more = rw f refl
     step false f more = rw f more
 
-contains_of : (q : List ℕ) (ks : List (List ℕ)) → list_any (bytes_eq q) ks ≡ true → Contains ks q
-contains_of q [] h = absurd (true≢false (sym h))
-contains_of q (k ∷ ks) h = go (bytes_eq q k) refl h (λ g. contains_of q ks g)
-  where
-    go : (t : Bool) → bytes_eq q k ≡ t → (t || list_any (bytes_eq q) ks) ≡ true
-        → (list_any (bytes_eq q) ks ≡ true → Contains ks q) → Contains (k ∷ ks) q
-    go true e g more = (zero, omega arith, sym ((bytes_eq-Decides q k).0 e))
-    go false e g more = let r = more g in (suc r.0, omega (arith, r.1), r.2)
-
 -- the table has the URL
 pub is_known : {A : Type 0} (q : List ℕ) (es : List (String A × ReadMap))
     → is_some (lookup (λ (k : String A). bytes_eq q (string_bytes k)) es) ≡ true
-    → Contains (urls (scripts_of es)) q
-is_known q es h = contains_of q (urls (scripts_of es)) (sym (found_in q es) ∙ h)
+    → has_script (scripts_of es) q ≡ true
+is_known q es h = sym (found_in q es) ∙ h
 
 -- the table lacks the URL
 pub is_unknown : {A : Type 0} (q : List ℕ) (es : List (String A × ReadMap))
     → is_some (lookup (λ (k : String A). bytes_eq q (string_bytes k)) es) ≡ false
     → IsNew (scripts_of es) q
-is_unknown q es h c = differ (list_any-from_Contains nat_list_eq_equiv q (urls (scripts_of es)) c)
-    (sym (found_in q es) ∙ h)
-  where
-    differ : {t : Bool} → t ≡ true → t ≡ false → ⊥
-    differ p f = true≢false (sym p ∙ f)
-
--- a script has the URL, or none has
-pub known_or_new : (q : List ℕ) (ss : List Script) → Contains (urls ss) q ⊎ IsNew ss q
-known_or_new q ss = go (list_any (bytes_eq q) (urls ss)) refl
-  where
-    go : (t : Bool) → list_any (bytes_eq q) (urls ss) ≡ t → Contains (urls ss) q ⊎ IsNew ss q
-    go true e = inl (contains_of q (urls ss) e)
-    go false e = inr (λ c. true≢false (sym (list_any-from_Contains nat_list_eq_equiv q (urls ss) c) ∙ e))
-
-lacks_url : (q : List ℕ) (ss : List Script) → IsNew ss q → list_any (bytes_eq q) (urls ss) ≡ false
-lacks_url q ss new = go (list_any (bytes_eq q) (urls ss)) refl
-  where
-    go : (t : Bool) → list_any (bytes_eq q) (urls ss) ≡ t → list_any (bytes_eq q) (urls ss) ≡ false
-    go false e = e
-    go true e = absurd (new (contains_of q (urls ss) e))
+is_unknown q es h = sym (found_in q es) ∙ h
 
 put_last : {A : Type 0} (k : String A) (v : ReadMap) (es : List (String A × ReadMap))
     → list_any (bytes_eq (string_bytes k)) (urls (scripts_of es)) ≡ false
@@ -97,7 +67,7 @@ pub insert_new : {A : Type 0} (k : String A) (v : ReadMap) (es : List (String A 
     → IsNew (scripts_of es) (string_bytes k)
     → scripts_of (insert_entry (λ (a b : String A). bytes_eq (string_bytes a) (string_bytes b))
     es k v) ≡ scripts_of es ++ (string_bytes k, record_of v) ∷ []
-insert_new k v es new = put_last k v es (lacks_url (string_bytes k) (scripts_of es) new)
+insert_new k v es new = put_last k v es new
 
 -- ---- the pairs of URL and map
 

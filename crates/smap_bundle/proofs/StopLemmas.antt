@@ -11,30 +11,29 @@ use Rattle.smap_io.proofs.ReadingLemmas.{Gave-then}
 use Rattle.smap_bundle.specs.declared.fault.BundleFault.{BundleFault}
 use Rattle.smap_bundle.specs.declared.fault.BundleFault.TheVariants as fault
 use Rattle.smap_bundle.specs.declared.fault.Refusal.{Refusal}
-use Rattle.smap_bundle.specs.Bundle.{Answer, refused, too_long}
 use Rattle.smap_bundle.specs.Reading.{MayFollow}
 use Rattle.smap_bundle.specs.Stopping.{Says, Stops, unread}
 
 -- What is said is said in other words.
-pub says_as : (P Q : Answer → Type 0) → ((answer : Answer) → P answer → Q answer) → (s : BundleFault)
+pub says_as : (P Q : BundleFault → Type 0) → ((found : BundleFault) → P found → Q found) → (s : BundleFault)
     → Says P s → Says Q s
-says_as P Q f (fault.Refused r) h = f (refused r) h
-says_as P Q f fault.TooLong h = f too_long h
+says_as P Q f (fault.Refused r) h = f (fault.Refused r) h
+says_as P Q f fault.TooLong h = f fault.TooLong h
 says_as P Q f fault.Memory h = tt
 says_as P Q f fault.Read h = absurd h
 
--- What holds of every answer is said of this one.
-pub says_any : (P Q : Answer → Type 0) → ((answer : Answer) → Q answer) → (s : BundleFault) → Says P s
+-- What holds of every fault is said of this one.
+pub says_any : (P Q : BundleFault → Type 0) → ((found : BundleFault) → Q found) → (s : BundleFault) → Says P s
     → Says Q s
-says_any P Q f s h = says_as P Q (λ answer p. f answer) s h
+says_any P Q f s h = says_as P Q (λ found p. f found) s h
 
--- The same of an answer that may be none.
+-- The same of a result that may have none.
 pub if_stops : {A : Type 0} (r : Result A BundleFault) (P Q : BundleFault → Type 0)
     → ((s : BundleFault) → P s → Q s) → IfErr r P → IfErr r Q
 if_stops (Ok x) P Q f h = tt
 if_stops (Err s) P Q f h = f s h
 
--- What always holds, of an answer that may be none.
+-- What always holds, of a result that may have none.
 pub match_any : {A : Type 0} (r : Result A BundleFault) (P : A → Type 0) (Q : BundleFault → Type 0)
     → ((x : A) → P x) → ((s : BundleFault) → Q s) → MatchResult r P Q
 match_any (Ok x) P Q f g = f x
@@ -46,16 +45,16 @@ blamed_after : (old mid new calls left n m : ℕ) → mid ≡ old → calls ≤ 
 blamed_after old mid new calls left n m same counted (inl one) = inl (omega (arith, one, same))
 blamed_after old mid new calls left n m same counted (inr e) = inr (e.0 ∙ same, omega (arith, counted, e.1))
 
--- An answer that is a refusal isn't Read.
-pub refusal_isnt_read : (P : Answer → Type 0) (s : BundleFault) → Says P s → s ≡ fault.Read → ⊥
+-- A fault of the bundle isn't Read.
+pub refusal_isnt_read : (P : BundleFault → Type 0) (s : BundleFault) → Says P s → s ≡ fault.Read → ⊥
 refusal_isnt_read P s says is = subst (Says P) is says
 
 module _ {R : Type 0} (remaining : R → Option (List ℕ)) (a b : Device R) (bytes : List ℕ)
     (gave : Gave remaining a b bytes) (same : device_failures b ≡ device_failures a) where
-  -- An answer that stands whatever follows is where reading stops.
-  pub says_stops : (calls : ℕ) (P Within : List ℕ → Answer → Type 0) (s : BundleFault)
+  -- A fault that stands whatever follows is where reading stops.
+  pub says_stops : (calls : ℕ) (P Within : List ℕ → BundleFault → Type 0) (s : BundleFault)
       → ((more : List ℕ) → Says (P (bytes ++ more)) s) → Says (Within bytes) s
-      → (answer : Answer) × Within bytes answer → Stops remaining a b calls P Within s
+      → (some : BundleFault) × Within bytes some → Stops remaining a b calls P Within s
   says_stops calls P Within (fault.Refused r) says within some = (
     record { bytes = bytes; gave = gave; settled = λ more may. says more; within = within },
     same,
@@ -65,10 +64,10 @@ module _ {R : Type 0} (remaining : R → Option (List ℕ)) (a b : Device R) (by
   says_stops calls P Within fault.Read says within some = absurd (says bytes)
 
   -- One refusal, of what was read and what may follow it.
-  pub refusal_stops : (calls : ℕ) (r : Refusal) (P Within : List ℕ → Answer → Type 0) (s : BundleFault)
-      → Says (λ answer. answer ≡ refused r) s
-      → ((more : List ℕ) → MayFollow (has_ended b) more → P (bytes ++ more) (refused r))
-      → Within bytes (refused r) → Stops remaining a b calls P Within s
+  pub refusal_stops : (calls : ℕ) (r : Refusal) (P Within : List ℕ → BundleFault → Type 0) (s : BundleFault)
+      → Says (λ found. found ≡ fault.Refused r) s
+      → ((more : List ℕ) → MayFollow (has_ended b) more → P (bytes ++ more) (fault.Refused r))
+      → Within bytes (fault.Refused r) → Stops remaining a b calls P Within s
   refusal_stops calls r P Within (fault.Refused told) says settled within = (
     record {
       bytes = bytes;
@@ -80,38 +79,38 @@ module _ {R : Type 0} (remaining : R → Option (List ℕ)) (a b : Device R) (by
   )
   refusal_stops calls r P Within fault.TooLong says settled within = absurd (wrong says)
     where
-      wrong : too_long ≡ refused r → ⊥
+      wrong : fault.TooLong ≡ fault.Refused r → ⊥
       wrong e = let bad : ◌≡◌ {A = ℕ} 0 1 = cc in omega (arith, bad)
-  refusal_stops calls r P Within fault.Memory says settled within = (bytes, gave, (refused r, within), same)
+  refusal_stops calls r P Within fault.Memory says settled within = (bytes, gave, (fault.Refused r, within), same)
   refusal_stops calls r P Within fault.Read says settled within = absurd says
 
   -- There was no memory after what was read.
-  pub memory_stops : (calls : ℕ) (P Within : List ℕ → Answer → Type 0) (s : BundleFault)
-      → s ≡ fault.Memory → (answer : Answer) × Within bytes answer → Stops remaining a b calls P Within s
+  pub memory_stops : (calls : ℕ) (P Within : List ℕ → BundleFault → Type 0) (s : BundleFault)
+      → s ≡ fault.Memory → (some : BundleFault) × Within bytes some → Stops remaining a b calls P Within s
   memory_stops calls P Within s is some =
       subst (Stops remaining a b calls P Within) (sym is) (bytes, gave, some, same)
 
   -- Reading stops after these bytes, by what is said of others after them.
-  pub stops_after : (c : Device R) (calls left : ℕ) (P Q Near Far : List ℕ → Answer → Type 0)
+  pub stops_after : (c : Device R) (calls left : ℕ) (P Q Near Far : List ℕ → BundleFault → Type 0)
       (s : BundleFault) → (s ≡ fault.Read → calls ≤ left + length bytes)
-      → ((text : List ℕ) (answer : Answer) → P text answer → Q (bytes ++ text) answer)
-      → ((text : List ℕ) (answer : Answer) → Near text answer → Far (bytes ++ text) answer)
+      → ((text : List ℕ) (found : BundleFault) → P text found → Q (bytes ++ text) found)
+      → ((text : List ℕ) (found : BundleFault) → Near text found → Far (bytes ++ text) found)
       → Stops remaining b c left P Near s → Stops remaining a c calls Q Far s
   stops_after c calls left P Q Near Far (fault.Refused r) counted f g st = (
     record {
       bytes = bytes ++ st.0.bytes;
       gave = Gave-then remaining a b c bytes st.0.bytes gave st.0.gave;
       settled = λ more may. rw (append_assoc bytes st.0.bytes more)
-          (f (st.0.bytes ++ more) (refused r) (st.0.settled more may));
-      within = g st.0.bytes (refused r) st.0.within;
+          (f (st.0.bytes ++ more) (fault.Refused r) (st.0.settled more may));
+      within = g st.0.bytes (fault.Refused r) st.0.within;
     },
     st.1 ∙ same,
   )
   stops_after c calls left P Q Near Far fault.TooLong counted f g st = (
     bytes ++ st.0,
     Gave-then remaining a b c bytes st.0 gave st.1,
-    λ more. rw (append_assoc bytes st.0 more) (f (st.0 ++ more) too_long (st.2 more)),
-    g st.0 too_long st.3,
+    λ more. rw (append_assoc bytes st.0 more) (f (st.0 ++ more) fault.TooLong (st.2 more)),
+    g st.0 fault.TooLong st.3,
     st.4 ∙ same,
   )
   stops_after c calls left P Q Near Far fault.Memory counted f g st = (
@@ -131,9 +130,9 @@ module _ {R : Type 0} (remaining : R → Option (List ℕ)) (a b : Device R) (by
 -- The calls of a reader gave up, after what was read.
 pub gave_up_stops : {R : Type 0} (remaining : R → Option (List ℕ)) (a b c : Device R) (bytes : List ℕ)
     (IsPart : List ℕ → Type 0) (calls left : ℕ) (e : ReadFault) (s : BundleFault)
-    (P Within : List ℕ → Answer → Type 0)
+    (P Within : List ℕ → BundleFault → Type 0)
     → Gave remaining a b bytes → device_failures b ≡ device_failures a → calls ≤ left + length bytes
-    → ((more : List ℕ) → IsPart more → (answer : Answer) × Within (bytes ++ more) answer)
+    → ((more : List ℕ) → IsPart more → (some : BundleFault) × Within (bytes ++ more) some)
     → GaveUp remaining b c IsPart left e → s ≡ unread e → Stops remaining a c calls P Within s
 gave_up_stops remaining a b c bytes IsPart calls left e s P Within gave same counted within g is =
     rw is (told e g.spent g.failures)
@@ -144,7 +143,7 @@ gave_up_stops remaining a b c bytes IsPart calls left e s P Within gave same cou
     all : Gave remaining a c read
     all = Gave-then remaining a b c bytes g.bytes gave g.gave
 
-    some : (answer : Answer) × Within read answer
+    some : (some : BundleFault) × Within read some
     some = within g.bytes g.is_part
 
     told : (e : ReadFault) → SpentBy e left (length g.bytes)

@@ -1,100 +1,110 @@
 -- The bundle that `translate` reads: entries, then the line `trace`, then the trace up to the end of the
 -- input. An entry is a header, the bytes of a map, and a line feed. The format is this project's own.
-use Rattle.std.specs.Prelude.{◌≡◌, ◌≢◌, ◌⊎◌, ℕ, ◌<◌, ◌≤◌, List, [], ◌∷◌, ◌++◌, length, Contains, map}
-use Rattle.std.specs.Prelude.{slice_get, take, Some, None, Ok, Err, IsErr}
-use Rattle.url.specs.Parser.{parse_url}
+use Rattle.std.specs.Prelude.{◌≡◌, ℕ, zero, suc, ◌+◌, nat_lt, ◌==◌, Bool, true, false, if◌then◌else◌}
+use Rattle.std.specs.Prelude.{List, [], ◌∷◌, ◌++◌, length, map, bytes_eq, take, drop, slice_get}
+use Rattle.std.specs.Prelude.{Option, Some, None, option_and_then, Result, Ok, Err}
+use Rattle.std.specs.List.{list_any}
+use Rattle.std.specs.Option.{option_map_or}
+use Rattle.url.specs.Parser.{Parsed, parse_url}
 use Rattle.url.specs.Parts.{Parts}
-use Rattle.smap_record.specs.declared.fault.Fault.{Fault}
+use Rattle.smap_record.specs.Faults as record_faults
+use Rattle.smap_record.specs.Faults.{◌>>=◌}
 use Rattle.smap_record.specs.Reading.{reading}
 use Rattle.smap_record.specs.Record.{ReadMap, record_of}
 pub use Rattle.smap_record.specs.Record.{usual}
-use Rattle.smap_trace.specs.Translation.{AreDistinct, Fate, Script, translation_by}
+use Rattle.smap_trace.specs.Translation.{Fate, Script, translation_by}
 use Rattle.smap_io.specs.Limits.{longest_input}
+use Rattle.smap_bundle.specs.declared.fault.BundleFault.{BundleFault}
+use Rattle.smap_bundle.specs.declared.fault.BundleFault.TheVariants.{Refused, TooLong}
 use Rattle.smap_bundle.specs.declared.fault.EntryFault.{EntryFault}
 use Rattle.smap_bundle.specs.declared.fault.EntryFault.TheVariants as wrong
-use Rattle.smap_bundle.specs.declared.fault.Refusal.{Refusal}
-use Rattle.smap_bundle.specs.Header.{BeginsWithHeader, HasNoHeader, trace_line}
+use Rattle.smap_bundle.specs.Header.{HeaderParts, after, header_in, trace_line}
+
+-- a value, or the first fault of the bundle
+abbrev pub Checked : Type 0 → Type 0
+Checked A = Result A BundleFault
+
+-- this fault of the entry after those of `seen`
+abbrev pub fault_after : List Script → EntryFault → BundleFault
+fault_after seen fault = Refused (record { entry = length seen; fault = fault })
+
+-- the value if there is one, and else this fault of the entry
+abbrev pub or_fault : {A : Type 0} → List Script → EntryFault → Option A → Checked A
+or_fault seen fault None = Err (fault_after seen fault)
+or_fault seen fault (Some x) = Ok x
+
+-- this fault of the entry if the condition holds
+abbrev pub refuse_if : List Script → EntryFault → Bool → Checked (Unit {0})
+refuse_if seen fault true = Err (fault_after seen fault)
+refuse_if seen fault false = Ok tt
 
 -- ---- entries
 
--- These bytes are an entry without a fault, which gives this script.
-pub record IsEntry (text : List ℕ) (script : Script) : Type 0 where
-  pub base : List ℕ
-  pub url : Parts
-  pub bytes : List ℕ
-  pub map_text : ReadMap
-  pub begins : BeginsWithHeader text script.0 base (length bytes) (bytes ++ 10 ∷ [])
-  pub fits : length bytes ≤ longest_input
-  pub is_base : parse_url None base ≡ Ok url
-  pub is_map : reading url usual bytes ≡ Ok map_text
-  pub record_is : script.1 ≡ record_of map_text
+-- whether a script has this URL
+abbrev pub has_script : List Script → List ℕ → Bool
+has_script seen url = list_any (bytes_eq url) (map (λ s. s.0) seen)
 
--- These bytes are the entries of these scripts, one after another.
-abbrev pub AreEntries : List ℕ → List Script → Type 0
-AreEntries text [] = text ≡ []
-AreEntries text (s ∷ ss) =
-    (entry : List ℕ) × (rest : List ℕ) × (text ≡ entry ++ rest) × IsEntry entry s × AreEntries rest ss
+-- a map of n bytes may be read
+abbrev pub sized : ℕ → Checked (Unit {0})
+sized n = if nat_lt longest_input n then Err TooLong else Ok tt
 
--- The input is the entries of these scripts, no two of which have the same URL, and then this rest.
-pub record BeginsWithEntries (input : List ℕ) (scripts : List Script) (rest : List ℕ) : Type 0 where
-  pub entries : List ℕ
-  pub whole : input ≡ entries ++ rest
-  pub are : AreEntries entries scripts
-  pub distinct : AreDistinct scripts
+-- the URL of a base
+abbrev pub base_url : List Script → Parsed Parts → Checked Parts
+base_url seen (Ok url) = Ok url
+base_url seen (Err e) = Err (fault_after seen wrong.Base)
 
--- ---- the answer
+-- a map of n bytes, and what follows the line feed after it
+abbrev pub map_in : ℕ → List ℕ → Option (List ℕ × List ℕ)
+map_in n text = option_and_then (λ b. if b == 10 then Some (take n text, drop (n + 1) text) else None)
+    (slice_get text n)
 
--- What `translate` answers: what it writes for a bundle without a fault, or the bundle's first fault, or
--- that a map is too long.
-pub data Answer : Type 0 where
-  done : List ℕ → Answer
-  refused : Refusal → Answer
-  too_long : Answer
+-- what the map of an entry says
+abbrev pub map_read : List Script → record_faults.Checked ReadMap → Checked ReadMap
+map_read seen (Ok m) = Ok m
+map_read seen (Err fault) = Err (fault_after seen (wrong.Map fault))
 
--- this fault of the entry with this index
-abbrev pub refusal : ℕ → EntryFault → Answer
-refusal i fault = refused (record { entry = i; fault = fault })
+-- The script of the entry with this header, and what follows the entry; or its first fault.
+abbrev pub entry_with : List Script → HeaderParts → List ℕ → Checked (Script × List ℕ)
+entry_with seen header text = do
+  _ ← sized header.bytes
+  _ ← refuse_if seen wrong.Repeated (has_script seen header.script)
+  url ← base_url seen (parse_url None header.base)
+  parts ← or_fault seen wrong.CutOff (map_in header.bytes text)
+  m ← map_read seen (reading url usual parts.0)
+  Ok ((header.script, record_of m), parts.1)
 
--- If P holds this, and else by the next rule.
-abbrev pub Where : Type 0 → Type 0 → Type 0 → Type 0
-Where P this next = (P × this) ⊎ ((P → ⊥) × next)
+-- The script of the next entry, after those of `seen`, and what follows the entry; or its first fault.
+unfoldable pub entry_in : List Script → List ℕ → Checked (Script × List ℕ)
+entry_in seen text = do
+  begun ← or_fault seen wrong.Header (header_in text)
+  entry_with seen begun.0 begun.1
 
--- The map of an entry has this fault, read against its base.
-pub record IsRefusedMap (base bytes : List ℕ) (fault : Fault) : Type 0 where
-  pub url : Parts
-  pub is_base : parse_url None base ≡ Ok url
-  pub is_fault : reading url usual bytes ≡ Err fault
+-- The text is the entries of these scripts, after those of `seen`, and then this rest.
+abbrev pub BeginsWithEntries : List Script → List ℕ → List Script → List ℕ → Type 0
+BeginsWithEntries seen text [] rest = text ≡ rest
+BeginsWithEntries seen text (s ∷ ss) rest = (next : List ℕ) × (entry_in seen text ≡ Ok (s, next))
+    × BeginsWithEntries (seen ++ s ∷ []) next ss rest
 
--- Rules 5 and 6, for a map of n bytes: 5. the input ends within the map, or the byte after the map isn't a
--- line feed; 6. the map is rejected.
-abbrev pub FaultOfMap : ℕ → List ℕ → ℕ → List ℕ → Answer → Type 0
-FaultOfMap i base n more answer =
-    Where (slice_get more n ≢ Some 10) (answer ≡ refusal i wrong.CutOff)
-    ((fault : Fault) × IsRefusedMap base (take n more) fault × (answer ≡ refusal i (wrong.Map fault)))
+-- ---- the whole
 
--- The fault of the entry after those of `seen`, whose header is followed by `more`, is the first rule that
--- applies: 2. the map is too long; 3. an earlier entry has the same script; 4. the base isn't an absolute
--- URL; then rules 5 and 6.
-abbrev pub FaultOfEntry : List Script → List ℕ → List ℕ → ℕ → List ℕ → Answer → Type 0
-FaultOfEntry seen script base n more answer =
-    let i = length seen in
-    Where (longest_input < n) (answer ≡ too_long)
-    (Where (Contains (map (λ s. s.0) seen) script) (answer ≡ refusal i wrong.Repeated)
-    (Where (IsErr (parse_url None base)) (answer ≡ refusal i wrong.Base)
-    (FaultOfMap i base n more answer)))
+-- The scripts of a text with at most this many entries, after those of `seen`, and the trace after them; or
+-- the first fault.
+unfoldable pub bundle_from : ℕ → List Script → List ℕ → Checked (List Script × List ℕ)
+bundle_from zero seen text = Err (fault_after seen wrong.Header)
+bundle_from (suc most) seen text = option_map_or (λ trace. Ok (seen, trace)) (after trace_line text) (do
+  entry ← entry_in seen text
+  bundle_from most (seen ++ entry.0 ∷ []) entry.1)
 
--- The fault after the entries of `seen`: 1. the next line is neither `trace` nor a header; then rules 2 to
--- 6.
-abbrev pub FaultAt : List Script → List ℕ → Answer → Type 0
-FaultAt seen text answer = Where (HasNoHeader text) (answer ≡ refusal (length seen) wrong.Header)
-    ((script : List ℕ) × (base : List ℕ) × (n : ℕ) × (more : List ℕ)
-    × BeginsWithHeader text script base n more × FaultOfEntry seen script base n more answer)
+-- The scripts of a bundle and its trace, or its first fault. There are fewer entries than bytes.
+unfoldable pub bundle_of : List ℕ → Checked (List Script × List ℕ)
+bundle_of input = bundle_from (length input) [] input
 
--- What `translate` answers for the input, where this becomes of a line by some scripts.
-pub record IsAnswer (fates : List Script → List ℕ → Fate) (input : List ℕ) (answer : Answer) : Type 0 where
-  pub scripts : List Script
-  pub rest : List ℕ
-  pub reads : BeginsWithEntries input scripts rest
-  pub is : ((trace : List ℕ) × (rest ≡ trace_line ++ trace)
-      × (answer ≡ done (translation_by (fates scripts) trace)))
-      ⊎ FaultAt scripts rest answer
+-- The bundle has this fault, and no earlier one.
+abbrev pub HasFault : List ℕ → BundleFault → Type 0
+HasFault input fault = bundle_of input ≡ Err fault
+
+-- What `translate` writes for a bundle, where this becomes of a line by some scripts; or its first fault.
+abbrev pub translated : (List Script → List ℕ → Fate) → List ℕ → Checked (List ℕ)
+translated fates input = do
+  bundle ← bundle_of input
+  Ok (translation_by (fates bundle.0) bundle.1)

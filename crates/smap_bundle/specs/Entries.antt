@@ -1,6 +1,5 @@
 -- What was read of the entries of a bundle.
-use Rattle.std.specs.Prelude.{◌≡◌, ◌≢◌, ℕ, ◌+◌, ◌<◌, ◌≤◌, List, [], ◌∷◌, ◌++◌, length, Contains, map}
-use Rattle.std.specs.Prelude.{slice_get, Option, None, Some, Ok}
+use Rattle.std.specs.Prelude.{◌≡◌, ℕ, ◌+◌, ◌<◌, ◌≤◌, false, List, [], ◌∷◌, ◌++◌, length, Option, None, Ok, Err}
 use Rattle.url.specs.Parser.{parse_url}
 use Rattle.url.specs.Parts.{Parts}
 use Rattle.smap_record.specs.Reading.{reading}
@@ -9,17 +8,28 @@ use Rattle.smap_trace.specs.Translation.{AreDistinct, Script}
 use Rattle.smap_io.specs.Limits.{longest_input}
 use Rattle.smap_io.specs.declared.device.Device.{Device}
 use Rattle.smap_io.specs.Reading.{Gave}
+use Rattle.smap_bundle.specs.declared.fault.BundleFault.{BundleFault}
+use Rattle.smap_bundle.specs.declared.fault.BundleFault.TheVariants.{Refused}
+use Rattle.smap_bundle.specs.declared.fault.EntryFault.{EntryFault}
 use Rattle.smap_bundle.specs.declared.fault.EntryFault.TheVariants as wrong
-use Rattle.smap_bundle.specs.Bundle.{Answer, AreEntries, IsEntry, refusal, usual}
-use Rattle.smap_bundle.specs.Header.{trace_line}
+use Rattle.smap_bundle.specs.Bundle.{bundle_of, entry_in, has_script, map_in, usual}
+use Rattle.smap_bundle.specs.Header.{after, trace_line}
 
 -- No script has this URL.
 abbrev pub IsNew : List Script → List ℕ → Type 0
-IsNew seen script = Contains (map (λ s. s.0) seen) script → ⊥
+IsNew seen script = has_script seen script ≡ false
 
--- The byte after this many isn't a line feed, and the entry is rejected.
-abbrev pub cut_off : ℕ → ℕ → List ℕ → Answer → Type 0
-cut_off entry len more answer = (slice_get more len ≢ Some 10) × (answer ≡ refusal entry wrong.CutOff)
+-- The text doesn't begin with the line `trace`, and its next entry has this fault.
+abbrev pub IsFaultAt : List Script → List ℕ → BundleFault → Type 0
+IsFaultAt seen text fault = (after trace_line text ≡ None) × (entry_in seen text ≡ Err fault)
+
+-- this fault of the entry with this index
+abbrev pub refusal : ℕ → EntryFault → BundleFault
+refusal i fault = Refused (record { entry = i; fault = fault })
+
+-- There is no map of this many bytes with a line feed after it, and the entry is rejected.
+abbrev pub cut_off : ℕ → ℕ → List ℕ → BundleFault → Type 0
+cut_off entry len more fault = (map_in len more ≡ None) × (fault ≡ refusal entry wrong.CutOff)
 
 -- At least one call was made, and at most one for each byte.
 pub record UsesCalls (old new : ℕ) (bytes : List ℕ) : Type 0 where
@@ -48,14 +58,14 @@ pub record TakesEntry {R : Type 0} (remaining : R → Option (List ℕ)) (reader
   pub bytes : List ℕ
   pub gave : Gave remaining reader_old reader_new bytes
   pub calls : UsesCalls calls_old calls_new bytes
-  pub entry : IsEntry (line ++ bytes) script
+  pub entry : (more : List ℕ) → entry_in old (line ++ (bytes ++ more)) ≡ Ok (script, more)
   pub new_script : IsNew old script.0
   pub added : new ≡ old ++ script ∷ []
 
--- The entries of these scripts were read, and the line `trace` after them.
+-- The entries of these scripts were read, and the line `trace` after them: whatever follows is the trace.
 pub record TakesEntries {R : Type 0} (remaining : R → Option (List ℕ)) (reader_old reader_new : Device R)
     (scripts : List Script) : Type 0 where
-  pub entries : List ℕ
-  pub gave : Gave remaining reader_old reader_new (entries ++ trace_line)
-  pub are : AreEntries entries scripts
+  pub bytes : List ℕ
+  pub gave : Gave remaining reader_old reader_new bytes
+  pub are : (trace : List ℕ) → bundle_of (bytes ++ trace) ≡ Ok (scripts, trace)
   pub distinct : AreDistinct scripts

@@ -1,7 +1,6 @@
 //! Reading the entries of a bundle.
 ghost use Rattle.std.specs.Prelude.{◌≡◌, ◌≢◌, ℕ, List, ◌-◌, ◌^◌, ◌<◌, ◌≤◌, ◌++◌, ◌∷◌, [], IfOk, IfErr};
-ghost use Rattle.std.specs.Prelude.{MatchResult, OnOk, Contains, None, Some, false, length, map, min};
-ghost use Rattle.std.specs.Prelude.{slice_get, true};
+ghost use Rattle.std.specs.Prelude.{MatchResult, OnOk, Err, None, false, length, min, true};
 ghost use Rattle.smap_io.specs.Calls.{MakesAtMost, SpendsCalls, StopsInTime};
 ghost use Rattle.smap_io.specs.Device.{device_failures, has_ended, has_gone_on, is_over};
 ghost use Rattle.smap_io.specs.Limits.{longest_input, most_calls};
@@ -9,10 +8,10 @@ ghost use Rattle.smap_io.specs.Reading.{Gave};
 ghost use Rattle.smap_record.specs.Reading.{reading};
 ghost use Rattle.smap_record.specs.Record.{record_of};
 ghost use Rattle.smap_record.specs.declared.fault.Fault.{Fault};
-ghost use Rattle.smap_trace.specs.Translation.{AreDistinct, Fate, Script};
 ghost use Rattle.smap_bundle.specs.Bundle as spec;
 ghost use Rattle.smap_bundle.specs.Bundle.{usual};
-ghost use Rattle.smap_bundle.specs.Entries.{TakesEntries, TakesEntry, TakesMap, UsesCalls, IsNew, cut_off};
+ghost use Rattle.smap_bundle.specs.Entries.{IsFaultAt, IsNew, TakesEntries, TakesEntry, TakesMap, UsesCalls};
+ghost use Rattle.smap_bundle.specs.Entries.{cut_off, refusal};
 ghost use Rattle.smap_bundle.specs.Header.{trace_line};
 ghost use Rattle.smap_bundle.specs.Reach.{IsWithinEntry, IsWithinMap, ReadsNoMore};
 ghost use Rattle.smap_bundle.specs.Reading.{IsLine};
@@ -32,7 +31,7 @@ use std::io::Read;
 
 /// An entry is rejected for this fault.
 fn refused(entry: usize, fault: EntryFault) -> BundleFault
-    ensures { Says (λ answer. answer ≡ spec.refusal entry fault) result }
+    ensures { Says (λ found. found ≡ refusal entry fault) result }
 {
     BundleFault::Refused(Refusal { entry, fault })
 }
@@ -57,8 +56,9 @@ fn base_of(
     ensures new { OnOk result (IsNew (scripts_of scripts.now.entries) header.now.script.now) }
     ensures base { IfOk result (λ base. parse_url None header.now.base.now ≡ Ok base) }
     ensures stops { (n : ℕ) (more : List ℕ) → header.now.length ≡ min n (2 ^ 64 - 1)
-        → IfErr result (Says (spec.FaultOfEntry (scripts_of scripts.now.entries) header.now.script.now
-        header.now.base.now n more)) }
+        → IfErr result (Says (λ found. spec.entry_with (scripts_of scripts.now.entries)
+        (record { script = header.now.script.now; base = header.now.base.now; bytes = n }) more
+        ≡ Err found)) }
 {
     if header.length > LIMIT as u64 {
         return Err(BundleFault::TooLong);
@@ -114,9 +114,9 @@ fn map_of(
     bytes: Vec<u8>,
 ) -> Result<SourceMap, BundleFault>
     ensures map { IfOk result (λ m. reading base.now usual bytes.items ≡ Ok m) }
-    ensures stops { IfErr result (Says (λ answer. (fault : Fault)
+    ensures stops { IfErr result (Says (λ found. (fault : Fault)
         × (reading base.now usual bytes.items ≡ Err fault)
-        × (answer ≡ spec.refusal entry (EntryFault.Map fault)))) }
+        × (found ≡ refusal entry (EntryFault.Map fault)))) }
 {
     match SourceMap::from_vec(alloc, bytes, base, Limits::usual()) {
         Ok(map) => Ok(map),
@@ -163,7 +163,8 @@ fn take_map<R: Read>(
     ensures not_ended { OnOk result (has_ended reader.new ≡ false) }
     ensures stops { (n : ℕ) → header.now.length ≡ min n (2 ^ 64 - 1)
         → IfErr result (Stops R.remaining reader.old reader.new calls.old
-        (spec.FaultOfEntry (scripts_of scripts.old.entries) header.now.script.now header.now.base.now n)
+        (λ more found. spec.entry_with (scripts_of scripts.old.entries)
+        (record { script = header.now.script.now; base = header.now.base.now; bytes = n }) more ≡ Err found)
         (IsWithinMap n)) }
     ensures in_time { StopsInTime reader.old reader.new }
     ensures spends { SpendsCalls reader.old reader.new calls.old calls.new }
@@ -192,7 +193,7 @@ fn take_entry<R: Read>(
     ensures failures { OnOk result (device_failures reader.new ≡ device_failures reader.old) }
     ensures not_ended { OnOk result (has_ended reader.new ≡ false) }
     ensures stops { IfErr result (Stops R.remaining reader.old reader.new calls.old
-        (λ more. spec.FaultAt (scripts_of scripts.old.entries) (line.now ++ more))
+        (λ more. IsFaultAt (scripts_of scripts.old.entries) (line.now ++ more))
         (IsWithinEntry line.now)) }
     ensures open { MatchResult result (λ _. has_ended reader.old ≡ false)
         (λ fault. fault ≡ BundleFault.Read → has_ended reader.old ≡ false) }
@@ -223,17 +224,17 @@ pub fn read_bundle<R: Read>(alloc: Global, reader: &mut Device<R>) -> Result<Bun
     requires failures { device_failures reader.old < 2 ^ 64 - 1 }
     requires not_ended { has_ended reader.old ≡ false }
 
-    // The bundle's scripts are those of the entries that were read, and then the line `trace`.
+    // What was read, and whatever may follow it as the trace, is a bundle of exactly these scripts.
     ensures takes { IfOk result (TakesEntries R.remaining reader.old reader.new) }
     ensures failures { OnOk result (device_failures reader.new ≡ device_failures reader.old) }
     ensures not_ended { OnOk result (has_ended reader.new ≡ false) }
 
-    // Refused and TooLong are the answer for what was read, whatever follows, and nothing was read past what
-    // decides it: the line of the fault, or for a fault of a map the byte after the map. With Read and Memory
-    // too, nothing was read past the entry or past the line `trace`. Read comes with a failure of the reader,
-    // or if at least as many bytes as calls were read, and no other answer comes with a failure.
-    ensures stops { (fates : List Script → List ℕ → Fate) → IfErr result (Stops R.remaining reader.old
-        reader.new most_calls (spec.IsAnswer fates) ReadsNoMore) }
+    // Refused and TooLong are the bundle's first fault, whatever follows what was read, and nothing was read
+    // past what shows it: the line of the fault, or for a fault of a map the byte after the map. With Read and
+    // Memory too, nothing was read past the entry or past the line `trace`. Read comes with a failure of the
+    // reader, or if at least as many bytes as calls were read, and no other answer comes with a failure.
+    ensures stops { IfErr result (Stops R.remaining reader.old reader.new most_calls spec.HasFault
+        ReadsNoMore) }
 
     // At most so many reads are made, and none after the end or a failure.
     ensures calls { MakesAtMost most_calls reader.old reader.new }

@@ -1,11 +1,6 @@
-pub mod LastLemmas
+pub mod BytesLemmas
+pub mod FaultLemmas
 pub mod LooseLemmas
-pub mod OpeningLemmas
-pub mod OwnedBytesLemmas
-pub mod OwnedMapLemmas
-pub mod OwnedScriptsLemmas
-pub mod PuttingLemmas
-pub mod RespellingLemmas
+pub mod MapLemmas
+pub mod OwnerLemmas
 pub mod ScriptLemmas
-pub mod TraceLemmas
-pub mod WordsLemmas

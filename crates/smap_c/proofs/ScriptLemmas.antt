@@ -1,20 +1,27 @@
--- Scripts in a table by their URLs.
+-- Scripts in a table by their URLs, and the translation of a whole trace.
 use Rattle.std.proofs.Common.{◌≡◌, ◌∙◌, ℕ, zero, suc, ◌+◌, Bool, true, false, List, [], ◌∷◌, ◌++◌, map, take}
 use Rattle.std.proofs.Common.{get_or, length, Bor, String, Some, refl, sym, ap, arith, bytes_eq, string_bytes}
 use Rattle.std.specs.Prelude.{slice_get}
 use Rattle.std.specs.List.{AllByRecursion, IsDistinct}
-use Rattle.std.proofs.lemmas.List.{get_or-map, length-map, map-append, take_more}
+use Rattle.std.proofs.lemmas.List.{get_or-map, length-map, map-append, take_more, append-nil}
 use Rattle.std.proofs.lemmas.Map.Made.{AllPairs-from_IsDistinct}
 use Rattle.std.proofs.lemmas.Option.{slice_get_within}
 use Rattle.std.proofs.lemmas.Slice.Eq.{bytes_eq-Decides}
 use Rattle.std.specs.Map.{keys_of}
+use Rattle.std.proofs.Common.{Option, Ok, subst}
+use Rattle.std.specs.Io.KnownBytes.{Appends, Consumes, IsAtEnd}
 use Rattle.indexmap.specs.IndexMap.{insert_entry}
 use Rattle.smap_record.specs.Record.{ReadMap, record_of}
-use Rattle.smap_trace.specs.Translation.{AreDistinct, Script}
+use Rattle.smap_trace.specs.Translation.{AreDistinct, Script, Fate, translation_by}
 use Rattle.smap_trace.specs.Views.{script_in, scripts_in}
-use Rattle.smap_c.specs.Scripting.{with_script}
+use Rattle.smap_c.specs.Scripts.{with_script, told_trace}
 use Rattle.smap_c.specs.ScriptsView.{script_of, scripts_of}
-use Rattle.smap_c.specs.declared.opened.Shared.{Shared}
+use Rattle.smap_c.specs.declared.maps.Shared.{Shared}
+use Rattle.smap_io.specs.Streams.{Streams}
+use Rattle.smap_trace.specs.declared.outcome.Counts.{Counts}
+use Rattle.smap_trace.specs.Streaming.{TranslatesBy}
+
+-- ---- scripts in a table by their URLs
 
 abbrev pub same_key : {A : Type 0} → String A → String A → Bool
 same_key a b = bytes_eq (string_bytes a) (string_bytes b)
@@ -68,7 +75,7 @@ found [] i e h = cc
 found (x ∷ xs) zero e h = cc
 found (x ∷ xs) (suc i) e h = found xs i e h
 
-take_next : {A : Type 0} (es : List A) (i : ℕ) (e : A) → slice_get es i ≡ Some e
+pub take_next : {A : Type 0} (es : List A) (i : ℕ) (e : A) → slice_get es i ≡ Some e
     → take (i + 1) es ≡ take i es ++ e ∷ []
 take_next {A = A} es i e h =
     take_more es i e (slice_get_within es i e h) ∙ ap (λ (x : A). take i es ++ x ∷ []) (found es i e h)
@@ -83,3 +90,23 @@ next_pair {A = A} xs es i e u m so_far at url is =
     ∙ ap (λ (ss : List Script). ss ++ (u.now, record_of m.now) ∷ []) so_far
     ∙ ap (λ (s : Script). scripts_of (take i es) ++ s ∷ []) last
     ∙ sym (map-append script_of (take i es) (e ∷ [])) ∙ ap scripts_of (sym (take_next es i e at))
+
+-- ---- the translation of a whole trace, read from a slice and written into a vector
+
+pub whole : (fates : List ℕ → Fate) (s : Streams) (trace rest out : List ℕ) (counts : Counts)
+    → TranslatesBy fates s (Ok counts) → s.read_before ≡ Some trace → s.read_after ≡ Some rest
+    → s.written_before ≡ Some [] → s.written_after ≡ Some out
+    → ◌≡◌ {A = List ℕ × Counts} (out, counts) (told_trace fates trace)
+whole fates s trace rest out counts t before after empty full =
+    let a = t.translates.0 in
+    let read : trace ≡ a.bytes ++ rest =
+    subst (λ (x : Option (List ℕ)). Consumes (Some trace) x a.bytes) after
+    (subst (λ (x : Option (List ℕ)). Consumes x s.read_after a.bytes) before a.read) in
+    let ended : rest ≡ [] = subst IsAtEnd after a.at_end in
+    let all : a.bytes ≡ trace =
+    sym (read ∙ ap (λ (xs : List ℕ). a.bytes ++ xs) ended ∙ append-nil a.bytes) in
+    let text : List ℕ = translation_by fates a.bytes in
+    let written : out ≡ text =
+    subst (λ (x : Option (List ℕ)). Appends (Some []) x text) full
+    (subst (λ (x : Option (List ℕ)). Appends x s.written_after text) empty a.written) in
+    rw (written, a.counts_are, all) refl

@@ -1,5 +1,5 @@
--- The codes of calls, as `smap.h` numbers them.
-use Rattle.std.specs.Prelude.{ℕ}
+-- The codes of calls, as `smap.h` numbers them, and their names.
+use Rattle.std.specs.Prelude.{ℕ, List, [], codes, ◌==◌, if◌then◌else◌}
 
 abbrev pub OK : ℕ
 OK = 0
@@ -24,3 +24,15 @@ NONE = 6
 
 abbrev pub RANGE : ℕ
 RANGE = 7
+
+-- The name of a code, or nothing for a number that is none.
+abbrev pub code_name : ℕ → List ℕ
+code_name n =
+    if n == OK then codes "done" else
+    if n == REFUSED then codes "refused" else
+    if n == NOT_URL then codes "not a URL" else
+    if n == LIMITS then codes "limits too large" else
+    if n == MEMORY then codes "out of memory" else
+    if n == CLOSED then codes "closed handle" else
+    if n == NONE then codes "nothing there" else
+    if n == RANGE then codes "number out of range" else []

@@ -1,5 +1,5 @@
--- The kinds of faults, as `smap.h` numbers them.
-use Rattle.std.specs.Prelude.{ℕ}
+-- The kinds of faults, as `smap.h` numbers them, and their names.
+use Rattle.std.specs.Prelude.{ℕ, List, [], codes, ◌==◌, if◌then◌else◌}
 
 abbrev pub PREFIX : ℕ
 PREFIX = 1
@@ -99,3 +99,40 @@ ORIGINAL_COLUMN = 32
 
 abbrev pub NAME : ℕ
 NAME = 33
+
+-- The name of a kind, as docs/OUTPUT.md has it, or nothing for a number that is none.
+abbrev pub fault_name : ℕ → List ℕ
+fault_name n =
+    if n == PREFIX then codes "Prefix" else
+    if n == JSON then codes "Json" else
+    if n == NOT_OBJECT then codes "NotObject" else
+    if n == VERSION then codes "Version" else
+    if n == FILE then codes "File" else
+    if n == BOTH then codes "Both" else
+    if n == SOURCE_ROOT then codes "SourceRoot" else
+    if n == SOURCES then codes "Sources" else
+    if n == SOURCES_CONTENT then codes "SourcesContent" else
+    if n == NAMES then codes "Names" else
+    if n == IGNORE_LIST then codes "IgnoreList" else
+    if n == MAPPINGS then codes "Mappings" else
+    if n == SECTIONS then codes "Sections" else
+    if n == OFFSET then codes "Offset" else
+    if n == SECTION_MAP then codes "SectionMap" else
+    if n == NESTED then codes "Nested" else
+    if n == ORDER then codes "Order" else
+    if n == OVERLAP then codes "Overlap" else
+    if n == TOO_MANY then codes "TooMany" else
+    if n == SOURCE_URL then codes "SourceUrl" else
+    if n == UNSTABLE_URL then codes "UnstableUrl" else
+    if n == EMPTY then codes "Empty" else
+    if n == UNFINISHED then codes "Unfinished" else
+    if n == CHARACTER then codes "Character" else
+    if n == TOO_LARGE then codes "TooLarge" else
+    if n == NEGATIVE_ZERO then codes "NegativeZero" else
+    if n == COUNT then codes "Count" else
+    if n == GENERATED_LINE then codes "GeneratedLine" else
+    if n == COLUMN then codes "Column" else
+    if n == SOURCE then codes "Source" else
+    if n == ORIGINAL_LINE then codes "OriginalLine" else
+    if n == ORIGINAL_COLUMN then codes "OriginalColumn" else
+    if n == NAME then codes "Name" else []

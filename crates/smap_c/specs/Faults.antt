@@ -1,17 +1,17 @@
 -- How faults are told to C.
-use Rattle.std.specs.Prelude.{◌≡◌, ◌≤◌, ◌⊎◌, ℕ, List, length, replicate, Option, Some, None}
+use Rattle.std.specs.Prelude.{◌≡◌, ◌≤◌, ◌⊎◌, ℕ, List, length, replicate, Option, Some, None, ◌<◌, ◌^◌, All}
 use Rattle.std.specs.Option.{is_some}
 use Rattle.smap_vlq.specs.declared.number.NumberFault.{NumberFault}
-use Rattle.smap_vlq.specs.declared.number.NumberFault.TheVariants as number
 use Rattle.smap_mappings.specs.declared.error.SegmentPlace.{SegmentPlace}
 use Rattle.smap_record.specs.declared.fault.Kind.{Kind}
-use Rattle.smap_record.specs.declared.fault.Kind.TheVariants as kind
 use Rattle.smap_record.specs.declared.fault.Fault.{Fault}
 use Rattle.smap_record.specs.Words.{fault_words}
-use Rattle.smap_c.specs.Copying.{copied}
+use Rattle.smap_c.specs.Strings.{copied}
 use Rattle.smap_c.specs.Codes.{MEMORY, REFUSED}
-use Rattle.smap_c.specs.FaultCodes as codes
 use Rattle.smap_c.specs.declared.faults.SmapFault.{SmapFault}
+use Rattle.smap_vlq.specs.declared.number.NumberFault.TheVariants as number
+use Rattle.smap_record.specs.declared.fault.Kind.TheVariants as kind
+use Rattle.smap_c.specs.FaultCodes as codes
 
 -- the code of a misspelled number
 abbrev pub spelling_code : NumberFault → ℕ
@@ -95,3 +95,25 @@ TellsFault fault before after code =
 -- A fault that is told has all of its words: they are at most 260 bytes, and the field has 264.
 abbrev pub IsWhole : SmapFault → ℕ → Type 0
 IsWhole after code = code ≡ REFUSED → after.text_len ≤ 260
+
+-- ---- for private contracts: which numbers a fault can have, those that fit its fields
+
+-- the number that a kind carries
+abbrev pub KindFits : Kind → Type 0
+KindFits (kind.SourceUrl i) = i < 2 ^ 64
+KindFits (kind.UnstableUrl i) = i < 2 ^ 64
+KindFits (kind.Number which fault) = which < 2 ^ 64
+KindFits (kind.Count n) = n < 2 ^ 64
+KindFits k = Unit {0}
+
+-- a line and a segment
+abbrev pub PlaceFits : Option SegmentPlace → Type 0
+PlaceFits None = Unit {0}
+PlaceFits (Some place) = (place.line < 2 ^ 32) × (place.segment < 2 ^ 32)
+
+-- at most eight numbers of sections
+abbrev pub PathFits : List ℕ → Type 0
+PathFits path = (length path ≤ 8) × All (λ number. number < 2 ^ 64) path
+
+abbrev pub FaultFits : Fault → Type 0
+FaultFits fault = PathFits fault.section × PlaceFits fault.place × KindFits fault.kind

@@ -1,31 +1,27 @@
 -- The fields of each struct that crosses to C, in the order in which they lie in it, as in `smap.h`.
 use Rattle.std.specs.Prelude.{◌≡◌}
-use Rattle.smap_c.specs.declared.counting.SmapCounts.{SmapCounts}
 use Rattle.smap_c.specs.declared.faults.SmapFault.{SmapFault}
-use Rattle.smap_c.specs.declared.finding.SmapMapping.{SmapMapping}
-use Rattle.smap_c.specs.declared.limits.SmapLimits.{SmapLimits}
-use Rattle.smap_c.specs.declared.listed.SmapListedMapping.{SmapListedMapping}
-use Rattle.smap_c.specs.declared.opened.MapOwner.{MapOwner}
-use Rattle.smap_c.specs.declared.opened.SmapMap.{SmapMap}
-use Rattle.smap_c.specs.declared.scripts.ScriptsOwner.{ScriptsOwner}
-use Rattle.smap_c.specs.declared.scripts.SmapScripts.{SmapScripts}
+use Rattle.smap_c.specs.declared.handles.Owner.{Owner}
+use Rattle.smap_c.specs.declared.handles.SmapBytes.{SmapBytes}
+use Rattle.smap_c.specs.declared.handles.SmapMap.{SmapMap}
+use Rattle.smap_c.specs.declared.handles.SmapScripts.{SmapScripts}
+use Rattle.smap_c.specs.declared.lists.SmapListedMapping.{SmapListedMapping}
+use Rattle.smap_c.specs.declared.lookups.SmapMapping.{SmapMapping}
+use Rattle.smap_c.specs.declared.maps.SmapCounts.{SmapCounts}
+use Rattle.smap_c.specs.declared.maps.SmapLimits.{SmapLimits}
+use Rattle.smap_c.specs.declared.scripts.SmapTraceCounts.{SmapTraceCounts}
 use Rattle.smap_c.specs.declared.traces.SmapFrame.{SmapFrame}
-use Rattle.smap_c.specs.declared.translating.SmapTraceCounts.{SmapTraceCounts}
-use Rattle.smap_c.specs.declared.written.BytesOwner.{BytesOwner}
-use Rattle.smap_c.specs.declared.written.SmapBytes.{SmapBytes}
-use Rattle.smap_c.specs.contracts.counting.SmapCounts as counts
 use Rattle.smap_c.specs.contracts.faults.SmapFault as fault
-use Rattle.smap_c.specs.contracts.finding.SmapMapping as mapping
-use Rattle.smap_c.specs.contracts.limits.SmapLimits as limits
-use Rattle.smap_c.specs.contracts.listed.SmapListedMapping as listed
-use Rattle.smap_c.specs.contracts.opened.MapOwner as map_owner
-use Rattle.smap_c.specs.contracts.opened.SmapMap as map
-use Rattle.smap_c.specs.contracts.scripts.ScriptsOwner as scripts_owner
-use Rattle.smap_c.specs.contracts.scripts.SmapScripts as scripts
+use Rattle.smap_c.specs.contracts.handles.Owner as owner
+use Rattle.smap_c.specs.contracts.handles.SmapBytes as bytes
+use Rattle.smap_c.specs.contracts.handles.SmapMap as map
+use Rattle.smap_c.specs.contracts.handles.SmapScripts as scripts
+use Rattle.smap_c.specs.contracts.lists.SmapListedMapping as listed
+use Rattle.smap_c.specs.contracts.lookups.SmapMapping as mapping
+use Rattle.smap_c.specs.contracts.maps.SmapCounts as counts
+use Rattle.smap_c.specs.contracts.maps.SmapLimits as limits
+use Rattle.smap_c.specs.contracts.scripts.SmapTraceCounts as trace_counts
 use Rattle.smap_c.specs.contracts.traces.SmapFrame as frame
-use Rattle.smap_c.specs.contracts.translating.SmapTraceCounts as trace_counts
-use Rattle.smap_c.specs.contracts.written.BytesOwner as bytes_owner
-use Rattle.smap_c.specs.contracts.written.SmapBytes as bytes
 
 infixr 50 ◌then◌
 -- a field and those after it
@@ -67,17 +63,11 @@ TraceCountsOrder = (c : SmapTraceCounts) → trace_counts.the_type.as_values c
 abbrev pub MapOrder : Type 0
 MapOrder = (h : SmapMap) → map.the_type.as_values h ≡ h.is_open then h.owner then tt
 
-abbrev pub MapOwnerOrder : Type 0
-MapOwnerOrder = (o : MapOwner) → map_owner.the_type.as_values o ≡ o.at then o.alloc then tt
-
 abbrev pub BytesOrder : Type 0
 BytesOrder = (h : SmapBytes) → bytes.the_type.as_values h ≡ h.is_open then h.owner then tt
-
-abbrev pub BytesOwnerOrder : Type 0
-BytesOwnerOrder = (o : BytesOwner) → bytes_owner.the_type.as_values o ≡ o.at then o.alloc then tt
 
 abbrev pub ScriptsOrder : Type 0
 ScriptsOrder = (h : SmapScripts) → scripts.the_type.as_values h ≡ h.is_open then h.owner then tt
 
-abbrev pub ScriptsOwnerOrder : Type 0
-ScriptsOwnerOrder = (o : ScriptsOwner) → scripts_owner.the_type.as_values o ≡ o.at then o.alloc then tt
+abbrev pub OwnerOrder : Type 0
+OwnerOrder = (o : Owner) → owner.the_type.as_values o ≡ o.at then o.alloc then tt

@@ -2,7 +2,7 @@
 use Rattle.std.specs.Prelude.{List, String, map, string_bytes}
 use Rattle.smap_record.specs.Record.{record_of}
 use Rattle.smap_trace.specs.Translation.{Script}
-use Rattle.smap_c.specs.declared.opened.Shared.{Shared}
+use Rattle.smap_c.specs.declared.maps.Shared.{Shared}
 use Rattle.smap_c.specs.declared.scripts.Scripts.TheInside.{Inside}
 
 -- a URL, and what the map says

@@ -1,13 +1,13 @@
 //! Faults, as C sees them.
 ghost use Rattle.std.specs.Prelude.{◌≡◌, ◌<◌, ◌≤◌, ◌^◌, All, length, string_bytes, IfOk};
 ghost use Rattle.smap_record.specs.Words.{fault_words};
-ghost use Rattle.smap_c.specs.FaultBounds.{FaultFits, KindFits, PlaceFits};
-ghost use Rattle.smap_c.specs.Faults.{code_and_number, padded_path, padded_words, spelling_code};
-ghost use Rattle.smap_c.specs.Faults.{told_with, IsWhole, TellsFault};
+ghost use Rattle.smap_c.specs.FaultCodes.{fault_name};
+ghost use Rattle.smap_c.specs.Strings.{copied};
+ghost use Rattle.smap_c.specs.Faults.{FaultFits, KindFits, PlaceFits, code_and_number, padded_path};
+ghost use Rattle.smap_c.specs.Faults.{padded_words, spelling_code, told_with, IsWhole, TellsFault};
 
 use crate::codes::{MEMORY, REFUSED};
-use crate::copying::copy_out;
-use crate::fault_codes as code;
+use crate::strings::copy_out;
 use smap_mappings::{Memory, NumberFault, SegmentPlace};
 use smap_record::{Fault, Kind, Path};
 use std::alloc::Global;
@@ -36,10 +36,10 @@ fn spelling_code(fault: NumberFault) -> u32
     ensures { result ≡ spelling_code fault }
 {
     match fault {
-        NumberFault::Unfinished => code::UNFINISHED,
-        NumberFault::Character => code::CHARACTER,
-        NumberFault::TooLarge => code::TOO_LARGE,
-        NumberFault::NegativeZero => code::NEGATIVE_ZERO,
+        NumberFault::Unfinished => 23,
+        NumberFault::Character => 24,
+        NumberFault::TooLarge => 25,
+        NumberFault::NegativeZero => 26,
     }
 }
 
@@ -48,36 +48,36 @@ fn code_and_number(kind: Kind) -> (u32, usize)
     ensures { result ≡ code_and_number kind }
 {
     match kind {
-        Kind::Prefix => (code::PREFIX, 0),
-        Kind::Json => (code::JSON, 0),
-        Kind::NotObject => (code::NOT_OBJECT, 0),
-        Kind::Version => (code::VERSION, 0),
-        Kind::File => (code::FILE, 0),
-        Kind::Both => (code::BOTH, 0),
-        Kind::SourceRoot => (code::SOURCE_ROOT, 0),
-        Kind::Sources => (code::SOURCES, 0),
-        Kind::SourcesContent => (code::SOURCES_CONTENT, 0),
-        Kind::Names => (code::NAMES, 0),
-        Kind::IgnoreList => (code::IGNORE_LIST, 0),
-        Kind::Mappings => (code::MAPPINGS, 0),
-        Kind::Sections => (code::SECTIONS, 0),
-        Kind::Offset => (code::OFFSET, 0),
-        Kind::SectionMap => (code::SECTION_MAP, 0),
-        Kind::Nested => (code::NESTED, 0),
-        Kind::Order => (code::ORDER, 0),
-        Kind::Overlap => (code::OVERLAP, 0),
-        Kind::TooMany => (code::TOO_MANY, 0),
-        Kind::SourceUrl(i) => (code::SOURCE_URL, i),
-        Kind::UnstableUrl(i) => (code::UNSTABLE_URL, i),
-        Kind::Empty => (code::EMPTY, 0),
+        Kind::Prefix => (1, 0),
+        Kind::Json => (2, 0),
+        Kind::NotObject => (3, 0),
+        Kind::Version => (4, 0),
+        Kind::File => (5, 0),
+        Kind::Both => (6, 0),
+        Kind::SourceRoot => (7, 0),
+        Kind::Sources => (8, 0),
+        Kind::SourcesContent => (9, 0),
+        Kind::Names => (10, 0),
+        Kind::IgnoreList => (11, 0),
+        Kind::Mappings => (12, 0),
+        Kind::Sections => (13, 0),
+        Kind::Offset => (14, 0),
+        Kind::SectionMap => (15, 0),
+        Kind::Nested => (16, 0),
+        Kind::Order => (17, 0),
+        Kind::Overlap => (18, 0),
+        Kind::TooMany => (19, 0),
+        Kind::SourceUrl(i) => (20, i),
+        Kind::UnstableUrl(i) => (21, i),
+        Kind::Empty => (22, 0),
         Kind::Number(which, fault) => (spelling_code(fault), usize::from(which)),
-        Kind::Count(n) => (code::COUNT, usize::from(n)),
-        Kind::GeneratedLine => (code::GENERATED_LINE, 0),
-        Kind::Column => (code::COLUMN, 0),
-        Kind::Source => (code::SOURCE, 0),
-        Kind::OriginalLine => (code::ORIGINAL_LINE, 0),
-        Kind::OriginalColumn => (code::ORIGINAL_COLUMN, 0),
-        Kind::Name => (code::NAME, 0),
+        Kind::Count(n) => (27, usize::from(n)),
+        Kind::GeneratedLine => (28, 0),
+        Kind::Column => (29, 0),
+        Kind::Source => (30, 0),
+        Kind::OriginalLine => (31, 0),
+        Kind::OriginalColumn => (32, 0),
+        Kind::Name => (33, 0),
     }
 }
 
@@ -117,7 +117,7 @@ fn fault_fits(fault: &Fault)
 }
 
 /// The words of a fault.
-#[tactic(auto, using(crate::proofs::WordsLemmas::words_are_short))]
+#[tactic(auto, using(crate::proofs::FaultLemmas::words_are_short))]
 fn fault_text(alloc: Global, fault: &Fault) -> Result<String, Memory>
     ensures words { IfOk result (λ text. string_bytes text ≡ fault_words fault.now) }
     ensures short { length (fault_words fault.now) ≤ 260 }
@@ -178,4 +178,55 @@ pub(crate) fn tell_fault(alloc: Global, fault: &Fault, out: &mut SmapFault) -> u
         }
         Err(_) => MEMORY,
     }
+}
+
+/// The name of a kind of faults, or nothing for a number that is none.
+fn fault_name(kind: u32) -> &'static str
+    ensures { result.now ≡ fault_name kind }
+{
+    match kind {
+        1 => "Prefix",
+        2 => "Json",
+        3 => "NotObject",
+        4 => "Version",
+        5 => "File",
+        6 => "Both",
+        7 => "SourceRoot",
+        8 => "Sources",
+        9 => "SourcesContent",
+        10 => "Names",
+        11 => "IgnoreList",
+        12 => "Mappings",
+        13 => "Sections",
+        14 => "Offset",
+        15 => "SectionMap",
+        16 => "Nested",
+        17 => "Order",
+        18 => "Overlap",
+        19 => "TooMany",
+        20 => "SourceUrl",
+        21 => "UnstableUrl",
+        22 => "Empty",
+        23 => "Unfinished",
+        24 => "Character",
+        25 => "TooLarge",
+        26 => "NegativeZero",
+        27 => "Count",
+        28 => "GeneratedLine",
+        29 => "Column",
+        30 => "Source",
+        31 => "OriginalLine",
+        32 => "OriginalColumn",
+        33 => "Name",
+        _ => "",
+    }
+}
+
+/// Copies the name of a kind, and answers how long it is.
+#[unsafe(no_mangle)]
+pub extern "C" fn smap_fault_name(kind: u32, out: &mut [u8]) -> usize
+    ensures len { result ≡ length (fault_name kind) }
+    ensures copied { out.new ≡ copied (fault_name kind) out.old }
+{
+    copy_out(fault_name(kind).as_bytes(), out)
 }

@@ -5,29 +5,18 @@
 //! their whole length. Each export calls a function of the libraries and states its clauses again.
 #![tactic(auto)]
 
+mod bytes;
 mod codes;
-mod comparing;
-mod copying;
-mod counting;
-mod crossing;
-mod fault_codes;
 mod faults;
-mod finding;
-mod getting;
+mod handles;
 mod laws;
-mod limits;
-mod listed;
-mod loose;
+mod lists;
+mod lookups;
 mod maps;
 mod opened;
-mod opening;
-mod outputs;
-mod respelling;
 mod scripts;
-mod sharing;
-mod texts;
+mod sources;
+mod strings;
+mod threads;
 mod traces;
-mod translating;
-mod versions;
-mod ways;
-mod written;
+mod version;

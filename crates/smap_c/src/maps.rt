@@ -1,18 +1,135 @@
-//! The calls on a map's handle.
-ghost use Rattle.std.specs.Prelude.{◌≡◌, ◌∷◌, [], Option, Some, None, IfSome, MatchOption};
-ghost use Rattle.smap_c.specs.Opening.{OpensInto};
+//! The calls on a map as a whole: it is opened, closed, shared, compared and counted.
+ghost use Rattle.std.specs.Prelude.{◌≡◌, ◌↔◌, IsSome, IfSome, IsTrue, Option, Some, None, IfOk};
+ghost use Rattle.std.specs.Prelude.{option_copied, sum_by};
+ghost use Rattle.smap_record.specs.Record.{record_of};
+ghost use Rattle.smap_record.specs.Views.{entry_of_view};
+ghost use Rattle.smap_mappings.specs.Text.{line_count};
+ghost use Rattle.smap_c.specs.Maps.{allowed, AreLimits, or_usual, Opens, OpensInto, Shares, Compares};
+ghost use Rattle.smap_c.specs.Maps.{counts_of, Counts, FileTold, File};
+ghost use Rattle.smap_c.specs.Maps.{capped, memory_of, name_memory, source_memory, text_memory};
+ghost use Rattle.smap_c.specs.Maps.{TakesMemory};
 ghost use Rattle.smap_c.specs.Faults.{IsWhole};
-ghost use Rattle.smap_c.specs.Finding.{LooksUp};
-ghost use Rattle.smap_c.specs.Held.{held};
+ghost use Rattle.smap_c.specs.Handles.{held_map, is_map};
 
 use crate::codes::{CLOSED, LIMITS, MEMORY, NOT_URL, OK};
 use crate::faults::{SmapFault, tell_fault};
-use crate::finding::{SmapMapping, find};
-use crate::limits::SmapLimits;
-use crate::opened::{Shared, SmapMap};
-use crate::opening::{OpenFault, open};
+use crate::handles::{Held, SmapMap};
+use crate::opened::Opened;
+use crate::strings::tell;
+use smap_canon::same;
+use smap_mappings::{MAX_LINES, Memory};
+use smap_record::{Base, BaseFault, Fault, Limits, ReadError, SourceMap, SourceView};
 use std::alloc::Global;
-use std::mem;
+use std::sync::Arc;
+use std::{mem, str};
+
+/// How many sources and how many names a map may list, and how many generated lines it may have; 0 stands for
+/// the usual limit.
+#[repr(C)]
+#[derive(Clone, Copy)]
+pub struct SmapLimits {
+    pub items: u32,
+    pub lines: u32,
+}
+
+fn or_usual(limit: u32) -> u32
+    ensures { result ≡ or_usual limit }
+{
+    if limit == 0 { MAX_LINES } else { limit }
+}
+
+/// The limits that are asked for, unless they are too large.
+fn limits_of(asked: &SmapLimits) -> Option<Limits>
+    ensures valid { IsSome result ↔ AreLimits asked.now }
+    ensures value { IfSome result (λ l. l ≡ allowed asked.now) }
+{
+    Limits::new(or_usual(asked.items), or_usual(asked.lines))
+}
+
+/// A share in one. There may be several, in any threads.
+#[derive(Drop)]
+pub struct Shared {
+    pub arc: Arc<Opened>,
+}
+
+impl Shared {
+    /// The first share, to be held.
+    pub(crate) fn new(alloc: Global, opened: Opened) -> Result<Box<Held>, Memory>
+        ensures value { IfOk result (λ b. held_map (Some b.value) ≡ Some opened) }
+        ensures kind { IfOk result (λ b. IsTrue (is_map b.value)) }
+    {
+        let Ok(arc) = Arc::new(alloc, opened) else {
+            return Err(Memory);
+        };
+        Held::Map(Shared { arc }).boxed(alloc)
+    }
+
+    /// One more share.
+    pub(crate) fn part(&self) -> Result<Shared, Memory>
+        ensures { IfOk result (λ part. part.arc.value ≡ self.now.arc.value) }
+    {
+        match Arc::try_clone(&self.arc) {
+            Ok(arc) => Ok(Shared { arc }),
+            Err(_) => Err(Memory),
+        }
+    }
+
+    /// One more share, to be held.
+    pub(crate) fn again(&self, alloc: Global) -> Result<Box<Held>, Memory>
+        ensures value { IfOk result (λ b. held_map (Some b.value) ≡ Some self.now.arc.value) }
+        ensures kind { IfOk result (λ b. IsTrue (is_map b.value)) }
+    {
+        let part = self.part()?;
+        Held::Map(part).boxed(alloc)
+    }
+
+    /// What it owns.
+    pub(crate) fn opened(&self) -> &Opened
+        ensures { result.now ≡ self.now.arc.value }
+    {
+        &self.arc
+    }
+
+    /// Its map.
+    pub(crate) fn map(&self) -> &SourceMap
+        ensures { result.now ≡ self.now.arc.value.map }
+    {
+        &self.opened().map
+    }
+}
+
+/// Why no map was opened. `Memory` may come in place of any other answer.
+#[derive(Drop)]
+pub(crate) enum OpenFault {
+    Refused(Fault),
+    NotUrl,
+    Limits,
+    Memory,
+}
+
+/// The map of these bytes against the base that the text is.
+fn open(alloc: Global, bytes: &[u8], base: &[u8], limits: &SmapLimits) -> Result<Opened, OpenFault>
+    ensures { Opens bytes.now base.now limits.now result }
+{
+    let Some(limits) = limits_of(limits) else {
+        return Err(OpenFault::Limits);
+    };
+    let Ok(text) = str::from_utf8(base) else {
+        return Err(OpenFault::NotUrl);
+    };
+    match Base::new(alloc, text) {
+        Ok(base) => match SourceMap::from_slice_as_written(alloc, bytes, &base, limits) {
+            Ok((map, written)) => match Opened::new(alloc, base, map, written) {
+                Ok(opened) => Ok(opened),
+                Err(_) => Err(OpenFault::Memory),
+            },
+            Err(ReadError::Refused(fault)) => Err(OpenFault::Refused(fault)),
+            Err(ReadError::Memory) => Err(OpenFault::Memory),
+        },
+        Err(BaseFault::NotUrl) => Err(OpenFault::NotUrl),
+        Err(BaseFault::Memory) => Err(OpenFault::Memory),
+    }
+}
 
 /// Opens a map.
 #[unsafe(no_mangle)]
@@ -24,8 +141,8 @@ pub extern "C" fn smap_open(
     limits: &SmapLimits,
     fault: &mut SmapFault,
 ) -> u32
-    ensures opened { OpensInto bytes.now base.now limits.now (held map.old.owner.value)
-        (held map.new.owner.value) fault.old fault.new result }
+    ensures opened { OpensInto bytes.now base.now limits.now (held_map map.old.owner.value)
+        (held_map map.new.owner.value) fault.old fault.new result }
     ensures whole { IsWhole fault.new result }
 {
     match open(alloc, bytes, base, limits) {
@@ -51,22 +168,205 @@ pub extern "C" fn smap_close(alloc: Global, map: &mut SmapMap)
     *map = SmapMap::closed(alloc);
 }
 
-/// The mapping that a generated position falls to.
+/// Makes the other handle one of the same map, as for another thread. What it had is freed.
 #[unsafe(no_mangle)]
-pub extern "C" fn smap_lookup(
+pub extern "C" fn smap_share(alloc: Global, map: &mut SmapMap, other: &mut SmapMap) -> u32
+    ensures shared { Shares (held_map map.old.owner.value) (held_map other.old.owner.value)
+        (held_map other.new.owner.value) result }
+    ensures same { map.new.owner.value ≡ map.old.owner.value }
+{
+    let Some(it) = mem::replace(map, SmapMap::closed(alloc)).into_box() else {
+        return CLOSED;
+    };
+    let answer = it.shared().again(alloc);
+    *map = SmapMap::of(it);
+    match answer {
+        Ok(again) => {
+            *other = SmapMap::of(again);
+            OK
+        }
+        Err(_) => MEMORY,
+    }
+}
+
+/// Whether the records of two maps are equal, as of two texts that mean one thing.
+#[unsafe(no_mangle)]
+pub extern "C" fn smap_same(
     alloc: Global,
-    map: &mut SmapMap,
-    line: u32,
-    column: u32,
-    out: &mut SmapMapping,
+    one: &mut SmapMap,
+    other: &mut SmapMap,
+    out: &mut bool,
 ) -> u32
-    ensures found { LooksUp (held map.old.owner.value) line column out.old out.new result }
+    ensures compared { Compares (held_map one.old.owner.value) (held_map other.old.owner.value)
+        out.old out.new result }
+    ensures one { one.new.owner.value ≡ one.old.owner.value }
+    ensures other { other.new.owner.value ≡ other.old.owner.value }
+{
+    let Some(a) = mem::replace(one, SmapMap::closed(alloc)).into_box() else {
+        return CLOSED;
+    };
+    let Some(b) = mem::replace(other, SmapMap::closed(alloc)).into_box() else {
+        *one = SmapMap::of(a);
+        return CLOSED;
+    };
+    *out = same(&a.opened().map, &b.opened().map);
+    *one = SmapMap::of(a);
+    *other = SmapMap::of(b);
+    OK
+}
+
+/// How many distinct sources, listed sources, listed names and mappings a map has, and one more than the
+/// line of its last mapping.
+#[repr(C)]
+#[derive(Clone, Copy)]
+pub struct SmapCounts {
+    pub sources: usize,
+    pub listed_sources: usize,
+    pub names: usize,
+    pub mappings: usize,
+    pub lines: u32,
+}
+
+/// One more than the line of the last mapping, or 0 without one.
+fn line_count(map: &SourceMap) -> u32
+    ensures { result ≡ line_count map.now.listing.tokens }
+{
+    let count = map.token_count();
+    if count == 0 {
+        return 0;
+    }
+    map.listed_token(count - 1).line + 1
+}
+
+fn counts_of(map: &SourceMap) -> SmapCounts
+    ensures { result ≡ counts_of map.now }
+{
+    SmapCounts {
+        sources: map.source_count(),
+        listed_sources: map.listed_count(),
+        names: map.name_count(),
+        mappings: map.token_count(),
+        lines: line_count(map),
+    }
+}
+
+/// How much a map holds.
+#[unsafe(no_mangle)]
+pub extern "C" fn smap_count(alloc: Global, map: &mut SmapMap, out: &mut SmapCounts) -> u32
+    ensures counts { Counts (held_map map.old.owner.value) out.old out.new result }
     ensures same { map.new.owner.value ≡ map.old.owner.value }
 {
     match mem::replace(map, SmapMap::closed(alloc)).into_box() {
         None => CLOSED,
         Some(held) => {
-            let code = find(&held.opened().map, line, column, out);
+            *out = counts_of(&held.opened().map);
+            *map = SmapMap::of(held);
+            OK
+        }
+    }
+}
+
+/// What a map takes besides its strings and the things below: its base, and tables that are nearly empty.
+const OF_MAP: usize = 1024;
+
+/// What a distinct source takes besides its strings, with its place in the table that finds it.
+const OF_SOURCE: usize = 144;
+
+/// What a name takes besides its bytes.
+const OF_NAME: usize = 48;
+
+/// A source as listed is a number.
+const OF_LISTED_SOURCE: usize = 8;
+
+const OF_MAPPING: usize = 32;
+
+fn text_memory(text: Option<&str>) -> usize
+    ensures { result ≡ text_memory (option_copied text.entry) }
+{
+    match text {
+        Some(text) => text.len(),
+        None => 0,
+    }
+}
+
+fn source_memory(source: SourceView<'_>) -> usize
+    ensures { result ≡ capped (source_memory (entry_of_view source.entry)) }
+{
+    let texts = text_memory(source.url).saturating_add(text_memory(source.content));
+    texts.saturating_add(OF_SOURCE)
+}
+
+fn sources_memory(map: &SourceMap) -> usize
+    ensures { result ≡ capped (sum_by source_memory (record_of map.now).sources) }
+{
+    let mut total: usize = 0;
+    for i in 0..map.source_count() {
+        total = total.saturating_add(source_memory(map.source(i)));
+    }
+    total
+}
+
+fn names_memory(map: &SourceMap) -> usize
+    ensures { result ≡ capped (sum_by name_memory map.now.listing.names) }
+{
+    let mut total: usize = 0;
+    for i in 0..map.name_count() {
+        let name = map.name(i).len().saturating_add(OF_NAME);
+        total = total.saturating_add(name);
+    }
+    total
+}
+
+fn memory_of(map: &SourceMap) -> usize
+    ensures { result ≡ capped (memory_of map.now) }
+{
+    let own = text_memory(map.file()).saturating_add(OF_MAP);
+    let listed = map.listed_count().saturating_mul(OF_LISTED_SOURCE);
+    let mappings = map.token_count().saturating_mul(OF_MAPPING);
+    let lists = names_memory(map).saturating_add(listed.saturating_add(mappings));
+    own.saturating_add(sources_memory(map).saturating_add(lists))
+}
+
+/// About how many bytes of memory a map takes.
+#[unsafe(no_mangle)]
+pub extern "C" fn smap_held(alloc: Global, map: &mut SmapMap, out: &mut usize) -> u32
+    ensures told { TakesMemory (held_map map.old.owner.value) out.old out.new result }
+    ensures same { map.new.owner.value ≡ map.old.owner.value }
+{
+    match mem::replace(map, SmapMap::closed(alloc)).into_box() {
+        None => CLOSED,
+        Some(held) => {
+            *out = memory_of(&held.opened().map);
+            *map = SmapMap::of(held);
+            OK
+        }
+    }
+}
+
+fn file_of(map: &SourceMap, out: &mut [u8], len: &mut usize) -> u32
+    ensures { FileTold map.now out.old out.new len.new result }
+{
+    tell(map.file(), out, len)
+}
+
+/// The name of the generated file.
+#[unsafe(no_mangle)]
+pub extern "C" fn smap_file(
+    alloc: Global,
+    map: &mut SmapMap,
+    out: &mut [u8],
+    len: &mut usize,
+) -> u32
+    ensures told { File (held_map map.old.owner.value) out.old out.new len.new result }
+    ensures same { map.new.owner.value ≡ map.old.owner.value }
+{
+    match mem::replace(map, SmapMap::closed(alloc)).into_box() {
+        None => {
+            *len = 0;
+            CLOSED
+        }
+        Some(held) => {
+            let code = file_of(&held.opened().map, out, len);
             *map = SmapMap::of(held);
             code
         }

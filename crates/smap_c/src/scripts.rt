@@ -1,19 +1,27 @@
-//! Scripts, each a URL and a map, and the handle of them.
-ghost use Rattle.std.specs.Prelude.{◌≡◌, ◌↔◌, [], Option, Some, None, IsSome, IsTrue};
-ghost use Rattle.std.specs.Prelude.{IfOk, OnOk, OnErr, MatchOption, string_bytes};
+//! Scripts, each a URL and a map, and the translation of a whole trace by them.
+ghost use Rattle.std.specs.Prelude.{◌≡◌, [], Some, None, IfOk, IsTrue, OnOk, OnErr, option_map};
+ghost use Rattle.std.specs.Prelude.{string_bytes};
 ghost use Rattle.smap_record.specs.Record.{record_of};
 ghost use Rattle.smap_trace.specs.Translation.{AreDistinct};
 ghost use Rattle.smap_trace.specs.Views.{scripts_in};
-ghost use Rattle.smap_c.specs.Scripting.{with_script};
-ghost use Rattle.smap_c.specs.declared.scripts.Scripts.{Scripts};
+ghost use Rattle.smap_c.specs.Scripts.{with_script, Adds, AddsScript, told_counts, told_trace};
+ghost use Rattle.smap_c.specs.Scripts.{TranslatesInto, TranslatesBy};
+ghost use Rattle.smap_c.specs.Handles.{held_bytes, held_map, held_scripts, is_scripts};
+ghost use Rattle.smap_c.specs.Traces.{fates};
 
-use crate::loose::Loose;
-use crate::opened::Shared;
+use crate::bytes::Written;
+use crate::codes::{CLOSED, MEMORY, NOT_URL, OK};
+use crate::handles::{Held, SmapBytes, SmapMap, SmapScripts};
+use crate::maps::Shared;
+use crate::traces::{finding_in, hides};
 use indexmap::IndexMap;
+use smap_io::Device;
 use smap_mappings::Memory;
 use smap_record::SourceMap;
+use smap_trace::{Counts, translate_by};
 use std::alloc::Global;
 use std::marker::Model;
+use std::{mem, str};
 
 /// The maps of scripts by the scripts' URLs, in the order in which these were first added. A contract sees
 /// the URLs and what the maps say.
@@ -74,100 +82,176 @@ impl Scripts {
     }
 }
 
-/// Owns one in a box, or nothing, through a pointer that C carries. Dropping it forgets what it owns, so that
-/// happens only when it owns nothing.
+/// How many lines a trace has, and how many of them are translated and dropped.
 #[repr(C)]
-#[derive(Drop)]
-pub struct ScriptsOwner {
-    at: *mut u8,
+#[derive(Clone, Copy)]
+pub struct SmapTraceCounts {
+    pub lines: u64,
+    pub translated: u64,
+    pub dropped: u64,
+}
+
+/// The scripts of a handle that had none.
+fn first(alloc: Global, url: String, shared: Shared) -> Result<Box<Held>, Memory>
+    ensures value { IfOk result (λ b. held_scripts (Some b.value)
+        ≡ Some (with_script (string_bytes url) (record_of shared.arc.value.map) [])) }
+    ensures kind { IfOk result (λ b. IsTrue (is_scripts b.value)) }
+{
+    let scripts = Scripts::new(alloc, url, shared)?;
+    Held::Scripts(scripts).boxed(alloc)
+}
+
+/// Puts a script among those that are held, in place of one of the same URL.
+fn put(held: &mut Held, url: String, shared: Shared) -> Result<(), Memory>
+    requires { IsTrue (is_scripts held.old) }
+    ensures kind { IsTrue (is_scripts held.new) }
+    ensures ok { OnOk result (held_scripts (Some held.new)
+        ≡ option_map (with_script (string_bytes url) (record_of shared.arc.value.map))
+        (held_scripts (Some held.old))) }
+    ensures err { OnErr result (held.new ≡ held.old) }
+{
+    match held {
+        Held::Scripts(scripts) => scripts.put(url, shared),
+        Held::Map(_) | Held::Bytes(_) => unreachable!(),
+    }
+}
+
+/// Puts a script among those of the handle, in place of one of the same URL.
+fn add(alloc: Global, scripts: &mut SmapScripts, url: String, shared: Shared) -> u32
+    ensures { Adds (string_bytes url) (record_of shared.arc.value.map)
+        (held_scripts scripts.old.owner.value) (held_scripts scripts.new.owner.value) result }
+{
+    let Some(mut held) = mem::replace(scripts, SmapScripts::closed(alloc)).into_box() else {
+        let Ok(held) = first(alloc, url, shared) else {
+            return MEMORY;
+        };
+        *scripts = SmapScripts::of(held);
+        return OK;
+    };
+    let answer = put(&mut held, url, shared);
+    *scripts = SmapScripts::of(held);
+    match answer {
+        Ok(_) => OK,
+        Err(_) => MEMORY,
+    }
+}
+
+/// Adds a script.
+#[unsafe(no_mangle)]
+pub extern "C" fn smap_add_script(
     alloc: Global,
-    pub ghost value: { Option Scripts },
-}
-
-impl Model for ScriptsOwner {
-    ghost use Rattle.smap_c.specs.OwnedScripts.{owned};
-
-    ghost also_owns = { λ h. owned h.alloc h.at h.value };
-}
-
-unsafe impl Send for ScriptsOwner {}
-
-impl ScriptsOwner {
-    fn none(alloc: Global) -> ScriptsOwner
-        ensures { result.value ≡ None }
-    {
-        ScriptsOwner {
-            at: std::ptr::null_mut(),
-            alloc,
-        }
-    }
-
-    fn of(held: Loose<Scripts, Global>) -> ScriptsOwner
-        ensures { result.value ≡ Some held.value }
-    {
-        let Loose { at, alloc } = held;
-        ScriptsOwner {
-            at: at as *mut u8,
-            alloc,
-        }
-    }
-
-    fn into_loose(self) -> Loose<Scripts, Global>
-        requires { IsSome self.value }
-        ensures { Some result.value ≡ self.value }
-    {
-        let ScriptsOwner { at, alloc } = self;
-        Loose {
-            at: at as *mut Scripts,
-            alloc,
-        }
+    scripts: &mut SmapScripts,
+    url: &[u8],
+    map: &mut SmapMap,
+) -> u32
+    ensures added { AddsScript url.now (held_map map.old.owner.value) (held_scripts scripts.old.owner.value)
+        (held_scripts scripts.new.owner.value) result }
+    ensures same { map.new.owner.value ≡ map.old.owner.value }
+{
+    let Ok(text) = str::from_utf8(url) else {
+        return NOT_URL;
+    };
+    let Some(it) = mem::replace(map, SmapMap::closed(alloc)).into_box() else {
+        return CLOSED;
+    };
+    let part = it.shared().part();
+    *map = SmapMap::of(it);
+    let Ok(shared) = part else {
+        return MEMORY;
+    };
+    match String::from_str(alloc, text) {
+        Ok(url) => add(alloc, scripts, url, shared),
+        Err(_) => MEMORY,
     }
 }
 
-/// The handle of scripts. C makes one by zeros, which is closed, and never writes into it nor copies it.
-#[repr(C)]
-pub struct SmapScripts {
-    is_open: bool,
-    pub owner: ScriptsOwner,
-    ghost tied: { IsTrue is_open ↔ IsSome owner.value },
+/// Frees scripts. A handle that is closed stays so.
+#[unsafe(no_mangle)]
+pub extern "C" fn smap_close_scripts(alloc: Global, scripts: &mut SmapScripts)
+    ensures { scripts.new.owner.value ≡ None }
+{
+    *scripts = SmapScripts::closed(alloc);
 }
 
-impl Drop for SmapScripts {
-    fn drop(self) {
-        drop(self.into_box());
+fn told_counts(counts: Counts) -> SmapTraceCounts
+    ensures { result ≡ told_counts counts }
+{
+    SmapTraceCounts {
+        lines: counts.lines,
+        translated: counts.translated,
+        dropped: counts.dropped,
     }
 }
 
-impl SmapScripts {
-    /// The handle that is closed.
-    pub(crate) fn closed(alloc: Global) -> SmapScripts
-        ensures { result.owner.value ≡ None }
-    {
-        SmapScripts {
-            is_open: false,
-            owner: ScriptsOwner::none(alloc),
-        }
+/// The translation of a trace, and its counts.
+fn translated(
+    alloc: Global,
+    scripts: &Scripts,
+    trace: &[u8],
+    how: u8,
+) -> Result<(Vec<u8>, Counts), Memory>
+    ensures { IfOk result (λ told. (told.0.items, told.1)
+        ≡ told_trace (fates how scripts.now) trace.now) }
+{
+    let pairs = scripts.pairs(alloc)?;
+    let mut reader = Device::new(trace);
+    let mut writer = Device::new(Vec::new(alloc));
+    match translate_by(
+        alloc,
+        &mut reader,
+        pairs.as_slice(),
+        finding_in(how),
+        hides(how),
+        &mut writer,
+    ) {
+        Ok(counts) => Ok((writer.into_inner(), counts)),
+        Err(_) => Err(Memory),
     }
+}
 
-    /// The handle that owns this.
-    pub(crate) fn of(held: Box<Scripts>) -> SmapScripts
-        ensures { result.owner.value ≡ Some held.value }
-    {
-        SmapScripts {
-            is_open: true,
-            owner: ScriptsOwner::of(Loose::of(held)),
-        }
-    }
+/// Puts the translation into a handle.
+fn translate_into(
+    alloc: Global,
+    scripts: &Scripts,
+    trace: &[u8],
+    how: u8,
+    out: &mut SmapBytes,
+    counts: &mut SmapTraceCounts,
+) -> u32
+    ensures { TranslatesInto (told_trace (fates how scripts.now) trace.now)
+        (held_bytes out.old.owner.value) (held_bytes out.new.owner.value) counts.old counts.new result }
+{
+    let Ok((bytes, told)) = translated(alloc, scripts, trace, how) else {
+        return MEMORY;
+    };
+    let Ok(held) = Held::Bytes(Written { bytes }).boxed(alloc) else {
+        return MEMORY;
+    };
+    *out = SmapBytes::of(held);
+    *counts = told_counts(told);
+    OK
+}
 
-    /// What it owns.
-    pub(crate) fn into_box(self) -> Option<Box<Scripts>>
-        ensures { MatchOption result (self.owner.value ≡ None) (λ b. self.owner.value ≡ Some b.value) }
-    {
-        let SmapScripts { is_open, owner } = self;
-        if is_open {
-            Some(owner.into_loose().into_box())
-        } else {
-            None
+/// The translation of a trace by scripts.
+#[unsafe(no_mangle)]
+pub extern "C" fn smap_translate(
+    alloc: Global,
+    scripts: &mut SmapScripts,
+    trace: &[u8],
+    how: u8,
+    out: &mut SmapBytes,
+    counts: &mut SmapTraceCounts,
+) -> u32
+    ensures told { TranslatesBy (held_scripts scripts.old.owner.value) trace.now how
+        (held_bytes out.old.owner.value) (held_bytes out.new.owner.value) counts.old counts.new result }
+    ensures same { scripts.new.owner.value ≡ scripts.old.owner.value }
+{
+    match mem::replace(scripts, SmapScripts::closed(alloc)).into_box() {
+        None => CLOSED,
+        Some(held) => {
+            let code = translate_into(alloc, held.scripts(), trace, how, out, counts);
+            *scripts = SmapScripts::of(held);
+            code
         }
     }
 }

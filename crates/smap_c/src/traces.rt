@@ -1,14 +1,13 @@
 //! The calls on the lines of a trace.
-ghost use Rattle.std.specs.Prelude.{◌≡◌, length};
-ghost use Rattle.smap_c.specs.Tracing.{FrameTold, LineTold, LineBy, TellsLine};
-ghost use Rattle.smap_c.specs.Held.{held};
+ghost use Rattle.std.specs.Prelude.{◌≡◌};
+ghost use Rattle.smap_c.specs.Traces.{finding_in, hides, FrameTold, LineTold, LineBy, TellsLine};
+ghost use Rattle.smap_c.specs.Handles.{held_map};
 
 use crate::codes::{CLOSED, MEMORY, NONE, NOT_URL, OK};
-use crate::copying::copy_out;
-use crate::opened::{Opened, SmapMap};
-use crate::ways::{finding_in, hides};
+use crate::handles::SmapMap;
+use crate::strings::copy_out;
 use smap_record::SourceMap;
-use smap_trace::{LineOutcome, frame, translate_line_by};
+use smap_trace::{Finding, LineOutcome, frame, translate_line_by};
 use std::alloc::Global;
 use std::{mem, str};
 
@@ -38,6 +37,32 @@ pub extern "C" fn smap_frame(text: &[u8], out: &mut SmapFrame) -> u32
             OK
         }
         None => NONE,
+    }
+}
+
+/// Frames in ignored sources are left out.
+const HIDE_IGNORED: u8 = 1;
+
+/// Positions are found anywhere in a line, not only as those of frames.
+const ANYWHERE: u8 = 2;
+
+/// A query or a fragment behind a script's URL is ignored.
+const IGNORE_QUERY: u8 = 4;
+
+/// Whether frames in ignored sources are left out.
+pub(crate) fn hides(how: u8) -> bool
+    ensures { result ≡ hides how }
+{
+    how & HIDE_IGNORED == HIDE_IGNORED
+}
+
+/// How positions are found.
+pub(crate) fn finding_in(how: u8) -> Finding
+    ensures { result ≡ finding_in how }
+{
+    Finding {
+        anywhere: how & ANYWHERE == ANYWHERE,
+        ignore_query: how & IGNORE_QUERY == IGNORE_QUERY,
     }
 }
 
@@ -106,7 +131,7 @@ pub extern "C" fn smap_translate_line(
     len: &mut usize,
     outcome: &mut u32,
 ) -> u32
-    ensures told { TellsLine (held map.old.owner.value) url.now line.now how out.old out.new len.new
+    ensures told { TellsLine (held_map map.old.owner.value) url.now line.now how out.old out.new len.new
         outcome.old outcome.new result }
     ensures same { map.new.owner.value ≡ map.old.owner.value }
 {

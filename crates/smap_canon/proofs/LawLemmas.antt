@@ -21,7 +21,7 @@ use Rattle.smap_canon.specs.Layout.{absolute, Form, absolute_form, relative_form
 use Rattle.smap_canon.specs.Layout.{ReadsBack}
 use Rattle.smap_canon.specs.Canonical.{canonical_map, canonical_listing, canonical_text_in}
 use Rattle.smap_canon.specs.Laws.{AreLimits, ReadAs, CanonicalBytesAreAFixedPoint}
-use Rattle.smap_canon.specs.Laws.{EqualBytesForEqualRecordsOnly, IsReadAgain, IsReadAgainFrom}
+use Rattle.smap_canon.specs.Laws.{EqualBytesForEqualRecordsOnly, IsReadAgain, IsReadAgainIn}
 use Rattle.smap_canon.specs.Laws.{IsFlatReadAgain}
 use Rattle.smap_canon.proofs.ListLemmas.{any_Contains}
 use Rattle.smap_canon.proofs.EntryLemmas.{LeadsBack}
@@ -126,11 +126,11 @@ pub read_again_listing : (m : ReadMap) → IsListing m.listing
 read_again_listing m listing back base limits fits =
     read_again absolute_form base limits (record_of m) (listing-writable m listing) fits back
 
-pub read_again_from : (m : ReadMap) (base : Parts)
-    → IsListing m.listing → ReadsBack (layout (spelling_in relative_form base) (canonical_map (record_of m)))
-    → IsReadAgainFrom base (record_of m)
-read_again_from m base listing back limits fits =
-    read_again relative_form base limits (record_of m) (listing-writable m listing) fits back
+pub read_again_in : (form : Form) (m : ReadMap) (base : Parts)
+    → IsListing m.listing → ReadsBack (layout (spelling_in form base) (canonical_map (record_of m)))
+    → IsReadAgainIn form base (record_of m)
+read_again_in form m base listing back limits fits =
+    read_again form base limits (record_of m) (listing-writable m listing) fits back
 
 -- ---- what `flatten` promises
 

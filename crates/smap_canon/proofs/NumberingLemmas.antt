@@ -21,6 +21,7 @@ use Rattle.smap_record.specs.Fitting.{names_used}
 use Rattle.smap_record.proofs.EqualLemmas.{same_bytes, own_bytes}
 use Rattle.smap_record.proofs.DistinctLemmas.{distinct-push}
 use Rattle.smap_record.proofs.ListLemmas.{all_append, all_weaker, take_next, map-push}
+use Rattle.smap_canon.proofs.PushedLemmas.{take_none}
 use Rattle.smap_canon.specs.Numbering.{texts_of, name_of, with_name, AreNumbers, IsNumbered}
 use Rattle.smap_canon.specs.declared.numbering.TheConstants.{UNUSED}
 
@@ -74,11 +75,7 @@ used-with_name ms i m at = by (name_of m) refl
 pub used-start : (ks : List (Bor (List ℕ))) (ms : List Mapping)
     → ks ≡ [] → texts_of ks ≡ names_used (take 0 ms)
 unfolding distinct
-used-start ks ms e = ap texts_of e ∙ sym (ap (λ xs. names_used xs) (take-zero ms))
-  where
-    take-zero : (xs : List Mapping) → take 0 xs ≡ []
-    take-zero [] = refl
-    take-zero (x ∷ xs) = refl
+used-start ks ms e = ap texts_of e ∙ sym (ap (λ xs. names_used xs) (take_none ms))
 
 -- ---- a place stays
 

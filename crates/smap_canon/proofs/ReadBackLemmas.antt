@@ -1,7 +1,7 @@
 -- What is written of a layout is read back as that layout.
 use Rattle.std.proofs.Common.{◌≡◌, ℕ, ◌<◌, ◌≤◌, ◌^◌, suc, List, [], ◌∷◌, length, map, Option, Some, None, ap}
 use Rattle.std.proofs.Common.{ap₂, refl, ◌∙◌, sym, Bool, true, false, cond, max, arith, append-nil}
-use Rattle.std.specs.Prelude.{codes, option_map, option_and_then, IfSome, IsUtf8}
+use Rattle.std.specs.Prelude.{option_map, option_and_then, IfSome, IsUtf8}
 use Rattle.std.specs.List.{AllByRecursion}
 use Rattle.json.specs.Token.{Token}
 use Rattle.json.specs.Lex.{tokens}
@@ -13,26 +13,22 @@ use Rattle.json.proofs.Printed.Trees.{value-json_tokens, ArePrintable-json_token
 use Rattle.serde_json.specs.Data.{Data, null, boolean, number, string, array, object, Items, no_items, item}
 use Rattle.serde_json.specs.Data.{Members, no_members, member}
 use Rattle.serde_json.specs.Data.{depth, items_depth, members_depth}
-use Rattle.serde_json.specs.Read.{of_json, of_items, of_members, max_depth}
+use Rattle.serde_json.specs.Read.{of_json, of_items, max_depth}
 use Rattle.serde_json.specs.View.{items_of}
 use Rattle.serde_json.specs.Written.{outline, items_outline, members_outline, compact_text}
 use Rattle.serde_json.proofs.Numbers.{number_of-decimal}
 use Rattle.serde_json.proofs.Texts.{print-outline}
-use Rattle.smap_mappings.specs.Text.{mappings_text}
 use Rattle.smap_record.specs.Record.{Entry, ReadMap}
 use Rattle.smap_canon.specs.Layout.{layout, layout_text, list_of, or_null, whole_number, ignored_from}
-use Rattle.smap_canon.specs.Layout.{unless_empty, optional_member}
+use Rattle.smap_canon.specs.Layout.{unless_empty}
 use Rattle.smap_canon.specs.Layout.{has_content, written_contents, ReadsBack}
+use Rattle.smap_canon.proofs.MemberLemmas.{IsSaid, members_of, members_said, before_rest}
 use Rattle.smap_canon.proofs.EntryLemmas.{ignored_below}
-use Rattle.smap_canon.proofs.TreeLemmas.{layout_depth, layout_number, parts_float}
+use Rattle.smap_canon.proofs.TreeLemmas.{layout_writable}
 use Rattle.serde.specs.Event.{Log}
 use Rattle.serde_json.specs.Events.{SendsValue}
 use Rattle.serde_json.specs.Sent.{IsTextOf}
 use Rattle.serde_json.proofs.FreeTexts.{text_of_value}
-
--- the JSON of the value says it
-abbrev IsSaid : Data → Type 0
-IsSaid d = of_json (outline d) ≡ Some d
 
 abbrev AreSaid : Items → Type 0
 AreSaid ds = of_items (items_outline ds) ≡ Some ds
@@ -84,51 +80,21 @@ file_said : (o : Option (List ℕ)) → IfSome (option_map string o) IsSaid
 file_said None = tt
 file_said (Some s) = refl
 
-abbrev the_members : Option Data → Option Data → Option Data → Data → Data → Data → Members
-the_members file ignored contents text names urls =
-    optional_member (codes "file") file
-    (optional_member (codes "ignoreList") ignored
-    (member (codes "mappings") text
-    (member (codes "names") names
-    (member (codes "sources") urls
-    (optional_member (codes "sourcesContent") contents
-    (member (codes "version") (whole_number 3) no_members))))))
-
-members_said : (file ignored contents : Option Data) (text names urls : Data) → IfSome file IsSaid
-    → IfSome ignored IsSaid → IfSome contents IsSaid → IsSaid text → IsSaid names → IsSaid urls
-    → of_members (members_outline (the_members file ignored contents text names urls)) no_members
-    ≡ Some (the_members file ignored contents text names urls)
-members_said None None None text names urls f i c t n u = rw (t, n, u, number_said 3 (omega arith)) refl
-members_said None None (Some d) text names urls f i c t n u =
-    rw (t, n, u, c, number_said 3 (omega arith)) refl
-members_said None (Some d) None text names urls f i c t n u =
-    rw (t, n, u, i, number_said 3 (omega arith)) refl
-members_said None (Some d) (Some e) text names urls f i c t n u =
-    rw (t, n, u, i, c, number_said 3 (omega arith)) refl
-members_said (Some a) None None text names urls f i c t n u =
-    rw (f, t, n, u, number_said 3 (omega arith)) refl
-members_said (Some a) None (Some d) text names urls f i c t n u =
-    rw (f, t, n, u, c, number_said 3 (omega arith)) refl
-members_said (Some a) (Some d) None text names urls f i c t n u =
-    rw (f, t, n, u, i, number_said 3 (omega arith)) refl
-members_said (Some a) (Some d) (Some e) text names urls f i c t n u =
-    rw (f, t, n, u, i, c, number_said 3 (omega arith)) refl
-
 layout_said : (spell : List ℕ → List ℕ) (m : ReadMap) → length m.listing.sources ≤ 2 ^ 64
     → IsSaid (layout spell m)
 unfolding layout
 layout_said spell m few =
     let es = m.listing.sources in
-    let ignored = unless_empty (map whole_number (ignored_from 0 es)) in
-    let names = list_of (map string m.listing.names) in
-    let urls = list_of (map (λ (e : Entry). or_null (option_map spell e.url)) es) in
-    let i = unless_empty_said (map whole_number (ignored_from 0 es))
-    (numbers_said (ignored_from 0 es) (ignored_below 0 (2 ^ 64) es (omega (arith, few)))) in
-    let n = list_said (map string m.listing.names) (each_said string (λ s. refl) m.listing.names) in
-    let u = list_said (map (λ (e : Entry). or_null (option_map spell e.url)) es) (each_said
-    (λ (e : Entry). or_null (option_map spell e.url)) (λ e. or_null_said (option_map spell e.url)) es) in
-    ap (option_map object) (members_said (option_map string m.file) ignored (written_contents es)
-    (string (mappings_text m.listing.tokens)) names urls (file_said m.file) i (contents_said es) refl n u)
+    ap (option_map object) (members_said (members_of spell m) refl
+    (before_rest (file_said m.file)
+    (before_rest (unless_empty_said (map whole_number (ignored_from 0 es))
+    (numbers_said (ignored_from 0 es) (ignored_below 0 (2 ^ 64) es (omega (arith, few)))))
+    (before_rest refl
+    (before_rest (list_said (map string m.listing.names) (each_said string (λ s. refl) m.listing.names))
+    (before_rest (list_said (map (λ (e : Entry). or_null (option_map spell e.url)) es)
+    (each_said (λ (e : Entry). or_null (option_map spell e.url))
+    (λ e. or_null_said (option_map spell e.url)) es))
+    (before_rest (contents_said es) (before_rest (number_said 3 (omega arith)) tt))))))))
 
 -- ---- the text
 
@@ -159,21 +125,19 @@ pub compact_back : (spell : List ℕ → List ℕ) (m : ReadMap) → length m.li
 compact_back spell m few utf8 =
     let d = layout spell m in
     let ts = json_tokens (outline d) in
-    let below = ignored_below 0 (2 ^ 64) m.listing.sources (omega (arith, few)) in
+    let is = layout_writable spell m (ignored_below 0 (2 ^ 64) m.listing.sources (omega (arith, few))) in
     let same : tokens (compact_text d) ≡ ts = ap tokens (sym (print-outline d))
-    ∙ tokens-print ts (ArePrintable-json_tokens (outline d) (layout_number spell m below)) in
+    ∙ tokens-print ts (ArePrintable-json_tokens (outline d) is.printable) in
     record {
       utf8 = utf8;
       same = ap read_whole (ap (json.value max_depth) (same ∙ sym (append-nil ts))
-          ∙ value-json_tokens (outline d) max_depth [] (omega (arith, same_depth d, layout_depth spell m)))
+          ∙ value-json_tokens (outline d) max_depth [] (omega (arith, same_depth d, is.shallow)))
           ∙ layout_said spell m few;
     }
 
 -- what is sent for it has its text
 pub sent_text : (spell : List ℕ → List ℕ) (m : ReadMap) (log : Log) (bytes : List ℕ)
-    → SendsValue (layout spell m) (Some []) log → IsTextOf log bytes → bytes ≡ layout_text spell m
-unfolding layout
-sent_text spell m log bytes sent is =
-    text_of_value (layout spell m) log bytes sent is
-    (parts_float spell m.file (ignored_from 0 m.listing.sources) (mappings_text m.listing.tokens)
-    m.listing.names m.listing.sources (has_content m.listing.sources))
+    → length m.listing.sources ≤ 2 ^ 64 → SendsValue (layout spell m) (Some []) log → IsTextOf log bytes
+    → bytes ≡ layout_text spell m
+sent_text spell m log bytes few sent is = text_of_value (layout spell m) log bytes sent is
+    (layout_writable spell m (ignored_below 0 (2 ^ 64) m.listing.sources (omega (arith, few)))).no_float

@@ -1,5 +1,5 @@
 -- The bytes of a listing are read as that listing.
-use Rattle.std.proofs.Common.{◌≡◌, ℕ, ◌≤◌, ◌+◌, List, [], ◌∷◌, length, map, Option, Some, None, Ok, ap, refl}
+use Rattle.std.proofs.Common.{◌≡◌, ℕ, ◌≤◌, ◌+◌, List, [], length, map, Option, Some, None, Ok, ap, refl}
 use Rattle.std.proofs.Common.{◌∙◌, true, false, cond, arith}
 use Rattle.std.specs.Prelude.{nat_lt, option_map}
 use Rattle.std.specs.List.{AllByRecursion}
@@ -9,8 +9,6 @@ use Rattle.std.proofs.lemmas.Bool.{le-ltb}
 use Rattle.std.proofs.lemmas.List.{length-map}
 use Rattle.std.proofs.lemmas.Str.{is_utf8-from_IsUtf8}
 use Rattle.serde_json.specs.Read.{read}
-use Rattle.smap_mappings.specs.declared.token.Token.{Token}
-use Rattle.smap_mappings.specs.declared.token.Original.{Original}
 use Rattle.smap_mappings.specs.declared.token.Bounds.{Bounds}
 use Rattle.smap_mappings.specs.Text.{mappings_text}
 use Rattle.smap_mappings.specs.Decoded.{decoded}
@@ -18,10 +16,11 @@ use Rattle.smap_shape.specs.Reading.{shape_of}
 use Rattle.smap_record.specs.Record.{Parts, Entry, Listing, ReadMap, Allowed}
 use Rattle.smap_record.specs.Faults.{◌>>=◌, of_shape, or_fault}
 use Rattle.smap_record.specs.declared.fault.Kind.TheVariants.{Json}
-use Rattle.smap_record.specs.Flat.{listed_flat, shifted, shifted_original, start, nothing}
+use Rattle.smap_record.specs.Flat.{listed_flat, start, nothing}
 use Rattle.smap_record.specs.Reading.{reading, map_of, tree_of}
-use Rattle.smap_canon.specs.Layout.{layout, layout_text, ReadsBack, ignored_from, has_content}
-use Rattle.smap_canon.proofs.LayoutLemmas.{flat_of_parts, shape_of-parts}
+use Rattle.smap_record.proofs.JoinedLemmas.{tokens_kept}
+use Rattle.smap_canon.specs.Layout.{layout, layout_text, ReadsBack}
+use Rattle.smap_canon.proofs.LayoutLemmas.{flat_of, shape_of-layout}
 use Rattle.smap_canon.proofs.EntryLemmas.{LeadsBack, entries_same, ignored_below, contents_same}
 
 -- the bounds of a flat map that lists this
@@ -41,26 +40,9 @@ pub record IsReadable (base : Parts) (limits : Allowed) (spell : List ℕ → Li
   pub urls : AllByRecursion (LeadsBack base spell) l.sources
   pub decodes : decoded (flat_bounds limits l) (mappings_text l.tokens) ≡ Ok l.tokens
 
-shifted-zero : (t : Token) → shifted 0 0 t ≡ t
-shifted-zero t = (λ i. record t { original = by t.original i })
-  where
-    name : (o : Option ℕ) → option_map (λ n. 0 + n) o ≡ o
-    name None = refl
-    name (Some n) = ap Some (omega arith)
-
-    by : (o : Option Original) → option_map (shifted_original 0 0) o ≡ o
-    by None = refl
-    by (Some o) = let source : 0 + o.source ≡ o.source = omega arith in
-        ap Some (λ i. record o { source = source i; name = name o.name i })
-
-shifted-all : (ts : List Token) → map (shifted 0 0) ts ≡ ts
-shifted-all [] = refl
-shifted-all (t ∷ ts) = (λ i. shifted-zero t i ∷ shifted-all ts i)
-
 pub flat_read : (base : Parts) (limits : Allowed) (spell : List ℕ → List ℕ) (file : Option (List ℕ))
     (l : Listing) → IsReadable base limits spell l
-    → listed_flat base limits start nothing (flat_of_parts spell file (ignored_from 0 l.sources)
-    (mappings_text l.tokens) l.names l.sources (has_content l.sources)) ≡ Ok l
+    → listed_flat base limits start nothing (flat_of spell (record { file = file; listing = l })) ≡ Ok l
 unfolding listed_flat
 flat_read base limits spell file l h =
     let few : nat_lt limits.items (0 + length (map (λ (e : Entry). option_map spell e.url) l.sources))
@@ -73,7 +55,7 @@ flat_read base limits spell file l h =
       contents_same l.sources,
       entries_same base spell 0 [] l.sources tt h.urls,
       h.decodes,
-      shifted-all l.tokens,
+      tokens_kept l.tokens,
     ) refl
 
 tree_read : (bytes : List ℕ) (tree : Data) → is_utf8 bytes ≡ true → read bytes ≡ Some tree
@@ -87,9 +69,9 @@ pub reading-layout : (base : Parts) (limits : Allowed) (spell : List ℕ → Lis
 unfolding reading layout
 reading-layout base limits spell m h back =
     let es = m.listing.sources in
+    let count : ℕ = length (map (λ (e : Entry). option_map spell e.url) es) in
     let shape =
-    shape_of-parts spell m.file (ignored_from 0 es) (mappings_text m.listing.tokens) m.listing.names es
-    (has_content es) (ignored_below 0 (length (map (λ (e : Entry). option_map spell e.url) es)) es (omega (
+    shape_of-layout spell m (ignored_below 0 count es (omega (
       arith,
       length-map es (λ e. option_map spell e.url),
     ))) in

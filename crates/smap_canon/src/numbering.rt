@@ -1,12 +1,16 @@
 //! The mappings string of a record, with indices into the distinct sources and the names in order of first
 //! use; and that of a map's tokens as listed.
-ghost use Rattle.std.specs.Prelude.{◌≡◌, ◌≢◌, ◌<◌, ℕ, [], length, slice_get, replicate, bytes_eq, get_or};
+ghost use Rattle.std.specs.Prelude.{◌≡◌, ◌≢◌, ◌<◌, ◌^◌, ◌++◌, ◌∷◌, ℕ, List, [], length};
+ghost use Rattle.std.specs.Prelude.{slice_get, replicate, bytes_eq, get_or};
 ghost use Rattle.std.specs.Prelude.{IfOk, IfSome, OnOk, option_map};
 ghost use Rattle.smap_mappings.specs.Position.{POSITIONS};
-ghost use Rattle.smap_mappings.specs.Text.{mappings_text};
+ghost use Rattle.smap_mappings.specs.declared.token.Token.{Token as SpecToken};
+ghost use Rattle.smap_mappings.specs.Feeding.{Encodes, Measures};
+ghost use Rattle.smap_mappings.specs.Text.{IsEncodable, IsPlaced, mappings_text};
 ghost use Rattle.smap_record.specs.Record.{record_of, mapping_of, origin_of};
 ghost use Rattle.smap_record.specs.Listings.{IsListing, IsListedOriginal, IsListedToken};
-ghost use Rattle.smap_canon.specs.Canonical.{canonical_mappings_text, original_of, token_of};
+ghost use Rattle.smap_canon.specs.Canonical.{canonical_listing, canonical_mappings_text};
+ghost use Rattle.smap_canon.specs.Canonical.{original_of, token_of};
 ghost use Rattle.smap_canon.specs.Numbering.{AreNumbers, AreUsedNames, IsNumbered};
 ghost use Rattle.smap_canon.specs.Numbering.{name_of, used_in, with_name};
 
@@ -133,7 +137,54 @@ fn token_by(names: &UsedNames<'_>, map: &SourceMap, token: Token) -> Token
     }
 }
 
-/// The mappings string with these indices, in one pass over the mappings. No second array of them is made.
+/// What tokens are passed to one by one: it writes their mappings string, or counts its bytes.
+pub(crate) trait TokenSink {
+    // it was passed these tokens
+    ghost was_passed: { Self → List SpecToken → Type 0 };
+
+    /// Takes the next token.
+    fn take(&mut self, token: Token) -> Result<(), Memory>
+        requires { IsPlaced token }
+        ensures { OnOk result ((tokens : List SpecToken) → was_passed self.old tokens
+            → IsEncodable (tokens ++ token ∷ []) → was_passed self.new (tokens ++ token ∷ [])) };
+}
+
+impl TokenSink for Encoder {
+    ghost was_passed = { Encodes };
+
+    fn take(&mut self, token: Token) -> Result<(), Memory> {
+        self.push(token)
+    }
+}
+
+impl TokenSink for TextLength {
+    ghost was_passed = { Measures };
+
+    fn take(&mut self, token: Token) -> Result<(), Memory> {
+        self.push(token);
+        Ok(())
+    }
+}
+
+/// Passes on the tokens with these indices, in one pass over the mappings. No second array of them is made.
+pub(crate) fn pass_numbered<S: TokenSink>(
+    sink: &mut S,
+    map: &SourceMap,
+    names: &UsedNames<'_>,
+) -> Result<(), Memory>
+    requires none { S.was_passed sink.old [] }
+    requires names { AreUsedNames map.now names.now }
+    ensures passed { OnOk result (S.was_passed sink.new (canonical_listing (record_of map.now)).tokens) }
+    ensures listing { OnOk result (IsListing map.now.listing) }
+    ensures few { OnOk result (length map.now.listing.tokens < 2 ^ 64) }
+{
+    for i in 0..map.token_count() {
+        sink.take(token_by(names, map, map.listed_token(i)))?;
+    }
+    Ok(())
+}
+
+/// The mappings string with these indices.
 pub(crate) fn numbered_mappings(
     alloc: Global,
     map: &SourceMap,
@@ -144,22 +195,8 @@ pub(crate) fn numbered_mappings(
     ensures listing { OnOk result (IsListing map.now.listing) }
 {
     let mut encoder = Encoder::with_capacity(alloc, map.token_count())?;
-    for i in 0..map.token_count() {
-        encoder.push(token_by(names, map, map.listed_token(i)))?;
-    }
+    pass_numbered(&mut encoder, map, names)?;
     Ok(encoder.finish())
-}
-
-/// The length of that mappings string, which isn't made for it.
-pub(crate) fn numbered_length(map: &SourceMap, names: &UsedNames<'_>) -> u128
-    requires { AreUsedNames map.now names.now }
-    ensures { result ≡ length (canonical_mappings_text (record_of map.now)) }
-{
-    let mut text = TextLength::new();
-    for i in 0..map.token_count() {
-        text.push(token_by(names, map, map.listed_token(i)));
-    }
-    text.len()
 }
 
 /// The mappings string of the tokens as listed.

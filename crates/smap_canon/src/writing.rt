@@ -8,15 +8,14 @@ ghost use Rattle.smap_canon.specs.Layout.{layout, layout_text, flat_text, ReadsB
 ghost use Rattle.smap_canon.specs.Canonical.{canonical_map, canonical_text, canonical_text_in};
 ghost use Rattle.smap_canon.specs.Canonical.{canonical_mappings_text};
 ghost use Rattle.smap_canon.specs.Laws.{IsReadAgain, IsReadAgainFrom, IsReadAgainIn, IsFlatReadAgain};
-ghost use Rattle.smap_canon.specs.Numbering.{AreUsedNames};
 ghost use Rattle.smap_canon.specs.Spelling.{spelling_of};
 ghost use Rattle.smap_canon.specs.Writing.{map_of};
 
 use crate::layout::FlatMap;
 use crate::listing_to_write::ListingToWrite;
-use crate::numbering::{UsedNames, numbered_length, numbered_mappings, used_names};
+use crate::numbering::{numbered_mappings, pass_numbered, used_names};
 use crate::spelling::Spelling;
-use smap_mappings::Memory;
+use smap_mappings::{Memory, TextLength};
 use smap_record::{Base, SourceMap};
 use std::alloc::Global;
 
@@ -47,27 +46,6 @@ fn written(
     }
 }
 
-/// The canonical bytes of the map's record, given the names that its mappings use, with URLs in this form.
-fn canonical_by(
-    alloc: Global,
-    map: &SourceMap,
-    names: &UsedNames<'_>,
-    spelling: Spelling<'_>,
-) -> Result<Vec<u8>, Memory>
-    requires { AreUsedNames map.now names.now }
-    ensures text { IfOk result (λ bytes. bytes.items
-        ≡ layout_text (spelling_of spelling.entry) (canonical_map (record_of map.now))) }
-    ensures back { OnOk result (ReadsBack
-        (layout (spelling_of spelling.entry) (canonical_map (record_of map.now)))) }
-    ensures listing { IsListing map.now.listing }
-{
-    let listed = ListingToWrite {
-        map,
-        names: Some(names),
-    };
-    written(alloc, listed, spelling)
-}
-
 /// The canonical bytes of the map's record, with URLs in this form.
 fn canonical_spelled(
     alloc: Global,
@@ -81,7 +59,7 @@ fn canonical_spelled(
     ensures listing { OnOk result (IsListing map.now.listing) }
 {
     let names = used_names(alloc, map)?;
-    canonical_by(alloc, map, &names, spelling)
+    written(alloc, ListingToWrite::of_record(map, &names), spelling)
 }
 
 /// The canonical mappings string of a map: sorted, and as short as possible, with sources numbered as the
@@ -111,7 +89,9 @@ pub fn canonical_mappings_len(alloc: Global, map: &SourceMap) -> Result<u128, Me
     ensures { IfOk result (λ len. len ≡ length (canonical_mappings_text (record_of map.now))) }
 {
     let names = used_names(alloc, map)?;
-    Ok(numbered_length(map, &names))
+    let mut text = TextLength::new();
+    pass_numbered(&mut text, map, &names)?;
+    Ok(text.len())
 }
 
 /// The canonical form of a map: one flat map as compact JSON, which `docs/OUTPUT.md` specifies byte by
@@ -187,11 +167,7 @@ pub fn canonical_in(
     ensures read_again { OnOk result
         (IsReadAgainIn (form_asked relative) base.now (record_of map.now)) }
 {
-    if relative {
-        let bytes = canonical_relative(alloc, map, base)?;
-        return Ok(bytes);
-    }
-    let bytes = canonical(alloc, map)?;
+    let bytes = canonical_spelled(alloc, map, Spelling::asked(base, relative))?;
     Ok(bytes)
 }
 

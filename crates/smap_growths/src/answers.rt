@@ -36,6 +36,7 @@ pub(crate) fn answer_of(alloc: Global, call: &str, text: &[u8]) -> Option<Answer
         "from_slice" | "canonical" | "canonical_relative" | "canonical_mappings" | "flatten" => {
             maps::written(alloc, call, text)
         }
+        "as_written" => maps::as_written(alloc, text),
         "translate_line" => traces::line(alloc, text, Finding::FRAMES),
         "translate_line_by" => traces::line(alloc, text, ANYWHERE),
         "translate" => traces::trace(alloc, text),

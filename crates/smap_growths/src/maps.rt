@@ -3,7 +3,9 @@
 use crate::answers::{Answer, said};
 use smap_canon::{canonical, canonical_mappings, canonical_relative, flatten};
 use smap_mappings::{Memory, SegmentPlace};
-use smap_record::{Base, BaseFault, Fault, Kind, Limits, Path, ReadError, SourceMap};
+use smap_record::{
+    Base, BaseFault, Fault, Kind, Limits, Path, ReadError, SourceMap, WrittenSources,
+};
 use smap_tool::fault_text;
 use std::alloc::Global;
 
@@ -64,6 +66,31 @@ pub(crate) fn written(alloc: Global, call: &str, text: &[u8]) -> Answer {
             "flatten" => flatten(alloc, &map),
             _ => said(alloc, b"a map"),
         },
+        Err(ReadError::Refused(fault)) => line(alloc, &fault),
+        Err(ReadError::Memory) => Err(Memory),
+    }
+}
+
+/// Each source as it is written, and its root.
+fn listed(alloc: Global, written: &WrittenSources) -> Answer {
+    let mut out = Vec::new(alloc);
+    for i in 0..written.len() {
+        for text in [written.source(i), written.root(i)] {
+            out.extend_from_slice(text.unwrap_or("null").as_bytes())?;
+            out.extend_from_slice(b" ")?;
+        }
+    }
+    Ok(out)
+}
+
+/// The sources of the map that was read, as they are written there, or the line of its fault.
+pub(crate) fn as_written(alloc: Global, text: &[u8]) -> Answer {
+    let base = match Base::new(alloc, BASE) {
+        Ok(base) => base,
+        Err(_) => return Err(Memory),
+    };
+    match SourceMap::from_slice_as_written(alloc, text, &base, Limits::usual()) {
+        Ok((_, written)) => listed(alloc, &written),
         Err(ReadError::Refused(fault)) => line(alloc, &fault),
         Err(ReadError::Memory) => Err(Memory),
     }

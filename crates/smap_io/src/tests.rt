@@ -2,7 +2,7 @@
 //! and count their calls. Clauses bound the calls of a device; that each is one call of its reader or writer,
 //! these tests show. A call that fails here is interrupted.
 use crate::{Device, Failed, ReadFault, read_line, read_up_to, write_all, write_and_flush};
-use smap_testing::{SlowReader, SlowWriter};
+use smap_testing::{SlowReader, SlowWriter, equal, holds};
 
 /// What was read, or why not.
 fn told(answer: &Result<Vec<u8>, ReadFault>) -> Result<&[u8], ReadFault> {
@@ -19,7 +19,7 @@ fn front(bytes: &[u8], len: usize) -> &[u8] {
 
 #[test]
 fn bytes_are_read_up_to_the_bound_or_the_end(rt: HostRuntime) {
-    for (step, most, answer, ended, made) in [
+    for &(step, most, answer, ended, made) in &[
         (1, 0, Ok("".as_bytes()), false, 0),
         (1, 4, Ok("abcd".as_bytes()), false, 4),
         (1, 5, Ok("abcde".as_bytes()), false, 5),
@@ -32,17 +32,17 @@ fn bytes_are_read_up_to_the_bound_or_the_end(rt: HostRuntime) {
         let mut reader = Device::new(SlowReader::new(b"abcde", step.max(1), 0));
         let mut calls = 10;
         let found = read_up_to(rt.alloc(), &mut reader, &mut calls, most);
-        assert_eq!(rt; told(&found), answer, "{most} by {step}");
-        assert_eq!(rt; reader.ended(), ended, "{most} by {step}");
-        assert_eq!(rt; reader.failures(), 0, "{most} by {step}");
-        assert_eq!(rt; calls, 10 - made, "{most} by {step}");
-        assert_eq!(rt; reader.into_inner().calls, made, "{most} by {step}");
+        equal(&rt, (most, step), told(&found), answer);
+        equal(&rt, (most, step), reader.ended(), ended);
+        equal(&rt, (most, step), reader.failures(), 0);
+        equal(&rt, (most, step), calls + made, 10);
+        equal(&rt, (most, step), reader.into_inner().calls, made);
     }
 }
 
 #[test]
 fn reading_stops_at_the_call_that_fails_or_is_one_too_many(rt: HostRuntime) {
-    for (fails_at, most_calls, answer, failures, made, left) in [
+    for &(fails_at, most_calls, answer, failures, made, left) in &[
         (1, 10, Err(ReadFault::Failed), 1, 1, "abc"),
         (2, 10, Err(ReadFault::Failed), 1, 2, "bc"),
         (3, 10, Err(ReadFault::Failed), 1, 3, "c"),
@@ -56,18 +56,18 @@ fn reading_stops_at_the_call_that_fails_or_is_one_too_many(rt: HostRuntime) {
         let mut reader = Device::new(SlowReader::new(b"abc", 1, fails_at));
         let mut calls = most_calls;
         let found = read_up_to(rt.alloc(), &mut reader, &mut calls, 8);
-        assert_eq!(rt; told(&found), answer, "{fails_at}, {most_calls}");
-        assert_eq!(rt; reader.ended(), answer.is_ok(), "{fails_at}, {most_calls}");
-        assert_eq!(rt; reader.failures(), failures, "{fails_at}, {most_calls}");
+        equal(&rt, (fails_at, most_calls), told(&found), answer);
+        equal(&rt, (fails_at, most_calls), reader.ended(), answer.is_ok());
+        equal(&rt, (fails_at, most_calls), reader.failures(), failures);
         let reader = reader.into_inner();
-        assert_eq!(rt; reader.calls, made, "{fails_at}, {most_calls}");
-        assert_eq!(rt; reader.rest, left.as_bytes(), "{fails_at}, {most_calls}");
+        equal(&rt, (fails_at, most_calls), reader.calls, made);
+        equal(&rt, (fails_at, most_calls), reader.rest, left.as_bytes());
     }
 }
 
 #[test]
 fn a_line_is_read_to_its_feed_the_bound_or_the_end(rt: HostRuntime) {
-    for (text, most, answer, ended, made, left) in [
+    for &(text, most, answer, ended, made, left) in &[
         ("ab\ncd", 9, Ok("ab\n".as_bytes()), false, 3, "cd"),
         ("ab\ncd", 3, Ok("ab\n".as_bytes()), false, 3, "cd"),
         ("ab\ncd", 2, Ok("ab".as_bytes()), false, 2, "\ncd"),
@@ -80,18 +80,18 @@ fn a_line_is_read_to_its_feed_the_bound_or_the_end(rt: HostRuntime) {
         let mut reader = Device::new(SlowReader::new(text.as_bytes(), 2, 0));
         let mut calls = 10;
         let found = read_line(rt.alloc(), &mut reader, &mut calls, most);
-        assert_eq!(rt; told(&found), answer, "{text:?} up to {most}");
-        assert_eq!(rt; reader.ended(), ended, "{text:?} up to {most}");
-        assert_eq!(rt; calls, 10 - made, "{text:?} up to {most}");
+        equal(&rt, (text, most), told(&found), answer);
+        equal(&rt, (text, most), reader.ended(), ended);
+        equal(&rt, (text, most), calls + made, 10);
         let reader = reader.into_inner();
-        assert_eq!(rt; reader.calls, made, "{text:?} up to {most}");
-        assert_eq!(rt; reader.rest, left.as_bytes(), "{text:?} up to {most}");
+        equal(&rt, (text, most), reader.calls, made);
+        equal(&rt, (text, most), reader.rest, left.as_bytes());
     }
 }
 
 #[test]
 fn a_line_stops_at_the_call_that_fails_or_is_one_too_many(rt: HostRuntime) {
-    for (fails_at, most_calls, answer, failures, made) in [
+    for &(fails_at, most_calls, answer, failures, made) in &[
         (1, 10, Err(ReadFault::Failed), 1, 1),
         (3, 10, Err(ReadFault::Failed), 1, 3),
         (4, 10, Ok("ab\n".as_bytes()), 0, 3),
@@ -102,16 +102,16 @@ fn a_line_stops_at_the_call_that_fails_or_is_one_too_many(rt: HostRuntime) {
         let mut reader = Device::new(SlowReader::new(b"ab\ncd", 2, fails_at));
         let mut calls = most_calls;
         let found = read_line(rt.alloc(), &mut reader, &mut calls, 8);
-        assert_eq!(rt; told(&found), answer, "{fails_at}, {most_calls}");
-        assert!(rt; !reader.ended(), "{fails_at}, {most_calls}");
-        assert_eq!(rt; reader.failures(), failures, "{fails_at}, {most_calls}");
-        assert_eq!(rt; reader.into_inner().calls, made, "{fails_at}, {most_calls}");
+        equal(&rt, (fails_at, most_calls), told(&found), answer);
+        holds(&rt, (fails_at, most_calls), !reader.ended());
+        equal(&rt, (fails_at, most_calls), reader.failures(), failures);
+        equal(&rt, (fails_at, most_calls), reader.into_inner().calls, made);
     }
 }
 
 #[test]
 fn writing_stops_at_the_write_that_fails(rt: HostRuntime) {
-    for (step, fails_at, answer, failures, made, written) in [
+    for &(step, fails_at, answer, failures, made, written) in &[
         (1, 1, Err(Failed), 1, 1, 0),
         (1, 3, Err(Failed), 1, 3, 2),
         (1, 4, Ok(()), 0, 3, 3),
@@ -120,29 +120,32 @@ fn writing_stops_at_the_write_that_fails(rt: HostRuntime) {
         (0, 0, Err(Failed), 1, 1, 0),
     ] {
         let mut writer = Device::new(SlowWriter::new(rt.alloc(), step, fails_at));
-        assert_eq!(rt;
+        equal(
+            &rt,
+            (step, fails_at),
             write_all(&mut writer, b"abc"),
             answer,
-            "{step}, {fails_at}"
         );
-        assert_eq!(rt; writer.failures(), failures, "{step}, {fails_at}");
+        equal(&rt, (step, fails_at), writer.failures(), failures);
         let writer = writer.into_inner();
-        assert_eq!(rt;
+        equal(
+            &rt,
+            (step, fails_at),
             (writer.calls, writer.flushes),
             (made, 0),
-            "{step}, {fails_at}"
         );
-        assert_eq!(rt;
+        equal(
+            &rt,
+            (step, fails_at),
             writer.bytes.as_slice(),
             front(b"abc", written),
-            "{step}, {fails_at}"
         );
     }
 }
 
 #[test]
 fn a_text_is_flushed_once_where_it_was_written(rt: HostRuntime) {
-    for (text, fails_at, answer, failures, made, flushes) in [
+    for &(text, fails_at, answer, failures, made, flushes) in &[
         ("ab", 1, Err(Failed), 1, 1, 0),
         ("ab", 2, Err(Failed), 1, 2, 0),
         ("ab", 3, Err(Failed), 1, 3, 1),
@@ -151,22 +154,25 @@ fn a_text_is_flushed_once_where_it_was_written(rt: HostRuntime) {
         ("", 0, Ok(()), 0, 1, 1),
     ] {
         let mut writer = Device::new(SlowWriter::new(rt.alloc(), 1, fails_at));
-        assert_eq!(rt;
+        equal(
+            &rt,
+            (text, fails_at),
             write_and_flush(&mut writer, text.as_bytes()),
             answer,
-            "{text:?}, {fails_at}"
         );
-        assert_eq!(rt; writer.failures(), failures, "{text:?}, {fails_at}");
+        equal(&rt, (text, fails_at), writer.failures(), failures);
         let writer = writer.into_inner();
-        assert_eq!(rt;
+        equal(
+            &rt,
+            (text, fails_at),
             (writer.calls, writer.flushes),
             (made, flushes),
-            "{text:?}, {fails_at}"
         );
-        assert!(rt;
+        holds(
+            &rt,
+            (text, fails_at),
             text.as_bytes().starts_with(writer.bytes.as_slice()),
-            "{text:?}, {fails_at}"
         );
-        assert!(rt; !writer.written_after_flush, "{text:?}, {fails_at}");
+        holds(&rt, (text, fails_at), !writer.written_after_flush);
     }
 }

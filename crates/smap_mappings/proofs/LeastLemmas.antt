@@ -30,7 +30,7 @@ use Rattle.smap_mappings.proofs.StepsLemmas.{placed-column, column_is, segment_f
 use Rattle.smap_mappings.proofs.DecodedLemmas.{good, bind_ok, good_is, some_is, at_place_ok}
 use Rattle.smap_mappings.specs.Steps.{at_start}
 use Rattle.smap_mappings.proofs.RunningTextLemmas.{numbers_from, text_from, mappings_text-from}
-use Rattle.smap_mappings.proofs.ReadBackLemmas.{Stand, stands_after, stands_first}
+use Rattle.smap_mappings.proofs.ReadBackLemmas.{Stand, stands_after, stands_first, column_kept}
 use Rattle.smap_mappings.proofs.SeparatorLemmas.{joined, SegmentsRise, IsJoined, text_joined}
 use Rattle.smap_mappings.proofs.LawLemmas.{text_says}
 
@@ -104,11 +104,6 @@ record SegmentTold (r : Running) (line : ℕ) (ns : List ℤ) (x : Running × To
   line_is : x.1.line ≡ line
   after : x.0 ≡ running_after r x.1
   numbers : ns ≡ numbers_from r x.1
-
-column_kept : (r : Running) (column : ℕ) (o : Option Original)
-    → record (original_after r o) { column = column } ≡ original_after (record r { column = column }) o
-column_kept r column None = refl
-column_kept r column (Some o) = refl
 
 -- with a start at column 0 a column is where the text says
 column_same : (bounds : Bounds) (line : ℕ) (z : ℤ) (x : ℕ × ℕ) → bounds.start_column ≡ 0

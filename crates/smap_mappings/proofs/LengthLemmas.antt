@@ -1,9 +1,10 @@
 -- How long a mappings text is.
-use Rattle.std.proofs.Common.{◌≡◌, ℕ, zero, suc, ◌+◌, ◌-◌, ◌*◌, ◌≤◌, max, Bool, true, false, cond, eqb, List}
+use Rattle.std.proofs.Common.{◌≡◌, ℕ, suc, ◌+◌, ◌-◌, ◌*◌, ◌≤◌, max, Bool, true, false, cond, eqb, List}
 use Rattle.std.proofs.Common.{[], ◌∷◌, ◌++◌, length, map, replicate, Option, Some, None, ℤ, refl, ap, arith}
 use Rattle.std.proofs.Common.{length-append}
 use Rattle.std.specs.Prelude.{flat_map}
 use Rattle.std.proofs.lemmas.Bool.{eqb-true}
+use Rattle.std.proofs.lemmas.List.{length-replicate}
 use Rattle.smap_vlq.specs.Number.{spelling}
 use Rattle.smap_vlq.proofs.SpelledLemmas.{spelling-length}
 use Rattle.smap_mappings.specs.declared.token.Token.{Token}
@@ -37,10 +38,6 @@ segment_length r t = omega (arith, spellings_length (numbers_from r t), numbers_
 abbrev bytes : ℕ → ℕ → List ℕ
 bytes n b = replicate n b
 
-semicolons_length : (n : ℕ) → length (bytes n 59) ≡ n
-semicolons_length zero = refl
-semicolons_length (suc n) = ap suc (semicolons_length n)
-
 -- a comma, or a semicolon for each further line
 separator_length : (lines line : ℕ) → lines ≤ line + 1 → length (separator lines line) + lines ≤ line + 1 + 1
 separator_length lines line le = by_test (eqb lines (line + 1)) refl
@@ -48,7 +45,10 @@ separator_length lines line le = by_test (eqb lines (line + 1)) refl
     by_test : (b : Bool) → eqb lines (line + 1) ≡ b
         → length (cond b (bytes 1 44) (bytes (line + 1 - max lines 1) 59)) + lines ≤ line + 1 + 1
     by_test true e = omega (arith, eqb-true _ _ e)
-    by_test false e = let n = semicolons_length (line + 1 - max lines 1) in omega arith
+    by_test false e =
+        let n : length (bytes (line + 1 - max lines 1) 59) ≡ line + 1 - max lines 1 =
+        length-replicate (line + 1 - max lines 1) 59 in
+        omega arith
 
 -- after the last of tokens, or so many lines
 abbrev lines_after : ℕ → List Token → ℕ

@@ -12,7 +12,7 @@ pub mod RunningTextLemmas
 pub mod ReadBackLemmas
 pub mod LawLemmas
 pub mod LengthLemmas
-pub mod WholeLemmas
+pub mod WholeSegmentLemmas
 pub mod PiecesLemmas
 pub mod ReaderLemmas
 pub mod CountLemmas

@@ -1,6 +1,7 @@
 -- Tokens in order, index by index.
-use Rattle.std.proofs.Common.{◌≡◌, ℕ, zero, suc, ◌+◌, ◌<◌, ◌≤◌, Bool, true, false, not, ◌&&◌, refl, List, []}
+use Rattle.std.proofs.Common.{◌≡◌, ℕ, zero, suc, ◌+◌, ◌<◌, ◌≤◌, true, false, not, refl, List, []}
 use Rattle.std.proofs.Common.{◌∷◌, ◌++◌, length, map, get_or, sym, ◌∙◌, arith}
+use Rattle.std.proofs.lemmas.Bool.{and_parts, not-true}
 use Rattle.smap_mappings.specs.declared.token.Token.{Token}
 use Rattle.smap_mappings.specs.declared.position.Position.{Position}
 use Rattle.smap_mappings.specs.Position.{is_before, position_of, NeverFalls}
@@ -33,15 +34,11 @@ one_falls (t ∷ u ∷ us) (suc j) (suc k) d is lt e h =
 
 -- ---- the test of order
 
-both : (a b : Bool) → (not a && b) ≡ true → (a ≡ false) × (b ≡ true)
-both true b e = absurd (let x = e in cc)
-both false b e = (refl, e)
-
 pub in_order-is : (ps : List Position) → in_order ps ≡ true → NeverFalls ps
 in_order-is [] e = tt
 in_order-is (p ∷ []) e = tt
-in_order-is (p ∷ q ∷ qs) e = let h = both (is_before q p) (in_order (q ∷ qs)) e in
-    (h.0, in_order-is (q ∷ qs) h.1)
+in_order-is (p ∷ q ∷ qs) e = let h = and_parts (not (is_before q p)) (in_order (q ∷ qs)) e in
+    (not-true (is_before q p) h.0, in_order-is (q ∷ qs) h.1)
 
 -- one token more, which doesn't lie before the last
 pub in_order-more : (ts : List Token) (t : Token) (k : ℕ) (d : Token)
@@ -52,8 +49,9 @@ in_order-more (u ∷ []) t zero d len e h = rw e refl
 in_order-more (u ∷ []) t (suc k) d len e h = absurd (omega arith)
 in_order-more (u ∷ v ∷ us) t zero d len e h = absurd (omega arith)
 in_order-more (u ∷ v ∷ us) t (suc k) d len e h =
-    let b = both (is_before (position_of v) (position_of u)) (in_order (map position_of (v ∷ us))) h in
-    rw (b.0, in_order-more (v ∷ us) t k d (omega arith) e b.1) refl
+    let falls = is_before (position_of v) (position_of u) in
+    let b = and_parts (not falls) (in_order (map position_of (v ∷ us))) h in
+    rw (not-true falls b.0, in_order-more (v ∷ us) t k d (omega arith) e b.1) refl
 
 pub in_order-first : (ts : List Token) (t : Token)
     → length ts ≡ 0 → in_order (map position_of (ts ++ t ∷ [])) ≡ true

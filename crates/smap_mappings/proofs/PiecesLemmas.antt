@@ -26,9 +26,10 @@ use Rattle.smap_mappings.specs.Pieces.{ended_segments, IsAt, IsReadTo}
 use Rattle.smap_mappings.specs.Pieces.{Overflows}
 use Rattle.smap_mappings.specs.Pieces.{HasFailed, Fails, IsWhole}
 use Rattle.smap_mappings.proofs.LinesLemmas.{segments_of-walk}
-use Rattle.smap_mappings.proofs.ScanLemmas.{with_tokens-nil, Sums-next}
+use Rattle.smap_vlq.proofs.ListLemmas.{behind-nil}
+use Rattle.smap_mappings.proofs.ScanLemmas.{Sums-none, Sums-on}
 use Rattle.smap_mappings.proofs.RunningTextLemmas.{IsClean, walk_clean, ending_some}
-use Rattle.smap_mappings.proofs.WholeLemmas.{whole_clean, some_spelled}
+use Rattle.smap_mappings.proofs.WholeSegmentLemmas.{whole_clean, some_spelled}
 
 -- ---- one segment more
 
@@ -69,16 +70,9 @@ starts bounds = record {
   line = 0;
   index = 0;
   is_at = record { line_is = refl; index_is = refl };
-  sums = record {
-    column = refl;
-    source = refl;
-    original_line = refl;
-    original_column = refl;
-    name = refl;
-    not_past = tt;
-  };
+  sums = Sums-none 0;
   segments = λ rest. segments_of-walk rest;
-  read = λ rest. with_tokens-nil (tokens_after bounds [] rest);
+  read = λ rest. behind-nil (tokens_after bounds [] rest);
 }
 
 -- a byte of a segment
@@ -172,7 +166,7 @@ semicolon_read bounds text room tokens new cursor current x p c =
     59 (ending p.line p.index current) (p.line + 1) 0 x p
     (semicolon_ends p.line p.index current) c
     (record { line_is = (let e = p.is_at.line_is in omega arith); index_is = refl })
-    (Sums-next x c.0 p.line c.1)
+    (Sums-on x c.0 p.line (p.line + 1) (omega arith) c.1)
 
 -- ---- the segments that have ended
 

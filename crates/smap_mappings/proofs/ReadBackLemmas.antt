@@ -3,7 +3,7 @@ use Rattle.std.proofs.Common.{◌≡◌, ℕ, ◌+◌, ◌<◌, ◌≤◌, Bool,
 use Rattle.std.proofs.Common.{Option, Some, None, Result, Ok, ℤ, pos, ◌+ℤ◌, refl, ap, subst, ◌∙◌, arith}
 use Rattle.std.specs.Prelude.{IfSome, option_map, unwrap_or}
 use Rattle.std.specs.List.{AllByRecursion}
-use Rattle.std.proofs.lemmas.Bool.{eqb-true, eqb-false, ne_eqb, lt-ltb}
+use Rattle.std.proofs.lemmas.Bool.{eqb-true, eqb-false, lt-ltb}
 use Rattle.std.proofs.lemmas.Int.{ints}
 use Rattle.smap_vlq.specs.declared.segment.SegmentFault.{SegmentFault}
 use Rattle.smap_vlq.specs.Number.{◌>>=◌}
@@ -14,7 +14,7 @@ use Rattle.smap_mappings.specs.declared.token.Original.{Original}
 use Rattle.smap_mappings.specs.declared.running.Running.{Running}
 use Rattle.smap_mappings.specs.declared.error.SegmentKind.{SegmentKind}
 use Rattle.smap_mappings.specs.Lines.{SegmentText}
-use Rattle.smap_mappings.specs.Tokens.{Segment, Fault, below, generated_column, at_place, read_in}
+use Rattle.smap_mappings.specs.Tokens.{Segment, Fault, below, at_place, read_in}
 use Rattle.smap_mappings.specs.Tokens.{tokens_after}
 use Rattle.smap_mappings.specs.Steps.{Sums, text_at, original_step, column_step, token_step, fields_or_kind}
 use Rattle.smap_mappings.specs.Steps.{judge_step}
@@ -24,6 +24,7 @@ use Rattle.smap_mappings.specs.Writing.{original_from, name_from, segment_from, 
 use Rattle.smap_mappings.specs.Writing.{running_after, at_line}
 use Rattle.smap_mappings.specs.Decoded.{IsWithin}
 use Rattle.smap_mappings.proofs.StepsLemmas.{StepAgrees, reads, placed-column}
+use Rattle.smap_mappings.proofs.ScanLemmas.{Sums-none, Sums-on}
 use Rattle.smap_mappings.specs.Steps.{at_start}
 use Rattle.smap_mappings.proofs.RunningTextLemmas.{numbers_from, before_token, after_token, texts_from}
 use Rattle.smap_mappings.proofs.RunningTextLemmas.{index_on, IsSegment, AreSegments}
@@ -88,6 +89,11 @@ original_again bounds r (Some o) is source name a = by_name o.name name
 abbrev both : Running → Token → Result (Running × Token) SegmentKind
 both r t = Ok (r, t)
 
+pub column_kept : (r : Running) (column : ℕ) (o : Option Original)
+    → record (original_after r o) { column = column } ≡ original_after (record r { column = column }) o
+column_kept r column None = refl
+column_kept r column (Some o) = refl
+
 -- The segment's numbers give the token, and the values after it.
 token_again : (bounds : Bounds) (r : Running) (t : Token) → bounds.start_line ≡ 0 → bounds.start_column ≡ 0
     → IsPlaced t → IsWithin bounds t
@@ -97,15 +103,10 @@ token_again bounds r t line_start column_start p w =
       ap (λ (n : ℕ). below bounds.lines (pos n)) line_is ∙ below_is bounds.lines t.line w.line,
       column_again bounds t.line r.column t.column column_start p.column,
       original_again bounds r t.original p.original w.source w.name (difference r.column t.column),
-    ) (ap (λ (x : Running). both x t) (column_kept t.original))
+    ) (ap (λ (x : Running). both x t) (column_kept r t.column t.original))
   where
     line_is : bounds.start_line + t.line ≡ t.line
     line_is = omega arith
-
-    column_kept : (o : Option Original) → record (original_after r o) { column = t.column }
-        ≡ original_after (record r { column = t.column }) o
-    column_kept None = refl
-    column_kept (Some o) = refl
 
 -- so does its text
 text_again : (bounds : Bounds) (r : Running) (t : Token) → bounds.start_line ≡ 0 → bounds.start_column ≡ 0
@@ -118,20 +119,6 @@ text_again bounds r t line_start column_start p w s =
 
 -- ---- a further line
 
-abbrev NonePast : List Segment → ℕ → Type 0
-NonePast before line = AllByRecursion (λ s. s.line ≤ line) before
-
-none_on : (before : List Segment) (line next : ℕ) → line < next → NonePast before line
-    → generated_column before next ≡ pos 0
-none_on [] line next lt all = refl
-none_on (s ∷ ss) line next lt all =
-    rw (ne_eqb s.line next (λ e. let h = all.0 in omega arith)) (none_on ss line next lt all.1)
-
-none_past : (before : List Segment) (line next : ℕ) → line < next → NonePast before line
-    → NonePast before next
-none_past [] line next lt all = tt
-none_past (s ∷ ss) line next lt all = ((let h = all.0 in omega arith), none_past ss line next lt all.1)
-
 -- The values are those of the segments, on each line that tokens can still stand on.
 abbrev pub Stand : Running → List Segment → ℕ → Type 0
 Stand r before lines = (line : ℕ) → lines ≤ line + 1 → Sums (at_line r lines line) before line
@@ -143,37 +130,14 @@ stands_after r before line h next le = by_test (eqb (line + 1) (next + 1)) refl
     by_test : (b : Bool) → eqb (line + 1) (next + 1) ≡ b
         → Sums (cond b r (record r { column = 0 })) before next
     by_test true e = subst (Sums r before) (omega (arith, eqb-true _ _ e)) h
-    by_test false e =
-        let lt : line < next = omega (arith, eqb-false _ _ e) in
-        record {
-          column = none_on before line next lt h.not_past;
-          source = h.source;
-          original_line = h.original_line;
-          original_column = h.original_column;
-          name = h.name;
-          not_past = none_past before line next lt h.not_past;
-        }
+    by_test false e = Sums-on r before line next (omega (arith, eqb-false _ _ e)) h
 
 pub stands_first : Stand at_start [] 0
 stands_first line le = by_test (eqb 0 (line + 1))
   where
     by_test : (b : Bool) → Sums (cond b at_start (record at_start { column = 0 })) [] line
-    by_test true = record {
-      column = refl;
-      source = refl;
-      original_line = refl;
-      original_column = refl;
-      name = refl;
-      not_past = tt;
-    }
-    by_test false = record {
-      column = refl;
-      source = refl;
-      original_line = refl;
-      original_column = refl;
-      name = refl;
-      not_past = tt;
-    }
+    by_test true = Sums-none line
+    by_test false = Sums-none line
 
 -- ---- all segments
 

@@ -29,7 +29,7 @@ use Rattle.smap_mappings.specs.Decoded.{ReturnsTokens, AreBounds, IsWithin, IsFr
 use Rattle.std.specs.Global.{Vec}
 use Rattle.std.specs.Prelude.{IfOk}
 use Rattle.smap_mappings.specs.Text.{IsEncodable}
-use Rattle.smap_mappings.proofs.DecodedLemmas.{decoded-encodable, decoded-within, decoded-from_start}
+use Rattle.smap_mappings.proofs.DecodedLemmas.{decoded-encodable, decoded-within, decoded-from_start, good_is}
 use Rattle.smap_mappings.specs.Arrangement.{arranged}
 use Rattle.smap_mappings.specs.Position.{NeverFalls, position_of}
 use Rattle.smap_mappings.proofs.LinesLemmas.{segments_of-walk}
@@ -190,9 +190,6 @@ byte_fails bounds text piece place most error lt h =
     (still_failed bounds (text ++ take (place + 1) piece) (drop (place + 1) piece) most error
     (subst (λ (l : List ℕ). Fails bounds l most error) (one_byte text piece place lt) h))
 
-pub not_true : (b : Bool) → b ≡ false → b ≡ false
-not_true b e = e
-
 -- ---- what is decoded
 
 pub gives_encodable : (bounds : Bounds) → AreBounds bounds
@@ -224,9 +221,6 @@ no_tokens e = Err e
 
 pub same_refusal : (d e : MappingsError) → no_tokens d ≡ no_tokens e → d ≡ e
 same_refusal d e is = cc
-
-abbrev tokens_are : List Token → Result (List Token) Fault
-tokens_are ts = Ok ts
 
 pub one_token : (bounds : Bounds) (before : List Segment) (text : SegmentText) (y : Segment × Token)
     → read_in bounds before text ≡ Ok y → tokens_after bounds before (text ∷ []) ≡ Ok (y.1 ∷ [])
@@ -263,12 +257,9 @@ fits_last bounds text room tokens new cursor current (errors.Fault place k) p c 
 pub none_fits : (bounds : Bounds) (texts : List SegmentText) (room : ℕ) → texts ≡ [] → Fits bounds texts room
 none_fits bounds texts room none tokens r = by_front r.front r.rest (sym r.whole ∙ none) r.read
   where
-    same : (xs ys : List Token) → tokens_are xs ≡ tokens_are ys → xs ≡ ys
-    same xs ys e = cc
-
     by_front : (front rest : List SegmentText) → front ++ rest ≡ []
         → tokens_after bounds [] front ≡ Ok tokens → length tokens ≤ room
-    by_front [] rest e is = let n = ap length (same [] tokens is) in omega arith
+    by_front [] rest e is = let n = ap length (good_is [] tokens is) in omega arith
     by_front (t ∷ ts) rest e is = absurd (let f : t ∷ (ts ++ rest) ≡ [] = e in cc)
 
 walk_begun : (line index : ℕ) (current text : List ℕ) → 0 < length current
@@ -319,10 +310,7 @@ not_memory o none is = absurd (let e = sym none ∙ is in cc)
 pub none_falls : (bounds : Bounds) (texts : List SegmentText) → texts ≡ [] → (tokens : List Token)
     → tokens_after bounds [] texts ≡ Ok tokens → NeverFalls (map position_of tokens)
 none_falls bounds texts none tokens e = subst (λ (ts : List Token). NeverFalls (map position_of ts))
-    (same [] tokens (sym (ap (tokens_after bounds []) none) ∙ e)) tt
-  where
-    same : (xs ys : List Token) → tokens_are xs ≡ tokens_are ys → xs ≡ ys
-    same xs ys e = cc
+    (good_is [] tokens (sym (ap (tokens_after bounds []) none) ∙ e)) tt
 
 -- ---- a line without a segment
 

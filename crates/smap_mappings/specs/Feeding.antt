@@ -4,7 +4,7 @@ use Rattle.std.specs.List.{AllByRecursion}
 use Rattle.smap_mappings.specs.declared.token.Token.{Token}
 use Rattle.smap_mappings.specs.declared.running.Running.{Running}
 use Rattle.smap_mappings.specs.declared.encoder.Encoder.{Encoder}
-use Rattle.smap_mappings.specs.declared.length.TextLength.{TextLength}
+use Rattle.smap_mappings.specs.declared.text_length.TextLength.{TextLength}
 use Rattle.smap_mappings.specs.Text.{original_before, name_before, column_before, line_count, mappings_text}
 
 -- The running values are those for the next token, except for the column.

@@ -19,7 +19,7 @@ use crate::running::Running;
 use crate::segment::{kind_of, token_at};
 use crate::token::{Bounds, Token};
 use crate::token_list::TokenList;
-use crate::whole::whole_segment;
+use crate::whole_segments::whole_segment;
 use smap_vlq::{Fields, SegmentReader};
 use std::alloc::Global;
 

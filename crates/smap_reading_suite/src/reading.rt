@@ -7,10 +7,11 @@ mod refusals;
 mod sections;
 mod urls;
 mod words;
+mod written;
 
 use smap_mappings::Original;
 use smap_record::{Base, Fault, Limits, OriginalView, ReadError, SourceMap};
-use smap_testing::{parts, rows};
+use smap_testing::{equal, holds, parts, rows};
 use std::alloc::AllocError;
 use std::process::Abort;
 use std::test::Fail;
@@ -92,9 +93,11 @@ fn push_original(
     original: &OriginalView,
     listed: &Original,
 ) -> Result<(), AllocError> {
-    assert_eq!(rt;
+    equal(
+        rt,
+        "place",
         (original.line, original.column),
-        (listed.line, listed.column)
+        (listed.line, listed.column),
     );
     let number = original.source_number;
     let place = format!(in rt.alloc();
@@ -102,7 +105,7 @@ fn push_original(
         listed.source, listed.line, listed.column
     )?;
     text.push_str(place.as_str())?;
-    assert_eq!(rt; original.name.is_some(), listed.name.is_some());
+    equal(rt, "name", original.name.is_some(), listed.name.is_some());
     if let (Some(name), Some(number)) = (original.name, listed.name) {
         push_name(rt, text, number, name)?;
     }
@@ -119,10 +122,20 @@ fn push_mapping(
     assert!(rt; i < map.token_count());
     let listed = map.listed_token(i);
     let seen = map.token(i);
-    assert_eq!(rt; (seen.line, seen.column), (listed.line, listed.column));
+    equal(
+        rt,
+        "place",
+        (seen.line, seen.column),
+        (listed.line, listed.column),
+    );
     let place = format!(in rt.alloc(); "; {}:{}", seen.line, seen.column)?;
     text.push_str(place.as_str())?;
-    assert_eq!(rt; seen.original.is_some(), listed.original.is_some());
+    equal(
+        rt,
+        "original",
+        seen.original.is_some(),
+        listed.original.is_some(),
+    );
     if let (Some(original), Some(listed)) = (seen.original, listed.original) {
         push_original(rt, text, &original, &listed)?;
     }
@@ -135,9 +148,9 @@ fn has_its_source(rt: &impl Abort, map: &SourceMap, i: usize) {
     if let Some(original) = map.token(i).original {
         assert!(rt; original.source_number < map.source_count());
         let source = map.source(original.source_number);
-        assert!(rt; original.source.url == source.url);
-        assert!(rt; original.source.content == source.content);
-        assert!(rt; original.source.ignored == source.ignored);
+        holds(rt, "url", original.source.url == source.url);
+        holds(rt, "content", original.source.content == source.content);
+        holds(rt, "ignored", original.source.ignored == source.ignored);
     }
 }
 
@@ -210,11 +223,11 @@ fn is_answered(
 ) -> Result<(), AllocError> {
     let read = SourceMap::from_slice(rt.alloc(), bytes, base, limits);
     let answer = outcome(rt, read)?;
-    assert!(rt; answer.as_str() == want, "{name}: {answer}");
+    holds(rt, (name, answer.as_str()), answer.as_str() == want);
     let bytes = Vec::from_slice(rt.alloc(), bytes)?;
     let read = SourceMap::from_vec(rt.alloc(), bytes, base, limits);
     let answer = outcome(rt, read)?;
-    assert!(rt; answer.as_str() == want, "{name}, handed over: {answer}");
+    holds(rt, (name, answer.as_str()), answer.as_str() == want);
     Ok(())
 }
 
@@ -225,7 +238,8 @@ fn are_answered(
     base: &Base,
     limits: Limits,
 ) -> Result<(), Fail> {
-    for row in rows(rt.alloc(), table)? {
+    let table = rows(rt.alloc(), table)?;
+    for row in &table {
         let (name, rest) = parts(row.as_str())?;
         let (text, want) = parts(rest)?;
         is_answered(rt, name, text.as_bytes(), base, limits, want)?;

@@ -7,6 +7,7 @@ mod sections;
 
 use serde_json::Value;
 use smap_shape::{FlatShape, IndexShape, Shape, ShapeFault, shape};
+use smap_testing::equal;
 use std::process::Abort;
 use std::test::Fail;
 
@@ -29,6 +30,6 @@ fn index_map<'a>(tree: &'a Value) -> Option<IndexShape<'a>> {
 /// Asserts that the map of this text has this fault.
 fn is_refused(rt: &(impl Abort + AllocGlobal), text: &str, want: ShapeFault) -> Result<(), Fail> {
     let tree = Value::from_str(rt.alloc(), text)?;
-    assert_eq!(rt; shape(&tree).err(), Some(want), "at {text}");
+    equal(rt, text, shape(&tree).err(), Some(want));
     Ok(())
 }

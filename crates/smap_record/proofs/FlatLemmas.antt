@@ -1,47 +1,37 @@
 -- A flat map after what is listed before it, step by step.
 use Rattle.std.proofs.Common.{◌≡◌, ℕ, ◌+◌, ◌<◌, ◌≤◌, true, false, arith, List, [], ◌∷◌, ◌++◌, length, map}
 use Rattle.std.proofs.Common.{Option, Some, None, Ok, Err, ap, ◌∙◌, sym, refl, subst, Bool, length-append}
-use Rattle.std.specs.Prelude.{IfSome, option_map}
+use Rattle.std.specs.Prelude.{IfSome, option_map, Result}
 use Rattle.std.specs.List.{AllByRecursion}
 use Rattle.url.specs.Parts.{Parts}
 use Rattle.smap_mappings.specs.declared.token.Token.{Token}
 use Rattle.smap_mappings.specs.declared.token.Original.{Original}
 use Rattle.smap_mappings.specs.declared.token.Bounds.{Bounds}
 use Rattle.smap_mappings.specs.declared.position.Position.{Position}
-use Rattle.smap_mappings.specs.Position.{POSITIONS, is_before, position_of, NeverFalls}
-use Rattle.smap_mappings.specs.Decoded.{decoded}
-use Rattle.smap_mappings.specs.Text.{IsOriginal, IsPlaced, IsEncodable}
-use Rattle.smap_mappings.specs.Decoded.{IsWithin, IsFromStart}
+use Rattle.smap_mappings.specs.declared.error.SegmentPlace.{SegmentPlace}
+use Rattle.smap_mappings.specs.declared.error.SegmentKind.{SegmentKind}
+use Rattle.smap_mappings.specs.Position.{POSITIONS, LINES, IsPosition, is_before, position_of, NeverFalls}
+use Rattle.smap_mappings.specs.Text.{IsOriginal, IsPlaced}
+use Rattle.smap_mappings.specs.Tokens.{start_of}
+use Rattle.smap_mappings.specs.Decoded.{AreBounds, IsWithin, IsFromStart, decoded}
+use Rattle.smap_mappings.proofs.DecodedLemmas.{decoded-encodable, decoded-within, decoded-from_start}
 use Rattle.smap_shape.specs.Members.{Flat, is_listed}
-use Rattle.smap_record.specs.declared.fault.Fault.{Fault}
 use Rattle.smap_record.specs.declared.fault.Kind.TheVariants.{TooMany}
 use Rattle.smap_record.specs.Record.{Entry, Listing, Allowed}
 use Rattle.smap_record.specs.Source.{Resolved, no_url, unstable, resolved, resolve}
-use Rattle.smap_record.specs.Faults.{Checked, ◌>>=◌, refuse_if, of_segments}
-use Rattle.smap_record.specs.Flat.{is_too_many, nothing, bounds_of, listed_flat, shifted, shifted_original}
+use Rattle.smap_record.specs.Faults.{Checked, ◌>>=◌, refuse, refuse_if, of_segments}
+use Rattle.smap_record.specs.Flat.{is_too_many, bounds_of, listed_flat, shifted, shifted_original}
 use Rattle.smap_record.specs.Flat.{source_at, source_url, source_entry, entries_from}
 use Rattle.smap_record.specs.Listings.{IsListedOriginal, IsListedToken}
 use Rattle.smap_record.specs.Fitting.{IsOwnUrl, HasOwnUrl, ListingFits}
-use Rattle.smap_record.specs.Steps.{after}
+use Rattle.smap_record.specs.Steps.{after, joined_tokens}
 use Rattle.smap_record.specs.Building.{any_after}
 use Rattle.std.proofs.lemmas.Bool.{ltb-false, or_parts}
 use Rattle.std.proofs.lemmas.List.{map-append}
 use Rattle.smap_record.proofs.SourceLemmas.{resolve-own}
+use Rattle.smap_record.proofs.StepLemmas.{bound}
 use Rattle.smap_record.proofs.ListLemmas.{all_append, all_map, all_both, all_weaker}
 use Rattle.smap_record.proofs.JoinedLemmas.{none_after, join_NeverFalls}
-
--- ---- what a list of checked things is after another
-
--- what is read after these is their own part
-pub after_ok : {A : Type 0} (front : List A) (r : Checked (List A)) (all : List A)
-    → after front r ≡ Ok all → (own : List A) × (r ≡ Ok own) × (all ≡ front ++ own)
-after_ok front (Ok own) all same = (own, refl, (let e : front ++ own ≡ all = cc in sym e))
-after_ok front (Err e) all same = absurd cc
-
-pub after_err : {A : Type 0} (front : List A) (r : Checked (List A)) (fault : Fault)
-    → after front r ≡ Err fault → r ≡ Err fault
-after_err front (Ok own) fault same = absurd cc
-after_err front (Err e) fault same = let is : e ≡ fault = cc in ap Err is
 
 -- ---- one step after the other
 
@@ -54,21 +44,12 @@ module _ (base : Parts) (limits : Allowed) (offset : Position) (before : Listing
     tokens = before.tokens ++ map (shifted (length before.sources) (length before.names)) ts;
   }
 
-  abbrev with_parts : Checked (Unit {0}) → Checked (List Entry) → Checked (List Token) → Checked Listing
-  with_parts few entries tokens = few >>= λ u. entries >>= λ es. tokens >>= λ ts. Ok (listed es ts)
-
-  abbrev few_or_fault : Checked (Unit {0})
-  few_or_fault = refuse_if TooMany (is_too_many limits before m)
+  abbrev parts : Bool → Checked (List Entry) → Checked Listing
+  parts many entries = refuse_if TooMany many >>= λ u. entries >>= λ es.
+      of_segments (decoded (bounds_of limits offset m) m.mappings) >>= λ ts. Ok (listed es ts)
 
   abbrev entries : Checked (List Entry)
   entries = entries_from base m.root m.ignored 0 m.sources m.contents
-
-  abbrev tokens : Checked (List Token)
-  tokens = of_segments (decoded (bounds_of limits offset m) m.mappings)
-
-  parts : listed_flat base limits offset before m ≡ with_parts few_or_fault entries tokens
-  unfolding listed_flat
-  parts = refl
 
   -- with other contents that give the same sources, the same is listed
   pub same_entries : (contents : List (Option (List ℕ)))
@@ -76,58 +57,43 @@ module _ (base : Parts) (limits : Allowed) (offset : Position) (before : Listing
       → listed_flat base limits offset before (record m { contents = contents })
       ≡ listed_flat base limits offset before m
   unfolding listed_flat
-  same_entries contents same = ap (λ (es : Checked (List Entry)). with_parts few_or_fault es tokens) same
+  same_entries contents same = ap (parts (is_too_many limits before m)) same
 
-  pub too_many : (fault : Fault) → few_or_fault ≡ Err fault
-      → listed_flat base limits offset before m ≡ Err fault
-  too_many fault err = parts ∙ ap (λ few. with_parts few entries tokens) err
+  pub too_many : is_too_many limits before m ≡ true
+      → listed_flat base limits offset before m ≡ refuse TooMany
+  unfolding listed_flat
+  too_many many = ap (λ b. parts b entries) many
 
-  module _ (few : few_or_fault ≡ Ok tt) where
-    pub bad_source : (fault : Fault) → entries ≡ Err fault
-        → listed_flat base limits offset before m ≡ Err fault
-    bad_source fault err =
-        parts
-        ∙ ap (λ (u : Checked (Unit {0})). with_parts u entries tokens) few
-        ∙ ap (λ (es : Checked (List Entry)). with_parts (Ok tt) es tokens) err
+  module _ (few : is_too_many limits before m ≡ false) where
+    pub few_listed : listed_flat base limits offset before m ≡ (entries >>= λ es.
+        of_segments (decoded (bounds_of limits offset m) m.mappings) >>= λ ts. Ok (listed es ts))
+    unfolding listed_flat
+    few_listed = ap (λ b. parts b entries) few
 
-    module _ (es : List Entry) (all : entries ≡ Ok es) where
-      with_sources : (r : Checked (List Token))
-          → tokens ≡ r → listed_flat base limits offset before m ≡ with_parts (Ok tt) (Ok es) r
-      with_sources r same =
-          parts
-          ∙ ap (λ (u : Checked (Unit {0})). with_parts u entries tokens) few
-          ∙ ap (λ (r : Checked (List Entry)). with_parts (Ok tt) r tokens) all
-          ∙ ap (λ (r : Checked (List Token)). with_parts (Ok tt) (Ok es) r) same
+    -- the sources, then the tokens, each behind those before them
+    pub flat_in_steps : listed_flat base limits offset before m
+        ≡ (after before.sources entries >>= λ sources.
+        joined_tokens before.tokens (length before.sources) (length before.names) (bounds_of limits offset m)
+        m.mappings >>= λ tokens.
+        Ok (record { sources = sources; names = before.names ++ m.names; tokens = tokens }))
+    flat_in_steps = few_listed ∙ by entries (of_segments (decoded (bounds_of limits offset m) m.mappings))
+      where
+        by : (es : Checked (List Entry)) (ts : Checked (List Token))
+            → (es >>= λ es. ts >>= λ ts. Ok (listed es ts))
+            ≡ (after before.sources es >>= λ sources.
+            (ts >>= λ ts. Ok (before.tokens ++ map (shifted (length before.sources) (length before.names)) ts))
+            >>= λ tokens. Ok (record { sources = sources; names = before.names ++ m.names; tokens = tokens }))
+        by (Ok es) (Ok ts) = refl
+        by (Ok es) (Err e) = refl
+        by (Err e) ts = refl
 
-      pub bad_segment : (fault : Fault) → tokens ≡ Err fault
-          → listed_flat base limits offset before m ≡ Err fault
-      bad_segment fault err = with_sources (Err fault) err
-
-      pub all_read : (ts : List Token) → tokens ≡ Ok ts
-          → listed_flat base limits offset before m ≡ Ok (listed es ts)
-      all_read ts ok = with_sources (Ok ts) ok
-
--- ---- how much is listed
-
-pub few : (limits : Allowed) (before : Listing) (m : Flat)
-    → refuse_if TooMany (is_too_many limits before m) ≡ Ok tt
-    → (length before.sources + length m.sources ≤ limits.items)
-    × (length before.names + length m.names ≤ limits.items)
-few limits before m ok = by (is_too_many limits before m) refl ok
-  where
-    within : is_too_many limits before m ≡ false → (length before.sources + length m.sources ≤ limits.items)
+    -- how much is listed
+    pub few_each : (length before.sources + length m.sources ≤ limits.items)
         × (length before.names + length m.names ≤ limits.items)
-    within e =
-        let both = or_parts _ _ e in (
-          ltb-false limits.items (length before.sources + length m.sources) both.0,
-          ltb-false limits.items (length before.names + length m.names) both.1,
-        )
-
-    by : (b : Bool) → is_too_many limits before m ≡ b → refuse_if TooMany b ≡ Ok tt
-        → (length before.sources + length m.sources ≤ limits.items)
-        × (length before.names + length m.names ≤ limits.items)
-    by true e ok = absurd cc
-    by false e ok = within e
+    few_each = let both = or_parts _ _ few in (
+      ltb-false limits.items (length before.sources + length m.sources) both.0,
+      ltb-false limits.items (length before.names + length m.names) both.1,
+    )
 
 -- ---- tokens after others
 
@@ -193,84 +159,10 @@ pub moved_positions : (sources names : ℕ) (ts : List Token)
 moved_positions sources names [] = refl
 moved_positions sources names (t ∷ ts) = ap (λ ps. position_of t ∷ ps) (moved_positions sources names ts)
 
-from_start : (bounds : Bounds) (o : Position) → bounds.start_line ≡ o.line
-    → bounds.start_column ≡ o.column → (ts : List Token) → AllByRecursion (IsFromStart bounds) ts
-    → AllByRecursion (λ p. is_before p o ≡ false) (map position_of ts)
-from_start bounds o line column ts all = all_map (IsFromStart bounds) (λ p. is_before p o ≡ false) position_of
-    (λ t h. (λ i. is_before (position_of t) (record { line = sym line i; column = sym column i })) ∙ h) ts all
-
--- ---- a listing that fits, with a map after it
-
-module _ (base : Parts) (limits : Allowed) (offset : Position) (before : Listing) (m : Flat) where
-  pub still_fits : limits.items < POSITIONS
-      → ListingFits base limits before
-      → any_after offset before.tokens ≡ false
-      → (length before.sources + length m.sources ≤ limits.items)
-      × (length before.names + length m.names ≤ limits.items)
-      → (es : List Entry) → length es ≡ length m.sources → AllByRecursion (HasOwnUrl base) es
-      → (bounds : Bounds) → bounds ≡ bounds_of limits offset m
-      → (ts : List Token) → IsEncodable ts → AllByRecursion (IsWithin bounds) ts
-      → AllByRecursion (IsFromStart bounds) ts
-      → ListingFits base limits (listed base limits offset before m es ts)
-  still_fits most fits none few es count own bounds are ts encodable within from =
-      let now = listed base limits offset before m es ts in
-      let few_sources = few.0 in
-      let few_names = few.1 in
-      let own_sources : bounds.sources ≡ length m.sources = ap (λ (b : Bounds). b.sources) are in
-      let own_names : bounds.names ≡ length m.names = ap (λ (b : Bounds). b.names) are in
-      let own_lines : bounds.lines ≡ limits.lines = ap (λ (b : Bounds). b.lines) are in
-      let source_count : length now.sources ≡ length before.sources + length m.sources =
-      length-append before.sources es ∙ ap (λ n. length before.sources + n) count in
-      let name_count : length now.names ≡ length before.names + length m.names =
-      length-append before.names m.names in
-      let sum_sources : length before.sources + bounds.sources ≡ length now.sources =
-      ap (λ n. length before.sources + n) own_sources ∙ sym source_count in
-      let sum_names : length before.names + bounds.names ≡ length now.names =
-      ap (λ n. length before.names + n) own_names ∙ sym name_count in
-      let moved = shifted (length before.sources) (length before.names) in
-      let start = ap (λ (b : Bounds). b.start_line) are in
-      let start_column = ap (λ (b : Bounds). b.start_column) are in
-      record {
-        listing = record {
-          sources = omega (arith, source_count, few_sources, most);
-          names = omega (arith, name_count, few_names, most);
-          encodable = (
-            subst NeverFalls
-                (sym (map-append position_of before.tokens (map moved ts) ∙ ap (λ ps. map position_of
-                before.tokens ++ ps) (moved_positions (length before.sources) (length before.names) ts)))
-                (join_NeverFalls offset (map position_of before.tokens) (map position_of ts)
-                fits.listing.encodable.0 encodable.0 (none_after offset before.tokens none)
-                (from_start bounds offset start start_column ts from)),
-            all_append IsPlaced before.tokens (map moved ts) fits.listing.encodable.1
-                (all_map (λ t. IsPlaced t × IsWithin bounds t) IsPlaced moved
-                (moved_placed bounds (length before.sources) (length before.names)
-                (omega (arith, own_sources, few_sources, most)) (omega (arith, own_names, few_names, most)))
-                ts
-                (all_both IsPlaced (IsWithin bounds) ts encodable.1 within)),
-          );
-          listed = all_append (IsListedToken now) before.tokens (map moved ts)
-              (all_weaker (IsListedToken before) (IsListedToken now)
-              (still_listed before now (omega (arith, source_count)) (omega (arith, name_count)))
-              before.tokens fits.listing.listed)
-              (all_map (IsWithin bounds) (IsListedToken now) moved (moved_listed bounds
-              (length before.sources) (length before.names) now sum_sources sum_names) ts within);
-        };
-        few_sources = omega (arith, source_count, few_sources);
-        few_names = omega (arith, name_count, few_names);
-        urls = all_append (HasOwnUrl base) before.sources es fits.urls own;
-        lines = all_append (λ t. t.line < limits.lines) before.tokens (map moved ts) fits.lines
-            (all_map (IsWithin bounds) (λ t. t.line < limits.lines) moved
-            (λ t h. let below = h.line in omega (arith, below, own_lines)) ts within);
-      }
-
-pub nothing_fits : (base : Parts) (limits : Allowed) → ListingFits base limits nothing
-nothing_fits base limits = record {
-  listing = record { sources = omega arith; names = omega arith; encodable = (tt, tt); listed = tt };
-  few_sources = omega arith;
-  few_names = omega arith;
-  urls = tt;
-  lines = tt;
-}
+from_start : (bounds : Bounds) (ts : List Token) → AllByRecursion (IsFromStart bounds) ts
+    → AllByRecursion (λ p. is_before p (start_of bounds) ≡ false) (map position_of ts)
+from_start bounds =
+    all_map (IsFromStart bounds) (λ p. is_before p (start_of bounds) ≡ false) position_of (λ t h. h)
 
 -- ---- each URL is its own
 
@@ -290,24 +182,19 @@ module _ (base : Parts) (root : Option (List ℕ)) (ignored : List ℕ) where
   unfolding source_url
   own_urls i None None ok = tt
   own_urls i None (Some u) ok = absurd cc
-  own_urls i (Some source) url ok = by (source_at i (resolve base root source)) refl ok
-    where
-      by : (r : Checked (List ℕ)) → source_at i (resolve base root source) ≡ r
-          → (r >>= λ text. Ok (Some text)) ≡ Ok url → IfSome url (IsOwnUrl base)
-      by (Ok text) at same =
-          let is : Some text ≡ url = cc in subst (λ (o : Option (List ℕ)). IfSome o (IsOwnUrl base)) is
-          (own_url i source (resolve base root source) refl text at)
-      by (Err e) at same = absurd cc
+  own_urls i (Some source) url ok =
+      let read = bound (source_at i (resolve base root source)) (λ text. Ok (Some text)) url ok in
+      let same = read.2 in let is : Some read.0 ≡ url = cc in
+      subst (λ (o : Option (List ℕ)). IfSome o (IsOwnUrl base)) is
+      (own_url i source (resolve base root source) refl read.0 read.1)
 
   own_entry : (i : ℕ) (source content : Option (List ℕ)) (flag : Bool) (e : Entry)
       → source_entry base root i source content flag ≡ Ok e → IsOwn e
-  own_entry i source content flag e ok = by (source_url base root i source) refl ok
-    where
-      by : (r : Checked (Option (List ℕ))) → source_url base root i source ≡ r
-          → (r >>= λ url. Ok (record { url = url; content = content; ignored = flag })) ≡ Ok e → IsOwn e
-      by (Ok url) at same = let is : record { url = url; content = content; ignored = flag } ≡ e = cc in
-          subst IsOwn is (own_urls i source url at)
-      by (Err f) at same = absurd cc
+  own_entry i source content flag e ok =
+      let read = bound (source_url base root i source)
+      (λ url. Ok (record { url = url; content = content; ignored = flag })) e ok in
+      let same = read.2 in let is : record { url = read.0; content = content; ignored = flag } ≡ e = cc in
+      subst IsOwn is (own_urls i source read.0 read.1)
 
   pub own_entries : (i : ℕ) (sources contents : List (Option (List ℕ))) (es : List Entry)
       → entries_from base root ignored i sources contents ≡ Ok es → AllByRecursion IsOwn es
@@ -315,21 +202,91 @@ module _ (base : Parts) (root : Option (List ℕ)) (ignored : List ℕ) where
   own_entries i [] contents es ok = let is : [] ≡ es = cc in subst (AllByRecursion IsOwn) is tt
   own_entries i (s ∷ ss) [] es ok = let is : [] ≡ es = cc in subst (AllByRecursion IsOwn) is tt
   own_entries i (s ∷ ss) (c ∷ cs) es ok =
-      by (own_entries (i + 1) ss cs) (source_entry base root i s c (is_listed i ignored)) refl ok
-    where
-      by_rest : ((rest : List Entry) → entries_from base root ignored (i + 1) ss cs ≡ Ok rest
-          → AllByRecursion IsOwn rest) → (e : Entry) → IsOwn e
-          → (r : Checked (List Entry)) → entries_from base root ignored (i + 1) ss cs ≡ r
-          → (r >>= λ entries. Ok (e ∷ entries)) ≡ Ok es → AllByRecursion IsOwn es
-      by_rest more e own (Ok rest) at same =
-          let is : e ∷ rest ≡ es = cc in subst (AllByRecursion IsOwn) is (own, more rest at)
-      by_rest more e own (Err f) at same = absurd cc
+      let first = bound (source_entry base root i s c (is_listed i ignored)) (λ entry.
+      entries_from base root ignored (i + 1) ss cs >>= λ entries. Ok (entry ∷ entries)) es ok in
+      let rest = bound (entries_from base root ignored (i + 1) ss cs) (λ entries. Ok (first.0 ∷ entries)) es
+      first.2 in
+      let same = rest.2 in let is : first.0 ∷ rest.0 ≡ es = cc in
+      subst (AllByRecursion IsOwn) is
+      (own_entry i s c (is_listed i ignored) first.0 first.1, own_entries (i + 1) ss cs rest.0 rest.1)
 
-      by : ((rest : List Entry) → entries_from base root ignored (i + 1) ss cs ≡ Ok rest
-          → AllByRecursion IsOwn rest)
-          → (r : Checked Entry) → source_entry base root i s c (is_listed i ignored) ≡ r
-          → (r >>= λ entry. entries_from base root ignored (i + 1) ss cs >>= λ entries. Ok (entry ∷ entries))
-          ≡ Ok es → AllByRecursion IsOwn es
-      by more (Ok e) at same = by_rest more e (own_entry i s c (is_listed i ignored) e at)
-          (entries_from base root ignored (i + 1) ss cs) refl same
-      by more (Err f) at same = absurd cc
+-- ---- a listing that fits, with a map after it
+
+module _ (base : Parts) (limits : Allowed) (offset : Position) (before : Listing) (m : Flat)
+    (start : IsPosition offset) (items : limits.items < POSITIONS) (lines : limits.lines ≤ LINES)
+    (fits : ListingFits base limits before) (none : any_after offset before.tokens ≡ false)
+    (few : is_too_many limits before m ≡ false) where
+  still_fits : (es : List Entry) → length es ≡ length m.sources → AllByRecursion (HasOwnUrl base) es
+      → (ts : List Token) → decoded (bounds_of limits offset m) m.mappings ≡ Ok ts
+      → ListingFits base limits (listed base limits offset before m es ts)
+  still_fits es count own ts said =
+      let now = listed base limits offset before m es ts in
+      let bounds = bounds_of limits offset m in
+      let few_sources = (few_each base limits offset before m few).0 in
+      let few_names = (few_each base limits offset before m few).1 in
+      let are : AreBounds bounds = record {
+        start_line = start.line;
+        start_column = start.column;
+        sources = omega (arith, few_sources, items);
+        names = omega (arith, few_names, items);
+        lines = lines;
+      } in
+      let encodable = decoded-encodable bounds are m.mappings ts said in
+      let within = decoded-within bounds m.mappings ts said in
+      let source_count : length before.sources + length m.sources ≡ length now.sources =
+      sym (length-append before.sources es ∙ ap (λ n. length before.sources + n) count) in
+      let name_count : length before.names + length m.names ≡ length now.names =
+      sym (length-append before.names m.names) in
+      let moved = shifted (length before.sources) (length before.names) in
+      record {
+        listing = record {
+          sources = omega (arith, source_count, few_sources, items);
+          names = omega (arith, name_count, few_names, items);
+          encodable = (
+            subst NeverFalls
+                (sym (map-append position_of before.tokens (map moved ts) ∙ ap (λ ps. map position_of
+                before.tokens ++ ps) (moved_positions (length before.sources) (length before.names) ts)))
+                (join_NeverFalls offset (map position_of before.tokens) (map position_of ts)
+                fits.listing.encodable.0 encodable.0 (none_after offset before.tokens none)
+                (from_start bounds ts (decoded-from_start bounds m.mappings ts said))),
+            all_append IsPlaced before.tokens (map moved ts) fits.listing.encodable.1
+                (all_map (λ t. IsPlaced t × IsWithin bounds t) IsPlaced moved
+                (moved_placed bounds (length before.sources) (length before.names)
+                (omega (arith, few_sources, items)) (omega (arith, few_names, items)))
+                ts
+                (all_both IsPlaced (IsWithin bounds) ts encodable.1 within)),
+          );
+          listed = all_append (IsListedToken now) before.tokens (map moved ts)
+              (all_weaker (IsListedToken before) (IsListedToken now)
+              (still_listed before now (omega (arith, source_count)) (omega (arith, name_count)))
+              before.tokens fits.listing.listed)
+              (all_map (IsWithin bounds) (IsListedToken now) moved (moved_listed bounds
+              (length before.sources) (length before.names) now source_count name_count) ts within);
+        };
+        few_sources = omega (arith, source_count, few_sources);
+        few_names = omega (arith, name_count, few_names);
+        urls = all_append (HasOwnUrl base) before.sources es fits.urls own;
+        lines = all_append (λ t. t.line < limits.lines) before.tokens (map moved ts) fits.lines
+            (all_map (IsWithin bounds) (λ t. t.line < limits.lines) moved (λ t h. h.line) ts within);
+      }
+
+  pub flat_fits : (l : Listing) → length l.sources ≡ length before.sources + length m.sources
+      → listed_flat base limits offset before m ≡ Ok l → ListingFits base limits l
+  flat_fits l count ok = by (entries_from base m.root m.ignored 0 m.sources m.contents) refl
+      (decoded (bounds_of limits offset m) m.mappings) refl
+      (sym (few_listed base limits offset before m few) ∙ ok)
+    where
+      by : (es : Checked (List Entry)) → entries_from base m.root m.ignored 0 m.sources m.contents ≡ es
+          → (ts : Result (List Token) (SegmentPlace × SegmentKind))
+          → decoded (bounds_of limits offset m) m.mappings ≡ ts
+          → (es >>= λ es. of_segments ts >>= λ ts. Ok (listed base limits offset before m es ts)) ≡ Ok l
+          → ListingFits base limits l
+      by (Ok es) read (Ok ts) said same =
+          let is : listed base limits offset before m es ts ≡ l = cc in
+          let sum = length-append before.sources es in
+          let both : length (before.sources ++ es) ≡ length before.sources + length m.sources =
+          ap (λ (l : Listing). length l.sources) is ∙ count in
+          subst (ListingFits base limits) is (still_fits es (omega (arith, sum, both))
+          (own_entries base m.root m.ignored 0 m.sources m.contents es read) ts said)
+      by (Ok es) read (Err e) said same = absurd cc
+      by (Err e) read ts said same = absurd cc

@@ -10,20 +10,16 @@ use Rattle.smap_shape.specs.Limits.{max_level}
 use Rattle.smap_shape.specs.Members.{Flat, Index, Section, MapMembers, flat, index}
 use Rattle.smap_shape.specs.Reading.{shape_of, section_of, offset_and_map, file_of, flat_of, flat_or_index}
 use Rattle.smap_shape.specs.Reading.{member_of, has, refuse_if}
+use Rattle.smap_record.proofs.StepLemmas.{bound}
 
-abbrev section : Section Data → Result (Section Data) ShapeFault
+abbrev pub section : Section Data → Result (Section Data) ShapeFault
 section s = Ok s
 
-same : (a b : Section Data) → section a ≡ section b → a ≡ b
+pub same : (a b : Section Data) → section a ≡ section b → a ≡ b
 same a b h = cc
 
 abbrev members : MapMembers Data → Result (MapMembers Data) ShapeFault
 members m = Ok m
-
-bound : {A B F : Type 0} (r : Result A F) (f : A → Result B F) (y : B) → (r >>= f) ≡ Ok y
-    → (x : A) × (r ≡ Ok x) × (f x ≡ Ok y)
-bound (Ok x) f y h = (x, refl, h)
-bound (Err e) f y h = absurd cc
 
 -- at the last level a section that is accepted has a map without sections
 no_sections : (tree : Data) (s : Section Data) → section_of 8 tree ≡ Ok s

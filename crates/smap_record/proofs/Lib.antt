@@ -6,6 +6,7 @@ pub mod SourceLemmas
 pub mod RelativeLemmas
 pub mod FewerLemmas
 pub mod NumberedLemmas
+pub mod StepLemmas
 pub mod EntryLemmas
 pub mod FlagLemmas
 pub mod OnceLemmas
@@ -14,8 +15,10 @@ pub mod FlatLemmas
 mod OwnedLemmas
 pub mod JoinedLemmas
 pub mod SectionLemmas
+mod WrittenLemmas
+mod WrittenUrlLemmas
 pub mod DepthLemmas
+pub mod LevelLemmas
 pub mod OneLevelLemmas
 mod Examples
 pub mod StabilityLemmas
-pub mod LevelLemmas

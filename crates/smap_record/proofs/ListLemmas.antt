@@ -1,8 +1,9 @@
 -- Lists that are gone through one by one.
 use Rattle.std.proofs.Common.{◌≡◌, ℕ, zero, suc, ◌+◌, List, [], ◌∷◌, ◌++◌, take, drop, map, Some, slice_get}
-use Rattle.std.proofs.Common.{ap, ◌∙◌, arith, subst}
+use Rattle.std.proofs.Common.{ap, ◌∙◌, ◌-◌, arith, length, refl, subst}
 use Rattle.std.specs.List.{AllByRecursion}
 use Rattle.std.proofs.lemmas.List.{map-append}
+use Rattle.smap_mappings.specs.Text.{last_or}
 
 -- ---- what holds of each
 
@@ -57,5 +58,23 @@ pub drop_next : {A : Type 0} (xs : List A) (i : ℕ) (x : A) → slice_get xs i 
     → drop i xs ≡ x ∷ drop (i + 1) xs
 drop_next xs i x h = let next : suc i ≡ i + 1 = omega arith in drop_at xs i x h ∙ ap (λ n. x ∷ drop n xs) next
 
+-- one more is last
+pub get-end : {A : Type 0} (xs : List A) (x : A) → slice_get (xs ++ x ∷ []) (length xs) ≡ Some x
+get-end [] x = refl
+get-end (y ∷ ys) x = get-end ys x
+
 pub map-push : {A B : Type 0} (f : A → B) (xs : List A) (x : A) → map f (xs ++ x ∷ []) ≡ map f xs ++ f x ∷ []
 map-push f xs x = map-append f xs (x ∷ [])
+
+-- ---- the last element
+
+-- the last element, by its place
+pub last_at : {A : Type 0} (f : A → ℕ) (d : ℕ) (xs : List A) (x : A) → slice_get xs (length xs - 1) ≡ Some x
+    → last_or d (map f xs) ≡ f x
+last_at f d [] x e = absurd cc
+last_at f d (y ∷ []) x e =
+    let same : y ≡ x = cc in
+    ap f same
+last_at f d (y ∷ z ∷ zs) x e =
+    let place : length (y ∷ z ∷ zs) - 1 ≡ suc (length (z ∷ zs) - 1) = omega arith in
+    last_at f (f y) (z ∷ zs) x (subst (λ (i : ℕ). slice_get (y ∷ z ∷ zs) i ≡ Some x) place e)

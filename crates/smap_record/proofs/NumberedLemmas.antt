@@ -19,6 +19,7 @@ use Rattle.smap_record.specs.Entries.{entry_of, same_key}
 use Rattle.smap_record.specs.Numbered.{entry_at, IsNumbered, Numbers}
 use Rattle.smap_record.proofs.DistinctLemmas.{distinct-push}
 use Rattle.smap_record.proofs.EqualLemmas.{same_entries, own_entry}
+use Rattle.smap_record.proofs.ListLemmas.{get-end}
 
 -- ---- whether an entry is there
 
@@ -97,10 +98,6 @@ get-front : {A : Type 0} (xs ys : List A) (k : ℕ) → k < length xs → slice_
 get-front [] ys k below = absurd (omega (arith, below))
 get-front (x ∷ xs) ys zero below = refl
 get-front (x ∷ xs) ys (suc k) below = get-front xs ys k (omega (arith, below))
-
-get-end : {A : Type 0} (xs : List A) (x : A) → slice_get (xs ++ x ∷ []) (length xs) ≡ Some x
-get-end [] x = refl
-get-end (y ∷ ys) x = get-end ys x
 
 numbers_added : (xs : List SourceEntry) (e : SourceEntry) → position (same_key e) xs ≡ None
     → Numbers xs (entry_of e) (xs ++ e ∷ []) (length xs)

@@ -25,6 +25,8 @@ use Rattle.smap_record.specs.Reading.{map_tree, map_of, tree_map, reading}
 use Rattle.smap_record.specs.OneLevel.{of_section, flat_alone, old_section, old_sections, old_map_of}
 use Rattle.smap_record.specs.OneLevel.{one_level_reading}
 use Rattle.smap_record.specs.Laws.{OldTexts}
+use Rattle.smap_record.proofs.StepLemmas.{bound}
+use Rattle.smap_record.proofs.LevelLemmas.{same}
 use Rattle.smap_record.proofs.SectionLemmas.{place_start}
 use Rattle.smap_record.proofs.DepthLemmas.{IsAtMost, then, if_refused, by_shape, flat_depth, map_of_flat}
 
@@ -45,17 +47,6 @@ steps {A} {B} (Ok x) s f g same each =
 steps {A} {B} (Err e) s f g same each = λ other. ap (λ (q : Checked A). q >>= g) (same other)
 
 -- ---- what an offset is that was accepted
-
-bound : {A B F : Type 0} (r : Result A F) (f : A → Result B F) (y : B)
-    → (r >>= f) ≡ Ok y → (x : A) × (r ≡ Ok x) × (f x ≡ Ok y)
-bound (Ok x) f y h = (x, refl, h)
-bound (Err e) f y h = absurd cc
-
-abbrev fine : Section Data → Result (Section Data) ShapeFault
-fine s = Ok s
-
-same : (a b : Section Data) → fine a ≡ fine b → a ≡ b
-same a b h = cc
 
 there : {A : Type 0} (fault : ShapeFault) (o : Option A) (x : A) → shape_or_fault fault o ≡ Ok x → o ≡ Some x
 there fault None x h = absurd cc

@@ -1,14 +1,12 @@
 -- Sections, one after the other.
 use Rattle.std.proofs.Common.{◌≡◌, ℕ, ◌+◌, List, [], Option, Some, Ok, Err, ap, ◌∙◌, sym, refl, slice_get}
-use Rattle.std.proofs.Common.{drop, zero-add, Bool, true, false, cond, eqb}
+use Rattle.std.proofs.Common.{drop, zero-add, Bool, true, false, cond, eqb, None}
 use Rattle.std.proofs.lemmas.Bool.{eqb-true}
 use Rattle.smap_mappings.specs.declared.position.Position.{Position}
 use Rattle.smap_mappings.specs.Position.{place}
 use Rattle.serde_json.specs.Data.{Data}
 use Rattle.smap_record.specs.declared.fault.ReadError.{ReadError}
 use Rattle.smap_record.specs.declared.fault.ReadError.TheVariants.{Refused, Memory}
-use Rattle.std.specs.Prelude.{Result}
-use Rattle.smap_shape.specs.declared.fault.ShapeFault.{ShapeFault}
 use Rattle.smap_shape.specs.Members.{Section, MapMembers}
 use Rattle.smap_shape.specs.Reading.{shape_of, section_of}
 use Rattle.smap_record.specs.declared.fault.Kind.TheVariants.{Offset, Order, Overlap}
@@ -16,7 +14,7 @@ use Rattle.smap_record.specs.Record.{Listing}
 use Rattle.smap_record.specs.Results.{Fails}
 use Rattle.smap_record.specs.Faults.{Checked, ◌>>=◌, refuse_if, or_fault, of_shape, in_section}
 use Rattle.smap_record.specs.Flat.{start}
-use Rattle.smap_record.specs.Building.{error_in}
+use Rattle.smap_record.specs.Building.{error_in, section_start, listed_map}
 use Rattle.smap_record.specs.Sections.{Inner, own_offset, combined, falls, overlaps, listed_section}
 use Rattle.smap_record.specs.Sections.{listed_sections}
 use Rattle.smap_record.proofs.ListLemmas.{drop_next}
@@ -31,39 +29,35 @@ place_start p = by (eqb p.line 0) refl
         (λ i. record { line = sym none i; column = zero-add p.column i })
     by false e = (λ i. record { line = zero-add p.line i; column = p.column })
 
--- A section that is placed in range, and neither falls nor overlaps, lists what its map lists from there on.
-module _ (level : ℕ) (inner : Inner) (outer : Position) (last : Option Position) (before : Listing)
-    (tree : Data) (s : Section Data) (offset : Position) (m : MapMembers Data) where
-  abbrev pub then_own : Checked Listing → Checked (Position × Listing)
-  then_own r = r >>= λ now. Ok (own_offset s, now)
+-- A section is placed, then its map is added.
+module _ (inner : Inner) (outer : Position) (last : Option Position) (before : Listing) where
+  abbrev with_own : Section Data → Checked Listing → Checked (Position × Listing)
+  with_own s r = r >>= λ now. Ok (own_offset s, now)
 
-  abbrev members_read : Result (MapMembers Data) ShapeFault → Checked (Position × Listing)
-  members_read r = of_shape r >>= λ members. then_own (inner offset before members)
+  abbrev pub placed_section : Section Data → Checked (Position × Listing)
+  placed_section s = section_start outer last before (own_offset s) >>= λ offset.
+      with_own s (listed_map inner offset before s.map)
 
-  pub section_read : section_of level tree ≡ Ok s → combined outer (own_offset s) ≡ Some offset
-      → falls last (own_offset s) ≡ false → overlaps before offset ≡ false → shape_of s.map ≡ Ok m
-      → listed_section level inner outer last before tree ≡ then_own (inner offset before m)
-  section_read is place no_fall none members =
-      ap (λ (r : Result (Section Data) ShapeFault). of_shape r >>= λ s.
-      or_fault Offset (combined outer (own_offset s)) >>= λ o.
-      refuse_if Order (falls last (own_offset s)) >>= λ u. refuse_if Overlap (overlaps before o) >>= λ v.
-      of_shape (shape_of s.map) >>= λ ms. inner o before ms >>= λ now. Ok (own_offset s, now)) is
-      ∙ ap (λ (p : Option Position). or_fault Offset p >>= λ o.
-      refuse_if Order (falls last (own_offset s)) >>= λ u. refuse_if Overlap (overlaps before o) >>= λ v.
-      of_shape (shape_of s.map) >>= λ ms. inner o before ms >>= λ now. Ok (own_offset s, now)) place
-      ∙ ap (λ b. refuse_if Order b >>= λ u.
-      refuse_if Overlap (overlaps before offset) >>= λ v. members_read (shape_of s.map)) no_fall
-      ∙ ap (λ b. refuse_if Overlap b >>= λ v. members_read (shape_of s.map)) none
-      ∙ ap members_read members
+  pub section_in_steps : (level : ℕ) (tree : Data) → listed_section level inner outer last before tree
+      ≡ (of_shape (section_of level tree) >>= placed_section)
+  section_in_steps level tree = (λ j. of_shape (section_of level tree) >>= λ s.
+      by s (combined outer (own_offset s)) (falls last (own_offset s)) j)
+    where
+      by_map : (s : Section Data) (o : Position) (b : Bool) (r : Checked (MapMembers Data))
+          → (refuse_if Overlap b >>= λ v. r >>= λ ms. with_own s (inner o before ms))
+          ≡ ((refuse_if Overlap b >>= λ v. Ok o) >>= λ o. with_own s (r >>= inner o before))
+      by_map s o true r = refl
+      by_map s o false (Ok ms) = refl
+      by_map s o false (Err e) = refl
 
-  -- the same, where the own offset is given beside the section
-  pub section_steps : (own : Position) → section_of level tree ≡ Ok s → own_offset s ≡ own
-      → combined outer own ≡ Some offset → falls last own ≡ false → overlaps before offset ≡ false
-      → shape_of s.map ≡ Ok m
-      → listed_section level inner outer last before tree ≡ (inner offset before m >>= λ now. Ok (own, now))
-  section_steps own is same place no_fall none members =
-      section_read is (ap (combined outer) same ∙ place) (ap (falls last) same ∙ no_fall) none members
-      ∙ (λ j. inner offset before m >>= λ now. Ok (same j, now))
+      by : (s : Section Data) (p : Option Position) (b : Bool)
+          → (or_fault Offset p >>= λ o. refuse_if Order b >>= λ u. refuse_if Overlap (overlaps before o)
+          >>= λ v. of_shape (shape_of s.map) >>= λ ms. with_own s (inner o before ms))
+          ≡ ((or_fault Offset p >>= λ o. refuse_if Order b >>= λ u. refuse_if Overlap (overlaps before o)
+          >>= λ v. Ok o) >>= λ o. with_own s (of_shape (shape_of s.map) >>= inner o before))
+      by s None b = refl
+      by s (Some o) true = refl
+      by s (Some o) false = by_map s o (overlaps before o) (of_shape (shape_of s.map))
 
 module _ (level : ℕ) (inner : Inner) (outer : Position) (k : ℕ) (last : Option Position) (before : Listing)
     (all : List Data) (section : Data) (at : slice_get all k ≡ Some section) where

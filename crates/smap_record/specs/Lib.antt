@@ -5,6 +5,7 @@ pub mod Faults
 pub mod Flat
 pub mod Sections
 pub mod Reading
+pub mod Written
 pub mod OneLevel
 pub mod Laws
 pub mod Fitting
@@ -19,5 +20,6 @@ pub mod MapView
 pub mod Steps
 pub mod Building
 pub mod Owned
+pub mod WrittenView
 pub mod Words
 pub mod Messages

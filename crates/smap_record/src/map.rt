@@ -1,11 +1,13 @@
 //! A source map that was read. Every getter takes constant time and no memory.
-ghost use Rattle.std.specs.Prelude.{◌≡◌, ◌<◌, length, map, slice_get, Some, IfSome, option_map};
+ghost use Rattle.std.specs.Prelude.{◌≡◌, ◌<◌, length, slice_get, Some, IfSome, option_map};
 ghost use Rattle.std.specs.Prelude.{option_copied, string_bytes};
+ghost use Rattle.smap_mappings.specs.Text.{line_count};
 ghost use Rattle.smap_record.specs.Record.{record_of, origin_of};
 ghost use Rattle.smap_record.specs.Listings.{IsListing, IsListedOriginal};
+ghost use Rattle.smap_record.specs.MapView.{listing_of};
 ghost use Rattle.smap_record.specs.Views.{entry_of_view, origin_of_view, mapping_of_view};
 
-use crate::sources::Sources;
+use crate::listing::Listing;
 use crate::view::{OriginalView, SourceView, TokenView};
 use smap_mappings::{Original, Token};
 use std::marker::Model;
@@ -31,9 +33,7 @@ use std::marker::Model;
 #[derive(Drop)]
 pub struct SourceMap {
     file: Option<String>,
-    sources: Sources,
-    names: Vec<String>,
-    tokens: Vec<Token>,
+    listing: Listing,
 }
 
 impl Model for SourceMap {
@@ -49,32 +49,11 @@ impl Model for SourceMap {
 }
 
 impl SourceMap {
-    pub(crate) fn new(
-        file: Option<String>,
-        sources: Sources,
-        names: Vec<String>,
-        tokens: Vec<Token>,
-    ) -> SourceMap
-        requires { IsListing (record {
-          sources = sources;
-          names = map string_bytes names.items;
-          tokens = tokens.items;
-        }) }
-        ensures { result ≡ record {
-          file = option_map string_bytes file;
-          listing = record {
-            sources = sources;
-            names = map string_bytes names.items;
-            tokens = tokens.items;
-          };
-        } }
+    pub(crate) fn new(file: Option<String>, listing: Listing) -> SourceMap
+        requires { IsListing (listing_of listing) }
+        ensures { result ≡ record { file = option_map string_bytes file; listing = listing_of listing } }
     {
-        SourceMap {
-            file,
-            sources,
-            names,
-            tokens,
-        }
+        SourceMap { file, listing }
     }
 
     /// The member `file`: the name of the generated file, if the map has one.
@@ -92,7 +71,7 @@ impl SourceMap {
     pub fn source_count(&self) -> usize
         ensures { result ≡ length (record_of self.now).sources }
     {
-        let sources = &self.sources;
+        let sources = &self.listing.sources;
         sources.distinct_count()
     }
 
@@ -101,7 +80,7 @@ impl SourceMap {
         requires { i < length (record_of self.now).sources }
         ensures { slice_get (record_of self.now).sources i ≡ Some (entry_of_view result) }
     {
-        let sources = &self.sources;
+        let sources = &self.listing.sources;
         sources.distinct(i)
     }
 
@@ -109,7 +88,7 @@ impl SourceMap {
     pub fn listed_count(&self) -> usize
         ensures { result ≡ length self.now.listing.sources }
     {
-        let sources = &self.sources;
+        let sources = &self.listing.sources;
         sources.listed_count()
     }
 
@@ -120,7 +99,7 @@ impl SourceMap {
         ensures source { slice_get (record_of self.now).sources result
             ≡ slice_get self.now.listing.sources i }
     {
-        let sources = &self.sources;
+        let sources = &self.listing.sources;
         sources.listed(i)
     }
 
@@ -128,7 +107,7 @@ impl SourceMap {
     pub fn name_count(&self) -> usize
         ensures { result ≡ length self.now.listing.names }
     {
-        self.names.len()
+        self.listing.names.len()
     }
 
     /// The i-th listed name. `i` must be below `name_count`.
@@ -136,7 +115,7 @@ impl SourceMap {
         requires { i < length self.now.listing.names }
         ensures { slice_get self.now.listing.names i ≡ Some result.now }
     {
-        let names = &self.names;
+        let names = &self.listing.names;
         names[i].as_str()
     }
 
@@ -146,7 +125,18 @@ impl SourceMap {
         ensures mappings { result ≡ length (record_of self.now).mappings }
         ensures listing { IsListing self.now.listing }
     {
-        self.tokens.len()
+        self.listing.tokens.len()
+    }
+
+    /// One more than the generated line of the last mapping, or 0 without one.
+    pub fn line_count(&self) -> u32
+        ensures { result ≡ line_count self.now.listing.tokens }
+    {
+        let count = self.token_count();
+        if count == 0 {
+            return 0;
+        }
+        self.listed_token(count - 1).line + 1
     }
 
     /// The i-th mapping by generated line and column, with indices into the listed sources and names. `i`
@@ -155,7 +145,7 @@ impl SourceMap {
         requires { i < length self.now.listing.tokens }
         ensures { slice_get self.now.listing.tokens i ≡ Some result }
     {
-        let tokens = &self.tokens;
+        let tokens = &self.listing.tokens;
         tokens[i]
     }
 

@@ -25,7 +25,7 @@ use smap_shape::{Shape, shape, split_contents};
 use std::alloc::Global;
 
 /// The map of a JSON tree with these contents, or its first fault.
-fn split_map_of(
+pub(crate) fn split_map_of(
     alloc: Global,
     contents: Vec<Option<String>>,
     tree: &Value,

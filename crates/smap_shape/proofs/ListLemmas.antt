@@ -1,6 +1,5 @@
 use Rattle.std.proofs.Common.{◌≡◌, ℕ, ◌<◌, List, [], ◌∷◌, length, map, get_or, Option, Some, None, ap, refl}
-use Rattle.std.proofs.Common.{◌∙◌, slice_get, Bool, true, false, cond, ◌||◌, ◌&&◌}
-use Rattle.std.proofs.lemmas.Option.{slice_get-map, slice_get-get_or}
+use Rattle.std.proofs.Common.{◌∙◌, Bool, true, false, cond, ◌||◌, ◌&&◌}
 use Rattle.std.specs.Prelude.{option_map, option_and_then, is_some}
 use Rattle.std.specs.List.{list_any, list_all}
 use Rattle.serde_json.specs.Data.{Data, null, boolean, number, string, array, object}
@@ -11,14 +10,9 @@ use Rattle.smap_shape.specs.Reading.{each_item, list_member, text_or_null, numbe
 use Rattle.smap_shape.specs.Inside.{sure_texts, numbers}
 use Rattle.std.specs.Prelude.{unwrap_or, nat_lt, All}
 use Rattle.std.proofs.Common.{arith, subst}
-use Rattle.std.proofs.lemmas.Bool.{ltb-true}
+use Rattle.std.proofs.lemmas.Bool.{and_parts, ltb-true}
 use Rattle.std.proofs.lemmas.List.{get_or-map, length-map}
 use Rattle.std.proofs.lemmas.List.Elements.{All-nil, All-cons, All-get_or}
-
--- what stands in a mapped list
-pub slice_get-map_within : {A B : Type 0} (f : A → B) (xs : List A) (i : ℕ) (d : A)
-    → i < length xs → slice_get (map f xs) i ≡ Some (f (get_or xs i d))
-slice_get-map_within f xs i d h = slice_get-map f xs i ∙ ap (option_map f) (slice_get-get_or xs i d h)
 
 pub list_any-map : {A B : Type 0} (f : A → B) (p : B → Bool) (xs : List A)
     → list_any p (map f xs) ≡ list_any (λ x. p (f x)) xs
@@ -107,10 +101,6 @@ each_item-any (v ∷ vs) = ap (option_map (λ xs. view v ∷ xs)) (each_item-any
 
 pub ruleset any_list = (each_item-any, refl)
 
-both : (a b : Bool) → (a && b) ≡ true → (a ≡ true) × (b ≡ true)
-both true b h = (refl, h)
-both false b h = (cc, cc)
-
 -- a number that is_some of number_below says to be there is below the count
 number_below-within : (count : ℕ) (d : Data) → is_some (number_below count d) ≡ true
     → unwrap_or (whole d) 0 < count
@@ -131,7 +121,7 @@ pub numbers-within : (count : ℕ) (vs : List Value)
     → list_all (λ v. is_some (number_below count (view v))) vs ≡ true → All (λ n. n < count) (numbers vs)
 numbers-within count [] h = All-nil (λ n. n < count)
 numbers-within count (v ∷ vs) h =
-    let p = both (is_some (number_below count (view v)))
+    let p = and_parts (is_some (number_below count (view v)))
     (list_all (λ v. is_some (number_below count (view v))) vs) h in
     All-cons (λ n. n < count) (unwrap_or (whole (view v)) 0) (numbers vs)
     (number_below-within count (view v) p.0) (numbers-within count vs p.1)

@@ -1,6 +1,6 @@
 -- A run from its parts.
 use Rattle.std.proofs.Common.{◌≡◌, ◌∙◌, ◌⊎◌, inl, inr, ℕ, ◌+◌, ◌≤◌, Bool, true, false, List, [], ◌∷◌, ◌++◌}
-use Rattle.std.proofs.Common.{length, Option, Result, Ok, Err, refl, sym, subst, arith, append_assoc}
+use Rattle.std.proofs.Common.{length, Option, Result, Ok, Err, refl, sym, subst, arith}
 use Rattle.std.proofs.Common.{length-append}
 use Rattle.std.proofs.KnownBytes.{Keeps-refl}
 use Rattle.smap_io.specs.declared.device.Device.{Device}
@@ -16,8 +16,7 @@ use Rattle.smap_tool.specs.declared.outcome.RunFault.{RunFault}
 use Rattle.smap_tool.specs.declared.outcome.RunFault.TheVariants as run
 use Rattle.smap_trace.specs.Streaming.{WritesComplete, WritesPrefix, complete_of}
 use Rattle.smap_trace.specs.Translation.{Fate, Script, translation_by}
-use Rattle.smap_bundle.specs.Header.{trace_line}
-use Rattle.smap_bundle.specs.Bundle.{IsAnswer, BeginsWithEntries, refused}
+use Rattle.smap_bundle.specs.Bundle.{HasFault}
 use Rattle.smap_bundle.specs.Entries.{TakesEntries}
 use Rattle.smap_bundle.specs.Reach.{EndsWithinEntry, ReadsNoMore}
 use Rattle.smap_tool.specs.Translate.{CompleteAfterTrace, GaveUp, PrefixAfterTrace, RunTranslates}
@@ -33,27 +32,17 @@ module _ {R W : Type 0} (remaining : R → Option (List ℕ)) (contents : W → 
     (ro rm rn : Device R) (wo wn : Device W)
     (scripts : List Script) (t : TakesEntries remaining ro rm scripts)
     (same : device_failures rm ≡ device_failures ro) where
-  -- after the entries of a bundle comes its trace
-  reads_all : (trace : List ℕ)
-      → BeginsWithEntries ((t.entries ++ trace_line) ++ trace) scripts (trace_line ++ trace)
-  reads_all trace = record {
-    entries = t.entries;
-    whole = append_assoc t.entries trace_line trace;
-    are = t.are;
-    distinct = t.distinct;
-  }
-
   complete : WritesComplete (fates scripts) (streams remaining rm rn contents wo wn)
       → GaveUp (CompleteAfterTrace fates) (streams remaining ro rn contents wo wn)
   complete w = record {
-    input = (t.entries ++ trace_line) ++ w.bytes;
+    input = t.bytes ++ w.bytes;
     text = translation_by (fates scripts) (complete_of w.bytes);
-    read = Gave-then remaining ro rm rn (t.entries ++ trace_line) w.bytes t.gave w.read;
+    read = Gave-then remaining ro rm rn t.bytes w.bytes t.gave w.read;
     written = w.written;
     is_written = inr (record {
       scripts = scripts;
       trace = w.bytes;
-      reads = reads_all w.bytes;
+      reads = t.are w.bytes;
       is = refl;
     });
   }
@@ -61,9 +50,9 @@ module _ {R W : Type 0} (remaining : R → Option (List ℕ)) (contents : W → 
   in_part : WritesPrefix (fates scripts) (streams remaining rm rn contents wo wn)
       → GaveUp (PrefixAfterTrace fates (has_ended rn)) (streams remaining ro rn contents wo wn)
   in_part w = record {
-    input = (t.entries ++ trace_line) ++ (w.before ++ w.piece);
+    input = t.bytes ++ (w.before ++ w.piece);
     text = translation_by (fates scripts) (complete_of w.before) ++ w.front;
-    read = Gave-then remaining ro rm rn (t.entries ++ trace_line) (w.before ++ w.piece) t.gave w.read;
+    read = Gave-then remaining ro rm rn t.bytes (w.before ++ w.piece) t.gave w.read;
     written = w.written;
     is_written = inr (record {
       scripts = scripts;
@@ -71,7 +60,7 @@ module _ {R W : Type 0} (remaining : R → Option (List ℕ)) (contents : W → 
       piece = w.piece;
       front = w.front;
       rest = w.rest;
-      reads = reads_all (w.before ++ w.piece);
+      reads = t.are (w.before ++ w.piece);
       within = w.within;
       is = refl;
       is_front = w.is_front;
@@ -82,12 +71,12 @@ module _ {R W : Type 0} (remaining : R → Option (List ℕ)) (contents : W → 
       → TranslatesTrace (fates scripts) (streams remaining rm rn contents wo wn) r
       → RunTranslates fates (streams remaining ro rn contents wo wn) r
   told (Ok Done) w = (
-    (t.entries ++ trace_line) ++ w.0,
+    t.bytes ++ w.0,
     translation_by (fates scripts) w.0,
-    Gave-then remaining ro rm rn (t.entries ++ trace_line) w.0 t.gave w.1,
+    Gave-then remaining ro rm rn t.bytes w.0 t.gave w.1,
     w.2,
     w.3,
-    record { scripts = scripts; rest = trace_line ++ w.0; reads = reads_all w.0; is = inl (w.0, refl, refl) },
+    rw (t.are w.0) refl,
     w.4,
   )
   told (Ok Refused) w = absurd w
@@ -102,12 +91,12 @@ module _ {R W : Type 0} (remaining : R → Option (List ℕ)) (contents : W → 
       (device_failures rn)
   tired true (inl one) = inl (omega (arith, one, same))
   tired true (inr e) =
-      let sum = length-append (t.entries ++ trace_line) e.1.0 in
+      let sum = length-append t.bytes e.1.0 in
       inr (
         e.0 ∙ same,
         (
-          (t.entries ++ trace_line) ++ e.1.0,
-          Gave-then remaining ro rm rn (t.entries ++ trace_line)
+          t.bytes ++ e.1.0,
+          Gave-then remaining ro rm rn t.bytes
               e.1.0 t.gave e.1.1,
           omega (arith, sum, e.1.2),
         ),
@@ -142,8 +131,8 @@ module _ {R W : Type 0} (remaining : R → Option (List ℕ)) (contents : W → 
 
   -- a bundle that is refused
   pub refused_run : (wo wn : Device W) (refusal : Refusal) (r : Result Outcome RunFault)
-      → Settled remaining ro rn (IsAnswer fates) ReadsNoMore
-      (refused refusal)
+      → Settled remaining ro rn HasFault ReadsNoMore
+      (fault.Refused refusal)
       → device_failures rn ≡ device_failures ro
       → WritesRefusal contents wo wn (bundle_line refusal ++ 10 ∷ []) r
       → RunsTranslate fates (streams remaining ro rn contents wo wn) r
@@ -161,7 +150,7 @@ module _ {R W : Type 0} (remaining : R → Option (List ℕ)) (contents : W → 
       (sym w)
       (record {
         translates = nothing_written (PrefixAfterTrace fates (has_ended rn)) wo s.bytes s.gave
-            (refused refusal, s.within);
+            (fault.Refused refusal, s.within);
         reader_failures = same;
         writer_failures = refl;
       })
@@ -181,7 +170,7 @@ module _ {R W : Type 0} (remaining : R → Option (List ℕ)) (contents : W → 
 
   -- a run that gave up before
   pub too_long_run : (w : Device W)
-      → Stops remaining ro rn most_calls (IsAnswer fates) ReadsNoMore fault.TooLong
+      → Stops remaining ro rn most_calls HasFault ReadsNoMore fault.TooLong
       → RunsTranslate fates (streams remaining ro rn contents w w) (Err run.TooLong)
   too_long_run w s = record {
     translates = (s.0, s.1, s.2, s.3, Keeps-refl (streams remaining ro rn contents w w).written_before);
@@ -189,7 +178,7 @@ module _ {R W : Type 0} (remaining : R → Option (List ℕ)) (contents : W → 
     writer_failures = refl;
   }
 
-  pub unread_run : (w : Device W) → Stops remaining ro rn most_calls (IsAnswer fates) ReadsNoMore fault.Read
+  pub unread_run : (w : Device W) → Stops remaining ro rn most_calls HasFault ReadsNoMore fault.Read
       → RunsTranslate fates (streams remaining ro rn contents w w) (Err run.Read)
   unread_run w s = record {
     translates = nothing_written (CompleteAfterTrace fates) w s.0 s.1 s.2;
@@ -204,7 +193,7 @@ module _ {R W : Type 0} (remaining : R → Option (List ℕ)) (contents : W → 
       blamed (inl one) = inl one
       blamed (inr e) = inr (e.0, (s.0, s.1, e.1))
 
-  pub memory_run : (w : Device W) → Stops remaining ro rn most_calls (IsAnswer fates) ReadsNoMore fault.Memory
+  pub memory_run : (w : Device W) → Stops remaining ro rn most_calls HasFault ReadsNoMore fault.Memory
       → RunsTranslate fates (streams remaining ro rn contents w w) (Err run.Memory)
   memory_run w s = record {
     translates = nothing_written (PrefixAfterTrace fates (has_ended rn)) w s.0 s.1 s.2;

@@ -16,10 +16,10 @@ use Rattle.smap_tool.specs.declared.outcome.Outcome.{Outcome}
 use Rattle.smap_tool.specs.declared.outcome.Outcome.TheVariants.{Done, Refused}
 use Rattle.smap_tool.specs.declared.outcome.RunFault.{RunFault}
 use Rattle.smap_tool.specs.declared.outcome.RunFault.TheVariants as run
-use Rattle.smap_bundle.specs.Header.{trace_line}
-use Rattle.smap_bundle.specs.Bundle.{Answer, IsAnswer, BeginsWithEntries, done, refused, too_long}
+use Rattle.smap_bundle.specs.Bundle.{HasFault, bundle_of, translated}
 use Rattle.smap_bundle.specs.Reach.{EndsWithinEntry, ReadsNoMore}
 use Rattle.smap_bundle.specs.Reading.{MayFollow}
+use Rattle.smap_bundle.specs.declared.fault.BundleFault.TheVariants as bundle
 use Rattle.smap_bundle.specs.declared.fault.Refusal.{Refusal}
 use Rattle.smap_tool.specs.BundleLine.{bundle_line}
 
@@ -27,16 +27,16 @@ use Rattle.smap_tool.specs.BundleLine.{bundle_line}
 abbrev pub fates_asked : Finding → Bool → List Script → List ℕ → Fate
 fates_asked finding hide scripts = fate_by finding scripts hide
 
--- The answer for what was read, and unless that was to the end, for every input that begins with it.
-abbrev pub Settles : (List Script → List ℕ → Fate) → Bool → List ℕ → Answer → Type 0
-Settles fates ended input answer =
-    (more : List ℕ) → MayFollow ended more → IsAnswer fates (input ++ more) answer
+-- What was read has this fault, and unless that was to the end, so has every input that begins with it.
+abbrev pub Settles : Bool → List ℕ → Refusal → Type 0
+Settles ended input refusal =
+    (more : List ℕ) → MayFollow ended more → HasFault (input ++ more) (bundle.Refused refusal)
 
 -- The translation of all complete lines that were read after the line `trace`.
 pub record CompleteAfterTrace (fates : List Script → List ℕ → Fate) (input text : List ℕ) : Type 0 where
   pub scripts : List Script
   pub trace : List ℕ
-  pub reads : BeginsWithEntries input scripts (trace_line ++ trace)
+  pub reads : bundle_of input ≡ Ok (scripts, trace)
   pub is : text ≡ translation_by (fates scripts) (complete_of trace)
 
 -- What was read after the line `trace` ends with a piece of at most as many bytes as one read asks for. The
@@ -48,7 +48,7 @@ pub record PrefixAfterTrace (fates : List Script → List ℕ → Fate) (ended :
   pub piece : List ℕ
   pub front : List ℕ
   pub rest : List ℕ
-  pub reads : BeginsWithEntries input scripts (trace_line ++ (before ++ piece))
+  pub reads : bundle_of input ≡ Ok (scripts, before ++ piece)
   pub within : length piece ≤ most_of_one_read
   pub is : text ≡ translation_by (fates scripts) (complete_of before) ++ front
   pub is_front : translation_by (fates scripts) (read_lines ended (before ++ piece))
@@ -64,30 +64,30 @@ pub record GaveUp (IsWritten : List ℕ → List ℕ → Type 0) (s : Streams) :
   pub is_written : ((text ≡ []) × EndsWithinEntry input) ⊎ IsWritten input text
 
 -- What was read has a fault, nothing was read past it, and a prefix of its error line was written.
-pub record PrefixOfRefusal (fates : List Script → List ℕ → Fate) (s : Streams) : Type 0 where
+pub record PrefixOfRefusal (s : Streams) : Type 0 where
   pub input : List ℕ
   pub refusal : Refusal
   pub n : ℕ
   pub read : HasRead s input
-  pub settles : Settles fates s.ended input (refused refusal)
-  pub no_more : ReadsNoMore input (refused refusal)
+  pub settles : Settles s.ended input refusal
+  pub no_more : ReadsNoMore input (bundle.Refused refusal)
   pub written : HasWritten s (take n (bundle_line refusal ++ 10 ∷ []))
 
--- What was written is exactly the answer for what was read. Where the bundle has a fault or a map is too
+-- What was written is exactly what the definition gives for what was read. Where the bundle has a fault or a map is too
 -- long, nothing was read past the line that shows it, or for a fault of a map past the byte after the map.
 abbrev pub RunTranslates : (List Script → List ℕ → Fate) → Streams → Result Outcome RunFault → Type 0
 RunTranslates fates s (Ok Done) = (input text : List ℕ) × HasRead s input × IsAtEnd s.read_after
     × (s.ended ≡ true)
-    × IsAnswer fates input (done text) × HasWritten s text
+    × (translated fates input ≡ Ok text) × HasWritten s text
 RunTranslates fates s (Ok Refused) =
-    (input : List ℕ) × (refusal : Refusal) × HasRead s input × Settles fates s.ended input (refused refusal)
-    × ReadsNoMore input (refused refusal) × HasWritten s (bundle_line refusal ++ 10 ∷ [])
+    (input : List ℕ) × (refusal : Refusal) × HasRead s input × Settles s.ended input refusal
+    × ReadsNoMore input (bundle.Refused refusal) × HasWritten s (bundle_line refusal ++ 10 ∷ [])
 RunTranslates fates s (Err run.TooLong) =
-    (input : List ℕ) × HasRead s input × ((more : List ℕ) → IsAnswer fates (input ++ more) too_long)
-    × ReadsNoMore input too_long × HasWrittenNothing s
+    (input : List ℕ) × HasRead s input × ((more : List ℕ) → HasFault (input ++ more) bundle.TooLong)
+    × ReadsNoMore input bundle.TooLong × HasWrittenNothing s
 RunTranslates fates s (Err run.Read) = GaveUp (CompleteAfterTrace fates) s
 RunTranslates fates s (Err run.Memory) = GaveUp (PrefixAfterTrace fates s.ended) s
-RunTranslates fates s (Err run.Write) = GaveUp (PrefixAfterTrace fates s.ended) s ⊎ PrefixOfRefusal fates s
+RunTranslates fates s (Err run.Write) = GaveUp (PrefixAfterTrace fates s.ended) s ⊎ PrefixOfRefusal s
 
 -- What the run promises. Read comes with a failure of the reader, or if the limit on reads may have been
 -- reached; Write with one of the writer; and no other answer comes with a failure.

@@ -1,4 +1,5 @@
-//! The commands of `smap`: for each its arguments, its task, and its run, which is in a file of its own.
+//! The commands of `smap`: the command line, the task that it names, and the run of a task. What a single
+//! command is, its arguments and its run, stands in a file of its own.
 ghost use Rattle.std.specs.Prelude.{◌-◌, ◌^◌, ◌<◌, ◌≡◌, IfErr, IfOk, IfSome, IsSome, IsSomeAnd, OnOk, []};
 ghost use Rattle.std.specs.Prelude.{false, map, true};
 ghost use Rattle.clap.specs.Words.{app_of, fault_of, found_of, rows_of, subcommand_of, subcommand_rows_of};
@@ -13,9 +14,7 @@ ghost use Rattle.smap_tool.specs.Words.{IsRefusalBy};
 ghost use Rattle.smap_tool.specs.declared.words.WordsFault.TheVariants as fault;
 
 use crate::outcome::{Outcome, RunFault};
-use crate::words::{
-    WordsFault, flag, is_set, on_base, position_argument, position_in, refusal, text_in, with,
-};
+use crate::words::{WordsFault, is_set, position_in, refusal, text_in, with};
 use clap::{ArgMatches, Command};
 use smap_io::Device;
 use smap_trace::Finding;
@@ -30,13 +29,20 @@ mod scripts;
 mod tidy;
 mod translate;
 
+use check::check_command;
 pub use check::run_check;
+use flatten::flatten_command;
 pub use flatten::run_flatten;
+use lookup::lookup_command;
 pub use lookup::run_lookup;
+use respell::respell_command;
 pub use respell::run_respell;
 pub use scripts::run_scripts;
+use scripts::scripts_command;
 pub use tidy::run_tidy;
+use tidy::tidy_command;
 pub use translate::run_translate;
+use translate::translate_command;
 
 /// What a command line asks for: a command with its values.
 #[derive(Clone, Copy, Debug, PartialEq, Eq)]
@@ -81,90 +87,6 @@ pub enum Task<'a> {
     Scripts,
 }
 
-fn respell_command<'a>(alloc: Global) -> Command<'a>
-    ensures shape { app_of result ≡ line.respell }
-    ensures local { (fields_of result).has_globals ≡ false }
-{
-    Command::new(alloc, "respell").about(
-        "Re-encode a \"mappings\" string: sorted, and as short as possible",
-    )
-}
-
-fn check_command<'a>(alloc: Global) -> Result<Command<'a>, AllocError>
-    ensures shape { IfOk result (λ c. app_of c ≡ line.check) }
-    ensures local { IfOk result (λ c. (fields_of c).has_globals ≡ false) }
-{
-    on_base(
-        alloc,
-        "check",
-        "Validate a map: print a summary, or its first error",
-    )
-}
-
-fn tidy_command<'a>(alloc: Global) -> Result<Command<'a>, AllocError>
-    ensures shape { IfOk result (λ c. app_of c ≡ line.tidy) }
-    ensures local { IfOk result (λ c. (fields_of c).has_globals ≡ false) }
-{
-    let command = on_base(alloc, "tidy", "Write a map in canonical form")?;
-    command.arg(flag(
-        alloc,
-        "relative",
-        "Write source URLs relative to BASE where that round-trips",
-    ))
-}
-
-fn flatten_command<'a>(alloc: Global) -> Result<Command<'a>, AllocError>
-    ensures shape { IfOk result (λ c. app_of c ≡ line.flatten) }
-    ensures local { IfOk result (λ c. (fields_of c).has_globals ≡ false) }
-{
-    on_base(
-        alloc,
-        "flatten",
-        "Convert an index map (with sections) to a flat map, with sources and names as listed",
-    )
-}
-
-fn lookup_command<'a>(alloc: Global) -> Result<Command<'a>, AllocError>
-    ensures shape { IfOk result (λ c. app_of c ≡ line.lookup) }
-    ensures local { IfOk result (λ c. (fields_of c).has_globals ≡ false) }
-{
-    let command = on_base(
-        alloc,
-        "lookup",
-        "Find the original position of a generated position",
-    )?;
-    let command = command.arg(position_argument(alloc, "LINE", "Generated line, counted from 0"))?;
-    command.arg(position_argument(alloc, "COLUMN", "Generated column, counted from 0"))
-}
-
-fn translate_command<'a>(alloc: Global) -> Result<Command<'a>, AllocError>
-    ensures shape { IfOk result (λ c. app_of c ≡ line.translate) }
-    ensures local { IfOk result (λ c. (fields_of c).has_globals ≡ false) }
-{
-    let command = Command::new(alloc, "translate")
-        .about("Translate a stack trace to source positions")
-        .arg(flag(
-            alloc,
-            "anywhere",
-            "Translate positions anywhere in a line, not only in frames",
-        ))?;
-    let command = command.arg(flag(
-        alloc,
-        "ignore-query",
-        "Ignore a query or a fragment behind a script's URL",
-    ))?;
-    command.arg(flag(alloc, "hide-ignored", "Leave out frames in ignored sources"))
-}
-
-fn scripts_command<'a>(alloc: Global) -> Command<'a>
-    ensures shape { app_of result ≡ line.scripts }
-    ensures local { (fields_of result).has_globals ≡ false }
-{
-    Command::new(alloc, "scripts").about(
-        "List the scripts that a stack trace names, with the number of lines that name each",
-    )
-}
-
 /// The program, without its commands.
 fn alone<'a>(alloc: Global) -> Command<'a>
     ensures shape { app_of result ≡ line.smap_alone }
@@ -174,7 +96,7 @@ fn alone<'a>(alloc: Global) -> Command<'a>
         .about(
             "Validate and normalize source maps, and translate stack traces, read from standard input",
         )
-        .version("0.1.0")
+        .version("0.2.0")
         .subcommand_required(true)
         .disable_help_subcommand(true)
 }

@@ -2,7 +2,7 @@
 //! matched, and its errors. Which arguments it accepts is defined by its own specification.
 ghost use Rattle.std.specs.Prelude.{◌≡◌, IfOk, IfSome, IsSome, false, option_map};
 ghost use Rattle.clap.specs.Words.{app_of, first_of, found_of, kind_of, rows_of, rule_of, shape_of};
-ghost use Rattle.clap.specs.Words.{with_subcommand};
+ghost use Rattle.clap.specs.Words.{with_rule, with_subcommand};
 ghost use Rattle.clap.specs.declared.builder.command.Command.TheViews.{out-Command as fields_of};
 ghost use Rattle.smap_tool.specs.Words as line;
 ghost use Rattle.smap_tool.specs.Words.{HasFlag, HasNumber, IsGivenAs, IsRefusalOf, position_parser};
@@ -38,7 +38,7 @@ pub(crate) fn on_base<'a>(
 }
 
 /// A flag without a value.
-pub(crate) fn flag<'a>(alloc: Global, name: &'a str, help: &'a str) -> Arg<'a>
+fn flag<'a>(alloc: Global, name: &'a str, help: &'a str) -> Arg<'a>
     ensures rule { rule_of result ≡ line.flag name.now }
     ensures local { result.global ≡ false }
 {
@@ -46,6 +46,20 @@ pub(crate) fn flag<'a>(alloc: Global, name: &'a str, help: &'a str) -> Arg<'a>
         .long(name)
         .action(ArgAction::SetTrue)
         .help(help)
+}
+
+/// The command with one more flag.
+pub(crate) fn with_flag<'a>(
+    alloc: Global,
+    command: Command<'a>,
+    name: &'a str,
+    help: &'a str,
+) -> Result<Command<'a>, AllocError>
+    requires { (fields_of command).has_globals ≡ false }
+    ensures shape { IfOk result (λ c. app_of c ≡ with_rule (app_of command.entry) (line.flag name.now)) }
+    ensures local { IfOk result (λ c. (fields_of c).has_globals ≡ false) }
+{
+    command.arg(flag(alloc, name, help))
 }
 
 /// A required line or column.

@@ -1,5 +1,5 @@
 -- A line is cut as the relation says, and in no other way.
-use Rattle.std.proofs.Common.{◌≡◌, ◌∙◌, inl, inr, ℕ, suc, ◌-◌, ◌<◌, ◌≤◌, Bool, true, false}
+use Rattle.std.proofs.Common.{◌≡◌, ◌∙◌, ℕ, suc, ◌-◌, ◌<◌, ◌≤◌, Bool, true, false}
 use Rattle.std.proofs.Common.{cond, List, [], ◌∷◌, ◌++◌, length, take, drop, flat_map}
 use Rattle.std.proofs.Common.{Option, Some, None, option_map, find, bytes_eq, nat_lt, codes, decimal}
 use Rattle.std.proofs.Common.{refl, sym, ap, subst, arith, append_assoc, append-nil}
@@ -18,7 +18,7 @@ use Rattle.smap_trace.specs.Laws.{CutIsComputed, OneCut}
 use Rattle.smap_trace.specs.Scripts.{AreDistinct, Script, map_of}
 use Rattle.smap_trace.proofs.CuttingLemmas.{skipped}
 use Rattle.smap_trace.proofs.KnownLemmas.{known_between}
-use Rattle.smap_trace.proofs.PieceLemmas.{either, pieces_joined, wide_between}
+use Rattle.smap_trace.proofs.PieceLemmas.{longest_of, pieces_joined, wide_between}
 use Rattle.smap_trace.proofs.PositionLemmas.{BeginsWithPosition, position_found, position_here}
 
 -- ---- the longest
@@ -71,19 +71,10 @@ longest_covers ignore (s ∷ ss) text url r p known is =
         ∙ ap (λ (m : Record). occurrence_of ignore (url, m) text) same_map ∙ is)
     go false e k more = later (more k)
 
-pub longest_of : (ignore : Bool) (scripts : List Script) (text : List ℕ) (o : Occurrence)
-    → longest ignore scripts text ≡ Some o → (s : Script) × (occurrence_of ignore s text ≡ Some o)
-longest_of ignore [] text o h = cc
-longest_of ignore (s ∷ ss) text o h =
-    elim (either (occurrence_of ignore s text) (longest ignore ss text) o h) [
-      | inl e ↦ (s, e)
-      | inr e ↦ longest_of ignore ss text o e
-    ]
-
 -- ---- between two parts of a line
 
 module _ (ignore : Bool) (scripts : List Script) where
-  begins_there : (before text rest : List ℕ) (o : Occurrence)
+  pub begins_there : (before text rest : List ℕ) (o : Occurrence)
       → StandsBetween ignore scripts before o text rest
       → BeginsWithPosition ignore o (text ++ rest)
   begins_there before text rest o (begins, is, stops) = record {
@@ -96,6 +87,21 @@ module _ (ignore : Bool) (scripts : List Script) where
     stops = stops;
     whole = ap (λ (t : List ℕ). t ++ rest) is.text_is;
     width_is = is.width_is ∙ ap (λ (t : List ℕ). length t) is.text_is;
+  }
+
+  -- and what a text begins with is an occurrence of its script
+  pub is_occurrence : (text : List ℕ) (o : Occurrence) (is : BeginsWithPosition ignore o text)
+      → map_of scripts o.url ≡ Some o.map
+      → IsOccurrence ignore scripts o (position_text (o.url ++ is.query) o.line o.column)
+  is_occurrence text o is known = record {
+    query = is.query;
+    of_script = known;
+    some_url = is.some_url;
+    ignored = is.ignored;
+    line_place = is.line_place;
+    column_place = is.column_place;
+    text_is = refl;
+    width_is = is.width_is;
   }
 
   computed_there : (before text rest : List ℕ) (o : Occurrence)
@@ -131,16 +137,7 @@ module _ (ignore : Bool) (scripts : List Script) where
           ∙ ap (take (length position)) is.whole ∙ take-append_seam position is.rest in
           let last : drop o.width text ≡ is.rest = ap (λ n. drop n text) is.width_is
           ∙ ap (drop (length position)) is.whole ∙ drop-append_seam position is.rest in (
-            record {
-              query = is.query;
-              of_script = known;
-              some_url = is.some_url;
-              ignored = is.ignored;
-              line_place = is.line_place;
-              column_place = is.column_place;
-              text_is = first;
-              width_is = is.width_is ∙ ap (λ (t : List ℕ). length t) (sym first);
-            },
+            subst (IsOccurrence ignore scripts o) (sym first) (is_occurrence text o is known),
             ap (λ (t : List ℕ). list_any is_ascii_digit (take 1 t)) last ∙ is.stops,
           )
 

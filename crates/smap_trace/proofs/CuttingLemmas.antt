@@ -305,22 +305,14 @@ module _ (at_pieces next_pieces : List Piece) (xs : List ℕ) (piece : Piece)
       ∙ list_any-append is_replaced (map byte xs) (piece ∷ next_pieces)
       ∙ ap (λ t. t || (is_replaced piece || list_any is_replaced next_pieces)) (bytes_kept xs)
 
-  pub replaced_now : (r whole : Bool) → is_replaced piece ≡ true
-      → (r || list_any is_replaced at_pieces) ≡ whole → true ≡ whole
-  replaced_now r whole is h =
-      let any : list_any is_replaced at_pieces ≡ true = any_split ∙ rw is refl in
-      sym (all_or r) ∙ ap (λ t. r || t) (sym any) ∙ h
+  pub replaced_on : (r whole : Bool) → (r || list_any is_replaced at_pieces) ≡ whole
+      → ((r || is_replaced piece) || list_any is_replaced next_pieces) ≡ whole
+  replaced_on r whole h = grouped r ∙ ap (λ t. r || t) (sym any_split) ∙ h
     where
-      all_or : (t : Bool) → (t || true) ≡ true
-      all_or true = refl
-      all_or false = refl
-
-  pub replaced_later : (r whole : Bool) → is_replaced piece ≡ false
-      → (r || list_any is_replaced at_pieces) ≡ whole → (r || list_any is_replaced next_pieces) ≡ whole
-  replaced_later r whole isnt h =
-      let any : list_any is_replaced at_pieces ≡ list_any is_replaced next_pieces =
-      any_split ∙ rw isnt refl in
-      ap (λ t. r || t) (sym any) ∙ h
+      grouped : (t : Bool) → ((t || is_replaced piece) || list_any is_replaced next_pieces)
+          ≡ (t || (is_replaced piece || list_any is_replaced next_pieces))
+      grouped true = refl
+      grouped false = refl
 
 -- at the end
 pub written_all : (pieces : List Piece) (xs out last whole : List ℕ) → pieces ≡ map byte xs

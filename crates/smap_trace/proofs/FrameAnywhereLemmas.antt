@@ -1,5 +1,5 @@
 -- A frame's position, found in a frame and found anywhere.
-use Rattle.std.proofs.Common.{◌≡◌, ◌∙◌, ◌⊎◌, inl, inr, ℕ, ◌+◌, ◌-◌, ◌≤◌, ◌==◌, Bool, true}
+use Rattle.std.proofs.Common.{◌≡◌, ◌∙◌, ◌⊎◌, inl, inr, ℕ, ◌+◌, ◌-◌, ◌==◌, Bool, true}
 use Rattle.std.proofs.Common.{false}
 use Rattle.std.proofs.Common.{cond, ◌&&◌, ◌||◌, List, [], ◌∷◌, ◌++◌, length, take, drop, map, flat_map}
 use Rattle.std.proofs.Common.{Option, Some, None, option_map, option_and_then, codes, decimal}
@@ -26,10 +26,13 @@ use Rattle.smap_trace.specs.Translation.{frame_fate, is_dropped, is_replaced, ke
 use Rattle.smap_trace.specs.Translation.{replaced, translated, written_for}
 use Rattle.smap_trace.proofs.CompleteLemmas.{complete}
 use Rattle.smap_trace.proofs.CutLemmas.{middle_part}
-use Rattle.smap_trace.proofs.CutRelationLemmas.{longest_covers, longest_of, one_there, pieces_stand}
+use Rattle.smap_trace.proofs.CutRelationLemmas.{begins_there, is_occurrence, longest_covers, one_there}
+use Rattle.smap_trace.proofs.CutRelationLemmas.{pieces_stand}
 use Rattle.smap_trace.proofs.CuttingLemmas.{bytes_kept, bytes_written}
 use Rattle.smap_trace.proofs.KnownLemmas.{known_longest}
-use Rattle.smap_trace.proofs.PositionLemmas.{BeginsWithPosition, position_found, position_here}
+use Rattle.smap_trace.proofs.PieceLemmas.{longest_of}
+use Rattle.smap_trace.proofs.PositionLemmas.{BeginsWithPosition, length_position, position_found}
+use Rattle.smap_trace.proofs.PositionLemmas.{position_here}
 use Rattle.smap_trace.proofs.TextLemmas.{EndsIn, longer as longer_text}
 
 -- ---- a line of bytes holds no occurrence
@@ -202,32 +205,18 @@ at_frame true scripts line f r distinct is h =
           ap (λ (t : List ℕ). length t) there.whole,
           length-append text there.rest,
         )) in
-        let all : position_of f ≡ text =
-        there.whole ∙ ap (λ (t : List ℕ). text ++ t) none ∙ append-nil text in
+        let all : text ++ f.after ≡ position_of f ++ f.after = ap (λ (t : List ℕ). t ++ f.after)
+        (sym (there.whole ∙ ap (λ (t : List ℕ). text ++ t) none ∙ append-nil text)) in
+        let known = known_longest true scripts (position_of f) o distinct e in
         record {
           o = o;
-          known = known_longest true scripts (position_of f) o distinct e;
-          begins = record {
-            query = there.query;
-            rest = f.after;
-            some_url = there.some_url;
-            ignored = there.ignored;
-            line_place = there.line_place;
-            column_place = there.column_place;
-            stops = frame_stops f line is;
-            whole = ap (λ (t : List ℕ). t ++ f.after) all;
-            width_is = there.width_is;
-          };
+          known = known;
+          begins = subst (BeginsWithPosition true o) all (begins_there true scripts f.before text f.after o (
+            frame_begins f line is,
+            is_occurrence true scripts (position_of f) o there known,
+            frame_stops f line is,
+          ));
         }
-
-length_position : (url : List ℕ) (l c : ℕ) → length url ≤ length (position_text url l c)
-length_position url l c = omega (
-  arith,
-  length-append (url ++ (58 ∷ []) ++ decimal l ++ (58 ∷ [])) (decimal c),
-  length-append (url ++ (58 ∷ []) ++ decimal l) (58 ∷ []),
-  length-append (url ++ (58 ∷ [])) (decimal l),
-  length-append url (58 ∷ []),
-)
 
 -- The position of a frame is cut out of the line if it is one of a script.
 frame_is_cut : (ignore : Bool) (scripts : List Script) (line : List ℕ) (f : FrameParts) (r : Record)
@@ -309,19 +298,8 @@ module _ (scripts : List Script) (line : List ℕ) (f : FrameParts) (distinct : 
       ap (map_of scripts) url ∙ at.of_script
   named true o l c (stands, is_longest) =
       let at = stands.1 in
-      let whole : position_of f ≡ position_text (o.url ++ at.query) o.line o.column ++ [] =
-      at.text_is ∙ sym (append-nil (position_text (o.url ++ at.query) o.line o.column)) in
-      let begins : BeginsWithPosition true o (position_of f) = record {
-        query = at.query;
-        rest = [];
-        some_url = at.some_url;
-        ignored = at.ignored;
-        line_place = at.line_place;
-        column_place = at.column_place;
-        stops = refl;
-        whole = whole;
-        width_is = at.width_is ∙ ap (λ (t : List ℕ). length t) at.text_is;
-      } in
+      let begins = subst (BeginsWithPosition true o) (append-nil (position_of f))
+      (begins_there true scripts f.before (position_of f) [] o (stands.0, at, refl)) in
       let covered = longest_covers true scripts (position_of f) o.url o.map o at.of_script
       (position_here true (position_of f) o begins) in
       let p = covered.0 in
@@ -332,16 +310,7 @@ module _ (scripts : List Script) (line : List ℕ) (f : FrameParts) (distinct : 
       let le = is_longest p text (other.rest ++ f.after)
       (ap (λ (t : List ℕ). t ++ f.after) other.whole ∙ append_assoc text other.rest f.after) (
         stands.0,
-        record {
-          query = other.query;
-          of_script = known;
-          some_url = other.some_url;
-          ignored = other.ignored;
-          line_place = other.line_place;
-          column_place = other.column_place;
-          text_is = refl;
-          width_is = other.width_is;
-        },
+        is_occurrence true scripts (position_of f) p other known,
         no_digit_behind other.rest f.after other.stops stands.2,
       ) in
       let same : p ≡ o = one_there true scripts (position_of f) p o other begins known at.of_script

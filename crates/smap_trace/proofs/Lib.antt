@@ -14,6 +14,7 @@ pub mod KnownLemmas
 pub mod LawLemmas
 pub mod LeftOutLemmas
 pub mod LineLemmas
+pub mod LineStartLemmas
 pub mod LookupLemmas
 pub mod MarkLemmas
 pub mod MemberLemmas

@@ -18,7 +18,12 @@ use Rattle.smap_record.specs.Listings.{IsListing}
 use Rattle.smap_mappings.specs.declared.token.Token.{Token}
 use Rattle.smap_record.specs.Fitting.{mapping_position}
 use Rattle.smap_trace.specs.Laws.{LookupIsComputed}
-use Rattle.smap_trace.specs.Lookup.{FallsTo, LiesAfter, is_within, mapping_at}
+use Rattle.smap_trace.specs.Lookup.{FallsTo, FallsToIndex, LiesAfter, is_within, mapping_at}
+
+-- the mapping of a listed token
+pub token_here : (l : Listing) (i : ℕ) (t : Token) → slice_get l.tokens i ≡ Some t
+    → slice_get (map (mapping_of l) l.tokens) i ≡ Some (mapping_of l t)
+token_here l i t at = slice_get-map (mapping_of l) l.tokens i ∙ ap (option_map (mapping_of l)) at
 
 -- one position against the count
 pub past_count : (ps : List Position) (q x : Position) (i : ℕ) → NeverFalls ps → slice_get ps i ≡ Some x
@@ -51,7 +56,7 @@ pub earlier_line : (l m : Mapping) (line column : ℕ)
 earlier_line l m line column h k ne = grind (arith, nat_tests)
 
 module _ (ms : List Mapping) (line column : ℕ) (sorted : NeverFalls (map mapping_position ms)) where
-  here : (i : ℕ) (d : Mapping) → i < length ms → slice_get (map mapping_position ms) i
+  pub here : (i : ℕ) (d : Mapping) → i < length ms → slice_get (map mapping_position ms) i
       ≡ Some (mapping_position (get_or ms i d))
   here i d lt = slice_get-map mapping_position ms i
       ∙ ap (option_map mapping_position) (slice_get-get_or ms i d lt)
@@ -68,34 +73,25 @@ module _ (ms : List Mapping) (line column : ℕ) (sorted : NeverFalls (map mappi
       subst (LiesAfter line column) (sym (get_or-drop n ms k d)) after
 
   pub none_counted : count_at_most (map mapping_position ms) (position_in (line, column)) ≡ 0
-      → FallsTo ms line column None
+      → FallsToIndex ms line column None
   none_counted e = later_lies 0 (omega arith)
 
   -- the last that is counted, where it is on the line
   pub last_counted : (i : ℕ) (m : Mapping) → count_at_most (map mapping_position ms)
       (position_in (line, column)) ≡ i + 1 → slice_get ms i ≡ Some m → m.line ≡ line
-      → FallsTo ms line column (Some m)
+      → FallsToIndex ms line column (Some i)
   last_counted i m e at on_line =
       let lt = slice_get_within ms i m at in
       let is : get_or ms i m ≡ m = get_or_from_slice_get ms i m m at in
       let low = before_count _ (position_in (line, column)) (mapping_position (get_or ms i m)) i sorted
       (here i m lt) (omega arith) in
       let low' = subst (λ (x : Mapping). is_at_most (mapping_position x) (position_in (line, column)) ≡ true)
-      is low in
-      let one : suc i ≡ i + 1 = omega arith in (
-        on_line,
-        is_within_line m line column low' on_line,
-        take i ms,
-        drop (i + 1) ms,
-        split_at ms i m lt ∙ ap (λ (x : Mapping). take i ms ++ x ∷ drop (suc i) ms) is
-            ∙ ap (λ n. take i ms ++ m ∷ drop n ms) one,
-        later_lies (i + 1) (omega arith),
-      )
+      is low in (m, at, on_line, is_within_line m line column low' on_line, later_lies (i + 1) (omega arith))
 
   -- and where it is on an earlier one
   pub last_elsewhere : (i : ℕ) (m : Mapping) → count_at_most (map mapping_position ms)
       (position_in (line, column)) ≡ i + 1 → slice_get ms i ≡ Some m → m.line ≢ line
-      → FallsTo ms line column None
+      → FallsToIndex ms line column None
   last_elsewhere i m e at ne k d lt = elim (cases_lt k (i + 1)) [
     | inr ge ↦
         lies_after (get_or ms k d) line column (past_count _ (position_in (line, column))
@@ -128,6 +124,23 @@ module _ (ms : List Mapping) (line column : ℕ) (sorted : NeverFalls (map mappi
               ne (ap (λ (x : Mapping). x.line) (sym this) ∙ on_line)
         ])
   ]
+
+-- The mapping at the index is the one that the position falls to.
+pub falls_at : (ms : List Mapping) (line column i : ℕ) (m : Mapping) → FallsToIndex ms line column (Some i)
+    → slice_get ms i ≡ Some m → FallsTo ms line column (Some m)
+falls_at ms line column i m h at =
+    let lt = slice_get_within ms i m at in
+    let is : get_or ms i m ≡ m = get_or_from_slice_get ms i m m at in
+    let same : h.0 ≡ m = cc in
+    let one : suc i ≡ i + 1 = omega arith in (
+      rw (← same) h.2,
+      rw (← same) h.3,
+      take i ms,
+      drop (i + 1) ms,
+      split_at ms i m lt ∙ ap (λ (x : Mapping). take i ms ++ x ∷ drop (suc i) ms) is
+          ∙ ap (λ n. take i ms ++ m ∷ drop n ms) one,
+      h.4,
+    )
 
 -- The record's mappings never fall.
 pub in_order : (l : Listing) → IsListing l → NeverFalls (map mapping_position (map (mapping_of l) l.tokens))

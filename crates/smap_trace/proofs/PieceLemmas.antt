@@ -1,18 +1,16 @@
 -- The pieces of a line, joined and as they are written.
-use Rattle.std.proofs.Common.{◌≡◌, ◌∙◌, ◌⊎◌, ℕ, zero, suc, ◌+◌, ◌-◌, ◌<◌, Bool, true, false, cond, ◌&&◌, ◌||◌}
-use Rattle.std.proofs.Common.{List, [], ◌∷◌, ◌++◌, length, take, drop, flat_map, nat_eq, nat_lt, unwrap_or}
-use Rattle.std.proofs.Common.{Option, Some, None, option_map, refl, sym, ap, arith, inl, inr}
-use Rattle.std.proofs.Common.{append-nil, Result, Ok, Err, OnOk}
-use Rattle.std.specs.List.{list_any, starts_with}
+use Rattle.std.proofs.Common.{◌≡◌, ◌∙◌, ◌⊎◌, ℕ, zero, suc, ◌+◌, ◌-◌, ◌<◌, Bool, true, false, cond, ◌||◌}
+use Rattle.std.proofs.Common.{List, [], ◌∷◌, ◌++◌, length, take, drop, flat_map, nat_lt, unwrap_or}
+use Rattle.std.proofs.Common.{Option, Some, None, refl, sym, ap, arith, inl, inr}
+use Rattle.std.proofs.Common.{append-nil, length-append, Result, Ok, Err, OnOk}
+use Rattle.std.specs.List.{list_any}
 use Rattle.std.specs.Option.{is_some, option_map_or}
-use Rattle.std.proofs.lemmas.Bool.{ltb-true}
 use Rattle.std.proofs.lemmas.Bool.Decides.{Decides-eqb}
 use Rattle.std.proofs.lemmas.List.{take-append-drop}
 use Rattle.std.proofs.lemmas.Slice.Eq.{ends_is}
 use Rattle.smap_record.specs.Record.{Origin, Record}
 use Rattle.smap_trace.specs.Anywhere.{Occurrence, Piece, bytes_of, cut, longer, longest, may_begin}
 use Rattle.smap_trace.specs.Anywhere.{more_of, occurrence_between, occurrence_of, piece_at, pieces_of}
-use Rattle.smap_trace.specs.Anywhere.{place_after}
 use Rattle.smap_trace.specs.Frame.{FrameParts, position_text}
 use Rattle.smap_trace.specs.Laws.{PiecesAreTheLine}
 use Rattle.smap_trace.specs.Reading.{frame_of}
@@ -21,39 +19,21 @@ use Rattle.smap_trace.specs.Translation.{anywhere_fate, fate_at, fate_in, feed_o
 use Rattle.smap_trace.specs.Translation.{frame_fate, has_line_feed, is_dropped, is_replaced, kept, map_for}
 use Rattle.smap_trace.specs.Translation.{origin_at, replaced, translated, without_line_feed, written}
 use Rattle.smap_trace.specs.Translation.{written_for}
-use Rattle.smap_trace.specs.declared.places.Place.{Place}
-use Rattle.smap_trace.proofs.PositionLemmas.{some_of}
+use Rattle.smap_trace.proofs.PositionLemmas.{length_position, position_found}
 
 -- ---- an occurrence takes bytes
 
 wide_one : (ignore : Bool) (s : Script) (text : List ℕ) (o : Occurrence)
     → occurrence_of ignore s text ≡ Some o → 0 < o.width
-wide_one ignore s text o h = go (nat_lt 0 (length s.0)) (starts_with nat_eq text s.0) refl h
-  where
-    made : Place → Occurrence
-    made p = record { url = s.0; map = s.1; line = p.line; column = p.column; width = length s.0 + p.width }
-
-    go : (a b : Bool) → nat_lt 0 (length s.0) ≡ a
-        → cond (a && b) (option_map (λ p. record {
-          url = s.0;
-          map = s.1;
-          line = p.line;
-          column = p.column;
-          width = length s.0 + p.width;
-        }) (place_after ignore (drop (length s.0) text))) None ≡ Some o
-        → 0 < o.width
-    go true true e k =
-        let p = some_of (λ (p : Place). record {
-          url = s.0;
-          map = s.1;
-          line = p.line;
-          column = p.column;
-          width = length s.0 + p.width;
-        }) (place_after ignore (drop (length s.0) text)) o k in
-        let w : length s.0 + p.0.width ≡ o.width = ap (λ (q : Occurrence). q.width) p.2 in
-        omega (arith, w, ltb-true 0 (length s.0) e)
-    go true false e k = cc
-    go false b e k = cc
+wide_one ignore s text o h =
+    let is = position_found ignore s text o h in
+    omega (
+      arith,
+      is.some_url,
+      is.width_is,
+      length-append o.url is.query,
+      length_position (o.url ++ is.query) o.line o.column,
+    )
 
 pub either : (p q : Option Occurrence) (o : Occurrence) → longer p q ≡ Some o → (p ≡ Some o) ⊎ (q ≡ Some o)
 either None q o h = inr h
@@ -65,13 +45,13 @@ either (Some p) (Some q) o h = go (nat_lt (length p.url) (length q.url)) h
     go true k = inr k
     go false k = inl k
 
-wide_longest : (ignore : Bool) (scripts : List Script) (text : List ℕ) (o : Occurrence)
-    → longest ignore scripts text ≡ Some o → 0 < o.width
-wide_longest ignore [] text o h = cc
-wide_longest ignore (s ∷ ss) text o h =
+pub longest_of : (ignore : Bool) (scripts : List Script) (text : List ℕ) (o : Occurrence)
+    → longest ignore scripts text ≡ Some o → (s : Script) × (occurrence_of ignore s text ≡ Some o)
+longest_of ignore [] text o h = cc
+longest_of ignore (s ∷ ss) text o h =
     elim (either (occurrence_of ignore s text) (longest ignore ss text) o h) [
-      | inl e ↦ wide_one ignore s text o e
-      | inr e ↦ wide_longest ignore ss text o e
+      | inl e ↦ (s, e)
+      | inr e ↦ longest_of ignore ss text o e
     ]
 
 pub wide_between : (ignore : Bool) (scripts : List Script) (before text : List ℕ) (o : Occurrence)
@@ -79,7 +59,7 @@ pub wide_between : (ignore : Bool) (scripts : List Script) (before text : List �
 wide_between ignore scripts before text o h = go (may_begin before) h
   where
     go : (t : Bool) → cond t (longest ignore scripts text) None ≡ Some o → 0 < o.width
-    go true k = wide_longest ignore scripts text o k
+    go true k = let s = longest_of ignore scripts text o k in wide_one ignore s.0 text o s.1
     go false k = cc
 
 -- ---- the pieces of a line, joined, are the line

@@ -309,6 +309,15 @@ pub record BeginsWithPosition (ignore : Bool) (o : Occurrence) (text : List ℕ)
   pub whole : text ≡ position_text (o.url ++ query) o.line o.column ++ rest
   pub width_is : o.width ≡ length (position_text (o.url ++ query) o.line o.column)
 
+pub length_position : (url : List ℕ) (l c : ℕ) → length url ≤ length (position_text url l c)
+length_position url l c = omega (
+  arith,
+  length-append (url ++ (58 ∷ []) ++ decimal l ++ (58 ∷ [])) (decimal c),
+  length-append (url ++ (58 ∷ []) ++ decimal l) (58 ∷ []),
+  length-append (url ++ (58 ∷ [])) (decimal l),
+  length-append url (58 ∷ []),
+)
+
 -- the parts of a position, one after the other
 parts_joined : (url query rest : List ℕ) (l c : ℕ) → position_text (url ++ query) l c ++ rest
     ≡ url ++ (query ++ (58 ∷ (decimal l ++ (58 ∷ (decimal c ++ rest)))))

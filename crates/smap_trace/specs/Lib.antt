@@ -6,6 +6,7 @@ pub mod Cutting
 pub mod Frame
 pub mod FrameView
 pub mod Laws
+pub mod LineStarts
 pub mod Lookup
 pub mod Naming
 pub mod OccurrenceView

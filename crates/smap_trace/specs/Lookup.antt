@@ -1,6 +1,6 @@
 -- The mapping that a generated position has. This project's own rule: the standard leaves lookup open.
 use Rattle.std.specs.Prelude.{◌≡◌, ℕ, ◌<◌, ◌≤◌, ◌==◌, ◌&&◌, Bool, List, [], ◌∷◌, ◌++◌, All, nat_le}
-use Rattle.std.specs.Prelude.{Option, Some, None, if◌then◌else◌}
+use Rattle.std.specs.Prelude.{◌+◌, Option, Some, None, if◌then◌else◌, slice_get, drop}
 use Rattle.std.specs.Option.{option_or}
 use Rattle.smap_record.specs.Record.{Mapping}
 
@@ -14,6 +14,12 @@ abbrev pub FallsTo : List Mapping → ℕ → ℕ → Option Mapping → Type 0
 FallsTo ms line column (Some m) = (m.line ≡ line) × (m.column ≤ column) × (before : List Mapping)
     × (later : List Mapping) × (ms ≡ before ++ m ∷ later) × All (LiesAfter line column) later
 FallsTo ms line column None = All (LiesAfter line column) ms
+
+-- The same by its index in the list.
+abbrev pub FallsToIndex : List Mapping → ℕ → ℕ → Option ℕ → Type 0
+FallsToIndex ms line column (Some i) = (m : Mapping) × (slice_get ms i ≡ Some m) × (m.line ≡ line)
+    × (m.column ≤ column) × All (LiesAfter line column) (drop (i + 1) ms)
+FallsToIndex ms line column None = All (LiesAfter line column) ms
 
 -- whether the mapping is on the line, and its column isn't greater
 abbrev pub is_within : ℕ → ℕ → Mapping → Bool

@@ -18,3 +18,7 @@ count_at_most ps q = count_by (λ p. is_at_most p q) ps
 -- k is at most the number of binary digits of n, which is 0 for 0
 abbrev pub IsWithinBinaryDigits : ℕ → ℕ → Type 0
 IsWithinBinaryDigits k n = 2 ^ k ≤ 2 * n + 1
+
+-- at least the one and at most the other
+abbrev pub IsBetween : ℕ → ℕ → ℕ → Type 0
+IsBetween low high n = (low ≤ n) × (n ≤ high)

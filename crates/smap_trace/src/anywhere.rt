@@ -113,9 +113,7 @@ pub(crate) fn push_pieces<M: Maps>(
     'positions: while let Some((start, found)) = next_occurrence(text, at, maps, ignore_query) {
         let end = start + found.width;
         out.extend_from_slice(&text[at..start])?;
-        if push_found(out, &found, &text[start..end])? {
-            replaced = true;
-        }
+        replaced |= push_found(out, &found, &text[start..end])?;
         at = end;
     }
     out.extend_from_slice(&text[at..])?;

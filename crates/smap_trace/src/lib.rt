@@ -1,6 +1,7 @@
 //! Lookup in source maps, and the translation of stack traces to source positions.
 //!
-//! [`lookup`] finds the mapping for a generated position, by binary search ([`search`]). [`frame`]
+//! [`lookup`] finds the mapping for a generated position, by binary search ([`search`]), and [`find`] its
+//! index. [`frame`]
 //! recognizes a line of a stack trace of V8 (Chrome, Edge, Node), Firefox or Safari. [`translate_line`]
 //! translates one line, and [`translate`] a whole trace from a reader to a writer, line by line as it
 //! comes. Maps count lines and columns from 0, traces from 1.
@@ -11,6 +12,7 @@ mod error;
 mod finding;
 mod frames;
 pub mod laws;
+mod line_starts;
 mod lines;
 mod lookups;
 mod naming;
@@ -27,8 +29,9 @@ pub mod trace_laws;
 pub use error::TraceError;
 pub use finding::Finding;
 pub use frames::frame;
+pub use line_starts::LineStarts;
 pub use lines::{translate_line, translate_line_by};
-pub use lookups::lookup;
+pub use lookups::{find, find_in, lookup, lookup_in};
 pub use naming::{NamedScripts, named_scripts};
 pub use outcome::{Counts, LineOutcome};
 pub use parts::Frame;

@@ -1,8 +1,8 @@
 //! Binary search in a sorted list of positions.
-ghost use Rattle.std.specs.Prelude.{◌≡◌, ℕ, ◌+◌, ◌<◌, ◌≤◌, List, length, slice_get, Some};
+ghost use Rattle.std.specs.Prelude.{◌≡◌, ℕ, ◌+◌, ◌-◌, ◌<◌, ◌≤◌, List, length, slice_get, Some};
 ghost use Rattle.smap_mappings.specs.declared.position.Position.{Position as SpecPosition};
 ghost use Rattle.smap_mappings.specs.Position.{NeverFalls};
-ghost use Rattle.smap_trace.specs.Positions.{count_at_most, position_in, IsWithinBinaryDigits};
+ghost use Rattle.smap_trace.specs.Positions.{count_at_most, position_in, IsBetween, IsWithinBinaryDigits};
 
 use smap_mappings::Position;
 
@@ -50,10 +50,32 @@ pub fn search<P: Positions>(p: &mut P, line: u32, column: u32) -> usize
     ensures most { IsWithinBinaryDigits (P.probes p.new) (length (P.positions p.old)) }
     ensures least { 0 < length (P.positions p.old) → 0 < P.probes p.new }
 {
+    let len = p.len();
+    search_between(p, 0, len, line, column)
+}
+
+/// The same where that number is known to be at least `from` and at most `to`.
+pub(crate) fn search_between<P: Positions>(
+    p: &mut P,
+    from: usize,
+    to: usize,
+    line: u32,
+    column: u32,
+) -> usize
+    requires sorted { NeverFalls (P.positions p.old) }
+    requires none { P.probes p.old ≡ 0 }
+    requires within { to ≤ length (P.positions p.old) }
+    requires known { IsBetween from to (count_at_most (P.positions p.old) (position_in (line, column))) }
+    ensures count { result ≡ count_at_most (P.positions p.old) (position_in (line, column)) }
+    ensures list { P.positions p.new ≡ P.positions p.old }
+
+    ensures most { IsWithinBinaryDigits (P.probes p.new) (to - from) }
+    ensures least { from < to → 0 < P.probes p.new }
+{
     let asked = position_in((line, column));
     // What is before `low` isn't after it, and what is at `low + size` or later is.
-    let mut low = 0;
-    let mut size = p.len();
+    let mut low = from;
+    let mut size = to - from;
     while size > 0 {
         let half = size / 2;
         let middle = low + half;

@@ -8,6 +8,7 @@ use Rattle.std.proofs.lemmas.List.{get_or-map}
 use Rattle.std.proofs.lemmas.List.Folds.{list_all_at}
 use Rattle.std.specs.List.{list_all}
 use Rattle.smap_vlq.specs.Number.{digit_of, digit_byte, signed}
+use Rattle.smap_vlq.proofs.ListLemmas.{head_is, tail_is}
 
 abbrev pub digit_told : ℕ → Option ℕ
 digit_told d = cond (ltb d 64) (Some d) None
@@ -15,12 +16,6 @@ digit_told d = cond (ltb d 64) (Some d) None
 abbrev digits_from : ℕ → List ℕ → List (Option ℕ)
 digits_from b [] = []
 digits_from b (d ∷ ds) = digit_of b ∷ digits_from (b + 1) ds
-
-head_is : (x y : Option ℕ) (xs ys : List (Option ℕ)) → x ∷ xs ≡ y ∷ ys → x ≡ y
-head_is x y xs ys e = cc
-
-tail_is : (x y : Option ℕ) (xs ys : List (Option ℕ)) → x ∷ xs ≡ y ∷ ys → xs ≡ ys
-tail_is x y xs ys e = cc
 
 told_at : (b : ℕ) (ds : List ℕ) (k : ℕ) → digits_from b ds ≡ map digit_told ds → k < length ds
     → digit_of (b + k) ≡ digit_told (get_or ds k 0)
@@ -98,18 +93,12 @@ abbrev pub bytes_from : ℕ → List ℕ → List ℕ
 bytes_from d [] = []
 bytes_from d (b ∷ bs) = digit_byte d ∷ bytes_from (d + 1) bs
 
-first_is : (x y : ℕ) (xs ys : List ℕ) → x ∷ xs ≡ y ∷ ys → x ≡ y
-first_is x y xs ys e = cc
-
-rest_is : (x y : ℕ) (xs ys : List ℕ) → x ∷ xs ≡ y ∷ ys → xs ≡ ys
-rest_is x y xs ys e = cc
-
 byte_at : (d : ℕ) (bs : List ℕ) (k : ℕ) → bytes_from d bs ≡ bs → k < length bs
     → digit_byte (d + k) ≡ get_or bs k 0
 byte_at d [] k e lt = absurd (omega arith)
-byte_at d (b ∷ bs) zero e lt = ap digit_byte (omega arith) ∙ first_is _ _ _ _ e
+byte_at d (b ∷ bs) zero e lt = ap digit_byte (omega arith) ∙ head_is _ _ _ _ e
 byte_at d (b ∷ bs) (suc k) e lt = ap digit_byte (omega arith)
-    ∙ byte_at (d + 1) bs k (rest_is _ _ _ _ e) (omega arith)
+    ∙ byte_at (d + 1) bs k (tail_is _ _ _ _ e) (omega arith)
 
 bytes_are : bytes_from 0 BYTES ≡ BYTES
 unfolding digit_byte

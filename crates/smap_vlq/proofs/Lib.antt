@@ -1,5 +1,6 @@
 mod Examples
 mod LimitLemmas
+pub mod ListLemmas
 pub mod DigitLemmas
 pub mod NumberLemmas
 pub mod UnsignedLemmas

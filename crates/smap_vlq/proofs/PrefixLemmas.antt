@@ -2,9 +2,8 @@
 use Rattle.std.proofs.Common.{◌≡◌, ℕ, List, [], ◌∷◌, ◌++◌, map, Option, Some, refl, sym, ◌∙◌, arith}
 use Rattle.smap_vlq.specs.Number.{digit_of, AreNumberDigits}
 use Rattle.smap_vlq.specs.Laws.{NoneBeginsAnother}
-
-abbrev some : ℕ → Option ℕ
-some d = Some d
+use Rattle.smap_vlq.proofs.ListLemmas.{head_is, tail_is}
+use Rattle.smap_vlq.proofs.NumberLemmas.{some}
 
 none_of : (rest : List ℕ) → map digit_of rest ≡ [] → rest ≡ []
 none_of [] e = refl
@@ -12,12 +11,6 @@ none_of (b ∷ bs) e = absurd cc
 
 same_digit : (o : Option ℕ) (d e : ℕ) → o ≡ Some d → o ≡ Some e → d ≡ e
 same_digit o d e p q = let k : some d ≡ some e = sym p ∙ q in cc
-
-tail_is : (x y : Option ℕ) (xs ys : List (Option ℕ)) → x ∷ xs ≡ y ∷ ys → xs ≡ ys
-tail_is x y xs ys e = cc
-
-head_is : (x y : Option ℕ) (xs ys : List (Option ℕ)) → x ∷ xs ≡ y ∷ ys → x ≡ y
-head_is x y xs ys e = cc
 
 none_begins : (a rest ds es : List ℕ) → map digit_of a ≡ map some ds
     → map digit_of (a ++ rest) ≡ map some es → AreNumberDigits ds → AreNumberDigits es → rest ≡ []

@@ -1,7 +1,7 @@
 -- A loop over the digits of a number.
 use Rattle.std.proofs.Common.{◌≡◌, ◌≢◌, ℤ, ℕ, ◌+◌, ◌*◌, ◌%◌, ◌^◌, ◌<◌, ◌≤◌, min, List, [], ◌∷◌, ◌++◌, length}
 use Rattle.std.proofs.Common.{get_or, drop, Option, None, Some, Result, Ok, Err, refl, sym, ap, ◌∙◌, arith}
-use Rattle.std.proofs.Common.{append_assoc, length-append, drop-cons, add-one, subst}
+use Rattle.std.proofs.Common.{length-append, drop-cons, add-one, subst}
 use Rattle.std.specs.Prelude.{IfOk}
 use Rattle.std.proofs.Math.ListN.{drop_of_length-le}
 use Rattle.std.proofs.lemmas.Bool.{lt-ltb, le-ltb, lt-leb, ne_eqb}
@@ -9,6 +9,8 @@ use Rattle.smap_vlq.specs.declared.number.NumberFault.{NumberFault}
 use Rattle.smap_vlq.specs.declared.number.NumberFault.TheVariants.{Unfinished, Character}
 use Rattle.smap_vlq.specs.Number.{◌>>=◌, digit_of, then_digits, unsigned, signed, number_of, number_digits}
 use Rattle.smap_vlq.specs.Number.{number_at, without_place}
+use Rattle.smap_vlq.proofs.ListLemmas.{behind-nil, behind-push}
+use Rattle.smap_vlq.proofs.NumberLemmas.{found}
 use Rattle.smap_vlq.proofs.UnsignedLemmas.{Stands, Stands-push, number_of-min}
 
 abbrev pub with_digits : List ℕ → Result (List ℕ) NumberFault → Result (List ℕ) NumberFault
@@ -21,21 +23,12 @@ pub record Progress (text : List ℕ) (at place total weight : ℕ) : Type 0 whe
   pub place_is : place ≡ at + length digits
   pub rest : number_digits (drop at text) ≡ with_digits digits (number_digits (drop place text))
 
-with_digits-nil : (r : Result (List ℕ) NumberFault) → r ≡ with_digits [] r
-with_digits-nil (Ok ds) = refl
-with_digits-nil (Err e) = refl
-
-with_digits-push : (front : List ℕ) (d : ℕ) (r : Result (List ℕ) NumberFault)
-    → with_digits front (r >>= λ ds. Ok (d ∷ ds)) ≡ with_digits (front ++ d ∷ []) r
-with_digits-push front d (Ok ds) = ap (λ (l : List ℕ). Ok l) (sym (append_assoc front (d ∷ []) ds))
-with_digits-push front d (Err e) = refl
-
 pub start : (text : List ℕ) (at : ℕ) → Progress text at at 0 1
 start text at = record {
   digits = [];
   stands = record { total_is = refl; weight_is = refl };
   place_is = omega arith;
-  rest = with_digits-nil (number_digits (drop at text));
+  rest = behind-nil (number_digits (drop at text));
 }
 
 digits_there : (text : List ℕ) (place : ℕ) → place < length text
@@ -62,7 +55,7 @@ goes_on text at place total weight d t w p lt is large te we = record {
   stands = rw (te, we) (Stands-push total weight p.digits d p.stands);
   place_is = omega (arith, p.place_is, length-append p.digits (d ∷ []));
   rest = step text at place total weight d p lt is ∙ rw (le-ltb d 32 large)
-      (with_digits-push p.digits d (number_digits (drop (place + 1) text)));
+      (behind-push p.digits d (number_digits (drop (place + 1) text)));
 }
 
 -- the last digit
@@ -96,9 +89,6 @@ unfinished text at place total weight p le =
     rw found refl
 
 -- ---- a number and its place apart
-
-abbrev found : ℤ → ℕ → Result (ℤ × ℕ) NumberFault
-found n after = Ok (n, after)
 
 alone : (r : Result ℤ NumberFault) (after : ℕ) → without_place (r >>= λ n. Ok (n, after)) ≡ r
 alone (Ok n) after = refl

@@ -12,12 +12,10 @@ use Rattle.smap_vlq.specs.Segment.{SpellsAll, is_field_count, number_texts, numb
 use Rattle.smap_vlq.specs.Segment.{numbers_from, u8_count, counted, segment_of, HasSegmentFault}
 use Rattle.smap_vlq.specs.Laws.{SegmentIsSpelled, SegmentFaultIsFirst, CountIsWrong, SegmentFaultIsDecided}
 use Rattle.smap_vlq.proofs.NumberLemmas.{some, digits_are, begins_with, length_digits, faults, fails}
-use Rattle.smap_vlq.proofs.SegmentLemmas.{Begins, begins, cons_segment}
+use Rattle.smap_vlq.proofs.NumberLemmas.{number_is, found}
+use Rattle.smap_vlq.proofs.SegmentLemmas.{Begins, begins, cons_segment, digits_err}
 use Rattle.smap_vlq.proofs.SpelledLemmas.{numbers_are, number_spelled, cut_first, numbers_spelled}
 use Rattle.smap_vlq.proofs.SpelledLemmas.{segment_spelled}
-
-abbrev number_is : ℤ → Result ℤ NumberFault
-number_is n = Ok n
 
 abbrev no_number : NumberFault → Result ℤ NumberFault
 no_number f = Err f
@@ -39,17 +37,9 @@ value_of_digits : (r : Result (List ℕ) NumberFault) (n : ℤ)
 value_of_digits (Ok ds) n e = (ds, refl, e)
 value_of_digits (Err f) n e = absurd cc
 
-abbrev found : ℤ → ℕ → Result (ℤ × ℕ) NumberFault
-found n after = Ok (n, after)
-
 place_fails : (q : Result ℤ NumberFault) (m : ℕ) (f : NumberFault) → q ≡ no_number f
     → (q >>= λ k. found k m) ≡ Err f
 place_fails q m f e = rw e refl
-
-place_failed : (q : Result ℤ NumberFault) (m : ℕ) (f : NumberFault) → (q >>= λ k. found k m) ≡ Err f
-    → q ≡ no_number f
-place_failed (Ok k) m f e = absurd cc
-place_failed (Err g) m f e = cc
 
 digits_fail : (r : Result (List ℕ) NumberFault) (f : NumberFault)
     → (r >>= λ ds. number_of (unsigned ds)) ≡ no_number f
@@ -57,18 +47,11 @@ digits_fail : (r : Result (List ℕ) NumberFault) (f : NumberFault)
 digits_fail (Ok ds) f e = place_fails (number_of (unsigned ds)) (0 + length ds) f e
 digits_fail (Err g) f e = cc
 
-digits_failed : (r : Result (List ℕ) NumberFault) (f : NumberFault)
-    → (r >>= λ ds. number_of (unsigned ds) >>= λ k. found k (0 + length ds)) ≡ Err f
-    → (r >>= λ ds. number_of (unsigned ds)) ≡ no_number f
-digits_failed (Ok ds) f e = place_failed (number_of (unsigned ds)) (0 + length ds) f e
-digits_failed (Err g) f e = cc
-
 pub number_in-fault : (text : List ℕ) (f : NumberFault)
     → (number_in text ≡ no_number f) ↔ HasNumberFault text f
 number_in-fault text f = (
   λ e. faults text 0 f (digits_fail (number_digits text) f e),
-  λ h. digits_failed
-      (number_digits text) f (fails text 0 f h),
+  λ h. digits_err (number_digits text) 0 f (fails text 0 f h),
 )
 
 -- ---- what the texts of a text lead to

@@ -1,38 +1,26 @@
 -- A text that spells numbers one after another has these numbers.
-use Rattle.std.proofs.Common.{zero, suc, ◌%◌, ◌/◌, ◌≡◌, ℕ, ◌+◌, ◌<◌, ◌≤◌, Bool, true, false, cond, ltb, leb}
-use Rattle.std.proofs.Common.{List, [], ◌∷◌, ◌++◌, map, length, Option, Some, Result, Ok, ℤ, nat_abs, refl}
+use Rattle.std.proofs.Common.{zero, suc, ◌%◌, ◌/◌, ◌≡◌, ℕ, ◌+◌, ◌<◌, ◌≤◌, Bool, true, false, cond, ltb}
+use Rattle.std.proofs.Common.{List, [], ◌∷◌, ◌++◌, map, length, Some, Result, Ok, ℤ, nat_abs, refl}
 use Rattle.std.proofs.Common.{sym, ap, subst, ◌∙◌, arith}
 use Rattle.std.specs.Prelude.{flat_map}
 use Rattle.std.specs.List.{onto_first, AllByRecursion}
-use Rattle.std.specs.Option.{option_map_or}
 use Rattle.std.proofs.lemmas.Bool.{lt-leb, le-leb}
 use Rattle.smap_vlq.specs.declared.number.NumberFault.{NumberFault}
 use Rattle.smap_vlq.specs.declared.segment.SegmentFault.{SegmentFault}
 use Rattle.smap_vlq.specs.Number.{◌>>=◌, digit_of, digit_byte, number_digits, AreNumberDigits, number_of}
 use Rattle.smap_vlq.specs.Number.{unsigned, unsigned_of, Spells, spelling, shortest_digits}
-use Rattle.smap_vlq.specs.Segment.{SpellsAll, is_field_count, continues, number_texts, number_in}
+use Rattle.smap_vlq.specs.Segment.{SpellsAll, is_field_count, number_texts, number_in}
 use Rattle.smap_vlq.specs.Segment.{or_number_fault, numbers_from, counted, segment_of}
-use Rattle.std.proofs.lemmas.List.{append-nil}
-use Rattle.smap_vlq.proofs.NumberLemmas.{some, digits_are, digits_of_first}
+use Rattle.std.proofs.lemmas.List.{append-nil, length-map}
+use Rattle.smap_vlq.proofs.ListLemmas.{head_is, tail_is, all_append}
+use Rattle.smap_vlq.proofs.NumberLemmas.{some, digits_are, digits_of_first, continues_by, number_is}
+use Rattle.smap_vlq.proofs.SegmentLemmas.{texts_by}
 use Rattle.smap_vlq.proofs.ShortestLemmas.{has_one_shortest}
 
 abbrev pub numbers_are : List ℤ → Result (List ℤ) SegmentFault
 numbers_are ns = Ok ns
 
-head_is : (x y : Option ℕ) (xs ys : List (Option ℕ)) → x ∷ xs ≡ y ∷ ys → x ≡ y
-head_is x y xs ys e = cc
-
-tail_is : (x y : Option ℕ) (xs ys : List (Option ℕ)) → x ∷ xs ≡ y ∷ ys → xs ≡ ys
-tail_is x y xs ys e = cc
-
 -- ---- one number in front of a text
-
-continues_is : (b d : ℕ) (t : Bool) → digit_of b ≡ some d → leb 32 d ≡ t → continues b ≡ t
-continues_is b d t e is = ap (λ (o : Option ℕ). option_map_or (leb 32) o false) e ∙ is
-
-cut_is : (b : ℕ) (bs : List ℕ) (t : Bool) → continues b ≡ t
-    → number_texts (b ∷ bs) ≡ cond t (onto_first b (number_texts bs)) ((b ∷ []) ∷ number_texts bs)
-cut_is b bs t e = ap (λ (x : Bool). cond x (onto_first b (number_texts bs)) ((b ∷ []) ∷ number_texts bs)) e
 
 digits_read : (first ds : List ℕ) → map digit_of first ≡ map some ds → AreNumberDigits ds
     → number_digits first ≡ digits_are ds
@@ -44,16 +32,13 @@ pub cut_first : (first rest ds : List ℕ) → map digit_of first ≡ map some d
 cut_first [] rest [] e h = absurd h
 cut_first [] rest (d ∷ ds) e h = absurd cc
 cut_first (b ∷ bs) rest [] e h = absurd h
-cut_first (b ∷ []) rest (d ∷ []) e h = cut_is b rest false (continues_is b d false (head_is _ _ _ _ e)
-    (lt-leb 32 d h))
+cut_first (b ∷ []) rest (d ∷ []) e h = texts_by b rest false (continues_by b (Some d) (head_is _ _ _ _ e)
+    ∙ lt-leb 32 d h)
 cut_first (b ∷ []) rest (d ∷ f ∷ ds) e h = absurd (let t = tail_is _ _ _ _ e in cc)
 cut_first (b ∷ c ∷ bs) rest (d ∷ []) e h = absurd (let t = tail_is _ _ _ _ e in cc)
 cut_first (b ∷ c ∷ bs) rest (d ∷ f ∷ ds) e h =
-    cut_is b (c ∷ (bs ++ rest)) true (continues_is b d true (head_is _ _ _ _ e) (le-leb 32 d h.0))
+    texts_by b (c ∷ (bs ++ rest)) true (continues_by b (Some d) (head_is _ _ _ _ e) ∙ le-leb 32 d h.0)
     ∙ ap (onto_first b) (cut_first (c ∷ bs) rest (f ∷ ds) (tail_is _ _ _ _ e) h.1)
-
-abbrev number_is : ℤ → Result ℤ NumberFault
-number_is n = Ok n
 
 pub number_spelled : (first : List ℕ) (n : ℤ) → Spells first n → number_in first ≡ number_is n
 number_spelled first n s = ap (λ (r : Result (List ℕ) NumberFault). r >>= λ ds. number_of (unsigned ds))
@@ -141,12 +126,7 @@ Spells-some text n s = spelled_some text s.digits s.spelled s.one_number
 pub SpellsAll-bytes : (text : List ℕ) (ns : List ℤ) → SpellsAll text ns → AllByRecursion IsDigitByte text
 SpellsAll-bytes text [] h = subst (AllByRecursion IsDigitByte) (sym h) tt
 SpellsAll-bytes text (n ∷ ns) h = subst (AllByRecursion IsDigitByte) (sym h.2)
-    (both h.0 h.1 (Spells-bytes h.0 n h.3) (SpellsAll-bytes h.1 ns h.4))
-  where
-    both : (xs ys : List ℕ) → AllByRecursion IsDigitByte xs → AllByRecursion IsDigitByte ys
-        → AllByRecursion IsDigitByte (xs ++ ys)
-    both [] ys a b = b
-    both (x ∷ xs) ys a b = (a.0, both xs ys a.1 b)
+    (all_append IsDigitByte h.0 h.1 (Spells-bytes h.0 n h.3) (SpellsAll-bytes h.1 ns h.4))
 
 -- ---- how long a spelling is
 
@@ -160,15 +140,11 @@ digits_length (suc more) u = by_test (digits_length more (u / 32)) (ltb u 32)
     by_test rest true = omega arith
     by_test rest false = omega arith
 
-bytes_length : (ds : List ℕ) → length (map digit_byte ds) ≡ length ds
-bytes_length [] = refl
-bytes_length (d ∷ ds) = ap suc (bytes_length ds)
-
 pub spelling-length : (n : ℤ) → length (spelling n) ≤ 7
 unfolding spelling
 spelling-length n = omega (
   arith,
-  bytes_length (shortest_digits 7 (unsigned_of n)),
+  length-map (shortest_digits 7 (unsigned_of n)) digit_byte,
   digits_length 7
       (unsigned_of n),
 )

@@ -1,5 +1,6 @@
 //! Mappings strings, with the number of their segments.
 use smap_mappings::count_segments;
+use smap_testing::equal;
 use std::test::Fail;
 
 /// The parts between the commas of nonempty lines, counted one by one.
@@ -17,7 +18,7 @@ fn plain_count(text: &[u8]) -> usize {
 
 #[test]
 fn segments_are_counted(rt: HostRuntime) {
-    for (text, count) in [
+    for &(text, count) in &[
         ("", 0),
         (";;", 0),
         ("A", 1),
@@ -26,9 +27,9 @@ fn segments_are_counted(rt: HostRuntime) {
         ("A;gA;;", 2),
         (";,;", 2),
     ] {
-        assert_eq!(rt; count_segments(text.as_bytes()), count, "{text}");
+        equal(&rt, text, count_segments(text.as_bytes()), count);
     }
-    assert_eq!(rt; count_segments(&[b','; 64]), 65);
+    equal(&rt, "commas", count_segments(&[b','; 64]), 65);
 }
 
 #[test]
@@ -38,7 +39,7 @@ fn lanes_count_as_a_split_does(rt: HostRuntime) -> Result<(), Fail> {
         let mut text = Vec::new(rt.alloc());
         for len in 0..201usize {
             let count = plain_count(&text);
-            assert_eq!(rt; count_segments(&text), count, "{which} {len}");
+            equal(&rt, (which, len), count_segments(&text), count);
             text.push(bytes[(len * len % 61 + which) % 8])?;
         }
     }

@@ -3,6 +3,7 @@ use super::WIDE;
 use smap_mappings::{
     Bounds, MappingsError, NumberFault, Original, SegmentKind, SegmentPlace, Token, decode,
 };
+use smap_testing::equal;
 use std::alloc::Global;
 use std::process::Abort;
 use std::test::Fail;
@@ -47,7 +48,7 @@ fn has_tokens(
     tokens: &[Token],
 ) -> Result<(), Fail> {
     let decoded = decode(alloc, text.as_bytes(), bounds)?;
-    assert_eq!(rt; decoded.as_slice(), tokens, "{text}");
+    equal(rt, text, decoded.as_slice(), tokens);
     Ok(())
 }
 
@@ -134,10 +135,11 @@ fn the_first_fault_of_a_segment_is_answered(rt: HostRuntime) {
     ];
     for (text, bounds, (line, segment), kind) in rows {
         let fault = MappingsError::Fault(SegmentPlace { line, segment }, kind);
-        assert_eq!(rt;
+        equal(
+            &rt,
+            text,
             decode(rt.alloc(), text.as_bytes(), bounds).err(),
             Some(fault),
-            "{text}"
         );
     }
 }
@@ -168,12 +170,13 @@ fn a_segment_that_is_no_segment_is_refused(rt: HostRuntime) {
         ("AAAAAA", 0, SegmentKind::Count(6)),
         ("AAB", 0, SegmentKind::Number(3, NumberFault::NegativeZero)),
     ];
-    for (text, segment, kind) in rows {
+    for &(text, segment, kind) in &rows {
         let fault = MappingsError::Fault(SegmentPlace { line: 0, segment }, kind);
-        assert_eq!(rt;
+        equal(
+            &rt,
+            text,
             decode(rt.alloc(), text.as_bytes(), WIDE).err(),
             Some(fault),
-            "{text}"
         );
     }
 }

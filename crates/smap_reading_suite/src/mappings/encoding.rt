@@ -1,6 +1,7 @@
 //! Tokens, and their canonical mappings string.
 use super::WIDE;
 use smap_mappings::{Original, Token, decode, encode, is_encodable};
+use smap_testing::{equal, holds};
 use std::alloc::Global;
 use std::process::Abort;
 use std::test::Fail;
@@ -8,7 +9,7 @@ use std::test::Fail;
 fn is_written(rt: &impl Abort, alloc: Global, tokens: &[Token], text: &str) -> Result<(), Fail> {
     assert!(rt; is_encodable(tokens), "{text}");
     let encoded = encode(alloc, tokens)?;
-    assert_eq!(rt; encoded.as_slice(), text.as_bytes(), "{text}");
+    equal(rt, text, encoded.as_slice(), text.as_bytes());
     Ok(())
 }
 
@@ -26,7 +27,7 @@ fn a_text_is_written_in_its_shortest_spelling(rt: HostRuntime) -> Result<(), Fai
         (";;K;;K", ";;K;;K"),
         ("AAA+/////D,AAA//////D", "AAA+/////D,AAA//////D"),
     ];
-    for (text, written) in rows {
+    for &(text, written) in &rows {
         let tokens = decode(rt.alloc(), text.as_bytes(), WIDE)?;
         is_written(&rt, rt.alloc(), &tokens, written)?;
     }

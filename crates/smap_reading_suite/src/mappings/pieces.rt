@@ -3,6 +3,7 @@ use super::WIDE;
 use smap_mappings::{
     MappingsError, MappingsReader, NumberFault, SegmentKind, SegmentPlace, Token, decode,
 };
+use smap_testing::{equal, holds};
 use std::alloc::Global;
 use std::process::Abort;
 use std::test::Fail;
@@ -65,8 +66,8 @@ fn is_same(
     text: &str,
 ) {
     match (whole, pieces) {
-        (Ok(a), Ok(b)) => assert_eq!(rt; a.as_slice(), b.as_slice(), "{text}"),
-        (Err(a), Err(b)) => assert_eq!(rt; *a, b, "{text}"),
+        (Ok(a), Ok(b)) => equal(rt, text, a.as_slice(), b.as_slice()),
+        (Err(a), Err(b)) => equal(rt, text, *a, b),
         _ => assert!(rt; false, "{text}"),
     }
 }
@@ -74,7 +75,7 @@ fn is_same(
 fn two_pieces_agree(rt: &(impl Abort + AllocGlobal), text: &str) {
     let bytes = text.as_bytes();
     let whole = decode(rt.alloc(), bytes, WIDE);
-    assert!(rt; !matches!(whole, Err(MappingsError::Memory)), "{text}");
+    holds(rt, text, !matches!(whole, Err(MappingsError::Memory)));
     for cut in 0..=bytes.len() {
         let (front, back) = bytes.split_at(cut);
         is_same(rt, &whole, read_two(rt.alloc(), front, back), text);
@@ -111,16 +112,16 @@ fn a_thousand_random_cuts_give_what_the_whole_gives(rt: HostRuntime) {
 #[test]
 fn a_fault_is_answered_again(rt: HostRuntime) -> Result<(), Fail> {
     let mut reader = MappingsReader::new(rt.alloc(), WIDE, 0)?;
-    assert_eq!(rt; reader.feed(b"AAAA,A"), Ok(()));
-    assert_eq!(rt; reader.feed(b"AB"), Ok(()));
+    equal(&rt, "fed", reader.feed(b"AAAA,A"), Ok(()));
+    equal(&rt, "fed", reader.feed(b"AB"), Ok(()));
     let first = reader.feed(b",");
     let place = SegmentPlace {
         line: 0,
         segment: 1,
     };
     let fault = MappingsError::Fault(place, SegmentKind::Number(3, NumberFault::NegativeZero));
-    assert_eq!(rt; first, Err(fault));
-    assert_eq!(rt; reader.feed(b"A"), Err(fault));
-    assert_eq!(rt; reader.finish().err(), Some(fault));
+    equal(&rt, "first", first, Err(fault));
+    equal(&rt, "fed", reader.feed(b"A"), Err(fault));
+    equal(&rt, "finished", reader.finish().err(), Some(fault));
     Ok(())
 }

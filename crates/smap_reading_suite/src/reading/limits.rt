@@ -2,6 +2,7 @@
 use super::{are_answered, usual_base};
 use smap_mappings::{MAX_LINES, MAX_POSITION};
 use smap_record::Limits;
+use smap_testing::equal;
 use std::test::Fail;
 
 /// What a row shows, a map, and the result if no source, name or line is allowed.
@@ -71,7 +72,7 @@ three sections may list a source
 #[test]
 fn what_is_listed_stays_within_the_limits(rt: HostRuntime) -> Result<(), Fail> {
     let base = usual_base(&rt);
-    for (items, lines, table) in [(0, 0, NOTHING), (1, 4, ONE), (2, 4, TWO), (3, 4, THREE)] {
+    for &(items, lines, table) in &[(0, 0, NOTHING), (1, 4, ONE), (2, 4, TWO), (3, 4, THREE)] {
         let limits = Limits::new(items, lines).expect(&rt, "limits in range");
         are_answered(&rt, table, &base, limits)?;
     }
@@ -80,8 +81,13 @@ fn what_is_listed_stays_within_the_limits(rt: HostRuntime) -> Result<(), Fail> {
 
 #[test]
 fn limits_have_greatest_values(rt: HostRuntime) {
-    assert_eq!(rt; (MAX_POSITION, MAX_LINES), (2_147_483_647, 16_777_216));
-    for (items, lines, within) in [
+    equal(
+        &rt,
+        "greatest values",
+        (MAX_POSITION, MAX_LINES),
+        (2_147_483_647, 16_777_216),
+    );
+    for &(items, lines, within) in &[
         (0, 0, true),
         (2, 4, true),
         (2147483647, 16777216, true),
@@ -93,6 +99,6 @@ fn limits_have_greatest_values(rt: HostRuntime) {
         (0, 4294967295, false),
     ] {
         let limits = Limits::new(items, lines);
-        assert_eq!(rt; limits.is_some(), within, "{items}, {lines}");
+        equal(&rt, (items, lines), limits.is_some(), within);
     }
 }

@@ -1,6 +1,7 @@
 //! Index maps: where sections are placed, what they list together, and why they are rejected.
 use super::{are_answered, is_answered, usual_base};
 use smap_record::{Limits, Path};
+use smap_testing::{equal, holds};
 use std::test::Fail;
 
 /// What a row shows, an index map, and the result.
@@ -210,11 +211,11 @@ fn eight_levels_are_read(rt: HostRuntime) -> Result<(), Fail> {
 #[test]
 fn a_path_has_at_most_eight_numbers(rt: HostRuntime) {
     let path = Path::new(&[0, 2]).expect(&rt, "two numbers");
-    assert!(rt; path.numbers() == [0, 2].as_slice());
+    holds(&rt, "numbers", path.numbers() == [0, 2].as_slice());
     let empty = Path::new(&[]).expect(&rt, "no number");
-    assert!(rt; empty.numbers().is_empty());
-    assert!(rt; path != empty);
+    holds(&rt, "no numbers", empty.numbers().is_empty());
+    holds(&rt, "two paths", path != empty);
     let full = Path::new(&[0, 1, 2, 3, 4, 5, 6, 7]).expect(&rt, "eight numbers");
-    assert_eq!(rt; full.numbers().len(), 8);
-    assert!(rt; Path::new(&[0; 9]).is_none());
+    equal(&rt, "numbers", full.numbers().len(), 8);
+    holds(&rt, "nine numbers", Path::new(&[0; 9]).is_none());
 }

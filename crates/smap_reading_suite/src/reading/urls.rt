@@ -3,7 +3,7 @@
 //! `new URL(relative, base)`.
 use super::{are_answered, base_of, is_answered, usual_base};
 use smap_record::{Base, BaseFault, Limits};
-use smap_testing::parts;
+use smap_testing::{equal, holds, parts};
 use std::alloc::AllocError;
 use std::process::Abort;
 use std::test::Fail;
@@ -134,7 +134,7 @@ fn a_base_tells_its_url(rt: HostRuntime) -> Result<(), Fail> {
     for row in BASES.lines() {
         let (text, url) = sides(row)?;
         let base = base_of(&rt, text);
-        assert!(rt; base.text() == url, "{text}: {}", base.text());
+        holds(&rt, base.text(), base.text() == url);
     }
     Ok(())
 }
@@ -153,7 +153,7 @@ fn a_text_without_a_url_of_its_own_is_no_base(rt: HostRuntime) {
     ] {
         match Base::new(rt.alloc(), text) {
             Ok(_) => assert!(rt; false, "a base: {text}"),
-            Err(fault) => assert_eq!(rt; fault, BaseFault::NotUrl, "{text}"),
+            Err(fault) => equal(&rt, text, fault, BaseFault::NotUrl),
         }
     }
 }
@@ -189,7 +189,7 @@ fn a_url_on_the_same_host_is_spelled_by_its_path(rt: HostRuntime) -> Result<(), 
         let (base, rest) = parts(row)?;
         let (url, want) = sides(rest)?;
         let spelling = spelling(&rt, base, url)?.ok_or("a spelling")?;
-        assert!(rt; spelling.as_str() == want, "{row}: {spelling}");
+        holds(&rt, (row, spelling.as_str()), spelling.as_str() == want);
     }
     Ok(())
 }
@@ -214,7 +214,7 @@ http://h/m/out.js.map | HTTP://h/m/a.js"#;
 fn other_urls_have_no_relative_spelling(rt: HostRuntime) -> Result<(), Fail> {
     for row in NOT_SPELLED.lines() {
         let (base, url) = parts(row)?;
-        assert!(rt; spelling(&rt, base, url)?.is_none(), "{row}");
+        holds(&rt, row, spelling(&rt, base, url)?.is_none());
     }
     Ok(())
 }

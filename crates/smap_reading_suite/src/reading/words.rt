@@ -1,6 +1,7 @@
 //! The messages of faults.
 use smap_mappings::{NumberFault, SegmentPlace};
 use smap_record::{Fault, Kind, Path};
+use smap_testing::equal;
 use std::test::Fail;
 
 /// The message of each kind.
@@ -56,7 +57,7 @@ const KINDS: [(Kind, &str); 33] = [
 fn a_kind_says_its_words(rt: HostRuntime) -> Result<(), Fail> {
     for (kind, words) in &KINDS {
         let said = format!(in rt.alloc(); "{kind}")?;
-        assert_eq!(rt; said.as_str(), *words);
+        equal(&rt, words, said.as_str(), *words);
     }
     Ok(())
 }
@@ -74,7 +75,7 @@ fn section_and_place_stand_before_the_words_of_a_kind(rt: HostRuntime) -> Result
         (&[], place, "line 3 segment 4294967295: map"),
         (&[0], place, "section 0: line 3 segment 4294967295: map"),
     ];
-    for (section, place, words) in rows {
+    for &(section, place, words) in &rows {
         let Some(section) = Path::new(section) else {
             assert!(rt; false, "{words}");
             continue;
@@ -86,7 +87,7 @@ fn section_and_place_stand_before_the_words_of_a_kind(rt: HostRuntime) -> Result
             kind,
         };
         let said = format!(in rt.alloc(); "{fault}")?;
-        assert_eq!(rt; said.as_str(), words);
+        equal(&rt, words, said.as_str(), words);
     }
     Ok(())
 }

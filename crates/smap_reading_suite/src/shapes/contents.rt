@@ -2,6 +2,7 @@
 use super::flat_map;
 use serde_json::Value;
 use smap_shape::{FlatShape, ShapeFault, shape, split_contents};
+use smap_testing::{equal, holds};
 use std::process::Abort;
 use std::test::Fail;
 
@@ -14,7 +15,7 @@ fn is_text(content: &Option<String>, want: &str) -> bool {
 
 #[test]
 fn contents_are_moved_out_of_the_tree(rt: HostRuntime) -> Result<(), Fail> {
-    for (members, count, last) in [
+    for &(members, count, last) in &[
         (r#""sourcesContent":["t",null,""]"#, 3, ""),
         (r#""sourcesContent":["t",null]"#, 2, "null"),
         (r#""sourcesContent":["t","u","v","w"]"#, 4, "w"),
@@ -26,12 +27,12 @@ fn contents_are_moved_out_of_the_tree(rt: HostRuntime) -> Result<(), Fail> {
         let text = format!(in rt.alloc(); "{{\"version\":3,{members},\"names\":[]}}")?;
         let tree = Value::from_str(rt.alloc(), text.as_str())?;
         let (contents, rest) = split_contents(rt.alloc(), tree)?;
-        assert_eq!(rt; contents.len(), count, "at {members}");
+        assert!(rt; contents.len() == count, "{members}");
         if count > 0 {
-            assert!(rt; is_text(&contents[count - 1], last), "at {members}");
+            holds(&rt, members, is_text(&contents[count - 1], last));
         }
-        assert!(rt; rest.get("names").is_some(), "at {members}");
-        assert!(rt; rest.get("sourcesContent").is_none(), "at {members}");
+        holds(&rt, members, rest.get("names").is_some());
+        holds(&rt, members, rest.get("sourcesContent").is_none());
     }
     Ok(())
 }
@@ -42,25 +43,25 @@ fn the_other_members_stay(rt: HostRuntime) -> Result<(), Fail> {
         r#"{"version":3,"file":"f","sources":["a","b"],"sourcesContent":["t","u"],"mappings":"A"}"#;
     let tree = Value::from_str(rt.alloc(), text)?;
     let (contents, rest) = split_contents(rt.alloc(), tree)?;
-    assert_eq!(rt; contents.len(), 2);
+    equal(&rt, "contents", contents.len(), 2);
     let flat = flat_map(&rest).ok_or("refused")?;
     has_no_content(&rt, &flat);
-    assert!(rt; flat.file() == Some("f"));
-    assert!(rt; flat.mappings() == "A");
+    holds(&rt, "file", flat.file() == Some("f"));
+    holds(&rt, "mappings", flat.mappings() == "A");
     Ok(())
 }
 
 fn has_no_content(rt: &impl Abort, flat: &FlatShape) {
-    assert_eq!(rt; flat.source_count(), 2);
-    assert!(rt; flat.source(1) == Some("b"));
-    assert!(rt; flat.content(0).is_none());
+    assert!(rt; flat.source_count() == 2);
+    holds(rt, "source", flat.source(1) == Some("b"));
+    holds(rt, "content", flat.content(0).is_none());
 }
 
 /// What remains of the tree of this text, after no content was moved out of it.
 fn kept(rt: &(impl Abort + AllocGlobal), text: &str) -> Result<Value, Fail> {
     let tree = Value::from_str(rt.alloc(), text)?;
     let (contents, rest) = split_contents(rt.alloc(), tree)?;
-    assert_eq!(rt; contents.len(), 0, "at {text}");
+    equal(rt, text, contents.len(), 0);
     Ok(rest)
 }
 
@@ -72,11 +73,12 @@ fn a_tree_without_a_list_of_contents_stays_whole(rt: HostRuntime) -> Result<(), 
         r#"{"version":3,"sourcesContent":"t","mappings":""}"#,
     ] {
         let rest = kept(&rt, text)?;
-        assert!(rt; rest.get("sourcesContent").is_some(), "at {text}");
-        assert_eq!(rt;
+        holds(&rt, text, rest.get("sourcesContent").is_some());
+        equal(
+            &rt,
+            text,
             shape(&rest).err(),
             Some(ShapeFault::SourcesContent),
-            "at {text}"
         );
     }
     Ok(())
@@ -86,7 +88,7 @@ fn a_tree_without_a_list_of_contents_stays_whole(rt: HostRuntime) -> Result<(), 
 fn a_tree_that_is_no_object_stays_whole(rt: HostRuntime) -> Result<(), Fail> {
     for text in ["[]", "null", "\"t\""] {
         let rest = kept(&rt, text)?;
-        assert!(rt; !rest.is_object(), "at {text}");
+        holds(&rt, text, !rest.is_object());
     }
     Ok(())
 }

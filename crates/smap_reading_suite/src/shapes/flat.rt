@@ -2,6 +2,7 @@
 use super::flat_map;
 use serde_json::Value;
 use smap_shape::FlatShape;
+use smap_testing::{equal, holds};
 use std::process::Abort;
 use std::test::Fail;
 
@@ -22,33 +23,33 @@ fn a_flat_map_tells_its_members(rt: HostRuntime) -> Result<(), Fail> {
 }
 
 fn has_texts(rt: &impl Abort, flat: &FlatShape) {
-    assert!(rt; flat.file() == Some("out.js"));
-    assert!(rt; flat.root() == Some("src"));
-    assert!(rt; flat.mappings() == "AAAA");
+    holds(rt, "file", flat.file() == Some("out.js"));
+    holds(rt, "root", flat.root() == Some("src"));
+    holds(rt, "mappings", flat.mappings() == "AAAA");
 }
 
 fn has_sources(rt: &impl Abort, flat: &FlatShape) {
-    assert_eq!(rt; flat.source_count(), 3);
-    assert!(rt; flat.source(0) == Some("a.js"));
-    assert!(rt; flat.source(1).is_none());
+    assert!(rt; flat.source_count() == 3);
+    holds(rt, "source", flat.source(0) == Some("a.js"));
+    holds(rt, "source", flat.source(1).is_none());
 }
 
 fn has_contents(rt: &impl Abort, flat: &FlatShape) {
-    assert_eq!(rt; flat.source_count(), 3);
-    assert!(rt; flat.content(0) == Some("t"));
-    assert!(rt; flat.content(1) == Some(""));
-    assert!(rt; flat.content(2).is_none());
+    assert!(rt; flat.source_count() == 3);
+    holds(rt, "content", flat.content(0) == Some("t"));
+    holds(rt, "content", flat.content(1) == Some(""));
+    holds(rt, "content", flat.content(2).is_none());
 }
 
 fn has_ignored_sources(rt: &impl Abort, flat: &FlatShape) {
-    assert_eq!(rt; flat.source_count(), 3);
-    assert_eq!(rt; flat.is_ignored(0), false);
-    assert_eq!(rt; flat.is_ignored(2), true);
-    assert_eq!(rt; flat.ignored_count(), 2);
-    assert_eq!(rt; flat.ignored_number(1), 2);
+    assert!(rt; flat.source_count() == 3);
+    equal(rt, "is ignored", flat.is_ignored(0), false);
+    equal(rt, "is ignored", flat.is_ignored(2), true);
+    assert!(rt; flat.ignored_count() == 2);
+    equal(rt, "ignored number", flat.ignored_number(1), 2);
 }
 
 fn has_names(rt: &impl Abort, flat: &FlatShape) {
-    assert_eq!(rt; flat.name_count(), 2);
-    assert!(rt; flat.name(1) == "y");
+    assert!(rt; flat.name_count() == 2);
+    holds(rt, "name", flat.name(1) == "y");
 }

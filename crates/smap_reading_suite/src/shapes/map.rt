@@ -2,12 +2,13 @@
 use super::{flat_map, is_refused};
 use serde_json::Value;
 use smap_shape::{FlatShape, ShapeFault};
+use smap_testing::{equal, holds};
 use std::process::Abort;
 use std::test::Fail;
 
 #[test]
 fn the_first_fault_in_order_is_answered(rt: HostRuntime) -> Result<(), Fail> {
-    for (text, want) in [
+    for &(text, want) in &[
         ("[]", ShapeFault::NotObject),
         ("null", ShapeFault::NotObject),
         (r#"{"mappings":""}"#, ShapeFault::Version),
@@ -32,7 +33,7 @@ fn the_first_fault_in_order_is_answered(rt: HostRuntime) -> Result<(), Fail> {
 
 #[test]
 fn the_first_fault_of_a_flat_map_is_answered(rt: HostRuntime) -> Result<(), Fail> {
-    for (text, want) in [
+    for &(text, want) in &[
         (r#"{"version":3}"#, ShapeFault::Mappings),
         (r#"{"version":3,"mappings":null}"#, ShapeFault::Mappings),
         (
@@ -81,7 +82,7 @@ fn an_ignored_number_has_a_source(rt: HostRuntime) -> Result<(), Fail> {
 fn of_two_equal_keys_the_last_counts(rt: HostRuntime) -> Result<(), Fail> {
     let tree = Value::from_str(rt.alloc(), r#"{"version":2,"version":3,"mappings":""}"#)?;
     let flat = flat_map(&tree).ok_or("refused")?;
-    assert_eq!(rt; flat.source_count(), 0);
+    equal(&rt, "source count", flat.source_count(), 0);
     is_refused(
         &rt,
         r#"{"version":3,"version":2,"mappings":""}"#,
@@ -94,8 +95,8 @@ fn content_past_the_sources_is_ignored(rt: HostRuntime) -> Result<(), Fail> {
     let text = r#"{"version":3,"sources":["a"],"sourcesContent":["t","u"],"mappings":""}"#;
     let tree = Value::from_str(rt.alloc(), text)?;
     let flat = flat_map(&tree).ok_or("refused")?;
-    assert_eq!(rt; flat.source_count(), 1);
-    assert!(rt; flat.content(0) == Some("t"));
+    assert!(rt; flat.source_count() == 1);
+    holds(&rt, "content", flat.content(0) == Some("t"));
     Ok(())
 }
 
@@ -106,20 +107,20 @@ fn ignores(rt: &(impl Abort + AllocGlobal), lists: &str) -> Result<bool, Fail> {
     )?;
     let tree = Value::from_str(rt.alloc(), text.as_str())?;
     let flat = flat_map(&tree).ok_or("refused")?;
-    assert_eq!(rt; flat.source_count(), 1);
+    assert!(rt; flat.source_count() == 1);
     Ok(flat.is_ignored(0))
 }
 
 #[test]
 fn a_present_ignore_list_hides_its_older_name(rt: HostRuntime) -> Result<(), Fail> {
-    for (lists, want) in [
+    for &(lists, want) in &[
         (r#""ignoreList":[],"x_google_ignoreList":[0]"#, false),
         (r#""ignoreList":null,"x_google_ignoreList":[0]"#, true),
         (r#""x_google_ignoreList":[0]"#, true),
         (r#""ignoreList":[],"x_google_ignoreList":"no""#, false),
         (r#""ignoreList":[0,0],"x_google_ignoreList":[9]"#, true),
     ] {
-        assert_eq!(rt; ignores(&rt, lists)?, want, "at {lists}");
+        equal(&rt, lists, ignores(&rt, lists)?, want);
     }
     is_refused(
         &rt,
@@ -142,10 +143,10 @@ fn a_null_member_is_absent(rt: HostRuntime) -> Result<(), Fail> {
 }
 
 fn has_mappings_alone(rt: &impl Abort, flat: &FlatShape) {
-    assert!(rt; flat.file().is_none());
-    assert!(rt; flat.root().is_none());
-    assert_eq!(rt; flat.source_count(), 0);
-    assert_eq!(rt; flat.name_count(), 0);
-    assert_eq!(rt; flat.ignored_count(), 0);
-    assert!(rt; flat.mappings() == "A");
+    holds(rt, "file", flat.file().is_none());
+    holds(rt, "root", flat.root().is_none());
+    equal(rt, "source count", flat.source_count(), 0);
+    equal(rt, "name count", flat.name_count(), 0);
+    equal(rt, "ignored count", flat.ignored_count(), 0);
+    holds(rt, "mappings", flat.mappings() == "A");
 }

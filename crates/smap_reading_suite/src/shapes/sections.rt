@@ -1,14 +1,15 @@
 //! JSON trees of sections, and the first fault of each.
 use serde_json::Value;
 use smap_shape::{MAX_LEVEL, SectionShape, ShapeFault, section};
+use smap_testing::{equal, holds};
 use std::process::Abort;
 use std::test::Fail;
 
 /// Asserts what a section tells.
 fn tells(rt: &impl Abort, section: &SectionShape, line: u32, column: u32, text: &str) {
-    assert_eq!(rt; section.line(), line, "line at {text}");
-    assert_eq!(rt; section.column(), column, "column at {text}");
-    assert!(rt; section.map().is_object(), "map at {text}");
+    equal(rt, text, section.line(), line);
+    equal(rt, text, section.column(), column);
+    holds(rt, text, section.map().is_object());
 }
 
 /// The fault of a section of this level.
@@ -21,13 +22,13 @@ fn fault(rt: &impl Abort, tree: &Value, level: u8) -> Option<ShapeFault> {
 /// Asserts that the section of this text has this fault.
 fn is_refused(rt: &(impl Abort + AllocGlobal), text: &str, want: ShapeFault) -> Result<(), Fail> {
     let tree = Value::from_str(rt.alloc(), text)?;
-    assert_eq!(rt; fault(rt, &tree, MAX_LEVEL), Some(want), "at {text}");
+    equal(rt, text, fault(rt, &tree, MAX_LEVEL), Some(want));
     Ok(())
 }
 
 #[test]
 fn a_section_tells_its_offset_and_map(rt: HostRuntime) -> Result<(), Fail> {
-    for (text, line, column) in [
+    for &(text, line, column) in &[
         (
             r#"{"offset":{"line":0,"column":2147483647},"map":{}}"#,
             0,
@@ -53,7 +54,7 @@ fn a_section_tells_its_offset_and_map(rt: HostRuntime) -> Result<(), Fail> {
 
 #[test]
 fn the_first_fault_of_a_section_is_answered(rt: HostRuntime) -> Result<(), Fail> {
-    for (text, want) in [
+    for &(text, want) in &[
         ("7", ShapeFault::NotObject),
         ("[]", ShapeFault::NotObject),
         ("{}", ShapeFault::Offset),
@@ -106,8 +107,8 @@ fn a_section_of_a_lower_level_may_have_sections(rt: HostRuntime) -> Result<(), F
     let text = r#"{"offset":{"line":0,"column":0},"map":{"sections":[]}}"#;
     let tree = Value::from_str(rt.alloc(), text)?;
     for level in [1, 2, 7] {
-        assert!(rt; fault(&rt, &tree, level).is_none(), "{level}");
+        holds(&rt, level, fault(&rt, &tree, level).is_none());
     }
-    assert_eq!(rt; fault(&rt, &tree, 8), Some(ShapeFault::Nested));
+    equal(&rt, "tree", fault(&rt, &tree, 8), Some(ShapeFault::Nested));
     Ok(())
 }

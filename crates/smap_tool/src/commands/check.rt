@@ -1,32 +1,37 @@
 //! The command `check`: validate a map.
-ghost use Rattle.std.specs.Prelude.{◌≡◌, ◌-◌, ◌^◌, ◌<◌, ◌++◌, None, false, OnOk, true};
+ghost use Rattle.std.specs.Prelude.{◌≡◌, ◌-◌, ◌^◌, ◌<◌, ◌++◌, None, false, IfOk, OnOk, true};
 ghost use Rattle.smap_io.specs.Calls.{StopsInTime};
 ghost use Rattle.smap_io.specs.Device.{device_failures, has_ended, is_over};
 ghost use Rattle.smap_io.specs.Streams.{streams};
-ghost use Rattle.smap_mappings.specs.Text.{line_count};
 ghost use Rattle.smap_tool.specs.Commands.{check_output, check_text, counts_line, length_line, most_bytes};
 ghost use Rattle.smap_tool.specs.Run.{WritesOutputAgainst, Runs};
 ghost use Rattle.url.specs.Parser.{parse_url};
+ghost use Rattle.clap.specs.Words.{app_of};
+ghost use Rattle.clap.specs.declared.builder.command.Command.TheViews.{out-Command as fields_of};
+ghost use Rattle.smap_tool.specs.Commands as arguments;
 
 use crate::map_run::{MapCommand, run_on_map};
 use crate::numbers::push_number;
 use crate::outcome::{Outcome, RunFault};
+use crate::words::on_base;
+use clap::Command;
 use smap_canon::canonical_mappings_len;
 use smap_io::Device;
 use smap_mappings::Memory;
 use smap_record::{Base, SourceMap};
-use std::alloc::Global;
+use std::alloc::{AllocError, Global};
 use std::io::{Read, Write};
 
-/// One more than the line of the last mapping, or 0 without one.
-fn line_count(map: &SourceMap) -> u32
-    ensures { result ≡ line_count map.now.listing.tokens }
+/// The arguments of the command.
+pub(crate) fn check_command<'a>(alloc: Global) -> Result<Command<'a>, AllocError>
+    ensures shape { IfOk result (λ c. app_of c ≡ arguments.check) }
+    ensures local { IfOk result (λ c. (fields_of c).has_globals ≡ false) }
 {
-    let count = map.token_count();
-    if count == 0 {
-        return 0;
-    }
-    map.listed_token(count - 1).line + 1
+    on_base(
+        alloc,
+        "check",
+        "Validate a map: print a summary, or its first error",
+    )
 }
 
 /// Appends the line of counts, without its line feed.
@@ -37,7 +42,7 @@ fn push_counts(text: &mut Vec<u8>, map: &SourceMap) -> Result<(), Memory>
     push_number(text, "accepted: ", map.source_count())?;
     push_number(text, " sources, ", map.name_count())?;
     push_number(text, " names, ", map.token_count())?;
-    push_number(text, " mappings, ", line_count(map))?;
+    push_number(text, " mappings, ", map.line_count())?;
     text.extend_from_slice(b" lines")?;
     Ok(())
 }
@@ -46,7 +51,7 @@ fn push_counts(text: &mut Vec<u8>, map: &SourceMap) -> Result<(), Memory>
 fn most_bytes(map: &SourceMap) -> u128
     ensures { result ≡ most_bytes map.now }
 {
-    36 * map.token_count() as u128 + line_count(map) as u128
+    36 * map.token_count() as u128 + map.line_count() as u128
 }
 
 /// Appends the line of lengths, without its line feed.

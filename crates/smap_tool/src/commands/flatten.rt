@@ -1,5 +1,5 @@
 //! The command `flatten`: convert an index map to a flat map.
-ghost use Rattle.std.specs.Prelude.{◌≡◌, ◌-◌, ◌^◌, ◌<◌, None, false, OnOk, true};
+ghost use Rattle.std.specs.Prelude.{◌≡◌, ◌-◌, ◌^◌, ◌<◌, None, false, IfOk, OnOk, true};
 ghost use Rattle.smap_io.specs.Calls.{StopsInTime};
 ghost use Rattle.smap_io.specs.Device.{device_failures, has_ended, is_over};
 ghost use Rattle.smap_io.specs.Streams.{streams};
@@ -7,15 +7,32 @@ ghost use Rattle.smap_tool.specs.Run.{WritesOutputAgainst, Runs};
 ghost use Rattle.smap_canon.specs.Layout.{flat_text};
 ghost use Rattle.smap_tool.specs.Commands.{flatten_output};
 ghost use Rattle.url.specs.Parser.{parse_url};
+ghost use Rattle.clap.specs.Words.{app_of};
+ghost use Rattle.clap.specs.declared.builder.command.Command.TheViews.{out-Command as fields_of};
+ghost use Rattle.smap_tool.specs.Commands as arguments;
 
 use crate::map_run::{MapCommand, run_on_map};
 use crate::outcome::{Outcome, RunFault};
+use crate::words::on_base;
+use clap::Command;
 use smap_canon::flatten;
 use smap_io::Device;
 use smap_mappings::Memory;
 use smap_record::{Base, SourceMap};
-use std::alloc::Global;
+use std::alloc::{AllocError, Global};
 use std::io::{Read, Write};
+
+/// The arguments of the command.
+pub(crate) fn flatten_command<'a>(alloc: Global) -> Result<Command<'a>, AllocError>
+    ensures shape { IfOk result (λ c. app_of c ≡ arguments.flatten) }
+    ensures local { IfOk result (λ c. (fields_of c).has_globals ≡ false) }
+{
+    on_base(
+        alloc,
+        "flatten",
+        "Convert an index map (with sections) to a flat map, with sources and names as listed",
+    )
+}
 
 struct Flatten;
 

@@ -11,17 +11,36 @@ ghost use Rattle.smap_tool.specs.Run.{WritesOutputAgainst, Runs};
 ghost use Rattle.smap_tool.specs.Commands.{lookup_output, lookup_text, mapping_words, name_words};
 ghost use Rattle.smap_tool.specs.Commands.{origin_words, url_words};
 ghost use Rattle.url.specs.Parser.{parse_url};
+ghost use Rattle.clap.specs.Words.{app_of};
+ghost use Rattle.clap.specs.declared.builder.command.Command.TheViews.{out-Command as fields_of};
+ghost use Rattle.smap_tool.specs.Commands as arguments;
 
 use crate::map_run::{MapCommand, run_on_map};
 use crate::numbers::push_number;
 use crate::outcome::{Outcome, RunFault};
+use crate::words::{on_base, position_argument};
+use clap::Command;
 use serde_json::Value;
 use smap_io::Device;
 use smap_mappings::Memory;
 use smap_record::{Base, OriginalView, SourceMap, TokenView};
 use smap_trace::lookup;
-use std::alloc::Global;
+use std::alloc::{AllocError, Global};
 use std::io::{Read, Write};
+
+/// The arguments of the command.
+pub(crate) fn lookup_command<'a>(alloc: Global) -> Result<Command<'a>, AllocError>
+    ensures shape { IfOk result (λ c. app_of c ≡ arguments.lookup) }
+    ensures local { IfOk result (λ c. (fields_of c).has_globals ≡ false) }
+{
+    let command = on_base(
+        alloc,
+        "lookup",
+        "Find the original position of a generated position",
+    )?;
+    let command = command.arg(position_argument(alloc, "LINE", "Generated line, counted from 0"))?;
+    command.arg(position_argument(alloc, "COLUMN", "Generated column, counted from 0"))
+}
 
 /// A source's URL, or `null` where it has none.
 fn url_text(url: Option<&str>) -> &str

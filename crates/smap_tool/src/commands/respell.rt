@@ -8,16 +8,30 @@ ghost use Rattle.smap_mappings.specs.Text.{IsEncodable};
 ghost use Rattle.smap_trace.specs.Translation.{without_line_feed};
 ghost use Rattle.smap_tool.specs.Commands.{respell_bounds, respell_output};
 ghost use Rattle.smap_tool.specs.Run.{WritesOutput, Runs};
+ghost use Rattle.clap.specs.Words.{app_of};
+ghost use Rattle.clap.specs.declared.builder.command.Command.TheViews.{out-Command as fields_of};
+ghost use Rattle.smap_tool.specs.Commands as arguments;
 
 use crate::fault_line::refusal;
 use crate::input::read_input;
 use crate::outcome::{Outcome, RunFault};
 use crate::output::write_answer;
+use clap::Command;
 use smap_io::Device;
 use smap_mappings::{MappingsError, Memory, Token, WIDEST, decode, encode};
 use smap_record::Fault;
 use std::alloc::Global;
 use std::io::{Read, Write};
+
+/// The arguments of the command.
+pub(crate) fn respell_command<'a>(alloc: Global) -> Command<'a>
+    ensures shape { app_of result ≡ arguments.respell }
+    ensures local { (fields_of result).has_globals ≡ false }
+{
+    Command::new(alloc, "respell").about(
+        "Re-encode a \"mappings\" string: sorted, and as short as possible",
+    )
+}
 
 /// The string without the line feed at its end, if it has one.
 fn without_line_feed(text: &[u8]) -> &[u8]

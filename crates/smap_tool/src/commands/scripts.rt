@@ -5,15 +5,29 @@ ghost use Rattle.smap_io.specs.Device.{device_failures, has_ended, is_over};
 ghost use Rattle.smap_io.specs.Limits.{most_calls};
 ghost use Rattle.smap_io.specs.Streams.{streams};
 ghost use Rattle.smap_tool.specs.Scripts.{RunsScripts, script_line};
+ghost use Rattle.clap.specs.Words.{app_of};
+ghost use Rattle.clap.specs.declared.builder.command.Command.TheViews.{out-Command as fields_of};
+ghost use Rattle.smap_tool.specs.Commands as arguments;
 
 use crate::numbers::push_number;
 use crate::outcome::{Outcome, RunFault};
 use crate::output::write_answer;
+use clap::Command;
 use smap_io::Device;
 use smap_mappings::Memory;
 use smap_trace::{NamedScripts, TraceError, named_scripts};
 use std::alloc::Global;
 use std::io::{Read, Write};
+
+/// The arguments of the command.
+pub(crate) fn scripts_command<'a>(alloc: Global) -> Command<'a>
+    ensures shape { app_of result ≡ arguments.scripts }
+    ensures local { (fields_of result).has_globals ≡ false }
+{
+    Command::new(alloc, "scripts").about(
+        "List the scripts that a stack trace names, with the number of lines that name each",
+    )
+}
 
 /// Appends the line of a script.
 fn push_script(text: &mut Vec<u8>, url: &[u8], lines: u64) -> Result<(), Memory>

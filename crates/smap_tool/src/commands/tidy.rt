@@ -1,20 +1,39 @@
 //! The command `tidy`: write a map in canonical form.
-ghost use Rattle.std.specs.Prelude.{◌≡◌, ◌-◌, ◌^◌, ◌<◌, None, false, OnOk, true};
+ghost use Rattle.std.specs.Prelude.{◌≡◌, ◌-◌, ◌^◌, ◌<◌, None, false, IfOk, OnOk, true};
 ghost use Rattle.smap_io.specs.Calls.{StopsInTime};
 ghost use Rattle.smap_io.specs.Device.{device_failures, has_ended, is_over};
 ghost use Rattle.smap_io.specs.Streams.{streams};
 ghost use Rattle.smap_tool.specs.Run.{WritesOutputAgainst, Runs};
 ghost use Rattle.smap_tool.specs.Commands.{tidy_output, tidy_text};
 ghost use Rattle.url.specs.Parser.{parse_url};
+ghost use Rattle.clap.specs.Words.{app_of};
+ghost use Rattle.clap.specs.declared.builder.command.Command.TheViews.{out-Command as fields_of};
+ghost use Rattle.smap_tool.specs.Commands as arguments;
 
 use crate::map_run::{MapCommand, run_on_map};
 use crate::outcome::{Outcome, RunFault};
+use crate::words::{on_base, with_flag};
+use clap::Command;
 use smap_canon::canonical_in;
 use smap_io::Device;
 use smap_mappings::Memory;
 use smap_record::{Base, SourceMap};
-use std::alloc::Global;
+use std::alloc::{AllocError, Global};
 use std::io::{Read, Write};
+
+/// The arguments of the command.
+pub(crate) fn tidy_command<'a>(alloc: Global) -> Result<Command<'a>, AllocError>
+    ensures shape { IfOk result (λ c. app_of c ≡ arguments.tidy) }
+    ensures local { IfOk result (λ c. (fields_of c).has_globals ≡ false) }
+{
+    let command = on_base(alloc, "tidy", "Write a map in canonical form")?;
+    with_flag(
+        alloc,
+        command,
+        "relative",
+        "Write source URLs relative to BASE where that round-trips",
+    )
+}
 
 #[derive(Drop)]
 struct Tidy {

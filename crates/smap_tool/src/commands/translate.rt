@@ -1,5 +1,5 @@
 //! The command `translate`: translate the stack trace of a bundle to source positions.
-ghost use Rattle.std.specs.Prelude.{◌≡◌, ◌-◌, ◌*◌, ◌^◌, ◌<◌, ◌++◌, ◌∷◌, [], false, OnOk, true};
+ghost use Rattle.std.specs.Prelude.{◌≡◌, ◌-◌, ◌*◌, ◌^◌, ◌<◌, ◌++◌, ◌∷◌, [], false, IfOk, OnOk, true};
 ghost use Rattle.smap_io.specs.Calls.{MakesAtMost, StopsInTime};
 ghost use Rattle.smap_io.specs.Device.{device_failures, has_ended, is_over};
 ghost use Rattle.smap_io.specs.Limits.{most_calls};
@@ -7,15 +7,47 @@ ghost use Rattle.smap_io.specs.Streams.{ReaderFailsOrTires, WriterFails, streams
 ghost use Rattle.smap_tool.specs.Run.{is_read, is_write};
 ghost use Rattle.smap_tool.specs.Translate.{RunsTranslate, TranslatesTrace, WritesRefusal, fates_asked};
 ghost use Rattle.smap_tool.specs.BundleLine.{bundle_line};
+ghost use Rattle.clap.specs.Words.{app_of};
+ghost use Rattle.clap.specs.declared.builder.command.Command.TheViews.{out-Command as fields_of};
+ghost use Rattle.smap_tool.specs.Commands as arguments;
 
 use crate::bundle_line::bundle_refusal;
 use crate::outcome::{Outcome, RunFault};
 use crate::output::write_answer;
+use crate::words::with_flag;
+use clap::Command;
 use smap_bundle::{Bundle, BundleFault, Refusal, read_bundle};
 use smap_io::Device;
 use smap_trace::{Finding, TraceError, translate_by};
-use std::alloc::Global;
+use std::alloc::{AllocError, Global};
 use std::io::{Read, Write};
+
+/// The arguments of the command.
+pub(crate) fn translate_command<'a>(alloc: Global) -> Result<Command<'a>, AllocError>
+    ensures shape { IfOk result (λ c. app_of c ≡ arguments.translate) }
+    ensures local { IfOk result (λ c. (fields_of c).has_globals ≡ false) }
+{
+    let about = "Translate a stack trace to source positions";
+    let command = Command::new(alloc, "translate").about(about);
+    let command = with_flag(
+        alloc,
+        command,
+        "anywhere",
+        "Translate positions anywhere in a line, not only in frames",
+    )?;
+    let command = with_flag(
+        alloc,
+        command,
+        "ignore-query",
+        "Ignore a query or a fragment behind a script's URL",
+    )?;
+    with_flag(
+        alloc,
+        command,
+        "hide-ignored",
+        "Leave out frames in ignored sources",
+    )
+}
 
 /// Writes the line of a bundle's first fault.
 fn refuse<W: Write>(

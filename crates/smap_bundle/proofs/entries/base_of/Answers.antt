@@ -1,10 +1,11 @@
-use Rattle.std.proofs.Common.{◌≡◌, ◌∙◌, ◌≤◌, length, sym, arith}
+use Rattle.std.proofs.Common.{◌≡◌, ◌∙◌, ◌≤◌, Err, ap, length, sym, arith}
 use Rattle.std.proofs.lemmas.List.{length-map}
 use Rattle.smap_io.specs.Limits.{longest_input}
 use Rattle.smap_bundle.specs.declared.fault.EntryFault.TheVariants as wrong
-use Rattle.smap_bundle.specs.Bundle.{FaultOfEntry, refusal}
+use Rattle.smap_bundle.specs.Bundle.{entry_with}
+use Rattle.smap_bundle.specs.Entries.{refusal}
 use Rattle.smap_bundle.specs.Scripts.{script_of, scripts_of}
-use Rattle.smap_bundle.proofs.EntryLemmas.{no_base, repeated}
+use Rattle.smap_bundle.proofs.EntryLemmas.{no_base, refused_at, repeated}
 use Rattle.smap_bundle.proofs.ScriptLemmas.{is_known, is_unknown}
 use Rattle.smap_bundle.proofs.StopLemmas.{says_as}
 use Rattle.smap_bundle.proofs.entries.base_of.Goals as goal
@@ -19,9 +20,10 @@ returns-then-contains_key-clause-stops c = λ n more e.
     ∙ sym (length-map c.args.scripts.now.entries script_of) in
     let known = is_known script c.args.scripts.now.entries (sym c.contains_key.ensures
     ∙ c.if-contains_key.true) in
-    says_as (λ answer. answer ≡ refusal c.len.result wrong.Repeated) (FaultOfEntry seen script base n more)
-    (λ answer is. repeated seen script base n c.len.result more answer at fits known is) c.refused.result
-    c.refused.ensures
+    says_as (λ found. found ≡ refusal c.len.result wrong.Repeated)
+    (λ found. entry_with seen (record { script = script; base = base; bytes = n }) more ≡ Err found)
+    (λ found is. refused_at seen c.len.result wrong.Repeated found at is
+    (repeated seen script base n more fits known)) c.refused.result c.refused.ensures
 
 pub returns-in-Ok-clause-new : goal.returns-in-Ok-clause-new
 returns-in-Ok-clause-new c = is_unknown c.args.header.now.script.now c.args.scripts.now.entries
@@ -38,7 +40,8 @@ returns-in-Err-NotUrl-clause-stops c = λ n more e.
     let new = is_unknown script c.args.scripts.now.entries (sym c.contains_key.ensures
     ∙ c.if-contains_key.false) in
     let bad = rw c.in-Err-NotUrl.field-0-is at c.in-Err-NotUrl.ensures in
-    says_as (λ answer. answer ≡ refusal c.len-in-Err-NotUrl.result wrong.Base)
-    (FaultOfEntry seen script base n more)
-    (λ answer is. no_base seen script base n c.len-in-Err-NotUrl.result more answer at fits new bad is)
+    says_as (λ found. found ≡ refusal c.len-in-Err-NotUrl.result wrong.Base)
+    (λ found. entry_with seen (record { script = script; base = base; bytes = n }) more ≡ Err found)
+    (λ found is. refused_at seen c.len-in-Err-NotUrl.result wrong.Base found at is
+    (no_base seen script base n fits new more bad))
     c.refused-in-Err-NotUrl.result c.refused-in-Err-NotUrl.ensures

@@ -7,7 +7,7 @@ use Rattle.smap_bundle.specs.declared.fault.EntryFault.TheVariants as wrong
 use Rattle.smap_bundle.specs.Entries.{cut_off}
 use Rattle.smap_bundle.specs.Reading.{MayFollow}
 use Rattle.smap_bundle.specs.Reach.{IsWithinMap}
-use Rattle.smap_bundle.proofs.EntryLemmas.{no_feed_there, past_the_end, within_part}
+use Rattle.smap_bundle.proofs.EntryLemmas.{no_feed_there, no_map, past_the_end, within_part}
 use Rattle.smap_bundle.proofs.StopLemmas.{gave_up_stops, refusal_stops}
 use Rattle.smap_bundle.proofs.entries.bytes_of.Goals as goal
 
@@ -35,5 +35,6 @@ returns-then-len-clause-stops g c =
     refusal_stops g.R.Read.remaining c.args.reader.now c.read_up_to.new.reader bytes
     c.in-Ok.ensures.reads.gave c.in-Ok.ensures.reads.failures c.args.calls.now
     (record { entry = c.args.entry; fault = wrong.CutOff }) (cut_off c.args.entry c.args.len)
-    (IsWithinMap c.args.len) c.refused.result c.refused.ensures (λ more may. (settled more may, refl))
+    (IsWithinMap c.args.len) c.refused.result c.refused.ensures
+    (λ more may. (no_map c.args.len (bytes ++ more) (settled more may), refl))
     (inr (tt, omega (arith, c.in-Ok.ensures.reads.within)))

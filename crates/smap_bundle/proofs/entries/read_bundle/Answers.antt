@@ -1,4 +1,4 @@
-use Rattle.std.proofs.Common.{◌≡◌, ◌∙◌, ◌++◌, length-append, sym, subst, arith, rules}
+use Rattle.std.proofs.Common.{◌≡◌, ◌∙◌, ◌++◌, Err, ap, append_assoc, length-append, sym, subst, arith, rules}
 use Rattle.std.proofs.lemmas.Result.{err_from_is_err_and}
 use Rattle.smap_io.specs.Device.{has_ended}
 use Rattle.smap_io.specs.Reading.{Gave, IsWithinLine}
@@ -7,11 +7,12 @@ use Rattle.smap_io.proofs.CallLemmas.{in_time_or_ended, in_time_then}
 use Rattle.smap_io.proofs.ReadingLemmas.{Gave-then}
 use Rattle.smap_trace.specs.Translation.{AreDistinct}
 use Rattle.smap_bundle.specs.Header.{longest_header, trace_line}
-use Rattle.smap_bundle.specs.Bundle.{IsAnswer, AreEntries, FaultAt}
+use Rattle.smap_bundle.specs.Bundle.{HasFault, entry_in}
+use Rattle.smap_bundle.specs.Entries.{IsFaultAt}
 use Rattle.smap_bundle.specs.Reach.{IsWithinEntry, ReadsNoMore}
 use Rattle.smap_bundle.specs.Scripts.{scripts_of}
-use Rattle.smap_bundle.proofs.EntryLemmas.{answered, distinct_more, ends_within, entries_more, line_read}
-use Rattle.smap_bundle.proofs.EntryLemmas.{no_more}
+use Rattle.smap_bundle.proofs.BundleLemmas.{entries_more, faulty_bundle, whole_bundle}
+use Rattle.smap_bundle.proofs.EntryLemmas.{AreEntries, distinct_more, ends_within, line_read, no_more}
 use Rattle.smap_bundle.proofs.StopLemmas.{gave_up_stops, stops_after}
 use Rattle.smap_bundle.proofs.entries.read_bundle.Goals as goal
 
@@ -21,13 +22,13 @@ take_entry-requires-clause-line g c = rw c.as_slice-in-entries-2.ensures.value
     c.entries.invariant.not_ended c.in-Ok.ensures.reads).0
 
 pub returns-in-Err-clause-stops : goal.returns-in-Err-clause-stops
-returns-in-Err-clause-stops g c = λ fates.
+returns-in-Err-clause-stops g c =
     let reads = c.entries.invariant.reads in
     gave_up_stops g.R.Read.remaining c.args.reader.now c.entries.reader c.read_line.new.reader reads.0
     (IsWithinLine longest_header) most_calls c.entries.calls c.in-Err.fault c.unread.result
-    (IsAnswer fates) ReadsNoMore reads.1 c.entries.invariant.failures reads.3
+    HasFault ReadsNoMore reads.1 c.entries.invariant.failures reads.3
     (λ line within. ends_within (scripts_of c.entries.scripts.entries) reads.0 line reads.2
-    c.entries.invariant.distinct within) c.in-Err.ensures.reads c.unread.ensures
+    within) c.in-Err.ensures.reads c.unread.ensures
 
 pub returns-then-eq-clause-takes : goal.returns-then-eq-clause-takes
 returns-then-eq-clause-takes g c =
@@ -36,16 +37,17 @@ returns-then-eq-clause-takes g c =
     let line = line_read g.R.Read.remaining c.entries.reader c.read_line.new.reader c.in-Ok.line.items
     c.entries.invariant.not_ended c.in-Ok.ensures.reads in
     record {
-      entries = reads.0;
+      bytes = reads.0 ++ trace_line;
       gave = Gave-then g.R.Read.remaining c.args.reader.now c.entries.reader c.read_line.new.reader reads.0
           trace_line reads.1 (subst (Gave g.R.Read.remaining c.entries.reader c.read_line.new.reader)
           is line.1);
-      are = subst (AreEntries reads.0) (sym c.new.ensures) reads.2;
+      are = λ trace. whole_bundle c.new.result reads.0 trace
+          (subst (AreEntries reads.0) (sym c.new.ensures) reads.2);
       distinct = subst AreDistinct (sym c.new.ensures) c.entries.invariant.distinct;
     }
 
 pub returns-in_err-take_entry-clause-stops : goal.returns-in_err-take_entry-clause-stops
-returns-in_err-take_entry-clause-stops g c = λ fates.
+returns-in_err-take_entry-clause-stops g c =
     let p = err_from_is_err_and c.from_residual.result c.from_residual.ensures.1 in
     let reads = c.entries.invariant.reads in
     let line = c.in-Ok.line.items in
@@ -56,15 +58,14 @@ returns-in_err-take_entry-clause-stops g c = λ fates.
     rw (p.1, p.2) (stops_after g.R.Read.remaining c.args.reader.now c.read_line.new.reader (reads.0 ++ line)
     (Gave-then g.R.Read.remaining c.args.reader.now c.entries.reader c.read_line.new.reader reads.0 line
     reads.1 was.1) (was.2 ∙ c.entries.invariant.failures)
-    c.take_entry.new.reader most_calls c.read_line.new.calls (λ more. FaultAt seen (line ++ more))
-    (IsAnswer fates)
+    c.take_entry.new.reader most_calls c.read_line.new.calls (λ more. IsFaultAt seen (line ++ more))
+    HasFault
     (IsWithinEntry line) ReadsNoMore c.in_err-take_entry.field-0.0
     (λ is. let paid = c.in-Ok.ensures.calls.paid (c.in_err-take_entry.ensures.open is) in
     omega (arith, length-append reads.0 line, reads.3, paid))
-    (λ text answer fault. answered fates seen reads.0 line text answer reads.2 c.entries.invariant.distinct
-    fault)
-    (λ text answer within. no_more (has_ended c.read_line.new.reader) seen reads.0 line text answer reads.2
-    c.entries.invariant.distinct was.0 within) stops)
+    (λ text found fault. faulty_bundle seen reads.0 line text found reads.2 fault)
+    (λ text found within. no_more (has_ended c.read_line.new.reader) seen reads.0 line text found reads.2
+    was.0 within) stops)
 
 pub entries-preserved : goal.entries-preserved
 entries-preserved g c =
@@ -84,7 +85,8 @@ entries-preserved g c =
             (Gave-then g.R.Read.remaining c.entries.reader c.read_line.new.reader c.take_entry.new.reader line
             t.bytes was.1 t.gave),
         subst (AreEntries (reads.0 ++ entry)) (sym t.added)
-            (entries_more seen reads.0 entry t.script reads.2 t.entry),
+            (entries_more seen reads.0 entry t.script reads.2 (λ more.
+            ap (entry_in seen) (append_assoc line t.bytes more) ∙ t.entry more)),
         omega (arith, length-append reads.0 entry, length-append line t.bytes, reads.3, paid, t.calls.paid),
       );
       distinct = subst AreDistinct (sym t.added)

@@ -1,15 +1,16 @@
-use Rattle.std.proofs.Common.{false, arith, ◌≡◌, ◌∙◌, ◌++◌, [], inl, inr, length, sym, refl}
+use Rattle.std.proofs.Common.{false, arith, ◌≡◌, ◌∙◌, ◌++◌, [], Err, inl, inr, length, sym, refl}
 use Rattle.std.proofs.lemmas.List.{length-map}
 use Rattle.std.proofs.lemmas.Result.{on_ok_weaker}
 use Rattle.smap_io.specs.Device.{has_ended}
 use Rattle.smap_io.proofs.ReadingLemmas.{Gave-none}
-use Rattle.smap_bundle.specs.Bundle.{FaultAt, FaultOfEntry, refusal}
+use Rattle.smap_bundle.specs.Bundle.{entry_with}
+use Rattle.smap_bundle.specs.Entries.{IsFaultAt, refusal}
 use Rattle.smap_bundle.specs.declared.fault.BundleFault.TheVariants as stop
 use Rattle.smap_bundle.specs.declared.fault.EntryFault.TheVariants as wrong
 use Rattle.smap_bundle.specs.Reach.{IsWithinEntry, IsWithinMap}
 use Rattle.smap_bundle.specs.Scripts.{script_of, scripts_of}
 use Rattle.smap_bundle.specs.Stopping.{Stops}
-use Rattle.smap_bundle.proofs.EntryLemmas.{entry_taken, fault_after, has_none, open_still}
+use Rattle.smap_bundle.proofs.EntryLemmas.{entry_taken, fault_of_entry, no_entry, open_still}
 use Rattle.smap_bundle.proofs.StopLemmas.{if_stops, match_any, refusal_isnt_read, refusal_stops, stops_after}
 use Rattle.smap_bundle.proofs.entries.take_entry.Goals as goal
 
@@ -26,14 +27,10 @@ returns-in_default-clause-stops g c =
     refusal_stops g.R.Read.remaining c.args.reader.now c.args.reader.now []
     (Gave-none g.R.Read.remaining c.args.reader.now) refl
     c.args.calls.now (record { entry = c.len.result; fault = wrong.Header })
-    (λ more. FaultAt seen (c.args.line.now ++ more))
+    (λ more. IsFaultAt seen (c.args.line.now ++ more))
     (IsWithinEntry c.args.line.now) c.refused.result c.refused.ensures
-    (λ more may.
-    rw at (inl (
-      has_none (has_ended c.args.reader.now) c.args.line.now more c.requires.line may
-          c.requires.no_trace c.in_default.ensures,
-      refl,
-    ))) (inl refl)
+    (λ more may. rw at (no_entry seen (has_ended c.args.reader.now) c.args.line.now more c.requires.line may
+    c.requires.no_trace c.in_default.ensures)) (inl refl)
 
 pub returns-clause-takes : goal.returns-clause-takes
 returns-clause-takes g c = on_ok_weaker c.take_map.result
@@ -51,22 +48,24 @@ returns-clause-stops g c =
     let n = c.in-Some.ensures.0 in
     if_stops c.take_map.result (Stops g.R.Read.remaining c.args.reader.now c.take_map.new.reader
     c.args.calls.now
-    (FaultOfEntry seen script base n) (IsWithinMap n))
+    (λ more found. entry_with seen (record { script = script; base = base; bytes = n }) more ≡ Err found)
+    (IsWithinMap n))
     (Stops g.R.Read.remaining c.args.reader.now c.take_map.new.reader c.args.calls.now
-    (λ more. FaultAt seen (c.args.line.now ++ more)) (IsWithinEntry c.args.line.now))
+    (λ more. IsFaultAt seen (c.args.line.now ++ more)) (IsWithinEntry c.args.line.now))
     (λ s stops. stops_after g.R.Read.remaining c.args.reader.now c.args.reader.now []
     (Gave-none g.R.Read.remaining c.args.reader.now) refl c.take_map.new.reader
-    c.args.calls.now c.args.calls.now (FaultOfEntry seen script base n)
-    (λ more. FaultAt seen (c.args.line.now ++ more)) (IsWithinMap n) (IsWithinEntry c.args.line.now) s
+    c.args.calls.now c.args.calls.now
+    (λ more found. entry_with seen (record { script = script; base = base; bytes = n }) more ≡ Err found)
+    (λ more. IsFaultAt seen (c.args.line.now ++ more)) (IsWithinMap n) (IsWithinEntry c.args.line.now) s
     (λ is. omega arith)
-    (λ text answer fault. fault_after seen c.args.line.now script base n text answer c.in-Some.ensures.1
+    (λ text found fault. fault_of_entry seen c.args.line.now script base n text found c.in-Some.ensures.1
     fault)
-    (λ text answer within. inr (script, base, n, c.in-Some.ensures.1, within)) stops)
+    (λ text found within. inr (script, base, n, c.in-Some.ensures.1, within)) stops)
     (c.take_map.ensures.stops n c.in-Some.ensures.2)
 
 pub returns-in_default-clause-open : goal.returns-in_default-clause-open
 returns-in_default-clause-open g c = λ is.
-    absurd (refusal_isnt_read (λ answer. answer ≡ refusal c.len.result wrong.Header) c.refused.result
+    absurd (refusal_isnt_read (λ found. found ≡ refusal c.len.result wrong.Header) c.refused.result
     c.refused.ensures is)
 
 pub returns-clause-open : goal.returns-clause-open

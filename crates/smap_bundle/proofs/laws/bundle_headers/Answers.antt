@@ -1,6 +1,9 @@
-use Rattle.smap_bundle.proofs.HeaderLemmas.{one_beginning, one_header}
+use Rattle.smap_bundle.proofs.ComputedLemmas.{is_computed, one_beginning, one_header}
 use Rattle.smap_bundle.proofs.LawLemmas.{first_rows}
 use Rattle.smap_bundle.proofs.laws.bundle_headers.Goals as goal
+
+pub returns-clause-computed : goal.returns-clause-computed
+returns-clause-computed c = is_computed
 
 pub returns-clause-one : goal.returns-clause-one
 returns-clause-one c = one_header

@@ -10,7 +10,9 @@ use Rattle.smap_canon.proofs.writing.written.Goals as goal
 pub returns-in-Ok-clause-text : goal.returns-in-Ok-clause-text
 returns-in-Ok-clause-text c =
     ap (λ v. v.items) c.into_bytes.ensures.value ∙ sent_text (spelling_of c.args.spelling)
-    (map_of c.args.listed) c.in-Ok.ensures.events.0 _ c.in-Ok.ensures.events.1 c.in-Ok.ensures.events.2
+    (map_of c.args.listed) c.in-Ok.ensures.events.0 _
+    (few_listed c.args.listed c.token_count.ensures.listing) c.in-Ok.ensures.events.1
+    c.in-Ok.ensures.events.2
 
 pub returns-in-Ok-clause-back : goal.returns-in-Ok-clause-back
 returns-in-Ok-clause-back c =

@@ -16,12 +16,6 @@ returns-in_err-n-clause-reads g c =
     (omega (arith, len, c.reads.invariant.counted))
     c.reads.invariant.failures c.reads.invariant.ended c.in_err-n.ensures.reads)
 
-pub returns-then-over-clause-calls : goal.returns-then-over-clause-calls
-returns-then-over-clause-calls g c = record {
-  some = λ wanted. omega (arith, c.in_ok-n.ensures.reads.calls, c.reads.invariant.left);
-  paid = search rules;
-}
-
 pub reads-preserved : goal.reads-preserved
 reads-preserved g c = record {
   gave = Gave-after g.R.Read.remaining c.args.reader.now c.reads.reader c.read_after.new.reader

@@ -2,7 +2,7 @@ use Rattle.std.proofs.Common.{◌≡◌, arith, get_or, inl, inr, rules, ◌++�
 use Rattle.std.specs.Prelude.{vec_capacity}
 use Rattle.std.specs.Prelude.{slice_range}
 use Rattle.std.proofs.lemmas.Result.{err_from_is_err_and}
-use Rattle.smap_mappings.proofs.WholeLemmas.{whole_fields}
+use Rattle.smap_mappings.proofs.WholeSegmentLemmas.{whole_fields}
 use Rattle.smap_mappings.proofs.PiecesLemmas.{whole_comma, whole_semicolon, whole_fails, fails_less}
 use Rattle.smap_mappings.proofs.ReaderLemmas.{empty_line}
 use Rattle.smap_mappings.proofs.reader.read_whole.Goals as goal

@@ -5,8 +5,6 @@ use Rattle.std.proofs.lemmas.Bool.{eqb-true}
 use Rattle.smap_trace.proofs.CuttingLemmas.{behind_colon, no_colon}
 use Rattle.smap_trace.proofs.LineLemmas.{left_is}
 use Rattle.smap_trace.proofs.anywhere.holds_place.Goals as goal
-use Rattle.smap_trace.proofs.anywhere.holds_place.Goals.{else-at-text-via-else-at-text}
-use Rattle.smap_trace.proofs.anywhere.holds_place.Goals.{else-at-text-via-then-at-text+else-is_ascii_digit}
 
 pub returns-then-is_ascii_digit : goal.returns-then-is_ascii_digit
 returns-then-is_ascii_digit c =
@@ -30,9 +28,9 @@ colons-preserved c =
     record {
       within = omega (arith, lt, length-drop at text);
       rest = c.colons.invariant.rest ∙ elim c.else-at-text.branch [
-        | else-at-text-via-then-at-text+else-is_ascii_digit w ↦
+        | goal.else-at-text-via-then-at-text+else-is_ascii_digit w ↦
             behind.with_other w.if-at-text.true (search rules)
-        | else-at-text-via-else-at-text w ↦ behind.at_end w.if-at-text.false
+        | goal.else-at-text-via-else-at-text w ↦ behind.at_end w.if-at-text.false
       ];
     }
 

@@ -3,8 +3,6 @@ use Rattle.smap_trace.specs.Anywhere.{pieces_of}
 use Rattle.smap_trace.specs.Translation.{anywhere_fate, frame_fate, is_dropped, without_line_feed, written}
 use Rattle.smap_trace.specs.Translation.{written_for}
 use Rattle.smap_trace.proofs.PieceLemmas.{anywhere_written, shown_all, shown_one, written_as}
-use Rattle.smap_trace.proofs.lines.translate_anywhere.Goals.{else-hide-via-else-hide}
-use Rattle.smap_trace.proofs.lines.translate_anywhere.Goals.{else-hide-via-then-hide+else-is_hidden}
 use Rattle.smap_trace.proofs.lines.translate_anywhere.Goals as goal
 
 pub returns-clause-ok : goal.returns-clause-ok
@@ -14,10 +12,10 @@ returns-clause-ok g c =
     let line = c.args.line.now in
     let shown : is_dropped (frame_fate ignore scripts c.args.hide (without_line_feed line)) ≡ false =
     elim c.else-hide.branch [
-      | else-hide-via-then-hide+else-is_hidden w ↦ shown_one ignore scripts c.args.hide
+      | goal.else-hide-via-then-hide+else-is_hidden w ↦ shown_one ignore scripts c.args.hide
           (without_line_feed line)
           w.if-hide.true (search rules)
-      | else-hide-via-else-hide w ↦ shown_all ignore scripts c.args.hide (without_line_feed line)
+      | goal.else-hide-via-else-hide w ↦ shown_all ignore scripts c.args.hide (without_line_feed line)
           w.if-hide.false
     ] in
     let out = c.args.out.now.items in

@@ -4,13 +4,6 @@ use Rattle.smap_trace.specs.Views.{script_in, scripts_in}
 use Rattle.smap_trace.proofs.ByLengthLemmas.{is_empty_first, is_first, is_last, one_first_more}
 use Rattle.smap_trace.proofs.ByLengthLemmas.{one_script_more}
 use Rattle.smap_trace.proofs.scripts.first_bytes.Goals as goal
-use Rattle.smap_trace.proofs.scripts.first_bytes.Goals.{then-not-is_empty+then-not-contains+in_ok-push}
-use Rattle.smap_trace.proofs.scripts.first_bytes.Goals.{else-not-is_empty}
-use Rattle.smap_trace.proofs.scripts.first_bytes.Goals.{}
-use Rattle.smap_trace.proofs.scripts.first_bytes.Goals.{}
-use Rattle.smap_trace.proofs.scripts.first_bytes.Goals.{}
-use Rattle.smap_trace.proofs.scripts.first_bytes.Goals.{else-not-is_empty-via-then-not-is_empty+else-not-contains}
-use Rattle.smap_trace.proofs.scripts.first_bytes.Goals.{else-not-is_empty-via-else-not-is_empty}
 
 pub loop-script-preserved : goal.loop-script-preserved
 loop-script-preserved c =
@@ -24,20 +17,20 @@ loop-script-preserved c =
     let after = c.if-not-is_empty.firsts.items in
     let url_is : url ≡ here.0.now = search rules in
     elim c.if-not-is_empty.branch [
-      | then-not-is_empty+then-not-contains+in_ok-push w ↦
+      | goal.then-not-is_empty+then-not-contains+in_ok-push w ↦
           let is : after ≡ before ++ b ∷ [] = search rules in
           let among : is_among (before ++ b ∷ []) b ≡ true = is_last b before in
           one_script_more (begins_among after) scripts i given (omega arith)
           (rw is (one_first_more b before (scripts_in (take i scripts)) c.loop-script.invariant))
           (is_first after (script_in here) (rw (is, ← url_is) among))
-      | else-not-is_empty w ↦
+      | goal.else-not-is_empty w ↦
           let is : after ≡ before = search rules in
           one_script_more (begins_among after) scripts i given (omega arith) (rw is c.loop-script.invariant)
           (rw is (elim w.else-not-is_empty.branch [
-            | else-not-is_empty-via-then-not-is_empty+else-not-contains w' ↦
+            | goal.else-not-is_empty-via-then-not-is_empty+else-not-contains w' ↦
                 let among : is_among before b ≡ true = search rules in
                 is_first before (script_in here) (rw (← url_is) among)
-            | else-not-is_empty-via-else-not-is_empty w' ↦
+            | goal.else-not-is_empty-via-else-not-is_empty w' ↦
                 let empty : length url ≡ 0 = search rules in
                 is_empty_first before (script_in here) (rw (← url_is) empty)
           ]))

@@ -4,7 +4,6 @@ use Rattle.smap_trace.specs.Scripts.{Script}
 use Rattle.smap_trace.specs.Views.{scripts_in}
 use Rattle.smap_trace.proofs.ByLengthLemmas.{one_length_is, one_length_more, is_last, one_script_more}
 use Rattle.smap_trace.proofs.scripts.url_lengths.Goals as goal
-use Rattle.smap_trace.proofs.scripts.url_lengths.Goals.{then-not-contains+in_ok-push, else-not-contains}
 
 pub loop-script-preserved : goal.loop-script-preserved
 loop-script-preserved c =
@@ -15,12 +14,12 @@ loop-script-preserved c =
     let before = c.loop-script.lengths.items in
     let after = c.if-not-contains.lengths.items in
     elim c.if-not-contains.branch [
-      | then-not-contains+in_ok-push w ↦
+      | goal.then-not-contains+in_ok-push w ↦
           let is : after ≡ before ++ n ∷ [] = search rules in
           one_script_more (λ (s : Script). is_among after (length s.0)) scripts i given (omega arith)
           (rw is (one_length_more n before (scripts_in (take i scripts)) c.loop-script.invariant))
           (one_length_is after n (get_or scripts i given) (search rules) (rw is (is_last n before)))
-      | else-not-contains w ↦
+      | goal.else-not-contains w ↦
           let is : after ≡ before = search rules in
           let among : is_among before n ≡ true = search rules in
           one_script_more (λ (s : Script). is_among after (length s.0)) scripts i given (omega arith)

@@ -13,11 +13,6 @@ returns-then-unsigned-lt32-clause-text c =
     c.requires.room c.if-unsigned-lt32.true).text_is
     ∙ ap (λ (u : ℕ). take c.args.at c.args.out.now ++ unsigned_spelling u) e
 
-pub returns-then-unsigned-lt32-clause-rest : goal.returns-then-unsigned-lt32-clause-rest
-returns-then-unsigned-lt32-clause-rest c =
-    rw c.byte_of.ensures (one_digit c.args.out.now c.args.at c.unsigned_value-unsigned.result
-    c.requires.room c.if-unsigned-lt32.true).kept
-
 pub returns-then-unsigned-lt1024-clause-text : goal.returns-then-unsigned-lt1024-clause-text
 unfolding spelling
 returns-then-unsigned-lt1024-clause-text c =
@@ -26,12 +21,6 @@ returns-then-unsigned-lt1024-clause-text c =
     (two_digits c.args.out.now c.args.at c.unsigned_value-unsigned.result c.requires.room
     (omega (arith, c.if-unsigned-lt32.false)) c.if-unsigned-lt1024.true).text_is
     ∙ ap (λ (u : ℕ). take c.args.at c.args.out.now ++ unsigned_spelling u) e
-
-pub returns-then-unsigned-lt1024-clause-rest : goal.returns-then-unsigned-lt1024-clause-rest
-returns-then-unsigned-lt1024-clause-rest c =
-    rw (c.byte_of-then-unsigned-lt1024.ensures, c.byte_of-then-unsigned-lt1024-2.ensures)
-    (two_digits c.args.out.now c.args.at c.unsigned_value-unsigned.result c.requires.room
-    (omega (arith, c.if-unsigned-lt32.false)) c.if-unsigned-lt1024.true).kept
 
 pub returns-clause-text : goal.returns-clause-text
 unfolding spelling

@@ -1,7 +1,7 @@
 use Rattle.std.proofs.Common.{◌∙◌, List, ap, string_bytes}
 use Rattle.smap_record.specs.Record.{record_of}
 use Rattle.smap_trace.specs.Translation.{Script}
-use Rattle.smap_c.specs.Scripting.{with_script}
+use Rattle.smap_c.specs.Scripts.{with_script}
 use Rattle.smap_c.specs.ScriptsView.{scripts_of}
 use Rattle.smap_c.proofs.ScriptLemmas.{put}
 use Rattle.smap_c.proofs.scripts.Scripts.put.Goals as goal

@@ -49,9 +49,7 @@ returns g c =
     on_ok_weaker c.end_map.result (λ e. (
       l0,
       subst (λ n. Logs old l0 (map_begins (Some n)))
-          (members_count c.is_some.result c.is_some-2.result c.is_some-3.result (option_map string m.file)
-          (unless_empty (map whole_number (ignored_from 0 sources))) (written_contents sources)
-          mappings names urls (whole_number 3)
+          (members_count (spelling_of self.spelling) m c.is_some.result c.is_some-2.result c.is_some-3.result
           (c.is_some.ensures
           ∙ is_some-map (λ s. string s.now) c.file-file.result (option_map string m.file) file)
           (c.is_some-2.ensures ∙ is_some-map ignored_tree c.ignored_of-ignored.result

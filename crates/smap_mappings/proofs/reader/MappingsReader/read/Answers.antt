@@ -5,7 +5,7 @@ use Rattle.smap_mappings.specs.declared.token.Bounds.{Bounds}
 use Rattle.smap_mappings.specs.Pieces.{IsRead, Fails}
 use Rattle.std.specs.Prelude.{vec_capacity}
 use Rattle.smap_mappings.proofs.PiecesLemmas.{fails_less}
-use Rattle.smap_mappings.proofs.ReaderLemmas.{not_true, between, whole_read, one_byte, byte_fails}
+use Rattle.smap_mappings.proofs.ReaderLemmas.{between, whole_read, one_byte, byte_fails}
 use Rattle.smap_mappings.proofs.reader.MappingsReader.read.Goals as goal
 use Rattle.smap_mappings.proofs.reader.MappingsReader.read.Goals.{then-not-self+in_ok-cursor, else-not-self}
 
@@ -18,7 +18,7 @@ returns-in_err-cursor-clause-reads c = λ bounds text k.
     (fails_less c.loop-place.self.bounds (text ++ c.args.piece.now) (vec_capacity c.args.self.now.tokens.list)
     (vec_capacity c.loop-place.self.tokens.list) c.in_err-cursor.field-0.0 c.loop-place.invariant.1
     (c.in_err-cursor.ensures.reads text (between c.loop-place.self bounds (text ++
-    take c.loop-place.place c.args.piece.now) h (not_true c.loop-place.self.begun c.if-not-self.true)))))
+    take c.loop-place.place c.args.piece.now) h c.if-not-self.true))))
 
 pub returns-in_err-read_byte-clause-reads : goal.returns-in_err-read_byte-clause-reads
 returns-in_err-read_byte-clause-reads c = λ bounds text k.
@@ -28,7 +28,7 @@ returns-in_err-read_byte-clause-reads c = λ bounds text k.
     elim c.if-not-self.branch [
       | then-not-self+in_ok-cursor w ↦
           let h = c.loop-place.invariant.2 bounds text k in
-          let e = not_true c.loop-place.self.begun w.if-not-self.true in
+          let e = w.if-not-self.true in
           rw (w.self-is, w.place-is)
           (whole_read c.loop-place.self bounds (text ++ take c.loop-place.place c.args.piece.now)
           (text ++ take w.in_ok-cursor.after c.args.piece.now) w.read_whole.new.tokens.list.items
@@ -67,7 +67,7 @@ loop-place-preserved-then-place-piece c = (
       elim c.if-not-self.branch [
         | then-not-self+in_ok-cursor w ↦
             let h = c.loop-place.invariant.2 bounds text k in
-            let e = not_true c.loop-place.self.begun w.if-not-self.true in
+            let e = w.if-not-self.true in
             rw (w.self-is, w.place-is)
             (whole_read c.loop-place.self bounds (text ++ take c.loop-place.place c.args.piece.now)
             (text ++ take w.in_ok-cursor.after c.args.piece.now) w.read_whole.new.tokens.list.items
@@ -103,7 +103,7 @@ loop-place-preserved c = (
       elim c.if-not-self.branch [
         | then-not-self+in_ok-cursor w ↦
             let h = c.loop-place.invariant.2 bounds text k in
-            let e = not_true c.loop-place.self.begun w.if-not-self.true in
+            let e = w.if-not-self.true in
             rw (w.self-is, w.place-is)
             (whole_read c.loop-place.self bounds (text ++ take c.loop-place.place c.args.piece.now)
             (text ++ take w.in_ok-cursor.after c.args.piece.now) w.read_whole.new.tokens.list.items

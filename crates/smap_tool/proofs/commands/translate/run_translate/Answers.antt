@@ -14,8 +14,7 @@ returns-in-Ok-clause-answers g c =
 pub returns-in-Err-Refused-clause-answers : goal.returns-in-Err-Refused-clause-answers
 returns-in-Err-Refused-clause-answers g c =
     let stops =
-    rw c.in-Err-Refused.field-0-is at
-    (c.in-Err-Refused.ensures.stops (fates_asked c.args.finding c.args.hide)) in
+    rw c.in-Err-Refused.field-0-is at c.in-Err-Refused.ensures.stops in
     refused_run g.R.Read.remaining g.W.Write.contents
     (fates_asked c.args.finding c.args.hide) c.args.reader.now c.read_bundle.new.reader
     c.args.writer.now c.refuse.new.writer
@@ -27,21 +26,18 @@ returns-in-Err-TooLong-clause-answers g c =
     too_long_run g.R.Read.remaining g.W.Write.contents
     (fates_asked c.args.finding c.args.hide) c.args.reader.now c.read_bundle.new.reader
     c.args.writer.now
-    (rw c.in-Err-TooLong.field-0-is at
-    (c.in-Err-TooLong.ensures.stops (fates_asked c.args.finding c.args.hide)))
+    (rw c.in-Err-TooLong.field-0-is at c.in-Err-TooLong.ensures.stops)
 
 pub returns-in-Err-Read-clause-answers : goal.returns-in-Err-Read-clause-answers
 returns-in-Err-Read-clause-answers g c =
     unread_run g.R.Read.remaining g.W.Write.contents
     (fates_asked c.args.finding c.args.hide) c.args.reader.now c.read_bundle.new.reader
     c.args.writer.now
-    (rw c.in-Err-Read.field-0-is at
-    (c.in-Err-Read.ensures.stops (fates_asked c.args.finding c.args.hide)))
+    (rw c.in-Err-Read.field-0-is at c.in-Err-Read.ensures.stops)
 
 pub returns-in-Err-Memory-clause-answers : goal.returns-in-Err-Memory-clause-answers
 returns-in-Err-Memory-clause-answers g c =
     memory_run g.R.Read.remaining g.W.Write.contents
     (fates_asked c.args.finding c.args.hide) c.args.reader.now c.read_bundle.new.reader
     c.args.writer.now
-    (rw c.in-Err-Memory.field-0-is at
-    (c.in-Err-Memory.ensures.stops (fates_asked c.args.finding c.args.hide)))
+    (rw c.in-Err-Memory.field-0-is at c.in-Err-Memory.ensures.stops)

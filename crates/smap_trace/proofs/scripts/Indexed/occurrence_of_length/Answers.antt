@@ -7,23 +7,16 @@ use Rattle.smap_trace.proofs.ByLengthLemmas.{found_at, looked_up, looked_up_is, 
 use Rattle.smap_trace.proofs.IndexedLemmas.{entry_in, no_entry}
 use Rattle.smap_trace.proofs.LineLemmas.{left_is}
 use Rattle.smap_trace.proofs.scripts.Indexed.occurrence_of_length.Goals as goal
-use Rattle.smap_trace.proofs.scripts.Indexed.occurrence_of_length.Goals.{}
-use Rattle.smap_trace.proofs.scripts.Indexed.occurrence_of_length.Goals.{}
-use Rattle.smap_trace.proofs.scripts.Indexed.occurrence_of_length.Goals.{}
-use Rattle.smap_trace.proofs.scripts.Indexed.occurrence_of_length.Goals.{then-url_len-eq0-via-then-url_len-eq0}
-use Rattle.smap_trace.proofs.scripts.Indexed.occurrence_of_length.Goals.{}
-use Rattle.smap_trace.proofs.scripts.Indexed.occurrence_of_length.Goals.{}
-use Rattle.smap_trace.proofs.scripts.Indexed.occurrence_of_length.Goals.{then-url_len-eq0-via-else-url_len-eq0+then-url_len-text}
 
 pub returns-then-url_len-eq0-clause-value : goal.returns-then-url_len-eq0-clause-value
 returns-then-url_len-eq0-clause-value c =
     let text = c.args.text.now in
     let scripts = scripts_in c.args.self.now.maps.entries in
     elim c.then-url_len-eq0.branch [
-      | then-url_len-eq0-via-then-url_len-eq0 w ↦
+      | goal.then-url_len-eq0-via-then-url_len-eq0 w ↦
           sym (ap (of_length c.args.ignore_query scripts text) w.if-url_len-eq0.true
           ∙ no_empty c.args.ignore_query text scripts)
-      | then-url_len-eq0-via-else-url_len-eq0+then-url_len-text w ↦
+      | goal.then-url_len-eq0-via-else-url_len-eq0+then-url_len-text w ↦
           sym (no_longer c.args.ignore_query text c.args.url_len scripts (omega arith))
     ]
 

@@ -7,11 +7,6 @@ use Rattle.smap_trace.specs.Views.{scripts_in}
 use Rattle.smap_trace.proofs.ByLengthLemmas.{longest_of_all, none_begins}
 use Rattle.smap_trace.proofs.OccurrenceLemmas.{longer-none}
 use Rattle.smap_trace.proofs.scripts.IndexedMaps.occurrence_at.Goals as goal
-use Rattle.smap_trace.proofs.scripts.IndexedMaps.occurrence_at.Goals.{then-is_empty-via-then-is_empty}
-use Rattle.smap_trace.proofs.scripts.IndexedMaps.occurrence_at.Goals.{}
-use Rattle.smap_trace.proofs.scripts.IndexedMaps.occurrence_at.Goals.{}
-use Rattle.smap_trace.proofs.scripts.IndexedMaps.occurrence_at.Goals.{}
-use Rattle.smap_trace.proofs.scripts.IndexedMaps.occurrence_at.Goals.{then-is_empty-via-else-is_empty+then-not-contains}
 
 pub returns-then-is_empty-clause-value : goal.returns-then-is_empty-clause-value
 returns-then-is_empty-clause-value c =
@@ -19,10 +14,10 @@ returns-then-is_empty-clause-value c =
     let firsts = c.args.self.now.firsts.items in
     sym (none_begins c.args.ignore_query text firsts (scripts_in c.args.self.now.maps.entries)
     c.args.self.now.all_firsts (elim c.then-is_empty.branch [
-      | then-is_empty-via-then-is_empty w ↦
+      | goal.then-is_empty-via-then-is_empty w ↦
           let empty : length text ≡ 0 = search rules in
           inl empty
-      | then-is_empty-via-else-is_empty+then-not-contains w ↦
+      | goal.then-is_empty-via-else-is_empty+then-not-contains w ↦
           let none : is_among firsts (get_or text 0 0) ≡ false = search rules in
           inr none
     ]))

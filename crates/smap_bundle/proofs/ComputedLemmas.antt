@@ -1,0 +1,226 @@
+-- `header_in` computes the header with which a text begins.
+use Rattle.std.proofs.Common.{◌≡◌, ◌∙◌, ◌↔◌, ℕ, ◌<◌, ◌≤◌, ◌==◌, Bool, true, false, not, ◌&&◌, ◌||◌}
+use Rattle.std.proofs.Common.{if◌then◌else◌, List, [], ◌∷◌, ◌++◌, length, codes, Option, Some, None}
+use Rattle.std.proofs.Common.{refl, sym, ap, subst, arith, append_assoc, length-append, true≢false}
+use Rattle.std.specs.Prelude.{nat_lt, option_map, slice_index}
+use Rattle.std.specs.Char.{is_ascii_digit}
+use Rattle.std.specs.List.{list_all, list_any}
+use Rattle.std.specs.Str.{is_utf8}
+use Rattle.std.specs.Str.Parse.{digits_value}
+use Rattle.std.proofs.lemmas.Bool.{lt-ltb, ltb-true}
+use Rattle.std.proofs.lemmas.Bool.Decides.{Decides-eqb}
+use Rattle.std.proofs.lemmas.Option.{none-some, same_Some}
+use Rattle.std.proofs.lemmas.Str.{IsUtf8-from_is_utf8, is_utf8-from_IsUtf8}
+use Rattle.std.proofs.NetLemmas.Options.{cond_some, map_some, same_parts}
+use Rattle.smap_trace.specs.Frame.{lacks}
+use Rattle.smap_bundle.specs.Header.{BeginsWithHeader, HeaderParts, IsHeader, IsNumber, IsWord, ◌>>=◌, after}
+use Rattle.smap_bundle.specs.Header.{cut, header_in, header_of, longest_header, number_in, word_in}
+use Rattle.smap_bundle.specs.Laws.{HeaderIsComputed, OneBeginning, OneHeader}
+use Rattle.smap_bundle.proofs.TextLemmas.{both, lacks_front, lacks_rest}
+use Rattle.smap_bundle.proofs.HeaderLemmas.{begun, inside, inside_is, inside_lacks, words}
+
+then_some : {A B P : Type 0} (o : Option A) (f : A → Option B) (y : B) → (o >>= f) ≡ Some y
+    → ((x : A) → o ≡ Some x → f x ≡ Some y → P) → P
+then_some None f y e k = absurd (none-some y e)
+then_some (Some x) f y e k = k x refl e
+
+same : (x : ℕ) → (x == x) ≡ true
+same x = (Decides-eqb x x).1 refl
+
+-- ---- prefixes and cuts
+
+pub after_there : (p rest : List ℕ) → after p (p ++ rest) ≡ Some rest
+after_there [] rest = refl
+after_there (x ∷ p) rest = rw (same x) (after_there p rest)
+
+pub after_is : (p text rest : List ℕ) → after p text ≡ Some rest → text ≡ p ++ rest
+after_is [] text rest e = same_Some text rest e
+after_is (y ∷ p) [] rest e = absurd (none-some rest e)
+after_is (y ∷ p) (x ∷ xs) rest e = go (x == y) refl e (after_is p xs rest)
+  where
+    go : (t : Bool) → (x == y) ≡ t → (if t then after p xs else None) ≡ Some rest
+        → (after p xs ≡ Some rest → xs ≡ p ++ rest) → (x ∷ xs) ≡ (y ∷ p) ++ rest
+    go true is h more = let first = (Decides-eqb x y).0 is in let tail = more h in cc
+    go false is h more = absurd (none-some rest h)
+
+cut_there : (b : ℕ) (front rest : List ℕ) → lacks b front ≡ true
+    → cut b (front ++ b ∷ rest) ≡ Some (front, rest)
+cut_there b [] rest free = rw (same b) refl
+cut_there b (x ∷ xs) rest free = go (x == b) refl free (cut_there b xs rest)
+  where
+    go : (t : Bool) → (x == b) ≡ t → not (t || list_any (λ c. c == b) xs) ≡ true
+        → (lacks b xs ≡ true → cut b (xs ++ b ∷ rest) ≡ Some (xs, rest))
+        → cut b ((x ∷ xs) ++ b ∷ rest) ≡ Some (x ∷ xs, rest)
+    go true e h more = cc
+    go false e h more = rw (e, more h) refl
+
+abbrev CutAt : ℕ → List ℕ → List ℕ × List ℕ → Type 0
+CutAt b text c = (text ≡ c.0 ++ b ∷ c.1) × (lacks b c.0 ≡ true)
+
+cut_is : (b : ℕ) (text : List ℕ) (c : List ℕ × List ℕ) → cut b text ≡ Some c → CutAt b text c
+cut_is b [] c e = absurd (none-some c e)
+cut_is b (x ∷ xs) c e = go (x == b) refl e (cut_is b xs)
+  where
+    go : (t : Bool) → (x == b) ≡ t
+        → (if t then Some ([], xs) else option_map (λ d. (x ∷ d.0, d.1)) (cut b xs)) ≡ Some c
+        → ((d : List ℕ × List ℕ) → cut b xs ≡ Some d → CutAt b xs d) → CutAt b (x ∷ xs) c
+    go true is h more = subst (CutAt b (x ∷ xs)) (same_Some _ _ h) (
+      ap (λ (y : ℕ). y ∷ xs) ((Decides-eqb x b).0 is),
+      refl,
+    )
+    go false is h more = map_some _ (cut b xs) c h (λ d found told.
+        let tail = more d found in
+        subst (CutAt b (x ∷ xs)) told (ap (λ (ys : List ℕ). x ∷ ys) tail.0, rw is tail.1))
+
+-- ---- words and numbers
+
+word_there : (text : List ℕ) → IsWord text → word_in text ≡ Some text
+word_there text w = rw (lt-ltb 0 (length text) w.some, is_utf8-from_IsUtf8 text w.utf8) refl
+
+word_is : (text word : List ℕ) → word_in text ≡ Some word → lacks 32 text ≡ true → lacks 10 text ≡ true
+    → IsWord text × (text ≡ word)
+word_is text word e space feed =
+    let c = cond_some _ _ _ e in
+    let t = both _ _ c.0 in (
+      record {
+        some = ltb-true 0 (length text) t.0;
+        utf8 = IsUtf8-from_is_utf8 text t.1;
+        no_space = space;
+        no_feed = feed;
+      },
+      c.1,
+    )
+
+tested : (s t : Bool) (value n : ℕ) → s ≡ true → t ≡ true → value ≡ n
+    → (if s && t then Some value else None) ≡ Some n
+tested s t value n p q e = rw (p, q, e) refl
+
+number_there : (text : List ℕ) (n : ℕ) → IsNumber text n → number_in text ≡ Some n
+number_there [] n is = absurd (omega (arith, is.some))
+number_there (d ∷ ds) n is = tested _ _ _ n is.digits (go (d == 48) refl ds refl) is.value
+  where
+    go : (t : Bool) → (d == 48) ≡ t → (rest : List ℕ) → ds ≡ rest → (not (d == 48) || length ds == 0) ≡ true
+    go false z rest e = rw z refl
+    go true z [] e = rw (z, e) refl
+    go true z (y ∷ ys) e =
+        let len = ap length (is.no_zero ((Decides-eqb d 48).0 z)) in
+        let more = ap length e in
+        absurd (omega (arith, len, more))
+
+number_is : (text : List ℕ) (n : ℕ) → number_in text ≡ Some n → IsNumber text n
+number_is [] n e = absurd (none-some n e)
+number_is (d ∷ ds) n e =
+    let c = cond_some _ _ _ e in
+    let t = both _ _ c.0 in
+    record {
+      digits = t.0;
+      some = omega arith;
+      no_zero = λ zero. alone zero ds (rw ((Decides-eqb d 48).1 zero) at t.1);
+      value = c.1;
+    }
+  where
+    alone : d ≡ 48 → (rest : List ℕ) → (length rest == 0) ≡ true → (d ∷ rest) ≡ codes "0"
+    alone zero [] none = cc
+    alone zero (y ∷ ys) none =
+        let len : length (y ∷ ys) ≡ 0 = (Decides-eqb (length (y ∷ ys)) 0).0 none in
+        absurd (omega (arith, len))
+
+-- ---- a header
+
+parts_there : (line script base : List ℕ) (n : ℕ) (h : IsHeader line script base n)
+    → header_of (inside script base h.digits) ≡ Some (record { script = script; base = base; bytes = n })
+parts_there line script base n h =
+    let short : length (inside script base h.digits) < longest_header = omega (
+      arith,
+      h.short,
+      ap length (h.whole ∙ inside_is script base h.digits),
+      length-append (inside script base h.digits) (10 ∷ []),
+    ) in
+    rw (
+      cut_there 32 script (base ++ 32 ∷ h.digits) h.script_word.no_space,
+      cut_there 32 base h.digits h.base_word.no_space,
+      word_there script h.script_word,
+      word_there base h.base_word,
+      number_there h.digits n h.number,
+      lt-ltb (length (inside script base h.digits)) longest_header short,
+    ) refl
+
+pub header_there : (text script base : List ℕ) (n : ℕ) (more : List ℕ)
+    → BeginsWithHeader text script base n more
+    → header_in text ≡ Some (record { script = script; base = base; bytes = n }, more)
+unfolding header_in
+header_there text script base n more b = rw (
+  begun text script base more n b,
+  cut_there 10 (inside script base b.header.digits) more (inside_lacks b.line script base n b.header),
+  parts_there b.line script base n b.header,
+) refl
+
+parts_are : (line : List ℕ) (h : HeaderParts) → lacks 10 line ≡ true → header_of line ≡ Some h
+    → IsHeader (line ++ 10 ∷ []) h.script h.base h.bytes
+parts_are line h free e =
+    then_some (after (codes "map ") line) _ h e (λ text after_map e1.
+    then_some (cut 32 text) _ h e1 (λ first at_first e2.
+    then_some (cut 32 first.1) _ h e2 (λ second at_second e3.
+    then_some (word_in first.0) _ h e3 (λ script is_script e4.
+    then_some (word_in second.0) _ h e4 (λ base is_base e5.
+    then_some (number_in second.1) _ h e5 (λ bytes is_number e6.
+    let c = cut_is 32 text first at_first in
+    let d = cut_is 32 first.1 second at_second in
+    let all : line ≡ inside first.0 second.0 second.1 = after_is (codes "map ") line text after_map
+    ∙ ap (λ (xs : List ℕ). codes "map " ++ xs) (c.0 ∙ ap (λ (xs : List ℕ). first.0 ++ 32 ∷ xs) d.0) in
+    let rest = lacks_rest 10 (codes "map ") (words first.0 second.0 second.1) (ap (lacks 10) (sym all)
+    ∙ free) in
+    let after_script = lacks_rest 10 (codes " ") (second.0 ++ (codes " " ++ second.1))
+    (lacks_rest 10 first.0 (codes " " ++ (second.0 ++ (codes " " ++ second.1))) rest) in
+    let one = word_is first.0 script is_script c.1
+    (lacks_front 10 first.0 (codes " " ++ (second.0 ++ (codes " " ++ second.1))) rest) in
+    let two = word_is second.0 base is_base d.1 (lacks_front 10 second.0 (codes " " ++ second.1)
+    after_script) in
+    let told = cond_some _ _ _ e6 in
+    let short = ltb-true (length line) longest_header told.0 in
+    subst (λ (p : HeaderParts). IsHeader (line ++ 10 ∷ []) p.script p.base p.bytes) told.1 (record {
+      digits = second.1;
+      whole = ap (λ (xs : List ℕ). xs ++ 10 ∷ []) (all ∙ ap (λ (xs : List ℕ). inside xs second.0 second.1)
+          one.1 ∙ ap (λ (xs : List ℕ). inside script xs second.1) two.1)
+          ∙ sym (inside_is script base second.1);
+      script_word = subst IsWord one.1 one.0;
+      base_word = subst IsWord two.1 two.0;
+      number = number_is second.1 bytes is_number;
+      short = omega (arith, short, length-append line (10 ∷ []));
+    })))))))
+
+pub header_is : (text : List ℕ) (h : HeaderParts) (more : List ℕ) → header_in text ≡ Some (h, more)
+    → BeginsWithHeader text h.script h.base h.bytes more
+unfolding header_in
+header_is text h more e =
+    then_some (cut 10 text) _ (h, more) e (λ line at_line e1.
+    then_some (header_of line.0) _ (h, more) e1 (λ parts are e2.
+    let c = cut_is 10 text line at_line in
+    let told = same_parts parts h line.1 more e2 in
+    record {
+      line = line.0 ++ 10 ∷ [];
+      whole = c.0 ∙ sym (append_assoc line.0 (10 ∷ []) line.1)
+          ∙ ap (λ (xs : List ℕ). (line.0 ++ 10 ∷ []) ++ xs) told.1;
+      header = subst (λ (p : HeaderParts). IsHeader (line.0 ++ 10 ∷ []) p.script p.base p.bytes) told.0
+          (parts_are line.0 parts c.1 are);
+    }))
+
+pub is_computed : HeaderIsComputed
+is_computed text h more = (header_is text h more, header_there text h.script h.base h.bytes more)
+
+pub one_beginning : OneBeginning
+one_beginning text script base more other_script other_base other_more n m b d =
+    let one = header_there text script base n more b in
+    let two = header_there text other_script other_base m other_more d in
+    let are = same_parts _ _ more other_more (sym one ∙ two) in (
+      ap (λ (p : HeaderParts). p.script) are.0,
+      ap (λ (p : HeaderParts). p.base) are.0,
+      ap (λ (p : HeaderParts). p.bytes) are.0,
+      are.1,
+    )
+
+pub one_header : OneHeader
+one_header line script base other_script other_base n m h k =
+    let one = one_beginning (line ++ []) script base [] other_script other_base [] n m
+    (record { line = line; whole = refl; header = h }) (record { line = line; whole = refl; header = k }) in
+    (one.0, one.1, one.2)

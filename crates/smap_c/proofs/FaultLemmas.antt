@@ -1,0 +1,128 @@
+-- How long the words of a fault are.
+use Rattle.std.proofs.Common.{◌≡◌, ◌≤◌, ◌<◌, ◌+◌, ◌*◌, ◌^◌, ℕ, List, [], ◌∷◌, ◌++◌, length, All}
+use Rattle.std.proofs.Common.{Option, Some, None, refl, arith, subst, sym}
+use Rattle.std.specs.Prelude.{codes, decimal}
+use Rattle.std.proofs.lemmas.List.{length-append}
+use Rattle.std.proofs.lemmas.List.Elements.{All-tail}
+use Rattle.std.proofs.lemmas.Fmt.{length-decimal-le}
+use Rattle.smap_vlq.specs.declared.number.NumberFault.{NumberFault}
+use Rattle.smap_vlq.specs.declared.number.NumberFault.TheVariants as number
+use Rattle.smap_mappings.specs.declared.error.SegmentPlace.{SegmentPlace}
+use Rattle.smap_record.specs.declared.fault.Fault.{Fault}
+use Rattle.smap_record.specs.declared.fault.Kind.{Kind}
+use Rattle.smap_record.specs.declared.fault.Kind.TheVariants as kind
+use Rattle.smap_record.specs.Words.{fault_words, inner_words, kind_words, number_words, place_words}
+use Rattle.smap_record.specs.Words.{section_words}
+use Rattle.smap_c.specs.Faults.{FaultFits, KindFits, PathFits, PlaceFits}
+
+-- ---- numbers
+
+digits : (n : ℕ) → n < 2 ^ 64 → length (decimal n) ≤ 20
+digits n h = length-decimal-le 20 n (omega arith) (omega (arith, h)) h
+
+few_digits : (n : ℕ) → n < 2 ^ 32 → length (decimal n) ≤ 10
+few_digits n h = length-decimal-le 10 n (omega arith) (omega (arith, h)) (omega (arith, h))
+
+-- ---- texts, one after another
+
+two : (a b : List ℕ) (m n : ℕ) → length a ≤ m → length b ≤ n → length (a ++ b) ≤ m + n
+two a b m n h k = subst (λ (l : ℕ). l ≤ m + n) (sym (length-append a b)) (omega (arith, h, k))
+
+exact : (a : List ℕ) (n : ℕ) → length a ≡ n → length a ≤ n
+exact a n e = omega (arith, e)
+
+-- ---- the section
+
+inner : (ns : List ℕ) → All (λ (n : ℕ). n < 2 ^ 64) ns → length (inner_words ns) ≤ 21 * length ns
+inner [] all = omega arith
+inner (n ∷ ns) all =
+    let head : n < 2 ^ 64 = all 0 n (omega arith) in
+    let more = inner ns (All-tail (λ (n : ℕ). n < 2 ^ 64) n ns all) in
+    let one = two (codes ".") (decimal n) 1 20 (exact (codes ".") 1 refl) (digits n head) in
+    let both = two (codes "." ++ decimal n) (inner_words ns) 21 (21 * length ns) one more in
+    omega (arith, both)
+
+section : (ns : List ℕ) → PathFits ns → length (section_words ns) ≤ 177
+section [] fits = omega arith
+section (n ∷ ns) fits =
+    let head : n < 2 ^ 64 = fits.1 0 n (omega arith) in
+    let few : length ns ≤ 7 = omega (arith, fits.0) in
+    let inside = inner ns (All-tail (λ (n : ℕ). n < 2 ^ 64) n ns fits.1) in
+    let most : length (inner_words ns) ≤ 147 = omega (arith, inside, few) in
+    two (codes "section ") (decimal n ++ (inner_words ns ++ codes ": ")) 8 169 (exact
+    (codes "section ") 8 refl)
+    (two (decimal n) (inner_words ns ++ codes ": ") 20 149 (digits n head)
+    (two (inner_words ns) (codes ": ") 147 2 most (exact (codes ": ") 2 refl)))
+
+-- ---- the place
+
+place : (p : Option SegmentPlace) → PlaceFits p → length (place_words p) ≤ 36
+place None fits = omega arith
+place (Some p) fits =
+    two (codes "line ") (decimal p.line ++ (codes " segment " ++ (decimal p.segment ++ codes ": "))) 5 31
+    (exact (codes "line ") 5 refl)
+    (two (decimal p.line) (codes " segment " ++ (decimal p.segment ++ codes ": ")) 10 21
+    (few_digits p.line fits.0)
+    (two (codes " segment ") (decimal p.segment ++ codes ": ") 9 12 (exact (codes " segment ") 9 refl)
+    (two (decimal p.segment) (codes ": ") 10 2 (few_digits p.segment fits.1) (exact (codes ": ") 2 refl))))
+
+-- ---- the kind
+
+spelled : (f : NumberFault) → length (number_words f) ≤ 13
+spelled number.Unfinished = let h : 10 ≤ 13 = omega arith in h
+spelled number.Character = let h : 13 ≤ 13 = omega arith in h
+spelled number.TooLarge = let h : 9 ≤ 13 = omega arith in h
+spelled number.NegativeZero = let h : 13 ≤ 13 = omega arith in h
+
+kind_length : (k : Kind) → KindFits k → length (kind_words k) ≤ 47
+kind_length kind.Prefix fits = let h : 24 ≤ 47 = omega arith in h
+kind_length kind.Json fits = let h : 8 ≤ 47 = omega arith in h
+kind_length kind.NotObject fits = let h : 13 ≤ 47 = omega arith in h
+kind_length kind.Version fits = let h : 7 ≤ 47 = omega arith in h
+kind_length kind.File fits = let h : 4 ≤ 47 = omega arith in h
+kind_length kind.Both fits = let h : 24 ≤ 47 = omega arith in h
+kind_length kind.SourceRoot fits = let h : 10 ≤ 47 = omega arith in h
+kind_length kind.Sources fits = let h : 7 ≤ 47 = omega arith in h
+kind_length kind.SourcesContent fits = let h : 14 ≤ 47 = omega arith in h
+kind_length kind.Names fits = let h : 5 ≤ 47 = omega arith in h
+kind_length kind.IgnoreList fits = let h : 10 ≤ 47 = omega arith in h
+kind_length kind.Mappings fits = let h : 8 ≤ 47 = omega arith in h
+kind_length kind.Sections fits = let h : 8 ≤ 47 = omega arith in h
+kind_length kind.Offset fits = let h : 6 ≤ 47 = omega arith in h
+kind_length kind.SectionMap fits = let h : 3 ≤ 47 = omega arith in h
+kind_length kind.Nested fits = let h : 15 ≤ 47 = omega arith in h
+kind_length kind.Order fits = let h : 5 ≤ 47 = omega arith in h
+kind_length kind.Overlap fits = let h : 7 ≤ 47 = omega arith in h
+kind_length kind.TooMany fits = let h : 25 ≤ 47 = omega arith in h
+kind_length (kind.SourceUrl i) fits =
+    let most = two (codes "source ") (decimal i ++ codes " is no URL") 7 30 (exact (codes "source ") 7 refl)
+    (two (decimal i) (codes " is no URL") 20 10 (digits i fits) (exact (codes " is no URL") 10 refl)) in
+    omega (arith, most)
+kind_length (kind.UnstableUrl i) fits =
+    two (codes "source ") (decimal i ++ codes " has an unstable URL") 7 40 (exact (codes "source ") 7 refl)
+    (two (decimal i) (codes " has an unstable URL") 20 20 (digits i fits)
+    (exact (codes " has an unstable URL") 20 refl))
+kind_length kind.Empty fits = let h : 13 ≤ 47 = omega arith in h
+kind_length (kind.Number which f) fits =
+    let most = two (codes "number ") (decimal which ++ (codes ": " ++ number_words f)) 7 35
+    (exact (codes "number ") 7 refl)
+    (two (decimal which) (codes ": " ++ number_words f) 20 15 (digits which fits)
+    (two (codes ": ") (number_words f) 2 13 (exact (codes ": ") 2 refl) (spelled f))) in
+    omega (arith, most)
+kind_length (kind.Count n) fits =
+    let most = two (decimal n) (codes " numbers") 20 8 (digits n fits) (exact (codes " numbers") 8 refl) in
+    omega (arith, most)
+kind_length kind.GeneratedLine fits = let h : 14 ≤ 47 = omega arith in h
+kind_length kind.Column fits = let h : 16 ≤ 47 = omega arith in h
+kind_length kind.Source fits = let h : 12 ≤ 47 = omega arith in h
+kind_length kind.OriginalLine fits = let h : 13 ≤ 47 = omega arith in h
+kind_length kind.OriginalColumn fits = let h : 15 ≤ 47 = omega arith in h
+kind_length kind.Name fits = let h : 10 ≤ 47 = omega arith in h
+
+-- the words of a fault are at most 260 bytes long
+pub words_are_short : (f : Fault) → FaultFits f → length (fault_words f) ≤ 260
+unfolding fault_words
+words_are_short f fits =
+    two (section_words f.section) (place_words f.place ++ kind_words f.kind) 177 83 (section f.section fits.0)
+    (two (place_words f.place) (kind_words f.kind) 36 47 (place f.place fits.1)
+    (kind_length f.kind fits.2))

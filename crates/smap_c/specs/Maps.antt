@@ -1,0 +1,145 @@
+-- What the calls that open, share, compare and count maps come to.
+use Rattle.std.specs.Prelude.{ℕ, ◌≤◌, ◌==◌, if◌then◌else◌, ◌≡◌, ◌⊎◌, List, Option, Some, None, Result, Ok}
+use Rattle.std.specs.Prelude.{◌+◌, ◌-◌, ◌*◌, ◌^◌, Err, IsErr, IsUtf8, ◌↔◌, Bool, IsTrue, length, map, min, sum_by}
+use Rattle.smap_vlq.specs.Limits.{max_position}
+use Rattle.smap_mappings.specs.Limits.{max_lines}
+use Rattle.smap_record.specs.Record.{Allowed, Entry, record_of, ReadMap}
+use Rattle.url.specs.Parts.{Parts}
+use Rattle.url.specs.Parser.{parse_url}
+use Rattle.smap_record.specs.Reading.{reading}
+use Rattle.smap_record.specs.Written.{as_written, url_of}
+use Rattle.smap_mappings.specs.Text.{line_count}
+use Rattle.smap_c.specs.declared.maps.SmapLimits.{SmapLimits}
+use Rattle.smap_c.specs.Faults.{fault_told}
+use Rattle.smap_c.specs.declared.faults.SmapFault.{SmapFault}
+use Rattle.smap_c.specs.declared.opened.Opened.{Opened}
+use Rattle.smap_c.specs.declared.maps.OpenFault.{OpenFault}
+use Rattle.smap_c.specs.declared.maps.SmapCounts.{SmapCounts}
+use Rattle.smap_c.specs.Strings.{TextTold, ClosedTold}
+use Rattle.smap_c.specs.Codes as codes
+use Rattle.smap_c.specs.declared.maps.OpenFault.TheVariants as faults
+
+-- ---- limits
+
+-- 0 stands for the usual limit
+abbrev pub or_usual : ℕ → ℕ
+or_usual limit = if limit == 0 then max_lines else limit
+
+-- what is allowed
+abbrev pub allowed : SmapLimits → Allowed
+allowed asked = record { items = or_usual asked.items; lines = or_usual asked.lines }
+
+-- They are not too large.
+abbrev pub AreLimits : SmapLimits → Type 0
+AreLimits asked = (or_usual asked.items ≤ max_position) × (or_usual asked.lines ≤ max_lines)
+
+-- ---- opening
+
+-- The limits aren't too large, and the base is UTF-8.
+abbrev pub MayOpen : List ℕ → SmapLimits → Type 0
+MayOpen base limits = AreLimits limits × IsUtf8 base
+
+-- The sources as the text writes them, which are those that the map lists: each has the URL of the other.
+abbrev pub IsWritten : List ℕ → Opened → Type 0
+IsWritten bytes m = (m.written ≡ as_written bytes) × (length m.written ≡ length m.map.listing.sources)
+    × (map (λ e. e.url) m.map.listing.sources ≡ map (url_of m.base) m.written)
+
+-- The map that the definition gives for the bytes against the base that the text is, or why there is none:
+-- the limits, else the base, else the map; unless memory ran out.
+abbrev pub Opens : List ℕ → List ℕ → SmapLimits → Result Opened OpenFault → Type 0
+Opens bytes base limits (Ok m) =
+    MayOpen base limits × (parse_url None base ≡ Ok m.base)
+    × (reading m.base (allowed limits) bytes ≡ Ok m.map) × IsWritten bytes m
+Opens bytes base limits (Err (faults.Refused f)) =
+    (p : Parts) × MayOpen base limits × (parse_url None base ≡ Ok p)
+    × (reading p (allowed limits) bytes ≡ Err f)
+Opens bytes base limits (Err faults.NotUrl) =
+    AreLimits limits × (IsErr (parse_url None base) ⊎ (IsUtf8 base → ⊥))
+Opens bytes base limits (Err faults.Limits) = AreLimits limits → ⊥
+Opens bytes base limits (Err faults.Memory) = Unit {0}
+
+-- the code and the fault
+abbrev pub FaultTold : OpenFault → SmapFault → SmapFault → ℕ → Type 0
+FaultTold (faults.Refused f) before after code = (code ≡ codes.REFUSED) × (after ≡ fault_told f)
+FaultTold faults.NotUrl before after code = (code ≡ codes.NOT_URL) × (after ≡ before)
+FaultTold faults.Limits before after code = (code ≡ codes.LIMITS) × (after ≡ before)
+FaultTold faults.Memory before after code = (code ≡ codes.MEMORY) × (after ≡ before)
+
+-- the handle has the map, or is as it was
+abbrev pub HandleTold : Result Opened OpenFault → Option Opened → Option Opened → SmapFault → SmapFault → ℕ
+    → Type 0
+HandleTold (Ok m) old new before after code = (code ≡ codes.OK) × (new ≡ Some m) × (after ≡ before)
+HandleTold (Err fault) old new before after code = FaultTold fault before after code × (new ≡ old)
+
+-- The handle has the map that the definition gives, or is as it was, and the code and the fault say why.
+abbrev pub OpensInto : List ℕ → List ℕ → SmapLimits → Option Opened → Option Opened → SmapFault → SmapFault
+    → ℕ → Type 0
+OpensInto bytes base limits old new before after code =
+    (r : Result Opened OpenFault) × Opens bytes base limits r × HandleTold r old new before after code
+
+-- ---- a second handle, two maps, and how much a map holds
+
+-- The other handle has the map too, or is as it was: memory ran out, or the map is closed.
+abbrev pub Shares : Option Opened → Option Opened → Option Opened → ℕ → Type 0
+Shares None old new code = (code ≡ codes.CLOSED) × (new ≡ old)
+Shares (Some o) old new code = ((code ≡ codes.OK) × (new ≡ Some o)) ⊎ ((code ≡ codes.MEMORY) × (new ≡ old))
+
+-- Both are open and it is told whether their records are equal, or one is closed.
+abbrev pub Compares : Option Opened → Option Opened → Bool → Bool → ℕ → Type 0
+Compares None other before after code = (code ≡ codes.CLOSED) × (after ≡ before)
+Compares (Some a) None before after code = (code ≡ codes.CLOSED) × (after ≡ before)
+Compares (Some a) (Some b) before after code =
+    (code ≡ codes.OK) × (IsTrue after ↔ (record_of a.map ≡ record_of b.map))
+
+abbrev pub counts_of : ReadMap → SmapCounts
+counts_of m = record {
+  sources = length (record_of m).sources;
+  listed_sources = length m.listing.sources;
+  names = length m.listing.names;
+  mappings = length m.listing.tokens;
+  lines = line_count m.listing.tokens;
+}
+
+-- The counts of a handle's map.
+abbrev pub Counts : Option Opened → SmapCounts → SmapCounts → ℕ → Type 0
+Counts None before after code = (code ≡ codes.CLOSED) × (after ≡ before)
+Counts (Some o) before after code = (code ≡ codes.OK) × (after ≡ counts_of o.map)
+
+-- ---- how much memory a map takes, about: the bytes of its strings, and a fixed number for each thing, as
+-- measured where pointers have 64 bits
+
+abbrev pub text_memory : Option (List ℕ) → ℕ
+text_memory None = 0
+text_memory (Some text) = length text
+
+-- a distinct source, with its place in the table that finds it
+abbrev pub source_memory : Entry → ℕ
+source_memory e = 144 + (text_memory e.url + text_memory e.content)
+
+abbrev pub name_memory : List ℕ → ℕ
+name_memory name = 48 + length name
+
+-- what each map takes, with its file; its distinct sources, its names as listed, its sources as listed, which
+-- are numbers, and its mappings
+abbrev pub memory_of : ReadMap → ℕ
+memory_of m = (1024 + text_memory m.file) + (sum_by source_memory (record_of m).sources
+    + (sum_by name_memory m.listing.names + (8 * length m.listing.sources + 32 * length m.listing.tokens)))
+
+-- as much of it as a number of C takes
+abbrev pub capped : ℕ → ℕ
+capped n = min n (2 ^ 64 - 1)
+
+-- The memory of a handle's map.
+abbrev pub TakesMemory : Option Opened → ℕ → ℕ → ℕ → Type 0
+TakesMemory None before after code = (code ≡ codes.CLOSED) × (after ≡ before)
+TakesMemory (Some o) before after code = (code ≡ codes.OK) × (after ≡ capped (memory_of o.map))
+
+-- ---- the name of the generated file
+
+abbrev pub FileTold : ReadMap → List ℕ → List ℕ → ℕ → ℕ → Type 0
+FileTold m before after len code = TextTold m.file before after len code
+
+-- The same of a handle.
+abbrev pub File : Option Opened → List ℕ → List ℕ → ℕ → ℕ → Type 0
+File None before after len code = ClosedTold before after len code
+File (Some o) before after len code = FileTold o.map before after len code

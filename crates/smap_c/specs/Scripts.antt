@@ -1,0 +1,60 @@
+-- What the calls on scripts come to.
+use Rattle.std.specs.Prelude.{◌≡◌, ◌⊎◌, ℕ, List, [], ◌∷◌, bytes_eq, IsUtf8, Option, Some, None, if◌then◌else◌}
+use Rattle.smap_record.specs.Record.{Record, record_of}
+use Rattle.smap_trace.specs.Translation.{Fate, Script, translation_by}
+use Rattle.smap_trace.specs.Views.{counts_by}
+use Rattle.smap_trace.specs.declared.outcome.Counts.{Counts}
+use Rattle.smap_c.specs.Bytes.{Holds}
+use Rattle.smap_c.specs.Traces.{fates}
+use Rattle.smap_c.specs.declared.opened.Opened.{Opened}
+use Rattle.smap_c.specs.declared.scripts.SmapTraceCounts.{SmapTraceCounts}
+use Rattle.smap_c.specs.declared.bytes.Written.{Written}
+use Rattle.smap_c.specs.Codes as codes
+
+-- the scripts with this one: in place of one with the same URL, or else after the others
+abbrev pub with_script : List ℕ → Record → List Script → List Script
+with_script url r [] = (url, r) ∷ []
+with_script url r (s ∷ ss) = if bytes_eq url s.0 then (s.0, r) ∷ ss else s ∷ with_script url r ss
+
+-- a closed handle has none
+abbrev pub or_none : Option (List Script) → List Script
+or_none None = []
+or_none (Some ss) = ss
+
+-- The handle has the script too, or memory ran out and it is as it was.
+abbrev pub Adds : List ℕ → Record → Option (List Script) → Option (List Script) → ℕ → Type 0
+Adds url r old new code = ((code ≡ codes.OK) × (new ≡ Some (with_script url r (or_none old))))
+    ⊎ ((code ≡ codes.MEMORY) × (new ≡ old))
+
+-- the same of an open map
+abbrev pub AddsMap : List ℕ → Option Opened → Option (List Script) → Option (List Script) → ℕ → Type 0
+AddsMap url None old new code = (code ≡ codes.CLOSED) × (new ≡ old)
+AddsMap url (Some o) old new code = Adds url (record_of o.map) old new code
+
+-- The same of a URL, which is UTF-8.
+abbrev pub AddsScript : List ℕ → Option Opened → Option (List Script) → Option (List Script) → ℕ → Type 0
+AddsScript url map old new code = (IsUtf8 url × AddsMap url map old new code)
+    ⊎ ((IsUtf8 url → ⊥) × (code ≡ codes.NOT_URL) × (new ≡ old))
+
+-- counts as C sees them
+abbrev pub told_counts : Counts → SmapTraceCounts
+told_counts c = record { lines = c.lines; translated = c.translated; dropped = c.dropped }
+
+-- the translation of a trace whose lines become this, and its counts
+abbrev pub told_trace : (List ℕ → Fate) → List ℕ → List ℕ × Counts
+told_trace fates_of trace = (translation_by fates_of trace, counts_by fates_of trace)
+
+-- The handle has the text, with its counts; or memory ran out, and both are as they were.
+abbrev pub TranslatesInto : List ℕ × Counts → Option Written → Option Written → SmapTraceCounts
+    → SmapTraceCounts → ℕ → Type 0
+TranslatesInto told old new before after code =
+    ((code ≡ codes.OK) × Holds told.0 new × (after ≡ told_counts told.1))
+    ⊎ ((code ≡ codes.MEMORY) × (new ≡ old) × (after ≡ before))
+
+-- The translation by the handle's scripts.
+abbrev pub TranslatesBy : Option (List Script) → List ℕ → ℕ → Option Written → Option Written
+    → SmapTraceCounts → SmapTraceCounts → ℕ → Type 0
+TranslatesBy None trace how old new before after code =
+    (code ≡ codes.CLOSED) × (new ≡ old) × (after ≡ before)
+TranslatesBy (Some scripts) trace how old new before after code =
+    TranslatesInto (told_trace (fates how scripts) trace) old new before after code

@@ -1,0 +1,19 @@
+-- What the calls that copy a string out come to.
+use Rattle.std.specs.Prelude.{List, ◌++◌, length, take, drop, min, ◌≡◌, ℕ, Option, Some, None}
+use Rattle.smap_c.specs.Codes as codes
+
+-- What stands in a buffer once a text went into it: as much of the text as the buffer takes, and then what
+-- stood there.
+abbrev pub copied : {A : Type 0} → List A → List A → List A
+copied text old =
+    take (min (length text) (length old)) text ++ drop (min (length text) (length old)) old
+
+-- the text is copied, or there is none
+abbrev pub TextTold : Option (List ℕ) → List ℕ → List ℕ → ℕ → ℕ → Type 0
+TextTold None before after len code = (code ≡ codes.NONE) × (len ≡ 0) × (after ≡ before)
+TextTold (Some text) before after len code =
+    (code ≡ codes.OK) × (len ≡ length text) × (after ≡ copied text before)
+
+-- the same of a handle that is closed
+abbrev pub ClosedTold : List ℕ → List ℕ → ℕ → ℕ → Type 0
+ClosedTold before after len code = (code ≡ codes.CLOSED) × (len ≡ 0) × (after ≡ before)

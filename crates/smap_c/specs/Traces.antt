@@ -1,0 +1,92 @@
+-- What the calls on the lines of a trace come to.
+use Rattle.std.specs.Prelude.{◌≡◌, ℕ, ◌==◌, Bool, List, [], ◌∷◌, ◌⊎◌, length, Option, Some, None, IsUtf8}
+use Rattle.std.specs.Int.RustNames.{bit_and}
+use Rattle.smap_trace.specs.Translation.{Fate, Script, fate, fate_by, kept, translated, dropped}
+use Rattle.smap_trace.specs.Translation.{line_translation_by}
+use Rattle.smap_trace.specs.declared.finding.Finding.{Finding}
+use Rattle.smap_record.specs.Record.{ReadMap, record_of}
+use Rattle.smap_trace.specs.Frame.{FrameParts}
+use Rattle.smap_trace.specs.Reading.{frame_of}
+use Rattle.smap_c.specs.Strings.{copied}
+use Rattle.smap_c.specs.declared.opened.Opened.{Opened}
+use Rattle.smap_c.specs.declared.traces.SmapFrame.{SmapFrame}
+use Rattle.smap_c.specs.Codes as codes
+
+-- ---- what they are asked to do, by the bits that `smap.h` names
+
+-- whether this bit is set
+abbrev pub has_bit : ℕ → ℕ → Bool
+has_bit how bit = bit_and how bit == bit
+
+abbrev pub HIDE_IGNORED : ℕ
+HIDE_IGNORED = 1
+
+abbrev pub ANYWHERE : ℕ
+ANYWHERE = 2
+
+abbrev pub IGNORE_QUERY : ℕ
+IGNORE_QUERY = 4
+
+-- whether frames in ignored sources are left out
+abbrev pub hides : ℕ → Bool
+hides how = has_bit how HIDE_IGNORED
+
+-- how positions are found
+abbrev pub finding_in : ℕ → Finding
+finding_in how = record { anywhere = has_bit how ANYWHERE; ignore_query = has_bit how IGNORE_QUERY }
+
+-- what becomes of a line
+abbrev pub fates : ℕ → List Script → List ℕ → Fate
+fates how scripts = fate_by (finding_in how) scripts (hides how)
+
+-- A caller that passes a `bool`, which C makes 0 or 1, asks for frames alone, and whether to hide.
+abbrev pub AsksByBool : ℕ → Bool → Type 0
+AsksByBool how hide = (scripts : List Script) (line : List ℕ)
+    → fates how scripts line ≡ fate scripts hide line
+
+-- ---- frames and lines
+
+-- where the parts of the frame lie
+abbrev pub PartsTold : Option FrameParts → SmapFrame → SmapFrame → ℕ → Type 0
+PartsTold None before after code = (code ≡ codes.NONE) × (after ≡ before)
+PartsTold (Some f) before after code = (code ≡ codes.OK) × (after ≡ record {
+  url_from = length f.before;
+  url_len = length f.url;
+  line = f.line;
+  column = f.column;
+})
+
+abbrev pub FrameTold : List ℕ → SmapFrame → SmapFrame → ℕ → Type 0
+FrameTold text before after code = PartsTold (frame_of text) before after code
+
+-- the number of what became of a line
+abbrev pub number_of : Fate → ℕ
+number_of kept = 0
+number_of (translated text) = 1
+number_of dropped = 2
+
+-- the line's translation is copied, unless memory ran out
+abbrev pub LineTold : List ℕ → ReadMap → List ℕ → ℕ → List ℕ → List ℕ → ℕ → ℕ → ℕ → ℕ → Type 0
+LineTold url m line how before after len old_outcome outcome code =
+    ((code ≡ codes.OK) × (len ≡ length (line_translation_by (fates how ((url, record_of m) ∷ [])) line))
+    × (after ≡ copied (line_translation_by (fates how ((url, record_of m) ∷ [])) line) before)
+    × (outcome ≡ number_of (fates how ((url, record_of m) ∷ []) line)))
+    ⊎ ((code ≡ codes.MEMORY) × (len ≡ 0) × (after ≡ before) × (outcome ≡ old_outcome))
+
+-- nothing is told
+abbrev pub Untold : ℕ → List ℕ → List ℕ → ℕ → ℕ → ℕ → ℕ → Type 0
+Untold why before after len old_outcome outcome code =
+    (code ≡ why) × (len ≡ 0) × (after ≡ before) × (outcome ≡ old_outcome)
+
+-- the same of a URL, which is UTF-8
+abbrev pub LineBy : List ℕ → ReadMap → List ℕ → ℕ → List ℕ → List ℕ → ℕ → ℕ → ℕ → ℕ → Type 0
+LineBy url m line how before after len old_outcome outcome code =
+    (IsUtf8 url × LineTold url m line how before after len old_outcome outcome code)
+    ⊎ ((IsUtf8 url → ⊥) × Untold codes.NOT_URL before after len old_outcome outcome code)
+
+-- The translation of the line by the map of this one script.
+abbrev pub TellsLine : Option Opened → List ℕ → List ℕ → ℕ → List ℕ → List ℕ → ℕ → ℕ → ℕ → ℕ → Type 0
+TellsLine None url line how before after len old_outcome outcome code =
+    Untold codes.CLOSED before after len old_outcome outcome code
+TellsLine (Some o) url line how before after len old_outcome outcome code =
+    LineBy url o.map line how before after len old_outcome outcome code

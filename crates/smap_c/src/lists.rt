@@ -1,0 +1,227 @@
+//! What a map lists, by its numbers.
+ghost use Rattle.std.specs.Prelude.{◌≡◌};
+ghost use Rattle.smap_c.specs.Lists.{listed_told, SourceTold, NameTold, TokenTold, ListedSource, ListedName};
+ghost use Rattle.smap_c.specs.Lists.{ListedToken, WrittenSource, WrittenRoot};
+ghost use Rattle.smap_c.specs.Lists.{WrittenSourceTold, WrittenRootTold};
+ghost use Rattle.smap_c.specs.Handles.{held_map};
+
+use crate::codes::{CLOSED, OK, RANGE};
+use crate::handles::SmapMap;
+use crate::strings::{copy_out, tell};
+use smap_mappings::Token;
+use smap_record::{SourceMap, WrittenSources};
+use std::alloc::Global;
+use std::mem;
+
+/// A mapping by places in the lists of sources and names; what it doesn't have is 0.
+#[repr(C)]
+#[derive(Clone, Copy)]
+pub struct SmapListedMapping {
+    pub line: u32,
+    pub column: u32,
+    pub has_source: bool,
+    pub has_name: bool,
+    pub source_line: u32,
+    pub source_column: u32,
+    pub source: u32,
+    pub name: u32,
+}
+
+fn listed_told(token: Token) -> SmapListedMapping
+    ensures { result ≡ listed_told token }
+{
+    let mut told = SmapListedMapping {
+        line: token.line,
+        column: token.column,
+        has_source: false,
+        has_name: false,
+        source_line: 0,
+        source_column: 0,
+        source: 0,
+        name: 0,
+    };
+    if let Some(original) = token.original {
+        told.has_source = true;
+        told.source_line = original.line;
+        told.source_column = original.column;
+        told.source = original.source;
+        if let Some(name) = original.name {
+            told.has_name = true;
+            told.name = name;
+        }
+    }
+    told
+}
+
+fn source_of(map: &SourceMap, i: usize, out: &mut usize) -> u32
+    ensures { SourceTold map.now i out.old out.new result }
+{
+    if i < map.listed_count() {
+        *out = map.listed(i);
+        OK
+    } else {
+        RANGE
+    }
+}
+
+fn name_of(map: &SourceMap, i: usize, out: &mut [u8], len: &mut usize) -> u32
+    ensures { NameTold map.now i out.old out.new len.new result }
+{
+    if i < map.name_count() {
+        *len = copy_out(map.name(i).as_bytes(), out);
+        OK
+    } else {
+        *len = 0;
+        RANGE
+    }
+}
+
+fn token_of(map: &SourceMap, i: usize, out: &mut SmapListedMapping) -> u32
+    ensures { TokenTold map.now i out.old out.new result }
+{
+    if i < map.token_count() {
+        *out = listed_told(map.listed_token(i));
+        OK
+    } else {
+        RANGE
+    }
+}
+
+fn written_source_of(written: &WrittenSources, i: usize, out: &mut [u8], len: &mut usize) -> u32
+    ensures { WrittenSourceTold written.now i out.old out.new len.new result }
+{
+    if i < written.len() {
+        tell(written.source(i), out, len)
+    } else {
+        *len = 0;
+        RANGE
+    }
+}
+
+fn written_root_of(written: &WrittenSources, i: usize, out: &mut [u8], len: &mut usize) -> u32
+    ensures { WrittenRootTold written.now i out.old out.new len.new result }
+{
+    if i < written.len() {
+        tell(written.root(i), out, len)
+    } else {
+        *len = 0;
+        RANGE
+    }
+}
+
+/// The number of the i-th listed source among the distinct ones.
+#[unsafe(no_mangle)]
+pub extern "C" fn smap_listed_source(
+    alloc: Global,
+    map: &mut SmapMap,
+    i: usize,
+    out: &mut usize,
+) -> u32
+    ensures told { ListedSource (held_map map.old.owner.value) i out.old out.new result }
+    ensures same { map.new.owner.value ≡ map.old.owner.value }
+{
+    match mem::replace(map, SmapMap::closed(alloc)).into_box() {
+        None => CLOSED,
+        Some(held) => {
+            let code = source_of(&held.opened().map, i, out);
+            *map = SmapMap::of(held);
+            code
+        }
+    }
+}
+
+/// The i-th listed name.
+#[unsafe(no_mangle)]
+pub extern "C" fn smap_listed_name(
+    alloc: Global,
+    map: &mut SmapMap,
+    i: usize,
+    out: &mut [u8],
+    len: &mut usize,
+) -> u32
+    ensures told { ListedName (held_map map.old.owner.value) i out.old out.new len.new result }
+    ensures same { map.new.owner.value ≡ map.old.owner.value }
+{
+    match mem::replace(map, SmapMap::closed(alloc)).into_box() {
+        None => {
+            *len = 0;
+            CLOSED
+        }
+        Some(held) => {
+            let code = name_of(&held.opened().map, i, out, len);
+            *map = SmapMap::of(held);
+            code
+        }
+    }
+}
+
+/// The i-th mapping by places in the lists, in order of position.
+#[unsafe(no_mangle)]
+pub extern "C" fn smap_listed_token(
+    alloc: Global,
+    map: &mut SmapMap,
+    i: usize,
+    out: &mut SmapListedMapping,
+) -> u32
+    ensures told { ListedToken (held_map map.old.owner.value) i out.old out.new result }
+    ensures same { map.new.owner.value ≡ map.old.owner.value }
+{
+    match mem::replace(map, SmapMap::closed(alloc)).into_box() {
+        None => CLOSED,
+        Some(held) => {
+            let code = token_of(&held.opened().map, i, out);
+            *map = SmapMap::of(held);
+            code
+        }
+    }
+}
+
+/// The i-th listed source as the text of the map writes it.
+#[unsafe(no_mangle)]
+pub extern "C" fn smap_written_source(
+    alloc: Global,
+    map: &mut SmapMap,
+    i: usize,
+    out: &mut [u8],
+    len: &mut usize,
+) -> u32
+    ensures told { WrittenSource (held_map map.old.owner.value) i out.old out.new len.new result }
+    ensures same { map.new.owner.value ≡ map.old.owner.value }
+{
+    match mem::replace(map, SmapMap::closed(alloc)).into_box() {
+        None => {
+            *len = 0;
+            CLOSED
+        }
+        Some(held) => {
+            let code = written_source_of(&held.opened().written, i, out, len);
+            *map = SmapMap::of(held);
+            code
+        }
+    }
+}
+
+/// The `sourceRoot` that applies to the i-th listed source.
+#[unsafe(no_mangle)]
+pub extern "C" fn smap_written_root(
+    alloc: Global,
+    map: &mut SmapMap,
+    i: usize,
+    out: &mut [u8],
+    len: &mut usize,
+) -> u32
+    ensures told { WrittenRoot (held_map map.old.owner.value) i out.old out.new len.new result }
+    ensures same { map.new.owner.value ≡ map.old.owner.value }
+{
+    match mem::replace(map, SmapMap::closed(alloc)).into_box() {
+        None => {
+            *len = 0;
+            CLOSED
+        }
+        Some(held) => {
+            let code = written_root_of(&held.opened().written, i, out, len);
+            *map = SmapMap::of(held);
+            code
+        }
+    }
+}

@@ -1,0 +1,161 @@
+//! Lookups, and mappings by their numbers.
+ghost use Rattle.std.specs.Prelude.{◌≡◌, Some, None};
+ghost use Rattle.smap_c.specs.Lookups.{told, Finds, LooksUp, NameTold, NameAt, TokenTold, Token};
+ghost use Rattle.smap_c.specs.Handles.{held_map};
+
+use crate::codes::{CLOSED, NONE, OK, RANGE};
+use crate::handles::SmapMap;
+use crate::opened::Opened;
+use crate::strings::tell;
+use smap_record::{SourceMap, TokenView};
+use smap_trace::lookup_in;
+use std::alloc::Global;
+use std::mem;
+
+/// A mapping's numbers: a generated line and column; the number of its source among the distinct ones, a
+/// line and a column of it; and whether it has a name. All count from 0.
+#[repr(C)]
+#[derive(Clone, Copy)]
+pub struct SmapMapping {
+    pub line: u32,
+    pub column: u32,
+    pub has_source: bool,
+    pub has_name: bool,
+    pub is_ignored: bool,
+    pub source_line: u32,
+    pub source_column: u32,
+    pub source: usize,
+}
+
+fn told(token: TokenView<'_>) -> SmapMapping
+    ensures { result ≡ told token.entry }
+{
+    match token.original {
+        Some(original) => SmapMapping {
+            line: token.line,
+            column: token.column,
+            has_source: true,
+            has_name: original.name.is_some(),
+            is_ignored: original.source.ignored,
+            source_line: original.line,
+            source_column: original.column,
+            source: original.source_number,
+        },
+        None => SmapMapping {
+            line: token.line,
+            column: token.column,
+            has_source: false,
+            has_name: false,
+            is_ignored: false,
+            source_line: 0,
+            source_column: 0,
+            source: 0,
+        },
+    }
+}
+
+/// The mapping that a generated position falls to, or that there is none.
+fn find(opened: &Opened, line: u32, column: u32, out: &mut SmapMapping) -> u32
+    ensures { Finds opened.now.map line column out.old out.new result }
+{
+    let (found, _) = lookup_in(&opened.map, &opened.starts, line, column);
+    match found {
+        Some(token) => {
+            *out = told(token);
+            OK
+        }
+        None => NONE,
+    }
+}
+
+/// The mapping that a generated position falls to.
+#[unsafe(no_mangle)]
+pub extern "C" fn smap_lookup(
+    alloc: Global,
+    map: &mut SmapMap,
+    line: u32,
+    column: u32,
+    out: &mut SmapMapping,
+) -> u32
+    ensures found { LooksUp (held_map map.old.owner.value) line column out.old out.new result }
+    ensures same { map.new.owner.value ≡ map.old.owner.value }
+{
+    match mem::replace(map, SmapMap::closed(alloc)).into_box() {
+        None => CLOSED,
+        Some(held) => {
+            let code = find(held.opened(), line, column, out);
+            *map = SmapMap::of(held);
+            code
+        }
+    }
+}
+
+fn name_at(opened: &Opened, line: u32, column: u32, out: &mut [u8], len: &mut usize) -> u32
+    ensures { NameTold opened.now.map line column out.old out.new len.new result }
+{
+    match lookup_in(&opened.map, &opened.starts, line, column).0 {
+        Some(token) => match token.original {
+            Some(original) => tell(original.name, out, len),
+            None => tell(None, out, len),
+        },
+        None => tell(None, out, len),
+    }
+}
+
+/// The name of the mapping that a generated position falls to.
+#[unsafe(no_mangle)]
+pub extern "C" fn smap_name_at(
+    alloc: Global,
+    map: &mut SmapMap,
+    line: u32,
+    column: u32,
+    out: &mut [u8],
+    len: &mut usize,
+) -> u32
+    ensures told { NameAt (held_map map.old.owner.value) line column out.old out.new len.new result }
+    ensures same { map.new.owner.value ≡ map.old.owner.value }
+{
+    match mem::replace(map, SmapMap::closed(alloc)).into_box() {
+        None => {
+            *len = 0;
+            CLOSED
+        }
+        Some(held) => {
+            let code = name_at(held.opened(), line, column, out, len);
+            *map = SmapMap::of(held);
+            code
+        }
+    }
+}
+
+fn token_of(map: &SourceMap, i: usize, out: &mut SmapMapping) -> u32
+    ensures { TokenTold map.now i out.old out.new result }
+{
+    if i < map.token_count() {
+        *out = told(map.token(i));
+        OK
+    } else {
+        RANGE
+    }
+}
+
+/// The i-th mapping, in order of position.
+#[unsafe(no_mangle)]
+pub extern "C" fn smap_token(
+    alloc: Global,
+    map: &mut SmapMap,
+    i: usize,
+    out: &mut SmapMapping,
+) -> u32
+    ensures told { Token (held_map map.old.owner.value) i out.old out.new result }
+    ensures same { map.new.owner.value ≡ map.old.owner.value }
+{
+    match mem::replace(map, SmapMap::closed(alloc)).into_box() {
+        None => CLOSED,
+        Some(held) => {
+            let code = token_of(&held.opened().map, i, out);
+            *map = SmapMap::of(held);
+            code
+        }
+    }
+}

@@ -1,0 +1,136 @@
+-- The members of a layout as one list, so that what is proved of them is proved member by member.
+use Rattle.std.proofs.Common.{◌≡◌, ℕ, List, [], ◌∷◌, map, Option, Some, None, ap, refl, ◌∙◌, Bool, true}
+use Rattle.std.specs.Prelude.{codes, option_map, option_and_then, ◌&&◌, IfSome}
+use Rattle.std.specs.List.{list_all, AllByRecursion}
+use Rattle.std.specs.Option.{option_or}
+use Rattle.std.proofs.Common.{Ordering, Less, Equal, Greater}
+use Rattle.std.specs.Ordering.{nat_cmp, match_ordering, is_gt}
+use Rattle.std.specs.Cmp.Lexicographic.{slice_cmp}
+use Rattle.std.proofs.lemmas.Bool.{and_parts}
+use Rattle.serde_json.specs.Data.{Data, string, Members, no_members, member, put}
+use Rattle.serde_json.specs.Find.{get_member}
+use Rattle.serde_json.specs.Read.{of_json, of_members}
+use Rattle.serde_json.specs.Written.{outline, members_outline}
+use Rattle.smap_mappings.specs.Text.{mappings_text}
+use Rattle.smap_record.specs.Record.{Entry, ReadMap}
+use Rattle.smap_canon.specs.Layout.{or_null, whole_number, list_of, ignored_from, unless_empty}
+use Rattle.smap_canon.specs.Layout.{optional_member, written_contents}
+
+-- a name, and the value if the member is written
+abbrev pub OptionalMember : Type 0
+OptionalMember = List ℕ × Option Data
+
+abbrev pub written : List OptionalMember → Members
+written [] = no_members
+written (m ∷ ms) = optional_member m.0 m.1 (written ms)
+
+-- the members of a layout: `layout spell m` computes to `object (written (members_of spell m))`
+abbrev pub members_of : (List ℕ → List ℕ) → ReadMap → List OptionalMember
+members_of spell m =
+    (codes "file", option_map string m.file)
+    ∷ (codes "ignoreList", unless_empty (map whole_number (ignored_from 0 m.listing.sources)))
+    ∷ (codes "mappings", Some (string (mappings_text m.listing.tokens)))
+    ∷ (codes "names", Some (list_of (map string m.listing.names)))
+    ∷ (
+      codes "sources",
+      Some (list_of (map (λ (e : Entry). or_null (option_map spell e.url)) m.listing.sources)),
+    )
+    ∷ (codes "sourcesContent", written_contents m.listing.sources)
+    ∷ (codes "version", Some (whole_number 3)) ∷ []
+
+-- what holds of a member, before what holds of the rest
+abbrev pub before_rest : {P Q : Type 0} → P → Q → P × Q
+before_rest p q = (p, q)
+
+-- ---- the value under a name
+
+abbrev pub value_of : List ℕ → List OptionalMember → Option Data
+value_of name [] = None
+value_of name (m ∷ ms) = match_ordering (slice_cmp nat_cmp name m.0)
+    (value_of name ms) (option_or m.1 (value_of name ms)) (value_of name ms)
+
+pub get-written : (name : List ℕ) (ms : List OptionalMember) → get_member name (written ms) ≡ value_of name ms
+get-written name [] = refl
+get-written name (m ∷ ms) = first m.1
+    ∙ ap (λ (v : Option Data). match_ordering (slice_cmp nat_cmp name m.0) v (option_or m.1 v) v)
+    (get-written name ms)
+  where
+    alike : (c : Ordering) (v : Option Data) → v ≡ match_ordering c v v v
+    alike Less v = refl
+    alike Equal v = refl
+    alike Greater v = refl
+
+    first : (o : Option Data) → get_member name (optional_member m.0 o (written ms))
+        ≡ match_ordering (slice_cmp nat_cmp name m.0) (get_member name (written ms))
+        (option_or o (get_member name (written ms))) (get_member name (written ms))
+    first None = alike (slice_cmp nat_cmp name m.0) (get_member name (written ms))
+    first (Some d) = refl
+
+-- ---- members that are read one after another
+
+-- the JSON of the value says it
+abbrev pub IsSaid : Data → Type 0
+IsSaid d = of_json (outline d) ≡ Some d
+
+abbrev pub are_after : List ℕ → List OptionalMember → Bool
+are_after name ms = list_all (λ m. is_gt (slice_cmp nat_cmp m.0 name)) ms
+
+-- the names rise
+abbrev pub rise : List OptionalMember → Bool
+rise [] = true
+rise (m ∷ ms) = are_after m.0 ms && rise ms
+
+-- the members, read after those that were found
+abbrev read_after : List OptionalMember → Members → Option Members
+read_after ms found = of_members (members_outline (written ms)) found
+
+-- A member stays before those with names after its own.
+stays_first : (name : List ℕ) (d : Data) (ms : List OptionalMember) → are_after name ms ≡ true
+    → (found : Members)
+    → read_after ms (member name d found) ≡ option_map (member name d) (read_after ms found)
+stays_first name d [] after found = refl
+stays_first name d (m ∷ ms) after found =
+    let parts = and_parts (is_gt (slice_cmp nat_cmp m.0 name)) (are_after name ms) after in
+    by m.1 parts.0 (stays_first name d ms parts.1)
+  where
+    greater : (c : Ordering) → is_gt c ≡ true → c ≡ Greater
+    greater Less h = absurd cc
+    greater Equal h = absurd cc
+    greater Greater h = refl
+
+    put_behind : (x : Data) → is_gt (slice_cmp nat_cmp m.0 name) ≡ true
+        → put m.0 x (member name d found) ≡ member name d (put m.0 x found)
+    put_behind x h = ap (λ (c : Ordering). match_ordering c (member m.0 x (member name d found))
+        (member name x found) (member name d (put m.0 x found))) (greater (slice_cmp nat_cmp m.0 name) h)
+
+    read : (o : Option Data) → is_gt (slice_cmp nat_cmp m.0 name) ≡ true
+        → ((ns : Members) → read_after ms (member name d ns) ≡ option_map (member name d) (read_after ms ns))
+        → option_and_then (λ x. read_after ms (put m.0 x (member name d found))) o
+        ≡ option_map (member name d) (option_and_then (λ x. read_after ms (put m.0 x found)) o)
+    read None h stays = refl
+    read (Some x) h stays = ap (read_after ms) (put_behind x h) ∙ stays (put m.0 x found)
+
+    by : (o : Option Data) → is_gt (slice_cmp nat_cmp m.0 name) ≡ true
+        → ((ns : Members) → read_after ms (member name d ns) ≡ option_map (member name d) (read_after ms ns))
+        → of_members (members_outline (optional_member m.0 o (written ms))) (member name d found)
+        ≡ option_map (member name d) (of_members (members_outline (optional_member m.0 o (written ms))) found)
+    by None h stays = stays found
+    by (Some e) h stays = read (of_json (outline e)) h stays
+
+-- Members whose names rise, and whose values are said, are read as they are written.
+pub members_said : (ms : List OptionalMember) → rise ms ≡ true → AllByRecursion (λ m. IfSome m.1 IsSaid) ms
+    → of_members (members_outline (written ms)) no_members ≡ Some (written ms)
+members_said [] rising said = refl
+members_said (m ∷ ms) rising said =
+    let parts = and_parts (are_after m.0 ms) (rise ms) rising in
+    by m.1 said.0 parts.0 (members_said ms parts.1 said.1)
+  where
+    by : (o : Option Data) → IfSome o IsSaid
+        → are_after m.0 ms ≡ true → read_after ms no_members ≡ Some (written ms)
+        → of_members (members_outline (optional_member m.0 o (written ms))) no_members
+        ≡ Some (optional_member m.0 o (written ms))
+    by None said after more = more
+    by (Some d) said after more =
+        ap (option_and_then (λ x. read_after ms (member m.0 x no_members))) said
+        ∙ stays_first m.0 d ms after no_members
+        ∙ ap (option_map (member m.0 d)) more

@@ -1,0 +1,29 @@
+-- One step of a definition after the other.
+use Rattle.std.proofs.Common.{◌≡◌, ◌∙◌, ap, refl, sym, subst, Ok, Err}
+use Rattle.std.specs.Prelude.{Result}
+use Rattle.smap_record.specs.declared.fault.ReadError.{ReadError}
+use Rattle.smap_record.specs.declared.fault.ReadError.TheVariants.{Refused, Memory}
+use Rattle.smap_record.specs.Results.{Fails}
+use Rattle.smap_record.specs.Faults.{Checked, ◌>>=◌}
+
+-- a value was there at each step, if there is one at the end
+pub bound : {A B F : Type 0} (r : Result A F) (f : A → Result B F) (y : B) → (r >>= f) ≡ Ok y
+    → (x : A) × (r ≡ Ok x) × (f x ≡ Ok y)
+bound (Ok x) f y h = (x, refl, h)
+bound (Err e) f y h = absurd cc
+
+-- the first step has a value
+pub then_ok : {A B : Type 0} (r : Checked A) (x : A) (f : A → Checked B) (whole : Checked B)
+    → r ≡ Ok x → f x ≡ whole → (r >>= f) ≡ whole
+then_ok {A} r x f whole is next = ap (λ (r : Checked A). r >>= f) is ∙ next
+
+-- the first step has the fault
+pub first_fails : {A B : Type 0} (error : ReadError) (r : Checked A) (f : A → Checked B)
+    → Fails error r → Fails error (r >>= f)
+first_fails {A} (Refused fault) r f is = ap (λ (r : Checked A). r >>= f) is
+first_fails Memory r f is = tt
+
+-- the first step has a value, and the fault is in what is after it
+pub then_fails : {A B : Type 0} (error : ReadError) (r : Checked A) (x : A) (f : A → Checked B)
+    → r ≡ Ok x → Fails error (f x) → Fails error (r >>= f)
+then_fails {A} error r x f is fails = subst (λ (r : Checked A). Fails error (r >>= f)) (sym is) fails

@@ -1,0 +1,10 @@
+use Rattle.std.proofs.Common.{◌+◌, sym}
+use Rattle.smap_mappings.specs.declared.token.Token.{Token}
+use Rattle.smap_record.proofs.ListLemmas.{last_at}
+use Rattle.smap_record.proofs.map.SourceMap.line_count.Goals as goal
+
+pub returns : goal.returns
+returns c =
+    let tokens = c.args.self.now.listing.tokens in
+    let last = rw c.token_count-count.ensures.count at c.listed_token.ensures in
+    sym (last_at (λ (t : Token). t.line + 1) 0 tokens c.listed_token.result last)
