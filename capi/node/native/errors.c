@@ -1,43 +1,6 @@
 /* Errors, which are thrown as JavaScript objects. */
 #include "smap_node.h"
 
-/* The names of docs/FORMAT.md. A test compares them with the header's. */
-static const char *const kinds[] = {
-    [SMAP_FAULT_PREFIX] = "Prefix",
-    [SMAP_FAULT_JSON] = "Json",
-    [SMAP_FAULT_NOT_OBJECT] = "NotObject",
-    [SMAP_FAULT_VERSION] = "Version",
-    [SMAP_FAULT_FILE] = "File",
-    [SMAP_FAULT_BOTH] = "Both",
-    [SMAP_FAULT_SOURCE_ROOT] = "SourceRoot",
-    [SMAP_FAULT_SOURCES] = "Sources",
-    [SMAP_FAULT_SOURCES_CONTENT] = "SourcesContent",
-    [SMAP_FAULT_NAMES] = "Names",
-    [SMAP_FAULT_IGNORE_LIST] = "IgnoreList",
-    [SMAP_FAULT_MAPPINGS] = "Mappings",
-    [SMAP_FAULT_SECTIONS] = "Sections",
-    [SMAP_FAULT_OFFSET] = "Offset",
-    [SMAP_FAULT_SECTION_MAP] = "SectionMap",
-    [SMAP_FAULT_NESTED] = "Nested",
-    [SMAP_FAULT_ORDER] = "Order",
-    [SMAP_FAULT_OVERLAP] = "Overlap",
-    [SMAP_FAULT_TOO_MANY] = "TooMany",
-    [SMAP_FAULT_SOURCE_URL] = "SourceUrl",
-    [SMAP_FAULT_UNSTABLE_URL] = "UnstableUrl",
-    [SMAP_FAULT_EMPTY] = "Empty",
-    [SMAP_FAULT_UNFINISHED] = "Unfinished",
-    [SMAP_FAULT_CHARACTER] = "Character",
-    [SMAP_FAULT_TOO_LARGE] = "TooLarge",
-    [SMAP_FAULT_NEGATIVE_ZERO] = "NegativeZero",
-    [SMAP_FAULT_COUNT] = "Count",
-    [SMAP_FAULT_GENERATED_LINE] = "GeneratedLine",
-    [SMAP_FAULT_COLUMN] = "Column",
-    [SMAP_FAULT_SOURCE] = "Source",
-    [SMAP_FAULT_ORIGINAL_LINE] = "OriginalLine",
-    [SMAP_FAULT_ORIGINAL_COLUMN] = "OriginalColumn",
-    [SMAP_FAULT_NAME] = "Name",
-};
-
 static const char *const codes[] = {
     [SMAP_OK] = "SMAP_OK",         [SMAP_REFUSED] = "SMAP_REFUSED", [SMAP_NOT_URL] = "SMAP_NOT_URL",
     [SMAP_LIMITS] = "SMAP_LIMITS", [SMAP_MEMORY] = "SMAP_MEMORY",   [SMAP_CLOSED] = "SMAP_CLOSED",
@@ -60,10 +23,11 @@ napi_value failed(napi_env env)
 /* The words of SmapError that a fault gives: the message, the kind, the line, the segment, and the number. */
 static napi_value put_fault(napi_env env, const smap_fault *fault, napi_value *words)
 {
+    char kind[32];
     size_t len = fault->text_len < sizeof fault->text ? fault->text_len : sizeof fault->text - 1;
     CALL(napi_create_string_utf8(env, fault->text, len, &words[1]));
-    if (fault->kind && fault->kind < sizeof kinds / sizeof *kinds)
-        CALL(napi_create_string_utf8(env, kinds[fault->kind], NAPI_AUTO_LENGTH, &words[2]));
+    size_t kind_len = smap_fault_name(fault->kind, kind, sizeof kind);
+    if (kind_len && kind_len <= sizeof kind) CALL(napi_create_string_utf8(env, kind, kind_len, &words[2]));
     if (fault->has_place) {
         CALL(napi_create_uint32(env, fault->line, &words[3]));
         CALL(napi_create_uint32(env, fault->segment, &words[4]));

@@ -20,9 +20,7 @@ boxed_map *new_map(void)
     return boxed;
 }
 
-/* Tells V8 that so many bytes more, or fewer, hang on its objects: it sees some ten bytes of a handle, and
- * would have no reason to collect it. */
-static void tell_held(napi_env env, int64_t more)
+void tell_held(napi_env env, int64_t more)
 {
     int64_t now;
     if (more) napi_adjust_external_memory(env, more, &now);
@@ -53,36 +51,10 @@ napi_value map_out(napi_env env, boxed_map *boxed, int64_t held)
     return handle;
 }
 
-static size_t length_of_sources(smap_map *map, size_t count)
+int64_t held_by(smap_map *map)
 {
-    size_t all = 0;
-    for (size_t i = 0; i < count; i++) {
-        size_t content = 0, url = 0;
-        smap_source_content(map, i, NULL, 0, &content);
-        smap_source_url(map, i, NULL, 0, &url);
-        all += content + url;
-    }
-    return all;
-}
-
-static size_t length_of_names(smap_map *map, size_t count)
-{
-    size_t all = 0;
-    for (size_t i = 0; i < count; i++) {
-        size_t name = 0;
-        smap_listed_name(map, i, NULL, 0, &name);
-        all += name;
-    }
-    return all;
-}
-
-/* Measured: 32 bytes a mapping, 150 a source and 48 a name, besides their texts. */
-int64_t estimate_held(smap_map *map)
-{
-    smap_counts c;
-    if (smap_count(map, &c) != SMAP_OK) return 0;
-    return (int64_t)(32 * c.mappings + 150 * c.sources + length_of_sources(map, c.sources) + 48 * c.names +
-                     length_of_names(map, c.names));
+    size_t bytes = 0;
+    return smap_held(map, &bytes) == SMAP_OK ? (int64_t)bytes : 0;
 }
 
 /* ---- opening and closing */
@@ -112,7 +84,7 @@ napi_value do_open(napi_env env, napi_callback_info info)
     uint32_t code = open_text(boxed, &text, &url, &limits, &fault);
     text_done(&text);
     text_done(&url);
-    if (code == SMAP_OK) return map_out(env, boxed, estimate_held(&boxed->map));
+    if (code == SMAP_OK) return map_out(env, boxed, held_by(&boxed->map));
     free(boxed);
     return throw_code(env, code, &fault);
 }

@@ -19,56 +19,68 @@ napi_value do_counts(napi_env env, napi_callback_info info)
     return numbers_out(env, all, 5);
 }
 
-/* lookup(map, line, column): whether there is a mapping. Its numbers are in `found` then: line, column,
- * source, source line, source column, and as bits whether it has a source, a name, and is ignored. */
+/* A mapping, by its number, in the array that index.js reads: line, column, source, source line, source
+ * column; as bits whether it has a source, a name, and is ignored; the number; and the listed name. */
+static uint32_t put_found(smap_map *map, size_t i, uint32_t *found)
+{
+    smap_mapping m;
+    smap_listed_mapping listed;
+    uint32_t code = smap_token(map, i, &m);
+    if (code == SMAP_OK) code = smap_listed_token(map, i, &listed);
+    if (code != SMAP_OK) return code;
+    found[0] = m.line;
+    found[1] = m.column;
+    found[2] = (uint32_t)m.source;
+    found[3] = m.source_line;
+    found[4] = m.source_column;
+    found[5] = (uint32_t)m.has_source | (uint32_t)m.has_name << 1 | (uint32_t)m.is_ignored << 2;
+    found[6] = (uint32_t)i;
+    found[7] = listed.name;
+    return SMAP_OK;
+}
+
+/* lookup(map, line, column): whether there is a mapping. It is in `found` then. */
 napi_value do_lookup(napi_env env, napi_callback_info info)
 {
     thread_data *own;
-    smap_mapping m;
     uint32_t line, column;
     napi_value out, w[3];
-    size_t wn = 3;
+    size_t wn = 3, i;
     CALL(napi_get_cb_info(env, info, &wn, w, NULL, (void **)&own));
     boxed_map *boxed = map_of(env, w[0]);
     if (!boxed) return NULL;
     CALL(napi_get_value_uint32(env, w[1], &line));
     CALL(napi_get_value_uint32(env, w[2], &column));
-    uint32_t code = smap_lookup(&boxed->map, line, column, &m);
+    uint32_t code = smap_find(&boxed->map, line, column, &i);
+    if (code == SMAP_OK && own->found) code = put_found(&boxed->map, i, own->found);
     if (code != SMAP_OK && code != SMAP_NONE) return throw_code(env, code, NULL);
-    if (code == SMAP_OK && own->found) {
-        own->found[0] = m.line;
-        own->found[1] = m.column;
-        own->found[2] = (uint32_t)m.source;
-        own->found[3] = m.source_line;
-        own->found[4] = m.source_column;
-        own->found[5] = (uint32_t)m.has_source | (uint32_t)m.has_name << 1 | (uint32_t)m.is_ignored << 2;
-    }
     CALL(napi_get_boolean(env, code == SMAP_OK, &out));
     return out;
 }
 
-/* ---- texts that are copied: the file, a source's URL or content, a name */
+/* ---- texts that are copied: the file, a source's URL or content, a name, a source or root as written */
 
-enum { GET_FILE, GET_NAME_AT, GET_URL, GET_CONTENT, GET_LISTED_NAME };
+enum { GET_FILE, GET_URL, GET_CONTENT, GET_LISTED_NAME, GET_WRITTEN_SOURCE, GET_WRITTEN_ROOT };
 
-static uint32_t get(smap_map *map, uint32_t which, const uint32_t *at, char *out, size_t room, size_t *len)
+static uint32_t get(smap_map *map, uint32_t which, uint32_t i, char *out, size_t room, size_t *len)
 {
     switch (which) {
     case GET_FILE: return smap_file(map, out, room, len);
-    case GET_NAME_AT: return smap_name_at(map, at[0], at[1], out, room, len);
-    case GET_URL: return smap_source_url(map, at[0], out, room, len);
-    case GET_CONTENT: return smap_source_content(map, at[0], out, room, len);
-    default: return smap_listed_name(map, at[0], out, room, len);
+    case GET_URL: return smap_source_url(map, i, out, room, len);
+    case GET_CONTENT: return smap_source_content(map, i, out, room, len);
+    case GET_LISTED_NAME: return smap_listed_name(map, i, out, room, len);
+    case GET_WRITTEN_SOURCE: return smap_written_source(map, i, out, room, len);
+    default: return smap_written_root(map, i, out, room, len);
     }
 }
 
 /* The text as a string, or null if there is none. */
-static napi_value got(napi_env env, smap_map *map, uint32_t which, const uint32_t *at)
+static napi_value got(napi_env env, smap_map *map, uint32_t which, uint32_t i)
 {
     char room[1024], *long_room;
     size_t len = 0;
     napi_value out = NULL;
-    uint32_t code = get(map, which, at, room, sizeof room, &len);
+    uint32_t code = get(map, which, i, room, sizeof room, &len);
     if (code == SMAP_NONE) {
         CALL(napi_get_null(env, &out));
         return out;
@@ -77,21 +89,20 @@ static napi_value got(napi_env env, smap_map *map, uint32_t which, const uint32_
     if (len <= sizeof room) return string_out(env, room, len);
     long_room = malloc(len);
     if (!long_room) return throw_code(env, SMAP_MEMORY, NULL);
-    code = get(map, which, at, long_room, len, &len);
+    code = get(map, which, i, long_room, len, &len);
     out = code == SMAP_OK ? string_out(env, long_room, len) : throw_code(env, code, NULL);
     free(long_room);
     return out;
 }
 
-/* text(map, which, i, j): a string or null */
+/* text(map, which, i): a string or null */
 napi_value do_text(napi_env env, napi_callback_info info)
 {
-    uint32_t which, at[2];
-    MAP_AND(4);
+    uint32_t which, i;
+    MAP_AND(3);
     CALL(napi_get_value_uint32(env, w[1], &which));
-    CALL(napi_get_value_uint32(env, w[2], &at[0]));
-    CALL(napi_get_value_uint32(env, w[3], &at[1]));
-    return got(env, &boxed->map, which, at);
+    CALL(napi_get_value_uint32(env, w[2], &i));
+    return got(env, &boxed->map, which, i);
 }
 
 /* texts(map, which, count): the texts of the numbers below `count` */
@@ -105,9 +116,8 @@ napi_value do_texts(napi_env env, napi_callback_info info)
     CALL(napi_get_value_uint32(env, w[2], &count));
     CALL(napi_create_array_with_length(env, count, &out));
     for (uint32_t i = 0; i < count; i++) {
-        const uint32_t at[2] = {i, 0};
         CALL(napi_open_handle_scope(env, &scope));
-        napi_value one = got(env, &boxed->map, which, at);
+        napi_value one = got(env, &boxed->map, which, i);
         napi_status status = one ? napi_set_element(env, out, i, one) : napi_pending_exception;
         if (status != napi_ok) failed(env);
         napi_close_handle_scope(env, scope);

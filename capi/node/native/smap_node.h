@@ -41,6 +41,7 @@ typedef struct boxed_scripts {
     uint32_t tag;
     bool is_closed; /* by the user: it isn't opened again */
     smap_scripts scripts;
+    int64_t held; /* what V8 was told of it */
 } boxed_scripts;
 
 /* A call of Node-API fails if memory runs out, an exception is pending, a worker is being ended, or a value
@@ -96,8 +97,12 @@ boxed_map *new_map(void);
 /* A handle of an open map, of which V8 is told that it holds so many bytes; or throws, and frees it. */
 napi_value map_out(napi_env env, boxed_map *boxed, int64_t held);
 
-/* How many bytes a map holds, as far as it can be told from outside. */
-int64_t estimate_held(smap_map *map);
+/* How many bytes an open map holds, about. */
+int64_t held_by(smap_map *map);
+
+/* Tells V8 that so many bytes more, or fewer, hang on its objects: it sees some ten bytes of a handle, and
+ * would have no reason to collect it. */
+void tell_held(napi_env env, int64_t more);
 
 /* ---- what index.js calls */
 

@@ -13,9 +13,9 @@ boxed_scripts *scripts_of(napi_env env, napi_value value)
 static void free_scripts(napi_env env, void *at, void *hint)
 {
     boxed_scripts *boxed = at;
-    (void)env;
     (void)hint;
     smap_close_scripts(&boxed->scripts);
+    tell_held(env, -boxed->held);
     free(boxed);
 }
 
@@ -32,19 +32,30 @@ napi_value do_scripts(napi_env env, napi_callback_info info)
     return failed(env);
 }
 
-/* addScript(scripts, url, map) */
+/* addScript(scripts, url, map, gone): how many bytes the map holds. V8 is told that the scripts hold them in
+ * place of the `gone` bytes of the map that the script had; or of nothing, if `gone` is -1. */
 napi_value do_add_script(napi_env env, napi_callback_info info)
 {
     text_in url;
-    ARGUMENTS(3);
+    int64_t gone, held;
+    napi_value out;
+    ARGUMENTS(4);
     boxed_scripts *boxed = scripts_of(env, w[0]);
     boxed_map *map = boxed ? map_of(env, w[2]) : NULL;
     if (!map) return NULL;
+    CALL(napi_get_value_int64(env, w[3], &gone));
     if (boxed->is_closed) return throw_code(env, SMAP_CLOSED, NULL);
     if (!text_of(env, w[1], &url)) return NULL;
     uint32_t code = smap_add_script(&boxed->scripts, url.at, url.len, &map->map);
     text_done(&url);
-    return code == SMAP_OK ? NULL : throw_code(env, code, NULL);
+    if (code != SMAP_OK) return throw_code(env, code, NULL);
+    held = map->held;
+    if (gone >= 0) {
+        tell_held(env, held - gone);
+        boxed->held += held - gone;
+    }
+    CALL(napi_create_int64(env, held, &out));
+    return out;
 }
 
 /* closeScripts(scripts) */
@@ -55,6 +66,8 @@ napi_value do_close_scripts(napi_env env, napi_callback_info info)
     if (!boxed) return NULL;
     smap_close_scripts(&boxed->scripts);
     boxed->is_closed = true;
+    tell_held(env, -boxed->held);
+    boxed->held = 0;
     return NULL;
 }
 

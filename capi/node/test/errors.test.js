@@ -96,15 +96,16 @@ test('half a surrogate pair is no JSON, and is not mended', () => {
 
 const header = path.join(__dirname, '..', '..', 'smap.h');
 const is = { skip: fs.existsSync(header) ? false : 'no smap.h beside the package' };
+const kindsOf = types => /type SmapErrorKind =([^;]*);/.exec(types)[1].match(/\w+/g);
 const words = name => name.toLowerCase().replace(/(^|_)([a-z])/g, (_, __, letter) => letter.toUpperCase());
 
 test('the names of kinds and codes are those of the header', is, () => {
   const text = fs.readFileSync(header, 'utf8');
   const source = fs.readFileSync(path.join(__dirname, '..', 'native', 'errors.c'), 'utf8');
+  const types = fs.readFileSync(path.join(__dirname, '..', 'index.d.ts'), 'utf8');
   const kinds = [...text.matchAll(/^ {4}SMAP_FAULT_([A-Z_]+) = \d+/gm)].map(match => match[1]);
-  const named = [...source.matchAll(/\[SMAP_FAULT_([A-Z_]+)\] = "(\w+)"/g)];
   assert.equal(kinds.length, 33);
-  assert.deepEqual(named.map(match => [match[1], match[2]]), kinds.map(kind => [kind, words(kind)]));
+  assert.deepEqual(kindsOf(types), kinds.map(words));
   const codes = [...text.matchAll(/^ {4}(SMAP_[A-Z_]+) = [0-7],? +\/\*/gm)].map(match => match[1])
     .filter(name => !/FAULT|KEPT|HIDE|ANYWHERE|IGNORE/.test(name));
   assert.deepEqual([...source.matchAll(/\[(SMAP_(?!FAULT)\w+)\] = "\1"/g)].map(match => match[1]), codes);
@@ -113,6 +114,5 @@ test('the names of kinds and codes are those of the header', is, () => {
 
 test('each kind has a map above, but one that no URL parser gives cause for', is, () => {
   const types = fs.readFileSync(path.join(__dirname, '..', 'index.d.ts'), 'utf8');
-  const listed = /type SmapErrorKind =([^;]*);/.exec(types)[1].match(/\w+/g);
-  assert.deepEqual(Object.keys(KINDS), listed.filter(kind => kind !== 'UnstableUrl'));
+  assert.deepEqual(Object.keys(KINDS), kindsOf(types).filter(kind => kind !== 'UnstableUrl'));
 });

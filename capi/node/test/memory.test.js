@@ -70,6 +70,36 @@ test('the collector is told what a map holds, until it is closed', collects, asy
   assert.ok(Math.abs((await told()) - before) < 2e5);
 });
 
+test('the collector is told what scripts hold, once a map by itself is closed too', collects, async () => {
+  const told = async () => {
+    global.gc();
+    await turn();
+    return native.told();
+  };
+  const bytes = Buffer.from(large);
+  const map = new SourceMap(bytes, BASE);
+  const held = map.heldBytes;
+  const scripts = new Scripts();
+  const before = (await told()) - held;
+  const isNear = async (wants, why) => {
+    const has = (await told()) - before;
+    assert.ok(Math.abs(has - wants) < 2e5, `${why}: ${has}, not ${wants}`);
+  };
+  const other = new SourceMap(bytes, BASE);
+  const small = new SourceMap('{"version":3,"mappings":""}', BASE);
+  scripts.add('http://h/a.js', map).add('http://h/a.js', map).add('http://h/b.js', other);
+  map.close();
+  other.close();
+  await isNear(2 * held, 'two scripts, one of them given its map twice');
+  scripts.add('http://h/b.js', small);
+  await isNear(held, 'the second one has a small map now');
+  scripts.close();
+  scripts.close();
+  await isNear(0, 'closed');
+  assert.throws(() => scripts.add('http://h/a.js', small), { code: 'SMAP_CLOSED' });
+  await isNear(0, 'a closed one takes nothing');
+});
+
 test('Symbol.dispose closes', { skip: Symbol.dispose ? false : 'no Symbol.dispose here' }, () => {
   const map = new SourceMap(large, BASE);
   map[Symbol.dispose]();

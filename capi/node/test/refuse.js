@@ -27,6 +27,7 @@ const CALLS = {
   content: () => assert.equal(map.content(1), long),
   names: () => assert.equal(new SourceMap(text, BASE).names[1], long),
   sources: () => assert.equal(new SourceMap(text, BASE).sources.length, 2),
+  written: () => assert.equal(new SourceMap(text, BASE).writtenSources[1].source, long),
   table: () => assert.equal(new SourceMap(text, BASE).table().length, 3),
   canonical: () => assert.ok(map.canonical().length > 5000),
   relative: () => assert.ok(map.canonical({ relative: true, buffer: true }).length > 5000),

@@ -89,8 +89,10 @@ function both(ask) {
 
 test('the mappings are those of trace-mapping', needs('@jridgewell/trace-mapping', theirs), () => {
   both(ask => {
-    ask((_, map) => [map.sources, map.names, map.file, map.sourceRoot, map.version, map.sourcesContent]);
-    ask((T, map) => T.encodedMappings(map));
+    ask((_, map) => [map.sources, map.names, map.file, map.sourceRoot, map.version]);
+    // No contents are as good as none of them, and empty lines at the end as none.
+    ask((_, map) => (map.sourcesContent?.some(content => content !== null) ? map.sourcesContent : null));
+    ask((T, map) => T.encodedMappings(map).replace(/;+$/, ''));
     const all = ask((T, map) => {
       const all = [];
       T.eachMapping(map, m => all.push({ ...m }));

@@ -9,7 +9,9 @@ const map: SourceMap = new SourceMap('{}', new URL('http://h/'), { limits: { ite
 const found = map.lookup(0, Infinity);
 const source: string | null | undefined = found?.source;
 const line: number | null = found!.sourceLine;
-for (const mapping of map) console.log(mapping.column + 1, mapping.isIgnored, source, line);
+const next: number = found!.index + 1;
+const written: string[] = map.writtenSources.map(({ source, root }) => (root ?? '') + (source ?? next));
+for (const mapping of map) console.log(mapping.column + 1, mapping.isIgnored, source, line, written);
 const text: string = map.canonical({ relative: true });
 const log: string = map.translate('x', 'http://h/', { hideIgnored: true, anywhere: true });
 const later: Promise<SourceMap> = SourceMap.open({ version: 3 }, 'http://h/');
