@@ -71,7 +71,9 @@ fn sources_and_lists(map: &Map) {
     assert_eq!((map.listed_source(2), map.listed_source(3), map.listed_source(4)), (Some(0), Some(2), None));
     assert_eq!((map.listed_name(2).as_deref(), map.listed_name(3)), (Some("f"), None));
     // the map and "out.js", three sources with two URLs of 15 bytes and "x", four listed, three names of one
-    assert_eq!(map.held(), 1024 + 6 + (3 * 144 + 2 * 15 + 1) + 4 * 8 + 3 * (48 + 1) + 4 * 32);
+    let record = 1408 + 6 + (3 * 144 + 2 * 15 + 1) + 4 * 8 + 3 * (48 + 1) + 4 * 32;
+    // three listed sources of four bytes and a null, and a table of two lines
+    assert_eq!(map.held(), record + (4 * 48 + 3 * 4) + 3 * 8);
     assert_eq!((map.written_source(2).as_deref(), map.written_source(3)), (Some("a.js"), None));
     assert_eq!((map.written_root(2), map.written_source(4)), (None, None));
     let columns: Vec<u32> = map.mappings().map(|m| m.column).collect();
@@ -149,6 +151,6 @@ fn main() -> Result<(), Error> {
     let other = map.share()?;
     let found = std::thread::spawn(move || other.lookup(0, 5)).join().unwrap();
     assert_eq!(found, map.lookup(0, 5));
-    assert_eq!(smap::version(), (0, 1, 0));
+    assert_eq!(smap::version(), (0, 2, 0));
     Ok(())
 }

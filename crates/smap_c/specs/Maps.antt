@@ -123,7 +123,7 @@ name_memory name = 48 + length name
 -- what each map takes, with its file; its distinct sources, its names as listed, its sources as listed, which
 -- are numbers, and its mappings
 abbrev pub memory_of : ReadMap → ℕ
-memory_of m = (1024 + text_memory m.file) + (sum_by source_memory (record_of m).sources
+memory_of m = (1408 + text_memory m.file) + (sum_by source_memory (record_of m).sources
     + (sum_by name_memory m.listing.names + (8 * length m.listing.sources + 32 * length m.listing.tokens)))
 
 -- a source as it is written

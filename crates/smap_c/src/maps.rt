@@ -257,7 +257,7 @@ pub extern "C" fn smap_count(alloc: Global, map: &mut SmapMap, out: &mut SmapCou
 }
 
 /// What a map takes besides its strings and the things below: its base, and tables that are nearly empty.
-const OF_MAP: usize = 1024;
+const OF_MAP: usize = 1408;
 
 /// What a distinct source takes besides its strings, with its place in the table that finds it.
 const OF_SOURCE: usize = 144;
