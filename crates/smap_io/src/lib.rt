@@ -7,6 +7,8 @@
 //! the loops over it.
 #![tactic(auto)]
 
+#[cfg(test)]
+mod asserted;
 mod device;
 mod reading;
 #[cfg(test)]

@@ -9,9 +9,10 @@ mod urls;
 mod words;
 mod written;
 
+use crate::asserted::{equal, holds};
 use smap_mappings::Original;
 use smap_record::{Base, Fault, Limits, OriginalView, ReadError, SourceMap};
-use smap_testing::{equal, holds, parts, rows};
+use smap_testing::{parts, rows};
 use std::alloc::AllocError;
 use std::process::Abort;
 use std::test::Fail;

@@ -5,9 +5,9 @@ mod index;
 mod map;
 mod sections;
 
+use crate::asserted::equal;
 use serde_json::Value;
 use smap_shape::{FlatShape, IndexShape, Shape, ShapeFault, shape};
-use smap_testing::equal;
 use std::process::Abort;
 use std::test::Fail;
 

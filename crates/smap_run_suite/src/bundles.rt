@@ -1,8 +1,9 @@
 //! Bundles as they are read, and their first faults.
+use crate::asserted::{equal, holds};
 use smap_bundle::{Bundle, BundleFault, EntryFault, Refusal, read_bundle};
 use smap_io::Device;
 use smap_record::{Fault, Kind, Path};
-use smap_testing::{SlowReader, equal, holds};
+use smap_testing::SlowReader;
 use std::process::Abort;
 use std::test::Fail;
 

@@ -1,5 +1,5 @@
 //! Arguments, and the tasks that they are. A command line is written with one space between its words.
-use smap_testing::{equal, holds};
+use crate::asserted::{equal, holds};
 use smap_tool::{Task, WordsFault, task_of};
 use smap_trace::Finding;
 use std::alloc::{AllocError, Global};

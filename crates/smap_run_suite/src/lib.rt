@@ -7,6 +7,8 @@
 #![tactic(auto)]
 
 #[cfg(test)]
+mod asserted;
+#[cfg(test)]
 mod bundles;
 #[cfg(test)]
 mod command_lines;

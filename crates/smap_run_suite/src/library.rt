@@ -1,8 +1,9 @@
 //! The library's calls, in the order in which README's example makes them.
+use crate::asserted::equal;
 use smap_canon::canonical;
 use smap_io::Device;
 use smap_record::{Base, Limits, SourceMap};
-use smap_testing::{SlowReader, SlowWriter, equal};
+use smap_testing::{SlowReader, SlowWriter};
 use smap_trace::{lookup, translate};
 
 const MAP: &str = r#"{"version":3,"sources":["a.js"],"mappings":"AAUE,IAEA"}"#;

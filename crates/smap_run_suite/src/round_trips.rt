@@ -1,9 +1,10 @@
 //! Maps that are read again from their canonical bytes.
+use crate::asserted::{equal, holds};
 use crate::runs::{BASE, TWO_NAMES, TWO_SECTIONS};
 use smap_canon::same;
 use smap_io::Device;
 use smap_record::{Base, Limits, ReadError, SourceMap};
-use smap_testing::{SlowReader, SlowWriter, equal, holds};
+use smap_testing::{SlowReader, SlowWriter};
 use smap_tool::round_trips::read_again;
 use smap_trace::translate;
 use std::process::Abort;

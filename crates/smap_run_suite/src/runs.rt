@@ -13,8 +13,9 @@ mod sections;
 mod tidy;
 mod translate;
 
+use crate::asserted::equal;
 use smap_io::Device;
-use smap_testing::{SlowReader, SlowWriter, equal};
+use smap_testing::{SlowReader, SlowWriter};
 use smap_tool::{Outcome, RunFault, Task, run};
 use std::alloc::Global;
 use std::process::Abort;

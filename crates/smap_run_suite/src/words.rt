@@ -1,6 +1,6 @@
 //! What the program answers where a run has ended: its exit status, and what an error says of itself by `{}`,
 //! which are the words of the program's own messages after `smap: `.
-use smap_testing::equal;
+use crate::asserted::equal;
 use smap_tool::{Outcome, RunFault, status};
 use smap_trace::TraceError;
 use std::test::Fail;

@@ -1,10 +1,11 @@
 //! Assertions as calls. A test that calls these is proved several times faster than one with the branches
-//! of `assert_eq!` in it, all the more where it keeps a map, a text or a device alive across them.
+//! of `assert_eq!` in it, all the more where it keeps a map, a text or a device alive across them. Only tests
+//! may end the process, so no library can have these: each crate with tests has its own.
 use std::fmt::Debug;
 use std::process::Abort;
 
 /// Asserts that what was found is what was expected, and says otherwise of which row or thing it was found.
-pub fn equal<R: Copy + Debug, T: Copy + Debug + PartialEq>(
+pub(crate) fn equal<R: Copy + Debug, T: Copy + Debug + PartialEq>(
     rt: &impl Abort,
     row: R,
     found: T,
@@ -14,6 +15,6 @@ pub fn equal<R: Copy + Debug, T: Copy + Debug + PartialEq>(
 }
 
 /// Asserts a claim, and says otherwise of which row or thing it fails.
-pub fn holds<R: Copy + Debug>(rt: &impl Abort, row: R, claim: bool) {
+pub(crate) fn holds<R: Copy + Debug>(rt: &impl Abort, row: R, claim: bool) {
     assert!(rt; claim, "{row:?}");
 }

@@ -1,21 +1,21 @@
-//! Readers and writers over memory, tables of rows, and assertions, for the tests of the other crates.
+//! Readers and writers over memory, and tables of rows, for the tests of the other crates.
 //!
 //! Tests can see what no contract says of a reader or a writer: how often it was called, what comes of a
 //! call that fails, and what was written by the time of a read. The public fields show it. The program
 //! doesn't use this crate.
 #![tactic(auto)]
 
-mod asserted;
 mod slow_reader;
 mod slow_writer;
 mod table;
 mod watched;
 
-pub use asserted::{equal, holds};
 pub use slow_reader::{LongReader, SlowReader};
 pub use slow_writer::SlowWriter;
 pub use table::{parts, rows};
 pub use watched::{WatchedWriter, WatchingReader};
 
+#[cfg(test)]
+mod asserted;
 #[cfg(test)]
 mod tests;

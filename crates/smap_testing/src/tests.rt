@@ -1,7 +1,6 @@
 //! What these readers, writers and tables do, on which the tests of other crates rest.
-use super::{
-    LongReader, SlowReader, SlowWriter, WatchedWriter, WatchingReader, equal, holds, parts, rows,
-};
+use super::{LongReader, SlowReader, SlowWriter, WatchedWriter, WatchingReader, parts, rows};
+use crate::asserted::{equal, holds};
 use std::cell::Cell;
 use std::io::{Read, Write};
 use std::test::Fail;

@@ -2,11 +2,12 @@
 mod forms;
 mod relative;
 
+use crate::asserted::{equal, holds};
 use crate::reading::{base, read};
 use smap_canon::round_trips::{flattened, have_equal_bytes, tidied};
 use smap_canon::{canonical, canonical_mappings, canonical_relative, flatten, same};
 use smap_record::{Kind, Limits, ReadError};
-use smap_testing::{equal, holds, parts, rows};
+use smap_testing::{parts, rows};
 use std::process::Abort;
 use std::test::Fail;
 

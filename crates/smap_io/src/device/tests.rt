@@ -2,7 +2,8 @@
 //! count their calls. No clause can see how often a device calls its reader or writer: these tests do.
 
 use super::{Device, Failed};
-use smap_testing::{SlowReader, SlowWriter, equal, holds};
+use crate::asserted::{equal, holds};
+use smap_testing::{SlowReader, SlowWriter};
 
 #[test]
 fn a_read_is_one_call_also_where_it_fails(rt: HostRuntime) {

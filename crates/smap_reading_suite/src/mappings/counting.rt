@@ -1,6 +1,6 @@
 //! Mappings strings, with the number of their segments.
+use crate::asserted::equal;
 use smap_mappings::count_segments;
-use smap_testing::equal;
 use std::test::Fail;
 
 /// The parts between the commas of nonempty lines, counted one by one.

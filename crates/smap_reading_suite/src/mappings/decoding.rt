@@ -1,9 +1,9 @@
 //! Mappings strings, with their tokens or their fault.
 use super::WIDE;
+use crate::asserted::equal;
 use smap_mappings::{
     Bounds, MappingsError, NumberFault, Original, SegmentKind, SegmentPlace, Token, decode,
 };
-use smap_testing::equal;
 use std::alloc::Global;
 use std::process::Abort;
 use std::test::Fail;

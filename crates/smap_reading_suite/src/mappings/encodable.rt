@@ -1,6 +1,6 @@
 //! Tokens that have a mappings string, and tokens that have none.
+use crate::asserted::holds;
 use smap_mappings::{Token, is_encodable};
-use smap_testing::holds;
 
 fn at(line: u32, column: u32) -> Token {
     Token {

@@ -1,7 +1,7 @@
 //! Tokens, and their canonical mappings string.
 use super::WIDE;
+use crate::asserted::{equal, holds};
 use smap_mappings::{Original, Token, decode, encode, is_encodable};
-use smap_testing::{equal, holds};
 use std::alloc::Global;
 use std::process::Abort;
 use std::test::Fail;

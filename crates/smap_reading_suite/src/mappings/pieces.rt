@@ -1,9 +1,9 @@
 //! Mappings strings in pieces, compared with the whole.
 use super::WIDE;
+use crate::asserted::{equal, holds};
 use smap_mappings::{
     MappingsError, MappingsReader, NumberFault, SegmentKind, SegmentPlace, Token, decode,
 };
-use smap_testing::{equal, holds};
 use std::alloc::Global;
 use std::process::Abort;
 use std::test::Fail;

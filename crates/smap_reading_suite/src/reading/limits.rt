@@ -1,8 +1,8 @@
 //! The limits on sources, names and lines.
 use super::{are_answered, usual_base};
+use crate::asserted::equal;
 use smap_mappings::{MAX_LINES, MAX_POSITION};
 use smap_record::Limits;
-use smap_testing::equal;
 use std::test::Fail;
 
 /// What a row shows, a map, and the result if no source, name or line is allowed.

@@ -1,7 +1,7 @@
 //! Index maps: where sections are placed, what they list together, and why they are rejected.
 use super::{are_answered, is_answered, usual_base};
+use crate::asserted::{equal, holds};
 use smap_record::{Limits, Path};
-use smap_testing::{equal, holds};
 use std::test::Fail;
 
 /// What a row shows, an index map, and the result.

@@ -2,8 +2,9 @@
 //! `sourceRoot` was put before the source by hand. Expected relative URLs resolve to the URL again by Node's
 //! `new URL(relative, base)`.
 use super::{are_answered, base_of, is_answered, usual_base};
+use crate::asserted::{equal, holds};
 use smap_record::{Base, BaseFault, Limits};
-use smap_testing::{equal, holds, parts};
+use smap_testing::parts;
 use std::alloc::AllocError;
 use std::process::Abort;
 use std::test::Fail;

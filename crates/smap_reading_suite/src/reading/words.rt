@@ -1,7 +1,7 @@
 //! The messages of faults.
+use crate::asserted::equal;
 use smap_mappings::{NumberFault, SegmentPlace};
 use smap_record::{Fault, Kind, Path};
-use smap_testing::equal;
 use std::test::Fail;
 
 /// The message of each kind.

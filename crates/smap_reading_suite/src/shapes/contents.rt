@@ -1,8 +1,8 @@
 //! JSON trees with contents of each kind, and what remains of them.
 use super::flat_map;
+use crate::asserted::{equal, holds};
 use serde_json::Value;
 use smap_shape::{FlatShape, ShapeFault, shape, split_contents};
-use smap_testing::{equal, holds};
 use std::process::Abort;
 use std::test::Fail;
 

@@ -1,8 +1,8 @@
 //! Flat maps, with their members.
 use super::flat_map;
+use crate::asserted::{equal, holds};
 use serde_json::Value;
 use smap_shape::FlatShape;
-use smap_testing::{equal, holds};
 use std::process::Abort;
 use std::test::Fail;
 

@@ -1,8 +1,8 @@
 //! Index maps, with their file and their sections.
 use super::index_map;
+use crate::asserted::{equal, holds};
 use serde_json::Value;
 use smap_shape::IndexShape;
-use smap_testing::{equal, holds};
 use std::process::Abort;
 use std::test::Fail;
 

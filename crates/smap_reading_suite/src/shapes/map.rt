@@ -1,8 +1,8 @@
 //! JSON trees of maps, and the first fault of each.
 use super::{flat_map, is_refused};
+use crate::asserted::{equal, holds};
 use serde_json::Value;
 use smap_shape::{FlatShape, ShapeFault};
-use smap_testing::{equal, holds};
 use std::process::Abort;
 use std::test::Fail;
 

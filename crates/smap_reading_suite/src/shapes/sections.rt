@@ -1,7 +1,7 @@
 //! JSON trees of sections, and the first fault of each.
+use crate::asserted::{equal, holds};
 use serde_json::Value;
 use smap_shape::{MAX_LEVEL, SectionShape, ShapeFault, section};
-use smap_testing::{equal, holds};
 use std::process::Abort;
 use std::test::Fail;
 

@@ -1,6 +1,7 @@
 //! Whole bundles, as they come in and what goes out.
 use super::{run_over, writes};
-use smap_testing::{SlowReader, SlowWriter, equal, holds};
+use crate::asserted::{equal, holds};
+use smap_testing::{SlowReader, SlowWriter};
 use smap_tool::{Outcome, RunFault, Task};
 use smap_trace::Finding;
 use std::alloc::AllocError;

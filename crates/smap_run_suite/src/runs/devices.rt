@@ -1,7 +1,8 @@
 //! Devices that fail.
 use super::{BASE, Ran, TIDY, TWO_NAMES, run_over};
+use crate::asserted::{equal, holds};
 use smap_io::Device;
-use smap_testing::{LongReader, SlowReader, SlowWriter, equal, holds};
+use smap_testing::{LongReader, SlowReader, SlowWriter};
 use smap_tool::{Outcome, RunFault, Task, run};
 use std::alloc::Global;
 use std::process::Abort;

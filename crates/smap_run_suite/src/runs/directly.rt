@@ -3,8 +3,9 @@ ghost use Rattle.std.specs.Prelude.{◌≡◌, false};
 ghost use Rattle.smap_io.specs.Device.{device_failures, has_ended};
 
 use super::{BASE, TWO_NAMES};
+use crate::asserted::equal;
 use smap_io::Device;
-use smap_testing::{SlowReader, SlowWriter, equal};
+use smap_testing::{SlowReader, SlowWriter};
 use smap_tool::{
     Outcome, RunFault, run_check, run_flatten, run_lookup, run_respell, run_tidy, run_translate,
 };

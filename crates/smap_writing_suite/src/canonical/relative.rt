@@ -1,6 +1,7 @@
 //! The relative form. Each row has its sources in that form; everything else is as in the absolute form.
 use super::{EMPTY, SMALL, are_equal, are_same, canonical_bytes, has_relative, tidies_to};
-use smap_testing::{equal, holds, parts, rows};
+use crate::asserted::{equal, holds};
+use smap_testing::{parts, rows};
 use std::process::Abort;
 use std::test::Fail;
 

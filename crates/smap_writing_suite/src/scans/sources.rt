@@ -1,8 +1,8 @@
 //! Which listed sources are equal, by a linear scan.
 use super::{Scanned, joined, push_item, scan};
+use crate::asserted::{equal, holds};
 use crate::reading::read;
 use smap_record::{SourceMap, SourceView};
-use smap_testing::{equal, holds};
 use std::alloc::{AllocError, Global};
 use std::process::Abort;
 use std::test::Fail;

@@ -1,7 +1,7 @@
 //! Positions anywhere in a line, as loggers, consoles and engines write them.
+use crate::asserted::{equal, holds};
 use crate::reading::read;
 use smap_io::Device;
-use smap_testing::{equal, holds};
 use smap_trace::{Finding, LineOutcome, distinct_scripts, translate_by, translate_line_by};
 use std::process::Abort;
 use std::test::Fail;

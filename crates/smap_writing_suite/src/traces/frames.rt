@@ -1,5 +1,5 @@
 //! The rows of the table of frames.
-use smap_testing::{equal, holds};
+use crate::asserted::{equal, holds};
 use smap_trace::frame;
 use std::process::Abort;
 use std::test::Fail;

@@ -1,6 +1,6 @@
 //! Translations of single lines.
+use crate::asserted::{equal, holds};
 use crate::reading::read;
-use smap_testing::{equal, holds};
 use smap_trace::{LineOutcome, distinct_scripts, translate_line};
 use std::process::Abort;
 use std::test::Fail;

@@ -4,9 +4,9 @@ ghost use Rattle.smap_record.specs.Fitting.{mapping_position};
 ghost use Rattle.smap_record.specs.Record.{record_of};
 ghost use Rattle.smap_trace.specs.LineStarts.{line_starts};
 
+use crate::asserted::{equal, holds};
 use crate::reading::read;
 use smap_record::{SourceMap, TokenView};
-use smap_testing::{equal, holds};
 use smap_trace::{LineStarts, Positions, find, find_in, lookup, lookup_in, search};
 use std::alloc::{AllocError, Global};
 use std::fmt::Write;

@@ -1,10 +1,11 @@
 //! Whole traces, with readers and writers that move few bytes at a time, fail, count, or watch each other.
 ghost use Rattle.std.specs.Prelude.{◌<◌};
 
+use crate::asserted::{equal, holds};
 use crate::reading::read;
 use smap_io::Device;
 use smap_record::SourceMap;
-use smap_testing::{SlowReader, SlowWriter, WatchedWriter, WatchingReader, equal, holds};
+use smap_testing::{SlowReader, SlowWriter, WatchedWriter, WatchingReader};
 use smap_trace::{Counts, TraceError, translate};
 use std::alloc::{AllocError, Global};
 use std::cell::Cell;
