@@ -63,16 +63,9 @@ impl From<io::Error> for ExampleError {
     }
 }
 
-fn main(rt: HostRuntime) -> Result<(), ExampleError> {
-    let alloc = rt.alloc();
-    let mut reader = Device::new(rt.reader());
-    let mut writer = Device::new(io::writer(&rt));
-
-    let base = Base::new(alloc, "http://h/m/out.js.map")?;
-    let map = SourceMap::from_slice(alloc, MAP, &base, Limits::usual())?;
-
-    // The mapping at generated line 0, column 7: both count from 0.
-    let (found, _probes) = lookup(&map, 0, 7);
+/// The mapping at generated line 0, column 7: both count from 0.
+fn print_original(rt: &HostRuntime, map: &SourceMap) -> Result<(), ExampleError> {
+    let (found, _probes) = lookup(map, 0, 7);
     if let Some(mapping) = found
         && let Some(original) = mapping.original
     {
@@ -82,18 +75,41 @@ fn main(rt: HostRuntime) -> Result<(), ExampleError> {
             original.line, original.column
         )?;
     }
+    Ok(())
+}
 
-    // Maps with the same meaning have the same canonical form.
-    let tidied = canonical(alloc, &map)?;
+/// Maps with the same meaning have the same canonical form.
+fn print_canonical(rt: &HostRuntime, map: &SourceMap) -> Result<(), ExampleError> {
+    let tidied = canonical(rt.alloc(), map)?;
+    let mut writer = Device::new(io::writer(rt));
     write_all(&mut writer, tidied.as_slice())?;
     write_all(&mut writer, b"\n")?;
+    Ok(())
+}
 
-    // The trace counts lines and columns from 1.
-    let scripts = [("http://h/m/out.js", &map)];
-    let counts = translate(alloc, &mut reader, scripts.as_slice(), false, &mut writer)?;
+/// The trace counts lines and columns from 1.
+fn print_translated(rt: &HostRuntime, map: &SourceMap) -> Result<(), ExampleError> {
+    let mut reader = Device::new(rt.reader());
+    let mut writer = Device::new(io::writer(rt));
+    let scripts = [("http://h/m/out.js", map)];
+    let counts = translate(
+        rt.alloc(),
+        &mut reader,
+        scripts.as_slice(),
+        false,
+        &mut writer,
+    )?;
     println!(rt;
         "{} of {} lines translated",
         counts.translated, counts.lines
     )?;
     Ok(())
+}
+
+fn main(rt: HostRuntime) -> Result<(), ExampleError> {
+    let base = Base::new(rt.alloc(), "http://h/m/out.js.map")?;
+    let map = SourceMap::from_slice(rt.alloc(), MAP, &base, Limits::usual())?;
+    print_original(&rt, &map)?;
+    print_canonical(&rt, &map)?;
+    print_translated(&rt, &map)
 }

@@ -209,6 +209,3 @@ impl<W: Write> Device<W> {
         }
     }
 }
-
-#[cfg(test)]
-mod tests;

@@ -7,12 +7,8 @@
 //! the loops over it.
 #![tactic(auto)]
 
-#[cfg(test)]
-mod asserted;
 mod device;
 mod reading;
-#[cfg(test)]
-mod tests;
 mod writing;
 
 pub use device::{Device, Failed};

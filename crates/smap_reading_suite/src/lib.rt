@@ -1,6 +1,7 @@
-//! Tests of reading: tables of mappings strings, of JSON trees and of maps with the expected results. The
-//! contracts say that each call returns what a definition says; these tests show that the definitions say
-//! what they should, and that calls succeed. The expected results were found by hand or by another program.
+//! Tests of reading: tables of numbers and segments, of mappings strings, of JSON trees and of maps with the
+//! expected results. The contracts say that each call returns what a definition says; these tests show that
+//! the definitions say what they should, and that calls succeed. The expected results were found by hand or by
+//! another program.
 //! The tests are in a crate of their own so that the crates that they test are proved only once, and one
 //! function goes through each table, which is proved once however long the table is.
 #![tactic(auto)]
@@ -13,3 +14,5 @@ mod mappings;
 mod reading;
 #[cfg(test)]
 mod shapes;
+#[cfg(test)]
+mod vlq;

@@ -14,8 +14,3 @@ pub use slow_reader::{LongReader, SlowReader};
 pub use slow_writer::SlowWriter;
 pub use table::{parts, rows};
 pub use watched::{WatchedWriter, WatchingReader};
-
-#[cfg(test)]
-mod asserted;
-#[cfg(test)]
-mod tests;

@@ -157,6 +157,3 @@ fn of_unsigned(unsigned: u32) -> i32
         -magnitude
     }
 }
-
-#[cfg(test)]
-mod tests;

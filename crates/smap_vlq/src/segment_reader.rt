@@ -121,6 +121,3 @@ fn padded(numbers: &ArrayVec<i32, 5>) -> [i32; 5]
     }
     places
 }
-
-#[cfg(test)]
-mod tests;

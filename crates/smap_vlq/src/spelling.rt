@@ -108,6 +108,3 @@ fn spell_unsigned(unsigned: u32, out: &mut [u8], at: usize) -> usize
     }
     at + 7
 }
-
-#[cfg(test)]
-mod tests;

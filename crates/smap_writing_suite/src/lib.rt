@@ -1,5 +1,5 @@
 //! Tests of writing: tables of maps with their canonical and flat bytes, of traces with their translations,
-//! and linear scans that the hashed tables of sources and names are compared with. The contracts say that
+//! linear scans that the hashed tables of sources and names are compared with, and the calls of devices. The contracts say that
 //! each call returns what a definition says; these tests show that the definitions say what they should, and
 //! that calls succeed. The expected results were found by hand or by another program. The crate has only
 //! tests, like `smap_reading_suite`.
@@ -9,6 +9,8 @@
 mod asserted;
 #[cfg(test)]
 mod canonical;
+#[cfg(test)]
+mod devices;
 #[cfg(test)]
 mod reading;
 #[cfg(test)]

@@ -1,6 +1,8 @@
 //! What these readers, writers and tables do, on which the tests of other crates rest.
-use super::{LongReader, SlowReader, SlowWriter, WatchedWriter, WatchingReader, parts, rows};
 use crate::asserted::{equal, holds};
+use smap_testing::{
+    LongReader, SlowReader, SlowWriter, WatchedWriter, WatchingReader, parts, rows,
+};
 use std::cell::Cell;
 use std::io::{Read, Write};
 use std::test::Fail;

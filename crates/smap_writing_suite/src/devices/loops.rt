@@ -2,7 +2,7 @@
 //! and count their calls. Clauses bound the calls of a device; that each is one call of its reader or writer,
 //! these tests show. A call that fails here is interrupted.
 use crate::asserted::{equal, holds};
-use crate::{Device, Failed, ReadFault, read_line, read_up_to, write_all, write_and_flush};
+use smap_io::{Device, Failed, ReadFault, read_line, read_up_to, write_all, write_and_flush};
 use smap_testing::{SlowReader, SlowWriter};
 
 /// What was read, or why not.

@@ -1,9 +1,10 @@
 //! Known shortest encodings.
-use super::spell;
+use crate::asserted::{equal, holds};
+use smap_vlq::spell;
 
 #[test]
 fn each_number_has_its_shortest_spelling(rt: HostRuntime) {
-    for (number, spelling) in [
+    for &(number, spelling) in &[
         (0, "A"),
         (1, "C"),
         (-1, "D"),
@@ -19,8 +20,7 @@ fn each_number_has_its_shortest_spelling(rt: HostRuntime) {
         assert!(rt; number != i32::MIN);
         let mut out = [b'#'; 7];
         let length = spell(number, &mut out);
-        assert_eq!(rt; length, spelling.len(), "{number}");
-        assert_eq!(rt; &out[..length], spelling.as_bytes(), "{number}");
-        assert!(rt; out[length..].iter().all(|&byte| byte == b'#'), "{number}");
+        equal(&rt, number, &out[..length], spelling.as_bytes());
+        holds(&rt, number, out[length..].iter().all(|&byte| byte == b'#'));
     }
 }

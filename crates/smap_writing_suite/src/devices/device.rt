@@ -1,8 +1,8 @@
 //! Tests over a reader and a writer in memory that move a few bytes a call, fail at a given call and
 //! count their calls. No clause can see how often a device calls its reader or writer: these tests do.
 
-use super::{Device, Failed};
 use crate::asserted::{equal, holds};
+use smap_io::{Device, Failed};
 use smap_testing::{SlowReader, SlowWriter};
 
 #[test]

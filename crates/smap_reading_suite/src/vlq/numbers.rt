@@ -1,10 +1,11 @@
 //! Numbers with known answers.
-use super::{NumberFault, read_number};
+use crate::asserted::equal;
+use smap_vlq::{NumberFault, read_number};
 use std::test::Fail;
 
 #[test]
 fn each_spelling_has_its_number(rt: HostRuntime) {
-    for (text, number) in [
+    for &(text, number) in &[
         ("A", 0),
         ("C", 1),
         ("D", -1),
@@ -20,17 +21,14 @@ fn each_spelling_has_its_number(rt: HostRuntime) {
         ("ggA", 0),
         ("iA", 1),
     ] {
-        assert_eq!(rt;
-            read_number(text.as_bytes(), 0),
-            Ok((number, text.len())),
-            "{text}"
-        );
+        let read = read_number(text.as_bytes(), 0);
+        equal(&rt, text, read, Ok((number, text.len())));
     }
 }
 
 #[test]
 fn each_faulty_spelling_has_its_fault(rt: HostRuntime) {
-    for (text, fault) in [
+    for &(text, fault) in &[
         ("B", NumberFault::NegativeZero),
         ("hA", NumberFault::NegativeZero),
         ("hgA", NumberFault::NegativeZero),
@@ -44,26 +42,24 @@ fn each_faulty_spelling_has_its_fault(rt: HostRuntime) {
         ("=", NumberFault::Character),
         (",", NumberFault::Character),
     ] {
-        assert_eq!(rt; read_number(text.as_bytes(), 0), Err(fault), "{text}");
-    }
-}
-
-#[test]
-fn past_the_end_every_number_is_unfinished(rt: HostRuntime) {
-    for at in [1, 2, 7, usize::MAX] {
-        assert_eq!(rt;
-            read_number(b"A", at),
-            Err(NumberFault::Unfinished),
-            "at {at}"
-        );
+        equal(&rt, text, read_number(text.as_bytes(), 0), Err(fault));
     }
 }
 
 #[test]
 fn a_number_is_read_from_its_place_alone(rt: HostRuntime) {
-    assert_eq!(rt; read_number(b"!BiA!", 2), Ok((1, 4)));
-    assert_eq!(rt; read_number(b"!BiA!", 1), Err(NumberFault::NegativeZero));
-    assert_eq!(rt; read_number(b"!BiA!", 4), Err(NumberFault::Character));
+    for &(text, at, read) in &[
+        ("!BiA!", 2, Ok((1, 4))),
+        ("!BiA!", 1, Err(NumberFault::NegativeZero)),
+        ("!BiA!", 4, Err(NumberFault::Character)),
+        // Past the end every number is unfinished.
+        ("A", 1, Err(NumberFault::Unfinished)),
+        ("A", 2, Err(NumberFault::Unfinished)),
+        ("A", 7, Err(NumberFault::Unfinished)),
+        ("A", usize::MAX, Err(NumberFault::Unfinished)),
+    ] {
+        equal(&rt, (text, at), read_number(text.as_bytes(), at), read);
+    }
 }
 
 #[test]
@@ -73,6 +69,6 @@ fn a_number_may_be_padded_a_million_times(rt: HostRuntime) -> Result<(), Fail> {
         text.push(b'g')?;
     }
     text.push(b'A')?;
-    assert_eq!(rt; read_number(&text, 0), Ok((0, 1_000_001)));
+    equal(&rt, "padded", read_number(&text, 0), Ok((0, 1_000_001)));
     Ok(())
 }
