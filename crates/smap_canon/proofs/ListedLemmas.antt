@@ -6,14 +6,15 @@ use Rattle.std.specs.List.{AllByRecursion, list_any, filter_map, cons_option}
 use Rattle.std.proofs.lemmas.Option.{slice_get-get_or}
 use Rattle.smap_mappings.specs.declared.token.Token.{Token}
 use Rattle.smap_mappings.specs.declared.token.Original.{Original}
-use Rattle.smap_mappings.specs.Position.{position_of, NeverFalls}
+use Rattle.smap_mappings.specs.Position.{NeverFalls}
 use Rattle.smap_mappings.specs.Text.{IsPlaced, IsOriginal}
 use Rattle.smap_record.specs.Record.{Listing, ReadMap, record_of, mapping_of, origin_of, no_entry, distinct}
 use Rattle.smap_record.specs.Record.{same_entry}
-use Rattle.smap_record.specs.Fitting.{mapping_position, names_used}
+use Rattle.smap_record.specs.Fitting.{names_used}
 use Rattle.smap_record.specs.Listings.{IsListing, IsListedToken, IsListedOriginal}
 use Rattle.smap_record.proofs.EqualLemmas.{same_bytes, own_bytes, same_entries, own_entry}
 use Rattle.smap_record.proofs.FewerLemmas.{length-IsDistinct}
+use Rattle.smap_record.proofs.FitLemmas.{same_positions}
 use Rattle.smap_record.proofs.OnceLemmas.{distinct-IsDistinct, length-distinct, all_distinct}
 use Rattle.smap_canon.specs.declared.listing_to_write.ListingToWrite.{ListingToWrite}
 use Rattle.smap_canon.specs.Numbering.{name_of, HasName}
@@ -83,11 +84,6 @@ mappings_known : (l : Listing) (ts : List Token)
 mappings_known l [] placed listed = tt
 mappings_known l (t ∷ ts) placed listed =
     (mapping_known l t placed.0 listed.0, mappings_known l ts placed.1 listed.1)
-
-same_positions : (l : Listing) (ts : List Token)
-    → map mapping_position (map (mapping_of l) ts) ≡ map position_of ts
-same_positions l [] = refl
-same_positions l (t ∷ ts) = ap (λ ps. position_of t ∷ ps) (same_positions l ts)
 
 pub listing-writable : (m : ReadMap) → IsListing m.listing → IsWritable (record_of m)
 listing-writable m h = record {

@@ -96,7 +96,7 @@ are_mappings lines l [] placed listed below = tt
 are_mappings lines l (t ∷ ts) placed listed below =
     (is_mapping lines l t placed.0 listed.0 below.0, are_mappings lines l ts placed.1 listed.1 below.1)
 
-same_positions : (l : Listing) (ts : List Token)
+pub same_positions : (l : Listing) (ts : List Token)
     → map mapping_position (map (mapping_of l) ts) ≡ map position_of ts
 same_positions l [] = refl
 same_positions l (t ∷ ts) = ap (λ ps. position_of t ∷ ps) (same_positions l ts)
