@@ -1,7 +1,6 @@
-//! Tests of writing: tables of maps with their canonical and flat bytes, of traces with their translations,
-//! and linear scans that the hashed tables of sources and names are compared with. The contracts say that
-//! each call returns what a definition says; these tests show that the definitions say what they should, and
-//! that calls succeed. The expected results were found by hand or by another program. The crate has only
+//! Tests of writing: calls that write maps, and tables of traces with their translations. The contracts say
+//! that each call returns what a definition says; these tests show that the definitions say what they should,
+//! and that calls succeed. The expected results were found by hand or by another program. The crate has only
 //! tests, like `smap_reading_suite`.
 #![tactic(auto)]
 
@@ -11,7 +10,5 @@ mod asserted;
 mod canonical;
 #[cfg(test)]
 mod reading;
-#[cfg(test)]
-mod scans;
 #[cfg(test)]
 mod traces;
