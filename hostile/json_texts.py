@@ -45,15 +45,25 @@ def bytes_that_are_no_text_are_not_json():
         b'{"version":3,"file":"\xed\xa0\x80","mappings":""}',
         b'{"version":3,"file":"\xf4\x90\x80\x80","mappings":""}',
         b'{"version":3,"file":"\xe2\x82","mappings":""}',
+        b'{"version":3,"file":"\xc3","mappings":""}',
+        b'{"version":3,"mappings":""}\xff',
         # A control character in a string, and two values.
         b'{"version":3,"file":"\x00","mappings":""}',
         b'{"version":3,"mappings":""}{}',
         b'{"version":3,"mappings":""}\x00',
         b')]}\n{"version":3,"mappings":""}',
+        b')]}"\n{"version":3,"mappings":""}',
+        b")]}'\n",
         b' )]}\'\n{"version":3,"mappings":""}',
         b')]}\'\n)]}\'\n{"version":3,"mappings":""}',
     ]:
         yield from refused(text, NOT_JSON)
+
+
+@test
+def a_first_line_ends_in_a_line_feed():
+    for text in b")]}'\r", b")]}'\xff":
+        yield from refused(text, "refused: prefix without line feed")
 
 
 @test
