@@ -9,7 +9,6 @@ use crate::reading::read;
 use smap_record::{SourceMap, TokenView};
 use smap_trace::{LineStarts, Positions, find, find_in, lookup, lookup_in, search};
 use std::alloc::{AllocError, Global};
-use std::fmt::Write;
 use std::process::Abort;
 use std::test::Fail;
 
