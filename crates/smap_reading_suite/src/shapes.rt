@@ -2,14 +2,10 @@
 mod contents;
 mod flat;
 mod index;
-mod map;
 mod sections;
 
-use crate::asserted::equal;
 use serde_json::Value;
-use smap_shape::{FlatShape, IndexShape, Shape, ShapeFault, shape};
-use std::process::Abort;
-use std::test::Fail;
+use smap_shape::{FlatShape, IndexShape, Shape, shape};
 
 /// The members of a flat map.
 fn flat_map<'a>(tree: &'a Value) -> Option<FlatShape<'a>> {
@@ -25,11 +21,4 @@ fn index_map<'a>(tree: &'a Value) -> Option<IndexShape<'a>> {
         Ok(Shape::Index(index)) => Some(index),
         _ => None,
     }
-}
-
-/// Asserts that the map of this text has this fault.
-fn is_refused(rt: &(impl Abort + AllocGlobal), text: &str, want: ShapeFault) -> Result<(), Fail> {
-    let tree = Value::from_str(rt.alloc(), text)?;
-    equal(rt, text, shape(&tree).err(), Some(want));
-    Ok(())
 }

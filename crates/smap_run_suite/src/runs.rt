@@ -1,17 +1,10 @@
-//! What no contract says: the rows of each command by name, devices that fail, and how many calls there were.
+//! What no contract says: devices that fail, and how many calls there were.
 ghost use Rattle.std.specs.Prelude.{◌<◌};
 
 mod bundle;
-mod check;
 mod devices;
 mod directly;
-mod flatten;
-mod lookup;
-mod respell;
-mod scripts;
-mod sections;
-mod tidy;
-mod translate;
+mod pieces;
 
 use crate::asserted::equal;
 use smap_io::Device;

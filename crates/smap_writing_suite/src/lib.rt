@@ -1,8 +1,7 @@
-//! Tests of writing: tables of maps with their canonical and flat bytes, of traces with their translations,
-//! linear scans that the hashed tables of sources and names are compared with, and the calls of devices. The contracts say that
-//! each call returns what a definition says; these tests show that the definitions say what they should, and
-//! that calls succeed. The expected results were found by hand or by another program. The crate has only
-//! tests, like `smap_reading_suite`.
+//! Tests of writing: calls that write maps, tables of traces with their translations, and the calls of devices.
+//! The contracts say that each call returns what a definition says; these tests show that the definitions say
+//! what they should, and that calls succeed. The expected results were found by hand or by another program.
+//! The crate has only tests, like `smap_reading_suite`.
 #![tactic(auto)]
 
 #[cfg(test)]
@@ -13,7 +12,5 @@ mod canonical;
 mod devices;
 #[cfg(test)]
 mod reading;
-#[cfg(test)]
-mod scans;
 #[cfg(test)]
 mod traces;

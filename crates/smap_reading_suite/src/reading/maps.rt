@@ -1,16 +1,7 @@
 //! Flat maps that are accepted, and what each says.
-use super::{are_answered, is_answered, usual_base};
+use super::{are_answered, usual_base};
 use smap_record::Limits;
 use std::test::Fail;
-
-/// A map with one source, two names and two mappings.
-pub(super) const SMALL: &str =
-    r#"{"version":3,"sources":["a.js"],"names":["x","y"],"mappings":"AAAAC,CAACD"}"#;
-
-/// What it says.
-const SMALL_TOLD: &str =
-    "read; source http://h/m/a.js; listed 0; names x y; 0:0 from source 0 (0) 0:0 name 1 (y); \
-    0:1 from source 0 (0) 0:1 name 0 (x)";
 
 /// What a row shows, a map, and what it says.
 const READ: &str = r#"an empty map holds nothing | {"version":3,"mappings":""} | read
@@ -73,42 +64,5 @@ a null source has no URL under a root that makes none
 #[test]
 fn a_map_tells_what_it_says(rt: HostRuntime) -> Result<(), Fail> {
     are_answered(&rt, READ, &usual_base(&rt), Limits::usual())?;
-    Ok(())
-}
-
-#[test]
-fn a_file_is_told_as_it_is_written(rt: HostRuntime) -> Result<(), Fail> {
-    let text = r#"{"version":3,"file":"x\/y\u0009\u000b","mappings":""}"#;
-    let want = "read; file \"x/y\t\u{b}\"";
-    is_answered(
-        &rt,
-        "a file",
-        text.as_bytes(),
-        &usual_base(&rt),
-        Limits::usual(),
-        want,
-    )?;
-    Ok(())
-}
-
-#[test]
-fn a_line_to_leave_out_is_left_out(rt: HostRuntime) -> Result<(), Fail> {
-    let base = usual_base(&rt);
-    for front in [
-        ")]}'\n",
-        ")]}' anything at all\n",
-        ")]}',\r\n",
-        ")]}'\n\n \n",
-    ] {
-        let text = format!(in rt.alloc(); "{front}{SMALL}")?;
-        is_answered(
-            &rt,
-            front,
-            text.as_bytes(),
-            &base,
-            Limits::usual(),
-            SMALL_TOLD,
-        )?;
-    }
     Ok(())
 }

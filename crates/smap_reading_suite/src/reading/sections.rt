@@ -1,5 +1,5 @@
 //! Index maps: where sections are placed, what they list together, and why they are rejected.
-use super::{are_answered, is_answered, usual_base};
+use super::{are_answered, usual_base};
 use crate::asserted::{equal, holds};
 use smap_record::{Limits, Path};
 use std::test::Fail;
@@ -187,24 +187,6 @@ a segment has its place and the path of its section
 #[test]
 fn an_index_map_within_another_is_answered(rt: HostRuntime) -> Result<(), Fail> {
     are_answered(&rt, NESTED, &usual_base(&rt), Limits::usual())?;
-    Ok(())
-}
-
-#[test]
-fn eight_levels_are_read(rt: HostRuntime) -> Result<(), Fail> {
-    let base = usual_base(&rt);
-    let mut text = String::from_str(rt.alloc(), r#"{"version":3,"mappings":""}"#)?;
-    for level in 1..10 {
-        text = format!(in rt.alloc();
-            "{{\"version\":3,\"sections\":[{{\"offset\":{{\"line\":0,\"column\":0}},\"map\":{text}}}]}}"
-        )?;
-        let want = if level <= 8 {
-            "read"
-        } else {
-            "refused [0, 0, 0, 0, 0, 0, 0, 0] Nested"
-        };
-        is_answered(&rt, "levels", text.as_bytes(), &base, Limits::usual(), want)?;
-    }
     Ok(())
 }
 

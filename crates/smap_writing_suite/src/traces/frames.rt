@@ -2,7 +2,6 @@
 use crate::asserted::{equal, holds};
 use smap_trace::frame;
 use std::process::Abort;
-use std::test::Fail;
 
 /// Asserts that the line is a frame with these parts.
 fn is_frame(rt: &impl Abort, line: &str, before: &str, url: &str, places: (u32, u32), after: &str) {
@@ -78,19 +77,4 @@ fn other_lines_are_none(rt: HostRuntime) {
     ] {
         holds(&rt, line, frame(line.as_bytes()).is_none());
     }
-}
-
-#[test]
-fn a_number_of_a_million_digits_is_no_place(rt: HostRuntime) -> Result<(), Fail> {
-    let mut line = Vec::from_slice(rt.alloc(), b"@u:")?;
-    for _ in 0..1000000 {
-        line.push(b'1')?;
-    }
-    holds(&rt, "line", frame(&line).is_none());
-    line.extend_from_slice(b":1")?;
-    holds(&rt, "line", frame(&line).is_none());
-    line.extend_from_slice(b":1:1")?;
-    let found = frame(&line).ok_or("the digits are part of the URL")?;
-    equal(&rt, "url", found.url.len(), 1000004);
-    Ok(())
 }

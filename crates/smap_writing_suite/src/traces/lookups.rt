@@ -9,7 +9,6 @@ use crate::reading::read;
 use smap_record::{SourceMap, TokenView};
 use smap_trace::{LineStarts, Positions, find, find_in, lookup, lookup_in, search};
 use std::alloc::{AllocError, Global};
-use std::fmt::Write;
 use std::process::Abort;
 use std::test::Fail;
 
@@ -44,39 +43,6 @@ fn told(alloc: Global, found: Option<TokenView>) -> Result<String, Fail> {
         original.column,
         original.name.unwrap_or("unnamed")
     )?)
-}
-
-/// Asserts what a lookup in the map of a text tells.
-fn falls_to(
-    rt: &(impl Abort + AllocGlobal),
-    text: &str,
-    line: u32,
-    column: u32,
-    expected: &str,
-) -> Result<(), Fail> {
-    let map = read(rt, text);
-    let (found, _probes) = lookup(&map, line, column);
-    let answer = told(rt.alloc(), found)?;
-    equal(rt, (line, column, text), answer.as_str(), expected);
-    Ok(())
-}
-
-#[test]
-fn a_position_falls_to_the_last_mapping_of_its_line(rt: HostRuntime) -> Result<(), Fail> {
-    for &(text, line, column, expected) in &[
-        (SECTIONS, 0, 0, "0:0 http://h/m/a.js:0:0 unnamed"),
-        (SECTIONS, 0, 9, "0:0 http://h/m/a.js:0:0 unnamed"),
-        (SECTIONS, 0, 10, "0:10 http://h/m/a.js:0:0 n"),
-        (SECTIONS, 0, 2147483647, "0:10 http://h/m/a.js:0:0 n"),
-        (SECTIONS, 1, 0, "none"),
-        (SECTIONS, 2, 0, "none"),
-        (SECTIONS, 1, 1, "1:1 http://h/m/b.js:1:1 unnamed"),
-        (UNMAPPED, 0, 7, "0:0 unmapped"),
-        (TIES, 0, 0, "0:0 http://h/m/a.js:1:0 unnamed"),
-    ] {
-        falls_to(&rt, text, line, column, expected)?;
-    }
-    Ok(())
 }
 
 /// The positions of a map, and how often one was asked for.

@@ -280,33 +280,3 @@ fn complete_lines_are_written_before_the_next_read(rt: HostRuntime) -> Result<()
     );
     Ok(())
 }
-
-/// Asserts that a line with a frame is translated, and the line of `@` after it is kept.
-fn are_two_lines(rt: &(impl Abort + AllocGlobal), trace: &[u8]) {
-    let map = read(rt, MAP);
-    let reader = SlowReader::new(trace, 1000000, 0);
-    let writer = SlowWriter::new(rt.alloc(), 1000000, 0);
-    let (answer, _reader, writer) = run(rt.alloc(), &map, false, reader, writer);
-    let counts = Counts {
-        lines: 2,
-        translated: 1,
-        dropped: 0,
-    };
-    equal(rt, "answer", answer, Ok(counts));
-    holds(
-        rt,
-        "the long line",
-        writer.bytes.starts_with(b"@http://h/m/a.js:11:3\n@@"),
-    );
-    equal(rt, "bytes", writer.bytes.len(), 1000022);
-}
-
-#[test]
-fn a_line_of_a_million_bytes_is_kept(rt: HostRuntime) -> Result<(), Fail> {
-    let mut trace = Vec::from_slice(rt.alloc(), b"@http://h/m/out.js:1:1\n")?;
-    for _ in 0..1000000 {
-        trace.push(b'@')?;
-    }
-    are_two_lines(&rt, &trace);
-    Ok(())
-}

@@ -1,16 +1,8 @@
-"""Checks the table of src/one_byte_changed.rt against what the format's definition gives.
-
-    python3 crates/smap_hostile/model/one_byte.py
-
-The definition is written here for flat maps with the members that a changed byte can leave, over Python's json and
-with a reading of mappings of its own: it shares nothing with the crates. The last line counts the places of the map,
-each with all bytes that can stand there.
-"""
+"""A model of the format for a small map with one byte changed: what `tidy` writes for flat maps with the members
+that a changed byte can leave. It is written over Python's json, with a reading of mappings of its own, and
+shares nothing with the crates."""
 
 import json
-import re
-import sys
-from pathlib import Path
 
 DIGITS = "ABCDEFGHIJKLMNOPQRSTUVWXYZabcdefghijklmnopqrstuvwxyz0123456789+/"
 VALUE = {c: i for i, c in enumerate(DIGITS)}
@@ -187,54 +179,3 @@ def tidied(data):
     if file is not None:
         members["file"] = file
     return json.dumps(members, sort_keys=True, separators=(",", ":"), ensure_ascii=False)
-
-
-
-MAP = b'{"version":3,"sources":["a.js"],"names":["x","y"],"mappings":"AAAAC,CAACD"}'
-TEST = Path(__file__).resolve().parent.parent / "src" / "one_byte_changed.rt"
-
-
-def table():
-    """The rows of the test's table: first place, last place, bytes as a text, answer."""
-    code = TEST.read_text(encoding="utf-8")
-    constants = re.findall(r'const (\w+): &str =\s+"(.*)";', code)
-    sets = {name: text.replace("\\x7f", "\x7f") for name, text in constants}
-    sets["SPACE"] = " "
-    for row in re.search(r'const TABLE: &str = r#"(.*?)"#;', code, re.S)[1].split("\n"):
-        first, last, characters, answer = row.split(" | ")
-        yield int(first), int(last), sets.get(characters, characters), answer
-
-
-def said(rows, place, byte):
-    """What the table says of a byte at a place."""
-    character = chr(byte)
-    answer = "refused: not json"
-    for first, last, characters, row in rows:
-        if first <= place <= last and character in characters:
-            answer = row.replace("~", f"{byte:02X}").replace("*", character)
-    if byte == MAP[place]:
-        answer = 'AAAAA,CAACC "y","x" http://h/m/a.js'
-    if answer.startswith("refused: "):
-        return answer + "\n"
-    mappings, rest = answer.split(" ", 1)
-    names, source = (rest[:3], rest[4:]) if rest[3] == " " else (rest[:7], rest[8:])
-    return f'{{"mappings":"{mappings}","names":[{names}],"sources":["{source}"],"version":3}}'
-
-
-def main():
-    rows = list(table())
-    passed = 0
-    for place in range(len(MAP)):
-        wrong = 0
-        for byte in range(256):
-            text = MAP[:place] + bytes([byte]) + MAP[place + 1 :]
-            if said(rows, place, byte) != tidied(text):
-                wrong += 1
-                print(f"byte {byte} at {place}: {tidied(text)!r}, and the table has {said(rows, place, byte)!r}")
-        passed += wrong == 0
-    print(f"{passed} passed, {len(MAP) - passed} failed")
-    return 0 if passed == len(MAP) else 1
-
-
-if __name__ == "__main__":
-    sys.exit(main())
