@@ -1,5 +1,5 @@
 -- A bundle from its entries.
-use Rattle.std.proofs.Common.{◌≡◌, ◌∙◌, ℕ, zero, suc, ◌+◌, ◌<◌, ◌≤◌, List, [], ◌∷◌, ◌++◌, length, Option, Some}
+use Rattle.std.proofs.Common.{◌≡◌, ◌∙◌, ℕ, zero, suc, ◌<◌, ◌≤◌, List, [], ◌∷◌, ◌++◌, length, Option, Some}
 use Rattle.std.specs.Option.{option_map_or}
 use Rattle.std.proofs.Common.{None, Ok, Err, refl, sym, ap, subst, arith, append_assoc}
 use Rattle.std.proofs.Common.{append-nil, length-append}

@@ -1,12 +1,9 @@
 -- `header_in` computes the header with which a text begins.
-use Rattle.std.proofs.Common.{◌≡◌, ◌∙◌, ◌↔◌, ℕ, ◌<◌, ◌≤◌, ◌==◌, Bool, true, false, not, ◌&&◌, ◌||◌}
+use Rattle.std.proofs.Common.{◌≡◌, ◌∙◌, ℕ, ◌<◌, ◌==◌, Bool, true, false, not, ◌&&◌, ◌||◌}
 use Rattle.std.proofs.Common.{if◌then◌else◌, List, [], ◌∷◌, ◌++◌, length, codes, Option, Some, None}
-use Rattle.std.proofs.Common.{refl, sym, ap, subst, arith, append_assoc, length-append, true≢false}
-use Rattle.std.specs.Prelude.{nat_lt, option_map, slice_index}
-use Rattle.std.specs.Char.{is_ascii_digit}
-use Rattle.std.specs.List.{list_all, list_any}
-use Rattle.std.specs.Str.{is_utf8}
-use Rattle.std.specs.Str.Parse.{digits_value}
+use Rattle.std.proofs.Common.{refl, sym, ap, subst, arith, append_assoc, length-append}
+use Rattle.std.specs.Prelude.{option_map}
+use Rattle.std.specs.List.{list_any}
 use Rattle.std.proofs.lemmas.Bool.{lt-ltb, ltb-true}
 use Rattle.std.proofs.lemmas.Bool.Decides.{Decides-eqb}
 use Rattle.std.proofs.lemmas.Option.{none-some, same_Some}
@@ -28,10 +25,6 @@ same : (x : ℕ) → (x == x) ≡ true
 same x = (Decides-eqb x x).1 refl
 
 -- ---- prefixes and cuts
-
-pub after_there : (p rest : List ℕ) → after p (p ++ rest) ≡ Some rest
-after_there [] rest = refl
-after_there (x ∷ p) rest = rw (same x) (after_there p rest)
 
 pub after_is : (p text rest : List ℕ) → after p text ≡ Some rest → text ≡ p ++ rest
 after_is [] text rest e = same_Some text rest e

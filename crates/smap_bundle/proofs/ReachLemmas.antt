@@ -9,7 +9,7 @@ use Rattle.smap_io.specs.Reading.{IsWithinLine}
 use Rattle.smap_trace.specs.Translation.{Script}
 use Rattle.smap_bundle.specs.declared.fault.BundleFault.{BundleFault}
 use Rattle.smap_bundle.specs.Header.{BeginsWithHeader, IsHeader, after, longest_header, trace_line}
-use Rattle.smap_bundle.specs.Bundle.{Checked, bundle_from, bundle_of, entry_in}
+use Rattle.smap_bundle.specs.Bundle.{Checked, bundle_from, entry_in}
 use Rattle.smap_bundle.specs.Reach.{IsWithinEntry}
 use Rattle.smap_bundle.specs.Laws.{TraceIsUnread}
 use Rattle.smap_bundle.proofs.BundleLemmas.{nothing_left, of_entries}

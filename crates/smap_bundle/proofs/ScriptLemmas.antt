@@ -1,6 +1,6 @@
 -- Scripts in a table by their URLs.
 use Rattle.std.proofs.Common.{◌≡◌, ◌∙◌, ℕ, zero, suc, ◌+◌, Bool, true, false, ◌||◌, List, []}
-use Rattle.std.proofs.Common.{◌∷◌, ◌++◌, map, take, get_or, Bor, String, Some, refl, sym, ap, arith, bytes_eq}
+use Rattle.std.proofs.Common.{◌∷◌, ◌++◌, map, take, get_or, Bor, String, Some, refl, sym, ap, bytes_eq}
 use Rattle.std.proofs.Common.{string_bytes}
 use Rattle.std.specs.Prelude.{is_some, slice_get}
 use Rattle.std.specs.List.{list_any}

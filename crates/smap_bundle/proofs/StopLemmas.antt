@@ -1,6 +1,6 @@
 -- Reading stops after what was read before.
 use Rattle.std.proofs.Common.{◌≡◌, ◌∙◌, ◌⊎◌, inl, inr, ℕ, ◌+◌, ◌≤◌, List, ◌++◌, length, Option, Result}
-use Rattle.std.proofs.Common.{Ok, Err, IfErr, MatchResult, refl, sym, subst, append_assoc, length-append}
+use Rattle.std.proofs.Common.{Ok, Err, IfErr, refl, sym, subst, append_assoc, length-append}
 use Rattle.std.proofs.Common.{arith}
 use Rattle.smap_io.specs.declared.device.Device.{Device}
 use Rattle.smap_io.specs.Device.{device_failures, has_ended}
@@ -33,21 +33,11 @@ pub if_stops : {A : Type 0} (r : Result A BundleFault) (P Q : BundleFault → Ty
 if_stops (Ok x) P Q f h = tt
 if_stops (Err s) P Q f h = f s h
 
--- What always holds, of a result that may have none.
-pub match_any : {A : Type 0} (r : Result A BundleFault) (P : A → Type 0) (Q : BundleFault → Type 0)
-    → ((x : A) → P x) → ((s : BundleFault) → Q s) → MatchResult r P Q
-match_any (Ok x) P Q f g = f x
-match_any (Err s) P Q f g = g s
-
 -- one more failure, or too many bytes, after these
 blamed_after : (old mid new calls left n m : ℕ) → mid ≡ old → calls ≤ left + n → (new ≡ mid + 1)
     ⊎ ((new ≡ mid) × (left ≤ m)) → (new ≡ old + 1) ⊎ ((new ≡ old) × (calls ≤ n + m))
 blamed_after old mid new calls left n m same counted (inl one) = inl (omega (arith, one, same))
 blamed_after old mid new calls left n m same counted (inr e) = inr (e.0 ∙ same, omega (arith, counted, e.1))
-
--- A fault of the bundle isn't Read.
-pub refusal_isnt_read : (P : BundleFault → Type 0) (s : BundleFault) → Says P s → s ≡ fault.Read → ⊥
-refusal_isnt_read P s says is = subst (Says P) is says
 
 module _ {R : Type 0} (remaining : R → Option (List ℕ)) (a b : Device R) (bytes : List ℕ)
     (gave : Gave remaining a b bytes) (same : device_failures b ≡ device_failures a) where

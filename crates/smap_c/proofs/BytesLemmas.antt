@@ -1,8 +1,6 @@
--- What was put into a handle of bytes, and what a mappings text is in its shortest spellings.
-use Rattle.std.proofs.Common.{◌≡◌, ℕ, List, Option, Result, Ok, Err, IfOk, inr, subst, ap, refl}
-use Rattle.std.specs.Global.{Vec}
-use Rattle.std.specs.declared.alloc.AllocError.{AllocError}
-use Rattle.smap_c.specs.Bytes.{Puts, Writes, respelled, respelling, RespellsAs}
+-- What a mappings text is in its shortest spellings, by what it says.
+use Rattle.std.proofs.Common.{◌≡◌, ℕ, List, Result, Ok, Err, ap}
+use Rattle.smap_c.specs.Bytes.{respelled, respelling}
 use Rattle.smap_mappings.specs.declared.token.Token.{Token}
 use Rattle.smap_mappings.specs.Limits.{widest}
 use Rattle.smap_mappings.specs.declared.error.SegmentPlace.{SegmentPlace}
@@ -11,18 +9,7 @@ use Rattle.smap_mappings.specs.Tokens.{Fault as SegmentFault}
 use Rattle.smap_mappings.specs.Decoded.{decoded}
 use Rattle.smap_mappings.specs.Text.{mappings_text}
 use Rattle.smap_record.specs.declared.fault.Fault.{Fault}
-use Rattle.smap_record.specs.Faults.{Checked, segment_fault}
-use Rattle.smap_c.specs.Codes.{MEMORY}
-use Rattle.smap_c.specs.declared.faults.SmapFault.{SmapFault}
-
--- ---- what was put into a handle, where the answer is known
-
-pub put_told : (text : List ℕ) (answer : Result (Vec ℕ) AllocError) (old new : Option (Vec ℕ)) (code : ℕ)
-    → IfOk answer (λ v. v.items ≡ text) → Puts answer old new code → Writes text old new code
-put_told text (Ok v) old new code h p = subst (λ (t : List ℕ). Writes t old new code) h p
-put_told text (Err e) old new code h p = inr p
-
--- ---- what a text is in its shortest spellings, by what it says
+use Rattle.smap_record.specs.Faults.{segment_fault}
 
 pub says : (text : List ℕ) (said : Result (List Token) SegmentFault) → decoded widest text ≡ said
     → respelling text ≡ respelled said
@@ -38,9 +25,3 @@ pub says_fault : (text : List ℕ) (place p : SegmentPlace) (kind k : SegmentKin
     → respelling text ≡ Err fault
 says_fault text place p kind k fault said same_place same_kind is =
     rw (is, same_place, same_kind) (says text (Err (place, kind)) said)
-
--- where memory runs out, that may stand for any answer
-pub no_memory : (said : Checked (List ℕ)) (old : Option (Vec ℕ)) (before : SmapFault)
-    → RespellsAs said old old before before MEMORY
-no_memory (Ok text) old before = (inr (refl, refl), refl)
-no_memory (Err fault) old before = (inr (refl, refl), refl)

@@ -9,13 +9,11 @@ use Rattle.std.proofs.lemmas.Bool.{eqb-true, eq-eqb}
 use Rattle.std.proofs.lemmas.List.{take-append-drop, get_or-set_other, get_or-set_same, get_or-replicate}
 use Rattle.std.proofs.lemmas.List.{length-set, length-replicate}
 use Rattle.std.proofs.lemmas.List.Elements.{filter_map-append}
-use Rattle.std.proofs.lemmas.List.Sums.{prefix_len-le-length}
 use Rattle.std.proofs.lemmas.Option.{slice_get_within, slice_get-get_or}
 use Rattle.std.proofs.lemmas.List.Folds.{list_any-append, position_or_len_push}
 use Rattle.indexmap.specs.IndexSet.{insert_key}
 use denote.Ref.{Bor}
 use Rattle.smap_mappings.specs.declared.token.Token.{Token}
-use Rattle.smap_mappings.specs.Position.{POSITIONS}
 use Rattle.smap_record.specs.Record.{Mapping, distinct}
 use Rattle.smap_record.specs.Fitting.{names_used}
 use Rattle.smap_record.proofs.EqualLemmas.{same_bytes, own_bytes}
@@ -139,9 +137,6 @@ own_place used n = by (list_any (bytes_eq n) used)
     by false = position_or_len_push (bytes_eq n) used n
         ∙ last (eqb (position_or_len (bytes_eq n) used) (length used)) refl
 
-pub place-within : {A : Type 0} (p : A → Bool) (xs : List A) → position_or_len p xs ≤ length xs
-place-within p xs = prefix_len-le-length (λ x. not (p x)) xs
-
 -- ---- the numbers of listed names
 
 -- one name more has a number
@@ -197,29 +192,6 @@ numbers-none listed used numbers none = record {
   each = λ i name found numbered. absurd (numbered (ap (λ ns. get_or ns i 0) none
       ∙ get_or-replicate (length listed) i UNUSED 0 (slice_get_within listed i name found)));
 }
-
--- the name that comes has a number: a place among fewer names than the greatest position
-pub own_numbered : (used : List (List ℕ)) (numbers : List ℕ) (i number : ℕ) (n : List ℕ)
-    → i < length numbers → number ≡ position_or_len (bytes_eq n) used → length used < POSITIONS
-    → get_or (set numbers i number) i 0 ≢ UNUSED
-own_numbered used numbers i number n below placed few = λ none.
-    absurd (omega (
-      arith,
-      sym (get_or-set_same numbers i number 0 below) ∙ none,
-      placed,
-      place-within (bytes_eq n) used,
-      few,
-    ))
-
--- and the others keep theirs
-pub still_numbered : (numbers : List ℕ) (i number k : ℕ) → get_or (set numbers i number) i 0 ≢ UNUSED
-    → get_or numbers k 0 ≢ UNUSED → get_or (set numbers i number) k 0 ≢ UNUSED
-still_numbered numbers i number k own h = by (eqb k i) refl
-  where
-    by : (b : Bool) → eqb k i ≡ b → get_or (set numbers i number) k 0 ≢ UNUSED
-    by true e = subst (λ j. get_or (set numbers i number) j 0 ≢ UNUSED) (sym (eqb-true k i e)) own
-    by false e = subst (λ x. x ≢ UNUSED) (sym
-        (get_or-set_other numbers i k number 0 (λ same. absurd (true≢false (sym (eq-eqb k i same) ∙ e))))) h
 
 -- ---- the numbers of tokens' names
 

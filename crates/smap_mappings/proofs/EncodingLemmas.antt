@@ -1,6 +1,6 @@
 -- A loop that writes the text of tokens.
 use Rattle.std.proofs.Common.{◌≡◌, ℕ, zero, suc, ◌+◌, ◌<◌, ◌≤◌, Bool, true, false, cond, eqb, List, [], ◌∷◌}
-use Rattle.std.proofs.Common.{◌++◌, length, take, get_or, map, filter, refl, sym, ap, subst, ◌∙◌, arith}
+use Rattle.std.proofs.Common.{◌++◌, length, take, map, filter, refl, sym, ap, subst, ◌∙◌, arith}
 use Rattle.std.proofs.Common.{append_assoc, Option, None, Some}
 use Rattle.std.specs.Prelude.{unwrap_or, IfSome}
 use Rattle.std.proofs.lemmas.Bool.Decides.{nat_tests}
@@ -177,12 +177,6 @@ encodable-front xs ys h = (never_falls_front xs ys h.0, placed_front xs ys h.1)
 
 pub encodable-take : (ts : List Token) (n : ℕ) → IsEncodable ts → IsEncodable (take n ts)
 encodable-take ts n h = (never_falls_take ts n h.0, placed_take ts n h.1)
-
-pub placed_at : (ts : List Token) (i : ℕ) (d t : Token) → i < length ts → t ≡ get_or ts i d
-    → AllByRecursion IsPlaced ts → IsPlaced t
-placed_at [] i d t lt e h = absurd (omega arith)
-placed_at (x ∷ xs) zero d t lt e h = subst IsPlaced (sym e) h.0
-placed_at (x ∷ xs) (suc i) d t lt e h = placed_at xs i d t (omega arith) e h.1
 
 still_below : (ts : List Token) (n m : ℕ) (t : Token) → n ≤ m → t.line < m
     → AllByRecursion (λ u. u.line < n) ts → AllByRecursion (λ u. u.line < m) (ts ++ t ∷ [])

@@ -52,8 +52,3 @@ in_order-more (u ∷ v ∷ us) t (suc k) d len e h =
     let falls = is_before (position_of v) (position_of u) in
     let b = and_parts (not falls) (in_order (map position_of (v ∷ us))) h in
     rw (not-true falls b.0, in_order-more (v ∷ us) t k d (omega arith) e b.1) refl
-
-pub in_order-first : (ts : List Token) (t : Token)
-    → length ts ≡ 0 → in_order (map position_of (ts ++ t ∷ [])) ≡ true
-in_order-first [] t len = refl
-in_order-first (u ∷ us) t len = absurd (omega arith)

@@ -19,7 +19,7 @@ use Rattle.smap_mappings.specs.declared.running.Running.{Running}
 use Rattle.smap_mappings.specs.declared.token.Bounds.{Bounds}
 use Rattle.smap_mappings.specs.declared.token.Token.{Token}
 use Rattle.smap_mappings.specs.Lines.{SegmentText, segments_of}
-use Rattle.smap_mappings.specs.Tokens.{Fault, u32_count, kind_of, tokens_after}
+use Rattle.smap_mappings.specs.Tokens.{Fault, u32_count, tokens_after}
 use Rattle.smap_mappings.specs.Steps.{Sums, Continues, walk, with_tokens, text_at, ending, token_step}
 use Rattle.smap_mappings.specs.Steps.{judge_step, fields_or_kind}
 use Rattle.smap_mappings.specs.Pieces.{ended_segments, IsAt, IsReadTo}
@@ -50,11 +50,6 @@ line_counted bounds r line fields le =
 pub judged_fields : (bounds : Bounds) (r : Running) (line : ℕ) (text : List ℕ) (fields : Fields)
     → fields_in text ≡ Ok fields → judge_step bounds r line text ≡ token_step bounds r line fields
 judged_fields bounds r line text fields e =
-    ap (λ (q : Result Fields SegmentFault). fields_or_kind q >>= λ f. token_step bounds r line f) e
-
-pub judged_fault : (bounds : Bounds) (r : Running) (line : ℕ) (text : List ℕ) (fault : SegmentFault)
-    → fields_in text ≡ Err fault → judge_step bounds r line text ≡ Err (kind_of fault)
-judged_fault bounds r line text fault e =
     ap (λ (q : Result Fields SegmentFault). fields_or_kind q >>= λ f. token_step bounds r line f) e
 
 -- ---- what was read

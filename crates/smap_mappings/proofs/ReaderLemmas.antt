@@ -79,15 +79,6 @@ pub failed_of : (r : MappingsReader) (bounds : Bounds) (text : List ℕ) (error 
     → r.failed ≡ Some error → StandsFor r bounds text → HasFailed bounds text error
 failed_of r bounds text error is h = subst (λ (f : Option MappingsError). StandsUnder r f bounds text) is h
 
-pub stands_read : (r : MappingsReader) (bounds : Bounds) (text : List ℕ)
-    → IsRead r bounds text → StandsFor r bounds text
-stands_read r bounds text h = subst (λ (f : Option MappingsError). StandsUnder r f bounds text) (sym h.fine) h
-
-pub stands_failed : (r : MappingsReader) (bounds : Bounds) (text : List ℕ) (error : MappingsError)
-    → r.failed ≡ Some error → HasFailed bounds text error → StandsFor r bounds text
-stands_failed r bounds text error is h =
-    subst (λ (f : Option MappingsError). StandsUnder r f bounds text) (sym is) h
-
 pub tells_failed : (bounds : Bounds) (text : List ℕ) (error : MappingsError)
     → HasFailed bounds text error
     → ReturnsFirstFault (Err error) (tokens_after bounds [] (ended_segments text))

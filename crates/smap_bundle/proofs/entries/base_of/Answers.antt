@@ -1,4 +1,4 @@
-use Rattle.std.proofs.Common.{◌≡◌, ◌∙◌, ◌≤◌, Err, ap, length, sym, arith}
+use Rattle.std.proofs.Common.{◌≡◌, ◌∙◌, ◌≤◌, Err, length, sym, arith}
 use Rattle.std.proofs.lemmas.List.{length-map}
 use Rattle.smap_io.specs.Limits.{longest_input}
 use Rattle.smap_bundle.specs.declared.fault.EntryFault.TheVariants as wrong

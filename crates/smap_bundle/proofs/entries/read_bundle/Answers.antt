@@ -1,4 +1,4 @@
-use Rattle.std.proofs.Common.{◌≡◌, ◌∙◌, ◌++◌, Err, ap, append_assoc, length-append, sym, subst, arith, rules}
+use Rattle.std.proofs.Common.{◌≡◌, ◌∙◌, ◌++◌, ap, append_assoc, length-append, sym, subst, arith, rules}
 use Rattle.std.proofs.lemmas.Result.{err_from_is_err_and}
 use Rattle.smap_io.specs.Device.{has_ended}
 use Rattle.smap_io.specs.Reading.{Gave, IsWithinLine}
@@ -15,11 +15,6 @@ use Rattle.smap_bundle.proofs.BundleLemmas.{entries_more, faulty_bundle, whole_b
 use Rattle.smap_bundle.proofs.EntryLemmas.{AreEntries, distinct_more, ends_within, line_read, no_more}
 use Rattle.smap_bundle.proofs.StopLemmas.{gave_up_stops, stops_after}
 use Rattle.smap_bundle.proofs.entries.read_bundle.Goals as goal
-
-pub take_entry-requires-clause-line : goal.take_entry-requires-clause-line
-take_entry-requires-clause-line g c = rw c.as_slice-in-entries-2.ensures.value
-    (line_read g.R.Read.remaining c.entries.reader c.read_line.new.reader c.in-Ok.line.items
-    c.entries.invariant.not_ended c.in-Ok.ensures.reads).0
 
 pub returns-in-Err-clause-stops : goal.returns-in-Err-clause-stops
 returns-in-Err-clause-stops g c =
@@ -100,10 +95,3 @@ entries-preserved g c =
       spends = search rules;
       still = search rules;
     }
-
-pub returns-in_err-take_entry-clause-in_time : goal.returns-in_err-take_entry-clause-in_time
-returns-in_err-take_entry-clause-in_time g c =
-    in_time_then c.args.reader.now c.entries.reader c.take_entry.new.reader c.entries.invariant.still
-    c.entries.invariant.in_time
-    (in_time_or_ended c.entries.reader c.read_line.new.reader c.take_entry.new.reader c.in-Ok.ensures.still
-    c.read_line.ensures.in_time c.take_entry.ensures.idle c.take_entry.ensures.in_time)

@@ -1,23 +1,17 @@
-use Rattle.std.proofs.Common.{false, arith, ◌≡◌, ◌∙◌, ◌++◌, [], Err, inl, inr, length, sym, refl}
+use Rattle.std.proofs.Common.{arith, ◌≡◌, ◌∙◌, ◌++◌, [], Err, inl, inr, length, sym, refl}
 use Rattle.std.proofs.lemmas.List.{length-map}
 use Rattle.std.proofs.lemmas.Result.{on_ok_weaker}
 use Rattle.smap_io.specs.Device.{has_ended}
 use Rattle.smap_io.proofs.ReadingLemmas.{Gave-none}
 use Rattle.smap_bundle.specs.Bundle.{entry_with}
-use Rattle.smap_bundle.specs.Entries.{IsFaultAt, refusal}
-use Rattle.smap_bundle.specs.declared.fault.BundleFault.TheVariants as stop
+use Rattle.smap_bundle.specs.Entries.{IsFaultAt}
 use Rattle.smap_bundle.specs.declared.fault.EntryFault.TheVariants as wrong
 use Rattle.smap_bundle.specs.Reach.{IsWithinEntry, IsWithinMap}
 use Rattle.smap_bundle.specs.Scripts.{script_of, scripts_of}
 use Rattle.smap_bundle.specs.Stopping.{Stops}
-use Rattle.smap_bundle.proofs.EntryLemmas.{entry_taken, fault_of_entry, no_entry, open_still}
-use Rattle.smap_bundle.proofs.StopLemmas.{if_stops, match_any, refusal_isnt_read, refusal_stops, stops_after}
+use Rattle.smap_bundle.proofs.EntryLemmas.{entry_taken, fault_of_entry, no_entry}
+use Rattle.smap_bundle.proofs.StopLemmas.{if_stops, refusal_stops, stops_after}
 use Rattle.smap_bundle.proofs.entries.take_entry.Goals as goal
-
-pub take_map-requires-clause-not_ended : goal.take_map-requires-clause-not_ended
-take_map-requires-clause-not_ended g c =
-    open_still (has_ended c.args.reader.now) c.args.line.now c.in-Some.header.script.now
-    c.in-Some.header.base.now c.in-Some.ensures.0 c.requires.line c.in-Some.ensures.1
 
 pub returns-in_default-clause-stops : goal.returns-in_default-clause-stops
 returns-in_default-clause-stops g c =
@@ -62,16 +56,3 @@ returns-clause-stops g c =
     fault)
     (λ text found within. inr (script, base, n, c.in-Some.ensures.1, within)) stops)
     (c.take_map.ensures.stops n c.in-Some.ensures.2)
-
-pub returns-in_default-clause-open : goal.returns-in_default-clause-open
-returns-in_default-clause-open g c = λ is.
-    absurd (refusal_isnt_read (λ found. found ≡ refusal c.len.result wrong.Header) c.refused.result
-    c.refused.ensures is)
-
-pub returns-clause-open : goal.returns-clause-open
-returns-clause-open g c =
-    let still = open_still (has_ended c.args.reader.now) c.args.line.now c.in-Some.header.script.now
-    c.in-Some.header.base.now c.in-Some.ensures.0 c.requires.line c.in-Some.ensures.1 in
-    match_any c.take_map.result (λ _. has_ended c.args.reader.now ≡ false) (λ s. s ≡ stop.Read
-    → has_ended c.args.reader.now ≡ false)
-    (λ _. still) (λ s is. still)

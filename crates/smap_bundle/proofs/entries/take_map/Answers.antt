@@ -1,7 +1,7 @@
 use Rattle.std.proofs.Common.{◌≡◌, ◌∙◌, ℕ, List, ◌++◌, ◌∷◌, [], inl, inr, Err, length, length-append, sym, refl}
 use Rattle.std.proofs.Common.{arith, subst}
 use Rattle.std.proofs.lemmas.List.{length-map}
-use Rattle.std.proofs.lemmas.Result.{err_from_is_err_and, on_ok_weaker}
+use Rattle.std.proofs.lemmas.Result.{err_from_is_err_and}
 use Rattle.smap_io.proofs.ReadingLemmas.{Gave-none}
 use Rattle.smap_record.specs.Reading.{reading}
 use Rattle.smap_trace.specs.Translation.{Script}
@@ -86,21 +86,6 @@ returns-in_err-map-clause-stops g c = λ n e.
       ),
     )) c.in_err-map.field-0.0 c.in_err-map.ensures.stops)
     (within_map n bytes (c.in_ok-bytes.ensures.len ∙ sym len)))
-
-pub returns-clause-takes : goal.returns-clause-takes
-returns-clause-takes g c = on_ok_weaker c.add.result (λ added. record {
-  bytes = c.in_ok-bytes.bytes.items;
-  url = c.in_ok-base.base;
-  map_text = c.in_ok-map.map;
-  gave = c.in_ok-bytes.ensures.gave;
-  calls = c.in_ok-bytes.ensures.calls;
-  len_is = c.in_ok-bytes.ensures.len;
-  fits = c.in_ok-base.ensures.fits;
-  is_base = c.in_ok-base.ensures.base;
-  is_map = c.in_ok-map.ensures.map;
-  new_script = c.in_ok-base.ensures.new;
-  added = added;
-}) c.add.ensures.added
 
 pub returns-clause-stops : goal.returns-clause-stops
 returns-clause-stops g c = λ n e.

@@ -1,16 +1,9 @@
-use Rattle.std.proofs.Common.{◌+◌, take, sym, subst, arith}
-use Rattle.std.proofs.lemmas.List.{take_all}
+use Rattle.std.proofs.Common.{◌+◌, take, sym, subst}
 use Rattle.smap_mappings.specs.Feeding.{Encodes}
-use Rattle.smap_mappings.specs.Text.{IsEncodable, IsPlaced}
+use Rattle.smap_mappings.specs.Text.{IsEncodable}
 use Rattle.smap_mappings.proofs.EncodingLemmas.{encodable-take}
-use Rattle.smap_record.proofs.ListLemmas.{all_at, take_next}
+use Rattle.smap_record.proofs.ListLemmas.{take_next}
 use Rattle.smap_canon.proofs.numbering.listed_mappings.Goals as goal
-
-pub push-requires : goal.push-requires
-push-requires c =
-    let tokens = c.args.map.now.listing.tokens in
-    all_at IsPlaced tokens c.loop-i.i c.listed_token.result c.token_count-i-end.ensures.listing.encodable.1
-    c.listed_token.ensures
 
 pub loop-i-preserved : goal.loop-i-preserved
 loop-i-preserved c =
@@ -19,9 +12,3 @@ loop-i-preserved c =
     subst (Encodes c.push.new.self) (sym next)
     (c.in_ok-push.ensures (take c.loop-i.i tokens) c.loop-i.invariant (subst IsEncodable next
     (encodable-take tokens (c.loop-i.i + 1) c.token_count-i-end.ensures.listing.encodable)))
-
-pub returns : goal.returns
-returns c =
-    let tokens = c.args.map.now.listing.tokens in
-    let all = take_all c.loop-i.i tokens (omega (arith, c.token_count-i-end.ensures.count)) in
-    c.finish.ensures tokens (subst (Encodes c.loop-i.encoder) all c.loop-i.invariant)

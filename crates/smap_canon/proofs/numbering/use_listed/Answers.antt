@@ -1,8 +1,6 @@
-use Rattle.std.proofs.Common.{◌∙◌, sym, ap, arith}
-use Rattle.std.proofs.lemmas.List.{length-map}
+use Rattle.std.proofs.Common.{◌∙◌, sym, ap}
 use Rattle.smap_canon.specs.Numbering.{texts_of, with_name, used_in}
-use Rattle.smap_canon.proofs.NumberingLemmas.{texts-insert_key, place-key, numbers-put, own_numbered}
-use Rattle.smap_canon.proofs.NumberingLemmas.{still_numbered}
+use Rattle.smap_canon.proofs.NumberingLemmas.{texts-insert_key, place-key, numbers-put}
 use Rattle.smap_canon.proofs.numbering.use_listed.Goals as goal
 
 pub returns-clause-used : goal.returns-clause-used
@@ -18,16 +16,3 @@ returns-clause-numbers c =
     numbers-put c.args.map.now.listing.names (used_in c.args.names.now) (texts_of c.insert_full.new.self.keys)
     c.args.names.now.numbers.items
     c.args.listed c.in_ok-number.number c.name.result.now c.requires.numbers c.name.ensures keys place
-
-pub returns-clause-numbered : goal.returns-clause-numbered
-returns-clause-numbered c =
-    let place = c.in_ok-number.ensures.index ∙ place-key c.name.result c.args.names.now.used.keys in
-    own_numbered (used_in c.args.names.now) c.args.names.now.numbers.items c.args.listed c.in_ok-number.number
-    c.name.result.now
-    (omega (arith, c.requires.numbers.count, c.requires.listed)) place
-    (omega (arith, c.requires.few, length-map c.args.names.now.used.keys (λ k. k.now)))
-
-pub returns-clause-kept : goal.returns-clause-kept
-returns-clause-kept c = λ k.
-    still_numbered c.args.names.now.numbers.items c.args.listed c.in_ok-number.number k
-    (returns-clause-numbered c)

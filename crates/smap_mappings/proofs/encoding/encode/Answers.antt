@@ -1,21 +1,13 @@
-use Rattle.std.proofs.Common.{◌≡◌, ◌++◌, ◌∷◌, ◌+◌, [], sym, arith, get_or, None, subst, take}
-use Rattle.std.proofs.lemmas.List.{take_more, take_all}
+use Rattle.std.proofs.Common.{◌≡◌, ◌++◌, ◌∷◌, ◌+◌, [], sym, get_or, None, subst, take}
+use Rattle.std.proofs.lemmas.List.{take_more}
 use Rattle.smap_mappings.specs.declared.token.Token.{Token}
 use Rattle.smap_mappings.specs.Text.{IsEncodable}
 use Rattle.smap_mappings.specs.Feeding.{Encodes}
-use Rattle.smap_mappings.proofs.EncodingLemmas.{encodable-take, placed_last}
+use Rattle.smap_mappings.proofs.EncodingLemmas.{encodable-take}
 use Rattle.smap_mappings.proofs.encoding.encode.Goals as goal
 
 abbrev no_token : Token
 no_token = record { line = 0; column = 0; original = None }
-
-pub push-requires : goal.push-requires
-push-requires c =
-    let i = c.loop-token.token-index in
-    let ts = c.args.tokens.now in
-    let t : Token = get_or ts i no_token in
-    placed_last (take i ts) t (subst IsEncodable (take_more ts i no_token c.loop-token-test.true)
-    (encodable-take ts (i + 1) c.requires)).1
 
 pub loop-token-preserved : goal.loop-token-preserved
 loop-token-preserved c =
@@ -25,9 +17,3 @@ loop-token-preserved c =
     let more : take (i + 1) ts ≡ take i ts ++ t ∷ [] = take_more ts i no_token c.loop-token-test.true in
     subst (Encodes c.push.new.self) (sym more) (c.in_ok-push.ensures (take i ts) c.loop-token.invariant
     (subst IsEncodable more (encodable-take ts (i + 1) c.requires)))
-
-pub returns : goal.returns
-returns c =
-    let ts = c.args.tokens.now in
-    c.finish.ensures ts (subst (Encodes c.loop-token.encoder)
-    (take_all c.loop-token.token-index ts (omega arith)) c.loop-token.invariant)

@@ -1,14 +1,11 @@
 use Rattle.std.proofs.Common.{rules, ◌-◌, length, arith, None}
 use Rattle.std.proofs.lemmas.Bool.Decides.{nat_tests}
 use Rattle.smap_mappings.specs.declared.token.Token.{Token}
-use Rattle.smap_mappings.proofs.OrderLemmas.{in_order-more, in_order-first}
+use Rattle.smap_mappings.proofs.OrderLemmas.{in_order-more}
 use Rattle.smap_mappings.proofs.token_list.is_before_last.Goals as goal
 
 abbrev no_token : Token
 no_token = record { line = 0; column = 0; original = None }
-
-pub returns-then-is_empty : goal.returns-then-is_empty
-returns-then-is_empty c = λ e h. in_order-first c.args.list.now c.args.token.now (grind (arith, nat_tests))
 
 pub returns : goal.returns
 returns c = λ e h.

@@ -13,11 +13,6 @@ returns-in-Err-clause-tells c = λ bounds text h. tells_failed bounds (text ++ c
     (fails_state bounds (text ++ c.args.piece.now) (vec_capacity c.args.self.now.tokens.list) c.in-Err.error
     (c.in-Err.ensures.reads bounds text (read_of c.args.self.now bounds text c.in_default.not-Some h)))
 
-pub returns-in-Err-clause-stands : goal.returns-in-Err-clause-stands
-returns-in-Err-clause-stands c = λ bounds text h.
-    fails_state bounds (text ++ c.args.piece.now) (vec_capacity c.args.self.now.tokens.list) c.in-Err.error
-    (c.in-Err.ensures.reads bounds text (read_of c.args.self.now bounds text c.in_default.not-Some h))
-
 pub returns-in-Err-clause-fits : goal.returns-in-Err-clause-fits
 returns-in-Err-clause-fits c = λ bounds text h none fits e.
     fits_memory bounds (text ++ c.args.piece.now) (vec_capacity c.args.self.now.tokens.list) c.in-Err.error
