@@ -7,10 +7,10 @@
 // The others are @jridgewell/trace-mapping and source-map, where NODE_PATH has them, and Node's own
 // module.SourceMap. For maps of three sizes, made by make_map.py, it prints a table: opening with the first
 // lookup, since others decode then, in a fresh process and in a warm one; lookups at random positions and at
-// rising ones, after 150,000 others; all mappings; and how much the process grows up to the first lookup. Each
-// figure is the best of N processes, 3 unless given. A second table has the parts of opening the smallest map.
-// With --into they are put between the two lines of that file that hold `figures of node.js`, and `parts of
-// node.js`. Time is processor time. Let nothing else run meanwhile.
+// rising ones, after 150,000 others; all mappings; and how much the process grows up to the first lookup.
+// Each figure is the best of N processes, 3 unless given. A second table has the parts of opening the
+// smallest map. With --into they are put between the two lines of that file that hold `figures of node.js`,
+// and `parts of node.js`. Time is processor time. Let nothing else run meanwhile.
 const fs = require('node:fs');
 const os = require('node:os');
 const path = require('node:path');

@@ -41,8 +41,8 @@ static void put(const char *part)
     end = stpcpy(end, part);
 }
 
-/* A map: how many sources, names and mappings it has, and how many bytes each content, each name, its root and
- * its URL. Contents have an escape in every 20 bytes. */
+/* A map: how many sources, names and mappings it has, and how many bytes each content, each name, its root
+ * and its URL. Contents have an escape in every 20 bytes. */
 typedef struct shape {
     size_t sources, content, names, name, mappings, root, base;
 } shape;
@@ -104,15 +104,15 @@ static void compare(shape s)
     CHECK(smap_open(&map, text_of, strlen(text_of), url, strlen(url), NULL, NULL) == SMAP_OK);
     CHECK(smap_held(&map, &held) == SMAP_OK);
     real = taken - before;
-    printf("%zu sources of %zu bytes, %zu names of %zu, %zu mappings, a root of %zu, a base of %zu: %zu bytes "
-           "held, and %zu of malloc\n",
+    printf("%zu sources of %zu bytes, %zu names of %zu, %zu mappings, a root of %zu, a base of %zu: "
+           "%zu bytes held, and %zu of malloc\n",
            s.sources, s.content, s.names, s.name, s.mappings, s.root, s.base, held, real);
     CHECK(held * 4 >= real * 3 && held * 4 <= real * 5);
     smap_close(&map);
     CHECK(taken == before);
 }
 
-/* Lists have the most room just above a power of two, and groups of nine sources just above nine times one. */
+/* Lists have the most room just above a power of two, and groups of sources just above nine times one. */
 static void compare_around_powers(void)
 {
     for (size_t n = 16; n <= 65536; n *= 4) {

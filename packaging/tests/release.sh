@@ -16,9 +16,9 @@ counts_node() {
     node_deb=$dist/node-smap_${version}_amd64.deb
     npm_tgz=$dist/smap-$version.tgz
     [ ! -e "$node_deb" ] || debs="$debs $node_deb"
+    why=$(sed -n 's/^build-packages: .* is left out: //p' "$work/log" | sed 1q)
     for file in "$node_deb" "$npm_tgz"; do
-        name=${file##*/}
-        [ -e "$file" ] || leave_out "$name" "$(sed -n 's/^build-packages: .* is left out: //p' "$work/log" | sed 1q)"
+        [ -e "$file" ] || leave_out "${file##*/}" "$why"
     done
 }
 
@@ -118,7 +118,8 @@ numbers() {
         [ "$(dpkg-deb -f "$package" Version)" = "$version" ] || return 1
         [ "$(dpkg-deb -f "$package" Installed-Size)" -gt 0 ] || return 1
     done
-    [ ! -e "$npm_tgz" ] || grep -x "  \"version\": \"$version\"," "$work/unpacked/npm/package/package.json" || return 1
+    [ ! -e "$npm_tgz" ] ||
+        grep -x "  \"version\": \"$version\"," "$work/unpacked/npm/package/package.json" || return 1
     grep -x "Version: $version" "$work/unpacked/libsmap-dev/usr/lib/x86_64-linux-gnu/pkgconfig/smap.pc" &&
         grep -x "Version: $version" "$work/unpacked/archive/$archive/lib/pkgconfig/smap.pc" &&
         grep -x "Version: $version" "$work/unpacked/wheel/smap-$version.dist-info/METADATA"

@@ -72,15 +72,17 @@ static void free_map(napi_env env, void *at, void *hint)
 static bool has_collected(napi_env env, thread_data *own)
 {
     napi_value object = NULL;
-    if (own->witness && (napi_get_reference_value(env, own->witness, &object) != napi_ok || object)) return false;
-    if (own->witness) napi_delete_reference(env, own->witness);
-    own->witness = NULL;
+    if (own->witness) {
+        if (napi_get_reference_value(env, own->witness, &object) != napi_ok || object) return false;
+        napi_delete_reference(env, own->witness);
+        own->witness = NULL;
+    }
     if (napi_create_object(env, &object) != napi_ok) return false;
     return napi_create_reference(env, object, 0, &own->witness) == napi_ok;
 }
 
-/* Closes the maps whose handles were collected. Node puts their finalizers off until the event loop turns, and
- * a program may open many maps before that. */
+/* Closes the maps whose handles were collected. Node puts their finalizers off until the event loop turns,
+ * and a program may open many maps before that. */
 static void close_collected(napi_env env, thread_data *own)
 {
     napi_handle_scope scope;
@@ -139,8 +141,8 @@ static bool look_for(napi_env env, const text_in *text, napi_value value)
     return true;
 }
 
-/* open(text, url, items, lines, word): a handle. If a word is given, `found` has whether the text may have it,
- * which is sooner found out here than in JavaScript. */
+/* open(text, url, items, lines, word): a handle. If a word is given, `found` has whether the text may have
+ * it, which is sooner found out here than in JavaScript. */
 napi_value do_open(napi_env env, napi_callback_info info)
 {
     text_in text, url;

@@ -4,12 +4,11 @@
 //     node run.js NAME FOLDER
 //
 // NAME is `source-map`, `remapping` or `source-map-support`, and FOLDER has its sources, as
-// scripts/peer-suites puts them there.
-// What differs on purpose is listed in differences.json with its reason: such a test has to fail with the
-// error that stands there, and any other one to pass. Only tests that ask the layer are counted. Before, all
-// of them are run over the package itself, and have to pass. The last line is 'N passed, M failed'. The
-// status is 3, and the line a reason, if the tests aren't those that the list is for, or need a package that
-// isn't here.
+// scripts/peer-suites puts them there. What differs on purpose is listed in differences.json with its reason:
+// such a test has to fail with the error that stands there, and any other one to pass. Only tests that ask
+// the layer are counted. Before, all of them are run over the package itself, and have to pass. The last line
+// is 'N passed, M failed'. The status is 3, and the line a reason, if the tests aren't those that the list is
+// for, or need a package that isn't here.
 const fs = require('node:fs');
 const Module = require('node:module');
 const os = require('node:os');
@@ -158,7 +157,8 @@ async function runTheirs({ load }, folder) {
 async function runOurs({ load, layers, asksAlways }, folder, differences) {
   replace(layers);
   const tests = load(folder, true);
-  const results = (await resultsOf(tests)).filter(({ failure, hasAsked }) => failure || hasAsked || asksAlways);
+  const isCounted = ({ failure, hasAsked }) => failure || hasAsked || asksAlways;
+  const results = (await resultsOf(tests)).filter(isCounted);
   const isWrong = ({ name, failure }) =>
     name in differences ? !failure?.message.includes(differences[name].error) : failure;
   const wrong = results.filter(isWrong);
