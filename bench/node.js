@@ -200,12 +200,17 @@ function makeMap(folder, [name, segments, sources, content]) {
   return { name, file, lines, columns, count: mappings };
 }
 
-function measured(name, { file, lines, columns }, runs) {
+// One process: what a reader takes for a map.
+function measured(name, { file, lines, columns }) {
   const words = ['--expose-gc', __filename, '--measure', name, file, lines, columns].map(String);
-  const all = Array.from({ length: runs }, () => JSON.parse(execFileSync(process.execPath, words)));
-  const of = (key, pick) => (all[0][key] === null ? null : pick(...all.map(one => one[key])));
+  return JSON.parse(execFileSync(process.execPath, words));
+}
+
+// The best of several processes.
+function bestOf(all) {
   const { min, max } = Math;
   const picks = { first: min, again: min, random: max, rising: max, mappings: min, memory: min };
+  const of = (key, pick) => (all[0][key] === null ? null : pick(...all.map(one => one[key])));
   return Object.entries(picks).map(([key, pick]) => of(key, pick));
 }
 
@@ -228,8 +233,10 @@ function table(runs, maps) {
   ];
   const names = Object.keys(READERS).filter(isThere);
   for (const map of maps) {
-    for (const name of names) {
-      const [first, again, ...rest] = measured(name, map, runs).map(shown);
+    // In turn, since what else runs on the machine changes.
+    const rounds = Array.from({ length: runs }, () => names.map(name => measured(name, map)));
+    for (const [i, name] of names.entries()) {
+      const [first, again, ...rest] = bestOf(rounds.map(round => round[i])).map(shown);
       const columns = [`${map.name}, ${map.count} mappings`, name, `${first} / ${again}`, ...rest];
       lines.push(`| ${columns.join(' | ')} |`);
     }
