@@ -7,10 +7,10 @@
 // The others are @jridgewell/trace-mapping and source-map, where NODE_PATH has them, and Node's own
 // module.SourceMap. For maps of three sizes, made by make_map.py, it prints a table: opening with the first
 // lookup, since others decode then, in a fresh process and in a warm one; lookups at random positions and at
-// rising ones; all mappings; and how much the process grows up to the first lookup. Each figure is the best
-// of N processes, 3 unless given. A second table has the parts of opening the smallest map. With --into they
-// are put between the two lines of that file that hold `figures of node.js`, and `parts of node.js`. Time is
-// processor time. Let nothing else run meanwhile.
+// rising ones, after 150,000 others; all mappings; and how much the process grows up to the first lookup.
+// Each figure is the best of N processes, 3 unless given. A second table has the parts of opening the
+// smallest map. With --into they are put between the two lines of that file that hold `figures of node.js`,
+// and `parts of node.js`. Time is processor time. Let nothing else run meanwhile.
 const fs = require('node:fs');
 const os = require('node:os');
 const path = require('node:path');
@@ -25,6 +25,8 @@ const SIZES = [
   ['20 MB', 1_000_000, 1000, 13_000],
 ];
 const BUDGET = 300; // milliseconds for a rate
+const ROUNDS = 3; // of 50,000 lookups, before they are timed: readers may make something for many of them
+const WARM = 1000; // and for opening again, within which the collector of each reader runs several times
 
 // ---- readers: how each opens a map, looks a position up (lines and columns from 0), lists all mappings, and
 // closes a map, where it has a call for that
@@ -94,21 +96,24 @@ const milliseconds = call => {
   return (user + system) / 1000;
 };
 
+// Calls with each of these positions.
+function round(call, positions) {
+  for (let i = 0; i < positions.length; i += 2) call(positions[i], positions[i + 1]);
+}
+
 // How often a second a call can be made with each of these positions.
 function rate(call, positions) {
   let count = 0, took = 0;
   while (took < BUDGET) {
-    took += milliseconds(() => {
-      for (let i = 0; i < positions.length; i += 2) call(positions[i], positions[i + 1]);
-    });
+    took += milliseconds(() => round(call, positions));
     count += positions.length / 2;
   }
   return (count / took) * 1000;
 }
 
-function best(call, after = () => {}) {
+function best(call, budget, after = () => {}) {
   let least = Infinity;
-  for (let took = 0, i = 0; i < 3 || took < BUDGET; i++) {
+  for (let took = 0, i = 0; i < 3 || took < budget; i++) {
     const one = milliseconds(call);
     took += Math.max(one, 0.01);
     least = Math.min(least, one);
@@ -141,10 +146,11 @@ function measure(name, file, lines, columns) {
   const memory = (process.memoryUsage().rss - before) / 1e6;
   const [random, rising] = positionsOf(lines, columns);
   const look = (line, column) => lookup(map, line, column);
+  for (let i = 0; i < ROUNDS; i++) round(look, random);
   const rates = [rate(look, random) / 1e6, rate(look, rising) / 1e6];
   let count = 0;
-  const mappings = all ? best(() => all(map, () => count++)) : null;
-  const again = best(openFirst, () => close(map));
+  const mappings = all ? best(() => all(map, () => count++), BUDGET) : null;
+  const again = best(openFirst, WARM, () => close(map));
   return { first, again, random: rates[0], rising: rates[1], mappings, memory };
 }
 
@@ -194,12 +200,17 @@ function makeMap(folder, [name, segments, sources, content]) {
   return { name, file, lines, columns, count: mappings };
 }
 
-function measured(name, { file, lines, columns }, runs) {
+// One process: what a reader takes for a map.
+function measured(name, { file, lines, columns }) {
   const words = ['--expose-gc', __filename, '--measure', name, file, lines, columns].map(String);
-  const all = Array.from({ length: runs }, () => JSON.parse(execFileSync(process.execPath, words)));
-  const of = (key, pick) => (all[0][key] === null ? null : pick(...all.map(one => one[key])));
+  return JSON.parse(execFileSync(process.execPath, words));
+}
+
+// The best of several processes.
+function bestOf(all) {
   const { min, max } = Math;
   const picks = { first: min, again: min, random: max, rising: max, mappings: min, memory: min };
+  const of = (key, pick) => (all[0][key] === null ? null : pick(...all.map(one => one[key])));
   return Object.entries(picks).map(([key, pick]) => of(key, pick));
 }
 
@@ -222,8 +233,10 @@ function table(runs, maps) {
   ];
   const names = Object.keys(READERS).filter(isThere);
   for (const map of maps) {
-    for (const name of names) {
-      const [first, again, ...rest] = measured(name, map, runs).map(shown);
+    // In turn, since what else runs on the machine changes.
+    const rounds = Array.from({ length: runs }, () => names.map(name => measured(name, map)));
+    for (const [i, name] of names.entries()) {
+      const [first, again, ...rest] = bestOf(rounds.map(round => round[i])).map(shown);
       const columns = [`${map.name}, ${map.count} mappings`, name, `${first} / ${again}`, ...rest];
       lines.push(`| ${columns.join(' | ')} |`);
     }

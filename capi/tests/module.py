@@ -53,8 +53,12 @@ class ModuleTest(unittest.TestCase):
             self.map.source(3)
         self.assertEqual([m.column for m in self.map.mappings()], [0, 4, 0, 2])
         self.assertEqual((self.map.file(), self.map.counts().names), ("out.js", 1))
-        # the map and "out.js", three sources with two URLs of 15 bytes and a text of 3, "f", four mappings
-        held = 1408 + 6 + (3 * 144 + 2 * 15 + 3) + 3 * 8 + (48 + 1) + 4 * 32 + (3 * 48 + 2 * 4) + 3 * 8
+        # A string of up to 24 bytes has a block of 24: the base; "out.js", two URLs, a content and "f".
+        held = (648 + 24) + 5 * 24
+        # nine sources, four listed ones and four names fit without growing; four mappings
+        held += 784 + 4 * 8 + 4 * 24 + 4 * 32
+        # four sources as written, of which two have a text, and no root; a table of two lines
+        held += (4 * 40 + 2 * 24 + 32) + 3 * 8
         self.assertEqual(self.map.held(), held)
 
     def test_sources_are_as_the_text_writes_them(self):

@@ -70,10 +70,12 @@ fn sources_and_lists(map: &Map) {
     assert_eq!((map.url(1).as_deref(), map.url(2), map.url(3)), (Some("http://h/m/b.js"), None, None));
     assert_eq!((map.listed_source(2), map.listed_source(3), map.listed_source(4)), (Some(0), Some(2), None));
     assert_eq!((map.listed_name(2).as_deref(), map.listed_name(3)), (Some("f"), None));
-    // the map and "out.js", three sources with two URLs of 15 bytes and "x", four listed, three names of one
-    let record = 1408 + 6 + (3 * 144 + 2 * 15 + 1) + 4 * 8 + 3 * (48 + 1) + 4 * 32;
-    // three listed sources of four bytes and a null, and a table of two lines
-    assert_eq!(map.held(), record + (4 * 48 + 3 * 4) + 3 * 8);
+    // a string of up to 24 bytes has a block of 24: the base; "out.js", two URLs, a content and three names
+    let strings = (648 + 24) + 7 * 24;
+    // nine sources, four listed ones and four names fit without growing; four mappings
+    let lists = 784 + 4 * 8 + 4 * 24 + 4 * 32;
+    // four sources as written, of which three have a text, and no root; a table of two lines
+    assert_eq!(map.held(), strings + lists + (4 * 40 + 3 * 24 + 32) + 3 * 8);
     assert_eq!((map.written_source(2).as_deref(), map.written_source(3)), (Some("a.js"), None));
     assert_eq!((map.written_root(2), map.written_source(4)), (None, None));
     let columns: Vec<u32> = map.mappings().map(|m| m.column).collect();

@@ -6,7 +6,8 @@
 prepares_root() {
     mkdir "$work/try" || return 1
     put_example "$work/try/example" && put_program c "$work/try/c" && put_program py "$work/try/py" &&
-        put_node_programs "$work/try/node" && put_lines "$work/try/completed" || return 1
+        put_lines "$work/try/completed" || return 1
+    [ -z "$with_node" ] || put_node_programs "$work/try/node" || return 1
     # shellcheck disable=SC2086
     cp $debs "$work/try" || return 1
     start_bash "$work/try/bashrc" /try/completed /usr/share/bash-completion/completions

@@ -1,6 +1,6 @@
 # shellcheck shell=sh
-# What scripts/run-packages tests of what any user can install: the archive, unpacked into any folder, and
-# the wheel in a virtual environment.
+# What scripts/run-packages tests of what any user can install: the archive, unpacked into any folder, the
+# wheel in a virtual environment, and the package for npm in a project.
 
 usr="$work/any where/$archive"
 
@@ -59,6 +59,43 @@ removes_wheel() {
         [ -z "$(find "$venv" -name '*smap*')" ]
 }
 
+# npm with a cache and a home of its own, and without a network.
+npm_here() {
+    set -- "$@" --offline --no-audit --no-fund
+    (cd "$work/project" && HOME=$work/npm-home npm_config_cache=$work/npm npm "$@")
+}
+
+installs_npm() {
+    mkdir "$work/project" "$work/npm-home" && cp "$npm_tgz" "$work/project" &&
+        echo '{"private":true}' >"$work/project/package.json" && npm_here install "./${npm_tgz##*/}" &&
+        [ "$(cd "$work/project" && node -p "require('smap').version")" = "$version" ]
+}
+
+# The programs of its manual, as they stand in what was installed, and a stack with smap/register.
+npm_runs_programs() {
+    put_node_programs "$work/project/programs" || return 1
+    cmp "$work/project/node_modules/smap/README.md" capi/node/README.md || return 1
+    (
+        cd "$work/project/programs" || return 1
+        for program in *.?js; do
+            node "$program" >written 2>&1
+            diff "$program.out" written || return 1
+        done
+        node --require smap/register thrown.js 2>written
+        grep -F "at f ($PWD/a.ts:3:7)" written
+    )
+}
+
+removes_npm() {
+    npm_here uninstall smap && [ -z "$(find "$work/project/node_modules" -name '*smap*' 2>/dev/null)" ]
+}
+
+test_npm() {
+    try 'the package for npm is installed' installs_npm || return
+    try 'the package for npm runs the programs of its manual, and smap/register' npm_runs_programs
+    try 'the package for npm is removed, and nothing stays' removes_npm
+}
+
 test_prefix() {
     try 'the archive, unpacked anywhere, runs the first example of README' unpacks_anywhere
     if has cc 'a C program with the archive' && has pkg-config 'a C program with the archive'; then
@@ -72,4 +109,6 @@ test_prefix() {
         has mypy 'the types of the Python module' && try 'the wheel has types' has_types
         try 'the wheel is removed, and nothing stays' removes_wheel
     fi
+    # It was made here, so that npm and node are here.
+    [ ! -e "$npm_tgz" ] || test_npm
 }

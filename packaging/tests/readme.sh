@@ -28,7 +28,6 @@ put_program() {
 
 # Puts the programs of the manual of the package for Node into a folder, and a script that throws, with its map.
 put_node_programs() {
-    [ -n "$with_node" ] || return 0
     node capi/node/test/manual.js capi/node/README.md "$1" && cat >"$1/thrown.js" <<'END' &&
 function f() { throw new Error('x'); }
 f();

@@ -11,10 +11,15 @@ makes() {
     SMAP=$SMAP SMAP_CAPI=$lib scripts/build-packages "$dist"
 }
 
-# The package for Node is made where Node's headers are.
+# The packages for Node are made where Node's headers are, and the one for npm where npm is.
 counts_node() {
     node_deb=$dist/node-smap_${version}_amd64.deb
-    [ -e "$node_deb" ] && debs="$debs $node_deb"
+    npm_tgz=$dist/smap-$version.tgz
+    [ ! -e "$node_deb" ] || debs="$debs $node_deb"
+    why=$(sed -n 's/^build-packages: .* is left out: //p' "$work/log" | sed 1q)
+    for file in "$node_deb" "$npm_tgz"; do
+        [ -e "$file" ] || leave_out "${file##*/}" "$why"
+    done
 }
 
 # Makes them once more from a copy of the sources in another folder, at another time, with other settings.
@@ -32,10 +37,11 @@ makes_the_same() {
     diff -r "$dist" "$work/again"
 }
 
-# The Debian packages, the archive and the wheel, and the sum of each.
+# The Debian packages, the archive, the wheel and the package for npm, and the sum of each.
 sums() {
     # shellcheck disable=SC2086
     set -- $debs
+    [ ! -e "$npm_tgz" ] || set -- "$@" "$npm_tgz"
     wanted=$(($# + 2))
     (
         cd "$dist" && sha256sum -c SHA256SUMS &&
@@ -52,7 +58,8 @@ unpacks() {
     done
     mkdir "$work/unpacked/archive" "$work/unpacked/wheel" &&
         tar -xzf "$dist/$archive.tar.gz" -C "$work/unpacked/archive" &&
-        python3 -m zipfile -e "$wheel" "$work/unpacked/wheel"
+        python3 -m zipfile -e "$wheel" "$work/unpacked/wheel" || return 1
+    [ ! -e "$npm_tgz" ] || { mkdir "$work/unpacked/npm" && tar -xzf "$npm_tgz" -C "$work/unpacked/npm"; }
 }
 
 # Looks in each file, once it is decompressed, for this folder, the home, the kit's folder and the one for
@@ -64,11 +71,12 @@ names_no_folder() {
     ! grep -r -a -F -f "$work/folders" -l "$work/unpacked"
 }
 
-# Everything in the Debian packages belongs to root, and nothing is newer than the release.
+# Everything in the Debian packages and the package for npm belongs to root, and is of the day of the release.
 belongs_to_root() {
     for package in $debs; do
         dpkg-deb -c "$package"
     done >"$work/contents" || return 1
+    [ ! -e "$npm_tgz" ] || tar -tvzf "$npm_tgz" | sed 's| 0/0 | root/root |' >>"$work/contents"
     day=$(sed -n "s/^## \[$version\] - //p" CHANGELOG.md)
     [ -s "$work/contents" ] && ! grep -v " root/root .* $day " "$work/contents"
 }
@@ -110,6 +118,8 @@ numbers() {
         [ "$(dpkg-deb -f "$package" Version)" = "$version" ] || return 1
         [ "$(dpkg-deb -f "$package" Installed-Size)" -gt 0 ] || return 1
     done
+    [ ! -e "$npm_tgz" ] ||
+        grep -x "  \"version\": \"$version\"," "$work/unpacked/npm/package/package.json" || return 1
     grep -x "Version: $version" "$work/unpacked/libsmap-dev/usr/lib/x86_64-linux-gnu/pkgconfig/smap.pc" &&
         grep -x "Version: $version" "$work/unpacked/archive/$archive/lib/pkgconfig/smap.pc" &&
         grep -x "Version: $version" "$work/unpacked/wheel/smap-$version.dist-info/METADATA"
@@ -145,12 +155,12 @@ lintian_is_content() {
 test_release() {
     try 'the packages are made' makes || return 1
     wheel=$(echo "$dist"/smap-*.whl)
-    counts_node || leave_out 'node-smap' "$(grep 'node-smap is left out' "$work/log" | cut -d: -f3-)"
+    counts_node
     try 'the packages are made again, with the same bytes' makes_the_same
     try 'the sums are right' sums
     try 'all that is packed can be unpacked' unpacks
     try 'nothing packed names a folder of this machine' names_no_folder
-    try 'what the Debian packages hold is root'\''s' belongs_to_root
+    try 'what the packages hold is root'\''s, and of that day' belongs_to_root
     try 'all that is made has the number of VERSION' numbers
     try 'the Debian packages name their maintainer' names_maintainer
     try 'what is no maintainer is refused' refuses_maintainer

@@ -64,9 +64,8 @@ static bool read_arguments(napi_env env, const napi_value *w, opening *o)
     }
     if (!text_of(env, w[1], &o->url) || !text_of(env, w[0], &text)) return false;
     o->len = text.len;
-    o->text = malloc(text.len + 1);
-    if (o->text && text.len) memcpy(o->text, text.at, text.len);
-    text_done(&text);
+    o->text = text.owned ? text.owned : malloc(text.len + 1);
+    if (o->text && !text.owned && text.len) memcpy(o->text, text.at, text.len);
     o->boxed = new_map();
     if (o->text && o->boxed) return true;
     throw_code(env, SMAP_MEMORY, NULL);

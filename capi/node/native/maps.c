@@ -26,17 +26,79 @@ void tell_held(napi_env env, int64_t more)
     if (more) napi_adjust_external_memory(env, more, &now);
 }
 
+static void unlist(boxed_map *boxed)
+{
+    if (!boxed->own) return;
+    *boxed->link = boxed->next;
+    if (boxed->next) boxed->next->link = boxed->link;
+    boxed->own = NULL;
+}
+
+static void enlist(napi_env env, boxed_map *boxed, napi_value handle)
+{
+    thread_data *own = NULL;
+    if (napi_get_instance_data(env, (void **)&own) != napi_ok || !own) return;
+    if (napi_create_reference(env, handle, 0, &boxed->handle) != napi_ok) return;
+    boxed->own = own;
+    boxed->link = &own->first;
+    boxed->next = own->first;
+    if (boxed->next) boxed->next->link = &boxed->next;
+    own->first = boxed;
+}
+
+void forget_maps(thread_data *own)
+{
+    while (own->first) unlist(own->first);
+}
+
+static void close_map(napi_env env, boxed_map *boxed)
+{
+    smap_close(&boxed->map);
+    tell_held(env, -boxed->held);
+    boxed->held = 0;
+}
+
 static void free_map(napi_env env, void *at, void *hint)
 {
     boxed_map *boxed = at;
     (void)hint;
-    smap_close(&boxed->map);
-    tell_held(env, -boxed->held);
+    unlist(boxed);
+    if (boxed->handle) napi_delete_reference(env, boxed->handle);
+    close_map(env, boxed);
     free(boxed);
 }
 
-/* A handle is freed when it has been collected, but only once the event loop turns: Node puts finalizers off
- * until then. */
+/* Whether the collector has run since this was last asked. */
+static bool has_collected(napi_env env, thread_data *own)
+{
+    napi_value object = NULL;
+    if (own->witness) {
+        if (napi_get_reference_value(env, own->witness, &object) != napi_ok || object) return false;
+        napi_delete_reference(env, own->witness);
+        own->witness = NULL;
+    }
+    if (napi_create_object(env, &object) != napi_ok) return false;
+    return napi_create_reference(env, object, 0, &own->witness) == napi_ok;
+}
+
+/* Closes the maps whose handles were collected. Node puts their finalizers off until the event loop turns,
+ * and a program may open many maps before that. */
+static void close_collected(napi_env env, thread_data *own)
+{
+    napi_handle_scope scope;
+    napi_value handle;
+    if (napi_open_handle_scope(env, &scope) != napi_ok) return;
+    bool may_be = has_collected(env, own);
+    for (boxed_map *next, *boxed = may_be ? own->first : NULL; boxed; boxed = next) {
+        next = boxed->next;
+        if (napi_get_reference_value(env, boxed->handle, &handle) != napi_ok || handle) continue;
+        unlist(boxed);
+        close_map(env, boxed);
+    }
+    napi_close_handle_scope(env, scope);
+}
+
+/* A handle of an open map. */
 napi_value map_out(napi_env env, boxed_map *boxed, int64_t held)
 {
     napi_value handle;
@@ -48,6 +110,7 @@ napi_value map_out(napi_env env, boxed_map *boxed, int64_t held)
     }
     boxed->held = held;
     tell_held(env, held);
+    enlist(env, boxed, handle);
     return handle;
 }
 
@@ -66,13 +129,30 @@ static uint32_t open_text(boxed_map *boxed, const text_in *text, const text_in *
     return smap_open(&boxed->map, text->at, text->len, url->at, url->len, limits, fault);
 }
 
-/* open(text, url, items, lines): a handle */
+/* Leaves in `found` whether a text that is given as a string may have a word in it. */
+static bool look_for(napi_env env, const text_in *text, napi_value value)
+{
+    text_in word;
+    thread_data *own = NULL;
+    if (napi_get_instance_data(env, (void **)&own) != napi_ok || !text_of(env, value, &word)) return false;
+    bool is_known = text->is_string && word.is_string && !memchr(text->at, 0, text->len);
+    own->found[0] = !is_known || strstr(text->at, word.at);
+    text_done(&word);
+    return true;
+}
+
+/* open(text, url, items, lines, word): a handle. If a word is given, `found` has whether the text may have
+ * it, which is sooner found out here than in JavaScript. */
 napi_value do_open(napi_env env, napi_callback_info info)
 {
     text_in text, url;
     smap_limits limits;
     smap_fault fault = {0};
-    ARGUMENTS(4);
+    thread_data *own = NULL;
+    napi_valuetype kind;
+    ARGUMENTS(5);
+    CALL(napi_get_instance_data(env, (void **)&own));
+    CALL(napi_typeof(env, w[4], &kind));
     CALL(napi_get_value_uint32(env, w[2], &limits.items));
     CALL(napi_get_value_uint32(env, w[3], &limits.lines));
     if (!text_of(env, w[1], &url)) return NULL;
@@ -80,13 +160,16 @@ napi_value do_open(napi_env env, napi_callback_info info)
         text_done(&url);
         return NULL;
     }
+    close_collected(env, own);
     boxed_map *boxed = new_map();
     uint32_t code = open_text(boxed, &text, &url, &limits, &fault);
+    bool is_done = kind == napi_undefined || code != SMAP_OK || look_for(env, &text, w[4]);
     text_done(&text);
     text_done(&url);
-    if (code == SMAP_OK) return map_out(env, boxed, held_by(&boxed->map));
+    if (code == SMAP_OK && is_done) return map_out(env, boxed, held_by(&boxed->map));
+    if (code == SMAP_OK) smap_close(&boxed->map);
     free(boxed);
-    return throw_code(env, code, &fault);
+    return is_done ? throw_code(env, code, &fault) : NULL;
 }
 
 /* close(map) */
@@ -95,9 +178,8 @@ napi_value do_close(napi_env env, napi_callback_info info)
     ARGUMENTS(1);
     boxed_map *boxed = map_of(env, w[0]);
     if (!boxed) return NULL;
-    smap_close(&boxed->map);
-    tell_held(env, -boxed->held);
-    boxed->held = 0;
+    unlist(boxed);
+    close_map(env, boxed);
     return NULL;
 }
 

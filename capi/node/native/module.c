@@ -30,6 +30,8 @@ static void free_thread_data(napi_env env, void *at, void *hint)
     drop(env, &own->error);
     drop(env, &own->room);
     drop(env, &own->scratch);
+    drop(env, &own->witness);
+    forget_maps(own);
     free(own);
 }
 
@@ -70,6 +72,7 @@ static const struct {
     {"take", do_take},
     {"counts", do_counts},
     {"lookup", do_lookup},
+    {"listedAt", do_listed_at},
     {"text", do_text},
     {"texts", do_texts},
     {"flags", do_flags},

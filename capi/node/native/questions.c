@@ -58,6 +58,53 @@ napi_value do_lookup(napi_env env, napi_callback_info info)
     return out;
 }
 
+/* A mapping of the listing, in the same array: line, column, listed source, its line and column, listed name;
+ * UINT32_MAX for no source or name. */
+static void put_listed(const smap_listed_mapping *m, uint32_t *found)
+{
+    found[0] = m->line;
+    found[1] = m->column;
+    found[2] = m->has_source ? m->source : UINT32_MAX;
+    found[3] = m->source_line;
+    found[4] = m->source_column;
+    found[5] = m->has_name ? m->name : UINT32_MAX;
+}
+
+/* Of the mappings at the i-th one's position, the first. */
+static uint32_t first_there(smap_map *map, size_t i, smap_listed_mapping *m)
+{
+    smap_listed_mapping before;
+    uint32_t code = SMAP_OK;
+    while (i > 0 && (code = smap_listed_token(map, --i, &before)) == SMAP_OK && before.line == m->line &&
+           before.column == m->column)
+        *m = before;
+    return code;
+}
+
+/* listedAt(map, line, column): whether there is a mapping, of the listing, and the first of those that are at
+ * this very position. It is in `found` then. */
+napi_value do_listed_at(napi_env env, napi_callback_info info)
+{
+    thread_data *own;
+    uint32_t line, column;
+    napi_value out, w[3];
+    size_t wn = 3, i;
+    smap_listed_mapping m;
+    CALL(napi_get_cb_info(env, info, &wn, w, NULL, (void **)&own));
+    boxed_map *boxed = map_of(env, w[0]);
+    if (!boxed) return NULL;
+    CALL(napi_get_value_uint32(env, w[1], &line));
+    CALL(napi_get_value_uint32(env, w[2], &column));
+    uint32_t code = smap_find(&boxed->map, line, column, &i);
+    if (code == SMAP_OK) code = smap_listed_token(&boxed->map, i, &m);
+    bool is_found = code == SMAP_OK;
+    if (is_found && m.column == column) code = first_there(&boxed->map, i, &m);
+    if (code != SMAP_OK && code != SMAP_NONE) return throw_code(env, code, NULL);
+    if (is_found && own->found) put_listed(&m, own->found);
+    CALL(napi_get_boolean(env, is_found, &out));
+    return out;
+}
+
 /* ---- texts that are copied: the file, a source's URL or content, a name, a source or root as written */
 
 enum { GET_FILE, GET_URL, GET_CONTENT, GET_LISTED_NAME, GET_WRITTEN_SOURCE, GET_WRITTEN_ROOT };
@@ -159,8 +206,8 @@ napi_value do_flags(napi_env env, napi_callback_info info)
     return NULL;
 }
 
-/* table(map, to): the mappings as six columns one after another: line, column, listed source, its line and
- * column, listed name; -1 for no source or name. As many as there is room for. */
+/* table(map, to): the mappings of the listing as six columns one after another. As many as there is room
+ * for. */
 napi_value do_table(napi_env env, napi_callback_info info)
 {
     size_t n;
@@ -169,15 +216,12 @@ napi_value do_table(napi_env env, napi_callback_info info)
     if (!words_of(env, w[1], &to, &n)) return NULL;
     n /= 6;
     for (size_t i = 0; i < n; i++) {
+        uint32_t row[6];
         smap_listed_mapping m;
         uint32_t code = smap_listed_token(&boxed->map, i, &m);
         if (code != SMAP_OK) return throw_code(env, code, NULL);
-        to[i] = m.line;
-        to[i + n] = m.column;
-        to[i + 2 * n] = m.has_source ? m.source : UINT32_MAX;
-        to[i + 3 * n] = m.source_line;
-        to[i + 4 * n] = m.source_column;
-        to[i + 5 * n] = m.has_name ? m.name : UINT32_MAX;
+        put_listed(&m, row);
+        for (size_t k = 0; k < 6; k++) to[i + k * n] = row[k];
     }
     return NULL;
 }

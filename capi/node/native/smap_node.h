@@ -18,12 +18,16 @@
 
 #include "smap.h"
 
+typedef struct boxed_map boxed_map;
+
 /* What the copy of the module in one thread needs. */
 typedef struct thread_data {
     napi_ref error;   /* the class SmapError */
     napi_ref room;    /* a function that makes a Buffer of a length, or throws */
     napi_ref scratch; /* keeps the array of `found` alive */
     uint32_t *found;  /* where a lookup puts its numbers: FOUND of them, read by index.js */
+    boxed_map *first; /* the maps of this thread's handles */
+    napi_ref witness; /* a weak reference to an object that nothing else has: the next collection takes it */
 } thread_data;
 
 enum { FOUND = 8 };
@@ -31,11 +35,15 @@ enum { FOUND = 8 };
 /* What a handle of index.js points to. The tag comes first, so that neither kind is taken for the other. */
 enum { MAP_TAG = 0x70616d73, SCRIPTS_TAG = 0x72637373 };
 
-typedef struct boxed_map {
+struct boxed_map {
     uint32_t tag;
     smap_map map;
-    int64_t held; /* what V8 was told of it, in bytes */
-} boxed_map;
+    int64_t held;     /* what V8 was told of it, in bytes */
+    napi_ref handle;  /* a weak reference, or NULL */
+    thread_data *own; /* whose list it is in, or NULL */
+    boxed_map *next;
+    boxed_map **link; /* what points to it there */
+};
 
 typedef struct boxed_scripts {
     uint32_t tag;
@@ -69,6 +77,7 @@ typedef struct text_in {
     const char *at;
     size_t len;
     char *owned;
+    bool is_string; /* and so ends with a zero byte */
     char room[1024];
 } text_in;
 
@@ -90,6 +99,9 @@ napi_value numbers_out(napi_env env, const uint64_t *numbers, uint32_t count);
 /* The map or the scripts of a handle, or throws. */
 boxed_map *map_of(napi_env env, napi_value value);
 boxed_scripts *scripts_of(napi_env env, napi_value value);
+
+/* Lets go of the list of maps, at the end of a thread. Their handles may be freed later. */
+void forget_maps(thread_data *own);
 
 /* A closed map, or NULL if there is no memory. */
 boxed_map *new_map(void);
@@ -117,6 +129,7 @@ napi_value do_take(napi_env env, napi_callback_info info);
 
 napi_value do_counts(napi_env env, napi_callback_info info);
 napi_value do_lookup(napi_env env, napi_callback_info info);
+napi_value do_listed_at(napi_env env, napi_callback_info info);
 napi_value do_text(napi_env env, napi_callback_info info);
 napi_value do_texts(napi_env env, napi_callback_info info);
 napi_value do_flags(napi_env env, napi_callback_info info);

@@ -5,11 +5,13 @@ bool text_of(napi_env env, napi_value value, text_in *text)
 {
     bool is_buffer = false;
     text->owned = NULL;
+    text->is_string = false;
     if (napi_is_buffer(env, value, &is_buffer) == napi_ok && is_buffer) {
         if (napi_get_buffer_info(env, value, (void **)&text->at, &text->len) == napi_ok) return true;
         failed(env);
         return false;
     }
+    text->is_string = true;
     text->at = text->room;
     if (napi_get_value_string_utf8(env, value, text->room, sizeof text->room, &text->len) != napi_ok) {
         failed(env);

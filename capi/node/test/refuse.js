@@ -83,6 +83,10 @@ const HELD = {
   escaped: { version: 3, sources: ['a'], sourcesContent: ['\n"'.repeat(500000)], mappings: 'AAAA' },
   sources: { version: 3, sources: strings(50000, 20), mappings: 'AAAA' },
   names: { version: 3, sources: ['a'], names: strings(100000, 10), mappings: 'AAAA' },
+  rooted: { version: 3, sourceRoot: 'r'.repeat(100000), sources: ['a'], mappings: 'AAAA' },
+  // Just outgrown: groups of nine sources, and names by powers of two.
+  outgrown: { version: 3, sources: strings(9 * 512 + 1, 3), names: strings(2 ** 14 + 1, 3),
+    mappings: 'AAAA' },
   small: { version: 3, sources: strings(4, 9), sourcesContent: strings(4, 900), names: strings(50, 8),
     mappings: 'AAAA' + ',CAAC'.repeat(500) },
 };

@@ -35,6 +35,35 @@ test('positions and segments', () => {
   assert.throws(() => ours.originalPositionFor(traced, { line: 1, column: -1 }), /than or equal to 0/);
 });
 
+// The library is asked for the first lookups, and a table for the others.
+test('the first lookups find what the others do', () => {
+  const lines = ['AAAAA,A,AACA,EAAC', '', 'A', ';CACA,CAAC,AAAC,AAACA'];
+  const text = JSON.stringify({ ...map, mappings: lines.join(';') });
+  const asked = [-1, 0, 1, 2, 3, 4, 1.5, NaN, Infinity, 2 ** 32];
+  const later = new ours.TraceMap(text);
+  ours.decodedMappings(later);
+  for (const line of [0, 1, 2, 3, 4, 5, 0.5, 2 ** 32]) {
+    for (const column of asked) {
+      const first = new ours.TraceMap(text);
+      assert.deepEqual(ours.traceSegment(first, line, column), ours.traceSegment(later, line, column));
+      if (column < 0) continue;
+      for (const bias of [undefined, ours.GREATEST_LOWER_BOUND, ours.LEAST_UPPER_BOUND]) {
+        const at = { line: line + 1, column, bias };
+        const found = ours.originalPositionFor(new ours.TraceMap(text), at);
+        assert.deepEqual(found, ours.originalPositionFor(later, at), JSON.stringify(at));
+      }
+    }
+  }
+});
+
+test('lists that a program has changed are told as it changed them', () => {
+  const traced = new ours.TraceMap(map);
+  traced.names[0] = 'm';
+  traced.resolvedSources[0] = 'z.js';
+  const found = ours.originalPositionFor(traced, { line: 1, column: 0 });
+  assert.deepEqual(found, { source: 'z.js', line: 1, column: 0, name: 'm' });
+});
+
 test('mappings may be segments, and the map a map that was read', () => {
   const traced = new ours.TraceMap(map);
   assert.equal(new ours.TraceMap(traced), traced);
@@ -49,6 +78,13 @@ test('a map with sections', () => {
   const inner = { version: 3, sources: ['b'], names: ['n'], mappings: 'AAAAA' };
   const sections = [{ offset: { line: 0, column: 0 }, map }, { offset: { line: 2, column: 3 }, map: inner }];
   const any = ours.AnyMap({ version: 3, sections });
+  // The word is looked for in the text, which may have a line before the map, with anything in it.
+  for (const before of ['', ")]}'\n", ")]}'\0\n"]) {
+    const { sources, sourceRoot } = new ours.TraceMap(before + JSON.stringify({ version: 3, sections }));
+    assert.deepEqual([sources, sourceRoot], [any.resolvedSources, undefined]);
+  }
+  const { sources } = new ours.TraceMap({ ...map, names: ['"sections"'] });
+  assert.deepEqual(sources, map.sources);
   assert.deepEqual(any.names, ['n', 'n']);
   assert.deepEqual(ours.traceSegment(any, 2, 3), [3, 4, 0, 0, 1]);
   assert.deepEqual(ours.decodedMappings(any).at(-1), [[3, 4, 0, 0, 1]]);

@@ -2,5 +2,6 @@ pub mod BytesLemmas
 pub mod FaultLemmas
 pub mod LooseLemmas
 pub mod MapLemmas
+pub mod MemoryLemmas
 pub mod OwnerLemmas
 pub mod ScriptLemmas

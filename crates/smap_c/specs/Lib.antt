@@ -6,6 +6,7 @@ pub mod Handles
 pub mod Lists
 pub mod Lookups
 pub mod Maps
+pub mod Memory
 pub mod Order
 pub mod Owned
 pub mod Scripts

@@ -1,14 +1,13 @@
 -- What the calls that open, share, compare and count maps come to.
 use Rattle.std.specs.Prelude.{ℕ, ◌≤◌, ◌==◌, if◌then◌else◌, ◌≡◌, ◌⊎◌, List, Option, Some, None, Result, Ok}
-use Rattle.std.specs.Prelude.{◌+◌, ◌-◌, ◌*◌, ◌/◌, ◌^◌, nat_le, Err, IsErr, IsUtf8, ◌↔◌, Bool, IsTrue}
-use Rattle.std.specs.Prelude.{length, map, min, sum_by}
+use Rattle.std.specs.Prelude.{Err, IsErr, IsUtf8, ◌↔◌, Bool, IsTrue, length, map}
 use Rattle.smap_vlq.specs.Limits.{max_position}
 use Rattle.smap_mappings.specs.Limits.{max_lines}
-use Rattle.smap_record.specs.Record.{Allowed, Entry, record_of, ReadMap}
+use Rattle.smap_record.specs.Record.{Allowed, record_of, ReadMap}
 use Rattle.url.specs.Parts.{Parts}
 use Rattle.url.specs.Parser.{parse_url}
 use Rattle.smap_record.specs.Reading.{reading}
-use Rattle.smap_record.specs.Written.{Spelling, as_written, url_of}
+use Rattle.smap_record.specs.Written.{as_written, url_of}
 use Rattle.smap_mappings.specs.Text.{line_count}
 use Rattle.smap_c.specs.declared.maps.SmapLimits.{SmapLimits}
 use Rattle.smap_c.specs.Faults.{fault_told}
@@ -105,49 +104,6 @@ counts_of m = record {
 abbrev pub Counts : Option Opened → SmapCounts → SmapCounts → ℕ → Type 0
 Counts None before after code = (code ≡ codes.CLOSED) × (after ≡ before)
 Counts (Some o) before after code = (code ≡ codes.OK) × (after ≡ counts_of o.map)
-
--- ---- how much memory a map takes, about: the bytes of its strings, and a fixed number for each thing, as
--- measured where pointers have 64 bits
-
-abbrev pub text_memory : Option (List ℕ) → ℕ
-text_memory None = 0
-text_memory (Some text) = length text
-
--- a distinct source, with its place in the table that finds it
-abbrev pub source_memory : Entry → ℕ
-source_memory e = 144 + (text_memory e.url + text_memory e.content)
-
-abbrev pub name_memory : List ℕ → ℕ
-name_memory name = 48 + length name
-
--- what each map takes, with its file; its distinct sources, its names as listed, its sources as listed, which
--- are numbers, and its mappings
-abbrev pub memory_of : ReadMap → ℕ
-memory_of m = (1408 + text_memory m.file) + (sum_by source_memory (record_of m).sources
-    + (sum_by name_memory m.listing.names + (8 * length m.listing.sources + 32 * length m.listing.tokens)))
-
--- a source as it is written
-abbrev pub written_memory : Spelling → ℕ
-written_memory s = 48 + text_memory s.source
-
--- the table of its lines, which has one more number than lines, or nothing for a map of few mappings
-abbrev pub table_memory : ReadMap → ℕ
-table_memory m =
-    if nat_le (line_count m.listing.tokens / 2) (length m.listing.tokens)
-    then 8 * (line_count m.listing.tokens + 1) else 0
-
--- a map with its sources as they are written and the table of its lines
-abbrev pub memory_with : Opened → ℕ
-memory_with o = memory_of o.map + (sum_by written_memory o.written + table_memory o.map)
-
--- as much of it as a number of C takes
-abbrev pub capped : ℕ → ℕ
-capped n = min n (2 ^ 64 - 1)
-
--- The memory of a handle's map.
-abbrev pub TakesMemory : Option Opened → ℕ → ℕ → ℕ → Type 0
-TakesMemory None before after code = (code ≡ codes.CLOSED) × (after ≡ before)
-TakesMemory (Some o) before after code = (code ≡ codes.OK) × (after ≡ capped (memory_with o))
 
 -- ---- the name of the generated file
 

@@ -13,6 +13,7 @@ mod laws;
 mod lists;
 mod lookups;
 mod maps;
+mod memory;
 mod opened;
 mod scripts;
 mod sources;

@@ -1,25 +1,21 @@
 //! The calls on a map as a whole: it is opened, closed, shared, compared and counted.
 ghost use Rattle.std.specs.Prelude.{◌≡◌, ◌↔◌, IsSome, IfSome, IsTrue, Option, Some, None, IfOk};
-ghost use Rattle.std.specs.Prelude.{option_copied, sum_by};
 ghost use Rattle.smap_record.specs.Record.{record_of};
-ghost use Rattle.smap_record.specs.Views.{entry_of_view};
 ghost use Rattle.smap_c.specs.Maps.{allowed, AreLimits, or_usual, Opens, OpensInto, Shares, Compares};
 ghost use Rattle.smap_c.specs.Maps.{counts_of, Counts, FileTold, File};
-ghost use Rattle.smap_c.specs.Maps.{capped, memory_of, name_memory, source_memory, text_memory};
-ghost use Rattle.smap_c.specs.Maps.{memory_with, table_memory, written_memory, TakesMemory};
+ghost use Rattle.smap_c.specs.Memory.{TakesMemory};
 ghost use Rattle.smap_c.specs.Faults.{IsWhole};
 ghost use Rattle.smap_c.specs.Handles.{held_map, is_map};
 
 use crate::codes::{CLOSED, LIMITS, MEMORY, NOT_URL, OK};
 use crate::faults::{SmapFault, tell_fault};
 use crate::handles::{Held, SmapMap};
+use crate::memory::memory_with;
 use crate::opened::Opened;
 use crate::strings::tell;
 use smap_canon::same;
 use smap_mappings::{MAX_LINES, Memory};
-use smap_record::{
-    Base, BaseFault, Fault, Limits, ReadError, SourceMap, SourceView, WrittenSources,
-};
+use smap_record::{Base, BaseFault, Fault, Limits, ReadError, SourceMap};
 use std::alloc::Global;
 use std::sync::Arc;
 use std::{mem, str};
@@ -254,102 +250,6 @@ pub extern "C" fn smap_count(alloc: Global, map: &mut SmapMap, out: &mut SmapCou
             OK
         }
     }
-}
-
-/// What a map takes besides its strings and the things below: its base, and tables that are nearly empty.
-const OF_MAP: usize = 1408;
-
-/// What a distinct source takes besides its strings, with its place in the table that finds it.
-const OF_SOURCE: usize = 144;
-
-/// What a name takes besides its bytes.
-const OF_NAME: usize = 48;
-
-/// A source as listed is a number.
-const OF_LISTED_SOURCE: usize = 8;
-
-const OF_MAPPING: usize = 32;
-
-/// What a source as it is written takes besides its text.
-const OF_WRITTEN: usize = 48;
-
-/// A line of the table of lines is a number.
-const OF_LINE: usize = 8;
-
-fn text_memory(text: Option<&str>) -> usize
-    ensures { result ≡ text_memory (option_copied text.entry) }
-{
-    match text {
-        Some(text) => text.len(),
-        None => 0,
-    }
-}
-
-fn source_memory(source: SourceView<'_>) -> usize
-    ensures { result ≡ capped (source_memory (entry_of_view source.entry)) }
-{
-    let texts = text_memory(source.url).saturating_add(text_memory(source.content));
-    texts.saturating_add(OF_SOURCE)
-}
-
-fn sources_memory(map: &SourceMap) -> usize
-    ensures { result ≡ capped (sum_by source_memory (record_of map.now).sources) }
-{
-    let mut total: usize = 0;
-    for i in 0..map.source_count() {
-        total = total.saturating_add(source_memory(map.source(i)));
-    }
-    total
-}
-
-fn names_memory(map: &SourceMap) -> usize
-    ensures { result ≡ capped (sum_by name_memory map.now.listing.names) }
-{
-    let mut total: usize = 0;
-    for i in 0..map.name_count() {
-        let name = map.name(i).len().saturating_add(OF_NAME);
-        total = total.saturating_add(name);
-    }
-    total
-}
-
-fn memory_of(map: &SourceMap) -> usize
-    ensures { result ≡ capped (memory_of map.now) }
-{
-    let own = text_memory(map.file()).saturating_add(OF_MAP);
-    let listed = map.listed_count().saturating_mul(OF_LISTED_SOURCE);
-    let mappings = map.token_count().saturating_mul(OF_MAPPING);
-    let lists = names_memory(map).saturating_add(listed.saturating_add(mappings));
-    own.saturating_add(sources_memory(map).saturating_add(lists))
-}
-
-fn written_memory(written: &WrittenSources) -> usize
-    ensures { result ≡ capped (sum_by written_memory written.now) }
-{
-    let mut total: usize = 0;
-    for i in 0..written.len() {
-        let source = text_memory(written.source(i)).saturating_add(OF_WRITTEN);
-        total = total.saturating_add(source);
-    }
-    total
-}
-
-fn table_memory(map: &SourceMap) -> usize
-    ensures { result ≡ table_memory map.now }
-{
-    let lines = map.line_count() as usize;
-    if lines / 2 <= map.token_count() {
-        OF_LINE * (lines + 1)
-    } else {
-        0
-    }
-}
-
-fn memory_with(opened: &Opened) -> usize
-    ensures { result ≡ capped (memory_with opened.now) }
-{
-    let beside = written_memory(&opened.written).saturating_add(table_memory(&opened.map));
-    memory_of(&opened.map).saturating_add(beside)
 }
 
 /// About how many bytes of memory a map takes.

@@ -3,14 +3,15 @@
 //
 //     node run.js NAME FOLDER
 //
-// NAME is `source-map` or `remapping`, and FOLDER has its sources, as scripts/peer-suites puts them there.
-// What differs on purpose is listed in differences.json with its reason: such a test has to fail with the
-// error that stands there, and any other one to pass. Only tests that ask the layer are counted. Before, all
-// of them are run over the package itself, and have to pass. The last line is 'N passed, M failed'. The
-// status is 3, and the line a reason, if the tests aren't those that the list is for, or need a package that
-// isn't here.
+// NAME is `source-map`, `remapping` or `source-map-support`, and FOLDER has its sources, as
+// scripts/peer-suites puts them there. What differs on purpose is listed in differences.json with its reason:
+// such a test has to fail with the error that stands there, and any other one to pass. Only tests that ask
+// the layer are counted. Before, all of them are run over the package itself, and have to pass. The last line
+// is 'N passed, M failed'. The status is 3, and the line a reason, if the tests aren't those that the list is
+// for, or need a package that isn't here.
 const fs = require('node:fs');
 const Module = require('node:module');
+const os = require('node:os');
 const path = require('node:path');
 const assert = require('node:assert');
 const { spawnSync } = require('node:child_process');
@@ -30,6 +31,8 @@ const SUITES = {
     load: loadTypeScript,
     needs: ['typescript', '@jridgewell/gen-mapping', '@jridgewell/trace-mapping', 'source-map'],
   },
+  // Each of its tests makes stacks, in this process or another, and `asked` counts calls of this one.
+  'source-map-support': { layers: {}, load: loadCopy, needs: ['source-map'], asksAlways: true },
 };
 
 // ---- how each suite's tests are found: a map of names to calls
@@ -60,6 +63,33 @@ function loadTypeScript(folder) {
   const files = filesBelow(path.join(folder, 'test'), '').filter(file => file.endsWith('.ts'));
   for (file of files) require(path.join(folder, 'test', file));
   return tests;
+}
+
+// Its tests write programs into their folder and run them, so the layer stands there as a file, in a copy.
+function loadCopy(folder, isOurs) {
+  const copy = fs.mkdtempSync(path.join(os.tmpdir(), 'smap-suite-'));
+  process.on('exit', () => fs.rmSync(copy, { recursive: true }));
+  fs.cpSync(folder, copy, { recursive: true });
+  const put = (name, text) => fs.writeFileSync(path.join(copy, name), text);
+  const support = JSON.stringify(path.resolve(__dirname, '../../support.js'));
+  if (isOurs) put('source-map-support.js', `module.exports = require(${support});`);
+  // What this package was for is in Node now.
+  fs.mkdirSync(path.join(copy, 'node_modules', 'buffer-from'), { recursive: true });
+  put('node_modules/buffer-from/index.js', 'module.exports = (...words) => Buffer.from(...words);');
+  // V8 has left `Object.` out since.
+  const text = fs.readFileSync(path.join(copy, 'test.js'), 'utf8');
+  put('test.js', text.replaceAll('Object\\.exports', '(?:Object\\.)?exports'));
+  process.chdir(copy);
+  const tests = new Map();
+  globalThis.it = (name, call) => tests.set(`test.js: ${name}`, () => called(call));
+  require(path.join(copy, 'test.js'));
+  return tests;
+}
+
+// Calls a test of mocha's, which may take a function to call at its end.
+function called(call) {
+  if (call.length === 0) return call();
+  return new Promise((done, fail) => call(error => (error ? fail(error) : done())));
 }
 
 function filesBelow(folder, name) {
@@ -119,15 +149,16 @@ async function resultsOf(tests) {
 }
 
 async function runTheirs({ load }, folder) {
-  const failures = (await resultsOf(load(folder))).filter(({ failure }) => failure);
+  const failures = (await resultsOf(load(folder, false))).filter(({ failure }) => failure);
   for (const { name, failure } of failures) console.log(`FAILED over the package: ${name}: ${failure}`);
   process.exitCode = failures.length ? 1 : 0;
 }
 
-async function runOurs({ load, layers }, folder, differences) {
+async function runOurs({ load, layers, asksAlways }, folder, differences) {
   replace(layers);
-  const tests = load(folder);
-  const results = (await resultsOf(tests)).filter(({ failure, hasAsked }) => failure || hasAsked);
+  const tests = load(folder, true);
+  const isCounted = ({ failure, hasAsked }) => failure || hasAsked || asksAlways;
+  const results = (await resultsOf(tests)).filter(isCounted);
   const isWrong = ({ name, failure }) =>
     name in differences ? !failure?.message.includes(differences[name].error) : failure;
   const wrong = results.filter(isWrong);

@@ -1,9 +1,9 @@
 use Rattle.std.proofs.Common.{◌∙◌, ℕ, ◌+◌, ap}
 use Rattle.smap_record.specs.Record.{record_of}
 use Rattle.smap_record.specs.Views.{entry_of_view}
-use Rattle.smap_c.specs.Maps.{capped, source_memory}
-use Rattle.smap_c.proofs.MapLemmas.{capped_next}
-use Rattle.smap_c.proofs.maps.sources_memory.Goals as goal
+use Rattle.smap_c.specs.Memory.{capped, source_memory}
+use Rattle.smap_c.proofs.MemoryLemmas.{capped_next}
+use Rattle.smap_c.proofs.memory.sources_memory.Goals as goal
 
 pub loop-i-preserved : goal.loop-i-preserved
 loop-i-preserved c =
