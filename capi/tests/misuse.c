@@ -79,10 +79,11 @@ static void numbers(smap_map *map)
     CHECK(smap_count(map, &counts) == SMAP_OK);
     CHECK(counts.sources == 3 && counts.listed_sources == 4 && counts.names == 3);
     CHECK(counts.mappings == 4 && counts.lines == 2);
-    /* the map and "out.js", three sources with two URLs of 15 bytes and "x", four listed, three names of one;
-     * then three listed sources of four bytes and a null, and a table of two lines */
+    /* A string of up to 24 bytes has a block of 24: the base; "out.js", two URLs, a content and three names.
+     * Nine sources, four listed ones and four names fit without growing; four mappings. Four sources as
+     * written, of which three have a text, and no root; a table of two lines. */
     CHECK(smap_held(map, &n) == SMAP_OK);
-    CHECK(n == 1408 + 6 + (3 * 144 + 2 * 15 + 1) + 4 * 8 + 3 * (48 + 1) + 4 * 32 + (4 * 48 + 3 * 4) + 3 * 8);
+    CHECK(n == (648 + 24) + 7 * 24 + (784 + 4 * 8 + 4 * 24 + 4 * 32) + (4 * 40 + 3 * 24 + 32) + 3 * 8);
     CHECK(smap_token(map, 4, &m) == SMAP_RANGE && smap_token(map, SIZE_MAX, &m) == SMAP_RANGE && m.line == 0);
     CHECK(smap_token(map, 2, &m) == SMAP_OK && m.line == 1 && m.source == 1 && m.has_name && m.is_ignored);
     CHECK(smap_listed_token(map, 2, &listed) == SMAP_OK && listed.source == 1 && listed.name == 2);
