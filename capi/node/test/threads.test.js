@@ -66,6 +66,18 @@ test('workers are ended while they open maps', async () => {
   }
 });
 
+test('workers forget maps in a loop, keep some, and end', async () => {
+  const code = `const kept = [];
+    for (let i = 0; i < 25; i++) {
+      const map = new SourceMap(workerData, '${BASE}');
+      if (i % 3 === 0) kept.push(map);
+      if (i % 5 === 0) map.close();
+    }
+    parentPort.postMessage(kept.filter((map, i) => i % 5 && map.counts.mappings === 300001).length);`;
+  const counts = Array.from({ length: 3 }, async () => (await once(start(code, large), 'message'))[0]);
+  assert.deepEqual(await Promise.all(counts), [7, 7, 7]);
+});
+
 test('an error of a worker keeps its name and fields', async () => {
   const worker = start(`new SourceMap('{', '${BASE}')`);
   const [error] = await once(worker, 'error');
