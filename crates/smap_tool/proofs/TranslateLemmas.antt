@@ -1,14 +1,11 @@
 -- A run from its parts.
-use Rattle.std.proofs.Common.{◌≡◌, ◌∙◌, ◌⊎◌, inl, inr, ℕ, ◌+◌, ◌≤◌, Bool, true, false, List, [], ◌∷◌, ◌++◌}
-use Rattle.std.proofs.Common.{length, Option, Result, Ok, Err, refl, sym, subst, arith}
+use Rattle.std.proofs.Common.{◌≡◌, ◌∙◌, inl, inr, ℕ, Bool, true, false, List, ◌++◌}
+use Rattle.std.proofs.Common.{Option, Result, Ok, Err, refl, arith}
 use Rattle.std.proofs.Common.{length-append}
-use Rattle.std.proofs.KnownBytes.{Keeps-refl}
 use Rattle.smap_io.specs.declared.device.Device.{Device}
 use Rattle.smap_io.specs.Device.{device_failures, has_ended}
-use Rattle.smap_io.specs.Reading.{Gave}
 use Rattle.smap_io.specs.Streams.{ReaderFailsOrTires, ReadsTooMuch, RisesOr, WriterFails, fails_by, streams}
 use Rattle.smap_io.proofs.ReadingLemmas.{Gave-then}
-use Rattle.smap_io.proofs.WritingLemmas.{Took-none}
 use Rattle.smap_tool.specs.Run.{is_read, is_write}
 use Rattle.smap_tool.specs.declared.outcome.Outcome.{Outcome}
 use Rattle.smap_tool.specs.declared.outcome.Outcome.TheVariants.{Done, Refused}
@@ -16,16 +13,9 @@ use Rattle.smap_tool.specs.declared.outcome.RunFault.{RunFault}
 use Rattle.smap_tool.specs.declared.outcome.RunFault.TheVariants as run
 use Rattle.smap_trace.specs.Streaming.{WritesComplete, WritesPrefix, complete_of}
 use Rattle.smap_trace.specs.Translation.{Fate, Script, translation_by}
-use Rattle.smap_bundle.specs.Bundle.{HasFault}
 use Rattle.smap_bundle.specs.Entries.{TakesEntries}
-use Rattle.smap_bundle.specs.Reach.{EndsWithinEntry, ReadsNoMore}
 use Rattle.smap_tool.specs.Translate.{CompleteAfterTrace, GaveUp, PrefixAfterTrace, RunTranslates}
-use Rattle.smap_tool.specs.Translate.{RunsTranslate, TranslatesTrace, WritesRefusal}
-use Rattle.smap_bundle.specs.Stopping.{Settled, Stops}
-use Rattle.smap_bundle.specs.declared.fault.BundleFault.TheVariants as fault
-use Rattle.smap_bundle.specs.declared.fault.Refusal.{Refusal}
-use Rattle.smap_io.specs.Limits.{most_calls}
-use Rattle.smap_tool.specs.BundleLine.{bundle_line}
+use Rattle.smap_tool.specs.Translate.{RunsTranslate, TranslatesTrace}
 
 module _ {R W : Type 0} (remaining : R → Option (List ℕ)) (contents : W → Option (List ℕ))
     (fates : List Script → List ℕ → Fate)
@@ -113,90 +103,4 @@ module _ {R W : Type 0} (remaining : R → Option (List ℕ)) (contents : W → 
     translates = told r w;
     reader_failures = tired (fails_by is_read r) reads;
     writer_failures = writes;
-  }
-
-module _ {R W : Type 0} (remaining : R → Option (List ℕ)) (contents : W → Option (List ℕ))
-    (fates : List Script → List ℕ → Fate)
-    (ro rn : Device R) where
-  nothing_written : (IsWritten : List ℕ → List ℕ → Type 0) (w : Device W) (bytes : List ℕ)
-      → Gave remaining ro rn bytes → EndsWithinEntry bytes
-      → GaveUp IsWritten (streams remaining ro rn contents w w)
-  nothing_written IsWritten w bytes gave ends = record {
-    input = bytes;
-    text = [];
-    read = gave;
-    written = Took-none contents w;
-    is_written = inl (refl, ends);
-  }
-
-  -- a bundle that is refused
-  pub refused_run : (wo wn : Device W) (refusal : Refusal) (r : Result Outcome RunFault)
-      → Settled remaining ro rn HasFault ReadsNoMore
-      (fault.Refused refusal)
-      → device_failures rn ≡ device_failures ro
-      → WritesRefusal contents wo wn (bundle_line refusal ++ 10 ∷ []) r
-      → RunsTranslate fates (streams remaining ro rn contents wo wn) r
-  refused_run wo wn refusal (Ok Done) s same w = absurd (let is = w.1 in cc)
-  refused_run wo wn refusal (Ok Refused) s same w =
-      record {
-        translates = (s.bytes, refusal, s.gave, s.settled, s.within, w.0);
-        reader_failures = same;
-        writer_failures = w.2;
-      }
-  refused_run wo wn refusal (Err run.TooLong) s same w = absurd w
-  refused_run wo wn refusal (Err run.Read) s same w = absurd w
-  refused_run wo wn refusal (Err run.Memory) s same w =
-      subst (λ (x : Device W). RunsTranslate fates (streams remaining ro rn contents wo x) (Err run.Memory))
-      (sym w)
-      (record {
-        translates = nothing_written (PrefixAfterTrace fates (has_ended rn)) wo s.bytes s.gave
-            (fault.Refused refusal, s.within);
-        reader_failures = same;
-        writer_failures = refl;
-      })
-  refused_run wo wn refusal (Err run.Write) s same w = record {
-    translates = inr (record {
-      input = s.bytes;
-      refusal = refusal;
-      n = w.0.0;
-      read = s.gave;
-      settles = s.settled;
-      no_more = s.within;
-      written = w.0.1;
-    });
-    reader_failures = same;
-    writer_failures = w.1;
-  }
-
-  -- a run that gave up before
-  pub too_long_run : (w : Device W)
-      → Stops remaining ro rn most_calls HasFault ReadsNoMore fault.TooLong
-      → RunsTranslate fates (streams remaining ro rn contents w w) (Err run.TooLong)
-  too_long_run w s = record {
-    translates = (s.0, s.1, s.2, s.3, Keeps-refl (streams remaining ro rn contents w w).written_before);
-    reader_failures = s.4;
-    writer_failures = refl;
-  }
-
-  pub unread_run : (w : Device W) → Stops remaining ro rn most_calls HasFault ReadsNoMore fault.Read
-      → RunsTranslate fates (streams remaining ro rn contents w w) (Err run.Read)
-  unread_run w s = record {
-    translates = nothing_written (CompleteAfterTrace fates) w s.0 s.1 s.2;
-    reader_failures = blamed s.3;
-    writer_failures = refl;
-  }
-    where
-      blamed : (device_failures rn ≡ device_failures ro + 1) ⊎ ((device_failures rn ≡ device_failures ro)
-          × (most_calls ≤ length s.0))
-          → (device_failures rn ≡ device_failures ro + 1) ⊎ ((device_failures rn ≡ device_failures ro)
-          × ReadsTooMuch (streams remaining ro rn contents w w))
-      blamed (inl one) = inl one
-      blamed (inr e) = inr (e.0, (s.0, s.1, e.1))
-
-  pub memory_run : (w : Device W) → Stops remaining ro rn most_calls HasFault ReadsNoMore fault.Memory
-      → RunsTranslate fates (streams remaining ro rn contents w w) (Err run.Memory)
-  memory_run w s = record {
-    translates = nothing_written (PrefixAfterTrace fates (has_ended rn)) w s.0 s.1 s.2;
-    reader_failures = s.3;
-    writer_failures = refl;
   }
