@@ -1,4 +1,4 @@
-use Rattle.std.proofs.Common.{◌≡◌, ◌∙◌, ◌-◌, ◌≤◌, ap, sym, subst, Ok, Option, Some, map, length}
+use Rattle.std.proofs.Common.{◌≡◌, ◌∙◌, ◌-◌, ◌≤◌, ap, sym, subst, Ok, Some, map, length}
 use Rattle.std.proofs.Common.{slice_get, arith}
 use Rattle.std.specs.Prelude.{Result, option_map}
 use Rattle.std.proofs.Math.ListN.{drop_of_length-le}
@@ -7,18 +7,17 @@ use Rattle.std.proofs.lemmas.Option.{slice_get-map}
 use Rattle.std.proofs.lemmas.Result.{err_from_is_err_and}
 use Rattle.serde_json.specs.Data.{Data}
 use Rattle.serde_json.specs.View.{view}
-use Rattle.smap_mappings.specs.declared.position.Position.{Position}
 use Rattle.smap_shape.specs.declared.fault.ShapeFault.{ShapeFault}
 use Rattle.smap_shape.specs.declared.kinds.Shape.{Shape}
-use Rattle.smap_shape.specs.Members.{Section, MapMembers, flat, index}
+use Rattle.smap_shape.specs.Members.{MapMembers, flat, index}
 use Rattle.smap_shape.specs.Reading.{shape_of}
-use Rattle.smap_shape.specs.Views.{index_members, section_members, shape_members}
+use Rattle.smap_shape.specs.Views.{index_members, shape_members}
 use Rattle.smap_record.specs.Record.{Listing}
 use Rattle.smap_record.specs.Results.{Fails, Returns}
 use Rattle.smap_record.specs.Faults.{Checked, of_shape}
-use Rattle.smap_record.specs.Sections.{own_offset, section_map, listed_section, listed_sections}
+use Rattle.smap_record.specs.Sections.{section_map, listed_section, listed_sections}
 use Rattle.smap_record.specs.MapView.{listing_of}
-use Rattle.smap_record.specs.Building.{error_in, both, section_start, listed_map}
+use Rattle.smap_record.specs.Building.{error_in, both, section_start}
 use Rattle.smap_record.proofs.StepLemmas.{then_ok, first_fails, then_fails}
 use Rattle.smap_record.proofs.SectionLemmas.{section_in_steps, sections_more, sections_fault, sections_all}
 use Rattle.smap_record.proofs.DepthLemmas.{section_depth, map_depth, has_room, map_of_flat, map_of_index}
@@ -68,11 +67,6 @@ with_map-returns-else-level-eq-MAX_LEVEL-clause-reads t c =
 
 -- ---- one section
 
-pub with_section-returns-in_err-section-clause-reads : goal.with_section-returns-in_err-section-clause-reads
-with_section-returns-in_err-section-clause-reads t c =
-    let p = err_from_is_err_and c.from_residual.result c.from_residual.ensures.1 in
-    rw (p.1, p.2) (first_fails _ _ _ c.in_err-section.ensures)
-
 pub with_section-returns-in_err-offset-clause-reads : goal.with_section-returns-in_err-offset-clause-reads
 with_section-returns-in_err-offset-clause-reads t c =
     let p = err_from_is_err_and c.from_residual-in_err-offset.result c.from_residual-in_err-offset.ensures.1 in
@@ -87,37 +81,6 @@ with_section-returns-in_err-offset-clause-reads t c =
     (then_fails _ _ _ _ c.in_ok-section.ensures (first_fails _ _ _
     (subst (λ own. Fails error (section_start c.args.outer c.args.last before own)) c.own_offset-own.ensures
     c.in_err-offset.ensures.starts)))
-
--- the map is added where the section starts
-started : (outer : Position) (last : Option Position) (before : Listing) (s : Section Data)
-    (own offset : Position) → own ≡ own_offset s → section_start outer last before own ≡ Ok offset
-    → section_start outer last before (own_offset s) ≡ Ok offset
-started outer last before s own offset is at = ap (section_start outer last before) (sym is) ∙ at
-
-pub with_section-returns-in_err-now-clause-reads : goal.with_section-returns-in_err-now-clause-reads
-with_section-returns-in_err-now-clause-reads t c =
-    let p = err_from_is_err_and c.from_residual-in_err-now.result c.from_residual-in_err-now.ensures.1 in
-    let error = c.in_err-now.field-0.0 in
-    let before = listing_of c.args.before in
-    let inner = section_map c.args.base.now c.args.limits (8 - c.args.level) in
-    rw (p.1, p.2, section_in_steps inner c.args.outer c.args.last before c.args.level (view c.args.tree.now))
-    (then_fails _ _ _ _ c.in_ok-section.ensures (then_fails _ _ _ _
-    (started c.args.outer c.args.last before (section_members c.in_ok-section.section) _ c.in_ok-offset.offset
-    c.own_offset-own.ensures c.in_ok-offset.ensures.starts)
-    (first_fails _ _ _ (subst (λ tree. Fails error (listed_map inner c.in_ok-offset.offset before (view tree)))
-    c.map.ensures c.in_err-now.ensures.reads))))
-
-pub with_section-returns-clause-reads : goal.with_section-returns-clause-reads
-with_section-returns-clause-reads t c =
-    let before = listing_of c.args.before in
-    let inner = section_map c.args.base.now c.args.limits (8 - c.args.level) in
-    section_in_steps inner c.args.outer c.args.last before c.args.level (view c.args.tree.now)
-    ∙ then_ok _ _ _ _ c.in_ok-section.ensures (then_ok _ _ _ _
-    (started c.args.outer c.args.last before (section_members c.in_ok-section.section) _ c.in_ok-offset.offset
-    c.own_offset-own.ensures c.in_ok-offset.ensures.starts)
-    (then_ok _ _ _ _ (ap (λ tree. listed_map inner c.in_ok-offset.offset before (view tree)) (sym c.map.ensures)
-    ∙ c.in_ok-now.ensures.reads)
-    (λ j. Ok (sym c.own_offset-own.ensures j, listing_of c.in_ok-now.now))))
 
 -- ---- all sections
 
