@@ -1,15 +1,13 @@
 -- Lines cut into parts.
-use Rattle.std.proofs.Common.{◌≡◌, ◌∙◌, ℕ, suc, ◌+◌, ◌-◌, ◌<◌, ◌≤◌, ◌==◌, Bool, true, false, not, ◌&&◌, ◌||◌}
+use Rattle.std.proofs.Common.{◌≡◌, ◌∙◌, ℕ, suc, ◌+◌, ◌-◌, ◌<◌, ◌≤◌, ◌==◌, Bool, true, false, not, ◌&&◌}
 use Rattle.std.proofs.Common.{List, ◌∷◌, ◌++◌, length, take, drop, reverse, get_or, refl, sym, ap, arith}
 use Rattle.std.proofs.Common.{slice_range, nat_eq, length-take}
-use Rattle.std.specs.List.{starts_with, suffix_len, before_last, after_last, list_any}
+use Rattle.std.specs.List.{starts_with, suffix_len, before_last, after_last}
 use Rattle.std.proofs.Math.Seq.{split_at, take-append_seam, drop-append_seam}
 use Rattle.std.proofs.lemmas.Bool.Decides.{Decides-eqb}
 use Rattle.std.proofs.lemmas.List.{take-append-drop, drop-drop, get_or-reverse, length-reverse}
 use Rattle.std.proofs.lemmas.List.Sums.{prefix_len_stops}
-use Rattle.std.proofs.lemmas.List.Folds.{list_any-append}
 use Rattle.std.proofs.lemmas.Slice.Eq.{starts_is}
-use Rattle.smap_trace.specs.Frame.{lacks}
 
 pub both : (a b : Bool) → (a && b) ≡ true → (a ≡ true) × (b ≡ true)
 both true b h = (refl, h)
@@ -25,9 +23,6 @@ pub cut_at : (xs : List ℕ) (s e : ℕ) → s ≤ e → xs ≡ take s xs ++ (sl
 cut_at xs s e le = sym (take-append-drop s xs) ∙ ap (λ (ys : List ℕ). take s xs ++ ys) (rest_at xs s e le)
 
 -- a line in three parts, cut where they meet
-pub first_part : (a t b : List ℕ) → take (length a) (a ++ (t ++ b)) ≡ a
-first_part a t b = take-append_seam a (t ++ b)
-
 pub middle_part : (a t b : List ℕ) → slice_range (a ++ (t ++ b)) (length a) (length a + length t) ≡ t
 middle_part a t b =
     let len : length a + length t - length a ≡ length t = omega arith in
@@ -72,13 +67,3 @@ last_cut c xs lt =
 pub some_before : (c : ℕ) (xs : List ℕ) → 0 < length (before_last (λ b. b == c) xs)
     → suffix_len (λ b. not (b == c)) xs < length xs
 some_before c xs h = omega (arith, h, length-take {A = ℕ})
-
-pub lacks-append : (c : ℕ) (xs ys : List ℕ) → lacks c (xs ++ ys) ≡ true
-    → (lacks c xs ≡ true) × (lacks c ys ≡ true)
-lacks-append c xs ys h = go (list_any (λ b. b == c) xs) (list_any (λ b. b == c) ys)
-    (ap not (sym (list_any-append (λ b. b == c) xs ys)) ∙ h)
-  where
-    go : (s t : Bool) → not (s || t) ≡ true → (not s ≡ true) × (not t ≡ true)
-    go false false e = (refl, refl)
-    go false true e = cc
-    go true t e = cc

@@ -7,7 +7,7 @@ use Rattle.std.specs.Char.{is_ascii_digit}
 use Rattle.std.specs.List.{list_any, prefix_len, starts_with}
 use Rattle.std.proofs.Math.Seq.{drop-cons, take-add, take-suc}
 use Rattle.std.proofs.lemmas.Bool.{eqb-true}
-use Rattle.std.proofs.lemmas.List.{drop-drop, drop_all, get_or-drop, length-drop, take_all, take_more}
+use Rattle.std.proofs.lemmas.List.{drop-drop, drop_all, get_or-drop, length-drop, take_more}
 use Rattle.std.proofs.lemmas.List.{map-append}
 use Rattle.std.proofs.lemmas.List.Folds.{list_any-append}
 use Rattle.std.proofs.lemmas.Grind.{flat_map-append}
@@ -240,9 +240,6 @@ module _ (ignore : Bool) (scripts : List Script) (line : List ℕ) where
   abbrev from : ℕ → List Piece
   from at = pieces_from ignore scripts line at
 
-  pub nothing_before : (at : ℕ) → from at ≡ map byte (slice_range line at at) ++ from at
-  nothing_before at = let none : at - at ≡ 0 = omega arith in rw none refl
-
   pub byte_next : (at start : ℕ) → at ≤ start → start < length line
       → None ≡ occurrence_between ignore scripts (take start line) (drop start line)
       → from at ≡ map byte (slice_range line at start) ++ from start
@@ -255,15 +252,6 @@ module _ (ignore : Bool) (scripts : List Script) (line : List ℕ) where
       ∙ ap (λ (ps : List Piece). ps ++ from (start + 1))
       (sym (map-append byte (slice_range line at start) (get_or line start 0 ∷ []))
       ∙ ap (map byte) (sym (range_more line at start le lt)))
-
-  pub nothing_next : (at start : ℕ) → length line ≤ start
-      → from at ≡ map byte (slice_range line at start) ++ from start → from at ≡ map byte (drop at line)
-  nothing_next at start past h =
-      let none : from start ≡ [] = rw (drop_all start line past) refl in
-      let all : slice_range line at start ≡ drop at line =
-      take_all (start - at) (drop at line) (omega (arith, length-drop at line)) in
-      h ∙ ap (λ (ps : List Piece). map byte (slice_range line at start) ++ ps) none
-      ∙ append-nil (map byte (slice_range line at start)) ∙ ap (map byte) all
 
   pub found_next : (at start : ℕ) (o : CodeOccurrence) → at ≤ start → start < length line
       → IsWithin (length line - start) o

@@ -25,7 +25,6 @@ pub mod PartLemmas
 pub mod PieceLemmas
 pub mod PlaceLemmas
 pub mod PositionLemmas
-pub mod PushLemmas
 pub mod ReadingLemmas
 pub mod RunLemmas
 pub mod ScriptLemmas

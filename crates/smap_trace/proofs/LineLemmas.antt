@@ -13,13 +13,6 @@ use Rattle.smap_trace.specs.Pieces.{HasNoFeed, IsWhole, Takes, count_line, count
 use Rattle.smap_trace.specs.Translation.{Fate, line_translation_by, lines_of, translation_by}
 use Rattle.smap_trace.specs.Views.{outcome_of}
 
-is_feed : ℕ → Bool
-is_feed b = b == 10
-
-onto_first-append : (b : ℕ) (xs : List ℕ) (xss yss : List (List ℕ))
-    → onto_first b ((xs ∷ xss) ++ yss) ≡ onto_first b (xs ∷ xss) ++ yss
-onto_first-append b xs xss yss = refl
-
 -- a text that ends in a line feed has at least one line
 some_lines : (front : List ℕ) → (line : List ℕ) × (lines : List (List ℕ))
     × (lines_of (front ++ 10 ∷ []) ≡ line ∷ lines)
@@ -250,6 +243,3 @@ module _ (fates : List ℕ → Fate) where
 
 pub some_length : (n : ℕ) → false ≡ (n == 0) → 0 < n
 some_length n h = grind (arith, nat_tests)
-
-pub no_length : (n : ℕ) → true ≡ (n == 0) → n ≡ 0
-no_length n h = grind (arith, nat_tests)

@@ -3,7 +3,7 @@ use Rattle.std.proofs.Common.{◌≡◌, ◌∙◌, ℕ, ◌+◌, ◌-◌, ◌/�
 use Rattle.std.proofs.Common.{get_or, nat_le, nat_lt, Option, None, arith, ap, sym, inl, inr, slice_get}
 use Rattle.std.proofs.Common.{slice_index, Some, refl, cond, []}
 use Rattle.std.specs.List.{range_with_len}
-use Rattle.std.proofs.lemmas.Bool.{cases_lt, ltb-false, ltb-true}
+use Rattle.std.proofs.lemmas.Bool.{cases_lt, ltb-true}
 use Rattle.std.proofs.lemmas.Bool.Decides.{nat_tests}
 use Rattle.std.proofs.lemmas.List.{length-map}
 use Rattle.std.proofs.lemmas.Option.{get_or_from_slice_get, slice_get_within}
@@ -119,16 +119,6 @@ module _ (ms : List Mapping) (line column : ℕ) (sorted : NeverFalls (map mappi
   pub within_line : IsBetween (line_start ms line) (line_start ms (line + 1)) counted
   within_line = (at_least, at_most)
 
-  pub within_all : IsBetween 0 (length ms) counted
-  within_all = (
-    omega arith,
-    omega (
-      arith,
-      count_by-le-length (λ p. is_at_most p (position_in (line, column))) (map mapping_position ms),
-      length-map ms mapping_position,
-    ),
-  )
-
 -- What the table has.
 pub table_at : (ms : List Mapping) (line : ℕ) → line < length (line_starts ms)
     → slice_index (line_starts ms) line ≡ line_start ms line
@@ -173,23 +163,14 @@ range_is starts line from to h =
         )
     go false e k = cc
 
-pub no_range : (starts : List ℕ) (line : ℕ) → range_in starts line ≡ None → length starts ≤ line + 1
-no_range starts line h = go (nat_lt (line + 1) (length starts)) refl (sym (listed_is starts line) ∙ h)
-  where
-    go : (t : Bool) → nat_lt (line + 1) (length starts) ≡ t → if_listed t starts line ≡ None
-        → length starts ≤ line + 1
-    go true e k = cc
-    go false e k = ltb-false (line + 1) (length starts) e
-
 -- The part of a line in the table of a map: where its mappings begin and end.
-pub record IsLinePart (ms : List Mapping) (starts : List ℕ) (line column from to : ℕ) : Type 0 where
+pub record IsLinePart (ms : List Mapping) (line column from to : ℕ) : Type 0 where
   pub known : IsBetween from to (mappings_up_to ms line column)
   pub within : to ≤ length ms
-  pub part : to - from ≡ slice_index starts (line + 1) - slice_index starts line
 
 pub line_part : (ms : List Mapping) (starts : List ℕ) (line column from to : ℕ)
     → NeverFalls (map mapping_position ms) → starts ≡ line_starts ms
-    → range_in starts line ≡ Some (from, to) → IsLinePart ms starts line column from to
+    → range_in starts line ≡ Some (from, to) → IsLinePart ms line column from to
 line_part ms starts line column from to sorted same h =
     let is = range_is (line_starts ms) line from to (rw same at h) in
     let low : from ≡ line_start ms line = is.1 ∙ table_at ms line (omega (arith, is.0)) in
@@ -198,5 +179,4 @@ line_part ms starts line column from to sorted same h =
     record {
       known = rw (low, high) known;
       within = rw high (start_within ms (line + 1));
-      part = rw (same, is.1, is.2) refl;
     }

@@ -1,6 +1,6 @@
 -- The URLs of a trace that comes in pieces.
 use Rattle.std.proofs.Common.{◌≡◌, ◌∙◌, ℕ, zero, suc, ◌+◌, ◌<◌, true, false, List, [], ◌∷◌, ◌++◌, length}
-use Rattle.std.proofs.Common.{bytes_eq, refl, sym, ap, subst, inl, inr, arith, append_assoc, append-nil}
+use Rattle.std.proofs.Common.{bytes_eq, refl, sym, ap, subst, inr, arith, append_assoc, append-nil}
 use Rattle.std.proofs.Common.{Option, Some}
 use Rattle.std.specs.Global.{Vec}
 use Rattle.std.specs.Prelude.{slice_get, unwrap_or}
@@ -86,10 +86,6 @@ feed_step line piece after rest last front old new more a l clean m free t =
             ∙ ap (λ (us : List (List ℕ)). with_urls us old) (sym (urls_of-append t.whole ended t.is_whole));
       };
     }
-
--- before the first byte
-pub nothing_taken : (line : List ℕ) (named : List (List ℕ × ℕ)) → CountsPiece line [] line named named
-nothing_taken line named = record { whole = []; is_whole = inl refl; bytes = append-nil line; counted = refl }
 
 -- ---- the whole trace
 

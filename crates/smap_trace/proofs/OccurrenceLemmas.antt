@@ -5,7 +5,7 @@ use Rattle.std.proofs.Common.{refl, sym, ap, arith, inl, inr}
 use Rattle.std.proofs.lemmas.Bool.Decides.{nat_tests}
 use Rattle.std.proofs.lemmas.List.{at_drop_more}
 use Rattle.smap_record.specs.Record.{Record, record_of}
-use Rattle.smap_trace.specs.Anywhere.{longer, longest, occurrence_of, place_after}
+use Rattle.smap_trace.specs.Anywhere.{longer, longest, occurrence_of}
 use Rattle.smap_trace.specs.Anywhere as spec
 use Rattle.smap_trace.specs.OccurrenceView.{IsWithin}
 use Rattle.smap_trace.specs.Views.{script_in, scripts_in}

@@ -1,12 +1,12 @@
 -- Scripts by their places, and as the definitions see them.
-use Rattle.std.proofs.Common.{◌≡◌, ◌≢◌, ◌∙◌, ◌↔◌, ℕ, ◌+◌, ◌<◌, Bool, true, false, List, [], ◌∷◌, length, drop}
-use Rattle.std.proofs.Common.{Bor, get_or, Some, refl, sym, ap, arith, bytes_eq, IsTrue}
+use Rattle.std.proofs.Common.{◌≡◌, ◌≢◌, ◌∙◌, ◌↔◌, ℕ, ◌<◌, Bool, true, false, List, [], ◌∷◌, length}
+use Rattle.std.proofs.Common.{Bor, get_or, Some, sym, ap, arith, bytes_eq, IsTrue}
 use Rattle.std.specs.Prelude.{slice_index_or}
-use Rattle.std.proofs.lemmas.List.{get_or-map, length-map, at_drop_more}
+use Rattle.std.proofs.lemmas.List.{get_or-map, length-map}
 use Rattle.std.proofs.lemmas.Option.{slice_get-get_or}
 use Rattle.std.proofs.lemmas.Slice.Eq.{bytes_eq-Decides}
-use Rattle.smap_record.specs.Record.{ReadMap, record_of}
-use Rattle.smap_trace.specs.Translation.{AreDistinct, Script, map_of}
+use Rattle.smap_record.specs.Record.{ReadMap}
+use Rattle.smap_trace.specs.Translation.{AreDistinct, Script}
 use Rattle.smap_trace.specs.Views.{script_in, scripts_in}
 
 abbrev pub Given : Type 0
@@ -59,26 +59,3 @@ not_distinct xs i j x y lt within is js same = told xs false (
       absurd (h i j x (omega arith) lt within (ap (λ (g : Given). g.0.now) (sym is) ∙ urls
       ∙ ap (λ (g : Given). g.0.now) (js ∙ sym one)))),
 )
-
--- one script more
-pub here : (xs : List Given) (i : ℕ) (g : Given) (url : List ℕ) → i < length xs
-    → bytes_eq (get_or xs i g).0.now url ≡ true
-    → map_of (scripts_in (drop i xs)) url ≡ Some (record_of (get_or xs i g).1.now)
-here xs i g url lt is =
-    at_drop_more (λ (ys : List Given). map_of (scripts_in ys) url) xs i g lt
-    ∙ found (get_or xs i g) (drop (i + 1) xs) is
-  where
-    found : (x : Given) (ys : List Given) → bytes_eq x.0.now url ≡ true
-        → map_of (scripts_in (x ∷ ys)) url ≡ Some (record_of x.1.now)
-    found x ys h = rw h refl
-
-pub further : (xs : List Given) (i : ℕ) (g : Given) (url : List ℕ) → i < length xs
-    → bytes_eq (get_or xs i g).0.now url ≡ false
-    → map_of (scripts_in (drop i xs)) url ≡ map_of (scripts_in (drop (i + 1) xs)) url
-further xs i g url lt isnt =
-    at_drop_more (λ (ys : List Given). map_of (scripts_in ys) url) xs i g lt
-    ∙ passed (get_or xs i g) (drop (i + 1) xs) isnt
-  where
-    passed : (x : Given) (ys : List Given) → bytes_eq x.0.now url ≡ false
-        → map_of (scripts_in (x ∷ ys)) url ≡ map_of (scripts_in ys) url
-    passed x ys h = rw h refl

@@ -1,6 +1,6 @@
 -- What the text of a position ends in, and which bytes it lacks.
 use Rattle.std.proofs.Common.{◌≡◌, ◌≢◌, ◌∙◌, ℕ, ◌+◌, ◌-◌, ◌<◌, ◌≤◌, ◌==◌, Bool, true, false, not, ◌&&◌, ◌||◌}
-use Rattle.std.proofs.Common.{List, [], ◌∷◌, ◌++◌, length, take, drop, Some, refl, sym, ap, arith}
+use Rattle.std.proofs.Common.{List, [], ◌∷◌, ◌++◌, length, take, drop, refl, sym, ap, arith}
 use Rattle.std.proofs.Common.{append_assoc, nat_eq, length-take, length-append, decimal, codes, get_or}
 use Rattle.std.specs.List.{starts_with, ends_with, list_all, list_any}
 use Rattle.std.specs.Str.Parse.{AllDigits}
@@ -11,9 +11,8 @@ use Rattle.std.proofs.lemmas.Slice.Eq.{ends_is}
 use Rattle.std.proofs.lemmas.Str.Parse.{digit_from_value}
 use Rattle.std.proofs.lemmas.Bool.Decides.{Decides-eqb}
 use Rattle.smap_trace.specs.Frame.{IsPlace, lacks, position_text}
-use Rattle.smap_trace.specs.Reading.{framed, is_url}
 use Rattle.smap_trace.proofs.CutLemmas.{begins}
-use Rattle.smap_trace.proofs.ReadingLemmas.{decimal_lacks, framed-position_text}
+use Rattle.smap_trace.proofs.ReadingLemmas.{decimal_lacks}
 use Rattle.smap_trace.proofs.SoundLemmas.{not_both}
 
 -- ---- last bytes
@@ -107,23 +106,3 @@ no_async xs all = go (starts_with nat_eq xs (codes "async ")) refl
         → starts_with nat_eq xs (codes "async ") ≡ false
     go false h = h
     go true h = absurd (not_both all (split (drop 6 xs) (begins xs (codes "async ") h)))
-
--- ---- a position in a line
-
-pub framed_here : (line before url after : List ℕ) (start end l c : ℕ)
-    → line ≡ before ++ (position_text url l c ++ after) → start ≡ length before
-    → end ≡ length before + length (position_text url l c) → is_url url ≡ true → IsPlace l → IsPlace c
-    → framed line start end ≡ Some (record {
-      before = before;
-      url = url;
-      line = l;
-      column = c;
-      after =
-          after;
-    })
-framed_here line before url after start end l c whole s e is lp cp =
-    ap (λ (xs : List ℕ). framed xs start end)
-    (whole ∙ sym (append_assoc before (position_text url l c) after))
-    ∙ ap (λ n. framed (before ++ position_text url l c ++ after) n end) s
-    ∙ ap (λ n. framed (before ++ position_text url l c ++ after) (length before) n) e
-    ∙ framed-position_text before url after l c is lp cp

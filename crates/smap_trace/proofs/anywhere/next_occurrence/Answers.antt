@@ -1,5 +1,5 @@
 use Rattle.std.proofs.Common.{drop, take, sym}
-use Rattle.smap_trace.proofs.CuttingLemmas.{all_bytes, byte_next, found_next, nothing_next, nothing_before}
+use Rattle.smap_trace.proofs.CuttingLemmas.{all_bytes, byte_next, found_next}
 use Rattle.smap_trace.proofs.LineLemmas.{left_is}
 use Rattle.smap_trace.proofs.anywhere.next_occurrence.Goals as goal
 
@@ -10,10 +10,6 @@ returns-then-not-holds_place g c =
     all_bytes c.args.ignore_query (g.M.Maps.scripts c.args.maps.now) (take c.args.at text)
     (drop c.args.at text) (sym none)
 
-pub loop-start-init : goal.loop-start-init
-loop-start-init g c =
-    nothing_before c.args.ignore_query (g.M.Maps.scripts c.args.maps.now) c.args.text.now c.args.at
-
 pub returns-in-Some : goal.returns-in-Some
 returns-in-Some g c = found_next c.args.ignore_query (g.M.Maps.scripts c.args.maps.now) c.args.text.now
     c.args.at c.loop-start.start c.in-Some.found c.loop-start.auto.start c.loop-start-test.true
@@ -23,7 +19,3 @@ pub loop-start-preserved : goal.loop-start-preserved
 loop-start-preserved g c = byte_next c.args.ignore_query (g.M.Maps.scripts c.args.maps.now) c.args.text.now
     c.args.at c.loop-start.start c.loop-start.auto.start c.loop-start-test.true
     c.in_default.ensures.value c.loop-start.invariant
-
-pub returns : goal.returns
-returns g c = nothing_next c.args.ignore_query (g.M.Maps.scripts c.args.maps.now) c.args.text.now
-    c.args.at c.loop-start.start c.loop-start-test.false c.loop-start.invariant

@@ -1,14 +1,8 @@
-use Rattle.std.proofs.Common.{◌≡◌, Option, None, option_map, rules}
-use Rattle.smap_trace.specs.Frame.{FrameParts}
+use Rattle.std.proofs.Common.{◌≡◌, option_map, rules}
 use Rattle.smap_trace.specs.FrameView.{parts_in}
 use Rattle.smap_trace.specs.Reading.{frame_of}
 use Rattle.smap_trace.proofs.LawLemmas.{is_reading}
 use Rattle.smap_trace.proofs.frames.frame.Goals as goal
-
-pub returns-then-contains-clause-is : goal.returns-then-contains-clause-is
-unfolding frame_of
-returns-then-contains-clause-is c = let value : ◌≡◌ {A = Option FrameParts} None (frame_of c.args.line.now) =
-    search rules in is_reading c.args.line.now None value
 
 pub returns-then-contains-clause-value : goal.returns-then-contains-clause-value
 unfolding frame_of

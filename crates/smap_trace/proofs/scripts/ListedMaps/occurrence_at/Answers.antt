@@ -1,10 +1,9 @@
-use Rattle.std.proofs.Common.{◌∙◌, sym, rules, length, option_map}
-use Rattle.std.proofs.lemmas.List.{drop_all}
+use Rattle.std.proofs.Common.{rules, length, option_map}
 use Rattle.smap_record.specs.Record.{record_of}
 use Rattle.smap_trace.specs.Anywhere.{longest}
 use Rattle.smap_trace.specs.OccurrenceView.{occurrence_in}
 use Rattle.smap_trace.specs.Views.{scripts_in}
-use Rattle.smap_trace.proofs.OccurrenceLemmas.{one_more_script, longer-none, either_within}
+use Rattle.smap_trace.proofs.OccurrenceLemmas.{one_more_script, either_within}
 use Rattle.smap_trace.proofs.scripts.ListedMaps.occurrence_at.Goals as goal
 
 pub loop-script-preserved : goal.loop-script-preserved
@@ -21,12 +20,3 @@ loop-script-preserved c =
           (record_of c.script-item.result.1.now) c.loop-script-test.true c.longer-best.ensures.value
           found.ensures.value (search rules) (search rules) c.loop-script.invariant.rest;
     }
-
-pub returns-clause-value : goal.returns-clause-value
-returns-clause-value c =
-    let past = drop_all c.loop-script.script-index c.args.self.now.scripts.now c.loop-script-test.false in
-    let rest = rw past at c.loop-script.invariant.rest in
-    sym (longer-none (option_map occurrence_in c.loop-script.best)) ∙ rest
-
-pub returns-clause-within : goal.returns-clause-within
-returns-clause-within c = c.loop-script.invariant.within
