@@ -6,14 +6,10 @@ use Rattle.std.specs.Io.KnownBytes.{Keeps}
 use Rattle.std.proofs.KnownBytes.{Appends-kept, Appends-nil, Appends-trans}
 use Rattle.smap_io.specs.declared.device.Device.{Device}
 use Rattle.smap_io.specs.declared.device.Failed.{Failed}
-use Rattle.smap_io.specs.Writing.{Took, TookPrefix, WritesText}
+use Rattle.smap_io.specs.Writing.{Took, WritesText}
 
 pub Took-none : {W : Type 0} (contents : W → Option (List ℕ)) (a : Device W) → Took contents a a []
 Took-none contents a = Appends-nil (contents a.inner)
-
-pub TookPrefix-none : {W : Type 0} (contents : W → Option (List ℕ)) (a : Device W) (text : List ℕ)
-    → TookPrefix contents a a text
-TookPrefix-none contents a text = (0, Took-none contents a)
 
 pub Took-then : {W : Type 0} (contents : W → Option (List ℕ)) (a b c : Device W) (xs ys : List ℕ)
     → Took contents a b xs → Took contents b c ys → Took contents a c (xs ++ ys)

@@ -1,8 +1,7 @@
 -- A loop over the digits of a number.
 use Rattle.std.proofs.Common.{◌≡◌, ◌≢◌, ℤ, ℕ, ◌+◌, ◌*◌, ◌%◌, ◌^◌, ◌<◌, ◌≤◌, min, List, [], ◌∷◌, ◌++◌, length}
 use Rattle.std.proofs.Common.{get_or, drop, Option, None, Some, Result, Ok, Err, refl, sym, ap, ◌∙◌, arith}
-use Rattle.std.proofs.Common.{length-append, drop-cons, add-one, subst}
-use Rattle.std.specs.Prelude.{IfOk}
+use Rattle.std.proofs.Common.{length-append, drop-cons, add-one}
 use Rattle.std.proofs.Math.ListN.{drop_of_length-le}
 use Rattle.std.proofs.lemmas.Bool.{lt-ltb, le-ltb, lt-leb, ne_eqb}
 use Rattle.smap_vlq.specs.declared.number.NumberFault.{NumberFault}
@@ -94,44 +93,9 @@ alone : (r : Result ℤ NumberFault) (after : ℕ) → without_place (r >>= λ n
 alone (Ok n) after = refl
 alone (Err fault) after = refl
 
-abbrev EndsAt : ℕ → Result (ℤ × ℕ) NumberFault → Type 0
-EndsAt after r = IfOk r (λ found. after ≡ found.1)
-
-ends_there : (r : Result ℤ NumberFault) (after : ℕ) → EndsAt after (r >>= λ n. Ok (n, after))
-ends_there (Ok n) after = refl
-ends_there (Err fault) after = tt
-
 pub number_alone : (text : List ℕ) (at after : ℕ) (r value : Result ℤ NumberFault)
     → number_at text at ≡ (value >>= λ n. Ok (n, after)) → r ≡ value → r ≡ without_place (number_at text at)
 number_alone text at after r value is same = same ∙ sym (ap without_place is ∙ alone value after)
-
-pub place_alone : (text : List ℕ) (at after : ℕ) (value : Result ℤ NumberFault)
-    → number_at text at ≡ (value >>= λ n. Ok (n, after)) → EndsAt after (number_at text at)
-place_alone text at after value is = subst (EndsAt after) (sym is) (ends_there value after)
-
--- what the text has at a place, from its number and from where that ends
-pub both_found : (r : Result (ℤ × ℕ) NumberFault) (n : ℤ) (after : ℕ)
-    → Ok n ≡ without_place r → EndsAt after r → r ≡ found n after
-both_found (Ok (m, place)) n after same there =
-    let is : n ≡ m = the_number n m same in sym (λ j. found (is j) (there j))
-  where
-    the_number : (n m : ℤ) → Ok n ≡ without_place (Ok (m, place)) → n ≡ m
-    the_number n m p = cc
-both_found (Err fault) n after same there = absurd (no_number same)
-  where
-    no_number : Ok n ≡ without_place (Err fault) → ⊥
-    no_number p = cc
-
-pub both_fail : (r : Result (ℤ × ℕ) NumberFault) (fault : NumberFault)
-    → Err fault ≡ without_place r → r ≡ Err fault
-both_fail (Ok (m, place)) fault same = absurd (some_number same)
-  where
-    some_number : Err fault ≡ without_place (Ok (m, place)) → ⊥
-    some_number p = cc
-both_fail (Err other) fault same = ap (λ (f : NumberFault). Err f) (the_fault same)
-  where
-    the_fault : Err fault ≡ without_place (Err other) → other ≡ fault
-    the_fault p = cc
 
 number_of-is : (u : ℕ) → u < 2 ^ 32 → u ≢ 1 → number_of u ≡ Ok (signed u)
 number_of-is u lt other = rw (lt-leb (2 ^ 32) u lt, ne_eqb u 1 other) refl
