@@ -1,14 +1,15 @@
 -- Lexemes of a text in two parts.
-use Rattle.std.proofs.Common.{◌≡◌, ℕ, Bool, true, false, cond, ◌&&◌, ◌==◌, nat_lt, List, [], ◌∷◌, ◌++◌, Option, Some, None, option_and_then, refl, ap, ap₂}
-use Rattle.std.proofs.lemmas.Bool.{false≢true, and_parts}
+use Rattle.std.proofs.Common.{◌≡◌, ℕ, Bool, true, false, cond, ◌&&◌, ◌||◌, ◌==◌, nat_lt, List, [], ◌∷◌, ◌++◌, Option, Some, None, option_and_then, refl, sym, ap, ap₂, ◌∙◌}
+use Rattle.std.proofs.lemmas.Bool.{false≢true, and_parts, eqb-true}
 use Rattle.std.specs.Prelude.{⊤}
 use Rattle.std.specs.Char.{encode_utf8}
 use Rattle.json.specs.Text.{code_unit, short_escape, is_high_surrogate, is_low_surrogate, surrogate_pair, Within, plain, after_backslash, after_u, after_high, prepend, content}
-use Rattle.json.specs.Word.{word}
+use Rattle.json.specs.Word.{is_operator, is_space, word}
 use Rattle.json.specs.Lex.{token, Class, quote, backslash, operator, space, other, class, operator_lexeme, string_token}
 use Rattle.json.specs.Lex.{Mode, between, in_word, in_string, in_escape, lex, lex_byte}
 use Rattle.json.specs.Align.{is_good}
-use Rattle.smap_sections.specs.Cuts.{next, mode_after, is_good_lexeme, are_good}
+use Rattle.smap_sections.specs.Cuts.{next, mode_after}
+use Rattle.smap_sections.proofs.Lexemes.{may_cut, is_good_lexeme, are_good}
 use Rattle.smap_sections.proofs.Words.{word_stays}
 
 -- q is o, where o is something
@@ -61,10 +62,10 @@ known None q keeps good = absurd (false≢true good)
 known (Some s) q keeps good = keeps
 
 abbrev Joined : Mode → List ℕ → List ℕ → Type 0
-Joined m xs b = mode_after m xs ≡ between → are_good (lex m xs) ≡ true → lex m (xs ++ b) ≡ lex m xs ++ lex between b
+Joined m xs b = may_cut (mode_after m xs) b ≡ true → are_good (lex m xs) ≡ true → lex m (xs ++ b) ≡ lex m xs ++ lex between b
 
 by : (m : Mode) (c : Class) (x : ℕ) (xs b : List ℕ) → class x ≡ c → ((n : Mode) → Joined n xs b)
-    → mode_after (next m c) xs ≡ between
+    → may_cut (mode_after (next m c) xs) b ≡ true
     → are_good (lex_byte m c x xs (λ n. lex n xs)) ≡ true
     → lex_byte m c x (xs ++ b) (λ n. lex n (xs ++ b)) ≡ lex_byte m c x xs (λ n. lex n xs) ++ lex between b
 by between quote x xs b is more at good =
@@ -91,7 +92,28 @@ by in_string space x xs b is more at good = more in_string at good
 by in_string other x xs b is more at good = more in_string at good
 by in_escape c x xs b is more at good = more in_string at good
 
+-- where a lexeme begins, the mode before it says nothing of it
+same_start : (m : Mode) (b : List ℕ) → may_cut m b ≡ true → lex m b ≡ lex between b
+unfolding lex
+same_start between b at = refl
+same_start in_word [] at = refl
+same_start in_word (x ∷ b) at = by (x == 34) (x == 92) (is_operator x) (is_space x) refl refl at at
+  where
+    end_of : ℕ → Bool
+    end_of y = is_operator y || is_space y
+
+    by : (q s o p : Bool) → (x == 34) ≡ q → (x == 92) ≡ s → end_of x ≡ true → (o || p) ≡ true
+        → lex_byte in_word (cond q quote (cond s backslash (cond o operator (cond p space other)))) x b (λ n. lex n b)
+        ≡ lex_byte between (cond q quote (cond s backslash (cond o operator (cond p space other)))) x b (λ n. lex n b)
+    by true s o p is f ends at = absurd (false≢true (sym (ap end_of (eqb-true x 34 is)) ∙ ends))
+    by false true o p e is ends at = absurd (false≢true (sym (ap end_of (eqb-true x 92 is)) ∙ ends))
+    by false false true p e f ends at = refl
+    by false false false true e f ends at = refl
+    by false false false false e f ends at = absurd (false≢true at)
+same_start in_string b at = absurd (false≢true at)
+same_start in_escape b at = absurd (false≢true at)
+
 pub joined : (m : Mode) (xs b : List ℕ) → Joined m xs b
 unfolding lex mode_after
-joined m [] b at good = ap (λ n. lex n b) at
+joined m [] b at good = same_start m b at
 joined m (x ∷ xs) b at good = by m (class x) x xs b refl (λ n. joined n xs b) at good

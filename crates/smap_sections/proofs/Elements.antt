@@ -1,25 +1,27 @@
 -- Items by themselves, and in their array.
-use Rattle.std.proofs.Common.{◌≡◌, ℕ, ◌≤◌, Bool, true, false, ◌&&◌, List, [], ◌∷◌, ◌++◌, Option, Some, None, refl, sym, ap, ap₂, ◌∙◌, arith, append_assoc, append-nil}
+use Rattle.std.proofs.Common.{◌≡◌, ℕ, ◌≤◌, Bool, true, false, ◌&&◌, List, [], ◌∷◌, ◌++◌, drop, Some, refl, sym, ap, ap₂, ◌∙◌, arith, append_assoc, append-nil}
 use Rattle.std.proofs.lemmas.Bool.{false≢true}
-use Rattle.std.specs.Prelude.{⊤, option_and_then, option_map}
+use Rattle.std.proofs.lemmas.List.{append_cancel_right}
+use Rattle.std.specs.Prelude.{⊤}
 use Rattle.json.specs.Token as json
 use Rattle.json.specs.Token.{Token}
-use Rattle.json.specs.Lex.{Lexeme, token, comma, between, lex, punctuate, tokens, Place, fresh, after_value, begins_colon}
-use Rattle.json.specs.Json.{Json, null, boolean, number, string, array, object, Items, no_items, item, Members, no_members, member, value, if_last}
+use Rattle.json.specs.Word.{ends_word}
+use Rattle.json.specs.Lex.{Lexeme, token, comma, between, lex, punctuate, tokens}
+use Rattle.json.specs.Lex.{Place, fresh, after_value, after_comma, after_key, begins_colon, may_close}
+use Rattle.json.specs.Json.{Json, null, boolean, number, string, array, object, Items, no_items, item, Members, no_members, member}
 use Rattle.json.specs.Tree.{json_tokens, items_tokens, members_tokens, depth, items_depth}
 use Rattle.json.specs.Align.{is_good}
-use Rattle.json.proofs.Printed.Trees.{value-json_tokens}
-use Rattle.json.proofs.Unique.Spelling.{value-json_tokens_back}
-use Rattle.json.proofs.Nesting.{value-depth}
-use Rattle.serde_json.specs.Data as spec
 use Rattle.serde_json.specs.Data.{Data}
-use Rattle.serde_json.specs.Read.{of_json, of_items, converted, read}
+use Rattle.serde_json.specs.Read.{of_json, of_items}
 use Rattle.serde_json.specs.View.{items_of}
-use Rattle.smap_sections.specs.Cuts.{mode_after, end_place, are_good_tokens}
-use Rattle.smap_sections.specs.Elements.{with_commas, IsItem, AreItems}
+use Rattle.smap_sections.specs.Cuts.{mode_after, is_outside}
+use Rattle.smap_sections.specs.Elements.{with_commas, in_two_arrays, IsElement, AreElements}
+use Rattle.smap_sections.proofs.Lexemes.{outside_cut, end_place, are_good, are_good_tokens}
 use Rattle.smap_sections.proofs.Apart.{joined}
 use Rattle.smap_sections.proofs.Placed.{apart}
-use Rattle.smap_sections.proofs.Places.{after, head_begins, good_lexemes, end_is, after_comma_is}
+use Rattle.smap_sections.proofs.Places.{after, head_begins, good_lexemes, good_front, end_is, end_closes, after_comma_is}
+use Rattle.smap_sections.proofs.Closed.{before_bracket}
+use Rattle.smap_sections.proofs.Whole.{whole, array_of_one}
 
 good_joined : (ts us : List Token) → are_good_tokens ts ≡ true → are_good_tokens us ≡ true → are_good_tokens (ts ++ us) ≡ true
 good_joined [] us h k = k
@@ -77,7 +79,7 @@ begins_json (object ms) ts = refl
 -- ---- a text that is one value
 
 pub record Piece (p : List ℕ) (j : Json) : Type 0 where
-  pub ended : mode_after between p ≡ between
+  pub outside : is_outside (mode_after between p) ≡ true
   pub spelled : tokens p ≡ json_tokens j
 
 module _ (p : List ℕ) (j : Json) (piece : Piece p j) where
@@ -85,8 +87,8 @@ module _ (p : List ℕ) (j : Json) (piece : Piece p j) where
   good = ap are_good_tokens piece.spelled ∙ good_json j
 
   -- what follows it
-  lexed : (b : List ℕ) → lex between (p ++ b) ≡ lex between p ++ lex between b
-  lexed b = joined between p b piece.ended (good_lexemes fresh (lex between p) good)
+  lexed : (b : List ℕ) → ends_word b ≡ true → lex between (p ++ b) ≡ lex between p ++ lex between b
+  lexed b stops = joined between p b (outside_cut _ b piece.outside stops) (good_lexemes fresh (lex between p) good)
 
   ends : end_place fresh (lex between p) ≡ after_value
   ends = end_is fresh (lex between p) good
@@ -123,100 +125,109 @@ items_apart (p ∷ q ∷ ps) (item j (item i js)) h r =
     let begins : head_begins (punctuate fresh more) ≡ true =
     ap head_begins (next ∙ append_assoc (json_tokens i) (items_tokens js) (punctuate after_value r))
     ∙ begins_json i (items_tokens js ++ punctuate after_value r) in
-    ap (λ ls. punctuate fresh (ls ++ token json.end_array ∷ r)) (lexed p j h.0 (44 ∷ with_commas (q ∷ ps)))
+    ap (λ ls. punctuate fresh (ls ++ token json.end_array ∷ r)) (lexed p j h.0 (44 ∷ with_commas (q ∷ ps)) refl)
     ∙ ap (punctuate fresh) (append_assoc (lex between p) (comma ∷ lex between (with_commas (q ∷ ps))) (token json.end_array ∷ r))
     ∙ punctuated p j h.0 (comma ∷ more) refl
     ∙ ap (λ ts. json_tokens j ++ ts) (after_comma_is more begins ∙ next)
     ∙ sym (append_assoc (json_tokens j) (items_tokens (item i js)) (punctuate after_value r))
 
--- ---- the text of the array
-
-bracketed : (ps : List (List ℕ)) (js : Items) → ArePieces ps js
-    → lex between (with_commas ps ++ 93 ∷ []) ≡ lex between (with_commas ps) ++ token json.end_array ∷ []
-    → tokens (91 ∷ (with_commas ps ++ 93 ∷ [])) ≡ json_tokens (array js)
-unfolding lex punctuate
-bracketed ps js h apart = ap (λ ls. json.begin_array ∷ punctuate fresh ls) apart
-    ∙ ap (λ ts. json.begin_array ∷ ts) (items_apart ps js h [] ∙ append-nil (items_tokens js))
-
-pub closing : (ps : List (List ℕ)) (js : Items) → ArePieces ps js → (b : List ℕ)
+pub closing : (ps : List (List ℕ)) (js : Items) → ArePieces ps js → (b : List ℕ) → ends_word b ≡ true
     → lex between (with_commas ps ++ b) ≡ lex between (with_commas ps) ++ lex between b
 unfolding lex
-closing [] no_items h b = refl
-closing [] (item j js) h b = absurd h
-closing (p ∷ ps) no_items h b = absurd h
-closing (p ∷ []) (item j js) h b = lexed p j h.0 b
-closing (p ∷ q ∷ ps) (item j no_items) h b = absurd h.1
-closing (p ∷ q ∷ ps) (item j (item i js)) h b =
+closing [] no_items h b stops = refl
+closing [] (item j js) h b stops = absurd h
+closing (p ∷ ps) no_items h b stops = absurd h
+closing (p ∷ []) (item j js) h b stops = lexed p j h.0 b stops
+closing (p ∷ q ∷ ps) (item j no_items) h b stops = absurd h.1
+closing (p ∷ q ∷ ps) (item j (item i js)) h b stops =
     let l = with_commas (q ∷ ps) in
     ap (lex between) (append_assoc p (44 ∷ l) b)
-    ∙ lexed p j h.0 (44 ∷ (l ++ b))
-    ∙ ap (λ ls. lex between p ++ comma ∷ ls) (closing (q ∷ ps) (item i js) h.1 b)
+    ∙ lexed p j h.0 (44 ∷ (l ++ b)) refl
+    ∙ ap (λ ls. lex between p ++ comma ∷ ls) (closing (q ∷ ps) (item i js) h.1 b stops)
     ∙ sym (append_assoc (lex between p) (comma ∷ lex between l) (lex between b))
-    ∙ ap (λ ls. ls ++ lex between b) (sym (lexed p j h.0 (44 ∷ l)))
-
-last_bracket : lex between (93 ∷ []) ≡ token json.end_array ∷ []
-unfolding lex
-last_bracket = refl
+    ∙ ap (λ ls. ls ++ lex between b) (sym (lexed p j h.0 (44 ∷ l) refl))
 
 -- ---- from items as data
 
-record Read (n : ℕ) (p : List ℕ) (d : Data) : Type 0 where
+record Read (p : List ℕ) (d : Data) : Type 0 where
   tree : Json
   piece : Piece p tree
-  shallow : depth tree ≤ n
+  shallow : depth tree ≤ 125
   same : of_json tree ≡ Some d
 
-abbrev pub pick : {A : Type 0} → A → Option A → A
-pick d None = d
-pick d (Some a) = a
+two_brackets : lex between (93 ∷ 93 ∷ []) ≡ token json.end_array ∷ token json.end_array ∷ []
+unfolding lex
+two_brackets = refl
 
-pub found : (r s : List Token) (x : Option Data) (d : Data) → option_map {U = Data × List Token} (λ y. (y, r)) x ≡ Some (d, s) → (r ≡ s) × (x ≡ Some d)
-found r s None d e = absurd (cc)
-found r s (Some y) d e = let same = ap (pick (y, r)) e in (ap (λ p. p.1) same, ap (λ p. Some p.0) same)
+in_brackets : (body : List ℕ) → tokens (91 ∷ 91 ∷ body) ≡ json.begin_array ∷ json.begin_array ∷ punctuate fresh (lex between body)
+unfolding lex punctuate
+in_brackets body = refl
 
-read_item : (n : ℕ) (p : List ℕ) (d : Data) → IsItem n p d → Read n p d
-read_item n p d h = by (value n (tokens p)) refl h.1
-  where
-    by : (o : Option (Json × List Token)) → value n (tokens p) ≡ o → converted of_json o ≡ Some (d, []) → Read n p d
-    by None at e = absurd (cc)
-    by (Some (j, r)) at e =
-        let two = found r [] (of_json j) d e in
-        record {
-          tree = j;
-          piece = record {
-            ended = h.0;
-            spelled = value-json_tokens_back n (tokens p) r j at ∙ ap (λ ts. json_tokens j ++ ts) two.0 ∙ append-nil (json_tokens j);
-          };
-          shallow = value-depth n (tokens p) r j at;
-          same = two.1;
-        }
+closed_twice : (q : Place) → may_close q ≡ true
+    → punctuate q (token json.end_array ∷ token json.end_array ∷ []) ≡ json.end_array ∷ json.end_array ∷ []
+unfolding punctuate
+closed_twice fresh h = refl
+closed_twice after_value h = refl
+closed_twice after_comma h = absurd (false≢true h)
+closed_twice after_key h = absurd (false≢true h)
 
-pub record AllRead (n : ℕ) (ps : List (List ℕ)) (ds : List Data) : Type 0 where
+closes_twice : (q : Place) → are_good_tokens (punctuate q (token json.end_array ∷ token json.end_array ∷ [])) ≡ true → may_close q ≡ true
+unfolding punctuate
+closes_twice fresh h = refl
+closes_twice after_value h = refl
+closes_twice after_comma h = h
+closes_twice after_key h = h
+
+read_element : (p : List ℕ) (d : Data) → IsElement p d → Read p d
+read_element p d h =
+    let text = 91 ∷ 91 ∷ (p ++ 93 ∷ 93 ∷ []) in
+    let ends : List Token = json.end_array ∷ json.end_array ∷ [] in
+    let ms : List Lexeme = token json.end_array ∷ token json.end_array ∷ [] in
+    let ls = lex between p in
+    let w = whole text (in_two_arrays d) h.1 in
+    let outer = array_of_one w.tree _ w.same in
+    let inner = array_of_one outer.0 d outer.2 in
+    let j = inner.0 in
+    let tree_is : w.tree ≡ array (item (array (item j no_items)) no_items) = outer.1 ∙ ap (λ x. array (item x no_items)) inner.1 in
+    let body : punctuate fresh (lex between (p ++ 93 ∷ 93 ∷ [])) ≡ json_tokens j ++ ends =
+    ap (drop 2) (sym (in_brackets (p ++ 93 ∷ 93 ∷ [])) ∙ w.spelled ∙ ap json_tokens tree_is)
+    ∙ append_assoc (json_tokens j) (json.end_array ∷ []) (json.end_array ∷ []) in
+    let fine : are_good_tokens (punctuate fresh (lex between (p ++ 93 ∷ 93 ∷ []))) ≡ true =
+    ap are_good_tokens body ∙ good_joined (json_tokens j) ends (good_json j) refl in
+    let all_good : are_good (lex between ((p ++ 93 ∷ []) ++ 93 ∷ [])) ≡ true =
+    ap (λ l. are_good (lex between l)) (append_assoc p (93 ∷ []) (93 ∷ [])) ∙ good_lexemes fresh _ fine in
+    let good : are_good ls ≡ true = before_bracket between p (before_bracket between (p ++ 93 ∷ []) all_good) in
+    let cut : lex between (p ++ 93 ∷ 93 ∷ []) ≡ ls ++ ms =
+    joined between p (93 ∷ 93 ∷ []) (outside_cut _ (93 ∷ 93 ∷ []) h.0 refl) good ∙ ap (λ l. ls ++ l) two_brackets in
+    let front_fine : are_good_tokens (punctuate fresh ls) ≡ true =
+    good_front ms refl closes_twice fresh ls (ap (λ l. are_good_tokens (punctuate fresh l)) (sym cut) ∙ fine) in
+    let parts : punctuate fresh ls ++ ends ≡ json_tokens j ++ ends =
+    ap (λ ts. punctuate fresh ls ++ ts) (sym (closed_twice (end_place fresh ls) (end_closes ls front_fine)))
+    ∙ sym (apart fresh ls ms front_fine refl) ∙ ap (punctuate fresh) (sym cut) ∙ body in
+    let shallow : depth (array (item (array (item j no_items)) no_items)) ≤ 127 = omega (arith, w.shallow, ap depth tree_is) in
+    record {
+      tree = j;
+      piece = record { outside = h.0; spelled = append_cancel_right (tokens p) (json_tokens j) ends parts; };
+      shallow = omega (arith, shallow);
+      same = inner.2;
+    }
+
+pub record AllRead (ps : List (List ℕ)) (ds : List Data) : Type 0 where
   pub trees : Items
   pub pieces : ArePieces ps trees
-  pub shallow : items_depth trees ≤ n
+  pub shallow : items_depth trees ≤ 125
   pub same : of_items trees ≡ Some (items_of ds)
 
-pub all_read : (n : ℕ) (ps : List (List ℕ)) (ds : List Data) → AreItems n ps ds → AllRead n ps ds
-all_read n [] [] h = record { trees = no_items; pieces = tt; shallow = omega arith; same = refl }
-all_read n [] (d ∷ ds) h = absurd h
-all_read n (p ∷ ps) [] h = absurd h
-all_read n (p ∷ ps) (d ∷ ds) h =
-    let first = read_item n p d h.0 in
-    let rest = all_read n ps ds h.1 in
+pub all_read : (ps : List (List ℕ)) (ds : List Data) → AreElements ps ds → AllRead ps ds
+all_read [] [] h = record { trees = no_items; pieces = tt; shallow = omega arith; same = refl }
+all_read [] (d ∷ ds) h = absurd h
+all_read (p ∷ ps) [] h = absurd h
+all_read (p ∷ ps) (d ∷ ds) h =
+    let first = read_element p d h.0 in
+    let rest = all_read ps ds h.1 in
     record {
       trees = item first.tree rest.trees;
       pieces = (first.piece, rest.pieces);
       shallow = omega (arith, first.shallow, rest.shallow);
       same = rw (first.same, rest.same) refl;
     }
-
-pub read_apart : (ps : List (List ℕ)) (ds : List Data) → AreItems 126 ps ds → read (91 ∷ (with_commas ps ++ 93 ∷ [])) ≡ Some (spec.array (items_of ds))
-read_apart ps ds h =
-    let all = all_read 126 ps ds h in
-    let j = array all.trees in
-    ap (λ ts. option_and_then of_json (option_and_then (λ p. if_last p.0 p.1) (value 127 ts)))
-    (bracketed ps all.trees all.pieces (closing ps all.trees all.pieces (93 ∷ []) ∙ ap (λ ls. lex between (with_commas ps) ++ ls) last_bracket) ∙ sym (append-nil (json_tokens j)))
-    ∙ ap (λ o. option_and_then of_json (option_and_then (λ p. if_last p.0 p.1) o))
-    (value-json_tokens j 127 [] (omega (arith, all.shallow)))
-    ∙ ap (option_map spec.array) all.same

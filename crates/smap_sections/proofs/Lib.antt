@@ -1,7 +1,9 @@
-pub mod Apart
-pub mod Words
-pub mod Placed
-pub mod Places
-pub mod Elements
-pub mod Closed
-pub mod Member
+mod Lexemes
+mod Words
+mod Apart
+mod Closed
+mod Placed
+mod Places
+mod Whole
+mod Elements
+mod Member

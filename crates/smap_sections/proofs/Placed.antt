@@ -5,7 +5,7 @@ use Rattle.json.specs.Token.{Token, begin_object, end_object, begin_array, end_a
 use Rattle.json.specs.Lex.{Lexeme, token, comma, colon, punctuate}
 use Rattle.json.specs.Lex.{Place, fresh, after_value, after_comma, after_key, begins_colon, may_begin, may_close, if_allowed, place_token}
 use Rattle.json.specs.Align.{is_good}
-use Rattle.smap_sections.specs.Cuts.{next_place, end_place, are_good_tokens}
+use Rattle.smap_sections.proofs.Lexemes.{next_place, end_place, are_good_tokens}
 
 pub colon_joined : (ls ms : List Lexeme) → begins_colon ms ≡ false → begins_colon (ls ++ ms) ≡ begins_colon ls
 colon_joined [] ms none = none

@@ -5,7 +5,7 @@ use Rattle.json.specs.Token.{Token, begin_object, end_object, begin_array, end_a
 use Rattle.json.specs.Lex.{Lexeme, token, comma, colon, punctuate}
 use Rattle.json.specs.Lex.{Place, fresh, after_value, after_comma, after_key, begins_colon, may_begin, may_close, if_allowed, place_token}
 use Rattle.json.specs.Align.{is_good}
-use Rattle.smap_sections.specs.Cuts.{next_place, end_place, are_good_tokens, are_good}
+use Rattle.smap_sections.proofs.Lexemes.{next_place, end_place, are_good_tokens, are_good}
 use Rattle.smap_sections.proofs.Placed.{at_token, colon_joined}
 
 abbrev pub place_of : Token → Place
@@ -96,27 +96,53 @@ end_is after_value (colon ∷ ls) good = absurd (false≢true good)
 end_is after_comma (colon ∷ ls) good = absurd (false≢true good)
 end_is after_key (colon ∷ ls) good = end_is fresh ls good
 
--- tokens that are good before a closing brace are good by themselves
-pub good_front : (p : Place) (ls : List Lexeme) → are_good_tokens (punctuate p (ls ++ token end_object ∷ [])) ≡ true → are_good_tokens (punctuate p ls) ≡ true
-unfolding punctuate
-good_front fresh [] good = refl
-good_front after_value [] good = refl
-good_front after_comma [] good = absurd (false≢true good)
-good_front after_key [] good = absurd (false≢true good)
-good_front p (token t ∷ ls) good =
-    let h = at_good p t (ls ++ token end_object ∷ []) good in
-    let c = begins_colon (ls ++ token end_object ∷ []) in
-    let more = good_front (next_place p t c) ls h.rest in
-    ap are_good_tokens (at_token p t ls ∙ ap (λ c. place_token p t c (λ q. punctuate q ls)) (sym (colon_joined ls (token end_object ∷ []) refl))
-    ∙ h.tokens (λ q. punctuate q ls)) ∙ ap₂ (λ a b. a && b) h.fine more
-good_front fresh (comma ∷ ls) good = absurd (false≢true good)
-good_front after_value (comma ∷ ls) good = good_front after_comma ls good
-good_front after_comma (comma ∷ ls) good = absurd (false≢true good)
-good_front after_key (comma ∷ ls) good = absurd (false≢true good)
-good_front fresh (colon ∷ ls) good = absurd (false≢true good)
-good_front after_value (colon ∷ ls) good = absurd (false≢true good)
-good_front after_comma (colon ∷ ls) good = absurd (false≢true good)
-good_front after_key (colon ∷ ls) good = good_front fresh ls good
+-- tokens that are good before closing brackets are good by themselves
+module _ (ms : List Lexeme) (none : begins_colon ms ≡ false)
+    (closes : (p : Place) → are_good_tokens (punctuate p ms) ≡ true → may_close p ≡ true) where
+  pub good_front : (p : Place) (ls : List Lexeme) → are_good_tokens (punctuate p (ls ++ ms)) ≡ true
+      → are_good_tokens (punctuate p ls) ≡ true
+  unfolding punctuate
+  good_front fresh [] good = refl
+  good_front after_value [] good = refl
+  good_front after_comma [] good = absurd (false≢true (closes after_comma good))
+  good_front after_key [] good = absurd (false≢true (closes after_key good))
+  good_front p (token t ∷ ls) good =
+      let h = at_good p t (ls ++ ms) good in
+      let c = begins_colon (ls ++ ms) in
+      let more = good_front (next_place p t c) ls h.rest in
+      ap are_good_tokens (at_token p t ls
+      ∙ ap (λ c. place_token p t c (λ q. punctuate q ls)) (sym (colon_joined ls ms none))
+      ∙ h.tokens (λ q. punctuate q ls)) ∙ ap₂ (λ a b. a && b) h.fine more
+  good_front fresh (comma ∷ ls) good = absurd (false≢true good)
+  good_front after_value (comma ∷ ls) good = good_front after_comma ls good
+  good_front after_comma (comma ∷ ls) good = absurd (false≢true good)
+  good_front after_key (comma ∷ ls) good = absurd (false≢true good)
+  good_front fresh (colon ∷ ls) good = absurd (false≢true good)
+  good_front after_value (colon ∷ ls) good = absurd (false≢true good)
+  good_front after_comma (colon ∷ ls) good = absurd (false≢true good)
+  good_front after_key (colon ∷ ls) good = good_front fresh ls good
+
+-- ---- where a bracket may close
+
+closing_place : (t : Token) → may_close (place_of t) ≡ true
+closing_place begin_object = refl
+closing_place end_object = refl
+closing_place begin_array = refl
+closing_place end_array = refl
+closing_place (key s) = refl
+closing_place (string s) = refl
+closing_place (number s) = refl
+closing_place (boolean b) = refl
+closing_place null = refl
+closing_place bad = refl
+
+pub closes_after : (p : Place) → may_close p ≡ true → (ts : List Token) → may_close (after p ts) ≡ true
+closes_after p h [] = h
+closes_after p h (t ∷ ts) = closes_after (place_of t) (closing_place t) ts
+
+-- after good tokens a bracket may close
+pub end_closes : (ls : List Lexeme) → are_good_tokens (punctuate fresh ls) ≡ true → may_close (end_place fresh ls) ≡ true
+end_closes ls good = ap may_close (end_is fresh ls good) ∙ closes_after fresh refl (punctuate fresh ls)
 
 -- ---- after a comma as at the start of an array, unless a bracket closes
 

@@ -1,4 +1,4 @@
--- A word that has ended stays what it is, whatever follows.
+-- A word stays what it is, whatever follows its end.
 use Rattle.std.proofs.Common.{◌≡◌, ℕ, suc, ◌+◌, ◌≤◌, Bool, true, false, cond, ◌||◌, ◌==◌, List, [], ◌∷◌, ◌++◌, length, take, drop, Option, Some, None, option_and_then, ◌⊎◌, inl, inr, refl, sym, ap, ◌∙◌, subst, arith, append_assoc, take-append-drop}
 use Rattle.std.proofs.lemmas.Bool.{true≢false, false≢true, and_parts, or_cases, eqb-true, leb-true, ne_eqb}
 use Rattle.std.proofs.lemmas.Slice.Eq.{bytes_eq-Decides}
@@ -12,29 +12,35 @@ use Rattle.json.specs.Print.{IsNumber}
 use Rattle.json.specs.Align.{is_good}
 use Rattle.json.proofs.Printed.Numbers.{number_alone, lex-number}
 use Rattle.smap_sections.specs.Cuts.{next, mode_after}
+use Rattle.smap_sections.proofs.Lexemes.{may_cut}
 
 -- an operator or a space stands in the text
 abbrev pub has_end : List ℕ → Bool
 has_end [] = false
 has_end (x ∷ xs) = (is_operator x || is_space x) || has_end xs
 
-pub or_right : (a b : Bool) → b ≡ true → (a || b) ≡ true
-or_right true b h = refl
-or_right false b h = h
+or_later : (a b c : Bool) → (b || c) ≡ true → ((a || b) || c) ≡ true
+or_later true b c h = refl
+or_later false b c h = h
 
-module _ (xs : List ℕ) (more : mode_after in_word xs ≡ between → has_end xs ≡ true) where
-  ended_by : (q b o s : Bool) → mode_after (next in_word (cond q quote (cond b backslash (cond o operator (cond s space other))))) xs ≡ between
-      → ((o || s) || has_end xs) ≡ true
-  ended_by true b o s h = or_right (o || s) (has_end xs) (more h)
-  ended_by false true o s h = or_right (o || s) (has_end xs) (more h)
-  ended_by false false true s h = refl
+-- the word that the text is in ends in it, or with it
+abbrev pub Stops : List ℕ → List ℕ → Type 0
+Stops xs b = (has_end xs || ends_word b) ≡ true
+
+module _ (xs b : List ℕ) (more : may_cut (mode_after in_word xs) b ≡ true → Stops xs b) where
+  ended_by : (q s o p : Bool)
+      → may_cut (mode_after (next in_word (cond q quote (cond s backslash (cond o operator (cond p space other))))) xs) b ≡ true
+      → (((o || p) || has_end xs) || ends_word b) ≡ true
+  ended_by true s o p h = or_later (o || p) (has_end xs) (ends_word b) (more h)
+  ended_by false true o p h = or_later (o || p) (has_end xs) (ends_word b) (more h)
+  ended_by false false true p h = refl
   ended_by false false false true h = refl
   ended_by false false false false h = more h
 
-pub ended : (xs : List ℕ) → mode_after in_word xs ≡ between → has_end xs ≡ true
+pub ended : (xs b : List ℕ) → may_cut (mode_after in_word xs) b ≡ true → Stops xs b
 unfolding mode_after
-ended [] h = absurd cc
-ended (x ∷ xs) h = ended_by xs (ended xs) (x == 34) (x == 92) (is_operator x) (is_space x) h
+ended [] b h = h
+ended (x ∷ xs) b h = ended_by xs b (ended xs b) (x == 34) (x == 92) (is_operator x) (is_space x) h
 
 passed_by : (b : Bool) (s q : List ℕ) → (has_end s ≡ false → has_end (s ++ q) ≡ has_end q) → (b || has_end s) ≡ false
     → (b || has_end (s ++ q)) ≡ has_end q
@@ -137,8 +143,8 @@ number_ends t = then t after_exponent exponent _ (then t after_fraction fraction
 
 -- ---- a good word, by what it is and what follows it
 
-longer : (q b : List ℕ) → has_end q ≡ true → ends_word q ≡ true → ends_word (q ++ b) ≡ true
-longer [] b some h = absurd (false≢true some)
+longer : (q b : List ℕ) → Stops q b → ends_word q ≡ true → ends_word (q ++ b) ≡ true
+longer [] b some h = some
 longer (x ∷ q) b some h = h
 
 pub passed : (b : Bool) (k : Token) → is_good (cond b k bad) ≡ true → b ≡ true
@@ -155,7 +161,10 @@ module _ (b : List ℕ) where
   abbrev Stays : List ℕ → Token → Type 0
   Stays t k = is_good k ≡ true → k ≡ word t → word (t ++ b) ≡ word t
 
-  literal_stays : (name : List ℕ) (k : Token) (t : List ℕ) → has_end t ≡ true
+  stops : (q t : List ℕ) → has_end q ≡ has_end t → Stops t b → Stops q b
+  stops q t same some = ap (λ e. e || ends_word b) same ∙ some
+
+  literal_stays : (name : List ℕ) (k : Token) (t : List ℕ) → Stops t b
       → ((r : List ℕ) → has_end (name ++ r) ≡ has_end r)
       → ((r : List ℕ) → word (name ++ r) ≡ cond (ends_word r) k bad)
       → Stays t (literal name k t)
@@ -164,7 +173,7 @@ module _ (b : List ℕ) where
       let front : name ≡ take (length name) t = (bytes_eq-Decides name (take (length name) t)).0 two.0 in
       let r = drop (length name) t in
       let cut : t ≡ name ++ r = sym (take-append-drop (length name) t) ∙ ap (λ l. l ++ r) (sym front) in
-      let left : has_end r ≡ true = sym (ends r) ∙ ap has_end (sym cut) ∙ some in
+      let left : Stops r b = stops r t (sym (ends r) ∙ ap has_end (sym cut)) some in
       ap (λ l. word (l ++ b)) cut ∙ ap word (append_assoc name r b) ∙ is (r ++ b)
       ∙ ap (λ e. cond e k bad) (longer r b left two.1 ∙ sym two.1) ∙ sym (is r) ∙ ap word (sym cut)
 
@@ -176,20 +185,20 @@ module _ (b : List ℕ) where
   unfolding lex
   lexed_word x xs is = ap (λ c. first (lex_byte between c x xs (λ m. lex m xs))) is
 
-  number_stays : (x : ℕ) (xs : List ℕ) → class x ≡ other → has_end (x ∷ xs) ≡ true → (o : Option (List ℕ)) → after_number (x ∷ xs) ≡ o
+  number_stays : (x : ℕ) (xs : List ℕ) → class x ≡ other → Stops (x ∷ xs) b → (o : Option (List ℕ)) → after_number (x ∷ xs) ≡ o
       → Ends (x ∷ xs) o → Stays (x ∷ xs) (number_before (x ∷ xs) o)
   number_stays x xs is some None at h good same = absurd (false≢true good)
   number_stays x xs is some (Some q) at h good same =
       let t = x ∷ xs in
       let over : ends_word q ≡ true = passed (ends_word q) _ good in
-      let left : has_end q ≡ true = sym (end_joined h.0 q h.2) ∙ ap has_end (sym h.1) ∙ some in
+      let left : Stops q b = stops q t (sym (end_joined h.0 q h.2) ∙ ap has_end (sym h.1)) some in
       let alone : IsNumber h.0 = number_alone h.0 q over (ap after_number (sym h.1) ∙ at) in
       sym (lexed_word x (xs ++ b) is)
       ∙ ap (λ l. first (lex between (l ++ b))) h.1 ∙ ap (λ l. first (lex between l)) (append_assoc h.0 q b)
       ∙ ap first (lex-number h.0 (q ++ b) alone (longer q b left over)) ∙ ap first (sym (lex-number h.0 q alone over))
       ∙ ap (λ l. first (lex between l)) (sym h.1) ∙ lexed_word x xs is
 
-  word_cases : (x : ℕ) (xs : List ℕ) → class x ≡ other → has_end (x ∷ xs) ≡ true → Stays (x ∷ xs) (word (x ∷ xs))
+  word_cases : (x : ℕ) (xs : List ℕ) → class x ≡ other → Stops (x ∷ xs) b → Stays (x ∷ xs) (word (x ∷ xs))
   unfolding word
   word_cases x xs is some =
       let t = x ∷ xs in
@@ -198,7 +207,7 @@ module _ (b : List ℕ) where
       (choose t (x == 110) _ _ (literal_stays (110 ∷ 117 ∷ 108 ∷ 108 ∷ []) null t some (λ r. refl) (λ r. refl))
       (number_stays x xs is some (after_number t) refl (number_ends t))))
 
-pub word_stays : (x : ℕ) (xs b : List ℕ) → class x ≡ other → mode_after in_word xs ≡ between → is_good (word (x ∷ xs)) ≡ true
+pub word_stays : (x : ℕ) (xs b : List ℕ) → class x ≡ other → may_cut (mode_after in_word xs) b ≡ true → is_good (word (x ∷ xs)) ≡ true
     → word (x ∷ (xs ++ b)) ≡ word (x ∷ xs)
 word_stays x xs b is at good =
-    word_cases b x xs is (or_right (is_operator x || is_space x) (has_end xs) (ended xs at)) good refl
+    word_cases b x xs is (or_later (is_operator x || is_space x) (has_end xs) (ends_word b) (ended xs b at)) good refl
