@@ -7,3 +7,4 @@ mod Places
 mod Whole
 mod Elements
 mod Member
+mod CutLemmas
