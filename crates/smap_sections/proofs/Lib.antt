@@ -8,3 +8,4 @@ mod Whole
 mod Elements
 mod Member
 mod CutLemmas
+mod NameLemmas

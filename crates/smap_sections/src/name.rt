@@ -1,17 +1,26 @@
 //! The few places where a cut has to stand at certain tokens: before the member `sections`, and where the map ends.
-ghost use Rattle.std.specs.Prelude.{◌≡◌, ◌∷◌, [], codes, IfSome, IfTrue};
+ghost use Rattle.std.specs.Prelude.{◌≡◌, ◌∷◌, [], codes, IfSome};
+ghost use Rattle.std.specs.Bool.{OnTrue};
 ghost use Rattle.json.specs.Token.{string, begin_array, end_object};
+ghost use Rattle.json.specs.Word.{is_space as is_json_space};
 ghost use Rattle.json.specs.Lex.{between, lex, token, colon};
 
-/// What follows the white space at the start of a text (RFC 8259, section 2).
+/// Whether the byte is white space (RFC 8259, section 2).
+fn is_space(byte: u8) -> bool
+    ensures { result ≡ is_json_space byte }
+{
+    matches!(byte, b' ' | b'\t' | b'\n' | b'\r')
+}
+
+/// What follows the white space at the start of a text.
 fn without_space(text: &[u8]) -> &[u8]
     ensures { lex between result.now ≡ lex between text.now }
 {
-    let mut rest = text;
-    while let [b' ' | b'\t' | b'\n' | b'\r', after @ ..] = rest {
-        rest = after;
+    let mut at = 0;
+    'spaces: while at < text.len() && is_space(text[at]) {
+        at += 1;
     }
-    rest
+    &text[at..]
 }
 
 /// What follows the name `sections` and the bracket that begins an array, if the text starts with these.
@@ -26,7 +35,7 @@ pub(crate) fn after_name(text: &[u8]) -> Option<&[u8]>
 
 /// Whether the text is a closing brace and white space.
 pub(crate) fn ends_map(text: &[u8]) -> bool
-    ensures { IfTrue result (lex between text.now ≡ token end_object ∷ []) }
+    ensures { OnTrue result (lex between text.now ≡ token end_object ∷ []) }
 {
     match without_space(text).strip_prefix(b"}") {
         Some(rest) => without_space(rest).is_empty(),
