@@ -112,7 +112,7 @@ flat_or_index_by file (Some sections) root sources contents names ignored mappin
   members ← index_of file sections
   Ok (index members)
 
-abbrev file_by : (version file : Option Data) → Result (Option (List ℕ)) ShapeFault
+abbrev pub file_by : (version file : Option Data) → Result (Option (List ℕ)) ShapeFault
 file_by version file = do
   _ ← refuse_if Version (not (option_eq nat_eq (option_and_then whole version) (Some 3)))
   or_fault File (optional as_str file)

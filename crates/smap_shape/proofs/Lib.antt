@@ -1,4 +1,5 @@
 mod LimitLemmas
 mod ListLemmas
 mod ContentsLemmas
+mod BesideLemmas
 pub mod Examples

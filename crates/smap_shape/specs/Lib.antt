@@ -4,3 +4,4 @@ pub mod Reading
 pub mod Inside
 pub mod Views
 pub mod Contents
+pub mod Beside

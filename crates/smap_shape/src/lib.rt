@@ -11,6 +11,7 @@
 //! most maps: it moves them out of the tree.
 #![tactic(auto)]
 
+mod beside;
 mod contents;
 mod fault;
 mod flat;
@@ -20,6 +21,7 @@ mod map;
 mod member;
 mod sections;
 
+pub use beside::file_beside_sections;
 pub use contents::split_contents;
 pub use fault::ShapeFault;
 pub use flat::FlatShape;

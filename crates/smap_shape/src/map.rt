@@ -12,7 +12,7 @@ use crate::member::{member, optional_text};
 use serde_json::Value;
 
 /// The file of a map whose version is 3.
-fn file<'v>(tree: &'v Value) -> Result<Option<&'v str>, ShapeFault>
+pub(crate) fn file<'v>(tree: &'v Value) -> Result<Option<&'v str>, ShapeFault>
     ensures { map_value option_copied result ≡ file_of (view tree.now) }
 {
     let version = member(tree, "version").and_then(Value::as_u64);
