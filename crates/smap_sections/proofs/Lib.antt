@@ -9,3 +9,4 @@ mod Elements
 mod Member
 mod CutLemmas
 mod NameLemmas
+mod SectionLemmas

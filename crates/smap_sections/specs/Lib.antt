@@ -1,3 +1,4 @@
 pub mod Cuts
 pub mod Elements
 pub mod Sections
+pub mod ObjectFront

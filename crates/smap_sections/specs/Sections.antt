@@ -15,7 +15,7 @@ pub record AreSections (text : List ℕ) (ds : List Data) : Type 0 where
   pub some : pieces ≡ [] → ⊥
   pub cut : text ≡ with_commas pieces ++ 93 ∷ end
   pub closed : lex between end ≡ token end_object ∷ []
-  pub read : AreElements pieces ds
+  pub reads : AreElements pieces ds
 
 -- the sections of what is left of the text, if something is
 abbrev pub AreLeft : Option (Bor (List ℕ)) → List Data → Type 0

@@ -5,7 +5,7 @@ ghost use Rattle.serde_json.specs.Read.{read};
 ghost use Rattle.serde_json.specs.View.{view};
 ghost use Rattle.smap_shape.specs.Beside.{with_sections};
 ghost use Rattle.smap_sections.specs.Sections.{AreSections, AreLeft};
-ghost use Rattle.smap_sections.specs.Front.{IsFront};
+ghost use Rattle.smap_sections.specs.ObjectFront.{IsFront};
 
 use crate::element::{element, value_of};
 use crate::front::split_at_sections;
