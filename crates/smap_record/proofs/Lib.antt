@@ -22,3 +22,4 @@ pub mod LevelLemmas
 pub mod OneLevelLemmas
 mod Examples
 pub mod StabilityLemmas
+mod ApartLemmas

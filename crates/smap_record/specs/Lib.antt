@@ -23,3 +23,4 @@ pub mod Owned
 pub mod WrittenView
 pub mod Words
 pub mod Messages
+pub mod ReadApart

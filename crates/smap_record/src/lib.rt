@@ -19,6 +19,7 @@ mod map;
 mod path;
 mod reading;
 mod reading_as_written;
+mod section_texts;
 mod sections;
 mod source;
 mod sources;

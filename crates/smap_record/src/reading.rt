@@ -17,6 +17,7 @@ use crate::fault::{Kind, ReadError, refused};
 use crate::flat::flat_map;
 use crate::limits::Limits;
 use crate::map::SourceMap;
+use crate::section_texts::sectioned_map;
 use crate::sections::index_map;
 use crate::source::Base;
 use crate::text::map_tree_of;
@@ -91,6 +92,9 @@ impl SourceMap {
         ensures fits { IfOk result (λ m. Fits base.now limits (record_of m)) }
         ensures listing_fits { IfOk result (λ m. ListingFits base.now limits m.listing) }
     {
+        if let Some(map) = sectioned_map(alloc, bytes, base, limits)? {
+            return Ok(map);
+        }
         let tree = map_tree_of(alloc, bytes)?;
         tree_map_of(alloc, tree, base, limits)
     }
@@ -113,6 +117,9 @@ impl SourceMap {
         ensures fits { IfOk result (λ m. Fits base.now limits (record_of m)) }
         ensures listing_fits { IfOk result (λ m. ListingFits base.now limits m.listing) }
     {
+        if let Some(map) = sectioned_map(alloc, bytes.as_slice(), base, limits)? {
+            return Ok(map);
+        }
         let tree = map_tree_of(alloc, bytes.as_slice())?;
         drop(bytes);
         tree_map_of(alloc, tree, base, limits)

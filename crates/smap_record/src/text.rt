@@ -18,7 +18,7 @@ fn line_feed(bytes: &[u8]) -> Option<usize>
 }
 
 /// What follows the prefix line, if the bytes begin with `)]}'`, and else all bytes.
-fn after_prefix(bytes: &[u8]) -> Result<&[u8], ReadError>
+pub(crate) fn after_prefix(bytes: &[u8]) -> Result<&[u8], ReadError>
     ensures { Returns (λ t. t.now) result (or_fault Prefix (json_text bytes.now)) }
 {
     if !bytes.starts_with(b")]}'") {

@@ -1,0 +1,33 @@
+use Rattle.std.proofs.Common.{◌∙◌, Option, List, ℕ, ap, sym, subst, string_bytes}
+use Rattle.std.specs.Prelude.{option_copied, option_map}
+use Rattle.serde_json.specs.View.{view}
+use Rattle.smap_record.specs.Record.{ReadMap, record_of}
+use Rattle.smap_record.specs.Fitting.{Fits}
+use Rattle.smap_record.specs.MapView.{listing_of}
+use Rattle.smap_record.proofs.ApartLemmas.{reads_as}
+use Rattle.smap_record.proofs.FitLemmas.{fits}
+use Rattle.smap_record.proofs.section_texts.text_map.Goals as goal
+
+abbrev read_map : Option (List ℕ) → ReadMap → ReadMap
+read_map file m = record m { file = file }
+
+pub returns-clause-reads : goal.returns-clause-reads
+returns-clause-reads c =
+    let listed = rw c.in-Some-2.is at c.in_ok-listed.ensures in
+    reads_as c.args.base.now c.args.limits c.args.text.now c.in-Some.sections.now (view c.in-Some.tree)
+    (option_copied c.in-Some-file_beside_sections.file) (listing_of c.in-Some-2.listed) c.new.result
+    (rw c.in-Some.is at c.in_ok-tree.ensures) c.in-Some-file_beside_sections.ensures c.in-Ok.ensures.cases.1
+    listed.reads
+    (c.new.ensures ∙ ap (λ (file : Option (List ℕ)). read_map file (record {
+      file = file;
+      listing = listing_of c.in-Some-2.listed;
+    })) c.in_ok-file.ensures)
+
+pub returns-clause-fits : goal.returns-clause-fits
+returns-clause-fits c =
+    let listed = rw c.in-Some-2.is at c.in_ok-listed.ensures in
+    subst (λ (m : ReadMap). Fits c.args.base.now c.args.limits (record_of m)) (sym c.new.ensures)
+    (fits c.args.base.now c.args.limits (record {
+      file = option_map string_bytes c.in_ok-file.file;
+      listing = listing_of c.in-Some-2.listed;
+    }) listed.fits)
