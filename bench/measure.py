@@ -53,6 +53,12 @@ KINDS = [
         ["check", "tidy", "flatten", "lookup"],
     ),
     (
+        "index map of small sections",
+        ["--index", "--content", "0", "--names", "0"],
+        {"--segments": 100_000, "--sections": 12_500, "--sources": 12_500},
+        ["check", "tidy", "flatten"],
+    ),
+    (
         "bundle with a trace",
         ["--bundle", "--sources", "40", "--names", "2000", "--content", "0"],
         {"--segments": 100_000, "--frames": 100_000},
