@@ -1,5 +1,6 @@
 -- An index map, section by section: what the sections read so far list, and the whole map.
-use Rattle.std.proofs.Common.{◌≡◌, ◌∙◌, ℕ, ◌+◌, ◌<◌, List, [], ◌∷◌, ◌++◌, length, arith, Option, None, Some, Ok, Bor, ap, sym, refl, subst, append_assoc}
+use Rattle.std.proofs.Common.{◌≡◌, ◌∙◌, ℕ, ◌+◌, ◌<◌, List, [], ◌∷◌, ◌++◌, length, arith, Option, None, Some}
+use Rattle.std.proofs.Common.{Ok, Bor, ap, sym, refl, subst, append_assoc}
 use Rattle.std.specs.Prelude.{IsUtf8, IfSome, IfOk, Result, Err}
 use Rattle.url.specs.Parts.{Parts}
 use Rattle.serde_json.specs.Data.{Data}
@@ -49,16 +50,21 @@ module _ (inner : Inner) where
     lists = λ ds. ap (λ l. listed_sections 1 inner start 0 None l ds) (sym is);
   }
 
-  lists_one : (k : ℕ) (last : Option Position) (before : Listing) (d : Data) (ds : List Data) (own : Position) (now : Listing)
+  lists_one : (k : ℕ) (last : Option Position) (before : Listing) (d : Data) (ds : List Data)
+      (own : Position) (now : Listing)
       → listed_section 1 inner start last before d ≡ Ok (own, now)
-      → listed_sections 1 inner start k last before (d ∷ ds) ≡ listed_sections 1 inner start (k + 1) (Some own) now ds
+      → listed_sections 1 inner start k last before (d ∷ ds)
+      ≡ listed_sections 1 inner start (k + 1) (Some own) now ds
   unfolding listed_sections
-  lists_one k last before d ds own now ok = ap (λ (r : Checked (Position × Listing)). in_section k r >>= λ now.
+  lists_one k last before d ds own now ok =
+      ap (λ (r : Checked (Position × Listing)). in_section k r >>= λ now.
       listed_sections 1 inner start (k + 1) (Some now.0) now.1 ds) ok
 
   -- one section more
-  pub one_more : (text : List ℕ) (part : Bor (List ℕ)) (after : Option (Bor (List ℕ))) (last : Option Position)
-      (before : Listing) (d : Data) (own : Position) (now : Listing) → SoFar inner text (Some part) last before
+  pub one_more : (text : List ℕ) (part : Bor (List ℕ)) (after : Option (Bor (List ℕ)))
+      (last : Option Position)
+      (before : Listing) (d : Data) (own : Position) (now : Listing)
+          → SoFar inner text (Some part) last before
       → ((ds : List Data) → AreLeft after ds → AreSections part.now (d ∷ ds))
       → listed_section 1 inner start last before d ≡ Ok (own, now) → SoFar inner text after (Some own) now
   one_more text part after last before d own now so_far reads ok =
@@ -89,10 +95,12 @@ all_lists base limits text last listing so_far = (
 -- ---- the whole map
 
 -- a text whose members besides the sections are those of an index map
-pub reads_as : (base : Parts) (limits : Allowed) (text sections : List ℕ) (tree : Data) (file : Option (List ℕ))
+pub reads_as : (base : Parts) (limits : Allowed) (text sections : List ℕ) (tree : Data)
+    (file : Option (List ℕ))
     (listing : Listing) (m : ReadMap)
     → ((ds : List Data) → AreSections sections ds → read text ≡ Some (with_sections ds tree))
-    → ((ds : List Data) → shape_of (with_sections ds tree) ≡ Ok (index (record { file = file; sections = ds; })))
+    → ((ds : List Data) → shape_of (with_sections ds tree)
+    ≡ Ok (index (record { file = file; sections = ds; })))
     → IsUtf8 text → Lists base limits sections listing
     → m ≡ record { file = file; listing = listing; } → ReadsAs base limits text m
 reads_as base limits text sections tree file listing m reads shape utf8 lists is =
@@ -101,7 +109,8 @@ reads_as base limits text sections tree file listing m reads shape utf8 lists is
     (
       with_sections ds tree,
       tree_read text (with_sections ds tree) utf8 (reads ds lists.1),
-      then_ok _ (index (record { file = file; sections = ds; })) (map_of base limits) _ (ap of_shape (shape ds))
+      then_ok _ (index (record { file = file; sections = ds; })) (map_of base limits) _
+          (ap of_shape (shape ds))
           (then_ok _ listing made _ lists.2 (ap read_map (sym is))),
     )
   where
@@ -110,13 +119,15 @@ reads_as base limits text sections tree file listing m reads shape utf8 lists is
 
 -- the bytes of a map, from its text
 pub text_reads : (base : Parts) (limits : Allowed) (bytes text : List ℕ) (m : ReadMap)
-    → or_fault Prefix (json_text bytes) ≡ Ok text → ReadsAs base limits text m → reading base limits bytes ≡ Ok m
+    → or_fault Prefix (json_text bytes) ≡ Ok text → ReadsAs base limits text m
+    → reading base limits bytes ≡ Ok m
 unfolding reading
 text_reads base limits bytes text m prefix reads =
     then_ok _ reads.0 (tree_map base limits) _
     (then_ok _ text (λ t. or_fault Json (tree_of t)) _ prefix (ap (or_fault Json) reads.1)) reads.2
 
-pub map_reads : {E : Type 0} (base : Parts) (limits : Allowed) (bytes text : List ℕ) (r : Result (Option ReadMap) E)
+pub map_reads : {E : Type 0} (base : Parts) (limits : Allowed) (bytes text : List ℕ)
+    (r : Result (Option ReadMap) E)
     → or_fault Prefix (json_text bytes) ≡ Ok text → IfOk r (λ o. IfSome o (λ m. ReadsAs base limits text m))
     → IfOk r (λ o. IfSome o (λ m. reading base limits bytes ≡ Ok m))
 map_reads base limits bytes text (Ok (Some m)) prefix reads = text_reads base limits bytes text m prefix reads

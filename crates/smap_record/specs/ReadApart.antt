@@ -10,8 +10,8 @@ use Rattle.smap_record.specs.Flat.{start, nothing}
 use Rattle.smap_record.specs.Sections.{map_at_level, listed_section, listed_sections}
 use Rattle.smap_record.specs.Reading.{tree_of, tree_map}
 
--- The text reads as a section and those of what is left of it. The section, after one with the own offset `last`
--- and after what is listed before it, has this own offset, and this is listed once it is added.
+-- The text reads as a section and those of what is left of it. The section, after one with the own offset
+-- `last` and after what is listed before it, has this own offset, and this is listed once it is added.
 abbrev pub AddsSection : Parts → Allowed → List ℕ → Option Position → Listing → Position → Listing
     → Option (Bor (List ℕ)) → Type 0
 AddsSection base limits text last before own now left = (d : Data)

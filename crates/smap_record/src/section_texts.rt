@@ -1,6 +1,6 @@
-//! An index map, read section by section from its text: the tree of each section is freed before the next section
-//! is read. Only a map without a fault is read so, and only where its text can be cut. Any other text is left to
-//! those who read it as a whole, so that each fault is found in its order.
+//! An index map, read section by section from its text: the tree of each section is freed before the next
+//! section is read. Only a map without a fault is read so, and only where its text can be cut. Any other text
+//! is left to those who read it as a whole, so that each fault is found in its order.
 ghost use Rattle.std.specs.Prelude.{◌≡◌, ◌<◌, IfSome, IfOk, Ok, length};
 ghost use Rattle.smap_record.specs.Record.{record_of};
 ghost use Rattle.smap_record.specs.Reading.{reading};
@@ -21,12 +21,13 @@ use smap_sections::{cut_sections, next_section};
 use smap_shape::file_beside_sections;
 use std::alloc::{AllocError, Global};
 
-/// What a section of an index map is read to: its own offset, what is listed once it is added, and what is left of
-/// the text, which is none after the last section.
+/// What a section of an index map is read to: its own offset, what is listed once it is added, and what is
+/// left of the text, which is none after the last section.
 type Read<'t> = (Position, Listing, Option<&'t [u8]>);
 
-/// The first section of a text, added to what is listed before it; none if the text can't be cut after it, or if it
-/// isn't read or has a fault. `last` is the own offset of the previous section, and `room` is for the section's text.
+/// The first section of a text, added to what is listed before it; none if the text can't be cut after it, or
+/// if it isn't read or has a fault. `last` is the own offset of the previous section, and `room` is for the
+/// section's text.
 fn with_text<'t>(
     alloc: Global,
     room: &mut Vec<u8>,
@@ -54,7 +55,8 @@ fn with_text<'t>(
     }
 }
 
-/// What the sections of a text list; none if the text can't be cut at them, or if one isn't read or has a fault.
+/// What the sections of a text list; none if the text can't be cut at them, or if one isn't read or has a
+/// fault.
 fn listed_texts(
     alloc: Global,
     text: &[u8],

@@ -1,12 +1,16 @@
 -- A text before a closing bracket is lexed by itself as it is before the bracket.
-use Rattle.std.proofs.Common.{◌≡◌, ℕ, Bool, true, false, cond, ◌&&◌, ◌||◌, ◌==◌, nat_lt, List, [], ◌∷◌, ◌++◌, length, take, drop, Option, Some, None, option_and_then, refl, sym, ap, ap₂, ◌∙◌, subst, take-append-drop}
+use Rattle.std.proofs.Common.{◌≡◌, ℕ, Bool, true, false, cond, ◌&&◌, ◌||◌, ◌==◌, nat_lt, List, [], ◌∷◌, ◌++◌}
+use Rattle.std.proofs.Common.{length, take, drop, Option, Some, None, option_and_then, refl, sym, ap, ap₂}
+use Rattle.std.proofs.Common.{◌∙◌, subst, take-append-drop}
 use Rattle.std.proofs.lemmas.Bool.{true≢false, false≢true, and_parts}
 use Rattle.std.proofs.lemmas.Slice.Eq.{bytes_eq-Decides}
 use Rattle.std.specs.Char.{is_digit, encode_utf8}
 use Rattle.json.specs.Token.{Token, boolean, null, bad}
-use Rattle.json.specs.Text.{code_unit, short_escape, is_high_surrogate, is_low_surrogate, surrogate_pair, Within, plain, after_backslash, after_u, after_high, content}
+use Rattle.json.specs.Text.{code_unit, short_escape, is_high_surrogate, is_low_surrogate, surrogate_pair}
+use Rattle.json.specs.Text.{Within, plain, after_backslash, after_u, after_high, content}
 use Rattle.json.specs.Word.{is_operator, is_space, ends_word, after_number, number_before, literal, word}
-use Rattle.json.specs.Lex.{Class, quote, backslash, operator, space, other, class, operator_lexeme, string_token}
+use Rattle.json.specs.Lex.{Class, quote, backslash, operator, space, other, class, operator_lexeme}
+use Rattle.json.specs.Lex.{string_token}
 use Rattle.json.specs.Lex.{Mode, between, in_word, in_string, in_escape, lex, lex_byte}
 use Rattle.json.specs.Print.{IsNumber}
 use Rattle.json.specs.Align.{is_good}
@@ -21,7 +25,8 @@ dropped : (b : Bool) (x : Option (List ℕ)) → x ≡ None → Keeps (cond b x 
 dropped true x e = subst (λ (o : Option (List ℕ)). Keeps o None) (sym e) tt
 dropped false x e = tt
 
-module _ (c : ℕ) (plain_end : content plain (c ∷ []) ≡ None) (escape_end : content after_backslash (c ∷ []) ≡ None)
+module _ (c : ℕ) (plain_end : content plain (c ∷ []) ≡ None)
+    (escape_end : content after_backslash (c ∷ []) ≡ None)
     (no_hex : (p q r : ℕ) → code_unit p q r c ≡ None) where
   content_back : (w : Within) (xs : List ℕ) → Keeps (content w (xs ++ c ∷ [])) (content w xs)
   unfolding content
@@ -45,12 +50,15 @@ module _ (c : ℕ) (plain_end : content plain (c ∷ []) ≡ None) (escape_end :
   content_back (after_high h) (s ∷ u ∷ []) = tt
   content_back (after_high h) (s ∷ u ∷ p ∷ []) = tt
   content_back (after_high h) (s ∷ u ∷ p ∷ q ∷ []) = tt
-  content_back (after_high h) (s ∷ u ∷ p ∷ q ∷ r ∷ []) = dropped ((s == 92) && (u == 117)) _ (ap (option_and_then _) (no_hex p q r))
+  content_back (after_high h) (s ∷ u ∷ p ∷ q ∷ r ∷ []) =
+      dropped ((s == 92) && (u == 117)) _ (ap (option_and_then _) (no_hex p q r))
   content_back (after_high h) (s ∷ u ∷ p ∷ q ∷ r ∷ t ∷ xs) =
-      both ((s == 92) && (u == 117)) _ _ _ _ (then _ _ (code_unit p q r t) (λ l. both (is_low_surrogate l) _ _ _ _
+      both ((s == 92) && (u == 117)) _ _ _ _
+          (then _ _ (code_unit p q r t) (λ l. both (is_low_surrogate l) _ _ _ _
       (longer (encode_utf8 (surrogate_pair h l)) _ _ (content_back plain xs)) tt)) tt
 
-good_string : (o q : Option (List ℕ)) → Keeps o q → is_good (string_token o) ≡ true → is_good (string_token q) ≡ true
+good_string : (o q : Option (List ℕ)) → Keeps o q → is_good (string_token o) ≡ true
+    → is_good (string_token q) ≡ true
 good_string None q keeps good = absurd (false≢true good)
 good_string (Some s) q keeps good = ap (λ o. is_good (string_token o)) keeps
 
@@ -94,7 +102,8 @@ module _ (c : ℕ) (stops : (is_operator c || is_space c) ≡ true) where
       let two = and_parts _ _ (passed _ k good) in
       let all = t ++ b in
       let front : name ≡ take (length name) all = (bytes_eq-Decides name (take (length name) all)).0 two.0 in
-      let cut : all ≡ name ++ drop (length name) all = sym (take-append-drop (length name) all) ∙ ap (λ l. l ++ drop (length name) all) (sym front) in
+      let cut : all ≡ name ++ drop (length name) all =
+          sym (take-append-drop (length name) all) ∙ ap (λ l. l ++ drop (length name) all) (sym front) in
       let at = front_of t name (drop (length name) all) cut none in
       let end : ends_word at.0 ≡ true = over at.0 b (ap ends_word (sym at.2) ∙ two.1) in
       ap (λ l. is_good (word l)) at.1 ∙ ap is_good (is at.0 ∙ ap (λ e. cond e k bad) end) ∙ fine
@@ -104,21 +113,25 @@ module _ (c : ℕ) (stops : (is_operator c || is_space c) ≡ true) where
   choose_back t false x y f g = g
 
   number_back : (x : ℕ) (xs : List ℕ) → class x ≡ other → (o : Option (List ℕ))
-      → after_number (x ∷ (xs ++ b)) ≡ o → Ends (x ∷ (xs ++ b)) o → Back (x ∷ xs) (number_before (x ∷ (xs ++ b)) o)
+      → after_number (x ∷ (xs ++ b)) ≡ o → Ends (x ∷ (xs ++ b)) o
+      → Back (x ∷ xs) (number_before (x ∷ (xs ++ b)) o)
   number_back x xs is None at h good = absurd (false≢true good)
   number_back x xs is (Some q) at h good =
       let end : ends_word q ≡ true = passed (ends_word q) _ good in
       let alone : IsNumber h.0 = number_alone h.0 q end (ap after_number (sym h.1) ∙ at) in
       let part = front_of (x ∷ xs) h.0 q h.1 h.2 in
       let last : ends_word part.0 ≡ true = over part.0 b (ap ends_word (sym part.2) ∙ end) in
-      ap is_good (sym (lexed_word b x xs is) ∙ ap (λ l. first (lex between l)) part.1 ∙ ap first (lex-number h.0 part.0 alone last))
+      ap is_good (sym (lexed_word b x xs is) ∙ ap (λ l. first (lex between l)) part.1
+          ∙ ap first (lex-number h.0 part.0 alone last))
 
   word_back : (x : ℕ) (xs : List ℕ) → class x ≡ other → Back (x ∷ xs) (word (x ∷ (xs ++ b)))
   unfolding word
   word_back x xs is =
       let t = x ∷ xs in
-      choose_back t (x == 116) _ _ (literal_back (116 ∷ 114 ∷ 117 ∷ 101 ∷ []) (boolean true) t refl refl (λ r. refl))
-      (choose_back t (x == 102) _ _ (literal_back (102 ∷ 97 ∷ 108 ∷ 115 ∷ 101 ∷ []) (boolean false) t refl refl (λ r. refl))
+      choose_back t (x == 116) _ _
+          (literal_back (116 ∷ 114 ∷ 117 ∷ 101 ∷ []) (boolean true) t refl refl (λ r. refl))
+      (choose_back t (x == 102) _ _
+          (literal_back (102 ∷ 97 ∷ 108 ∷ 115 ∷ 101 ∷ []) (boolean false) t refl refl (λ r. refl))
       (choose_back t (x == 110) _ _ (literal_back (110 ∷ 117 ∷ 108 ∷ 108 ∷ []) null t refl refl (λ r. refl))
       (number_back x xs is (after_number (t ++ b)) refl (number_ends (t ++ b)))))
 
@@ -135,7 +148,8 @@ module _ (c : ℕ) (stops : (is_operator c || is_space c) ≡ true)
       → are_good (lex_byte m k x xs (λ n. lex n xs)) ≡ true
   by_class between quote x xs is more good =
       let p = and_parts (is_good (string_token (content plain (xs ++ c ∷ [])))) _ good in
-      ap₂ (λ a b. a && b) (good_string _ _ (content_back c plain_end escape_end no_hex plain xs) p.0) (more in_string p.1)
+      ap₂ (λ a b. a && b) (good_string _ _ (content_back c plain_end escape_end no_hex plain xs) p.0)
+          (more in_string p.1)
   by_class between backslash x xs is more good = absurd (false≢true good)
   by_class between operator x xs is more good =
       let p = and_parts (is_good_lexeme (operator_lexeme x)) _ good in
@@ -168,10 +182,14 @@ never true = refl
 never false = refl
 
 -- before a bracket
-pub before_brace : (m : Mode) (xs : List ℕ) → are_good (lex m (xs ++ 125 ∷ [])) ≡ true → are_good (lex m xs) ≡ true
+pub before_brace : (m : Mode) (xs : List ℕ) → are_good (lex m (xs ++ 125 ∷ [])) ≡ true
+    → are_good (lex m xs) ≡ true
 unfolding content short_escape code_unit
-before_brace = good_front 125 refl refl refl (λ p q r. rw (never (is_digit p 16 && is_digit q 16 && is_digit r 16)) refl)
+before_brace = good_front 125 refl refl refl
+    (λ p q r. rw (never (is_digit p 16 && is_digit q 16 && is_digit r 16)) refl)
 
-pub before_bracket : (m : Mode) (xs : List ℕ) → are_good (lex m (xs ++ 93 ∷ [])) ≡ true → are_good (lex m xs) ≡ true
+pub before_bracket : (m : Mode) (xs : List ℕ) → are_good (lex m (xs ++ 93 ∷ [])) ≡ true
+    → are_good (lex m xs) ≡ true
 unfolding content short_escape code_unit
-before_bracket = good_front 93 refl refl refl (λ p q r. rw (never (is_digit p 16 && is_digit q 16 && is_digit r 16)) refl)
+before_bracket = good_front 93 refl refl refl
+    (λ p q r. rw (never (is_digit p 16 && is_digit q 16 && is_digit r 16)) refl)

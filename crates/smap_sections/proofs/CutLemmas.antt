@@ -1,5 +1,7 @@
 -- Where the lexer stands while a text is passed over.
-use Rattle.std.proofs.Common.{◌≡◌, ℕ, zero, suc, ◌+◌, ◌-◌, ◌<◌, Bool, true, false, cond, not, ◌||◌, ◌==◌, List, [], ◌∷◌, ◌++◌, ◌⊎◌, inl, inr, length, take, drop, get_or, refl, sym, ap, ◌∙◌, arith, length-drop}
+use Rattle.std.proofs.Common.{◌≡◌, ℕ, zero, suc, ◌+◌, ◌-◌, ◌<◌, Bool, true, false, cond, not, ◌||◌, ◌==◌}
+use Rattle.std.proofs.Common.{List, [], ◌∷◌, ◌++◌, ◌⊎◌, inl, inr, length, take, drop, get_or, refl, sym, ap}
+use Rattle.std.proofs.Common.{◌∙◌, arith, length-drop}
 use Rattle.std.proofs.lemmas.Bool.{false≢true, eqb-true, ne_eqb}
 use Rattle.std.proofs.Math.Seq.{take-add, take-suc, take-length}
 use Rattle.json.specs.Word.{is_operator, is_space}
@@ -16,7 +18,8 @@ mode_joined m (x ∷ a) b = mode_joined (next m (class x)) a b
 -- the front of a text, with what follows it
 pub mode_further : (m : Mode) (text : List ℕ) (i n : ℕ)
     → mode_after m (take (i + n) text) ≡ mode_after (mode_after m (take i text)) (take n (drop i text))
-mode_further m text i n = ap (mode_after m) (take-add i n text) ∙ mode_joined m (take i text) (take n (drop i text))
+mode_further m text i n =
+    ap (mode_after m) (take-add i n text) ∙ mode_joined m (take i text) (take n (drop i text))
 
 -- the front of a text, with one byte more
 pub mode_next : (m : Mode) (text : List ℕ) (i : ℕ) → i < length text
@@ -53,7 +56,8 @@ plain_bytes (x ∷ xs) (suc i) none =
 pub at_quote : (m : Mode) (x : ℕ) → m ≡ in_string → x ≡ 34 → next m (class x) ≡ between
 at_quote m x inside is = ap (λ n. next n (class x)) inside ∙ ap (λ y. next in_string (class y)) is
 
-pub at_backslash : (m : Mode) (x : ℕ) → m ≡ in_string → is_byte2 34 92 x ≡ true → (x ≡ 34 → ⊥) → next m (class x) ≡ in_escape
+pub at_backslash : (m : Mode) (x : ℕ) → m ≡ in_string → is_byte2 34 92 x ≡ true → (x ≡ 34 → ⊥)
+    → next m (class x) ≡ in_escape
 at_backslash m x inside is other_byte =
     let one : (x == 34) ≡ false = ne_eqb x 34 other_byte in
     let two : (x == 92) ≡ true = sym (ap (λ b. b || (x == 92)) one) ∙ is in
@@ -87,7 +91,8 @@ unfolding ends
 word_step w x known = by w (x == 34) (x == 92) (is_operator x) (is_space x)
     (λ is. ap ends (eqb-true x 34 is)) (λ is. ap ends (eqb-true x 92 is)) (λ is. known (eqb-true x 34 is))
   where
-    by : (w q s o p : Bool) → (q ≡ true → (o || p) ≡ false) → (s ≡ true → (o || p) ≡ false) → (q ≡ true → w ≡ true)
+    by : (w q s o p : Bool) → (q ≡ true → (o || p) ≡ false) → (s ≡ true → (o || p) ≡ false)
+        → (q ≡ true → w ≡ true)
         → next (word_mode w) (cond q quote (cond s backslash (cond o operator (cond p space other))))
         ≡ word_mode (not (o || p))
     by true true s o p f g h = ap (λ b. word_mode (not b)) (sym (f refl))

@@ -1,5 +1,6 @@
 -- Items by themselves, and in their array.
-use Rattle.std.proofs.Common.{◌≡◌, ℕ, ◌≤◌, Bool, true, false, ◌&&◌, List, [], ◌∷◌, ◌++◌, drop, Some, refl, sym, ap, ap₂, ◌∙◌, arith, append_assoc, append-nil}
+use Rattle.std.proofs.Common.{◌≡◌, ℕ, ◌≤◌, Bool, true, false, ◌&&◌, List, [], ◌∷◌, ◌++◌, drop, Some, refl}
+use Rattle.std.proofs.Common.{sym, ap, ap₂, ◌∙◌, arith, append_assoc, append-nil}
 use Rattle.std.proofs.lemmas.Bool.{false≢true}
 use Rattle.std.proofs.lemmas.List.{append_cancel_right}
 use Rattle.std.specs.Prelude.{⊤}
@@ -8,7 +9,8 @@ use Rattle.json.specs.Token.{Token}
 use Rattle.json.specs.Word.{ends_word}
 use Rattle.json.specs.Lex.{Lexeme, token, comma, between, lex, punctuate, tokens}
 use Rattle.json.specs.Lex.{Place, fresh, after_value, after_comma, after_key, begins_colon, may_close}
-use Rattle.json.specs.Json.{Json, null, boolean, number, string, array, object, Items, no_items, item, Members, no_members, member}
+use Rattle.json.specs.Json.{Json, null, boolean, number, string, array, object, Items, no_items, item}
+use Rattle.json.specs.Json.{Members, no_members, member}
 use Rattle.json.specs.Tree.{json_tokens, items_tokens, members_tokens, depth, items_depth}
 use Rattle.json.specs.Align.{is_good}
 use Rattle.serde_json.specs.Data.{Data}
@@ -19,16 +21,20 @@ use Rattle.smap_sections.specs.Elements.{with_commas, in_two_arrays, IsElement, 
 use Rattle.smap_sections.proofs.Lexemes.{outside_cut, end_place, are_good, are_good_tokens}
 use Rattle.smap_sections.proofs.Apart.{joined}
 use Rattle.smap_sections.proofs.Placed.{apart}
-use Rattle.smap_sections.proofs.Places.{after, head_begins, good_lexemes, good_front, end_is, end_closes, after_comma_is}
+use Rattle.smap_sections.proofs.Places.{after, head_begins, good_lexemes, good_front, end_is, end_closes}
+use Rattle.smap_sections.proofs.Places.{after_comma_is}
 use Rattle.smap_sections.proofs.Closed.{before_bracket}
 use Rattle.smap_sections.proofs.Whole.{whole, array_of_one}
 
-good_joined : (ts us : List Token) → are_good_tokens ts ≡ true → are_good_tokens us ≡ true → are_good_tokens (ts ++ us) ≡ true
+good_joined : (ts us : List Token) → are_good_tokens ts ≡ true → are_good_tokens us ≡ true
+    → are_good_tokens (ts ++ us) ≡ true
 good_joined [] us h k = k
 good_joined (t ∷ ts) us h k = by (is_good t) ts us (good_joined ts us) h k
   where
-    by : (b : Bool) (ts us : List Token) → (are_good_tokens ts ≡ true → are_good_tokens us ≡ true → are_good_tokens (ts ++ us) ≡ true)
-        → (b && are_good_tokens ts) ≡ true → are_good_tokens us ≡ true → (b && are_good_tokens (ts ++ us)) ≡ true
+    by : (b : Bool) (ts us : List Token)
+        → (are_good_tokens ts ≡ true → are_good_tokens us ≡ true → are_good_tokens (ts ++ us) ≡ true)
+        → (b && are_good_tokens ts) ≡ true → are_good_tokens us ≡ true
+        → (b && are_good_tokens (ts ++ us)) ≡ true
     by true ts us more h k = more h k
     by false ts us more h k = absurd (false≢true h)
 
@@ -47,10 +53,12 @@ mutual
 
   good_members : (ms : Members) → are_good_tokens (members_tokens ms) ≡ true
   good_members no_members = refl
-  good_members (member k j ms) = good_joined (json_tokens j) (members_tokens ms) (good_json j) (good_members ms)
+  good_members (member k j ms) =
+      good_joined (json_tokens j) (members_tokens ms) (good_json j) (good_members ms)
 
 mutual
-  pub after_json : (j : Json) (p : Place) (ts : List Token) → after p (json_tokens j ++ ts) ≡ after after_value ts
+  pub after_json : (j : Json) (p : Place) (ts : List Token)
+      → after p (json_tokens j ++ ts) ≡ after after_value ts
   after_json null p ts = refl
   after_json (boolean b) p ts = refl
   after_json (number s) p ts = refl
@@ -58,12 +66,14 @@ mutual
   after_json (array js) p ts = after_items js fresh ts
   after_json (object ms) p ts = after_members ms fresh ts
 
-  after_items : (js : Items) (p : Place) (ts : List Token) → after p (items_tokens js ++ ts) ≡ after after_value ts
+  after_items : (js : Items) (p : Place) (ts : List Token)
+      → after p (items_tokens js ++ ts) ≡ after after_value ts
   after_items no_items p ts = refl
   after_items (item j js) p ts = ap (after p) (append_assoc (json_tokens j) (items_tokens js) ts)
       ∙ after_json j p (items_tokens js ++ ts) ∙ after_items js after_value ts
 
-  after_members : (ms : Members) (p : Place) (ts : List Token) → after p (members_tokens ms ++ ts) ≡ after after_value ts
+  after_members : (ms : Members) (p : Place) (ts : List Token)
+      → after p (members_tokens ms ++ ts) ≡ after after_value ts
   after_members no_members p ts = refl
   after_members (member k j ms) p ts = ap (after fresh) (append_assoc (json_tokens j) (members_tokens ms) ts)
       ∙ after_json j fresh (members_tokens ms ++ ts) ∙ after_members ms after_value ts
@@ -88,13 +98,15 @@ module _ (p : List ℕ) (j : Json) (piece : Piece p j) where
 
   -- what follows it
   lexed : (b : List ℕ) → ends_word b ≡ true → lex between (p ++ b) ≡ lex between p ++ lex between b
-  lexed b stops = joined between p b (outside_cut _ b piece.outside stops) (good_lexemes fresh (lex between p) good)
+  lexed b stops = joined between p b (outside_cut _ b piece.outside stops)
+      (good_lexemes fresh (lex between p) good)
 
   ends : end_place fresh (lex between p) ≡ after_value
   ends = end_is fresh (lex between p) good
       ∙ ap (after fresh) (piece.spelled ∙ sym (append-nil (json_tokens j))) ∙ after_json j fresh []
 
-  punctuated : (r : List Lexeme) → begins_colon r ≡ false → punctuate fresh (lex between p ++ r) ≡ json_tokens j ++ punctuate after_value r
+  punctuated : (r : List Lexeme) → begins_colon r ≡ false
+      → punctuate fresh (lex between p ++ r) ≡ json_tokens j ++ punctuate after_value r
   punctuated r none = apart fresh (lex between p) r good none
       ∙ ap₂ (λ ts q. ts ++ punctuate q r) piece.spelled ends
 
@@ -104,12 +116,14 @@ ArePieces [] (item j js) = ⊥
 ArePieces (p ∷ ps) no_items = ⊥
 ArePieces (p ∷ ps) (item j js) = Piece p j × ArePieces ps js
 
-closed : (r : List Lexeme) → punctuate after_value (token json.end_array ∷ r) ≡ json.end_array ∷ punctuate after_value r
+closed : (r : List Lexeme)
+    → punctuate after_value (token json.end_array ∷ r) ≡ json.end_array ∷ punctuate after_value r
 unfolding punctuate
 closed r = refl
 
 pub items_apart : (ps : List (List ℕ)) (js : Items) → ArePieces ps js → (r : List Lexeme)
-    → punctuate fresh (lex between (with_commas ps) ++ token json.end_array ∷ r) ≡ items_tokens js ++ punctuate after_value r
+    → punctuate fresh (lex between (with_commas ps) ++ token json.end_array ∷ r)
+    ≡ items_tokens js ++ punctuate after_value r
 unfolding lex punctuate
 items_apart [] no_items h r = refl
 items_apart [] (item j js) h r = absurd h
@@ -121,12 +135,15 @@ items_apart (p ∷ []) (item j (item i js)) h r = absurd h.1
 items_apart (p ∷ q ∷ ps) (item j no_items) h r = absurd h.1
 items_apart (p ∷ q ∷ ps) (item j (item i js)) h r =
     let more = lex between (with_commas (q ∷ ps)) ++ token json.end_array ∷ r in
-    let next : punctuate fresh more ≡ items_tokens (item i js) ++ punctuate after_value r = items_apart (q ∷ ps) (item i js) h.1 r in
+    let next : punctuate fresh more ≡ items_tokens (item i js) ++ punctuate after_value r =
+        items_apart (q ∷ ps) (item i js) h.1 r in
     let begins : head_begins (punctuate fresh more) ≡ true =
     ap head_begins (next ∙ append_assoc (json_tokens i) (items_tokens js) (punctuate after_value r))
     ∙ begins_json i (items_tokens js ++ punctuate after_value r) in
-    ap (λ ls. punctuate fresh (ls ++ token json.end_array ∷ r)) (lexed p j h.0 (44 ∷ with_commas (q ∷ ps)) refl)
-    ∙ ap (punctuate fresh) (append_assoc (lex between p) (comma ∷ lex between (with_commas (q ∷ ps))) (token json.end_array ∷ r))
+    ap (λ ls. punctuate fresh (ls ++ token json.end_array ∷ r))
+        (lexed p j h.0 (44 ∷ with_commas (q ∷ ps)) refl)
+    ∙ ap (punctuate fresh) (append_assoc (lex between p) (comma ∷ lex between (with_commas (q ∷ ps)))
+    (token json.end_array ∷ r))
     ∙ punctuated p j h.0 (comma ∷ more) refl
     ∙ ap (λ ts. json_tokens j ++ ts) (after_comma_is more begins ∙ next)
     ∙ sym (append_assoc (json_tokens j) (items_tokens (item i js)) (punctuate after_value r))
@@ -159,7 +176,8 @@ two_brackets : lex between (93 ∷ 93 ∷ []) ≡ token json.end_array ∷ token
 unfolding lex
 two_brackets = refl
 
-in_brackets : (body : List ℕ) → tokens (91 ∷ 91 ∷ body) ≡ json.begin_array ∷ json.begin_array ∷ punctuate fresh (lex between body)
+in_brackets : (body : List ℕ)
+    → tokens (91 ∷ 91 ∷ body) ≡ json.begin_array ∷ json.begin_array ∷ punctuate fresh (lex between body)
 unfolding lex punctuate
 in_brackets body = refl
 
@@ -171,7 +189,9 @@ closed_twice after_value h = refl
 closed_twice after_comma h = absurd (false≢true h)
 closed_twice after_key h = absurd (false≢true h)
 
-closes_twice : (q : Place) → are_good_tokens (punctuate q (token json.end_array ∷ token json.end_array ∷ [])) ≡ true → may_close q ≡ true
+closes_twice : (q : Place)
+    → are_good_tokens (punctuate q (token json.end_array ∷ token json.end_array ∷ [])) ≡ true
+    → may_close q ≡ true
 unfolding punctuate
 closes_twice fresh h = refl
 closes_twice after_value h = refl
@@ -188,7 +208,8 @@ read_element p d h =
     let outer = array_of_one w.tree _ w.same in
     let inner = array_of_one outer.0 d outer.2 in
     let j = inner.0 in
-    let tree_is : w.tree ≡ array (item (array (item j no_items)) no_items) = outer.1 ∙ ap (λ x. array (item x no_items)) inner.1 in
+    let tree_is : w.tree ≡ array (item (array (item j no_items)) no_items) =
+        outer.1 ∙ ap (λ x. array (item x no_items)) inner.1 in
     let body : punctuate fresh (lex between (p ++ 93 ∷ 93 ∷ [])) ≡ json_tokens j ++ ends =
     ap (drop 2) (sym (in_brackets (p ++ 93 ∷ 93 ∷ [])) ∙ w.spelled ∙ ap json_tokens tree_is)
     ∙ append_assoc (json_tokens j) (json.end_array ∷ []) (json.end_array ∷ []) in
@@ -196,15 +217,19 @@ read_element p d h =
     ap are_good_tokens body ∙ good_joined (json_tokens j) ends (good_json j) refl in
     let all_good : are_good (lex between ((p ++ 93 ∷ []) ++ 93 ∷ [])) ≡ true =
     ap (λ l. are_good (lex between l)) (append_assoc p (93 ∷ []) (93 ∷ [])) ∙ good_lexemes fresh _ fine in
-    let good : are_good ls ≡ true = before_bracket between p (before_bracket between (p ++ 93 ∷ []) all_good) in
+    let good : are_good ls ≡ true =
+        before_bracket between p (before_bracket between (p ++ 93 ∷ []) all_good) in
     let cut : lex between (p ++ 93 ∷ 93 ∷ []) ≡ ls ++ ms =
-    joined between p (93 ∷ 93 ∷ []) (outside_cut _ (93 ∷ 93 ∷ []) h.0 refl) good ∙ ap (λ l. ls ++ l) two_brackets in
+    joined between p (93 ∷ 93 ∷ []) (outside_cut _ (93 ∷ 93 ∷ []) h.0 refl) good
+        ∙ ap (λ l. ls ++ l) two_brackets in
     let front_fine : are_good_tokens (punctuate fresh ls) ≡ true =
-    good_front ms refl closes_twice fresh ls (ap (λ l. are_good_tokens (punctuate fresh l)) (sym cut) ∙ fine) in
+    good_front ms refl closes_twice fresh ls (ap (λ l. are_good_tokens (punctuate fresh l)) (sym cut) ∙ fine)
+        in
     let parts : punctuate fresh ls ++ ends ≡ json_tokens j ++ ends =
     ap (λ ts. punctuate fresh ls ++ ts) (sym (closed_twice (end_place fresh ls) (end_closes ls front_fine)))
     ∙ sym (apart fresh ls ms front_fine refl) ∙ ap (punctuate fresh) (sym cut) ∙ body in
-    let shallow : depth (array (item (array (item j no_items)) no_items)) ≤ 127 = omega (arith, w.shallow, ap depth tree_is) in
+    let shallow : depth (array (item (array (item j no_items)) no_items)) ≤ 127 =
+        omega (arith, w.shallow, ap depth tree_is) in
     record {
       tree = j;
       piece = record { outside = h.0; spelled = append_cancel_right (tokens p) (json_tokens j) ends parts; };

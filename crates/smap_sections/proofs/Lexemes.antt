@@ -8,8 +8,8 @@ use Rattle.json.specs.Lex.{Place, fresh, after_value, after_comma, after_key, be
 use Rattle.json.specs.Align.{is_good}
 use Rattle.smap_sections.specs.Cuts.{is_outside}
 
--- A lexeme begins at the start of the text, if the lexer is in this mode before it: the lexer is between two, or
--- in a word that ends there.
+-- A lexeme begins at the start of the text, if the lexer is in this mode before it: the lexer is between two,
+-- or in a word that ends there.
 abbrev pub may_cut : Mode → List ℕ → Bool
 may_cut between b = true
 may_cut in_word b = ends_word b

@@ -1,5 +1,6 @@
 -- An object whose last member is an array, apart.
-use Rattle.std.proofs.Common.{◌≡◌, ℕ, ◌≤◌, true, List, [], ◌∷◌, ◌++◌, Option, Some, None, refl, sym, ap, ap₂, ◌∙◌, arith, append_assoc}
+use Rattle.std.proofs.Common.{◌≡◌, ℕ, ◌≤◌, true, List, [], ◌∷◌, ◌++◌, Option, Some, None, refl, sym, ap, ap₂}
+use Rattle.std.proofs.Common.{◌∙◌, arith, append_assoc}
 use Rattle.std.proofs.lemmas.Bool.{false≢true}
 use Rattle.std.proofs.lemmas.List.{append_cancel_right}
 use Rattle.std.specs.Prelude.{option_and_then, option_map}
@@ -46,9 +47,11 @@ unfolding inner snoc
 members_snoc no_members k v = refl
 members_snoc (member l j ms) k v =
     ap (λ ts. json.key l ∷ (json_tokens j ++ ts)) (members_snoc ms k v)
-    ∙ ap (λ ts. json.key l ∷ ts) (sym (append_assoc (json_tokens j) (inner ms) (json.key k ∷ (json_tokens v ++ json.end_object ∷ []))))
+    ∙ ap (λ ts. json.key l ∷ ts)
+    (sym (append_assoc (json_tokens j) (inner ms) (json.key k ∷ (json_tokens v ++ json.end_object ∷ []))))
 
-depth_snoc : (n : ℕ) (ms : Members) (k : List ℕ) (v : Json) → members_depth ms ≤ n → depth v ≤ n → members_depth (snoc ms k v) ≤ n
+depth_snoc : (n : ℕ) (ms : Members) (k : List ℕ) (v : Json) → members_depth ms ≤ n → depth v ≤ n
+    → members_depth (snoc ms k v) ≤ n
 unfolding snoc
 depth_snoc n no_members k v h e = omega (arith, e)
 depth_snoc n (member l j ms) k v h e =
@@ -57,14 +60,17 @@ depth_snoc n (member l j ms) k v h e =
     omega (arith, h, more)
 
 module _ (ms : Members) (l k : List ℕ) (v : Json) (dv : Data) (out : spec.Members)
-    (more : (found : spec.Members) → of_members ms found ≡ Some out → of_members (snoc ms k v) found ≡ Some (put k dv out)) where
-  with_first : (found : spec.Members) (o : Option Data) → option_and_then (λ d. of_members ms (put l d found)) o ≡ Some out
+    (more : (found : spec.Members) → of_members ms found ≡ Some out
+        → of_members (snoc ms k v) found ≡ Some (put k dv out)) where
+  with_first : (found : spec.Members) (o : Option Data)
+      → option_and_then (λ d. of_members ms (put l d found)) o ≡ Some out
       → option_and_then (λ d. of_members (snoc ms k v) (put l d found)) o ≡ Some (put k dv out)
   with_first found None e = absurd (cc)
   with_first found (Some d) e = more (put l d found) e
 
 of_snoc : (ms : Members) (found : spec.Members) (k : List ℕ) (v : Json) (dv : Data) (out : spec.Members)
-    → of_members ms found ≡ Some out → of_json v ≡ Some dv → of_members (snoc ms k v) found ≡ Some (put k dv out)
+    → of_members ms found ≡ Some out → of_json v ≡ Some dv
+    → of_members (snoc ms k v) found ≡ Some (put k dv out)
 unfolding snoc
 of_snoc no_members found k v dv out e same =
     ap (option_and_then (λ d. Some (put k d found))) same ∙ ap (λ m. Some (put k dv m)) (ap (pick found) e)
@@ -83,14 +89,16 @@ unfolding inner
 after_some no_members some = absurd (some refl)
 after_some (member k j ms) some = after_json j fresh (inner ms) ∙ after_inner ms
 
-ends_object : (q : Place) → may_close q ≡ true → punctuate q (token json.end_object ∷ []) ≡ json.end_object ∷ []
+ends_object : (q : Place) → may_close q ≡ true
+    → punctuate q (token json.end_object ∷ []) ≡ json.end_object ∷ []
 unfolding punctuate
 ends_object fresh h = refl
 ends_object after_value h = refl
 ends_object after_comma h = absurd (false≢true h)
 ends_object after_key h = absurd (false≢true h)
 
-closes_object : (q : Place) → are_good_tokens (punctuate q (token json.end_object ∷ [])) ≡ true → may_close q ≡ true
+closes_object : (q : Place) → are_good_tokens (punctuate q (token json.end_object ∷ [])) ≡ true
+    → may_close q ≡ true
 unfolding punctuate
 closes_object fresh h = refl
 closes_object after_value h = refl
@@ -106,7 +114,8 @@ unfolding punctuate
 named key more = refl
 
 lexed_operators : (b : List ℕ) → (lex between (125 ∷ b) ≡ token json.end_object ∷ lex between b)
-    × (lex between (44 ∷ b) ≡ comma ∷ lex between b) × (lex between (93 ∷ b) ≡ token json.end_array ∷ lex between b)
+    × (lex between (44 ∷ b) ≡ comma ∷ lex between b)
+        × (lex between (93 ∷ b) ≡ token json.end_array ∷ lex between b)
 unfolding lex
 lexed_operators b = (refl, refl, refl)
 
@@ -115,12 +124,13 @@ unfolding lex
 no_more = refl
 
 -- An object whose last member is an array is read as the object without that member and the elements, each by
--- itself. `front` is the object's text up to the comma before the member, `tail` what follows the comma, and `end`
--- what follows the bracket that closes the array.
+-- itself. `front` is the object's text up to the comma before the member, `tail` what follows the comma, and
+-- `end` what follows the bracket that closes the array.
 pub member_apart : (front tail end key : List ℕ) (ps : List (List ℕ)) (ms : spec.Members) (ds : List Data)
     → is_outside (mode_after between front) ≡ true
     → read (front ++ 125 ∷ []) ≡ Some (spec.object ms) → (ms ≡ spec.no_members → ⊥)
-    → lex between tail ≡ token (json.string key) ∷ colon ∷ token json.begin_array ∷ lex between (with_commas ps ++ 93 ∷ end)
+    → lex between tail ≡ token (json.string key) ∷ colon ∷ token json.begin_array ∷ lex between
+    (with_commas ps ++ 93 ∷ end)
     → lex between end ≡ token json.end_object ∷ []
     → AreElements ps ds
     → read (front ++ 44 ∷ tail) ≡ Some (spec.object (put key (spec.array (items_of ds)) ms))
@@ -130,29 +140,38 @@ member_apart front tail end key ps ms ds outside skeleton some tail_is end_is_br
     let js = o.0 in
     let ls = lex between front in
     let brace : List Lexeme = token json.end_object ∷ [] in
-    let shape : tokens (front ++ 125 ∷ []) ≡ json.begin_object ∷ members_tokens js = w.spelled ∙ ap json_tokens o.1 in
-    let fine : are_good_tokens (tokens (front ++ 125 ∷ [])) ≡ true = ap are_good_tokens w.spelled ∙ good_json w.tree in
-    let good : are_good ls ≡ true = before_brace between front (good_lexemes fresh (lex between (front ++ 125 ∷ [])) fine) in
+    let shape : tokens (front ++ 125 ∷ []) ≡ json.begin_object ∷ members_tokens js =
+        w.spelled ∙ ap json_tokens o.1 in
+    let fine : are_good_tokens (tokens (front ++ 125 ∷ [])) ≡ true =
+        ap are_good_tokens w.spelled ∙ good_json w.tree in
+    let good : are_good ls ≡ true =
+        before_brace between front (good_lexemes fresh (lex between (front ++ 125 ∷ [])) fine) in
     let cut : lex between (front ++ 125 ∷ []) ≡ ls ++ brace =
     joined between front (125 ∷ []) (outside_cut _ (125 ∷ []) outside refl) good
     ∙ ap (λ l. ls ++ l) ((lexed_operators []).0 ∙ ap (λ l. token json.end_object ∷ l) no_more) in
     let front_fine : are_good_tokens (punctuate fresh ls) ≡ true =
-    good_front brace refl closes_object fresh ls (ap (λ l. are_good_tokens (punctuate fresh l)) (sym cut) ∙ fine) in
-    let parts : punctuate fresh ls ++ json.end_object ∷ [] ≡ (json.begin_object ∷ inner js) ++ json.end_object ∷ [] =
+    good_front brace refl closes_object fresh ls
+        (ap (λ l. are_good_tokens (punctuate fresh l)) (sym cut) ∙ fine) in
+    let parts : punctuate fresh ls ++ json.end_object ∷ []
+        ≡ (json.begin_object ∷ inner js) ++ json.end_object ∷ [] =
     ap (λ ts. punctuate fresh ls ++ ts) (sym (ends_object (end_place fresh ls) (end_closes ls front_fine)))
     ∙ sym (apart fresh ls brace front_fine refl)
     ∙ ap (punctuate fresh) (sym cut) ∙ shape ∙ ap (λ ts. json.begin_object ∷ ts) (members_end js) in
     let before : punctuate fresh ls ≡ json.begin_object ∷ inner js =
     append_cancel_right (punctuate fresh ls) (json.begin_object ∷ inner js) (json.end_object ∷ []) parts in
-    let nonempty : js ≡ no_members → ⊥ = λ e. some (ap (pick ms) (sym o.2 ∙ ap (λ x. of_members x spec.no_members) e)) in
-    let value_before : end_place fresh ls ≡ after_value = end_is fresh ls front_fine ∙ ap (after fresh) before ∙ after_some js nonempty in
+    let nonempty : js ≡ no_members → ⊥ =
+        λ e. some (ap (pick ms) (sym o.2 ∙ ap (λ x. of_members x spec.no_members) e)) in
+    let value_before : end_place fresh ls ≡ after_value =
+        end_is fresh ls front_fine ∙ ap (after fresh) before ∙ after_some js nonempty in
     let all = all_read ps ds elements in
     let is = all.trees in
     let body = with_commas ps ++ 93 ∷ end in
-    let key_lexemes : List Lexeme → List Lexeme = λ l. comma ∷ token (json.string key) ∷ colon ∷ token json.begin_array ∷ l in
+    let key_lexemes : List Lexeme → List Lexeme =
+        λ l. comma ∷ token (json.string key) ∷ colon ∷ token json.begin_array ∷ l in
     let inside : lex between body ≡ lex between (with_commas ps) ++ token json.end_array ∷ brace =
     closing ps is all.pieces (93 ∷ end) refl
-    ∙ ap (λ l. lex between (with_commas ps) ++ l) ((lexed_operators end).2 ∙ ap (λ l. token json.end_array ∷ l) end_is_brace) in
+    ∙ ap (λ l. lex between (with_commas ps) ++ l)
+    ((lexed_operators end).2 ∙ ap (λ l. token json.end_array ∷ l) end_is_brace) in
     let lexemes : lex between (front ++ 44 ∷ tail) ≡ ls ++ key_lexemes (lex between body) =
     joined between front (44 ∷ tail) (outside_cut _ (44 ∷ tail) outside refl) good
     ∙ ap (λ l. ls ++ l) ((lexed_operators tail).1 ∙ ap (λ l. comma ∷ l) tail_is) in
@@ -163,11 +182,14 @@ member_apart front tail end key ps ms ds outside skeleton some tail_is end_is_br
     ap (punctuate fresh) lexemes
     ∙ apart fresh ls (key_lexemes (lex between body)) front_fine refl
     ∙ ap₂ (λ ts q. ts ++ punctuate q (key_lexemes (lex between body))) before value_before
-    ∙ ap (λ ts. (json.begin_object ∷ inner js) ++ ts) (named key (lex between body) ∙ ap (λ ts. json.key key ∷ json.begin_array ∷ ts) item_tokens)
+    ∙ ap (λ ts. (json.begin_object ∷ inner js) ++ ts)
+    (named key (lex between body) ∙ ap (λ ts. json.key key ∷ json.begin_array ∷ ts) item_tokens)
     ∙ ap (λ ts. json.begin_object ∷ ts) (sym (members_snoc js key (array is))) in
     let shallow : depth (object js) ≤ 127 = omega (arith, w.shallow, ap depth o.1) in
     let inner_shallow : members_depth js ≤ 126 = omega (arith, shallow) in
     let is_shallow : depth (array is) ≤ 126 = omega (arith, all.shallow) in
     read_whole _ (object (snoc js key (array is))) _ spelled
     (omega (arith, depth_snoc 126 js key (array is) inner_shallow is_shallow))
-    (ap (option_map spec.object) (of_snoc js spec.no_members key (array is) (spec.array (items_of ds)) ms o.2 (ap (option_map spec.array) all.same)))
+    (ap (option_map spec.object)
+        (of_snoc js spec.no_members key (array is) (spec.array (items_of ds)) ms o.2
+        (ap (option_map spec.array) all.same)))

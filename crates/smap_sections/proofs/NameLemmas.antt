@@ -1,5 +1,7 @@
 -- The lexemes of a name before an array, of a closing brace, and of white space.
-use Rattle.std.proofs.Common.{◌≡◌, ◌≢◌, ℕ, suc, ◌+◌, ◌<◌, Bool, true, false, ◌||◌, ◌==◌, List, [], ◌∷◌, ◌++◌, length, drop, get_or, Option, None, Some, Bor, codes, refl, sym, subst, ap, ◌∙◌, arith}
+use Rattle.std.proofs.Common.{◌≡◌, ◌≢◌, ℕ, suc, ◌+◌, ◌<◌, Bool, true, false, ◌||◌, ◌==◌, List, [], ◌∷◌, ◌++◌}
+use Rattle.std.proofs.Common.{length, drop, get_or, Option, None, Some, Bor, codes, refl, sym, subst, ap, ◌∙◌}
+use Rattle.std.proofs.Common.{arith}
 use Rattle.std.specs.Prelude.{IfSome, MatchOption}
 use Rattle.std.specs.Bool.{OnTrue}
 use Rattle.std.proofs.Math.Seq.{drop-cons}
@@ -32,7 +34,8 @@ past_space text at lt is =
     ap (λ n. lex between (drop n text)) next ∙ sym (lexed_space (drop (suc at) text) (get_or text at 0) is)
     ∙ ap (lex between) (sym (drop-cons text at 0 lt))
 
-lexed_name : (r : List ℕ) → lex between (codes "\"sections\"" ++ r) ≡ token (string (codes "sections")) ∷ lex between r
+lexed_name : (r : List ℕ)
+    → lex between (codes "\"sections\"" ++ r) ≡ token (string (codes "sections")) ∷ lex between r
 unfolding lex content
 lexed_name r = refl
 
@@ -57,14 +60,17 @@ pub named : (text name after_name sign after_colon bracket : List ℕ) (o : Opti
 named text name after_name sign after_colon bracket None a b c d e f = tt
 named text name after_name sign after_colon bracket (Some rest) a b c d e f =
     sym a ∙ ap (lex between) b ∙ lexed_name after_name
-    ∙ ap (λ ls. token (string (codes "sections")) ∷ ls) (sym c ∙ ap (lex between) d ∙ (lexed_signs after_colon).0
+    ∙ ap (λ ls. token (string (codes "sections")) ∷ ls)
+    (sym c ∙ ap (lex between) d ∙ (lexed_signs after_colon).0
     ∙ ap (λ ls. colon ∷ ls) (sym e ∙ ap (lex between) f ∙ (lexed_signs rest.now).1))
 
 -- a brace, after white space and before white space alone
-pub ended : (text brace rest last : List ℕ) (empty : Bool) → lex between brace ≡ lex between text → brace ≡ 125 ∷ rest
+pub ended : (text brace rest last : List ℕ) (empty : Bool) → lex between brace ≡ lex between text
+    → brace ≡ 125 ∷ rest
     → lex between last ≡ lex between rest → empty ≡ (length last == 0)
     → OnTrue empty (lex between text ≡ token end_object ∷ [])
 ended text brace rest last false a b c d = tt
 ended text brace rest [] true a b c d =
     sym a ∙ ap (lex between) b ∙ (lexed_signs rest).2 ∙ ap (λ ls. token end_object ∷ ls) (sym c ∙ nothing)
-ended text brace rest (x ∷ last) true a b c d = absurd (true≢false (d ∙ ne_eqb (suc (length last)) 0 (λ e. omega (arith, e))))
+ended text brace rest (x ∷ last) true a b c d =
+    absurd (true≢false (d ∙ ne_eqb (suc (length last)) 0 (λ e. omega (arith, e))))

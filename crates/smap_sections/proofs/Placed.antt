@@ -1,9 +1,11 @@
 -- Tokens of lexemes in two parts.
 use Rattle.std.proofs.Common.{◌≡◌, Bool, true, false, List, [], ◌∷◌, ◌++◌, refl, sym, ap, ◌∙◌}
 use Rattle.std.proofs.lemmas.Bool.{false≢true, and_parts}
-use Rattle.json.specs.Token.{Token, begin_object, end_object, begin_array, end_array, key, string, number, boolean, null, bad}
+use Rattle.json.specs.Token.{Token, begin_object, end_object, begin_array, end_array, key, string, number}
+use Rattle.json.specs.Token.{boolean, null, bad}
 use Rattle.json.specs.Lex.{Lexeme, token, comma, colon, punctuate}
-use Rattle.json.specs.Lex.{Place, fresh, after_value, after_comma, after_key, begins_colon, may_begin, may_close, if_allowed, place_token}
+use Rattle.json.specs.Lex.{Place, fresh, after_value, after_comma, after_key, begins_colon, may_begin}
+use Rattle.json.specs.Lex.{may_close, if_allowed, place_token}
 use Rattle.json.specs.Align.{is_good}
 use Rattle.smap_sections.proofs.Lexemes.{next_place, end_place, are_good_tokens}
 
@@ -27,14 +29,19 @@ module _ (rest : List Token) where
       → ((q : Place) → q ≡ next_place p t c → are_good_tokens (k q) ≡ true → l q ≡ k q ++ rest)
       → place_token p t c l ≡ place_token p t c k ++ rest
   placed p begin_object c k l good more = step (may_begin p) begin_object k l fresh good (more fresh refl)
-  placed p end_object c k l good more = step (may_close p) end_object k l after_value good (more after_value refl)
+  placed p end_object c k l good more =
+      step (may_close p) end_object k l after_value good (more after_value refl)
   placed p begin_array c k l good more = step (may_begin p) begin_array k l fresh good (more fresh refl)
-  placed p end_array c k l good more = step (may_close p) end_array k l after_value good (more after_value refl)
+  placed p end_array c k l good more =
+      step (may_close p) end_array k l after_value good (more after_value refl)
   placed p (key s) c k l good more = absurd (false≢true good)
   placed p (string s) true k l good more = step (may_begin p) (key s) k l after_key good (more after_key refl)
-  placed p (string s) false k l good more = step (may_begin p) (string s) k l after_value good (more after_value refl)
-  placed p (number s) c k l good more = step (may_begin p) (number s) k l after_value good (more after_value refl)
-  placed p (boolean b) c k l good more = step (may_begin p) (boolean b) k l after_value good (more after_value refl)
+  placed p (string s) false k l good more =
+      step (may_begin p) (string s) k l after_value good (more after_value refl)
+  placed p (number s) c k l good more =
+      step (may_begin p) (number s) k l after_value good (more after_value refl)
+  placed p (boolean b) c k l good more =
+      step (may_begin p) (boolean b) k l after_value good (more after_value refl)
   placed p null c k l good more = step (may_begin p) null k l after_value good (more after_value refl)
   placed p bad c k l good more = absurd (false≢true good)
 
@@ -47,7 +54,8 @@ at_token after_value t ls = refl
 at_token after_comma t ls = refl
 at_token after_key t ls = refl
 
-pub apart : (p : Place) (ls ms : List Lexeme) → are_good_tokens (punctuate p ls) ≡ true → begins_colon ms ≡ false
+pub apart : (p : Place) (ls ms : List Lexeme) → are_good_tokens (punctuate p ls) ≡ true
+    → begins_colon ms ≡ false
     → punctuate p (ls ++ ms) ≡ punctuate p ls ++ punctuate (end_place p ls) ms
 unfolding punctuate
 apart fresh [] ms good none = refl

@@ -1,9 +1,11 @@
 -- Good tokens come from good lexemes, and say where the reader is after them.
 use Rattle.std.proofs.Common.{◌≡◌, ℕ, Bool, true, false, ◌&&◌, List, [], ◌∷◌, ◌++◌, refl, sym, ap, ap₂, ◌∙◌}
 use Rattle.std.proofs.lemmas.Bool.{false≢true, and_parts}
-use Rattle.json.specs.Token.{Token, begin_object, end_object, begin_array, end_array, key, string, number, boolean, null, bad}
+use Rattle.json.specs.Token.{Token, begin_object, end_object, begin_array, end_array, key, string, number}
+use Rattle.json.specs.Token.{boolean, null, bad}
 use Rattle.json.specs.Lex.{Lexeme, token, comma, colon, punctuate}
-use Rattle.json.specs.Lex.{Place, fresh, after_value, after_comma, after_key, begins_colon, may_begin, may_close, if_allowed, place_token}
+use Rattle.json.specs.Lex.{Place, fresh, after_value, after_comma, after_key, begins_colon, may_begin}
+use Rattle.json.specs.Lex.{may_close, if_allowed, place_token}
 use Rattle.json.specs.Align.{is_good}
 use Rattle.smap_sections.proofs.Lexemes.{next_place, end_place, are_good_tokens, are_good}
 use Rattle.smap_sections.proofs.Placed.{at_token, colon_joined}
@@ -30,7 +32,8 @@ settle after_value = after_value
 settle after_comma = after_value
 settle after_key = fresh
 
-allow : (b : Bool) (u : Token) (k : Place → List Token) (q : Place) → are_good_tokens (if_allowed b u k q) ≡ true
+allow : (b : Bool) (u : Token) (k : Place → List Token) (q : Place)
+    → are_good_tokens (if_allowed b u k q) ≡ true
     → ((l : Place → List Token) → if_allowed b u l q ≡ u ∷ l q) × (are_good_tokens (k q) ≡ true)
 allow true u k q good = (λ l. refl, (and_parts (is_good u) _ good).1)
 allow false u k q good = absurd (false≢true good)
@@ -43,17 +46,36 @@ record Taken (p : Place) (t : Token) (c : Bool) (k : Place → List Token) : Typ
   good : is_good t ≡ true
   place : settle (next_place p t c) ≡ place_of first
 
-taken : (p : Place) (t : Token) (c : Bool) (k : Place → List Token) → are_good_tokens (place_token p t c k) ≡ true → Taken p t c k
-taken p begin_object c k h = let a = allow (may_begin p) begin_object k fresh h in record { first = begin_object; tokens = a.0; rest = a.1; fine = refl; good = refl; place = refl }
-taken p end_object c k h = let a = allow (may_close p) end_object k after_value h in record { first = end_object; tokens = a.0; rest = a.1; fine = refl; good = refl; place = refl }
-taken p begin_array c k h = let a = allow (may_begin p) begin_array k fresh h in record { first = begin_array; tokens = a.0; rest = a.1; fine = refl; good = refl; place = refl }
-taken p end_array c k h = let a = allow (may_close p) end_array k after_value h in record { first = end_array; tokens = a.0; rest = a.1; fine = refl; good = refl; place = refl }
+taken : (p : Place) (t : Token) (c : Bool) (k : Place → List Token)
+    → are_good_tokens (place_token p t c k) ≡ true → Taken p t c k
+taken p begin_object c k h = let a =
+    allow (may_begin p) begin_object k fresh h in record
+    { first = begin_object; tokens = a.0; rest = a.1; fine = refl; good = refl; place = refl }
+taken p end_object c k h = let a =
+    allow (may_close p) end_object k after_value h in record
+    { first = end_object; tokens = a.0; rest = a.1; fine = refl; good = refl; place = refl }
+taken p begin_array c k h = let a =
+    allow (may_begin p) begin_array k fresh h in record
+    { first = begin_array; tokens = a.0; rest = a.1; fine = refl; good = refl; place = refl }
+taken p end_array c k h = let a =
+    allow (may_close p) end_array k after_value h in record
+    { first = end_array; tokens = a.0; rest = a.1; fine = refl; good = refl; place = refl }
 taken p (key s) c k h = absurd (false≢true h)
-taken p (string s) true k h = let a = allow (may_begin p) (key s) k after_key h in record { first = key s; tokens = a.0; rest = a.1; fine = refl; good = refl; place = refl }
-taken p (string s) false k h = let a = allow (may_begin p) (string s) k after_value h in record { first = string s; tokens = a.0; rest = a.1; fine = refl; good = refl; place = refl }
-taken p (number s) c k h = let a = allow (may_begin p) (number s) k after_value h in record { first = number s; tokens = a.0; rest = a.1; fine = refl; good = refl; place = refl }
-taken p (boolean b) c k h = let a = allow (may_begin p) (boolean b) k after_value h in record { first = boolean b; tokens = a.0; rest = a.1; fine = refl; good = refl; place = refl }
-taken p null c k h = let a = allow (may_begin p) null k after_value h in record { first = null; tokens = a.0; rest = a.1; fine = refl; good = refl; place = refl }
+taken p (string s) true k h = let a =
+    allow (may_begin p) (key s) k after_key h in record
+    { first = key s; tokens = a.0; rest = a.1; fine = refl; good = refl; place = refl }
+taken p (string s) false k h = let a =
+    allow (may_begin p) (string s) k after_value h in record
+    { first = string s; tokens = a.0; rest = a.1; fine = refl; good = refl; place = refl }
+taken p (number s) c k h = let a =
+    allow (may_begin p) (number s) k after_value h in record
+    { first = number s; tokens = a.0; rest = a.1; fine = refl; good = refl; place = refl }
+taken p (boolean b) c k h = let a =
+    allow (may_begin p) (boolean b) k after_value h in record
+    { first = boolean b; tokens = a.0; rest = a.1; fine = refl; good = refl; place = refl }
+taken p null c k h = let a =
+    allow (may_begin p) null k after_value h in record
+    { first = null; tokens = a.0; rest = a.1; fine = refl; good = refl; place = refl }
 taken p bad c k h = absurd (false≢true h)
 
 -- the tokens at a token that is good
@@ -61,7 +83,8 @@ at_good : (p : Place) (t : Token) (ls : List Lexeme) → are_good_tokens (punctu
     → Taken p t (begins_colon ls) (λ q. punctuate q ls)
 at_good p t ls good = taken p t (begins_colon ls) _ (sym (ap are_good_tokens (at_token p t ls)) ∙ good)
 
-pub good_lexemes : (p : Place) (ls : List Lexeme) → are_good_tokens (punctuate p ls) ≡ true → are_good ls ≡ true
+pub good_lexemes : (p : Place) (ls : List Lexeme) → are_good_tokens (punctuate p ls) ≡ true
+    → are_good ls ≡ true
 unfolding punctuate
 good_lexemes p [] good = refl
 good_lexemes p (token t ∷ ls) good =
@@ -76,7 +99,8 @@ good_lexemes after_value (colon ∷ ls) good = absurd (false≢true good)
 good_lexemes after_comma (colon ∷ ls) good = absurd (false≢true good)
 good_lexemes after_key (colon ∷ ls) good = good_lexemes fresh ls good
 
-pub end_is : (p : Place) (ls : List Lexeme) → are_good_tokens (punctuate p ls) ≡ true → end_place p ls ≡ after (settle p) (punctuate p ls)
+pub end_is : (p : Place) (ls : List Lexeme) → are_good_tokens (punctuate p ls) ≡ true
+    → end_place p ls ≡ after (settle p) (punctuate p ls)
 unfolding punctuate
 end_is fresh [] good = refl
 end_is after_value [] good = refl
@@ -141,7 +165,8 @@ closes_after p h [] = h
 closes_after p h (t ∷ ts) = closes_after (place_of t) (closing_place t) ts
 
 -- after good tokens a bracket may close
-pub end_closes : (ls : List Lexeme) → are_good_tokens (punctuate fresh ls) ≡ true → may_close (end_place fresh ls) ≡ true
+pub end_closes : (ls : List Lexeme) → are_good_tokens (punctuate fresh ls) ≡ true
+    → may_close (end_place fresh ls) ≡ true
 end_closes ls good = ap may_close (end_is fresh ls good) ∙ closes_after fresh refl (punctuate fresh ls)
 
 -- ---- after a comma as at the start of an array, unless a bracket closes
@@ -159,11 +184,13 @@ head_begins (boolean b ∷ ts) = true
 head_begins (null ∷ ts) = true
 head_begins (bad ∷ ts) = true
 
-either_string : (s : List ℕ) (c : Bool) (k : Place → List Token) → place_token after_comma (string s) c k ≡ place_token fresh (string s) c k
+either_string : (s : List ℕ) (c : Bool) (k : Place → List Token)
+    → place_token after_comma (string s) c k ≡ place_token fresh (string s) c k
 either_string s true k = refl
 either_string s false k = refl
 
-pub after_comma_is : (ls : List Lexeme) → head_begins (punctuate fresh ls) ≡ true → punctuate after_comma ls ≡ punctuate fresh ls
+pub after_comma_is : (ls : List Lexeme) → head_begins (punctuate fresh ls) ≡ true
+    → punctuate after_comma ls ≡ punctuate fresh ls
 unfolding punctuate
 after_comma_is [] h = absurd (false≢true h)
 after_comma_is (token begin_object ∷ ls) h = refl

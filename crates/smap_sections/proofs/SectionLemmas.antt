@@ -1,5 +1,7 @@
--- The sections of a text, put together from the first one and those after it, and the whole text from its parts.
-use Rattle.std.proofs.Common.{◌≡◌, ℕ, suc, ◌+◌, ◌<◌, true, List, [], ◌∷◌, ◌++◌, length, take, drop, get_or, Some, codes, refl, sym, ap, ◌∙◌, arith, append_assoc, take-append-drop}
+-- The sections of a text, put together from the first one and those after it, and the whole text from its
+-- parts.
+use Rattle.std.proofs.Common.{◌≡◌, ℕ, suc, ◌+◌, ◌<◌, true, List, [], ◌∷◌, ◌++◌, length, take, drop, get_or}
+use Rattle.std.proofs.Common.{Some, codes, refl, sym, ap, ◌∙◌, arith, append_assoc, take-append-drop}
 use Rattle.std.proofs.Math.Seq.{drop-cons}
 use Rattle.std.proofs.lemmas.Bool.{false≢true}
 use Rattle.json.specs.Token.{string, begin_array, end_object}
@@ -71,6 +73,7 @@ whole_reads text front sections d ds cut object rest =
         ∷ lex between (with_commas rest.pieces ++ 93 ∷ rest.end) = cut.named
     ∙ ap (λ l. token (string (codes "sections")) ∷ colon ∷ token begin_array ∷ lex between l) rest.cut in
     ap read cut.parts
-    ∙ member_apart front cut.tail rest.end (codes "sections") rest.pieces object.members ds cut.outside object.reads
+    ∙ member_apart front cut.tail rest.end (codes "sections") rest.pieces object.members ds cut.outside
+    object.reads
     object.some named rest.closed rest.reads
     ∙ ap (λ d. Some (with_sections ds d)) (sym object.same)

@@ -3,7 +3,8 @@ use Rattle.std.proofs.Common.{◌≡◌, ℕ, ◌≤◌, List, [], ◌∷◌, Op
 use Rattle.std.specs.Prelude.{option_and_then, option_map}
 use Rattle.json.specs.Token.{Token}
 use Rattle.json.specs.Lex.{tokens}
-use Rattle.json.specs.Json.{Json, null, boolean, number, string, array, object, Items, no_items, item, Members, value, if_last}
+use Rattle.json.specs.Json.{Json, null, boolean, number, string, array, object, Items, no_items, item}
+use Rattle.json.specs.Json.{Members, value, if_last}
 use Rattle.json.specs.Tree.{json_tokens, depth}
 use Rattle.json.proofs.Printed.Trees.{value-json_tokens}
 use Rattle.json.proofs.Unique.Spelling.{value-json_tokens_back}
@@ -39,10 +40,13 @@ whole text d h = by (value 127 (tokens text)) refl h
     }
     by (Some (j, t ∷ r)) at e = absurd (cc)
 
-pub read_whole : (text : List ℕ) (j : Json) (d : Data) → tokens text ≡ json_tokens j → depth j ≤ 127 → of_json j ≡ Some d → read text ≡ Some d
+pub read_whole : (text : List ℕ) (j : Json) (d : Data) → tokens text ≡ json_tokens j → depth j ≤ 127
+    → of_json j ≡ Some d → read text ≡ Some d
 read_whole text j d spelled shallow same =
-    ap (λ ts. option_and_then of_json (option_and_then (λ p. if_last p.0 p.1) (value 127 ts))) (spelled ∙ sym (append-nil (json_tokens j)))
-    ∙ ap (λ o. option_and_then of_json (option_and_then (λ p. if_last p.0 p.1) o)) (value-json_tokens j 127 [] shallow)
+    ap (λ ts. option_and_then of_json (option_and_then (λ p. if_last p.0 p.1) (value 127 ts)))
+        (spelled ∙ sym (append-nil (json_tokens j)))
+    ∙ ap (λ o. option_and_then of_json (option_and_then (λ p. if_last p.0 p.1) o))
+    (value-json_tokens j 127 [] shallow)
     ∙ same
 
 -- ---- an object
@@ -55,7 +59,8 @@ not_array : (o : Option spec.Items) (ms : spec.Members) → option_map spec.arra
 not_array None ms e = cc
 not_array (Some n) ms e = cc
 
-the_members : (o : Option spec.Members) (ms : spec.Members) → option_map spec.object o ≡ Some (spec.object ms) → o ≡ Some ms
+the_members : (o : Option spec.Members) (ms : spec.Members)
+    → option_map spec.object o ≡ Some (spec.object ms) → o ≡ Some ms
 the_members None ms e = absurd (cc)
 the_members (Some x) ms e = cc
 
@@ -78,7 +83,8 @@ number_no : (o : Option spec.Num) (ds : spec.Items) → option_map spec.number o
 number_no None ds e = cc
 number_no (Some n) ds e = cc
 
-the_items : (o : Option spec.Items) (ds : spec.Items) → option_map spec.array o ≡ Some (spec.array ds) → o ≡ Some ds
+the_items : (o : Option spec.Items) (ds : spec.Items) → option_map spec.array o ≡ Some (spec.array ds)
+    → o ≡ Some ds
 the_items None ds e = absurd (cc)
 the_items (Some x) ds e = cc
 
@@ -112,7 +118,8 @@ both (Some x) (Some ds) d e = (cc, cc)
 single : (js : Items) (d : Data) → of_items js ≡ Some (spec.item d spec.no_items)
     → (j : Json) × (js ≡ item j no_items) × (of_json j ≡ Some d)
 single no_items d e = absurd (cc)
-single (item j js) d e = let two = both (of_json j) (of_items js) d e in (j, ap (item j) (empty_is js two.1), two.0)
+single (item j js) d e = let two =
+    both (of_json j) (of_items js) d e in (j, ap (item j) (empty_is js two.1), two.0)
 
 pub array_of_one : (t : Json) (d : Data) → of_json t ≡ Some (spec.array (spec.item d spec.no_items))
     → (j : Json) × (t ≡ array (item j no_items)) × (of_json j ≡ Some d)

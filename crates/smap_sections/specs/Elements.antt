@@ -11,8 +11,8 @@ with_commas [] = []
 with_commas (p ∷ []) = p
 with_commas (p ∷ q ∷ ps) = p ++ 44 ∷ with_commas (q ∷ ps)
 
--- The array whose one element is an array whose one element is this: it nests as deep as an element of an array that
--- is the member of an object.
+-- The array whose one element is an array whose one element is this: it nests as deep as an element of an
+-- array that is the member of an object.
 abbrev pub in_two_arrays : Data → Data
 in_two_arrays d = array (item (array (item d no_items)) no_items)
 

@@ -1,4 +1,5 @@
--- The text of an index map whose last member is `sections` (ECMA-426, "Index source map"), cut at its sections.
+-- The text of an index map whose last member is `sections` (ECMA-426, "Index source map"), cut at its
+-- sections.
 use Rattle.std.specs.Prelude.{◌≡◌, ℕ, List, [], ◌∷◌, ◌++◌, Option, None, Some, codes, true}
 use Rattle.std.specs.Borrow.{Bor}
 use Rattle.json.specs.Token.{string, begin_array, end_object}

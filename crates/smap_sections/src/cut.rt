@@ -35,8 +35,8 @@ fn front_object(alloc: Global, front: &[u8]) -> Result<Option<Value>, AllocError
 /// cut there, or if they aren't read.
 ///
 /// Once each section has been read by [`next_section`], the text is known to be those members with these
-/// sections. Texts that are cut begin with an object whose last member is `sections`, an array that isn't empty;
-/// that member begins in the first few thousand bytes, and some member is in front of it.
+/// sections. Texts that are cut begin with an object whose last member is `sections`, an array that isn't
+/// empty; that member begins in the first few thousand bytes, and some member is in front of it.
 ///
 /// # Errors
 ///
@@ -54,9 +54,9 @@ pub fn cut_sections(alloc: Global, text: &[u8]) -> Result<Option<(Value, &[u8])>
     }
 }
 
-/// The first section of a text, read by itself, and what follows the comma after it, which is none after the last
-/// section; none if the text can't be cut there, or if the section isn't read. `room` is for the section's text,
-/// and its capacity can serve the next one.
+/// The first section of a text, read by itself, and what follows the comma after it, which is none after the
+/// last section; none if the text can't be cut there, or if the section isn't read. `room` is for the
+/// section's text, and its capacity can serve the next one.
 ///
 /// # Errors
 ///

@@ -1,5 +1,5 @@
-//! Reading one element of an array by itself. It is read between two pairs of brackets, so that it may nest as
-//! deep as it may in the array of an object.
+//! Reading one element of an array by itself. It is read between two pairs of brackets, so that it may nest
+//! as deep as it may in the array of an object.
 ghost use Rattle.std.specs.Prelude.{◌≡◌, ◌∷◌, ◌++◌, [], Some, IfSome, IfOk};
 ghost use Rattle.serde_json.specs.Data.{array, item, no_items};
 ghost use Rattle.serde_json.specs.Read.{read};

@@ -1,4 +1,5 @@
-//! The few places where a cut has to stand at certain tokens: before the member `sections`, and where the map ends.
+//! The few places where a cut has to stand at certain tokens: before the member `sections`, and where the map
+//! ends.
 ghost use Rattle.std.specs.Prelude.{◌≡◌, ◌∷◌, [], codes, IfSome};
 ghost use Rattle.std.specs.Bool.{OnTrue};
 ghost use Rattle.json.specs.Token.{string, begin_array, end_object};

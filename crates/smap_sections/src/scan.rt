@@ -1,6 +1,6 @@
-//! Where a JSON text can be cut. The scan passes over strings and counts brackets; it reads nothing, and takes any
-//! text. What rests on a cut is only that no string is open there: if the brackets are not those of a JSON text, a
-//! piece isn't read, and the text is read as a whole.
+//! Where a JSON text can be cut. The scan passes over strings and counts brackets; it reads nothing, and
+//! takes any text. What rests on a cut is only that no string is open there: if the brackets are not those of
+//! a JSON text, a piece isn't read, and the text is read as a whole.
 ghost use Rattle.std.specs.Prelude.{◌≡◌, ◌≤◌, ◌<◌, ◌||◌, take, length, not, true, IfSome};
 ghost use Rattle.json.specs.Lex.{between, in_string};
 ghost use Rattle.json.specs.Word.{is_operator, is_space};

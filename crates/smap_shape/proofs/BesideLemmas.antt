@@ -1,5 +1,6 @@
 -- An index map's members, apart from its sections.
-use Rattle.std.proofs.Common.{◌≡◌, ℕ, List, [], ◌∷◌, Option, None, Some, Ok, Err, Result, ap, refl, sym, subst, ◌∙◌, Bool, true, false, true≢false, bytes_eq, codes, Bor}
+use Rattle.std.proofs.Common.{◌≡◌, ℕ, List, [], ◌∷◌, Option, None, Some, Ok, Err, Result, ap, refl, sym}
+use Rattle.std.proofs.Common.{subst, ◌∙◌, Bool, true, false, true≢false, bytes_eq, codes, Bor}
 use Rattle.std.specs.Prelude.{option_and_then, option_map, option_copied, is_some, IfSome, ◌&&◌}
 use Rattle.std.specs.Result.{result_ok}
 use Rattle.std.proofs.lemmas.Slice.Eq.{bytes_eq-Decides}
@@ -11,7 +12,8 @@ use Rattle.smap_vlq.specs.Number.{◌>>=◌}
 use Rattle.smap_shape.specs.declared.fault.ShapeFault.{ShapeFault}
 use Rattle.smap_shape.specs.declared.fault.ShapeFault.TheVariants.{Both, Sections}
 use Rattle.smap_shape.specs.Members.{Index, MapMembers, index}
-use Rattle.smap_shape.specs.Reading.{file_of, flat_or_index, or_fault, refuse_if, if_present, member_of, each_item, shape_of}
+use Rattle.smap_shape.specs.Reading.{file_of, flat_or_index, or_fault, refuse_if, if_present, member_of}
+use Rattle.smap_shape.specs.Reading.{each_item, shape_of}
 use Rattle.smap_shape.specs.Beside.{with_sections}
 use Rattle.smap_shape.specs.Views.{map_value}
 use Rattle.smap_shape.proofs.ContentsLemmas.{file_by, unread}
@@ -29,7 +31,8 @@ shape_by file sections mappings tree = do
   flat_or_index file sections tree
 
 abbrev indexed : Option (List ℕ) → Result (List Data) ShapeFault → Result (MapMembers Data) ShapeFault
-indexed file sections = (sections >>= λ ds. made (record { file = file; sections = ds; })) >>= λ members. Ok (index members)
+indexed file sections = (sections >>= λ ds. made (record { file = file; sections = ds; })) >>= λ members. Ok
+    (index members)
   where
     made : Index Data → Result (Index Data) ShapeFault
     made i = Ok i
@@ -47,7 +50,8 @@ module _ (ms : Members) (ds : List Data) where
   other : (key : List ℕ) → bytes_eq key (codes "sections") ≡ false
       → member_of key (object whole) ≡ member_of key (object ms)
   unfolding whole
-  other key apart = ap (option_and_then if_present) (get_member-put_other key (codes "sections") (array (items_of ds)) ms
+  other key apart = ap (option_and_then if_present)
+      (get_member-put_other key (codes "sections") (array (items_of ds)) ms
       (λ same. true≢false (sym ((bytes_eq-Decides key (codes "sections")).1 same) ∙ apart)))
 
   file_same : file_of (object whole) ≡ file_of (object ms)
@@ -71,12 +75,14 @@ abbrev pub Beside : Data → Option (Bor (List ℕ)) → Type 0
 Beside tree file = (ds : List Data) → shape_of (with_sections ds tree)
     ≡ Ok (index (record { file = option_copied file; sections = ds; }))
 
-pub beside : (tree : Data) (file : Result (Option (Bor (List ℕ))) ShapeFault) (o : Option (Option (Bor (List ℕ))))
+pub beside : (tree : Data) (file : Result (Option (Bor (List ℕ))) ShapeFault)
+    (o : Option (Option (Bor (List ℕ))))
     → is_some (as_object tree) ≡ true → is_some (member_of (codes "mappings") tree) ≡ false
     → map_value option_copied file ≡ file_of tree → o ≡ result_ok file → IfSome o (Beside tree)
 unfolding whole
 beside tree file o is_object none is same =
-    subst (λ (o : Option (Option (Bor (List ℕ)))). IfSome o (Beside tree)) (sym same) (by tree file is_object none is)
+    subst (λ (o : Option (Option (Bor (List ℕ)))). IfSome o (Beside tree)) (sym same)
+        (by tree file is_object none is)
   where
     by : (tree : Data) (file : Result (Option (Bor (List ℕ))) ShapeFault)
         → is_some (as_object tree) ≡ true → is_some (member_of (codes "mappings") tree) ≡ false

@@ -6,7 +6,8 @@ use Rattle.smap_record.proofs.section_texts.listed_texts.Goals as goal
 
 pub sections-init : goal.sections-init
 sections-init c = record {
-  so_far = none_yet (map_at_level c.args.base.now c.args.limits 1) c.args.text (listing_of c.new-listed.result)
+  so_far = none_yet (map_at_level c.args.base.now c.args.limits 1) c.args.text
+      (listing_of c.new-listed.result)
       c.new-listed.ensures;
   fits = search rules;
 }
@@ -17,7 +18,8 @@ sections-preserved c =
     record {
       so_far = one_more (map_at_level c.args.base.now c.args.limits 1) c.args.text.now c.in-Some.text
           c.in-Some-2.after c.sections.last (listing_of c.sections.listed) read.reads.0 c.in-Some-2.own
-          (listing_of c.in-Some-2.now) (rw c.in-Some.is at c.sections.invariant.so_far) read.reads.1 read.reads.2;
+          (listing_of c.in-Some-2.now) (rw c.in-Some.is at c.sections.invariant.so_far) read.reads.1
+              read.reads.2;
       fits = read.fits;
     }
 

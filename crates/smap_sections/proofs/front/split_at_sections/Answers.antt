@@ -33,6 +33,7 @@ members-preserved c =
     record {
       within = omega (arith, within, length-drop (at + 1) text);
       outside = ap (λ k. is_outside (mode_after between (take k text))) further
-          ∙ ap is_outside (mode_further between text (at + 1) n ∙ ap (λ m. mode_after m (take n (drop (at + 1) text))) comma)
+          ∙ ap is_outside (mode_further between text (at + 1) n
+          ∙ ap (λ m. mode_after m (take n (drop (at + 1) text))) comma)
           ∙ found.outside;
     }

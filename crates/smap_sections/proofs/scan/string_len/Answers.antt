@@ -4,7 +4,8 @@ use Rattle.std.proofs.lemmas.List.{get_or-drop}
 use Rattle.json.specs.Lex.{in_string, in_escape}
 use Rattle.memchr.specs.Find.{is_byte2}
 use Rattle.smap_sections.specs.Cuts.{mode_after}
-use Rattle.smap_sections.proofs.CutLemmas.{left_is, mode_further, mode_next, plain_bytes, at_quote, at_backslash, escaped}
+use Rattle.smap_sections.proofs.CutLemmas.{left_is, mode_further, mode_next, plain_bytes, at_quote}
+use Rattle.smap_sections.proofs.CutLemmas.{at_backslash, escaped}
 use Rattle.smap_sections.proofs.scan.string_len.Goals as goal
 
 pub escapes-init : goal.escapes-init
@@ -19,7 +20,8 @@ returns-then-text-end-eq34-clause-ends c =
     let met = rw (left_is text at) at c.in-Some.ensures in
     let lt : c.in-Some.found < length (drop at text) = met.0.high in
     let within : k < length text = omega (arith, lt, length-drop at text) in
-    let inside : mode_after in_string (take k text) ≡ in_string = mode_further in_string text at c.in-Some.found
+    let inside : mode_after in_string (take k text) ≡ in_string =
+        mode_further in_string text at c.in-Some.found
     ∙ ap (λ m. mode_after m (take c.in-Some.found (drop at text))) c.escapes.invariant.inside
     ∙ plain_bytes (drop at text) c.in-Some.found (λ i below. met.0.before i (omega arith) below) in
     let is : get_or text k 0 ≡ 34 = search rules in
@@ -34,7 +36,8 @@ escapes-preserved c =
     let lt : c.in-Some.found < length (drop at text) = met.0.high in
     let within : k < length text = omega (arith, lt, length-drop at text) in
     let more : k + 1 < length text = omega (arith, within, c.if-text-end-eq1.false) in
-    let inside : mode_after in_string (take k text) ≡ in_string = mode_further in_string text at c.in-Some.found
+    let inside : mode_after in_string (take k text) ≡ in_string =
+        mode_further in_string text at c.in-Some.found
     ∙ ap (λ m. mode_after m (take c.in-Some.found (drop at text))) c.escapes.invariant.inside
     ∙ plain_bytes (drop at text) c.in-Some.found (λ i below. met.0.before i (omega arith) below) in
     let is : is_byte2 34 92 (get_or text k 0) ≡ true =
