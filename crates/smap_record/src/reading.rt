@@ -1,7 +1,8 @@
 //! From bytes to a source map: the JSON text after the prefix line is parsed into a tree, then the tree's
 //! members are read, then the map they describe. The contents are moved out of the tree, everything else that
 //! the map keeps is copied, and the tree is freed at the end. So reading takes a few times the memory of the
-//! input.
+//! input. An index map without a fault is read section by section where its text can be cut
+//! (`section_texts.rt`), and then has a tree of one section at a time.
 ghost use Rattle.std.specs.Prelude.{IfOk};
 ghost use Rattle.serde_json.specs.View.{view};
 ghost use Rattle.smap_shape.specs.Contents.{map_with_contents};
@@ -65,7 +66,8 @@ impl SourceMap {
     /// which its sources are resolved; [`Limits::usual`] serve most callers.
     ///
     /// The bytes are parsed into a JSON tree. Contents are moved out of it, or copied where they are a
-    /// section's, and all else that the map keeps is copied.
+    /// section's, and all else that the map keeps is copied. An index map whose last member is `sections` is
+    /// parsed section by section, and as a whole only if there is a fault in it.
     ///
     /// The time is linear in the length of the input, except for two products: each source takes the length
     /// of its `sourceRoot`, and each source URL that of the base. Mappings are sorted only where columns
@@ -101,7 +103,7 @@ impl SourceMap {
 
     /// Answers what [`from_slice`](SourceMap::from_slice) answers, for bytes that are handed over: they are
     /// freed as soon as their JSON tree is there, so that the input isn't held next to the tree and the
-    /// map.
+    /// map. While an index map is read section by section they are held.
     ///
     /// # Errors
     ///

@@ -2,7 +2,7 @@
 //! same. `from_slice` tries the first way, and `from_slice_as_written` goes the second alone.
 use super::{outcome, usual_base};
 use crate::asserted::holds;
-use smap_record::{Limits, SourceMap};
+use smap_record::{Limits, ReadError, SourceMap, WrittenSources};
 use smap_sections::{cut_sections, next_section};
 use smap_testing::{parts, rows};
 use std::alloc::AllocError;
@@ -107,14 +107,26 @@ fn told(rt: &impl AllocGlobal, text: &[u8]) -> Result<String, AllocError> {
     }
 }
 
+/// The map alone.
+fn without_written(
+    read: Result<(SourceMap, WrittenSources), ReadError>,
+) -> Result<SourceMap, ReadError> {
+    match read {
+        Ok((map, written)) => {
+            drop(written);
+            Ok(map)
+        }
+        Err(error) => Err(error),
+    }
+}
+
 /// Asserts that both ways give the same for these bytes.
 fn are_alike(rt: &(impl Abort + AllocGlobal), name: &str, bytes: &[u8]) -> Result<(), AllocError> {
     let base = usual_base(rt);
-    let whole = match SourceMap::from_slice_as_written(rt.alloc(), bytes, &base, Limits::usual()) {
-        Ok((map, _)) => outcome(rt, Ok(map))?,
-        Err(error) => outcome(rt, Err(error))?,
-    };
-    let apart = outcome(rt, SourceMap::from_slice(rt.alloc(), bytes, &base, Limits::usual()))?;
+    let read = SourceMap::from_slice_as_written(rt.alloc(), bytes, &base, Limits::usual());
+    let whole = outcome(rt, without_written(read))?;
+    let read = SourceMap::from_slice(rt.alloc(), bytes, &base, Limits::usual());
+    let apart = outcome(rt, read)?;
     holds(rt, (name, apart.as_str()), apart.as_str() == whole.as_str());
     Ok(())
 }

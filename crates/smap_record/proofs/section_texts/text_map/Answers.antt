@@ -8,9 +8,6 @@ use Rattle.smap_record.proofs.ApartLemmas.{reads_as}
 use Rattle.smap_record.proofs.FitLemmas.{fits}
 use Rattle.smap_record.proofs.section_texts.text_map.Goals as goal
 
-abbrev read_map : Option (List ℕ) → ReadMap → ReadMap
-read_map file m = record m { file = file }
-
 pub returns-clause-reads : goal.returns-clause-reads
 returns-clause-reads c =
     let listed = rw c.in-Some-2.is at c.in_ok-listed.ensures in
@@ -18,10 +15,10 @@ returns-clause-reads c =
     (option_copied c.in-Some-file_beside_sections.file) (listing_of c.in-Some-2.listed) c.new.result
     (rw c.in-Some.is at c.in_ok-tree.ensures) c.in-Some-file_beside_sections.ensures c.in-Ok.ensures.cases.1
     listed.reads
-    (c.new.ensures ∙ ap (λ (file : Option (List ℕ)). read_map file (record {
-      file = file;
-      listing = listing_of c.in-Some-2.listed;
-    })) c.in_ok-file.ensures)
+    (c.new.ensures ∙ ap with_file c.in_ok-file.ensures)
+  where
+    with_file : Option (List ℕ) → ReadMap
+    with_file file = record { file = file; listing = listing_of c.in-Some-2.listed; }
 
 pub returns-clause-fits : goal.returns-clause-fits
 returns-clause-fits c =
