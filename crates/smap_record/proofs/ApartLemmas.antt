@@ -64,7 +64,7 @@ module _ (inner : Inner) where
   pub one_more : (text : List ℕ) (part : Bor (List ℕ)) (after : Option (Bor (List ℕ)))
       (last : Option Position)
       (before : Listing) (d : Data) (own : Position) (now : Listing)
-          → SoFar inner text (Some part) last before
+      → SoFar inner text (Some part) last before
       → ((ds : List Data) → AreLeft after ds → AreSections part.now (d ∷ ds))
       → listed_section 1 inner start last before d ≡ Ok (own, now) → SoFar inner text after (Some own) now
   one_more text part after last before d own now so_far reads ok =
@@ -100,16 +100,15 @@ pub reads_as : (base : Parts) (limits : Allowed) (text sections : List ℕ) (tre
     (listing : Listing) (m : ReadMap)
     → ((ds : List Data) → AreSections sections ds → read text ≡ Some (with_sections ds tree))
     → ((ds : List Data) → shape_of (with_sections ds tree)
-    ≡ Ok (index (record { file = file; sections = ds; })))
+    ≡ Ok (index (record { file = file; sections = ds })))
     → IsUtf8 text → Lists base limits sections listing
-    → m ≡ record { file = file; listing = listing; } → ReadsAs base limits text m
+    → m ≡ record { file = file; listing = listing } → ReadsAs base limits text m
 reads_as base limits text sections tree file listing m reads shape utf8 lists is =
     let ds = lists.0 in
-    let made : Listing → Checked ReadMap = λ l. Ok (record { file = file; listing = l; }) in
-    (
+    let made : Listing → Checked ReadMap = λ l. Ok (record { file = file; listing = l }) in (
       with_sections ds tree,
       tree_read text (with_sections ds tree) utf8 (reads ds lists.1),
-      then_ok _ (index (record { file = file; sections = ds; })) (map_of base limits) _
+      then_ok _ (index (record { file = file; sections = ds })) (map_of base limits) _
           (ap of_shape (shape ds))
           (then_ok _ listing made _ lists.2 (ap read_map (sym is))),
     )

@@ -60,7 +60,7 @@ content_keeps (after_high h) (s ∷ u ∷ p ∷ q ∷ []) b = tt
 content_keeps (after_high h) (s ∷ u ∷ p ∷ q ∷ r ∷ []) b = tt
 content_keeps (after_high h) (s ∷ u ∷ p ∷ q ∷ r ∷ t ∷ xs) b =
     both ((s == 92) && (u == 117)) _ _ _ _
-        (then _ _ (code_unit p q r t) (λ l. both (is_low_surrogate l) _ _ _ _
+    (then _ _ (code_unit p q r t) (λ l. both (is_low_surrogate l) _ _ _ _
     (longer (encode_utf8 (surrogate_pair h l)) _ _ (content_keeps plain xs b)) tt)) tt
 
 known : (o q : Option (List ℕ)) → Keeps o q → is_good (string_token o) ≡ true → q ≡ o
@@ -82,7 +82,7 @@ by between quote x xs b is more at good =
 by between backslash x xs b is more at good = absurd (false≢true good)
 by between operator x xs b is more at good =
     ap (λ ls. operator_lexeme x ∷ ls)
-        (more between at (and_parts (is_good_lexeme (operator_lexeme x)) _ good).1)
+    (more between at (and_parts (is_good_lexeme (operator_lexeme x)) _ good).1)
 by between space x xs b is more at good = more between at good
 by between other x xs b is more at good =
     let p = and_parts (is_good (word (x ∷ xs))) _ good in
@@ -91,7 +91,7 @@ by in_word quote x xs b is more at good = more in_word at good
 by in_word backslash x xs b is more at good = more in_word at good
 by in_word operator x xs b is more at good =
     ap (λ ls. operator_lexeme x ∷ ls)
-        (more between at (and_parts (is_good_lexeme (operator_lexeme x)) _ good).1)
+    (more between at (and_parts (is_good_lexeme (operator_lexeme x)) _ good).1)
 by in_word space x xs b is more at good = more between at good
 by in_word other x xs b is more at good = more in_word at good
 by in_string quote x xs b is more at good = more between at good
@@ -115,7 +115,7 @@ same_start in_word (x ∷ b) at = by (x == 34) (x == 92) (is_operator x) (is_spa
         → lex_byte in_word (cond q quote (cond s backslash (cond o operator (cond p space other)))) x b
         (λ n. lex n b)
         ≡ lex_byte between (cond q quote (cond s backslash (cond o operator (cond p space other)))) x b
-            (λ n. lex n b)
+        (λ n. lex n b)
     by true s o p is f ends at = absurd (false≢true (sym (ap end_of (eqb-true x 34 is)) ∙ ends))
     by false true o p e is ends at = absurd (false≢true (sym (ap end_of (eqb-true x 92 is)) ∙ ends))
     by false false true p e f ends at = refl

@@ -54,7 +54,7 @@ module _ (c : ℕ) (plain_end : content plain (c ∷ []) ≡ None)
       dropped ((s == 92) && (u == 117)) _ (ap (option_and_then _) (no_hex p q r))
   content_back (after_high h) (s ∷ u ∷ p ∷ q ∷ r ∷ t ∷ xs) =
       both ((s == 92) && (u == 117)) _ _ _ _
-          (then _ _ (code_unit p q r t) (λ l. both (is_low_surrogate l) _ _ _ _
+      (then _ _ (code_unit p q r t) (λ l. both (is_low_surrogate l) _ _ _ _
       (longer (encode_utf8 (surrogate_pair h l)) _ _ (content_back plain xs)) tt)) tt
 
 good_string : (o q : Option (List ℕ)) → Keeps o q → is_good (string_token o) ≡ true
@@ -103,7 +103,7 @@ module _ (c : ℕ) (stops : (is_operator c || is_space c) ≡ true) where
       let all = t ++ b in
       let front : name ≡ take (length name) all = (bytes_eq-Decides name (take (length name) all)).0 two.0 in
       let cut : all ≡ name ++ drop (length name) all =
-          sym (take-append-drop (length name) all) ∙ ap (λ l. l ++ drop (length name) all) (sym front) in
+      sym (take-append-drop (length name) all) ∙ ap (λ l. l ++ drop (length name) all) (sym front) in
       let at = front_of t name (drop (length name) all) cut none in
       let end : ends_word at.0 ≡ true = over at.0 b (ap ends_word (sym at.2) ∙ two.1) in
       ap (λ l. is_good (word l)) at.1 ∙ ap is_good (is at.0 ∙ ap (λ e. cond e k bad) end) ∙ fine
@@ -122,16 +122,16 @@ module _ (c : ℕ) (stops : (is_operator c || is_space c) ≡ true) where
       let part = front_of (x ∷ xs) h.0 q h.1 h.2 in
       let last : ends_word part.0 ≡ true = over part.0 b (ap ends_word (sym part.2) ∙ end) in
       ap is_good (sym (lexed_word b x xs is) ∙ ap (λ l. first (lex between l)) part.1
-          ∙ ap first (lex-number h.0 part.0 alone last))
+      ∙ ap first (lex-number h.0 part.0 alone last))
 
   word_back : (x : ℕ) (xs : List ℕ) → class x ≡ other → Back (x ∷ xs) (word (x ∷ (xs ++ b)))
   unfolding word
   word_back x xs is =
       let t = x ∷ xs in
       choose_back t (x == 116) _ _
-          (literal_back (116 ∷ 114 ∷ 117 ∷ 101 ∷ []) (boolean true) t refl refl (λ r. refl))
+      (literal_back (116 ∷ 114 ∷ 117 ∷ 101 ∷ []) (boolean true) t refl refl (λ r. refl))
       (choose_back t (x == 102) _ _
-          (literal_back (102 ∷ 97 ∷ 108 ∷ 115 ∷ 101 ∷ []) (boolean false) t refl refl (λ r. refl))
+      (literal_back (102 ∷ 97 ∷ 108 ∷ 115 ∷ 101 ∷ []) (boolean false) t refl refl (λ r. refl))
       (choose_back t (x == 110) _ _ (literal_back (110 ∷ 117 ∷ 108 ∷ 108 ∷ []) null t refl refl (λ r. refl))
       (number_back x xs is (after_number (t ++ b)) refl (number_ends (t ++ b)))))
 
@@ -149,7 +149,7 @@ module _ (c : ℕ) (stops : (is_operator c || is_space c) ≡ true)
   by_class between quote x xs is more good =
       let p = and_parts (is_good (string_token (content plain (xs ++ c ∷ [])))) _ good in
       ap₂ (λ a b. a && b) (good_string _ _ (content_back c plain_end escape_end no_hex plain xs) p.0)
-          (more in_string p.1)
+      (more in_string p.1)
   by_class between backslash x xs is more good = absurd (false≢true good)
   by_class between operator x xs is more good =
       let p = and_parts (is_good_lexeme (operator_lexeme x)) _ good in

@@ -136,12 +136,12 @@ items_apart (p ∷ q ∷ ps) (item j no_items) h r = absurd h.1
 items_apart (p ∷ q ∷ ps) (item j (item i js)) h r =
     let more = lex between (with_commas (q ∷ ps)) ++ token json.end_array ∷ r in
     let next : punctuate fresh more ≡ items_tokens (item i js) ++ punctuate after_value r =
-        items_apart (q ∷ ps) (item i js) h.1 r in
+    items_apart (q ∷ ps) (item i js) h.1 r in
     let begins : head_begins (punctuate fresh more) ≡ true =
     ap head_begins (next ∙ append_assoc (json_tokens i) (items_tokens js) (punctuate after_value r))
     ∙ begins_json i (items_tokens js ++ punctuate after_value r) in
     ap (λ ls. punctuate fresh (ls ++ token json.end_array ∷ r))
-        (lexed p j h.0 (44 ∷ with_commas (q ∷ ps)) refl)
+    (lexed p j h.0 (44 ∷ with_commas (q ∷ ps)) refl)
     ∙ ap (punctuate fresh) (append_assoc (lex between p) (comma ∷ lex between (with_commas (q ∷ ps)))
     (token json.end_array ∷ r))
     ∙ punctuated p j h.0 (comma ∷ more) refl
@@ -209,7 +209,7 @@ read_element p d h =
     let inner = array_of_one outer.0 d outer.2 in
     let j = inner.0 in
     let tree_is : w.tree ≡ array (item (array (item j no_items)) no_items) =
-        outer.1 ∙ ap (λ x. array (item x no_items)) inner.1 in
+    outer.1 ∙ ap (λ x. array (item x no_items)) inner.1 in
     let body : punctuate fresh (lex between (p ++ 93 ∷ 93 ∷ [])) ≡ json_tokens j ++ ends =
     ap (drop 2) (sym (in_brackets (p ++ 93 ∷ 93 ∷ [])) ∙ w.spelled ∙ ap json_tokens tree_is)
     ∙ append_assoc (json_tokens j) (json.end_array ∷ []) (json.end_array ∷ []) in
@@ -218,21 +218,21 @@ read_element p d h =
     let all_good : are_good (lex between ((p ++ 93 ∷ []) ++ 93 ∷ [])) ≡ true =
     ap (λ l. are_good (lex between l)) (append_assoc p (93 ∷ []) (93 ∷ [])) ∙ good_lexemes fresh _ fine in
     let good : are_good ls ≡ true =
-        before_bracket between p (before_bracket between (p ++ 93 ∷ []) all_good) in
+    before_bracket between p (before_bracket between (p ++ 93 ∷ []) all_good) in
     let cut : lex between (p ++ 93 ∷ 93 ∷ []) ≡ ls ++ ms =
     joined between p (93 ∷ 93 ∷ []) (outside_cut _ (93 ∷ 93 ∷ []) h.0 refl) good
-        ∙ ap (λ l. ls ++ l) two_brackets in
+    ∙ ap (λ l. ls ++ l) two_brackets in
     let front_fine : are_good_tokens (punctuate fresh ls) ≡ true =
     good_front ms refl closes_twice fresh ls (ap (λ l. are_good_tokens (punctuate fresh l)) (sym cut) ∙ fine)
-        in
+    in
     let parts : punctuate fresh ls ++ ends ≡ json_tokens j ++ ends =
     ap (λ ts. punctuate fresh ls ++ ts) (sym (closed_twice (end_place fresh ls) (end_closes ls front_fine)))
     ∙ sym (apart fresh ls ms front_fine refl) ∙ ap (punctuate fresh) (sym cut) ∙ body in
     let shallow : depth (array (item (array (item j no_items)) no_items)) ≤ 127 =
-        omega (arith, w.shallow, ap depth tree_is) in
+    omega (arith, w.shallow, ap depth tree_is) in
     record {
       tree = j;
-      piece = record { outside = h.0; spelled = append_cancel_right (tokens p) (json_tokens j) ends parts; };
+      piece = record { outside = h.0; spelled = append_cancel_right (tokens p) (json_tokens j) ends parts };
       shallow = omega (arith, shallow);
       same = inner.2;
     }

@@ -61,7 +61,7 @@ depth_snoc n (member l j ms) k v h e =
 
 module _ (ms : Members) (l k : List ℕ) (v : Json) (dv : Data) (out : spec.Members)
     (more : (found : spec.Members) → of_members ms found ≡ Some out
-        → of_members (snoc ms k v) found ≡ Some (put k dv out)) where
+    → of_members (snoc ms k v) found ≡ Some (put k dv out)) where
   with_first : (found : spec.Members) (o : Option Data)
       → option_and_then (λ d. of_members ms (put l d found)) o ≡ Some out
       → option_and_then (λ d. of_members (snoc ms k v) (put l d found)) o ≡ Some (put k dv out)
@@ -115,7 +115,7 @@ named key more = refl
 
 lexed_operators : (b : List ℕ) → (lex between (125 ∷ b) ≡ token json.end_object ∷ lex between b)
     × (lex between (44 ∷ b) ≡ comma ∷ lex between b)
-        × (lex between (93 ∷ b) ≡ token json.end_array ∷ lex between b)
+    × (lex between (93 ∷ b) ≡ token json.end_array ∷ lex between b)
 unfolding lex
 lexed_operators b = (refl, refl, refl)
 
@@ -141,33 +141,33 @@ member_apart front tail end key ps ms ds outside skeleton some tail_is end_is_br
     let ls = lex between front in
     let brace : List Lexeme = token json.end_object ∷ [] in
     let shape : tokens (front ++ 125 ∷ []) ≡ json.begin_object ∷ members_tokens js =
-        w.spelled ∙ ap json_tokens o.1 in
+    w.spelled ∙ ap json_tokens o.1 in
     let fine : are_good_tokens (tokens (front ++ 125 ∷ [])) ≡ true =
-        ap are_good_tokens w.spelled ∙ good_json w.tree in
+    ap are_good_tokens w.spelled ∙ good_json w.tree in
     let good : are_good ls ≡ true =
-        before_brace between front (good_lexemes fresh (lex between (front ++ 125 ∷ [])) fine) in
+    before_brace between front (good_lexemes fresh (lex between (front ++ 125 ∷ [])) fine) in
     let cut : lex between (front ++ 125 ∷ []) ≡ ls ++ brace =
     joined between front (125 ∷ []) (outside_cut _ (125 ∷ []) outside refl) good
     ∙ ap (λ l. ls ++ l) ((lexed_operators []).0 ∙ ap (λ l. token json.end_object ∷ l) no_more) in
     let front_fine : are_good_tokens (punctuate fresh ls) ≡ true =
     good_front brace refl closes_object fresh ls
-        (ap (λ l. are_good_tokens (punctuate fresh l)) (sym cut) ∙ fine) in
+    (ap (λ l. are_good_tokens (punctuate fresh l)) (sym cut) ∙ fine) in
     let parts : punctuate fresh ls ++ json.end_object ∷ []
-        ≡ (json.begin_object ∷ inner js) ++ json.end_object ∷ [] =
+    ≡ (json.begin_object ∷ inner js) ++ json.end_object ∷ [] =
     ap (λ ts. punctuate fresh ls ++ ts) (sym (ends_object (end_place fresh ls) (end_closes ls front_fine)))
     ∙ sym (apart fresh ls brace front_fine refl)
     ∙ ap (punctuate fresh) (sym cut) ∙ shape ∙ ap (λ ts. json.begin_object ∷ ts) (members_end js) in
     let before : punctuate fresh ls ≡ json.begin_object ∷ inner js =
     append_cancel_right (punctuate fresh ls) (json.begin_object ∷ inner js) (json.end_object ∷ []) parts in
     let nonempty : js ≡ no_members → ⊥ =
-        λ e. some (ap (pick ms) (sym o.2 ∙ ap (λ x. of_members x spec.no_members) e)) in
+    λ e. some (ap (pick ms) (sym o.2 ∙ ap (λ x. of_members x spec.no_members) e)) in
     let value_before : end_place fresh ls ≡ after_value =
-        end_is fresh ls front_fine ∙ ap (after fresh) before ∙ after_some js nonempty in
+    end_is fresh ls front_fine ∙ ap (after fresh) before ∙ after_some js nonempty in
     let all = all_read ps ds elements in
     let is = all.trees in
     let body = with_commas ps ++ 93 ∷ end in
     let key_lexemes : List Lexeme → List Lexeme =
-        λ l. comma ∷ token (json.string key) ∷ colon ∷ token json.begin_array ∷ l in
+    λ l. comma ∷ token (json.string key) ∷ colon ∷ token json.begin_array ∷ l in
     let inside : lex between body ≡ lex between (with_commas ps) ++ token json.end_array ∷ brace =
     closing ps is all.pieces (93 ∷ end) refl
     ∙ ap (λ l. lex between (with_commas ps) ++ l)
@@ -191,5 +191,5 @@ member_apart front tail end key ps ms ds outside skeleton some tail_is end_is_br
     read_whole _ (object (snoc js key (array is))) _ spelled
     (omega (arith, depth_snoc 126 js key (array is) inner_shallow is_shallow))
     (ap (option_map spec.object)
-        (of_snoc js spec.no_members key (array is) (spec.array (items_of ds)) ms o.2
-        (ap (option_map spec.array) all.same)))
+    (of_snoc js spec.no_members key (array is) (spec.array (items_of ds)) ms o.2
+    (ap (option_map spec.array) all.same)))

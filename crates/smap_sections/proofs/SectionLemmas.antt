@@ -70,7 +70,7 @@ pub whole_reads : (text front sections : List ℕ) (d : Data) (ds : List Data) �
     → IsFront front d → AreSections sections ds → read text ≡ Some (with_sections ds d)
 whole_reads text front sections d ds cut object rest =
     let named : lex between cut.tail ≡ token (string (codes "sections")) ∷ colon ∷ token begin_array
-        ∷ lex between (with_commas rest.pieces ++ 93 ∷ rest.end) = cut.named
+    ∷ lex between (with_commas rest.pieces ++ 93 ∷ rest.end) = cut.named
     ∙ ap (λ l. token (string (codes "sections")) ∷ colon ∷ token begin_array ∷ lex between l) rest.cut in
     ap read cut.parts
     ∙ member_apart front cut.tail rest.end (codes "sections") rest.pieces object.members ds cut.outside

@@ -44,7 +44,7 @@ pub read_whole : (text : List ℕ) (j : Json) (d : Data) → tokens text ≡ jso
     → of_json j ≡ Some d → read text ≡ Some d
 read_whole text j d spelled shallow same =
     ap (λ ts. option_and_then of_json (option_and_then (λ p. if_last p.0 p.1) (value 127 ts)))
-        (spelled ∙ sym (append-nil (json_tokens j)))
+    (spelled ∙ sym (append-nil (json_tokens j)))
     ∙ ap (λ o. option_and_then of_json (option_and_then (λ p. if_last p.0 p.1) o))
     (value-json_tokens j 127 [] shallow)
     ∙ same

@@ -94,13 +94,13 @@ digit_goes_on x h =
     let no : (c : ℕ) → (x ≡ c → ⊥) → (x == c) ≡ false = λ c k. ne_eqb x c k in
     neither _ _
     (neither _ _ (neither _ _
-        (neither _ _ (neither _ _
-        (neither _ _ (no 123 (λ e. omega (arith, most, e))) (no 125 (λ e. omega (arith, most, e))))
-    (no 91 (λ e. omega (arith, most, e)))) (no 93 (λ e. omega (arith, most, e))))
-        (no 58 (λ e. omega (arith, most, e)))) (no 44 (λ e. omega (arith, least, e))))
     (neither _ _ (neither _ _
-        (neither _ _ (no 32 (λ e. omega (arith, least, e))) (no 9 (λ e. omega (arith, least, e))))
-        (no 10 (λ e. omega (arith, least, e))))
+    (neither _ _ (no 123 (λ e. omega (arith, most, e))) (no 125 (λ e. omega (arith, most, e))))
+    (no 91 (λ e. omega (arith, most, e)))) (no 93 (λ e. omega (arith, most, e))))
+    (no 58 (λ e. omega (arith, most, e)))) (no 44 (λ e. omega (arith, least, e))))
+    (neither _ _ (neither _ _
+    (neither _ _ (no 32 (λ e. omega (arith, least, e))) (no 9 (λ e. omega (arith, least, e))))
+    (no 10 (λ e. omega (arith, least, e))))
     (no 13 (λ e. omega (arith, least, e))))
 
 digits_cut : (t : List ℕ) → Ends t (Some (drop (prefix_len is_ascii_digit t) t))
@@ -153,7 +153,7 @@ signed t = following t (after_sign t) after_digits (optional t _ (either 45 43 t
 exponent : (t : List ℕ) → Ends t (after_exponent t)
 exponent t = test t ((head t == 101) || (head t == 69)) _ (Some t)
     (λ e. following t (drop 1 t) (λ u. after_digits (after_sign u)) (either 101 69 t refl refl refl refl e)
-        signed) ([], refl, refl)
+    signed) ([], refl, refl)
 
 whole : (t : List ℕ) → Ends t (after_whole t)
 whole t = test t (head t == 48) (Some (drop 1 t)) _ (one 48 t refl refl) (digits t)
@@ -227,11 +227,11 @@ module _ (b : List ℕ) where
   word_cases x xs is some =
       let t = x ∷ xs in
       choose t (x == 116) _ _ (literal_stays (116 ∷ 114 ∷ 117 ∷ 101 ∷ []) (boolean true) t some (λ r. refl)
-          (λ r. refl))
+      (λ r. refl))
       (choose t (x == 102) _ _ (literal_stays (102 ∷ 97 ∷ 108 ∷ 115 ∷ 101 ∷ []) (boolean false) t some
-          (λ r. refl) (λ r. refl))
+      (λ r. refl) (λ r. refl))
       (choose t (x == 110) _ _ (literal_stays (110 ∷ 117 ∷ 108 ∷ 108 ∷ []) null t some (λ r. refl)
-          (λ r. refl))
+      (λ r. refl))
       (number_stays x xs is some (after_number t) refl (number_ends t))))
 
 pub word_stays : (x : ℕ) (xs b : List ℕ) → class x ≡ other → may_cut (mode_after in_word xs) b ≡ true
@@ -239,4 +239,4 @@ pub word_stays : (x : ℕ) (xs b : List ℕ) → class x ≡ other → may_cut (
     → word (x ∷ (xs ++ b)) ≡ word (x ∷ xs)
 word_stays x xs b is at good =
     word_cases b x xs is (or_later (is_operator x || is_space x) (has_end xs) (ends_word b) (ended xs b at))
-        good refl
+    good refl

@@ -6,8 +6,8 @@ use crate::name::after_name;
 use crate::scan::cut_at;
 use memchr::memmem;
 
-/// How many bytes may be in front of the member `sections`, with its name. Where there are more, the text isn't
-/// cut, and members that are longer aren't passed over, such as the mappings of a flat map.
+/// How many bytes may be in front of the member `sections`, with its name. Where there are more, the text
+/// isn't cut, and members that are longer aren't passed over, such as the mappings of a flat map.
 const MOST_IN_FRONT: usize = 4096;
 
 /// What is in front of the comma before the member `sections`, and what follows the bracket that begins its

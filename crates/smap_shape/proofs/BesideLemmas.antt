@@ -31,7 +31,7 @@ shape_by file sections mappings tree = do
   flat_or_index file sections tree
 
 abbrev indexed : Option (List ℕ) → Result (List Data) ShapeFault → Result (MapMembers Data) ShapeFault
-indexed file sections = (sections >>= λ ds. made (record { file = file; sections = ds; })) >>= λ members. Ok
+indexed file sections = (sections >>= λ ds. made (record { file = file; sections = ds })) >>= λ members. Ok
     (index members)
   where
     made : Index Data → Result (Index Data) ShapeFault
@@ -63,7 +63,7 @@ module _ (ms : Members) (ds : List Data) where
 
   shape_beside : (file : Option (List ℕ)) → file_of (object ms) ≡ Ok file
       → member_of (codes "mappings") (object ms) ≡ None
-      → shape_of (object whole) ≡ Ok (index (record { file = file; sections = ds; }))
+      → shape_of (object whole) ≡ Ok (index (record { file = file; sections = ds }))
   shape_beside file is none =
       let no_mappings = other (codes "mappings") refl ∙ none in
       shape_is
@@ -73,7 +73,7 @@ module _ (ms : Members) (ds : List Data) where
 -- what is an object without mappings, whose file is read
 abbrev pub Beside : Data → Option (Bor (List ℕ)) → Type 0
 Beside tree file = (ds : List Data) → shape_of (with_sections ds tree)
-    ≡ Ok (index (record { file = option_copied file; sections = ds; }))
+    ≡ Ok (index (record { file = option_copied file; sections = ds }))
 
 pub beside : (tree : Data) (file : Result (Option (Bor (List ℕ))) ShapeFault)
     (o : Option (Option (Bor (List ℕ))))
@@ -82,7 +82,7 @@ pub beside : (tree : Data) (file : Result (Option (Bor (List ℕ))) ShapeFault)
 unfolding whole
 beside tree file o is_object none is same =
     subst (λ (o : Option (Option (Bor (List ℕ)))). IfSome o (Beside tree)) (sym same)
-        (by tree file is_object none is)
+    (by tree file is_object none is)
   where
     by : (tree : Data) (file : Result (Option (Bor (List ℕ))) ShapeFault)
         → is_some (as_object tree) ≡ true → is_some (member_of (codes "mappings") tree) ≡ false

@@ -154,7 +154,9 @@ fn nested(rt: &impl AllocGlobal, depth: usize) -> Result<String, AllocError> {
     for _ in 0..depth {
         text.push_str("]")?;
     }
-    text.push_str(",\"offset\":{\"line\":0,\"column\":0},\"map\":{\"version\":3,\"mappings\":\"A\"}}]}")?;
+    text.push_str(
+        ",\"offset\":{\"line\":0,\"column\":0},\"map\":{\"version\":3,\"mappings\":\"A\"}}]}",
+    )?;
     Ok(text)
 }
 

@@ -19,7 +19,7 @@ sections-preserved c =
       so_far = one_more (map_at_level c.args.base.now c.args.limits 1) c.args.text.now c.in-Some.text
           c.in-Some-2.after c.sections.last (listing_of c.sections.listed) read.reads.0 c.in-Some-2.own
           (listing_of c.in-Some-2.now) (rw c.in-Some.is at c.sections.invariant.so_far) read.reads.1
-              read.reads.2;
+          read.reads.2;
       fits = read.fits;
     }
 

@@ -18,7 +18,7 @@ returns-clause-reads c =
     (c.new.ensures ∙ ap with_file c.in_ok-file.ensures)
   where
     with_file : Option (List ℕ) → ReadMap
-    with_file file = record { file = file; listing = listing_of c.in-Some-2.listed; }
+    with_file file = record { file = file; listing = listing_of c.in-Some-2.listed }
 
 pub returns-clause-fits : goal.returns-clause-fits
 returns-clause-fits c =

@@ -6,7 +6,7 @@ use Rattle.smap_sections.proofs.SectionLemmas.{split_at, at_comma}
 use Rattle.smap_sections.proofs.front.split_at_sections.Goals as goal
 
 pub members-init : goal.members-init
-members-init c = record { within = c.in_ok-at.ensures.within; outside = c.in_ok-at.ensures.outside; }
+members-init c = record { within = c.in_ok-at.ensures.within; outside = c.in_ok-at.ensures.outside }
 
 pub returns-in-Some : goal.returns-in-Some
 returns-in-Some c =

@@ -7,11 +7,11 @@ use Rattle.smap_sections.proofs.name.after_name.Goals as goal
 pub returns : goal.returns
 returns c =
     named c.args.text.now c.without_space.result.now c.in_ok-after_name.after_name.now
-        c.without_space-2.result.now
+    c.without_space-2.result.now
     c.in_ok-after_colon.after_colon.now c.without_space-3.result.now c.strip_prefix-3.result
     c.without_space.ensures
     (strip_prefix_is Decides-eqb c.without_space.result.now (codes "\"sections\"")
-        (Some c.in_ok-after_name.after_name)
+    (Some c.in_ok-after_name.after_name)
     c.in_ok-after_name.ensures.cases)
     c.without_space-2.ensures
     (strip_prefix_is Decides-eqb c.without_space-2.result.now (58 ∷ []) (Some c.in_ok-after_colon.after_colon)

@@ -9,5 +9,5 @@ returns-in-Some c =
     ended c.args.text.now c.without_space.result.now c.in-Some.rest.now c.without_space-in-Some.result.now
     c.is_empty.result c.without_space.ensures
     (strip_prefix_is Decides-eqb c.without_space.result.now (125 ∷ []) (Some c.in-Some.rest)
-        c.in-Some.ensures.cases)
+    c.in-Some.ensures.cases)
     c.without_space-in-Some.ensures c.is_empty.ensures

@@ -5,7 +5,7 @@ use Rattle.smap_sections.proofs.NameLemmas.{past_space}
 use Rattle.smap_sections.proofs.name.without_space.Goals as goal
 
 pub spaces-init : goal.spaces-init
-spaces-init c = record { within = omega arith; left = refl; }
+spaces-init c = record { within = omega arith; left = refl }
 
 pub spaces-preserved : goal.spaces-preserved
 spaces-preserved c = record {

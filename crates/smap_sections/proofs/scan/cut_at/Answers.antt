@@ -8,7 +8,7 @@ use Rattle.smap_sections.proofs.scan.cut_at.Goals as goal
 
 pub bytes-init : goal.bytes-init
 unfolding mode_after
-bytes-init c = record { within = omega arith; mode = refl; }
+bytes-init c = record { within = omega arith; mode = refl }
 
 pub bytes-preserved-then-not-in_word : goal.bytes-preserved-then-not-in_word
 bytes-preserved-then-not-in_word c =
@@ -21,7 +21,7 @@ bytes-preserved-then-not-in_word c =
     let none : c.bytes.in_word ≡ false = search rules in
     let begun : mode_after between (take (at + 1) text) ≡ in_string =
     mode_next between text at c.bytes-test.true
-        ∙ ap (λ m. next m (class (get_or text at 0))) c.bytes.invariant.mode
+    ∙ ap (λ m. next m (class (get_or text at 0))) c.bytes.invariant.mode
     ∙ ap (λ w. next (word_mode w) (class (get_or text at 0))) none ∙ ap (λ x. next between (class x)) is in
     let further : at + (1 + n) ≡ at + 1 + n = omega arith in
     let within = string.within in

@@ -10,7 +10,7 @@ use Rattle.smap_sections.proofs.scan.string_len.Goals as goal
 
 pub escapes-init : goal.escapes-init
 unfolding mode_after
-escapes-init c = record { within = omega arith; inside = refl; }
+escapes-init c = record { within = omega arith; inside = refl }
 
 pub returns-then-text-end-eq34-clause-ends : goal.returns-then-text-end-eq34-clause-ends
 returns-then-text-end-eq34-clause-ends c =
@@ -21,7 +21,7 @@ returns-then-text-end-eq34-clause-ends c =
     let lt : c.in-Some.found < length (drop at text) = met.0.high in
     let within : k < length text = omega (arith, lt, length-drop at text) in
     let inside : mode_after in_string (take k text) ≡ in_string =
-        mode_further in_string text at c.in-Some.found
+    mode_further in_string text at c.in-Some.found
     ∙ ap (λ m. mode_after m (take c.in-Some.found (drop at text))) c.escapes.invariant.inside
     ∙ plain_bytes (drop at text) c.in-Some.found (λ i below. met.0.before i (omega arith) below) in
     let is : get_or text k 0 ≡ 34 = search rules in
@@ -37,7 +37,7 @@ escapes-preserved c =
     let within : k < length text = omega (arith, lt, length-drop at text) in
     let more : k + 1 < length text = omega (arith, within, c.if-text-end-eq1.false) in
     let inside : mode_after in_string (take k text) ≡ in_string =
-        mode_further in_string text at c.in-Some.found
+    mode_further in_string text at c.in-Some.found
     ∙ ap (λ m. mode_after m (take c.in-Some.found (drop at text))) c.escapes.invariant.inside
     ∙ plain_bytes (drop at text) c.in-Some.found (λ i below. met.0.before i (omega arith) below) in
     let is : is_byte2 34 92 (get_or text k 0) ≡ true =
