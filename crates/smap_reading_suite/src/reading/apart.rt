@@ -1,5 +1,5 @@
-//! Index maps that are read section by section, beside the same maps read as one JSON tree: both ways must give the
-//! same. `from_slice` tries the first way, and `from_slice_as_written` goes the second alone.
+//! Index maps that are read section by section, beside the same maps read as one JSON tree: both ways must
+//! give the same. `from_slice` tries the first way, and `from_slice_as_written` goes the second alone.
 use super::{outcome, usual_base};
 use crate::asserted::holds;
 use smap_record::{Limits, ReadError, SourceMap, WrittenSources};
@@ -9,8 +9,8 @@ use std::alloc::AllocError;
 use std::process::Abort;
 use std::test::Fail;
 
-/// What a row shows, a map, and how many of its sections are read by themselves up to the end of the map; `whole`
-/// where the map isn't read so.
+/// What a row shows, a map, and how many of its sections are read by themselves up to the end of the map;
+/// `whole` where the map isn't read so.
 const TEXTS: &str = r#"one section
     | {"version":3,"sections":[{"offset":{"line":0,"column":0},"map":{"version":3,"mappings":"A"}}]}
     | 1
@@ -25,10 +25,12 @@ backslashes and quotes that are escaped, before the quote that ends a string
     | {"version":3,"file":"\\\"\\","sections":[{"offset":{"line":0,"column":0},"map":{"version":3,
     "sources":["\\\\\"]","\\"],"mappings":"A"}}]} | 1
 the name with an escape in it
-    | {"version":3,"\u0073ections":[{"offset":{"line":0,"column":0},"map":{"version":3,"mappings":"A"}}]} | whole
+    | {"version":3,"\u0073ections":[{"offset":{"line":0,"column":0},"map":{"version":3,"mappings":"A"}}]}
+    | whole
 the name as a value | {"version":3,"file":"sections","mappings":"A"} | whole
 a member after the sections
-    | {"version":3,"sections":[{"offset":{"line":0,"column":0},"map":{"version":3,"mappings":"A"}}],"file":"o"}
+    | {"version":3,"sections":[{"offset":{"line":0,"column":0},"map":{"version":3,
+    "mappings":"A"}}],"file":"o"}
     | whole
 members before the sections, one of them an object
     | {"version":3,"x_other":{"a":[1,{"sections":[]}]},"file":"o","sections":[{"offset":{"line":0,"column":0},
@@ -44,18 +46,22 @@ sections twice, first others
     | {"version":3,"sections":[{"offset":{"line":0,"column":0},"map":{"version":3,"mappings":"A"}}],
     "sections":[{"offset":{"line":1,"column":0},"map":{"version":3,"mappings":"C"}}]} | whole
 sections twice, last a number
-    | {"version":3,"sections":[{"offset":{"line":0,"column":0},"map":{"version":3,"mappings":"A"}}],"sections":1}
+    | {"version":3,"sections":[{"offset":{"line":0,"column":0},"map":{"version":3,"mappings":"A"}}],
+    "sections":1}
     | whole
 sections twice, first a number
-    | {"version":3,"sections":1,"sections":[{"offset":{"line":1,"column":0},"map":{"version":3,"mappings":"C"}}]}
+    | {"version":3,"sections":1,"sections":[{"offset":{"line":1,"column":0},"map":{"version":3,
+    "mappings":"C"}}]}
     | 1
 the version twice
-    | {"version":4,"version":3,"sections":[{"offset":{"line":0,"column":0},"map":{"version":3,"mappings":"A"}}]}
+    | {"version":4,"version":3,"sections":[{"offset":{"line":0,"column":0},"map":{"version":3,
+    "mappings":"A"}}]}
     | 1
 a version that is refused
     | {"version":4,"sections":[{"offset":{"line":0,"column":0},"map":{"version":3,"mappings":"A"}}]} | 1
 mappings beside the sections
-    | {"version":3,"mappings":"A","sections":[{"offset":{"line":0,"column":0},"map":{"version":3,"mappings":"A"}}]}
+    | {"version":3,"mappings":"A","sections":[{"offset":{"line":0,"column":0},"map":{"version":3,
+    "mappings":"A"}}]}
     | 1
 no version | {"sections":[{"offset":{"line":0,"column":0},"map":{"version":3,"mappings":"A"}}]} | whole
 a map in which sections are nested
@@ -83,16 +89,15 @@ an array, and not a map | [{"version":3},"sections":[1]] | whole"#;
 /// How many sections a text has from its first section on, each read by itself.
 fn count_of(rt: &impl AllocGlobal, text: &[u8]) -> Result<Option<usize>, AllocError> {
     let mut room = Vec::new(rt.alloc());
-    let mut count: usize = 0;
-    let mut left = Some(text);
-    'sections: while let Some(text) = left {
-        let Some((_, after)) = next_section(rt.alloc(), &mut room, text)? else {
-            return Ok(None);
-        };
-        count = count.saturating_add(1);
-        left = after;
+    let mut left = text;
+    for before in 0..text.len() {
+        match next_section(rt.alloc(), &mut room, left)? {
+            Some((_, Some(after))) => left = after,
+            Some((_, None)) => return Ok(Some(before + 1)),
+            None => return Ok(None),
+        }
     }
-    Ok(Some(count))
+    Ok(None)
 }
 
 /// The number of sections as a row has it.
