@@ -22,9 +22,9 @@ from answers import BASE, answer_of, as_bytes, shown, test
 SPACES = b" " * 5000
 PREFIX = b")]}'"
 
-# How many changed texts the test compares, and how many at a time a run of this file takes.
+# How many changed texts the test compares, and how many at a time a process of a run of this file.
 CHANGED = 4000
-MANY = 20_000
+MANY = 5000
 
 
 class BothWays(NamedTuple):
@@ -198,8 +198,8 @@ def changed(text, random_from):
     return bytes(text)
 
 
-def changed_maps(count):
-    random_from = random.Random(47)
+def changed_maps(count, seed=0):
+    random_from = random.Random(seed)
     texts = [text.encode() for text in maps()]
     for i in range(count):
         yield BothWays(changed(texts[i % len(texts)], random_from))
@@ -215,17 +215,22 @@ def changed_index_maps_have_one_answer_both_ways():
     yield from changed_maps(CHANGED)
 
 
+def wrong_answers(program, count, seed):
+    """What is wrong with each wrong answer to so many changed texts."""
+    found = (list(asked.faults(program)) for asked in changed_maps(count, seed))
+    return [faults for faults in found if faults]
+
+
 def main():
     count = int(sys.argv[1]) if len(sys.argv) > 1 else 1_000_000
     built = Path(__file__).resolve().parent.parent / "crates/smap/out/smap"
     program = os.path.abspath(os.environ.get("SMAP") or built)
-    failed, texts = 0, changed_maps(count)
-    with concurrent.futures.ThreadPoolExecutor(len(os.sched_getaffinity(0))) as pool:
-        while asked := list(itertools.islice(texts, MANY)):
-            for faults in pool.map(lambda it: list(it.faults(program)), asked):
-                if faults:
-                    failed += 1
-                    print("\n".join(faults), flush=True)
+    failed, counts = 0, [min(MANY, count - done) for done in range(0, count, MANY)]
+    with concurrent.futures.ProcessPoolExecutor(len(os.sched_getaffinity(0))) as pool:
+        for wrong in pool.map(wrong_answers, itertools.repeat(program), counts, range(len(counts))):
+            failed += len(wrong)
+            for faults in wrong:
+                print("\n".join(faults), flush=True)
     print(f"{count - failed} passed, {failed} failed")
     return 1 if failed else 0
 
