@@ -1,7 +1,8 @@
 -- What is wrong with an entry, and what an entry is.
 use Rattle.std.proofs.Common.{◌≡◌, ◌≢◌, ◌∙◌, ◌⊎◌, inl, inr, ℕ, ◌+◌, ◌-◌, ◌^◌, ◌<◌, ◌≤◌, ◌==◌, Bool, true}
 use Rattle.std.proofs.Common.{false, if◌then◌else◌, List, [], ◌∷◌, ◌++◌, length, map, min, take, drop, get_or}
-use Rattle.std.proofs.Common.{codes, Option, Some, None, option_and_then, Result, Ok, Err, refl, sym, ap, subst}
+use Rattle.std.proofs.Common.{codes, Option, Some, None, option_and_then, Result, Ok, Err}
+use Rattle.std.proofs.Common.{refl, sym, ap, subst}
 use Rattle.std.proofs.Common.{arith, append_assoc, append-nil, length-append, length-drop, true≢false}
 use Rattle.std.specs.Prelude.{IsErr, slice_get}
 use Rattle.std.proofs.Math.ListN.{get_or-append}
@@ -32,7 +33,8 @@ use Rattle.smap_bundle.specs.declared.fault.EntryFault.{EntryFault}
 use Rattle.smap_bundle.specs.declared.fault.EntryFault.TheVariants as wrong
 use Rattle.smap_bundle.specs.Header.{BeginsWithHeader, HeaderParts, IsHeader, after, header_in}
 use Rattle.smap_bundle.specs.Header.{longest_header, trace_line}
-use Rattle.smap_bundle.specs.Bundle.{BeginsWithEntries, Checked, base_url, entry_in, entry_with, fault_after, has_script, map_in}
+use Rattle.smap_bundle.specs.Bundle.{BeginsWithEntries, Checked, base_url, entry_in, entry_with}
+use Rattle.smap_bundle.specs.Bundle.{fault_after, has_script, map_in}
 use Rattle.smap_bundle.specs.Bundle.{map_read, or_fault, refuse_if, sized, usual}
 use Rattle.smap_bundle.specs.Entries.{IsFaultAt, IsNew, TakesEntry, TakesMap, refusal}
 use Rattle.smap_bundle.specs.Reach.{EndsWithinEntry, IsWithinEntry, IsWithinMap, ReadsNoMore}

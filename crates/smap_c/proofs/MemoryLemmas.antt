@@ -1,6 +1,7 @@
 -- How much memory a map takes: sums of numbers that are capped, rooms, and roots.
 use Rattle.std.proofs.Common.{◌≡◌, ◌+◌, ◌^◌, ◌<◌, ◌≤◌, ◌∙◌, ℕ, zero, suc, List, [], ◌∷◌, Option, Some, None}
-use Rattle.std.proofs.Common.{ap, arith, drop, false, length, option_copied, refl, slice_get, subst, sym, take}
+use Rattle.std.proofs.Common.{ap, arith, drop, false, length, option_copied, refl}
+use Rattle.std.proofs.Common.{slice_get, subst, sym, take}
 use Rattle.std.proofs.Common.{Bool, Bor, bytes_eq}
 use Rattle.std.specs.Option.{option_eq}
 use Rattle.std.proofs.Math.ListN.{drop_of_length-le}
@@ -54,7 +55,8 @@ next_root (x ∷ xs) zero s e = cc
 next_root (x ∷ xs) (suc i) s e = next_root xs i s e
 
 -- texts that are borrowed are compared by what they are
-same_borrowed : (same : Bor (List ℕ) → Bor (List ℕ) → Bool) → ((a b : Bor (List ℕ)) → same a b ≡ bytes_eq a.now b.now)
+same_borrowed : (same : Bor (List ℕ) → Bor (List ℕ) → Bool)
+    → ((a b : Bor (List ℕ)) → same a b ≡ bytes_eq a.now b.now)
     → (a b : Option (Bor (List ℕ))) → option_eq same a b ≡ same_text (option_copied a) (option_copied b)
 same_borrowed same are None None = refl
 same_borrowed same are None (Some b) = refl
@@ -83,7 +85,8 @@ root_before ss i s next root text result at differs is of_text step =
 
 -- the same text is another's where the two are equal
 pub roots_differ : (same : Bor (List ℕ) → Bor (List ℕ) → Bool)
-    → ((a b : Bor (List ℕ)) → same a b ≡ bytes_eq a.now b.now) → (s next : Spelling) (a b : Option (Bor (List ℕ)))
+    → ((a b : Bor (List ℕ)) → same a b ≡ bytes_eq a.now b.now)
+    → (s next : Spelling) (a b : Option (Bor (List ℕ)))
     (result : Bool) → s.root ≡ option_copied a → next.root ≡ option_copied b → result ≡ option_eq same a b
     → result ≡ false → same_text s.root next.root ≡ false
 roots_differ same are s next a b result of_s of_next is differs =

@@ -34,7 +34,8 @@ returns-in_err-sources-clause-reads c =
       p.1,
       p.2,
       flat_in_steps c.args.base.now c.args.limits c.args.offset (listing_of c.args.before)
-          (owned c.args.contents.items c.args.shape.now) (sym c.is_too_many.ensures.value ∙ c.if-is_too_many.false),
+          (owned c.args.contents.items c.args.shape.now)
+          (sym c.is_too_many.ensures.value ∙ c.if-is_too_many.false),
     )
     (first_fails _ _ _ c.in_err-sources.ensures.lists)
 
@@ -52,18 +53,21 @@ tokens_are before limits offset m sources names bounds text all_sources all_name
 
 pub returns-in_err-tokens-clause-reads : goal.returns-in_err-tokens-clause-reads
 returns-in_err-tokens-clause-reads c =
-    let p = err_from_is_err_and c.from_residual-in_err-tokens.result c.from_residual-in_err-tokens.ensures.1 in
+    let p = err_from_is_err_and c.from_residual-in_err-tokens.result
+    c.from_residual-in_err-tokens.ensures.1 in
     let len = c.len-name_count.ensures in
     let kept = c.args.before.names.ok in
     rw (
       p.1,
       p.2,
       flat_in_steps c.args.base.now c.args.limits c.args.offset (listing_of c.args.before)
-          (owned c.args.contents.items c.args.shape.now) (sym c.is_too_many.ensures.value ∙ c.if-is_too_many.false),
+          (owned c.args.contents.items c.args.shape.now)
+          (sym c.is_too_many.ensures.value ∙ c.if-is_too_many.false),
     )
     (then_fails _ _ _ _ c.in_ok-sources.ensures.lists (first_fails _ _ _
     (subst (Fails c.in_err-tokens.field-0.0)
-    (tokens_are c.args.before c.args.limits c.args.offset (owned c.args.contents.items c.args.shape.now) _ _ _ _
+    (tokens_are c.args.before c.args.limits c.args.offset
+    (owned c.args.contents.items c.args.shape.now) _ _ _ _
     c.listed_count-source_count.ensures (omega (arith, len, kept)) c.bounds-bounds.ensures.value
     c.mappings.ensures)
     c.in_err-tokens.ensures)))
@@ -98,7 +102,8 @@ pub returns-clause-fits : goal.returns-clause-fits
 returns-clause-fits c =
     flat_fits c.args.base.now c.args.limits c.args.offset (listing_of c.args.before)
     (owned c.args.contents.items c.args.shape.now) c.requires.offset c.is_too_many.ensures.items
-    c.bounds-bounds.ensures.lines c.requires.fits c.requires.none_after (sym c.is_too_many.ensures.value ∙ c.if-is_too_many.false)
+    c.bounds-bounds.ensures.lines c.requires.fits c.requires.none_after
+    (sym c.is_too_many.ensures.value ∙ c.if-is_too_many.false)
     (listing_of (record {
       sources = c.in_ok-sources.sources;
       names = c.in_ok-names.names;

@@ -10,7 +10,8 @@ invariant_of-result c =
     let m = c.args.shape.now in
     flat_has_roots s.roots.items c.push.new.self.items s.sources.items c.in_ok-sources.sources.items
     c.in_ok-copied.field-0 m c.in_ok-push.ensures.items (c.in_ok-copied.ensures ∙ c.root.ensures)
-    (c.in_ok-sources.ensures ∙ ap (λ n. map numbered_of s.sources.items ++ with_root n m.sources) (c.len.ensures ∙ s.roots.ok.0))
+    (c.in_ok-sources.ensures
+    ∙ ap (λ n. map numbered_of s.sources.items ++ with_root n m.sources) (c.len.ensures ∙ s.roots.ok.0))
     c.self.invariant
 
 pub returns : goal.returns
@@ -19,6 +20,7 @@ returns c =
     let m = c.args.shape.now in
     flat_kept s.roots.items c.push.new.self.items s.sources.items c.in_ok-sources.sources.items
     c.in_ok-copied.field-0 m c.in_ok-push.ensures.items (c.in_ok-copied.ensures ∙ c.root.ensures)
-    (c.in_ok-sources.ensures ∙ ap (λ n. map numbered_of s.sources.items ++ with_root n m.sources) (c.len.ensures ∙ s.roots.ok.0))
+    (c.in_ok-sources.ensures
+    ∙ ap (λ n. map numbered_of s.sources.items ++ with_root n m.sources) (c.len.ensures ∙ s.roots.ok.0))
     c.self.invariant
     ∙ ap (λ (ws : List Spelling). ws ++ of_flat m) c.self.view_is
