@@ -230,9 +230,9 @@ pub fn read_bundle<R: Read>(alloc: Global, reader: &mut Device<R>) -> Result<Bun
     ensures not_ended { OnOk result (has_ended reader.new ≡ false) }
 
     // Refused and TooLong are the bundle's first fault, whatever follows what was read, and nothing was read
-    // past what shows it: the line of the fault, or for a fault of a map the byte after the map. With Read and
-    // Memory too, nothing was read past the entry or past the line `trace`. Read comes with a failure of the
-    // reader, or if at least as many bytes as calls were read, and no other answer comes with a failure.
+    // past what shows it: the line of the fault, or for a fault of a map the byte after the map. With Read
+    // and Memory too, nothing was read past the entry or past the line `trace`. Read comes with a failure of
+    // the reader, or if at least as many bytes as calls were read, and no other answer comes with a failure.
     ensures stops { IfErr result (Stops R.remaining reader.old reader.new most_calls spec.HasFault
         ReadsNoMore) }
 

@@ -81,7 +81,8 @@ module _ (base : Parts) (limits : Allowed) (offset : Position) (before : Listing
         by : (es : Checked (List Entry)) (ts : Checked (List Token))
             → (es >>= λ es. ts >>= λ ts. Ok (listed es ts))
             ≡ (after before.sources es >>= λ sources.
-            (ts >>= λ ts. Ok (before.tokens ++ map (shifted (length before.sources) (length before.names)) ts))
+            (ts >>= λ ts. Ok (before.tokens
+            ++ map (shifted (length before.sources) (length before.names)) ts))
             >>= λ tokens. Ok (record { sources = sources; names = before.names ++ m.names; tokens = tokens }))
         by (Ok es) (Ok ts) = refl
         by (Ok es) (Err e) = refl

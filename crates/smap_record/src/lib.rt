@@ -6,8 +6,8 @@
 //! mappings. The first fault is the answer, and no map is handed out then. Each section of an index map is
 //! read after what is listed before it; an index map in a section is read by its own sections, eight levels
 //! deep at most. An index map's text is cut at its sections where it can be, and then a tree is made of one
-//! section at a time. Each source URL is resolved, and kept once in a hashed table. Names are copied out of the
-//! JSON tree once, and so are the contents of sections; those of a flat map are moved out of the tree.
+//! section at a time. Each source URL is resolved, and kept once in a hashed table. Names are copied out of
+//! the JSON tree once, and so are the contents of sections; those of a flat map are moved out of the tree.
 #![tactic(auto)]
 
 mod entry;

@@ -73,8 +73,9 @@ pub record PrefixOfRefusal (s : Streams) : Type 0 where
   pub no_more : ReadsNoMore input (bundle.Refused refusal)
   pub written : HasWritten s (take n (bundle_line refusal ++ 10 ∷ []))
 
--- What was written is exactly what the definition gives for what was read. Where the bundle has a fault or a map
--- is too long, nothing was read past the line that shows it, or for a fault of a map past the byte after the map.
+-- What was written is exactly what the definition gives for what was read. Where the bundle has a fault or a
+-- map is too long, nothing was read past the line that shows it, or for a fault of a map past the byte after
+-- the map.
 abbrev pub RunTranslates : (List Script → List ℕ → Fate) → Streams → Result Outcome RunFault → Type 0
 RunTranslates fates s (Ok Done) = (input text : List ℕ) × HasRead s input × IsAtEnd s.read_after
     × (s.ended ≡ true)

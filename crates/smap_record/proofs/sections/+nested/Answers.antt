@@ -69,7 +69,8 @@ with_map-returns-else-level-eq-MAX_LEVEL-clause-reads t c =
 
 pub with_section-returns-in_err-offset-clause-reads : goal.with_section-returns-in_err-offset-clause-reads
 with_section-returns-in_err-offset-clause-reads t c =
-    let p = err_from_is_err_and c.from_residual-in_err-offset.result c.from_residual-in_err-offset.ensures.1 in
+    let p = err_from_is_err_and c.from_residual-in_err-offset.result
+    c.from_residual-in_err-offset.ensures.1 in
     let error = c.in_err-offset.field-0.0 in
     let before = listing_of c.args.before in
     rw (

@@ -1,4 +1,5 @@
-use Rattle.std.proofs.Common.{◌≡◌, ◌∙◌, ◌+◌, ◌-◌, ◌<◌, ◌≤◌, ◌++◌, ap, sym, subst, arith, List, Ok, Some, map, length}
+use Rattle.std.proofs.Common.{◌≡◌, ◌∙◌, ◌+◌, ◌-◌, ◌<◌, ◌≤◌, ◌++◌, ap, sym, subst, arith}
+use Rattle.std.proofs.Common.{List, Ok, Some, map, length}
 use Rattle.std.proofs.Common.{drop, slice_get, append-nil}
 use Rattle.std.specs.Prelude.{Result, IfOk, option_map, flat_map}
 use Rattle.std.proofs.Math.ListN.{drop_of_length-le}

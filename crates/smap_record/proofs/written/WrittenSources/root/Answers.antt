@@ -14,7 +14,8 @@ index-requires-2 c =
     let within : c.args.i < length s.sources.items = omega (arith, count, below) in
     let at : slice_get s.sources.items c.args.i ≡ Some c.index.result.now =
     slice_get-get_or s.sources.items c.args.i _ within ∙ ap Some (sym c.index.ensures) in
-    let has = has_root (length s.roots.items) s.sources.items c.args.i c.index.result.now c.self.invariant at in
+    let has = has_root (length s.roots.items) s.sources.items c.args.i c.index.result.now
+    c.self.invariant at in
     let long = s.roots.ok.0 in
     omega (arith, has, long)
 
