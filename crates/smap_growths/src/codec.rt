@@ -1,12 +1,11 @@
 //! Calls on mappings strings.
 
-use crate::answers::{Answer, said};
+use crate::answers::{Answer, line, said};
 use smap_mappings::{
     Bounds, MAX_POSITION, MappingsError, MappingsReader, Memory, Original, Token, WIDEST, decode,
     encode,
 };
 use smap_record::Fault;
-use smap_tool::fault_text;
 use std::alloc::Global;
 
 /// The bounds of a map with one source and no names.
@@ -16,26 +15,45 @@ pub(crate) const ONE_SOURCE: Bounds = Bounds {
     ..WIDEST
 };
 
+/// The canonical string of the tokens.
+fn text_of(alloc: Global, tokens: &[Token]) -> Answer {
+    if !smap_mappings::is_encodable(tokens) {
+        return said(alloc, b"tokens without a text");
+    }
+    encode(alloc, tokens)
+}
+
+/// The line of the fault.
+fn fault(alloc: Global, error: MappingsError) -> Answer {
+    match error {
+        MappingsError::Fault(place, kind) => line(alloc, &Fault::of_segment(place, kind)),
+        MappingsError::Memory => Err(Memory),
+    }
+}
+
 /// The canonical string of the tokens, or the line of the fault.
 fn tokens_or_fault(alloc: Global, tokens: Result<Vec<Token>, MappingsError>) -> Answer {
     match tokens {
-        Ok(tokens) => {
-            if !smap_mappings::is_encodable(tokens.as_slice()) {
-                return said(alloc, b"tokens without a text");
-            }
-            encode(alloc, tokens.as_slice())
-        }
-        Err(MappingsError::Fault(place, kind)) => {
-            let fault = Fault::of_segment(place, kind);
-            let line = fault_text(alloc, &fault)?;
-            Ok(line.into_bytes())
-        }
-        Err(MappingsError::Memory) => Err(Memory),
+        Ok(tokens) => text_of(alloc, tokens.as_slice()),
+        Err(error) => fault(alloc, error),
     }
 }
 
 pub(crate) fn decoded(alloc: Global, text: &[u8], bounds: Bounds) -> Answer {
     tokens_or_fault(alloc, decode(alloc, text, bounds))
+}
+
+/// Whether the reader answers each further call as it did the last one.
+fn stays(mut reader: MappingsReader, error: MappingsError) -> bool {
+    reader.feed(b"A") == Err(error) && reader.finish() == Err(error)
+}
+
+/// The line of the fault that the reader told.
+fn told(alloc: Global, reader: MappingsReader, error: MappingsError) -> Answer {
+    if !stays(reader, error) {
+        return said(alloc, b"the reader changed its mind");
+    }
+    fault(alloc, error)
 }
 
 /// Byte by byte, with room for so many tokens to begin with. Once memory has run out, each further call has
@@ -44,11 +62,7 @@ pub(crate) fn in_pieces(alloc: Global, text: &[u8], bounds: Bounds, room: usize)
     let mut reader = MappingsReader::new(alloc, bounds, room)?;
     for i in 0..text.len() {
         if let Err(error) = reader.feed(&text[i..i + 1]) {
-            let stays = reader.feed(b"A") == Err(error) && reader.finish() == Err(error);
-            if !stays {
-                return said(alloc, b"the reader changed its mind");
-            }
-            return tokens_or_fault(alloc, Err(error));
+            return told(alloc, reader, error);
         }
     }
     tokens_or_fault(alloc, reader.finish())
@@ -66,9 +80,5 @@ pub(crate) fn encoded(alloc: Global) -> Answer {
             name: Some(4),
         }),
     };
-    let tokens = [token; 40];
-    if !smap_mappings::is_encodable(&tokens) {
-        return said(alloc, b"tokens without a text");
-    }
-    encode(alloc, &tokens)
+    text_of(alloc, &[token; 40])
 }

@@ -22,72 +22,107 @@ g@http://h/m/out.js:1:4\r
 
 @http://h/m/out.js:1:2147483648";
 
-/// The map of a text, where it has no fault.
-fn map(alloc: Global, text: &[u8]) -> Result<Option<SourceMap>, Memory> {
-    let Ok(base) = Base::new(alloc, BASE) else {
-        return Err(Memory);
-    };
-    match SourceMap::from_slice(alloc, text, &base, Limits::usual()) {
-        Ok(map) => Ok(Some(map)),
-        Err(ReadError::Refused(_)) => Ok(None),
-        Err(ReadError::Memory) => Err(Memory),
+/// A line with two positions, of which the second is no frame's.
+const LINE: &[u8] = b"    at http://h/m/out.js:1:5 (http://h/m/out.js:1:2)\n";
+
+/// The map of a text.
+fn map(alloc: Global, text: &[u8]) -> Result<SourceMap, ReadError> {
+    match Base::new(alloc, BASE) {
+        Ok(base) => SourceMap::from_slice(alloc, text, &base, Limits::usual()),
+        Err(_) => Err(ReadError::Memory),
     }
 }
 
-/// The index of the mapping for a position, by the table of the map's lines.
-pub(crate) fn by_table(alloc: Global, text: &[u8]) -> Answer {
-    let Some(map) = map(alloc, text)? else {
-        return said(alloc, b"refused");
-    };
-    let starts = LineStarts::new(alloc, &map)?;
-    let (found, _probes) = find_in(&map, &starts, 0, 5);
+/// The answer where no map was read.
+fn no_map(alloc: Global, error: ReadError) -> Answer {
+    match error {
+        ReadError::Refused(_) => said(alloc, b"refused"),
+        ReadError::Memory => Err(Memory),
+    }
+}
+
+/// The text of an index.
+fn shown(alloc: Global, found: Option<usize>) -> Answer {
     let shown = format!(in alloc; "{found:?}")?;
     Ok(shown.into_bytes())
 }
 
-/// A line with two positions, of which the second is no frame's. It comes after bytes that have to stay
-/// where memory runs out.
-pub(crate) fn line(alloc: Global, text: &[u8], finding: Finding) -> Answer {
-    let Some(map) = map(alloc, text)? else {
-        return said(alloc, b"refused");
-    };
-    let scripts = [("http://h/m/out.js", &map)];
-    let mut out = said(alloc, b"front: ")?;
-    if !distinct_scripts(&scripts) {
-        return Ok(out);
-    }
-    match translate_line_by(
-        b"    at http://h/m/out.js:1:5 (http://h/m/out.js:1:2)\n",
-        &scripts,
-        finding,
-        false,
-        &mut out,
-    ) {
-        Ok(_) => Ok(out),
-        Err(_) => {
-            if out.as_slice() != b"front: ".as_slice() {
-                return said(alloc, b"the bytes changed");
-            }
-            Err(Memory)
-        }
+/// The index of a map's mapping for a position, by the table of its lines.
+fn by_table_of(alloc: Global, map: &SourceMap) -> Answer {
+    let starts = LineStarts::new(alloc, map)?;
+    let (found, _probes) = find_in(map, &starts, 0, 5);
+    shown(alloc, found)
+}
+
+/// The index of the mapping for a position, by the table of the map's lines.
+pub(crate) fn by_table(alloc: Global, text: &[u8]) -> Answer {
+    match map(alloc, text) {
+        Ok(map) => by_table_of(alloc, &map),
+        Err(error) => no_map(alloc, error),
     }
 }
 
-/// What was written before memory ran out is a prefix of the answer, and isn't looked at here. The writer has
-/// room from the beginning, since one that gets no memory fails.
-pub(crate) fn trace(alloc: Global, text: &[u8]) -> Answer {
-    let Some(map) = map(alloc, text)? else {
-        return said(alloc, b"refused");
-    };
-    let scripts = [("http://h/m/out.js", &map)];
+/// Writes the line by the map.
+fn write_line(map: &SourceMap, finding: Finding, out: &mut Vec<u8>) -> Result<(), Memory> {
+    let scripts = [("http://h/m/out.js", map)];
+    if distinct_scripts(&scripts) {
+        translate_line_by(LINE, &scripts, finding, false, out)?;
+    }
+    Ok(())
+}
+
+/// The answer where memory ran out after these bytes.
+fn given_up(alloc: Global, out: &[u8]) -> Answer {
+    if out != b"front: ".as_slice() {
+        return said(alloc, b"the bytes changed");
+    }
+    Err(Memory)
+}
+
+/// The line by a map, after bytes that have to stay where memory runs out.
+fn line_of(alloc: Global, map: &SourceMap, finding: Finding) -> Answer {
+    let mut out = said(alloc, b"front: ")?;
+    match write_line(map, finding, &mut out) {
+        Ok(()) => Ok(out),
+        Err(_) => given_up(alloc, out.as_slice()),
+    }
+}
+
+/// The line by the map that was read.
+pub(crate) fn line(alloc: Global, text: &[u8], finding: Finding) -> Answer {
+    match map(alloc, text) {
+        Ok(map) => line_of(alloc, &map, finding),
+        Err(error) => no_map(alloc, error),
+    }
+}
+
+/// The trace by a map, written where there is room for it.
+fn traced(alloc: Global, map: &SourceMap, room: Vec<u8>) -> Result<Vec<u8>, TraceError> {
+    let scripts = [("http://h/m/out.js", map)];
     if !distinct_scripts(&scripts) {
-        return said(alloc, b"");
+        return Ok(room);
     }
     let mut reader = Device::new(TRACE);
-    let mut writer = Device::new(Vec::with_capacity(alloc, 4096)?);
-    match translate(alloc, &mut reader, &scripts, false, &mut writer) {
-        Ok(_) => Ok(writer.into_inner()),
+    let mut writer = Device::new(room);
+    translate(alloc, &mut reader, &scripts, false, &mut writer)?;
+    Ok(writer.into_inner())
+}
+
+/// The trace by a map. The writer has room from the beginning, since one that gets no memory fails. What was
+/// written before memory ran out is a prefix of the answer, and isn't looked at here.
+fn trace_of(alloc: Global, map: &SourceMap) -> Answer {
+    let room = Vec::with_capacity(alloc, 4096)?;
+    match traced(alloc, map, room) {
+        Ok(bytes) => Ok(bytes),
         Err(TraceError::Memory) => Err(Memory),
         Err(_) => said(alloc, b"a device failed"),
+    }
+}
+
+/// The trace by the map that was read.
+pub(crate) fn trace(alloc: Global, text: &[u8]) -> Answer {
+    match map(alloc, text) {
+        Ok(map) => trace_of(alloc, &map),
+        Err(error) => no_map(alloc, error),
     }
 }

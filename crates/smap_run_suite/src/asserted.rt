@@ -11,7 +11,7 @@ pub(crate) fn equal<R: Copy + Debug, T: Copy + Debug + PartialEq>(
     found: T,
     expected: T,
 ) {
-    assert_eq!(rt; found, expected, "{row:?}");
+    holds(rt, (row, found, expected), found == expected);
 }
 
 /// Asserts a claim, and says otherwise of which row or thing it fails.

@@ -17,33 +17,41 @@ fn words_of(alloc: Global, line: &str) -> Result<Vec<&str>, AllocError> {
     Ok(words)
 }
 
-/// Asserts that a command line is this task.
-fn is_task(rt: &(impl Abort + AllocGlobal), line: &str, expected: Task<'_>) {
-    let words = words_of(rt.alloc(), line).expect(rt, line);
-    match task_of(rt.alloc(), words.as_slice()) {
+/// Asserts that these words of a command line are this task.
+fn are_task(rt: &(impl Abort + AllocGlobal), line: &str, words: &[&str], expected: Task<'_>) {
+    match task_of(rt.alloc(), words) {
         Ok(task) => equal(rt, line, task, expected),
         Err(_) => holds(rt, line, false),
     }
 }
 
+/// Asserts that a command line is this task.
+fn is_task(rt: &(impl Abort + AllocGlobal), line: &str, expected: Task<'_>) {
+    let words = words_of(rt.alloc(), line).expect(rt, line);
+    are_task(rt, line, words.as_slice(), expected);
+}
+
+/// Command lines of commands without flags, and their tasks.
+static COMMANDS: [(&str, Task<'static>); 8] = [
+    ("smap respell", Task::Respell),
+    ("./smap respell", Task::Respell),
+    (" respell", Task::Respell),
+    ("smap scripts", Task::Scripts),
+    (
+        "smap check http://h/m/out.js.map",
+        Task::Check { base: BASE },
+    ),
+    ("smap check ", Task::Check { base: "" }),
+    ("smap check -- -x", Task::Check { base: "-x" }),
+    (
+        "smap flatten http://h/m/out.js.map",
+        Task::Flatten { base: BASE },
+    ),
+];
+
 #[test]
 fn each_command_is_a_task_with_its_values(rt: HostRuntime) {
-    for &(line, task) in &[
-        ("smap respell", Task::Respell),
-        ("./smap respell", Task::Respell),
-        (" respell", Task::Respell),
-        ("smap scripts", Task::Scripts),
-        (
-            "smap check http://h/m/out.js.map",
-            Task::Check { base: BASE },
-        ),
-        ("smap check ", Task::Check { base: "" }),
-        ("smap check -- -x", Task::Check { base: "-x" }),
-        (
-            "smap flatten http://h/m/out.js.map",
-            Task::Flatten { base: BASE },
-        ),
-    ] {
+    for &(line, task) in &COMMANDS {
         is_task(&rt, line, task);
     }
 }

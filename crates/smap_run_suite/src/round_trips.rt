@@ -6,7 +6,8 @@ use smap_io::Device;
 use smap_record::{Base, Limits, ReadError, SourceMap};
 use smap_testing::{SlowReader, SlowWriter};
 use smap_tool::round_trips::read_again;
-use smap_trace::translate;
+use smap_trace::{TraceError, translate};
+use std::alloc::Global;
 use std::process::Abort;
 
 /// A script whose map is `TWO_NAMES`, one whose map is `TWO_SECTIONS`, and one without a map.
@@ -25,29 +26,25 @@ fn both(
     relative: bool,
 ) -> (SourceMap, SourceMap) {
     let read = read_again(rt.alloc(), text.as_bytes(), base, Limits::usual(), relative);
-    assert!(rt; read.is_ok(), "{text}");
+    holds(rt, text, read.is_ok());
     read.expect(rt, "the text is accepted")
+}
+
+/// The trace by these two maps.
+fn told(alloc: Global, one: &SourceMap, two: &SourceMap) -> Result<Vec<u8>, TraceError> {
+    let scripts = [("http://h/one.js", one), ("http://h/two.js", two)];
+    let mut reader = Device::new(SlowReader::new(TRACE.as_bytes(), 9, 0));
+    let mut writer = Device::new(SlowWriter::new(alloc, 9, 0));
+    translate(alloc, &mut reader, scripts.as_slice(), false, &mut writer)?;
+    Ok(writer.into_inner().bytes)
 }
 
 /// By these two maps the trace is told so.
 fn tells(rt: &(impl Abort + AllocGlobal), one: &SourceMap, two: &SourceMap) {
-    let scripts = [("http://h/one.js", one), ("http://h/two.js", two)];
-    let mut reader = Device::new(SlowReader::new(TRACE.as_bytes(), 9, 0));
-    let mut writer = Device::new(SlowWriter::new(rt.alloc(), 9, 0));
-    let answer = translate(
-        rt.alloc(),
-        &mut reader,
-        scripts.as_slice(),
-        false,
-        &mut writer,
-    );
-    holds(rt, "answer", answer.is_ok());
-    equal(
-        rt,
-        "bytes",
-        writer.into_inner().bytes.as_slice(),
-        TOLD.as_bytes(),
-    );
+    match told(rt.alloc(), one, two) {
+        Ok(bytes) => equal(rt, "bytes", bytes.as_slice(), TOLD.as_bytes()),
+        Err(_) => holds(rt, "answer", false),
+    }
 }
 
 /// By each of two maps for the one script, and each of two for the other, the trace is told alike.
@@ -62,25 +59,49 @@ fn all_tell(
     tells(rt, &ones.1, &twos.1);
 }
 
+/// Both maps of `TWO_SECTIONS` are the same, and tell the trace alike, next to each of these two.
+fn sections_alike(
+    rt: &(impl Abort + AllocGlobal),
+    base: &Base,
+    relative: bool,
+    names: &(SourceMap, SourceMap),
+) {
+    let sections = both(rt, TWO_SECTIONS, base, relative);
+    holds(rt, relative, same(&sections.0, &sections.1));
+    all_tell(rt, names, &sections);
+    drop(sections);
+}
+
+/// Both maps of `TWO_NAMES` are the same, and so are those of `TWO_SECTIONS`, and they tell the trace alike.
+fn all_alike(rt: &(impl Abort + AllocGlobal), base: &Base, relative: bool) {
+    let names = both(rt, TWO_NAMES, base, relative);
+    holds(rt, relative, same(&names.0, &names.1));
+    sections_alike(rt, base, relative, &names);
+    drop(names);
+}
+
+fn base(rt: &(impl Abort + AllocGlobal)) -> Base {
+    Base::new(rt.alloc(), BASE).expect(rt, "it is a URL")
+}
+
 #[test]
 fn a_map_and_what_its_canonical_bytes_say_translate_alike(rt: HostRuntime) {
-    let base = Base::new(rt.alloc(), BASE).expect(&rt, "it is a URL");
+    let base = base(&rt);
     for &relative in &[false, true] {
-        let names = both(&rt, TWO_NAMES, &base, relative);
-        let sections = both(&rt, TWO_SECTIONS, &base, relative);
-        holds(&rt, relative, same(&names.0, &names.1));
-        holds(&rt, relative, same(&sections.0, &sections.1));
-        all_tell(&rt, &names, &sections);
+        all_alike(&rt, &base, relative);
     }
+}
+
+/// A text that is no map is refused.
+fn is_refused(alloc: Global, base: &Base, relative: bool) -> bool {
+    let fault = read_again(alloc, b"[]", base, Limits::usual(), relative).err();
+    matches!(fault, Some(ReadError::Refused(_)))
 }
 
 #[test]
 fn a_text_with_a_fault_is_refused(rt: HostRuntime) {
-    let base = Base::new(rt.alloc(), BASE).expect(&rt, "it is a URL");
-    for relative in [false, true] {
-        match read_again(rt.alloc(), b"[]", &base, Limits::usual(), relative) {
-            Ok(_maps) => assert!(rt; false, "it was read"),
-            Err(fault) => holds(&rt, "refused", matches!(fault, ReadError::Refused(_))),
-        }
+    let base = base(&rt);
+    for &relative in &[false, true] {
+        holds(&rt, relative, is_refused(rt.alloc(), &base, relative));
     }
 }

@@ -123,3 +123,13 @@ fn writes(
     equal(rt, (task, input), ran.reads, calls);
     let _at_once = writes_by(rt, task, input, output, outcome, usize::MAX);
 }
+
+/// With so many bytes a read, and a writer that takes nothing, a task fails at its first write.
+fn fails_to_write(rt: &(impl Abort + AllocGlobal), task: Task<'_>, input: &str, step: usize)
+    requires { 0 < step }
+{
+    let reader = SlowReader::new(input.as_bytes(), step, 0);
+    let ran = run_over(rt.alloc(), task, reader, SlowWriter::new(rt.alloc(), 0, 0));
+    equal(rt, (task, input), ran.answer, Err(RunFault::Write));
+    equal(rt, (task, input), (ran.writes, ran.failed_writes), (1, 1));
+}

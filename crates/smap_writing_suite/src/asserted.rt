@@ -4,14 +4,14 @@
 use std::fmt::Debug;
 use std::process::Abort;
 
-/// Asserts that what was found is what was expected, and says otherwise of which row or thing it was found.
+/// Asserts that what was found is what was expected, and otherwise says both, after the row or thing.
 pub(crate) fn equal<R: Copy + Debug, T: Copy + Debug + PartialEq>(
     rt: &impl Abort,
     row: R,
     found: T,
     expected: T,
 ) {
-    assert_eq!(rt; found, expected, "{row:?}");
+    holds(rt, (row, found, expected), found == expected);
 }
 
 /// Asserts a claim, and says otherwise of which row or thing it fails.

@@ -4,7 +4,7 @@ use crate::asserted::{equal, holds};
 use crate::reading::{base, read};
 use smap_canon::round_trips::{flattened, have_equal_bytes, tidied};
 use smap_canon::{canonical_mappings, same};
-use smap_record::Limits;
+use smap_record::{Limits, SourceMap};
 use smap_testing::rows;
 use std::process::Abort;
 use std::test::Fail;
@@ -51,34 +51,25 @@ const WRITTEN: [(&str, &str, &str, &str); 2] = [
 
 /// Asserts that one call makes these canonical bytes of a text, in the relative form if that is set.
 fn tidies_to(rt: &(impl Abort + AllocGlobal), text: &str, want: &str, relative: bool) {
-    let base = base(rt);
-    let bytes = tidied(
-        rt.alloc(),
-        text.as_bytes(),
-        &base,
-        Limits::usual(),
-        relative,
-    );
-    holds(
-        rt,
-        text,
-        bytes.expect(rt, text).as_slice() == want.as_bytes(),
-    );
+    let input = text.as_bytes();
+    let bytes = tidied(rt.alloc(), input, &base(rt), Limits::usual(), relative).expect(rt, text);
+    equal(rt, text, bytes.as_slice(), want.as_bytes());
 }
 
 /// Asserts that one call makes these flat bytes of a text.
 fn flattens_to(rt: &(impl Abort + AllocGlobal), text: &str, want: &str) {
-    let bytes = flattened(rt.alloc(), text.as_bytes(), &base(rt), Limits::usual());
-    holds(
-        rt,
-        text,
-        bytes.expect(rt, text).as_slice() == want.as_bytes(),
-    );
+    let bytes = flattened(rt.alloc(), text.as_bytes(), &base(rt), Limits::usual()).expect(rt, text);
+    equal(rt, text, bytes.as_slice(), want.as_bytes());
+}
+
+/// Whether a map has the same record as the map of a text.
+fn is_same(rt: &(impl Abort + AllocGlobal), map: &SourceMap, text: &str) -> bool {
+    same(map, &read(rt, text))
 }
 
 /// Whether the maps of two texts have the same record.
 fn are_same(rt: &(impl Abort + AllocGlobal), one: &str, other: &str) -> bool {
-    same(&read(rt, one), &read(rt, other))
+    is_same(rt, &read(rt, one), other)
 }
 
 /// Whether one call finds that two texts have equal canonical bytes, in the relative form if that is set.
@@ -101,15 +92,16 @@ fn each_form_is_written_and_has_the_same_record(rt: HostRuntime) {
         tidies_to(&rt, text, canonical, false);
         tidies_to(&rt, text, relative, true);
         flattens_to(&rt, text, flat);
-        for written in [canonical, relative, flat] {
+        for &written in &[canonical, relative, flat] {
             holds(&rt, written, are_same(&rt, text, written));
         }
     }
 }
 
-/// The canonical mappings string of the map of a text.
-fn mappings_of(rt: &(impl Abort + AllocGlobal), text: &str) -> Vec<u8> {
-    canonical_mappings(rt.alloc(), &read(rt, text)).expect(rt, text)
+/// Asserts the canonical mappings string of a map.
+fn has_mappings(rt: &(impl Abort + AllocGlobal), map: &SourceMap, want: &str) {
+    let mappings = canonical_mappings(rt.alloc(), map).expect(rt, want);
+    equal(rt, want, mappings.as_slice(), want.as_bytes());
 }
 
 #[test]
@@ -120,8 +112,7 @@ fn the_mappings_are_those_of_the_text(rt: HostRuntime) {
         (EMPTY, ""),
         (TWO_SECTIONS, "AAAA,UAAAA;CCCC"),
     ] {
-        let mappings = mappings_of(&rt, text);
-        holds(&rt, text, mappings.as_slice() == want.as_bytes());
+        has_mappings(&rt, &read(&rt, text), want);
     }
 }
 
@@ -175,7 +166,7 @@ fn equal_bytes_say_equal_records(rt: HostRuntime) {
         (absolute, true),
         (EMPTY, false),
     ] {
-        for relative in [false, true] {
+        for &relative in &[false, true] {
             equal(&rt, other, are_equal(&rt, SMALL, other, relative), want);
         }
     }

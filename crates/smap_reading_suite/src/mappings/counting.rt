@@ -1,7 +1,7 @@
 //! Mappings strings, with the number of their segments.
 use crate::asserted::equal;
 use smap_mappings::count_segments;
-use std::test::Fail;
+use std::process::Abort;
 
 /// The parts between the commas of nonempty lines, counted one by one.
 fn plain_count(text: &[u8]) -> usize {
@@ -32,16 +32,19 @@ fn segments_are_counted(rt: HostRuntime) {
     equal(&rt, "commas", count_segments(&[b','; 64]), 65);
 }
 
-#[test]
-fn lanes_count_as_a_split_does(rt: HostRuntime) -> Result<(), Fail> {
-    let bytes = [b',', b';', b'A', b';', b';', b'g', b',', b','];
-    for which in 0..8usize {
-        let mut text = Vec::new(rt.alloc());
-        for len in 0..201usize {
-            let count = plain_count(&text);
-            equal(&rt, (which, len), count_segments(&text), count);
-            text.push(bytes[(len * len % 61 + which) % 8])?;
-        }
+/// Bytes whose order changes with `which`, and their counts as they grow.
+fn lanes_count(rt: &(impl Abort + AllocGlobal), which: usize) {
+    let mut text = Vec::new(rt.alloc());
+    for len in 0..201usize {
+        equal(rt, (which, len), count_segments(&text), plain_count(&text));
+        text.push(b",;A;;g,,"[(len * len % 61).wrapping_add(which) % 8])
+            .expect(rt, "memory");
     }
-    Ok(())
+}
+
+#[test]
+fn lanes_count_as_a_split_does(rt: HostRuntime) {
+    for which in 0..8usize {
+        lanes_count(&rt, which);
+    }
 }

@@ -67,62 +67,35 @@ fn positions_lie_after_the_start(rt: HostRuntime) -> Result<(), Fail> {
     )
 }
 
+/// Asserts the fault of a text, and its line and segment.
+fn has_fault(
+    rt: &(impl Abort + AllocGlobal),
+    text: &str,
+    bounds: Bounds,
+    (line, segment): (u32, u32),
+    kind: SegmentKind,
+) {
+    let fault = decode(rt.alloc(), text.as_bytes(), bounds).err();
+    let want = MappingsError::Fault(SegmentPlace { line, segment }, kind);
+    equal(rt, text, fault, Some(want));
+}
+
 #[test]
 fn the_first_fault_of_a_segment_is_answered(rt: HostRuntime) {
-    let rows = [
-        (
-            "E;C",
-            bounds(1, 10, 0, 0, 2),
-            (1, 0),
-            SegmentKind::GeneratedLine,
-        ),
-        ("D", bounds(0, 10, 0, 0, 1), (0, 0), SegmentKind::Column),
-        (
-            "D",
-            bounds(0, 0, 0, 0, 0),
-            (0, 0),
-            SegmentKind::GeneratedLine,
-        ),
-        (
-            "C",
-            bounds(0, 2_147_483_647, 0, 0, 1),
-            (0, 0),
-            SegmentKind::Column,
-        ),
-        ("ADAA", bounds(0, 0, 1, 0, 1), (0, 0), SegmentKind::Source),
-        (
-            "AADD",
-            bounds(0, 0, 1, 0, 1),
-            (0, 0),
-            SegmentKind::OriginalLine,
-        ),
-        (
-            "AAADA",
-            bounds(0, 0, 1, 0, 1),
-            (0, 0),
-            SegmentKind::OriginalColumn,
-        ),
-        ("AAAAA", bounds(0, 0, 1, 0, 1), (0, 0), SegmentKind::Name),
-        (
-            ";;;;A",
-            bounds(0, 0, 0, 0, 4),
-            (4, 0),
-            SegmentKind::GeneratedLine,
-        ),
-        (
-            "AAAA,CCAA",
-            bounds(0, 0, 1, 0, 1),
-            (0, 1),
-            SegmentKind::Source,
-        ),
-    ];
-    for (text, bounds, (line, segment), kind) in rows {
-        let fault = MappingsError::Fault(SegmentPlace { line, segment }, kind);
-        equal(
-            &rt,
-            text,
-            decode(rt.alloc(), text.as_bytes(), bounds).err(),
-            Some(fault),
-        );
-    }
+    let line = SegmentKind::GeneratedLine;
+    let column = SegmentKind::Column;
+    let source = SegmentKind::Source;
+    let original_line = SegmentKind::OriginalLine;
+    let original_column = SegmentKind::OriginalColumn;
+    let name = SegmentKind::Name;
+    has_fault(&rt, "E;C", bounds(1, 10, 0, 0, 2), (1, 0), line);
+    has_fault(&rt, "D", bounds(0, 10, 0, 0, 1), (0, 0), column);
+    has_fault(&rt, "D", bounds(0, 0, 0, 0, 0), (0, 0), line);
+    has_fault(&rt, "C", bounds(0, 2_147_483_647, 0, 0, 1), (0, 0), column);
+    has_fault(&rt, "ADAA", bounds(0, 0, 1, 0, 1), (0, 0), source);
+    has_fault(&rt, "AADD", bounds(0, 0, 1, 0, 1), (0, 0), original_line);
+    has_fault(&rt, "AAADA", bounds(0, 0, 1, 0, 1), (0, 0), original_column);
+    has_fault(&rt, "AAAAA", bounds(0, 0, 1, 0, 1), (0, 0), name);
+    has_fault(&rt, ";;;;A", bounds(0, 0, 0, 0, 4), (4, 0), line);
+    has_fault(&rt, "AAAA,CCAA", bounds(0, 0, 1, 0, 1), (0, 1), source);
 }

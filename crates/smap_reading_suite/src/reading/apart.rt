@@ -1,13 +1,10 @@
 //! Index maps that are read section by section, beside the same maps read as one JSON tree: both ways must
 //! give the same. `from_slice` tries the first way, and `from_slice_as_written` goes the second alone.
-use super::{outcome, usual_base};
-use crate::asserted::holds;
-use smap_record::{Limits, ReadError, SourceMap, WrittenSources};
+use super::{Row, ample, is_wanted, refusal, row_of, slice_is_answered, told, usual_base};
+use smap_record::{Base, Limits, ReadError, SourceMap, WrittenSources};
 use smap_sections::{cut_sections, next_section};
-use smap_testing::{parts, rows};
-use std::alloc::AllocError;
+use smap_testing::rows;
 use std::process::Abort;
-use std::test::Fail;
 
 /// What a row shows, a map, and how many of its sections are read by themselves up to the end of the map;
 /// `whole` where the map isn't read so.
@@ -86,92 +83,142 @@ a string isn't ended
     | {"version":3,"sections":[{"offset":{"line":0,"column":0},"map":{"version":3,"mappings":"A}}]} | whole
 an array, and not a map | [{"version":3},"sections":[1]] | whole"#;
 
+/// What stands after the first section of a text, if that section is read by itself.
+fn after_section<'a>(
+    rt: &(impl Abort + AllocGlobal),
+    room: &mut Vec<u8>,
+    text: &'a [u8],
+) -> Option<Option<&'a [u8]>> {
+    match ample(rt, next_section(rt.alloc(), room, text)) {
+        Some((_, after)) => Some(after),
+        None => None,
+    }
+}
+
 /// How many sections a text has from its first section on, each read by itself.
-fn count_of(rt: &impl AllocGlobal, text: &[u8]) -> Result<Option<usize>, AllocError> {
-    let mut room = Vec::new(rt.alloc());
+fn count_of(rt: &(impl Abort + AllocGlobal), room: &mut Vec<u8>, text: &[u8]) -> Option<usize> {
     let mut left = text;
     for before in 0..text.len() {
-        match next_section(rt.alloc(), &mut room, left)? {
-            Some((_, Some(after))) => left = after,
-            Some((_, None)) => return Ok(Some(before + 1)),
-            None => return Ok(None),
+        match after_section(rt, room, left)? {
+            Some(after) => left = after,
+            None => return Some(before + 1),
         }
     }
-    Ok(None)
+    None
+}
+
+/// A map from its first section on, if it is cut there.
+fn sections_of<'a>(rt: &(impl Abort + AllocGlobal), text: &'a [u8]) -> Option<&'a [u8]> {
+    match ample(rt, cut_sections(rt.alloc(), text)) {
+        Some((_, sections)) => Some(sections),
+        None => None,
+    }
+}
+
+/// How many sections a map has, each read by itself.
+fn whole_count(rt: &(impl Abort + AllocGlobal), text: &[u8]) -> Option<usize> {
+    let mut room = Vec::new(rt.alloc());
+    match sections_of(rt, text) {
+        Some(sections) => count_of(rt, &mut room, sections),
+        None => None,
+    }
 }
 
 /// The number of sections as a row has it.
-fn told(rt: &impl AllocGlobal, text: &[u8]) -> Result<String, AllocError> {
-    let count = match cut_sections(rt.alloc(), text)? {
-        Some((_, sections)) => count_of(rt, sections)?,
-        None => None,
-    };
-    match count {
+fn count_told(rt: &(impl Abort + AllocGlobal), text: &[u8]) -> String {
+    let told = match whole_count(rt, text) {
         Some(count) => format!(in rt.alloc(); "{count}"),
         None => String::from_str(rt.alloc(), "whole"),
-    }
+    };
+    ample(rt, told)
 }
 
-/// The map alone.
-fn without_written(
-    read: Result<(SourceMap, WrittenSources), ReadError>,
-) -> Result<SourceMap, ReadError> {
+/// Asserts how many sections are read by themselves.
+fn has_count(rt: &(impl Abort + AllocGlobal), row: &Row) {
+    is_wanted(rt, row, count_told(rt, row.text.as_bytes()));
+}
+
+/// The result of reading as one tree, as text.
+fn whole_told(
+    rt: &(impl Abort + AllocGlobal),
+    read: &Result<(SourceMap, WrittenSources), ReadError>,
+) -> String {
     match read {
-        Ok((map, written)) => {
-            drop(written);
-            Ok(map)
-        }
-        Err(error) => Err(error),
+        Ok((map, _)) => told(rt, map),
+        Err(error) => refusal(rt, error),
     }
 }
 
-/// Asserts that both ways give the same for these bytes.
-fn are_alike(rt: &(impl Abort + AllocGlobal), name: &str, bytes: &[u8]) -> Result<(), AllocError> {
+/// The result of reading a text as one tree, as text.
+fn whole_outcome(rt: &(impl Abort + AllocGlobal), text: &str, base: &Base) -> String {
+    let bytes = text.as_bytes();
+    let read = SourceMap::from_slice_as_written(rt.alloc(), bytes, base, Limits::usual());
+    whole_told(rt, &read)
+}
+
+/// Asserts that both ways give the same for a text.
+fn are_alike(rt: &(impl Abort + AllocGlobal), name: &str, text: &str) {
     let base = usual_base(rt);
-    let read = SourceMap::from_slice_as_written(rt.alloc(), bytes, &base, Limits::usual());
-    let whole = outcome(rt, without_written(read))?;
-    let read = SourceMap::from_slice(rt.alloc(), bytes, &base, Limits::usual());
-    let apart = outcome(rt, read)?;
-    holds(rt, (name, apart.as_str()), apart.as_str() == whole.as_str());
-    Ok(())
+    let whole = whole_outcome(rt, text, &base);
+    let want = whole.as_str();
+    slice_is_answered(rt, &Row { name, text, want }, &base, Limits::usual());
+}
+
+/// Asserts the same for a text after the prefix that a map may have.
+fn are_alike_prefixed(rt: &(impl Abort + AllocGlobal), name: &str, text: &str) {
+    let prefixed = ample(rt, format!(in rt.alloc(); ")]}}' x\n{text}"));
+    are_alike(rt, name, prefixed.as_str());
+}
+
+/// Asserts what a row says.
+fn row_is_read_apart(rt: &(impl Abort + AllocGlobal), line: &str) {
+    let row = row_of(rt, line);
+    has_count(rt, &row);
+    are_alike(rt, row.name, row.text);
+    are_alike_prefixed(rt, row.name, row.text);
 }
 
 #[test]
-fn sections_are_read_apart_as_they_are_in_one_tree(rt: HostRuntime) -> Result<(), Fail> {
-    for row in rows(rt.alloc(), TEXTS)? {
-        let (name, rest) = parts(row.as_str())?;
-        let (text, want) = parts(rest)?;
-        let count = told(&rt, text.as_bytes())?;
-        holds(&rt, (name, count.as_str()), count.as_str() == want);
-        are_alike(&rt, name, text.as_bytes())?;
-        let prefixed = format!(in rt.alloc(); ")]}}' x\n{text}")?;
-        are_alike(&rt, name, prefixed.as_bytes())?;
+fn sections_are_read_apart_as_they_are_in_one_tree(rt: HostRuntime) {
+    for line in &ample(&rt, rows(rt.alloc(), TEXTS)) {
+        row_is_read_apart(&rt, line.as_str());
     }
-    Ok(())
+}
+
+/// A string that many times.
+fn push_times(rt: &impl Abort, text: &mut String, string: &str, times: usize) {
+    for _ in 0..times {
+        ample(rt, text.push_str(string));
+    }
 }
 
 /// An index map whose section has a member that nests as deep as this.
-fn nested(rt: &impl AllocGlobal, depth: usize) -> Result<String, AllocError> {
-    let mut text = String::from_str(rt.alloc(), "{\"version\":3,\"sections\":[{\"x\":")?;
-    for _ in 0..depth {
-        text.push_str("[")?;
-    }
-    for _ in 0..depth {
-        text.push_str("]")?;
-    }
-    text.push_str(
-        ",\"offset\":{\"line\":0,\"column\":0},\"map\":{\"version\":3,\"mappings\":\"A\"}}]}",
-    )?;
-    Ok(text)
+fn nested(rt: &(impl Abort + AllocGlobal), depth: usize) -> String {
+    let start = "{\"version\":3,\"sections\":[{\"x\":";
+    let end = ",\"offset\":{\"line\":0,\"column\":0},\"map\":{\"version\":3,\"mappings\":\"A\"}}]}";
+    let mut text = ample(rt, String::from_str(rt.alloc(), start));
+    push_times(rt, &mut text, "[", depth);
+    push_times(rt, &mut text, "]", depth);
+    ample(rt, text.push_str(end));
+    text
+}
+
+/// Asserts how many sections of that index map are read by themselves, and that both ways give the same.
+fn depth_is_read(rt: &(impl Abort + AllocGlobal), name: &str, depth: usize, want: &str) {
+    let nested = nested(rt, depth);
+    let text = nested.as_str();
+    has_count(rt, &Row { name, text, want });
+    are_alike(rt, name, text);
 }
 
 #[test]
-fn both_ways_end_at_127_levels(rt: HostRuntime) -> Result<(), Fail> {
-    for (depth, want) in [(123, "1"), (124, "1"), (125, "whole"), (126, "whole")] {
-        let text = nested(&rt, depth)?;
-        let count = told(&rt, text.as_bytes())?;
-        holds(&rt, depth, count.as_str() == want);
-        are_alike(&rt, "nested", text.as_bytes())?;
+fn both_ways_end_at_127_levels(rt: HostRuntime) {
+    for &(name, depth, want) in &[
+        ("nested 123 deep", 123, "1"),
+        ("nested 124 deep", 124, "1"),
+        ("nested 125 deep", 125, "whole"),
+        ("nested 126 deep", 126, "whole"),
+    ] {
+        depth_is_read(&rt, name, depth, want);
     }
-    Ok(())
 }

@@ -1,7 +1,6 @@
 //! Flat maps that are accepted, and what each says.
-use super::{are_answered, usual_base};
+use super::are_answered;
 use smap_record::Limits;
-use std::test::Fail;
 
 /// What a row shows, a map, and what it says.
 const READ: &str = r#"an empty map holds nothing | {"version":3,"mappings":""} | read
@@ -62,7 +61,6 @@ a null source has no URL under a root that makes none
     | read; source null; listed 0"#;
 
 #[test]
-fn a_map_tells_what_it_says(rt: HostRuntime) -> Result<(), Fail> {
-    are_answered(&rt, READ, &usual_base(&rt), Limits::usual())?;
-    Ok(())
+fn a_map_tells_what_it_says(rt: HostRuntime) {
+    are_answered(&rt, READ, Limits::usual());
 }

@@ -1,8 +1,7 @@
 //! Index maps: where sections are placed, what they list together, and why they are rejected.
-use super::{are_answered, usual_base};
+use super::are_answered;
 use crate::asserted::{equal, holds};
 use smap_record::{Limits, Path};
-use std::test::Fail;
 
 /// What a row shows, an index map, and the result.
 const INDEX_MAPS: &str = r#"sources of sections are merged
@@ -118,9 +117,8 @@ a section is an object with an offset and a map
     | refused [0] File"#;
 
 #[test]
-fn an_index_map_is_answered(rt: HostRuntime) -> Result<(), Fail> {
-    are_answered(&rt, INDEX_MAPS, &usual_base(&rt), Limits::usual())?;
-    Ok(())
+fn an_index_map_is_answered(rt: HostRuntime) {
+    are_answered(&rt, INDEX_MAPS, Limits::usual());
 }
 
 /// What a row shows, an index map with another one in a section, and the result.
@@ -185,9 +183,8 @@ a segment has its place and the path of its section
     | refused [0, 0] 0:0 Column"#;
 
 #[test]
-fn an_index_map_within_another_is_answered(rt: HostRuntime) -> Result<(), Fail> {
-    are_answered(&rt, NESTED, &usual_base(&rt), Limits::usual())?;
-    Ok(())
+fn an_index_map_within_another_is_answered(rt: HostRuntime) {
+    are_answered(&rt, NESTED, Limits::usual());
 }
 
 #[test]

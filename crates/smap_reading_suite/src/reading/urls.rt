@@ -1,16 +1,9 @@
 //! Bases, and URLs without a relative form. The URLs of bases are those of Node's `new URL(text)`. The URLs of
 //! sources, and relative forms, are in the tables of `rows/`.
-use super::base_of;
+use super::{ample, base_of};
 use crate::asserted::holds;
 use smap_testing::parts;
-use std::alloc::AllocError;
 use std::process::Abort;
-use std::test::Fail;
-
-/// The two sides of a row's arrow.
-fn sides(row: &str) -> Result<(&str, &str), &'static str> {
-    row.split_once(" -> ").ok_or("a row has two sides")
-}
 
 /// Strings that are bases, some with an opaque path, and the URL of each.
 const BASES: &str = r#"http://h/m/out.js.map -> http://h/m/out.js.map
@@ -21,23 +14,18 @@ file:///m/o.map -> file:///m/o.map
 mailto:x -> mailto:x
 data:,x -> data:,x"#;
 
-#[test]
-fn a_base_tells_its_url(rt: HostRuntime) -> Result<(), Fail> {
-    for row in BASES.lines() {
-        let (text, url) = sides(row)?;
-        let base = base_of(&rt, text);
-        holds(&rt, base.text(), base.text() == url);
-    }
-    Ok(())
+/// Asserts that the base of a row has the URL of the row.
+fn tells_its_url(rt: &(impl Abort + AllocGlobal), row: &str) {
+    let (text, url) = row.split_once(" -> ").expect(rt, "a row has two sides");
+    let base = base_of(rt, text);
+    holds(rt, base.text(), base.text() == url);
 }
 
-/// The relative form of a URL with respect to a base, if it has one.
-fn spelling(
-    rt: &(impl Abort + AllocGlobal),
-    base: &str,
-    url: &str,
-) -> Result<Option<String>, AllocError> {
-    base_of(rt, base).relative(rt.alloc(), url)
+#[test]
+fn a_base_tells_its_url(rt: HostRuntime) {
+    for row in BASES.lines() {
+        tells_its_url(&rt, row);
+    }
 }
 
 /// A base, and a URL that has no relative form with respect to it: one of another origin; one whose relative
@@ -56,11 +44,17 @@ http://h/m/out.js.map | a.js
 http://h/m/out.js.map | http://h/m/./a.js
 http://h/m/out.js.map | HTTP://h/m/a.js"#;
 
+/// Asserts that the URL of a row has no relative form with respect to the base of the row.
+fn has_no_spelling(rt: &(impl Abort + AllocGlobal), row: &str) {
+    let (base, url) = parts(row).expect(rt, "a row has two columns");
+    let base = base_of(rt, base);
+    let spelling = ample(rt, base.relative(rt.alloc(), url));
+    holds(rt, row, spelling.is_none());
+}
+
 #[test]
-fn other_urls_have_no_relative_spelling(rt: HostRuntime) -> Result<(), Fail> {
+fn other_urls_have_no_relative_spelling(rt: HostRuntime) {
     for row in NOT_SPELLED.lines() {
-        let (base, url) = parts(row)?;
-        holds(&rt, row, spelling(&rt, base, url)?.is_none());
+        has_no_spelling(&rt, row);
     }
-    Ok(())
 }

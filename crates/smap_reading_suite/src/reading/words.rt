@@ -1,8 +1,9 @@
 //! The messages of faults.
+use super::ample;
 use crate::asserted::equal;
 use smap_mappings::{NumberFault, SegmentPlace};
 use smap_record::{Fault, Kind, Path};
-use std::test::Fail;
+use std::process::Abort;
 
 /// The message of each kind.
 const KINDS: [(Kind, &str); 33] = [
@@ -53,41 +54,50 @@ const KINDS: [(Kind, &str); 33] = [
     (Kind::Name, "name index"),
 ];
 
-#[test]
-fn a_kind_says_its_words(rt: HostRuntime) -> Result<(), Fail> {
-    for (kind, words) in &KINDS {
-        let said = format!(in rt.alloc(); "{kind}")?;
-        equal(&rt, words, said.as_str(), *words);
-    }
-    Ok(())
+fn kind_says(rt: &(impl Abort + AllocGlobal), kind: Kind, words: &str) {
+    let said = ample(rt, format!(in rt.alloc(); "{kind}"));
+    equal(rt, words, said.as_str(), words);
 }
 
 #[test]
-fn section_and_place_stand_before_the_words_of_a_kind(rt: HostRuntime) -> Result<(), Fail> {
-    let place = Some(SegmentPlace {
-        line: 3,
-        segment: 4_294_967_295,
-    });
-    let rows: [(&[usize], Option<SegmentPlace>, &str); 5] = [
-        (&[], None, "map"),
-        (&[7], None, "section 7: map"),
-        (&[0, 12, 3], None, "section 0.12.3: map"),
-        (&[], place, "line 3 segment 4294967295: map"),
-        (&[0], place, "section 0: line 3 segment 4294967295: map"),
-    ];
-    for &(section, place, words) in &rows {
-        let Some(section) = Path::new(section) else {
-            assert!(rt; false, "{words}");
-            continue;
-        };
-        let kind = Kind::SectionMap;
-        let fault = Fault {
-            section,
-            place,
-            kind,
-        };
-        let said = format!(in rt.alloc(); "{fault}")?;
-        equal(&rt, words, said.as_str(), words);
+fn a_kind_says_its_words(rt: HostRuntime) {
+    for &(kind, words) in &KINDS {
+        kind_says(&rt, kind, words);
     }
-    Ok(())
+}
+
+const PLACE: Option<SegmentPlace> = Some(SegmentPlace {
+    line: 3,
+    segment: 4_294_967_295,
+});
+
+/// The section and the segment of a fault, and its message.
+const PLACED: [(&[usize], Option<SegmentPlace>, &str); 5] = [
+    (&[], None, "map"),
+    (&[7], None, "section 7: map"),
+    (&[0, 12, 3], None, "section 0.12.3: map"),
+    (&[], PLACE, "line 3 segment 4294967295: map"),
+    (&[0], PLACE, "section 0: line 3 segment 4294967295: map"),
+];
+
+fn fault_says(
+    rt: &(impl Abort + AllocGlobal),
+    section: &[usize],
+    place: Option<SegmentPlace>,
+    words: &str,
+) {
+    let fault = Fault {
+        section: Path::new(section).expect(rt, "a section has a path"),
+        place,
+        kind: Kind::SectionMap,
+    };
+    let said = ample(rt, format!(in rt.alloc(); "{fault}"));
+    equal(rt, words, said.as_str(), words);
+}
+
+#[test]
+fn section_and_place_stand_before_the_words_of_a_kind(rt: HostRuntime) {
+    for &(section, place, words) in &PLACED {
+        fault_says(&rt, section, place, words);
+    }
 }

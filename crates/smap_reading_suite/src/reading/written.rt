@@ -1,10 +1,9 @@
 //! Sources as the text of a map writes them.
-use super::usual_base;
-use smap_record::{Limits, ReadError, SourceMap, WrittenSources};
-use smap_testing::{parts, rows};
-use std::alloc::AllocError;
+use super::{Row, ample, is_wanted, push_quoted, row_of, usual_base};
+use crate::asserted::holds;
+use smap_record::{Base, Limits, ReadError, SourceMap, WrittenSources};
+use smap_testing::rows;
 use std::process::Abort;
-use std::test::Fail;
 
 /// What a row shows, a map, and its sources, each with the root that applies to it.
 const WRITTEN: &str = r#"no source | {"version":3,"sourceRoot":"src","mappings":""} | read
@@ -40,60 +39,74 @@ sections of sections stand in their place
 a map that is rejected has none | {"version":3,"sources":["a.js"],"mappings":"!"} | refused"#;
 
 /// One source, and its root.
-fn push_source(
-    rt: &impl Abort,
-    text: &mut String,
-    written: &WrittenSources,
-    i: usize,
-) -> Result<(), AllocError> {
-    assert!(rt; i < written.len());
-    text.push_str("; ")?;
-    match written.source(i) {
-        Some(source) => {
-            text.push_str("\"")?;
-            text.push_str(source)?;
-            text.push_str("\"")?;
-        }
-        None => text.push_str("null")?,
+fn push_source(rt: &impl Abort, text: &mut String, source: Option<&str>, root: Option<&str>) {
+    match source {
+        Some(source) => push_quoted(rt, text, ";", source),
+        None => ample(rt, text.push_str("; null")),
     }
-    if let Some(root) = written.root(i) {
-        text.push_str(" in \"")?;
-        text.push_str(root)?;
-        text.push_str("\"")?;
+    if let Some(root) = root {
+        push_quoted(rt, text, " in", root);
     }
-    Ok(())
+}
+
+/// All sources of a map that was read, as text.
+fn sources_told(rt: &(impl Abort + AllocGlobal), written: &WrittenSources) -> String {
+    let mut text = ample(rt, String::from_str(rt.alloc(), "read"));
+    for i in 0..written.len() {
+        assert!(rt; i < written.len());
+        push_source(rt, &mut text, written.source(i), written.root(i));
+    }
+    text
 }
 
 /// All sources of a map, or that it is rejected.
 fn told(
     rt: &(impl Abort + AllocGlobal),
-    read: Result<(SourceMap, WrittenSources), ReadError>,
-) -> Result<String, AllocError> {
-    let Ok((map, written)) = read else {
-        return String::from_str(rt.alloc(), "refused");
-    };
-    assert_eq!(rt; map.listed_count(), written.len());
-    let mut text = String::from_str(rt.alloc(), "read")?;
-    for i in 0..written.len() {
-        push_source(rt, &mut text, &written, i)?;
+    read: &Result<(SourceMap, WrittenSources), ReadError>,
+) -> String {
+    match read {
+        Ok((map, written)) => {
+            holds(rt, "count", map.listed_count() == written.len());
+            sources_told(rt, written)
+        }
+        Err(_) => ample(rt, String::from_str(rt.alloc(), "refused")),
     }
-    Ok(text)
+}
+
+/// Asserts what is told of the sources.
+fn are_told(
+    rt: &(impl Abort + AllocGlobal),
+    row: &Row,
+    read: Result<(SourceMap, WrittenSources), ReadError>,
+) {
+    is_wanted(rt, row, told(rt, &read));
+}
+
+/// Asserts what is told of the sources of a row.
+fn slice_is_told(rt: &(impl Abort + AllocGlobal), row: &Row, base: &Base) {
+    let bytes = row.text.as_bytes();
+    let read = SourceMap::from_slice_as_written(rt.alloc(), bytes, base, Limits::usual());
+    are_told(rt, row, read);
+}
+
+/// Asserts the same where the bytes are handed over.
+fn vec_is_told(rt: &(impl Abort + AllocGlobal), row: &Row, base: &Base) {
+    let bytes = ample(rt, Vec::from_slice(rt.alloc(), row.text.as_bytes()));
+    let read = SourceMap::from_vec_as_written(rt.alloc(), bytes, base, Limits::usual());
+    are_told(rt, row, read);
+}
+
+/// Asserts what a row says.
+fn row_is_told(rt: &(impl Abort + AllocGlobal), line: &str) {
+    let row = row_of(rt, line);
+    let base = usual_base(rt);
+    slice_is_told(rt, &row, &base);
+    vec_is_told(rt, &row, &base);
 }
 
 #[test]
-fn sources_are_told_as_they_are_written(rt: HostRuntime) -> Result<(), Fail> {
-    let base = usual_base(&rt);
-    for row in rows(rt.alloc(), WRITTEN)? {
-        let (name, rest) = parts(row.as_str())?;
-        let (text, want) = parts(rest)?;
-        let bytes = text.as_bytes();
-        let read = SourceMap::from_slice_as_written(rt.alloc(), bytes, &base, Limits::usual());
-        let answer = told(&rt, read)?;
-        assert!(&rt; answer.as_str() == want, "{name}: {answer}");
-        let bytes = Vec::from_slice(rt.alloc(), bytes)?;
-        let read = SourceMap::from_vec_as_written(rt.alloc(), bytes, &base, Limits::usual());
-        let answer = told(&rt, read)?;
-        assert!(&rt; answer.as_str() == want, "{name}, handed over: {answer}");
+fn sources_are_told_as_they_are_written(rt: HostRuntime) {
+    for line in &ample(&rt, rows(rt.alloc(), WRITTEN)) {
+        row_is_told(&rt, line.as_str());
     }
-    Ok(())
 }

@@ -1,10 +1,9 @@
 //! JSON trees with contents of each kind, and what remains of them.
-use super::flat_map;
+use super::{flat_map, tree_of};
 use crate::asserted::{equal, holds};
 use serde_json::Value;
 use smap_shape::{FlatShape, ShapeFault, shape, split_contents};
 use std::process::Abort;
-use std::test::Fail;
 
 fn is_text(content: &Option<String>, want: &str) -> bool {
     match content {
@@ -13,8 +12,46 @@ fn is_text(content: &Option<String>, want: &str) -> bool {
     }
 }
 
+/// The contents of the tree of this text, and what remains of it.
+fn split(rt: &(impl Abort + AllocGlobal), text: &str) -> (Vec<Option<String>>, Value) {
+    split_contents(rt.alloc(), tree_of(rt, text)).expect(rt, "memory")
+}
+
+/// Asserts how many contents there are, and what the last one is.
+fn has_contents(
+    rt: &impl Abort,
+    members: &str,
+    contents: &[Option<String>],
+    count: usize,
+    last: &str,
+) {
+    assert!(rt; contents.len() == count, "{members}");
+    if count > 0 {
+        holds(rt, members, is_text(&contents[count - 1], last));
+    }
+}
+
+/// Asserts that nothing but the contents is missing.
+fn has_names_alone(rt: &impl Abort, members: &str, rest: &Value) {
+    holds(rt, members, rest.get("names").is_some());
+    holds(rt, members, rest.get("sourcesContent").is_none());
+}
+
+/// The contents of a map with these members, and what remains of it.
+fn split_map(rt: &(impl Abort + AllocGlobal), members: &str) -> (Vec<Option<String>>, Value) {
+    let text = format!(in rt.alloc(); "{{\"version\":3,{members},\"names\":[]}}");
+    split(rt, text.expect(rt, "memory").as_str())
+}
+
+/// Asserts what is split of a map with these members.
+fn members_are_split(rt: &(impl Abort + AllocGlobal), members: &str, count: usize, last: &str) {
+    let (contents, rest) = split_map(rt, members);
+    has_contents(rt, members, &contents, count, last);
+    has_names_alone(rt, members, &rest);
+}
+
 #[test]
-fn contents_are_moved_out_of_the_tree(rt: HostRuntime) -> Result<(), Fail> {
+fn contents_are_moved_out_of_the_tree(rt: HostRuntime) {
     for &(members, count, last) in &[
         (r#""sourcesContent":["t",null,""]"#, 3, ""),
         (r#""sourcesContent":["t",null]"#, 2, "null"),
@@ -24,31 +61,8 @@ fn contents_are_moved_out_of_the_tree(rt: HostRuntime) -> Result<(), Fail> {
         (r#""sourcesContent":null"#, 0, ""),
         (r#""file":"f""#, 0, ""),
     ] {
-        let text = format!(in rt.alloc(); "{{\"version\":3,{members},\"names\":[]}}")?;
-        let tree = Value::from_str(rt.alloc(), text.as_str())?;
-        let (contents, rest) = split_contents(rt.alloc(), tree)?;
-        assert!(rt; contents.len() == count, "{members}");
-        if count > 0 {
-            holds(&rt, members, is_text(&contents[count - 1], last));
-        }
-        holds(&rt, members, rest.get("names").is_some());
-        holds(&rt, members, rest.get("sourcesContent").is_none());
+        members_are_split(&rt, members, count, last);
     }
-    Ok(())
-}
-
-#[test]
-fn the_other_members_stay(rt: HostRuntime) -> Result<(), Fail> {
-    let text =
-        r#"{"version":3,"file":"f","sources":["a","b"],"sourcesContent":["t","u"],"mappings":"A"}"#;
-    let tree = Value::from_str(rt.alloc(), text)?;
-    let (contents, rest) = split_contents(rt.alloc(), tree)?;
-    equal(&rt, "contents", contents.len(), 2);
-    let flat = flat_map(&rest).ok_or("refused")?;
-    has_no_content(&rt, &flat);
-    holds(&rt, "file", flat.file() == Some("f"));
-    holds(&rt, "mappings", flat.mappings() == "A");
-    Ok(())
 }
 
 fn has_no_content(rt: &impl Abort, flat: &FlatShape) {
@@ -57,38 +71,50 @@ fn has_no_content(rt: &impl Abort, flat: &FlatShape) {
     holds(rt, "content", flat.content(0).is_none());
 }
 
-/// What remains of the tree of this text, after no content was moved out of it.
-fn kept(rt: &(impl Abort + AllocGlobal), text: &str) -> Result<Value, Fail> {
-    let tree = Value::from_str(rt.alloc(), text)?;
-    let (contents, rest) = split_contents(rt.alloc(), tree)?;
-    equal(rt, text, contents.len(), 0);
-    Ok(rest)
+fn has_other_members(rt: &impl Abort, flat: &FlatShape) {
+    equal(rt, "file", flat.file(), Some("f"));
+    equal(rt, "mappings", flat.mappings(), "A");
+    has_no_content(rt, flat);
 }
 
 #[test]
-fn a_tree_without_a_list_of_contents_stays_whole(rt: HostRuntime) -> Result<(), Fail> {
-    for text in [
+fn the_other_members_stay(rt: HostRuntime) {
+    let text =
+        r#"{"version":3,"file":"f","sources":["a","b"],"sourcesContent":["t","u"],"mappings":"A"}"#;
+    let (contents, rest) = split(&rt, text);
+    holds(&rt, "contents", contents.len() == 2);
+    has_other_members(&rt, &flat_map(&rt, &rest));
+}
+
+/// What remains of the tree of this text, after no content was moved out of it.
+fn kept(rt: &(impl Abort + AllocGlobal), text: &str) -> Value {
+    let (contents, rest) = split(rt, text);
+    holds(rt, text, contents.is_empty());
+    rest
+}
+
+fn keeps_its_contents(rt: &(impl Abort + AllocGlobal), text: &str) {
+    let rest = kept(rt, text);
+    holds(rt, text, rest.get("sourcesContent").is_some());
+    let fault = shape(&rest).err();
+    equal(rt, text, fault, Some(ShapeFault::SourcesContent));
+}
+
+#[test]
+fn a_tree_without_a_list_of_contents_stays_whole(rt: HostRuntime) {
+    for text in &[
         r#"{"version":3,"sourcesContent":["t",7],"mappings":""}"#,
         r#"{"version":3,"sourcesContent":{},"mappings":""}"#,
         r#"{"version":3,"sourcesContent":"t","mappings":""}"#,
     ] {
-        let rest = kept(&rt, text)?;
-        holds(&rt, text, rest.get("sourcesContent").is_some());
-        equal(
-            &rt,
-            text,
-            shape(&rest).err(),
-            Some(ShapeFault::SourcesContent),
-        );
+        keeps_its_contents(&rt, text);
     }
-    Ok(())
 }
 
 #[test]
-fn a_tree_that_is_no_object_stays_whole(rt: HostRuntime) -> Result<(), Fail> {
-    for text in ["[]", "null", "\"t\""] {
-        let rest = kept(&rt, text)?;
-        holds(&rt, text, !rest.is_object());
+fn a_tree_that_is_no_object_stays_whole(rt: HostRuntime) {
+    for text in &["[]", "null", "\"t\""] {
+        let rest = kept(&rt, text);
+        holds(&rt, *text, !rest.is_object());
     }
-    Ok(())
 }

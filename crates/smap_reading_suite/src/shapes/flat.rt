@@ -1,25 +1,25 @@
 //! Flat maps, with their members.
-use super::flat_map;
+use super::{flat_map, tree_of};
 use crate::asserted::{equal, holds};
-use serde_json::Value;
 use smap_shape::FlatShape;
 use std::process::Abort;
-use std::test::Fail;
 
 #[test]
-fn a_flat_map_tells_its_members(rt: HostRuntime) -> Result<(), Fail> {
+fn a_flat_map_tells_its_members(rt: HostRuntime) {
     let text = concat!(
         r#"{"version":3,"file":"out.js","sourceRoot":"src","sources":["a.js",null,"c.js"],"#,
         r#""sourcesContent":["t",""],"names":["x","y"],"ignoreList":[2,2],"mappings":"AAAA","more":[1]}"#,
     );
-    let tree = Value::from_str(rt.alloc(), text)?;
-    let flat = flat_map(&tree).ok_or("refused")?;
-    has_texts(&rt, &flat);
-    has_sources(&rt, &flat);
-    has_contents(&rt, &flat);
-    has_ignored_sources(&rt, &flat);
-    has_names(&rt, &flat);
-    Ok(())
+    let tree = tree_of(&rt, text);
+    has_members(&rt, &flat_map(&rt, &tree));
+}
+
+fn has_members(rt: &impl Abort, flat: &FlatShape) {
+    has_texts(rt, flat);
+    has_sources(rt, flat);
+    has_contents(rt, flat);
+    has_ignored_sources(rt, flat);
+    has_names(rt, flat);
 }
 
 fn has_texts(rt: &impl Abort, flat: &FlatShape) {
@@ -36,9 +36,9 @@ fn has_sources(rt: &impl Abort, flat: &FlatShape) {
 
 fn has_contents(rt: &impl Abort, flat: &FlatShape) {
     assert!(rt; flat.source_count() == 3);
-    holds(rt, "content", flat.content(0) == Some("t"));
-    holds(rt, "content", flat.content(1) == Some(""));
-    holds(rt, "content", flat.content(2).is_none());
+    equal(rt, "content", flat.content(0), Some("t"));
+    equal(rt, "content", flat.content(1), Some(""));
+    equal(rt, "content", flat.content(2), None);
 }
 
 fn has_ignored_sources(rt: &impl Abort, flat: &FlatShape) {

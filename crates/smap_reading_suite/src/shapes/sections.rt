@@ -1,15 +1,22 @@
 //! JSON trees of sections, and the first fault of each.
+use super::tree_of;
 use crate::asserted::{equal, holds};
 use serde_json::Value;
-use smap_shape::{MAX_LEVEL, SectionShape, ShapeFault, section};
+use smap_shape::{MAX_LEVEL, ShapeFault, section};
 use std::process::Abort;
-use std::test::Fail;
 
 /// Asserts what a section tells.
-fn tells(rt: &impl Abort, section: &SectionShape, line: u32, column: u32, text: &str) {
-    equal(rt, text, section.line(), line);
-    equal(rt, text, section.column(), column);
-    holds(rt, text, section.map().is_object());
+fn tells(rt: &impl Abort, tree: &Value, line: u32, column: u32) {
+    let section = section(tree, MAX_LEVEL).ok().expect(rt, "a section");
+    equal(rt, "line", section.line(), line);
+    equal(rt, "column", section.column(), column);
+    holds(rt, "map", section.map().is_object());
+}
+
+/// Asserts what the section of this text tells.
+fn text_tells(rt: &(impl Abort + AllocGlobal), text: &str, line: u32, column: u32) {
+    let tree = tree_of(rt, text);
+    tells(rt, &tree, line, column);
 }
 
 /// The fault of a section of this level.
@@ -20,14 +27,13 @@ fn fault(rt: &impl Abort, tree: &Value, level: u8) -> Option<ShapeFault> {
 }
 
 /// Asserts that the section of this text has this fault.
-fn is_refused(rt: &(impl Abort + AllocGlobal), text: &str, want: ShapeFault) -> Result<(), Fail> {
-    let tree = Value::from_str(rt.alloc(), text)?;
+fn is_refused(rt: &(impl Abort + AllocGlobal), text: &str, want: ShapeFault) {
+    let tree = tree_of(rt, text);
     equal(rt, text, fault(rt, &tree, MAX_LEVEL), Some(want));
-    Ok(())
 }
 
 #[test]
-fn a_section_tells_its_offset_and_map(rt: HostRuntime) -> Result<(), Fail> {
+fn a_section_tells_its_offset_and_map(rt: HostRuntime) {
     for &(text, line, column) in &[
         (
             r#"{"offset":{"line":0,"column":2147483647},"map":{}}"#,
@@ -45,15 +51,12 @@ fn a_section_tells_its_offset_and_map(rt: HostRuntime) -> Result<(), Fail> {
             0,
         ),
     ] {
-        let tree = Value::from_str(rt.alloc(), text)?;
-        let section = section(&tree, MAX_LEVEL).ok().ok_or("refused")?;
-        tells(&rt, &section, line, column, text);
+        text_tells(&rt, text, line, column);
     }
-    Ok(())
 }
 
 #[test]
-fn the_first_fault_of_a_section_is_answered(rt: HostRuntime) -> Result<(), Fail> {
+fn the_first_fault_of_a_section_is_answered(rt: HostRuntime) {
     for &(text, want) in &[
         ("7", ShapeFault::NotObject),
         ("[]", ShapeFault::NotObject),
@@ -97,18 +100,21 @@ fn the_first_fault_of_a_section_is_answered(rt: HostRuntime) -> Result<(), Fail>
             ShapeFault::Nested,
         ),
     ] {
-        is_refused(&rt, text, want)?;
+        is_refused(&rt, text, want);
     }
-    Ok(())
 }
 
 #[test]
-fn a_section_of_a_lower_level_may_have_sections(rt: HostRuntime) -> Result<(), Fail> {
+fn a_section_of_a_lower_level_may_have_sections(rt: HostRuntime) {
     let text = r#"{"offset":{"line":0,"column":0},"map":{"sections":[]}}"#;
-    let tree = Value::from_str(rt.alloc(), text)?;
-    for level in [1, 2, 7] {
-        holds(&rt, level, fault(&rt, &tree, level).is_none());
+    let tree = tree_of(&rt, text);
+    for &level in &[1, 2, 7] {
+        equal(&rt, level, fault(&rt, &tree, level), None);
     }
-    equal(&rt, "tree", fault(&rt, &tree, 8), Some(ShapeFault::Nested));
-    Ok(())
+    equal(
+        &rt,
+        MAX_LEVEL,
+        fault(&rt, &tree, 8),
+        Some(ShapeFault::Nested),
+    );
 }

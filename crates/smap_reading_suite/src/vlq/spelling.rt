@@ -1,6 +1,17 @@
 //! Known shortest encodings.
 use crate::asserted::{equal, holds};
 use smap_vlq::spell;
+use std::process::Abort;
+
+/// Asserts how a number is spelled, and that nothing is written after the spelling.
+fn is_spelled(rt: &impl Abort, number: i32, spelling: &str) {
+    assert!(rt; number != i32::MIN);
+    let mut out = [b'#'; 7];
+    let length = spell(number, &mut out);
+    let (spelled, rest) = out.split_at(length);
+    equal(rt, number, spelled, spelling.as_bytes());
+    holds(rt, number, rest.iter().all(|&byte| byte == b'#'));
+}
 
 #[test]
 fn each_number_has_its_shortest_spelling(rt: HostRuntime) {
@@ -17,10 +28,6 @@ fn each_number_has_its_shortest_spelling(rt: HostRuntime) {
         (2147483647, "+/////D"),
         (-2147483647, "//////D"),
     ] {
-        assert!(rt; number != i32::MIN);
-        let mut out = [b'#'; 7];
-        let length = spell(number, &mut out);
-        equal(&rt, number, &out[..length], spelling.as_bytes());
-        holds(&rt, number, out[length..].iter().all(|&byte| byte == b'#'));
+        is_spelled(&rt, number, spelling);
     }
 }

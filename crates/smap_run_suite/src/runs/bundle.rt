@@ -1,5 +1,5 @@
 //! Whole bundles, as they come in and what goes out.
-use super::{run_over, writes};
+use super::{fails_to_write, run_over, writes};
 use crate::asserted::{equal, holds};
 use smap_testing::{SlowReader, SlowWriter};
 use smap_tool::{Outcome, RunFault, Task};
@@ -120,41 +120,48 @@ fn the_kth_write_of_a_refusal_fails(rt: HostRuntime) {
     }
 }
 
+/// Read by sevens, the bundle has this answer after so many reads.
+fn ends_after(
+    rt: &(impl Abort + AllocGlobal),
+    bundle: &str,
+    answer: Result<Outcome, RunFault>,
+    calls: u64,
+) {
+    let reader = SlowReader::new(bundle.as_bytes(), 7, 0);
+    let writer = SlowWriter::new(rt.alloc(), 80, 0);
+    let ran = run_over(rt.alloc(), TRANSLATE, reader, writer);
+    equal(rt, bundle, (ran.answer, ran.reads), (answer, calls));
+}
+
+const REFUSED: Result<Outcome, RunFault> = Ok(Outcome::Refused);
+
+const TOO_LONG: Result<Outcome, RunFault> = Err(RunFault::TooLong);
+
+/// Bundles with a fault, their answers, and how many reads there are: a line up to its line feed byte by byte,
+/// and a map with its line feed by sevens.
+static FAULTS: [(&str, Result<Outcome, RunFault>, u64); 10] = [
+    ("", REFUSED, 1),
+    ("trace", REFUSED, 6),
+    ("trace \n@u:1:1\n", REFUSED, 7),
+    ("map u http://h/ 02\n{}\ntrace\n", REFUSED, 19),
+    ("map u nobase 2\n{}\ntrace\n", REFUSED, 15),
+    ("map u http://h/ 268435457\n{}\ntrace\n", TOO_LONG, 26),
+    ("map u http://h/ 2\n{}x\ntrace\n", REFUSED, 19),
+    ("map u http://h/ 2\n{}\ntrace\n", REFUSED, 19),
+    ("map u http://h/ 8\n{}\ntrace\n", REFUSED, 20),
+    ("map u http://h/ 9\n{}\ntrace\n", REFUSED, 21),
+];
+
 #[test]
 fn nothing_is_read_after_the_first_fault(rt: HostRuntime) {
-    let refused = Ok(Outcome::Refused);
-    let too_long = Err(RunFault::TooLong);
-    // A line up to its line feed byte by byte, and a map with its line feed by sevens.
-    for &(bundle, answer, calls) in &[
-        ("", refused, 1),
-        ("trace", refused, 6),
-        ("trace \n@u:1:1\n", refused, 7),
-        ("map u http://h/ 02\n{}\ntrace\n", refused, 19),
-        ("map u nobase 2\n{}\ntrace\n", refused, 15),
-        ("map u http://h/ 268435457\n{}\ntrace\n", too_long, 26),
-        ("map u http://h/ 2\n{}x\ntrace\n", refused, 19),
-        ("map u http://h/ 2\n{}\ntrace\n", refused, 19),
-        ("map u http://h/ 8\n{}\ntrace\n", refused, 20),
-        ("map u http://h/ 9\n{}\ntrace\n", refused, 21),
-    ] {
-        let reader = SlowReader::new(bundle.as_bytes(), 7, 0);
-        let writer = SlowWriter::new(rt.alloc(), 80, 0);
-        let ran = run_over(rt.alloc(), TRANSLATE, reader, writer);
-        equal(&rt, bundle, (ran.answer, ran.reads), (answer, calls));
+    for &(bundle, answer, calls) in &FAULTS {
+        ends_after(&rt, bundle, answer, calls);
     }
 }
 
 #[test]
 fn a_writer_that_takes_nothing_has_failed(rt: HostRuntime) {
     for &bundle in &["trace\nkept\n", "trace"] {
-        let reader = SlowReader::new(bundle.as_bytes(), 80, 0);
-        let ran = run_over(
-            rt.alloc(),
-            TRANSLATE,
-            reader,
-            SlowWriter::new(rt.alloc(), 0, 0),
-        );
-        equal(&rt, bundle, ran.answer, Err(RunFault::Write));
-        equal(&rt, bundle, (ran.writes, ran.failed_writes), (1, 1));
+        fails_to_write(&rt, TRANSLATE, bundle, 80);
     }
 }

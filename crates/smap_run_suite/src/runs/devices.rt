@@ -1,5 +1,5 @@
 //! Devices that fail.
-use super::{BASE, Ran, TIDY, TWO_NAMES, run_over};
+use super::{BASE, Ran, TIDY, TWO_NAMES, fails_to_write, run_over};
 use crate::asserted::{equal, holds};
 use smap_io::Device;
 use smap_testing::{LongReader, SlowReader, SlowWriter};
@@ -8,7 +8,7 @@ use std::alloc::Global;
 use std::process::Abort;
 
 /// Each command that reads its input to the end, and an input for it.
-const TASKS: [(Task<'static>, &str); 7] = [
+static TASKS: [(Task<'static>, &str); 7] = [
     (Task::Respell, "gAAAAC,CAACD;;"),
     (Task::Check { base: BASE }, TWO_NAMES),
     (TIDY, TWO_NAMES),
@@ -63,12 +63,17 @@ fn ends_with_read(rt: &(impl Abort + AllocGlobal), task: Task<'_>, input: &str, 
     );
 }
 
+/// Asserts that of each read of a task over an input.
+fn ends_with_each_read(rt: &(impl Abort + AllocGlobal), task: Task<'_>, input: &str) {
+    for fails_at in 1..=reads_of(input) {
+        ends_with_read(rt, task, input, fails_at);
+    }
+}
+
 #[test]
 fn each_read_that_fails_is_the_last_and_nothing_is_written(rt: HostRuntime) {
     for &(task, input) in &TASKS {
-        for fails_at in 1..=reads_of(input) {
-            ends_with_read(&rt, task, input, fails_at);
-        }
+        ends_with_each_read(&rt, task, input);
     }
 }
 
@@ -106,25 +111,27 @@ fn ends_with_write(
     );
 }
 
+/// Asserts that of each write and flush of a task over an input.
+fn ends_with_each_write(rt: &(impl Abort + AllocGlobal), task: Task<'_>, input: &str) {
+    let whole = failing(rt.alloc(), task, input, 0, 0);
+    let read_to_end = (Ok(Outcome::Done), reads_of(input));
+    equal(rt, task, (whole.answer, whole.reads), read_to_end);
+    for fails_at in 1..=whole.writes {
+        ends_with_write(rt, task, input, fails_at, whole.bytes.as_slice());
+    }
+}
+
 #[test]
 fn each_write_or_flush_that_fails_is_told_after_a_front_of_the_text(rt: HostRuntime) {
     for &(task, input) in &TASKS {
-        let whole = failing(rt.alloc(), task, input, 0, 0);
-        let read_to_end = (Ok(Outcome::Done), reads_of(input));
-        equal(&rt, task, (whole.answer, whole.reads), read_to_end);
-        for fails_at in 1..=whole.writes {
-            ends_with_write(&rt, task, input, fails_at, whole.bytes.as_slice());
-        }
+        ends_with_each_write(&rt, task, input);
     }
 }
 
 #[test]
 fn a_writer_that_takes_nothing_has_failed(rt: HostRuntime) {
     for &(task, input) in &TASKS {
-        let reader = SlowReader::new(input.as_bytes(), STEP, 0);
-        let ran = run_over(rt.alloc(), task, reader, SlowWriter::new(rt.alloc(), 0, 0));
-        equal(&rt, task, ran.answer, Err(RunFault::Write));
-        equal(&rt, task, (ran.writes, ran.failed_writes), (1, 1));
+        fails_to_write(&rt, task, input, STEP);
     }
 }
 

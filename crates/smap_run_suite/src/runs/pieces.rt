@@ -3,7 +3,7 @@ use super::{BASE, TIDY, TWO_NAMES, writes};
 use smap_tool::{Outcome, Task};
 
 /// A task of each command that reads one text, a text, and what is written for it.
-const ROWS: [(Task<'static>, &str, &str, Outcome); 8] = [
+static ROWS: [(Task<'static>, &str, &str, Outcome); 8] = [
     (
         Task::Respell,
         "gAAAAC,CAACD;;",

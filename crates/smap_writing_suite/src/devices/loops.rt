@@ -1,9 +1,14 @@
 //! Reading and writing by readers and writers in memory that move a few bytes a call, fail at a given call
 //! and count their calls. Clauses bound the calls of a device; that each is one call of its reader or writer,
 //! these tests show. A call that fails here is interrupted.
+ghost use Rattle.std.specs.Prelude.{◌-◌, ◌^◌, ◌<◌};
+ghost use Rattle.smap_io.specs.Device.{device_failures};
+
 use crate::asserted::{equal, holds};
 use smap_io::{Device, Failed, ReadFault, read_line, read_up_to, write_all, write_and_flush};
 use smap_testing::{SlowReader, SlowWriter};
+use std::alloc::Global;
+use std::process::Abort;
 
 /// What was read, or why not.
 fn told(answer: &Result<Vec<u8>, ReadFault>) -> Result<&[u8], ReadFault> {
@@ -13,135 +18,187 @@ fn told(answer: &Result<Vec<u8>, ReadFault>) -> Result<&[u8], ReadFault> {
     }
 }
 
-/// The first bytes, or all where there are fewer.
-fn front(bytes: &[u8], len: usize) -> &[u8] {
-    &bytes[..len.min(bytes.len())]
+/// Whether a reader has ended, its failures, its calls, and what is left of its bytes.
+fn state(reader: Device<SlowReader<'_>>) -> (bool, u64, u64, &[u8]) {
+    let (ended, failures) = (reader.ended(), reader.failures());
+    let reader = reader.into_inner();
+    (ended, failures, reader.calls, reader.rest)
+}
+
+/// What is read in at most `calls` calls, subtracting them: a line of at most `most` bytes, or `most` bytes.
+fn read(
+    alloc: Global,
+    reader: &mut Device<SlowReader<'_>>,
+    calls: &mut u64,
+    most: usize,
+    line: bool,
+) -> Result<Vec<u8>, ReadFault>
+    requires { device_failures reader.old < 2 ^ 64 - 1 }
+{
+    if line {
+        read_line(alloc, reader, calls, most)
+    } else {
+        read_up_to(alloc, reader, calls, most)
+    }
+}
+
+/// Asserts what is read of a text, a line or as much as it may be, or why not, with this many bytes a call, a
+/// call that fails and a bound on the calls; then whether the reader has ended, its failures, its calls, and
+/// what is left.
+fn is_read(
+    rt: &(impl Abort + AllocGlobal),
+    (text, most, line): (&str, usize, bool),
+    (step, fails_at, most_calls): (usize, u64, u64),
+    answer: Result<&str, ReadFault>,
+    (ended, failures, made, left): (bool, u64, u64, &str),
+) {
+    let mut reader = Device::new(SlowReader::new(text.as_bytes(), step.max(1), fails_at));
+    let mut calls = most_calls;
+    let found = read(rt.alloc(), &mut reader, &mut calls, most, line);
+    let row = ((text, most, line), (step, fails_at, most_calls));
+    equal(rt, row, told(&found), answer.map(str::as_bytes));
+    equal(rt, row, calls.saturating_add(made), most_calls);
+    let expected = (ended, failures, made, left.as_bytes());
+    equal(rt, row, state(reader), expected);
 }
 
 #[test]
 fn bytes_are_read_up_to_the_bound_or_the_end(rt: HostRuntime) {
-    for &(step, most, answer, ended, made) in &[
-        (1, 0, Ok("".as_bytes()), false, 0),
-        (1, 4, Ok("abcd".as_bytes()), false, 4),
-        (1, 5, Ok("abcde".as_bytes()), false, 5),
-        (1, 6, Ok("abcde".as_bytes()), true, 6),
-        (2, 5, Ok("abcde".as_bytes()), false, 3),
-        (2, 6, Ok("abcde".as_bytes()), true, 4),
-        (usize::MAX, 5, Ok("abcde".as_bytes()), false, 1),
-        (usize::MAX, 6, Ok("abcde".as_bytes()), true, 2),
+    for &(step, most, bytes, ended, made, left) in &[
+        (1, 0, "", false, 0, "abcde"),
+        (1, 4, "abcd", false, 4, "e"),
+        (1, 5, "abcde", false, 5, ""),
+        (1, 6, "abcde", true, 6, ""),
+        (2, 5, "abcde", false, 3, ""),
+        (2, 6, "abcde", true, 4, ""),
+        (usize::MAX, 5, "abcde", false, 1, ""),
+        (usize::MAX, 6, "abcde", true, 2, ""),
     ] {
-        let mut reader = Device::new(SlowReader::new(b"abcde", step.max(1), 0));
-        let mut calls = 10;
-        let found = read_up_to(rt.alloc(), &mut reader, &mut calls, most);
-        equal(&rt, (most, step), told(&found), answer);
-        equal(&rt, (most, step), reader.ended(), ended);
-        equal(&rt, (most, step), reader.failures(), 0);
-        equal(&rt, (most, step), calls + made, 10);
-        equal(&rt, (most, step), reader.into_inner().calls, made);
+        let after = (ended, 0, made, left);
+        is_read(&rt, ("abcde", most, false), (step, 0, 10), Ok(bytes), after);
     }
 }
 
 #[test]
 fn reading_stops_at_the_call_that_fails_or_is_one_too_many(rt: HostRuntime) {
-    for &(fails_at, most_calls, answer, failures, made, left) in &[
-        (1, 10, Err(ReadFault::Failed), 1, 1, "abc"),
-        (2, 10, Err(ReadFault::Failed), 1, 2, "bc"),
-        (3, 10, Err(ReadFault::Failed), 1, 3, "c"),
-        (4, 10, Err(ReadFault::Failed), 1, 4, ""),
-        (5, 10, Ok("abc".as_bytes()), 0, 4, ""),
-        (0, 0, Err(ReadFault::Spent), 0, 0, "abc"),
-        (0, 1, Err(ReadFault::Spent), 0, 1, "bc"),
-        (0, 3, Err(ReadFault::Spent), 0, 3, ""),
-        (0, 4, Ok("abc".as_bytes()), 0, 4, ""),
-    ] {
-        let mut reader = Device::new(SlowReader::new(b"abc", 1, fails_at));
-        let mut calls = most_calls;
-        let found = read_up_to(rt.alloc(), &mut reader, &mut calls, 8);
-        equal(&rt, (fails_at, most_calls), told(&found), answer);
-        equal(&rt, (fails_at, most_calls), reader.ended(), answer.is_ok());
-        equal(&rt, (fails_at, most_calls), reader.failures(), failures);
-        let reader = reader.into_inner();
-        equal(&rt, (fails_at, most_calls), reader.calls, made);
-        equal(&rt, (fails_at, most_calls), reader.rest, left.as_bytes());
+    for &(fails_at, made, left) in &[(1, 1, "abc"), (2, 2, "bc"), (3, 3, "c"), (4, 4, "")] {
+        let calls = (1, fails_at, 10);
+        let after = (false, 1, made, left);
+        is_read(&rt, ("abc", 8, false), calls, Err(ReadFault::Failed), after);
+    }
+    for &(most_calls, made, left) in &[(0, 0, "abc"), (1, 1, "bc"), (3, 3, "")] {
+        let calls = (1, 0, most_calls);
+        let after = (false, 0, made, left);
+        is_read(&rt, ("abc", 8, false), calls, Err(ReadFault::Spent), after);
+    }
+    for &(fails_at, most_calls, made, left) in &[(5, 10, 4, ""), (0, 4, 4, "")] {
+        let calls = (1, fails_at, most_calls);
+        let after = (true, 0, made, left);
+        is_read(&rt, ("abc", 8, false), calls, Ok("abc"), after);
     }
 }
 
 #[test]
 fn a_line_is_read_to_its_feed_the_bound_or_the_end(rt: HostRuntime) {
-    for &(text, most, answer, ended, made, left) in &[
-        ("ab\ncd", 9, Ok("ab\n".as_bytes()), false, 3, "cd"),
-        ("ab\ncd", 3, Ok("ab\n".as_bytes()), false, 3, "cd"),
-        ("ab\ncd", 2, Ok("ab".as_bytes()), false, 2, "\ncd"),
-        ("\n\n", 9, Ok("\n".as_bytes()), false, 1, "\n"),
-        ("ab", 3, Ok("ab".as_bytes()), true, 3, ""),
-        ("ab", 2, Ok("ab".as_bytes()), false, 2, ""),
-        ("ab", 0, Ok("".as_bytes()), false, 0, "ab"),
-        ("", 9, Ok("".as_bytes()), true, 1, ""),
+    for &(text, most, line, ended, made, left) in &[
+        ("ab\ncd", 9, "ab\n", false, 3, "cd"),
+        ("ab\ncd", 3, "ab\n", false, 3, "cd"),
+        ("ab\ncd", 2, "ab", false, 2, "\ncd"),
+        ("\n\n", 9, "\n", false, 1, "\n"),
+        ("ab", 3, "ab", true, 3, ""),
+        ("ab", 2, "ab", false, 2, ""),
+        ("ab", 0, "", false, 0, "ab"),
+        ("", 9, "", true, 1, ""),
     ] {
-        let mut reader = Device::new(SlowReader::new(text.as_bytes(), 2, 0));
-        let mut calls = 10;
-        let found = read_line(rt.alloc(), &mut reader, &mut calls, most);
-        equal(&rt, (text, most), told(&found), answer);
-        equal(&rt, (text, most), reader.ended(), ended);
-        equal(&rt, (text, most), calls + made, 10);
-        let reader = reader.into_inner();
-        equal(&rt, (text, most), reader.calls, made);
-        equal(&rt, (text, most), reader.rest, left.as_bytes());
+        let after = (ended, 0, made, left);
+        is_read(&rt, (text, most, true), (2, 0, 10), Ok(line), after);
     }
 }
 
 #[test]
 fn a_line_stops_at_the_call_that_fails_or_is_one_too_many(rt: HostRuntime) {
-    for &(fails_at, most_calls, answer, failures, made) in &[
-        (1, 10, Err(ReadFault::Failed), 1, 1),
-        (3, 10, Err(ReadFault::Failed), 1, 3),
-        (4, 10, Ok("ab\n".as_bytes()), 0, 3),
-        (0, 0, Err(ReadFault::Spent), 0, 0),
-        (0, 2, Err(ReadFault::Spent), 0, 2),
-        (0, 3, Ok("ab\n".as_bytes()), 0, 3),
-    ] {
-        let mut reader = Device::new(SlowReader::new(b"ab\ncd", 2, fails_at));
-        let mut calls = most_calls;
-        let found = read_line(rt.alloc(), &mut reader, &mut calls, 8);
-        equal(&rt, (fails_at, most_calls), told(&found), answer);
-        holds(&rt, (fails_at, most_calls), !reader.ended());
-        equal(&rt, (fails_at, most_calls), reader.failures(), failures);
-        equal(&rt, (fails_at, most_calls), reader.into_inner().calls, made);
+    for &(fails_at, made, left) in &[(1, 1, "ab\ncd"), (3, 3, "\ncd")] {
+        let calls = (2, fails_at, 10);
+        let after = (false, 1, made, left);
+        is_read(
+            &rt,
+            ("ab\ncd", 8, true),
+            calls,
+            Err(ReadFault::Failed),
+            after,
+        );
     }
+    for &(most_calls, made, left) in &[(0, 0, "ab\ncd"), (2, 2, "\ncd")] {
+        let calls = (2, 0, most_calls);
+        let after = (false, 0, made, left);
+        is_read(
+            &rt,
+            ("ab\ncd", 8, true),
+            calls,
+            Err(ReadFault::Spent),
+            after,
+        );
+    }
+    for &(fails_at, most_calls, made, left) in &[(4, 10, 3, "cd"), (0, 3, 3, "cd")] {
+        let calls = (2, fails_at, most_calls);
+        let after = (false, 0, made, left);
+        is_read(&rt, ("ab\ncd", 8, true), calls, Ok("ab\n"), after);
+    }
+}
+
+/// Asserts how far `abc` is written, with this many bytes a call and a call that fails; then the failures and
+/// the calls, none of them a flush.
+fn writing_stops(
+    rt: &(impl Abort + AllocGlobal),
+    step: usize,
+    fails_at: u64,
+    answer: Result<(), Failed>,
+    failures: u64,
+    made: u64,
+    written: &str,
+) {
+    let mut writer = Device::new(SlowWriter::new(rt.alloc(), step, fails_at));
+    let found = (write_all(&mut writer, b"abc"), writer.failures());
+    equal(rt, (step, fails_at), found, (answer, failures));
+    let writer = writer.into_inner();
+    let found = (writer.calls, writer.flushes, writer.bytes.as_slice());
+    equal(rt, (step, fails_at), found, (made, 0, written.as_bytes()));
 }
 
 #[test]
 fn writing_stops_at_the_write_that_fails(rt: HostRuntime) {
     for &(step, fails_at, answer, failures, made, written) in &[
-        (1, 1, Err(Failed), 1, 1, 0),
-        (1, 3, Err(Failed), 1, 3, 2),
-        (1, 4, Ok(()), 0, 3, 3),
-        (2, 0, Ok(()), 0, 2, 3),
-        (usize::MAX, 0, Ok(()), 0, 1, 3),
-        (0, 0, Err(Failed), 1, 1, 0),
+        (1, 1, Err(Failed), 1, 1, ""),
+        (1, 3, Err(Failed), 1, 3, "ab"),
+        (1, 4, Ok(()), 0, 3, "abc"),
+        (2, 0, Ok(()), 0, 2, "abc"),
+        (usize::MAX, 0, Ok(()), 0, 1, "abc"),
+        (0, 0, Err(Failed), 1, 1, ""),
     ] {
-        let mut writer = Device::new(SlowWriter::new(rt.alloc(), step, fails_at));
-        equal(
-            &rt,
-            (step, fails_at),
-            write_all(&mut writer, b"abc"),
-            answer,
-        );
-        equal(&rt, (step, fails_at), writer.failures(), failures);
-        let writer = writer.into_inner();
-        equal(
-            &rt,
-            (step, fails_at),
-            (writer.calls, writer.flushes),
-            (made, 0),
-        );
-        equal(
-            &rt,
-            (step, fails_at),
-            writer.bytes.as_slice(),
-            front(b"abc", written),
-        );
+        writing_stops(&rt, step, fails_at, answer, failures, made, written);
     }
+}
+
+/// Asserts how far a text is written and flushed, byte by byte and with a call that fails; then the failures,
+/// the calls and the flushes.
+fn is_flushed(
+    rt: &(impl Abort + AllocGlobal),
+    text: &str,
+    fails_at: u64,
+    answer: Result<(), Failed>,
+    failures: u64,
+    made: u64,
+    flushes: u64,
+) {
+    let mut writer = Device::new(SlowWriter::new(rt.alloc(), 1, fails_at));
+    let row = (text, fails_at);
+    let answered = write_and_flush(&mut writer, text.as_bytes());
+    equal(rt, row, (answered, writer.failures()), (answer, failures));
+    let writer = writer.into_inner();
+    let calls = (writer.calls, writer.flushes, writer.written_after_flush);
+    equal(rt, row, calls, (made, flushes, false));
+    let written = writer.bytes.as_slice();
+    holds(rt, row, text.as_bytes().starts_with(written));
 }
 
 #[test]
@@ -154,26 +211,6 @@ fn a_text_is_flushed_once_where_it_was_written(rt: HostRuntime) {
         ("", 1, Err(Failed), 1, 1, 1),
         ("", 0, Ok(()), 0, 1, 1),
     ] {
-        let mut writer = Device::new(SlowWriter::new(rt.alloc(), 1, fails_at));
-        equal(
-            &rt,
-            (text, fails_at),
-            write_and_flush(&mut writer, text.as_bytes()),
-            answer,
-        );
-        equal(&rt, (text, fails_at), writer.failures(), failures);
-        let writer = writer.into_inner();
-        equal(
-            &rt,
-            (text, fails_at),
-            (writer.calls, writer.flushes),
-            (made, flushes),
-        );
-        holds(
-            &rt,
-            (text, fails_at),
-            text.as_bytes().starts_with(writer.bytes.as_slice()),
-        );
-        holds(&rt, (text, fails_at), !writer.written_after_flush);
+        is_flushed(&rt, text, fails_at, answer, failures, made, flushes);
     }
 }

@@ -5,6 +5,7 @@ use smap_testing::{
 };
 use std::cell::Cell;
 use std::io::{Read, Write};
+use std::process::Abort;
 use std::test::Fail;
 
 #[test]
@@ -27,16 +28,21 @@ fn a_long_reader_gives_as_many_bytes_as_are_left(rt: HostRuntime) {
     }
 }
 
+/// How many of these bytes a writer takes, or none where it fails.
+fn taken(writer: &mut impl Write, bytes: &[u8]) -> Option<usize> {
+    writer.write(bytes).ok()
+}
+
 #[test]
 fn a_slow_writer_takes_step_by_step_and_fails_once(rt: HostRuntime) {
     let mut writer = SlowWriter::new(rt.alloc(), 2, 2);
-    for (bytes, taken) in &[("abc", Some(2)), ("c", None), ("c", Some(1))] {
-        equal(&rt, "taken", writer.write(bytes.as_bytes()).ok(), *taken);
-    }
+    let begun = (taken(&mut writer, b"abc"), taken(&mut writer, b"c"));
+    equal(&rt, "taken", begun, (Some(2), None));
+    equal(&rt, "taken", taken(&mut writer, b"c"), Some(1));
     holds(&rt, "flush", writer.flush().is_ok());
-    holds(&rt, "order", !writer.written_after_flush);
-    equal(&rt, "calls", (writer.calls, writer.flushes), (4, 1));
-    equal(&rt, "late", writer.write(b"d").ok(), Some(1));
+    let calls = (writer.calls, writer.flushes, writer.written_after_flush);
+    equal(&rt, "calls", calls, (4, 1, false));
+    equal(&rt, "late", taken(&mut writer, b"d"), Some(1));
     holds(&rt, "order", writer.written_after_flush);
     equal(&rt, "bytes", writer.bytes.as_slice(), b"abcd".as_slice());
 }
@@ -49,28 +55,37 @@ fn a_slow_writer_may_take_nothing_and_fail_to_flush(rt: HostRuntime) {
     holds(&rt, "flush", failing.flush().is_err());
 }
 
+/// How many bytes a reader gives into room for four, or none where it fails.
+fn given(reader: &mut impl Read) -> Option<usize> {
+    reader.read(&mut [0; 4]).ok()
+}
+
 #[test]
 fn a_watching_reader_sees_what_was_written(rt: HostRuntime) {
     let shown = Cell::new(0);
     let pieces = ["ab", "c"];
     let mut reader = WatchingReader::new(rt.alloc(), &pieces, &shown);
     let mut writer = WatchedWriter::new(rt.alloc(), &shown);
-    let mut buf = [0; 4];
-    equal(&rt, "given", reader.read(&mut buf).ok(), Some(2));
-    equal(&rt, "taken", writer.write(b"abcde").ok(), Some(5));
-    equal(&rt, "given", reader.read(&mut buf).ok(), Some(1));
-    equal(&rt, "given", reader.read(&mut buf).ok(), Some(0));
+    let first = (given(&mut reader), taken(&mut writer, b"abcde"));
+    let rest = (given(&mut reader), given(&mut reader));
+    equal(&rt, "first", first, (Some(2), Some(5)));
+    equal(&rt, "rest", rest, (Some(1), Some(0)));
     equal(&rt, "seen", reader.seen.as_slice(), [0, 5, 5].as_slice());
     equal(&rt, "bytes", writer.bytes.as_slice(), b"abcde".as_slice());
+}
+
+/// Asserts that a table has these rows.
+fn are_rows(rt: &impl Abort, table: &[String], expected: &[&str]) {
+    equal(rt, "rows", table.len(), expected.len());
+    for (row, expected) in table.iter().zip(expected) {
+        equal(rt, "row", row.as_str(), *expected);
+    }
 }
 
 #[test]
 fn a_row_goes_on_where_a_line_begins_with_a_space(rt: HostRuntime) -> Result<(), Fail> {
     let table = rows(rt.alloc(), "one | 1\n    | 2\n\ntwo\n  | x | y\n")?;
-    equal(&rt, "rows", table.len(), 3);
-    for (row, expected) in table.iter().zip(&["one | 1| 2", "", "two| x | y"]) {
-        equal(&rt, "row", row.as_str(), *expected);
-    }
+    are_rows(&rt, &table, &["one | 1| 2", "", "two| x | y"]);
     Ok(())
 }
 

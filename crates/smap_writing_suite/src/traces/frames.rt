@@ -1,17 +1,19 @@
 //! The rows of the table of frames.
 use crate::asserted::{equal, holds};
-use smap_trace::frame;
+use smap_trace::{Frame, frame};
 use std::process::Abort;
 
 /// Asserts that the line is a frame with these parts.
-fn is_frame(rt: &impl Abort, line: &str, before: &str, url: &str, places: (u32, u32), after: &str) {
-    let Some(found) = frame(line.as_bytes()) else {
-        panic!(rt; "{line}");
+fn is_frame(rt: &impl Abort, text: &str, before: &str, url: &str, places: (u32, u32), after: &str) {
+    let (line, column) = places;
+    let expected = Frame {
+        before: before.as_bytes(),
+        url: url.as_bytes(),
+        line,
+        column,
+        after: after.as_bytes(),
     };
-    equal(rt, line, found.before, before.as_bytes());
-    equal(rt, line, found.url, url.as_bytes());
-    equal(rt, line, (found.line, found.column), places);
-    equal(rt, line, found.after, after.as_bytes());
+    equal(rt, text, frame(text.as_bytes()), Some(expected));
 }
 
 #[test]
@@ -62,7 +64,7 @@ fn lines_of_v8_and_firefox_are_frames(rt: HostRuntime) {
 
 #[test]
 fn other_lines_are_none(rt: HostRuntime) {
-    for line in [
+    for &line in &[
         "@u:2147483649:1",
         "@u:0:1",
         "@u:01:1",

@@ -1,7 +1,9 @@
 //! Translations of single lines.
 use crate::asserted::{equal, holds};
 use crate::reading::read;
+use smap_record::SourceMap;
 use smap_trace::{LineOutcome, distinct_scripts, translate_line};
+use std::alloc::AllocError;
 use std::process::Abort;
 use std::test::Fail;
 
@@ -17,18 +19,29 @@ const UNMAPPED: &str = r#"{"version":3,"mappings":"A"}"#;
 /// output, which held `> ` before.
 fn is_translated(
     rt: &(impl Abort + AllocGlobal),
+    map: &SourceMap,
+    hide: bool,
+    line: &str,
+    outcome: LineOutcome,
+    expected: &str,
+) -> Result<(), AllocError> {
+    let mut out = Vec::from_slice(rt.alloc(), b"> ")?;
+    let answer = translate_line(line.as_bytes(), &[("u", map)], hide, &mut out);
+    equal(rt, line, answer, Ok(outcome));
+    equal(rt, line, out.as_slice(), expected.as_bytes());
+    Ok(())
+}
+
+/// Asserts the same with the map of a text.
+fn is_translated_with(
+    rt: &(impl Abort + AllocGlobal),
     map: &str,
     hide: bool,
     line: &str,
     outcome: LineOutcome,
     expected: &str,
-) -> Result<(), Fail> {
-    let map = read(rt, map);
-    let mut out = Vec::from_slice(rt.alloc(), b"> ")?;
-    let answer = translate_line(line.as_bytes(), &[("u", &map)], hide, &mut out);
-    equal(rt, line, answer, Ok(outcome));
-    equal(rt, line, out.as_slice(), expected.as_bytes());
-    Ok(())
+) -> Result<(), AllocError> {
+    is_translated(rt, &read(rt, map), hide, line, outcome, expected)
 }
 
 #[test]
@@ -76,23 +89,21 @@ fn a_line_is_kept_translated_or_dropped(rt: HostRuntime) -> Result<(), Fail> {
         ),
         (NULL_IGNORED, true, "@u:1:1\n", LineOutcome::Dropped, "> "),
     ] {
-        is_translated(&rt, map, hide, line, outcome, expected)?;
+        is_translated_with(&rt, map, hide, line, outcome, expected)?;
     }
     Ok(())
 }
 
+/// Asserts that scripts are distinct where their URLs are, also with the same map.
+fn are_distinct(rt: &impl Abort, map: &SourceMap) {
+    let distinct = [("u", map), ("v", map), ("uv", map)];
+    let twice = [("u", map), ("v", map), ("u", map)];
+    holds(rt, "no script", distinct_scripts(&[]));
+    holds(rt, "scripts", distinct_scripts(&distinct));
+    holds(rt, "scripts", !distinct_scripts(&twice));
+}
+
 #[test]
 fn scripts_are_distinct_by_their_urls(rt: HostRuntime) {
-    let map = read(&rt, NAMED);
-    holds(&rt, "no script", distinct_scripts(&[]));
-    holds(
-        &rt,
-        "scripts",
-        distinct_scripts(&[("u", &map), ("v", &map), ("uv", &map)]),
-    );
-    holds(
-        &rt,
-        "scripts",
-        !distinct_scripts(&[("u", &map), ("v", &map), ("u", &map)]),
-    );
+    are_distinct(&rt, &read(&rt, NAMED));
 }

@@ -27,22 +27,28 @@ const TIES: &str = r#"{"version":3,"sources":["a.js"],"mappings":"AAAA,AACA"}"#;
 /// two.
 const FAR: &str = r#"{"version":3,"sources":["a.js"],"mappings":";;;;;;;;AAAA,CAAC"}"#;
 
-fn told(alloc: Global, found: Option<TokenView>) -> Result<String, Fail> {
-    let Some(token) = found else {
-        return Ok(format!(in alloc; "none")?);
-    };
-    let Some(original) = token.original else {
-        return Ok(format!(in alloc; "{}:{} unmapped", token.line, token.column)?);
-    };
-    Ok(format!(in alloc;
-        "{}:{} {}:{}:{} {}",
-        token.line,
-        token.column,
-        original.source.url.unwrap_or("null"),
-        original.line,
-        original.column,
-        original.name.unwrap_or("unnamed")
-    )?)
+/// A position, with the URL, the position and the name of its original, if it has one.
+type Told<'a> = (
+    (u32, u32),
+    Option<(Option<&'a str>, (u32, u32), Option<&'a str>)>,
+);
+
+fn told(token: TokenView<'_>) -> Told<'_> {
+    let position = (token.line, token.column);
+    match token.original {
+        Some(o) => (position, Some((o.source.url, (o.line, o.column), o.name))),
+        None => (position, None),
+    }
+}
+
+/// Asserts that a mapping was found that is told as the expected one.
+fn is_same(
+    rt: &impl Abort,
+    position: (u32, u32),
+    found: Option<TokenView<'_>>,
+    expected: Option<TokenView<'_>>,
+) {
+    equal(rt, position, found.map(told), expected.map(told));
 }
 
 /// The positions of a map, and how often one was asked for.
@@ -106,125 +112,127 @@ fn crowded(alloc: Global, mappings: usize) -> Result<String, AllocError> {
 }
 
 /// Asserts that a lookup finds what a scan finds, with the probes of `search`, and returns how many they are.
-fn probes_at(
-    rt: &(impl Abort + AllocGlobal),
-    map: &SourceMap,
-    line: u32,
-    column: u32,
-) -> Result<u32, Fail> {
+fn probes_at(rt: &impl Abort, map: &SourceMap, line: u32, column: u32) -> u32 {
     let (found, probes) = lookup(map, line, column);
-    let counted = count_of_search(map, line, column);
-    equal(rt, (line, column), probes, counted);
-    let answer = told(rt.alloc(), found)?;
-    let expected = told(rt.alloc(), scanned(map, line, column).1)?;
-    equal(rt, (line, column), answer.as_str(), expected.as_str());
-    Ok(probes)
+    equal(
+        rt,
+        (line, column),
+        probes,
+        count_of_search(map, line, column),
+    );
+    is_same(rt, (line, column), found, scanned(map, line, column).1);
+    probes
 }
 
 /// Asserts of the first columns of a line that a lookup finds what a scan finds, with no fewer and no more
 /// probes than these.
-fn are_found(
+fn are_found(rt: &impl Abort, map: &SourceMap, line: u32, columns: u32, least: u32, most: u32) {
+    for column in 0..columns {
+        let probes = probes_at(rt, map, line, column);
+        let few = least <= probes && probes <= most;
+        holds(rt, (probes, line, column), few);
+    }
+}
+
+/// Asserts the same of the first columns of the first lines of a text's map.
+fn probes_are_few(
     rt: &(impl Abort + AllocGlobal),
-    map: &SourceMap,
-    line: u32,
+    text: &str,
     columns: u32,
     least: u32,
     most: u32,
-) -> Result<(), Fail> {
-    for column in 0..columns {
-        let probes = probes_at(rt, map, line, column)?;
-        holds(
-            rt,
-            (probes, line, column),
-            least <= probes && probes <= most,
-        );
+) {
+    let map = read(rt, text);
+    for line in 0..3 {
+        are_found(rt, &map, line, columns, least, most);
     }
-    Ok(())
 }
 
 #[test]
 fn probes_are_few_and_the_answer_is_that_of_a_scan(rt: HostRuntime) -> Result<(), Fail> {
-    let thousand = crowded(rt.alloc(), 1000)?;
-    let power = crowded(rt.alloc(), 1024)?;
     for &(text, columns, least, most) in &[
         (EMPTY, 3, 0, 0),
         (UNMAPPED, 3, 1, 1),
         (SECTIONS, 12, 1, 2),
-        (thousand.as_str(), 336, 9, 10),
-        (power.as_str(), 344, 10, 11),
     ] {
-        let map = read(&rt, text);
-        for line in 0..3 {
-            are_found(&rt, &map, line, columns, least, most)?;
-        }
+        probes_are_few(&rt, text, columns, least, most);
+    }
+    for &(mappings, columns, least, most) in &[(1000, 336, 9, 10), (1024, 344, 10, 11)] {
+        let text = crowded(rt.alloc(), mappings)?;
+        probes_are_few(&rt, text.as_str(), columns, least, most);
     }
     Ok(())
 }
 
 /// Asserts that the lookups by the table of a map's lines find what a scan finds.
-fn is_found_by_table(
-    rt: &(impl Abort + AllocGlobal),
-    map: &SourceMap,
-    starts: &LineStarts,
-    line: u32,
-    column: u32,
-) -> Result<(), Fail>
+fn is_found_by_table(rt: &impl Abort, map: &SourceMap, starts: &LineStarts, line: u32, column: u32)
     requires { starts.now ≡ line_starts (record_of map.now).mappings }
 {
     let (index, expected) = scanned(map, line, column);
     let (found, _probes) = find_in(map, starts, line, column);
     equal(rt, (line, column), found, index);
     let (found, _probes) = lookup_in(map, starts, line, column);
-    let answer = told(rt.alloc(), found)?;
-    let expected = told(rt.alloc(), expected)?;
-    equal(rt, (line, column), answer.as_str(), expected.as_str());
-    Ok(())
+    is_same(rt, (line, column), found, expected);
 }
 
 /// Asserts the same of the first columns of some lines, the last of them past the end of each map.
-fn are_found_by_table(rt: &(impl Abort + AllocGlobal), text: &str) -> Result<(), Fail> {
-    let map = read(rt, text);
-    let starts = LineStarts::new(rt.alloc(), &map).expect(rt, text);
+fn lines_are_found_by_table(rt: &impl Abort, map: &SourceMap, starts: &LineStarts)
+    requires { starts.now ≡ line_starts (record_of map.now).mappings }
+{
     for &line in &[0, 1, 2, 7, 8, 9, 2147483647] {
         for column in 0..12 {
-            is_found_by_table(rt, &map, &starts, line, column)?;
+            is_found_by_table(rt, map, starts, line, column);
         }
     }
-    Ok(())
+}
+
+/// Asserts the same with the table that is made of the map.
+fn are_found_by_table(rt: &(impl Abort + AllocGlobal), map: &SourceMap) {
+    let starts = LineStarts::new(rt.alloc(), map).expect(rt, "a table is made");
+    lines_are_found_by_table(rt, map, &starts);
+}
+
+/// Asserts the same with the map of a text.
+fn a_table_finds_them(rt: &(impl Abort + AllocGlobal), text: &str) {
+    are_found_by_table(rt, &read(rt, text));
 }
 
 #[test]
 fn the_table_of_lines_finds_what_a_scan_finds(rt: HostRuntime) -> Result<(), Fail> {
     let crowded = crowded(rt.alloc(), 10)?;
     for &text in &[EMPTY, UNMAPPED, TIES, SECTIONS, FAR, crowded.as_str()] {
-        are_found_by_table(&rt, text)?;
+        a_table_finds_them(&rt, text);
     }
     Ok(())
 }
 
 /// Asserts the index of the mapping for a position of line 0.
 fn is_at(rt: &(impl Abort + AllocGlobal), text: &str, column: u32, index: Option<usize>) {
-    let map = read(rt, text);
-    let (found, _probes) = find(&map, 0, column);
+    let (found, _probes) = find(&read(rt, text), 0, column);
     equal(rt, (text, column), found, index);
 }
 
-#[test]
-fn the_last_of_several_mappings_at_a_position_is_found(rt: HostRuntime) -> Result<(), Fail> {
-    let crowded = crowded(rt.alloc(), 10)?;
+/// Asserts such indices, also in a map with ten crowded mappings.
+fn are_at(rt: &(impl Abort + AllocGlobal), crowded: &str) {
     for &(text, column, index) in &[
         (EMPTY, 0, None),
         (TIES, 0, Some(1)),
         (TIES, 1, Some(1)),
         (SECTIONS, 9, Some(0)),
         (FAR, 0, None),
-        (crowded.as_str(), 0, Some(2)),
-        (crowded.as_str(), 1, Some(5)),
-        (crowded.as_str(), 2, Some(8)),
-        (crowded.as_str(), 3, Some(9)),
-        (crowded.as_str(), 2147483647, Some(9)),
+        (crowded, 0, Some(2)),
+        (crowded, 1, Some(5)),
+        (crowded, 2, Some(8)),
+        (crowded, 3, Some(9)),
+        (crowded, 2147483647, Some(9)),
     ] {
-        is_at(&rt, text, column, index);
+        is_at(rt, text, column, index);
     }
+}
+
+#[test]
+fn the_last_of_several_mappings_at_a_position_is_found(rt: HostRuntime) -> Result<(), Fail> {
+    let crowded = crowded(rt.alloc(), 10)?;
+    are_at(&rt, crowded.as_str());
     Ok(())
 }

@@ -58,22 +58,34 @@ struct Texts {
     left: String,
 }
 
+/// Appends a line and what ends it.
+fn push_line(text: &mut String, line: &str, feed: &str) -> Result<(), AllocError> {
+    text.push_str(line)?;
+    text.push_str(feed)
+}
+
+impl Texts {
+    /// Appends a line, its translation, and what ends both.
+    fn push(&mut self, line: &str, written: &str, feed: &str) -> Result<(), AllocError> {
+        if line == written {
+            push_line(&mut self.left, line, feed)?;
+        }
+        push_line(&mut self.trace, line, feed)?;
+        push_line(&mut self.told, written, feed)
+    }
+}
+
 fn worked(alloc: Global) -> Result<Texts, AllocError> {
-    let mut trace = String::new(alloc);
-    let mut told = String::new(alloc);
-    let mut left = String::new(alloc);
+    let mut texts = Texts {
+        trace: String::new(alloc),
+        told: String::new(alloc),
+        left: String::new(alloc),
+    };
     for (i, (line, written)) in WORKED.iter().enumerate() {
         let feed = if i + 1 < WORKED.len() { "\n" } else { "" };
-        trace.push_str(line)?;
-        trace.push_str(feed)?;
-        told.push_str(written)?;
-        told.push_str(feed)?;
-        if line == written {
-            left.push_str(line)?;
-            left.push_str(feed)?;
-        }
+        texts.push(line, written, feed)?;
     }
-    Ok(Texts { trace, told, left })
+    Ok(texts)
 }
 
 const TOLD: Counts = Counts {
@@ -94,23 +106,43 @@ const NONE: Counts = Counts {
     dropped: 0,
 };
 
-fn run<'a>(
+/// What a translation answers, how many reads and how many writes and flushes it takes, and the writer then.
+#[derive(Drop)]
+struct Ran {
+    answer: Result<Counts, TraceError>,
+    reads: u64,
+    writes: u64,
+    writer: SlowWriter,
+}
+
+fn run(
     alloc: Global,
     map: &SourceMap,
     hide: bool,
-    reader: SlowReader<'a>,
+    reader: SlowReader<'_>,
     writer: SlowWriter,
-) -> (Result<Counts, TraceError>, SlowReader<'a>, SlowWriter) {
+) -> Ran {
     let mut reader = Device::new(reader);
     let mut writer = Device::new(writer);
     let answer = translate(alloc, &mut reader, &[(SCRIPT, map)], hide, &mut writer);
-    (answer, reader.into_inner(), writer.into_inner())
+    let writer = writer.into_inner();
+    Ran {
+        answer,
+        reads: reader.into_inner().calls,
+        writes: writer.calls,
+        writer,
+    }
 }
 
-/// A trace that is translated with a map, and what comes of it.
+/// Translates a trace, 50 bytes a call, with the read and the write that fail; 0 means none.
+fn failing(alloc: Global, map: &SourceMap, trace: &[u8], read: u64, write: u64) -> Ran {
+    let reader = SlowReader::new(trace, 50, read);
+    run(alloc, map, false, reader, SlowWriter::new(alloc, 50, write))
+}
+
+/// A trace, whether hidden frames are left out of it, and what comes of it.
 #[derive(Clone, Copy)]
 struct Case<'a> {
-    map: &'a str,
     hide: bool,
     trace: &'a str,
     written: &'a str,
@@ -123,24 +155,30 @@ fn is_told(rt: &(impl Abort + AllocGlobal), map: &SourceMap, case: Case<'_>, ste
 {
     let reader = SlowReader::new(case.trace.as_bytes(), step, 0);
     let writer = SlowWriter::new(rt.alloc(), step, 0);
-    let (answer, _reader, writer) = run(rt.alloc(), map, case.hide, reader, writer);
-    equal(rt, step, answer, Ok(case.counts));
-    equal(rt, step, writer.bytes.as_slice(), case.written.as_bytes());
-    equal(rt, step, writer.flushes, 1);
-    holds(rt, step, !writer.written_after_flush);
+    let ran = run(rt.alloc(), map, case.hide, reader, writer);
+    let found = (
+        ran.answer,
+        ran.writer.flushes,
+        ran.writer.written_after_flush,
+    );
+    equal(rt, step, found, (Ok(case.counts), 1, false));
+    equal(
+        rt,
+        step,
+        ran.writer.bytes.as_slice(),
+        case.written.as_bytes(),
+    );
 }
 
-/// Asserts what comes of a case, with few bytes a call and with many.
-fn is_told_by_steps(rt: &(impl Abort + AllocGlobal), case: Case<'_>) {
-    let map = read(rt, case.map);
-    for step in [1, 2, 7, 50, 1000] {
-        is_told(rt, &map, case, step);
+/// Asserts what comes of a case, with its map, with few bytes a call and with many.
+fn is_told_by_steps(rt: &(impl Abort + AllocGlobal), map: &SourceMap, case: Case<'_>) {
+    for &step in &[1, 2, 7, 50, 1000] {
+        is_told(rt, map, case, step);
     }
 }
 
-#[test]
-fn the_worked_trace_is_told_with_its_counts(rt: HostRuntime) -> Result<(), Fail> {
-    let texts = worked(rt.alloc())?;
+/// Asserts what comes of the example trace, and of an empty one.
+fn are_told(rt: &(impl Abort + AllocGlobal), texts: &Texts) {
     let trace = texts.trace.as_str();
     let told = texts.told.as_str();
     for &(map, hide, trace, written, counts) in &[
@@ -151,91 +189,93 @@ fn the_worked_trace_is_told_with_its_counts(rt: HostRuntime) -> Result<(), Fail>
         (MAP, false, "", "", NONE),
     ] {
         let case = Case {
-            map,
             hide,
             trace,
             written,
             counts,
         };
-        is_told_by_steps(&rt, case);
+        is_told_by_steps(rt, &read(rt, map), case);
     }
+}
+
+#[test]
+fn the_worked_trace_is_told_with_its_counts(rt: HostRuntime) -> Result<(), Fail> {
+    are_told(&rt, &worked(rt.alloc())?);
     Ok(())
 }
 
-/// How many reads and how many writes and flushes it takes to translate a trace, 50 bytes a call.
+/// How many reads and how many writes and flushes it takes to translate a trace.
 fn calls(alloc: Global, map: &SourceMap, trace: &[u8]) -> (u64, u64) {
-    let reader = SlowReader::new(trace, 50, 0);
-    let writer = SlowWriter::new(alloc, 50, 0);
-    let (_answer, reader, writer) = run(alloc, map, false, reader, writer);
-    (reader.calls, writer.calls)
+    let ran = failing(alloc, map, trace, 0, 0);
+    (ran.reads, ran.writes)
 }
 
 /// Asserts that a translation ends with the k-th read if that fails.
 fn ends_with_read(rt: &(impl Abort + AllocGlobal), map: &SourceMap, trace: &[u8], k: u64) {
-    let reader = SlowReader::new(trace, 50, k);
-    let writer = SlowWriter::new(rt.alloc(), 50, 0);
-    let (answer, reader, writer) = run(rt.alloc(), map, false, reader, writer);
-    equal(rt, ("read", k), answer, Err(TraceError::Read));
-    equal(rt, ("read", k), reader.calls, k);
-    equal(rt, ("read", k), writer.flushes, 0);
+    let ran = failing(rt.alloc(), map, trace, k, 0);
+    let found = (ran.answer, ran.reads, ran.writer.flushes);
+    equal(rt, ("read", k), found, (Err(TraceError::Read), k, 0));
 }
 
 /// Asserts that a translation ends with the k-th write if that fails, and what it wrote before is right.
 fn ends_with_write(rt: &(impl Abort + AllocGlobal), map: &SourceMap, texts: &Texts, k: u64) {
-    let reader = SlowReader::new(texts.trace.as_bytes(), 50, 0);
-    let writer = SlowWriter::new(rt.alloc(), 50, k);
-    let (answer, _reader, writer) = run(rt.alloc(), map, false, reader, writer);
-    equal(rt, ("write", k), answer, Err(TraceError::Write));
-    equal(rt, ("write", k), writer.calls, k);
-    holds(
-        rt,
-        ("write", k),
-        texts.told.as_bytes().starts_with(&writer.bytes),
-    );
+    let ran = failing(rt.alloc(), map, texts.trace.as_bytes(), 0, k);
+    let found = (ran.answer, ran.writes);
+    equal(rt, ("write", k), found, (Err(TraceError::Write), k));
+    let written = ran.writer.bytes.as_slice();
+    holds(rt, ("write", k), texts.told.as_bytes().starts_with(written));
 }
 
 /// Asserts that a translation ends with the first write if the writer takes nothing.
 fn ends_if_nothing_is_taken(rt: &(impl Abort + AllocGlobal), map: &SourceMap, trace: &[u8]) {
     let reader = SlowReader::new(trace, 50, 0);
-    let writer = SlowWriter::new(rt.alloc(), 0, 0);
-    let (answer, _reader, writer) = run(rt.alloc(), map, false, reader, writer);
-    equal(rt, "answer", answer, Err(TraceError::Write));
-    equal(rt, "calls", writer.calls, 1);
+    let ran = run(
+        rt.alloc(),
+        map,
+        false,
+        reader,
+        SlowWriter::new(rt.alloc(), 0, 0),
+    );
+    let found = (ran.answer, ran.writes);
+    equal(rt, "nothing taken", found, (Err(TraceError::Write), 1));
+}
+
+/// Asserts that each call that fails gives the example trace up.
+fn is_given_up(rt: &(impl Abort + AllocGlobal), map: &SourceMap, texts: &Texts) {
+    let trace = texts.trace.as_bytes();
+    let (reads, writes) = calls(rt.alloc(), map, trace);
+    equal(rt, "reads", reads, trace.len().div_ceil(50) as u64 + 1);
+    for k in 1..reads.saturating_add(1) {
+        ends_with_read(rt, map, trace, k);
+    }
+    for k in 1..writes.saturating_add(1) {
+        ends_with_write(rt, map, texts, k);
+    }
+    ends_if_nothing_is_taken(rt, map, trace);
 }
 
 #[test]
 fn a_call_that_fails_gives_the_trace_up(rt: HostRuntime) -> Result<(), Fail> {
     let texts = worked(rt.alloc())?;
-    let trace = texts.trace.as_bytes();
-    let map = read(&rt, MAP);
-    let (reads, writes) = calls(rt.alloc(), &map, trace);
-    equal(&rt, "reads", reads, trace.len().div_ceil(50) as u64 + 1);
-    for k in 1..reads.saturating_add(1) {
-        ends_with_read(&rt, &map, trace, k);
-    }
-    for k in 1..writes.saturating_add(1) {
-        ends_with_write(&rt, &map, &texts, k);
-    }
-    ends_if_nothing_is_taken(&rt, &map, trace);
+    is_given_up(&rt, &read(&rt, MAP), &texts);
     Ok(())
 }
 
 /// Asserts that all 10,000 lines of a trace are translated, in as many reads and writes as there are pieces.
-fn is_told_by_pieces(rt: &(impl Abort + AllocGlobal), trace: &str) {
-    let map = read(rt, MAP);
+fn is_told_by_pieces(rt: &(impl Abort + AllocGlobal), map: &SourceMap, trace: &str) {
     let pieces = trace.len() / 65536 + 1;
     let reader = SlowReader::new(trace.as_bytes(), 1000000, 0);
     let writer = SlowWriter::new(rt.alloc(), 1000000, 0);
-    let (answer, reader, writer) = run(rt.alloc(), &map, false, reader, writer);
+    let ran = run(rt.alloc(), map, false, reader, writer);
     let counts = Counts {
         lines: 10000,
         translated: 10000,
         dropped: 0,
     };
-    equal(rt, "answer", answer, Ok(counts));
-    equal(rt, "calls", reader.calls, pieces as u64 + 1);
-    equal(rt, "calls", writer.calls, pieces as u64 + 1);
-    equal(rt, "flushes", writer.flushes, 1);
+    let calls = pieces as u64 + 1;
+    equal(rt, "answer", ran.answer, Ok(counts));
+    let found = (ran.reads, ran.writes, ran.writer.flushes);
+    equal(rt, "calls", found, (calls, calls, 1));
 }
 
 #[test]
@@ -244,7 +284,7 @@ fn a_piece_is_one_read_and_one_write(rt: HostRuntime) -> Result<(), Fail> {
     for _ in 0..10000 {
         trace.push_str("    at f (http://h/m/out.js:1:2)\n")?;
     }
-    is_told_by_pieces(&rt, trace.as_str());
+    is_told_by_pieces(&rt, &read(&rt, MAP), trace.as_str());
     Ok(())
 }
 
