@@ -75,8 +75,8 @@ fn a_bundle_is_read_to_its_line_trace(rt: HostRuntime) -> Result<(), Fail> {
     Ok(())
 }
 
-/// How many reads the bundle takes: the first header byte by byte, its map and line feed by sevens, the second
-/// alike, and the line `trace`.
+/// How many reads the bundle takes: the first header byte by byte, its map and line feed by sevens, the
+/// second alike, and the line `trace`.
 const READS: u64 = 22 + 8 + 22 + 7 + 6;
 
 /// The read with this number failed, or there were fewer.

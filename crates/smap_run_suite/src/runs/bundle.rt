@@ -137,8 +137,8 @@ const REFUSED: Result<Outcome, RunFault> = Ok(Outcome::Refused);
 
 const TOO_LONG: Result<Outcome, RunFault> = Err(RunFault::TooLong);
 
-/// Bundles with a fault, their answers, and how many reads there are: a line up to its line feed byte by byte,
-/// and a map with its line feed by sevens.
+/// Bundles with a fault, their answers, and how many reads there are: a line up to its line feed byte by
+/// byte, and a map with its line feed by sevens.
 static FAULTS: [(&str, Result<Outcome, RunFault>, u64); 10] = [
     ("", REFUSED, 1),
     ("trace", REFUSED, 6),
