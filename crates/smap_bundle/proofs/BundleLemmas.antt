@@ -4,7 +4,7 @@ use Rattle.std.specs.Option.{option_map_or}
 use Rattle.std.proofs.Common.{None, Ok, Err, refl, sym, ap, subst, arith, append_assoc}
 use Rattle.std.proofs.Common.{append-nil, length-append}
 use Rattle.smap_record.specs.Faults.{◌>>=◌}
-use Rattle.smap_trace.specs.Translation.{Script}
+use Rattle.smap_record.specs.Scripts.{Script}
 use Rattle.smap_bundle.specs.declared.fault.BundleFault.{BundleFault}
 use Rattle.smap_bundle.specs.Header.{after, header_in, trace_line}
 use Rattle.smap_bundle.specs.Bundle.{BeginsWithEntries, Checked, bundle_from, bundle_of, entry_in}

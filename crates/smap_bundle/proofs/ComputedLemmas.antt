@@ -9,7 +9,7 @@ use Rattle.std.proofs.lemmas.Bool.Decides.{Decides-eqb}
 use Rattle.std.proofs.lemmas.Option.{none-some, same_Some}
 use Rattle.std.proofs.lemmas.Str.{IsUtf8-from_is_utf8, is_utf8-from_IsUtf8}
 use Rattle.std.proofs.NetLemmas.Options.{cond_some, map_some, same_parts}
-use Rattle.smap_trace.specs.Frame.{lacks}
+use Rattle.smap_record.specs.Scripts.{lacks}
 use Rattle.smap_bundle.specs.Header.{BeginsWithHeader, HeaderParts, IsHeader, IsNumber, IsWord, ◌>>=◌, after}
 use Rattle.smap_bundle.specs.Header.{cut, header_in, header_of, longest_header, number_in, word_in}
 use Rattle.smap_bundle.specs.Laws.{HeaderIsComputed, OneBeginning, OneHeader}

@@ -22,8 +22,7 @@ use Rattle.smap_record.specs.declared.fault.Fault.{Fault}
 use Rattle.smap_record.specs.Reading.{reading}
 use Rattle.smap_record.specs.Record.{ReadMap, record_of}
 use Rattle.smap_io.specs.Limits.{longest_input}
-use Rattle.smap_trace.specs.Frame.{lacks}
-use Rattle.smap_trace.specs.Translation.{AreDistinct, Script}
+use Rattle.smap_record.specs.Scripts.{AreDistinct, Script, lacks}
 use Rattle.smap_io.specs.declared.device.Device.{Device}
 use Rattle.smap_io.specs.Device.{device_failures, has_ended}
 use Rattle.smap_io.specs.Reading.{Gave, IsWithinLine, ReadsLine}

@@ -4,7 +4,7 @@ use Rattle.std.proofs.Common.{refl, sym, ap, arith, append_assoc}
 use Rattle.std.specs.Char.{is_ascii_digit}
 use Rattle.std.specs.List.{list_all}
 use Rattle.std.proofs.lemmas.Bool.Decides.{Decides-eqb}
-use Rattle.smap_trace.specs.Frame.{lacks}
+use Rattle.smap_record.specs.Scripts.{lacks}
 use Rattle.smap_bundle.specs.Header.{BeginsWithHeader, IsHeader, header, trace_line}
 use Rattle.smap_bundle.proofs.TextLemmas.{both, lacks_both}
 

@@ -6,4 +6,4 @@ use Rattle.smap_bundle.specs.Laws.{FirstRows}
 
 pub first_rows : FirstRows
 unfolding bundle_of bundle_from entry_in header_in
-first_rows fates = (refl, refl)
+first_rows = (refl, refl)

@@ -13,7 +13,7 @@ use Rattle.std.proofs.lemmas.List.{append_cancel_left}
 use Rattle.std.proofs.lemmas.Str.{IsUtf8-append, IsUtf8-from_ascii, digit_value_digit}
 use Rattle.std.proofs.lemmas.Str.Parse.{without_leading_plus_none}
 use Rattle.std.proofs.lemmas.Str.Pattern.{IsSplitOnceResult, split_after, split_parts}
-use Rattle.smap_trace.specs.Frame.{lacks}
+use Rattle.smap_record.specs.Scripts.{lacks}
 use Rattle.smap_bundle.specs.Header.{IsHeader, IsNumber, IsWord, header, longest_header}
 use Rattle.smap_bundle.proofs.TextLemmas.{at_lacks, both, lacks_at, one_end}
 use Rattle.smap_bundle.proofs.HeaderLemmas.{words, words_are}

@@ -6,7 +6,7 @@ use Rattle.std.specs.Option.{option_map_or}
 use Rattle.std.proofs.lemmas.Bool.{cases_lt}
 use Rattle.smap_record.specs.Faults.{◌>>=◌}
 use Rattle.smap_io.specs.Reading.{IsWithinLine}
-use Rattle.smap_trace.specs.Translation.{Script}
+use Rattle.smap_record.specs.Scripts.{Script}
 use Rattle.smap_bundle.specs.declared.fault.BundleFault.{BundleFault}
 use Rattle.smap_bundle.specs.Header.{BeginsWithHeader, IsHeader, after, longest_header, trace_line}
 use Rattle.smap_bundle.specs.Bundle.{Checked, bundle_from, entry_in}

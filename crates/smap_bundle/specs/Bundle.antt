@@ -12,7 +12,7 @@ use Rattle.smap_record.specs.Faults.{◌>>=◌}
 use Rattle.smap_record.specs.Reading.{reading}
 use Rattle.smap_record.specs.Record.{ReadMap, record_of}
 pub use Rattle.smap_record.specs.Record.{usual}
-use Rattle.smap_trace.specs.Translation.{Fate, Script, translation_by}
+use Rattle.smap_record.specs.Scripts.{Script}
 use Rattle.smap_io.specs.Limits.{longest_input}
 use Rattle.smap_bundle.specs.declared.fault.BundleFault.{BundleFault}
 use Rattle.smap_bundle.specs.declared.fault.BundleFault.TheVariants.{Refused, TooLong}
@@ -102,9 +102,3 @@ bundle_of input = bundle_from (length input) [] input
 -- The bundle has this fault, and no earlier one.
 abbrev pub HasFault : List ℕ → BundleFault → Type 0
 HasFault input fault = bundle_of input ≡ Err fault
-
--- What `translate` writes for a bundle, where this becomes of a line by some scripts; or its first fault.
-abbrev pub translated : (List Script → List ℕ → Fate) → List ℕ → Checked (List ℕ)
-translated fates input = do
-  bundle ← bundle_of input
-  Ok (translation_by (fates bundle.0) bundle.1)

@@ -5,7 +5,7 @@ use Rattle.url.specs.Parser.{parse_url}
 use Rattle.url.specs.Parts.{Parts}
 use Rattle.smap_record.specs.Reading.{reading}
 use Rattle.smap_record.specs.Record.{ReadMap, record_of}
-use Rattle.smap_trace.specs.Translation.{AreDistinct, Script}
+use Rattle.smap_record.specs.Scripts.{AreDistinct, Script}
 use Rattle.smap_io.specs.Limits.{longest_input}
 use Rattle.smap_io.specs.declared.device.Device.{Device}
 use Rattle.smap_io.specs.Reading.{Gave}

@@ -7,7 +7,7 @@ use Rattle.std.specs.List.{list_all}
 use Rattle.std.specs.Char.{is_ascii_digit}
 use Rattle.std.specs.Str.{is_utf8}
 use Rattle.std.specs.Str.Parse.{digits_value}
-use Rattle.smap_trace.specs.Frame.{lacks}
+use Rattle.smap_record.specs.Scripts.{lacks}
 
 -- the most bytes of a header, its line feed included: 2^16
 abbrev pub longest_header : ℕ

@@ -1,9 +1,9 @@
 -- Laws about bundles, for every input.
 use Rattle.std.specs.Prelude.{◌≡◌, ◌↔◌, ℕ, List, [], ◌++◌, codes, Some, Ok, Err}
 use Rattle.smap_bundle.specs.declared.fault.EntryFault.TheVariants as wrong
-use Rattle.smap_trace.specs.Translation.{Fate, Script}
+use Rattle.smap_record.specs.Scripts.{Script}
 use Rattle.smap_bundle.specs.Header.{BeginsWithHeader, HeaderParts, IsHeader, header_in}
-use Rattle.smap_bundle.specs.Bundle.{bundle_of, fault_after, translated}
+use Rattle.smap_bundle.specs.Bundle.{bundle_of, fault_after}
 use Rattle.smap_bundle.specs.Reach.{EndsWithinEntry}
 
 -- `header_in` computes exactly the header with which a text begins.
@@ -23,11 +23,9 @@ OneBeginning = (text script base more other_script other_base other_more : List 
     → BeginsWithHeader text script base n more → BeginsWithHeader text other_script other_base m other_more
     → (script ≡ other_script) × (base ≡ other_base) × (n ≡ m) × (more ≡ other_more)
 
--- The shortest inputs: an empty one has no header, and a trace without entries and lines gives nothing.
+-- The shortest inputs: an empty one has no header, and the line `trace` alone has no entries and no lines.
 abbrev pub FirstRows : Type 0
-FirstRows = (fates : List Script → List ℕ → Fate)
-    → (translated fates [] ≡ Err (fault_after [] wrong.Header))
-    × (translated fates (codes "trace\n") ≡ Ok [])
+FirstRows = (bundle_of [] ≡ Err (fault_after [] wrong.Header)) × (bundle_of (codes "trace\n") ≡ Ok ([], []))
 
 -- What ends within an entry has the line `trace` after its entries at most as its end.
 abbrev pub TraceIsUnread : Type 0

@@ -2,7 +2,7 @@
 -- of a map at most to the byte after the map.
 use Rattle.std.specs.Prelude.{◌≡◌, ◌⊎◌, ℕ, ◌+◌, ◌≤◌, List, [], ◌++◌, length}
 use Rattle.smap_io.specs.Reading.{IsWithinLine}
-use Rattle.smap_trace.specs.Translation.{Script}
+use Rattle.smap_record.specs.Scripts.{Script}
 use Rattle.smap_bundle.specs.declared.fault.BundleFault.{BundleFault}
 use Rattle.smap_bundle.specs.declared.fault.BundleFault.TheVariants as stop
 use Rattle.smap_bundle.specs.declared.fault.EntryFault.{EntryFault}

@@ -1,7 +1,7 @@
 -- The scripts that were read, as the definitions have them.
 use Rattle.std.specs.Prelude.{List, String, map, string_bytes}
 use Rattle.smap_record.specs.Record.{ReadMap, record_of}
-use Rattle.smap_trace.specs.Translation.{Script}
+use Rattle.smap_record.specs.Scripts.{Script}
 
 -- a URL and a map
 abbrev pub script_of : {A : Type 0} → String A × ReadMap → Script

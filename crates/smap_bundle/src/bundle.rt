@@ -1,7 +1,6 @@
 //! The scripts of a bundle.
 ghost use Rattle.std.specs.Prelude.{◌≡◌, IfOk};
-ghost use Rattle.smap_trace.specs.Translation.{AreDistinct};
-ghost use Rattle.smap_trace.specs.Views.{scripts_in};
+ghost use Rattle.smap_record.specs.Scripts.{AreDistinct, scripts_in};
 ghost use Rattle.smap_bundle.specs.Scripts.{scripts_of};
 
 use indexmap::IndexMap;
@@ -18,7 +17,7 @@ pub struct Bundle {
 
 impl Model for Bundle {
     ghost use Rattle.std.specs.Prelude.{List};
-    ghost use Rattle.smap_trace.specs.Translation.{AreDistinct, Script};
+    ghost use Rattle.smap_record.specs.Scripts.{AreDistinct, Script};
 
     ghost Value = { List Script };
 

@@ -4,7 +4,7 @@ ghost use Rattle.std.specs.Prelude.{MatchOption, codes, length, min, true};
 ghost use Rattle.std.specs.Char.{is_ascii_digit};
 ghost use Rattle.std.specs.List.{list_all};
 ghost use Rattle.smap_bundle.specs.Header.{IsHeader, IsNumber};
-ghost use Rattle.smap_trace.specs.Frame.{lacks};
+ghost use Rattle.smap_record.specs.Scripts.{lacks};
 
 use std::str;
 

@@ -24,3 +24,4 @@ pub mod WrittenView
 pub mod Words
 pub mod Messages
 pub mod ReadApart
+pub mod Scripts

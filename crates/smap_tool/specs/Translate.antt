@@ -7,6 +7,7 @@ use Rattle.smap_io.specs.Device.{device_failures}
 use Rattle.smap_io.specs.Streams.{HasRead, HasWritten, HasWrittenNothing, ReaderFailsOrTires, Streams}
 use Rattle.smap_io.specs.Streams.{WriterFails}
 use Rattle.smap_io.specs.Writing.{Took, TookPrefix}
+use Rattle.smap_record.specs.Faults.{◌>>=◌}
 use Rattle.smap_trace.specs.Streaming.{WritesComplete, WritesPrefix, complete_of, most_of_one_read}
 use Rattle.smap_trace.specs.Streaming.{read_lines}
 use Rattle.smap_trace.specs.Translation.{Fate, Script, fate_by, translation_by}
@@ -16,7 +17,7 @@ use Rattle.smap_tool.specs.declared.outcome.Outcome.{Outcome}
 use Rattle.smap_tool.specs.declared.outcome.Outcome.TheVariants.{Done, Refused}
 use Rattle.smap_tool.specs.declared.outcome.RunFault.{RunFault}
 use Rattle.smap_tool.specs.declared.outcome.RunFault.TheVariants as run
-use Rattle.smap_bundle.specs.Bundle.{HasFault, bundle_of, translated}
+use Rattle.smap_bundle.specs.Bundle.{Checked, HasFault, bundle_of}
 use Rattle.smap_bundle.specs.Reach.{EndsWithinEntry, ReadsNoMore}
 use Rattle.smap_bundle.specs.Reading.{MayFollow}
 use Rattle.smap_bundle.specs.declared.fault.BundleFault.TheVariants as bundle
@@ -26,6 +27,12 @@ use Rattle.smap_tool.specs.BundleLine.{bundle_line}
 -- What becomes of a line by some scripts, with these flags.
 abbrev pub fates_asked : Finding → Bool → List Script → List ℕ → Fate
 fates_asked finding hide scripts = fate_by finding scripts hide
+
+-- What `translate` writes for a bundle, where this becomes of a line by some scripts; or its first fault.
+abbrev pub translated : (List Script → List ℕ → Fate) → List ℕ → Checked (List ℕ)
+translated fates input = do
+  parts ← bundle_of input
+  Ok (translation_by (fates parts.0) parts.1)
 
 -- What was read has this fault, and unless that was to the end, so has every input that begins with it.
 abbrev pub Settles : Bool → List ℕ → Refusal → Type 0

@@ -1,9 +1,10 @@
 -- The frames of a stack trace, as V8, Firefox and Safari write them. This project's own rules: no standard
 -- fixes their form.
-use Rattle.std.specs.Prelude.{◌≡◌, ◌⊎◌, ℕ, ◌<◌, ◌≤◌, ◌==◌, Bool, true, not}
+use Rattle.std.specs.Prelude.{◌≡◌, ◌⊎◌, ℕ, ◌<◌, ◌≤◌, ◌==◌, true}
 use Rattle.std.specs.Prelude.{List, [], ◌∷◌, ◌++◌, length, codes, decimal}
-use Rattle.std.specs.List.{list_all, list_any}
+use Rattle.std.specs.List.{list_all}
 use Rattle.smap_mappings.specs.Position.{POSITIONS}
+pub use Rattle.smap_record.specs.Scripts.{lacks}
 
 -- A frame: its URL, its line and its column, and what is before and after these.
 pub record FrameParts : Type 0 where
@@ -16,10 +17,6 @@ pub record FrameParts : Type 0 where
 -- URL:LINE:COLUMN
 abbrev pub position_text : List ℕ → ℕ → ℕ → List ℕ
 position_text url line column = url ++ codes ":" ++ decimal line ++ codes ":" ++ decimal column
-
--- whether the byte doesn't occur
-abbrev pub lacks : ℕ → List ℕ → Bool
-lacks b text = not (list_any (λ c. c == b) text)
 
 -- only spaces, or nothing
 abbrev pub AreSpaces : List ℕ → Type 0

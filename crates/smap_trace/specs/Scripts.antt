@@ -1,14 +1,7 @@
 -- The scripts that a trace may name, each with what its map says.
-use Rattle.std.specs.Prelude.{◌≢◌, ℕ, List, AllPairs, bytes_eq, find, Option, option_map}
+use Rattle.std.specs.Prelude.{ℕ, List, bytes_eq, find, Option, option_map}
 use Rattle.smap_record.specs.Record.{Record}
-
--- A script: its URL, and the record of its map.
-abbrev pub Script : Type 0
-Script = List ℕ × Record
-
--- no two scripts have one URL
-abbrev pub AreDistinct : List Script → Type 0
-AreDistinct scripts = AllPairs (λ s t. s.0 ≢ t.0) scripts
+pub use Rattle.smap_record.specs.Scripts.{Script, AreDistinct}
 
 -- the record of the map of the script with this URL
 abbrev pub map_of : List Script → List ℕ → Option Record

@@ -1,19 +1,11 @@
 -- What the values of the code stand for.
-use Rattle.std.specs.Prelude.{ℕ, ◌^◌, ◌-◌, Bool, List, length, map, min, count_by}
-use Rattle.std.specs.Borrow.{Bor}
-use Rattle.smap_record.specs.Record.{ReadMap, record_of}
+use Rattle.std.specs.Prelude.{ℕ, ◌^◌, ◌-◌, Bool, List, length, min, count_by}
+pub use Rattle.smap_record.specs.Scripts.{script_in, scripts_in}
 use Rattle.smap_trace.specs.Translation.{Fate, Script, dropped, kept, translated}
 use Rattle.smap_trace.specs.Translation.{fate, is_dropped, is_translated, lines_of}
 use Rattle.smap_trace.specs.declared.outcome.LineOutcome.{LineOutcome}
 use Rattle.smap_trace.specs.declared.outcome.LineOutcome.TheVariants.{Kept, Translated, Dropped}
 use Rattle.smap_trace.specs.declared.outcome.Counts.{Counts}
-
--- a script: its URL and its map's record
-abbrev pub script_in : Bor (List ℕ) × Bor ReadMap → Script
-script_in s = (s.0.now, record_of s.1.now)
-
-abbrev pub scripts_in : List (Bor (List ℕ) × Bor ReadMap) → List Script
-scripts_in scripts = map script_in scripts
 
 -- what became of a line, as the code has it
 abbrev pub outcome_of : Fate → LineOutcome

@@ -5,7 +5,7 @@ use Rattle.smap_io.specs.Reading.{Gave, IsWithinLine}
 use Rattle.smap_io.specs.Limits.{most_calls}
 use Rattle.smap_io.proofs.CallLemmas.{in_time_or_ended, in_time_then}
 use Rattle.smap_io.proofs.ReadingLemmas.{Gave-then}
-use Rattle.smap_trace.specs.Translation.{AreDistinct}
+use Rattle.smap_record.specs.Scripts.{AreDistinct}
 use Rattle.smap_bundle.specs.Header.{longest_header, trace_line}
 use Rattle.smap_bundle.specs.Bundle.{HasFault, entry_in}
 use Rattle.smap_bundle.specs.Entries.{IsFaultAt}

@@ -3,7 +3,7 @@ use Rattle.smap_io.specs.Calls.{SpendsCalls, StopsInTime}
 use Rattle.smap_io.specs.Device.{device_failures, has_ended, is_over}
 use Rattle.smap_io.specs.Reading.{Gave}
 use Rattle.smap_io.specs.Limits.{most_calls}
-use Rattle.smap_trace.specs.Translation.{AreDistinct}
+use Rattle.smap_record.specs.Scripts.{AreDistinct}
 use Rattle.smap_bundle.proofs.EntryLemmas.{AreEntries}
 use Rattle.smap_bundle.specs.Scripts.{scripts_of}
 use Rattle.smap_bundle.proofs.entries.read_bundle.Given as goal

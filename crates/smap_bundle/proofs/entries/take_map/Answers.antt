@@ -5,7 +5,7 @@ use Rattle.std.proofs.lemmas.List.{length-map}
 use Rattle.std.proofs.lemmas.Result.{err_from_is_err_and}
 use Rattle.smap_io.proofs.ReadingLemmas.{Gave-none}
 use Rattle.smap_record.specs.Reading.{reading}
-use Rattle.smap_trace.specs.Translation.{Script}
+use Rattle.smap_record.specs.Scripts.{Script}
 use Rattle.smap_record.specs.declared.fault.Fault.{Fault}
 use Rattle.smap_bundle.specs.declared.fault.EntryFault.TheVariants as wrong
 use Rattle.smap_bundle.specs.declared.fault.BundleFault.TheVariants as stop

@@ -1,5 +1,5 @@
 use Rattle.std.proofs.Common.{◌∙◌, ◌<◌, ap, sym, refl, arith, length, true≢false}
-use Rattle.smap_trace.specs.Views.{scripts_in}
+use Rattle.smap_record.specs.Scripts.{scripts_in}
 use Rattle.smap_bundle.proofs.ScriptLemmas.{next_pair}
 use Rattle.smap_bundle.proofs.bundle.Bundle.scripts.Goals as goal
 use Rattle.smap_bundle.proofs.bundle.Bundle.scripts.Goals.{in-Some+in_ok-push, in_default}

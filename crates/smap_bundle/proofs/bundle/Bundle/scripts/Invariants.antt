@@ -1,5 +1,5 @@
 use Rattle.std.proofs.Common.{◌≡◌, take}
-use Rattle.smap_trace.specs.Views.{scripts_in}
+use Rattle.smap_record.specs.Scripts.{scripts_in}
 use Rattle.smap_bundle.specs.Scripts.{scripts_of}
 use Rattle.smap_bundle.proofs.bundle.Bundle.scripts.Given as goal
 
