@@ -1,5 +1,5 @@
 -- What the run `scripts` writes for a trace, and what it has read and written when it answers.
-use Rattle.std.specs.Prelude.{◌≡◌, ℕ, Bool, true, List, [], ◌∷◌, ◌++◌, codes, decimal, flat_map, take, Result}
+use Rattle.std.specs.Prelude.{◌≡◌, ℕ, true, List, [], ◌∷◌, ◌++◌, codes, decimal, flat_map, take, Result}
 use Rattle.std.specs.Prelude.{Ok, Err}
 use Rattle.std.specs.Io.KnownBytes.{IsAtEnd}
 use Rattle.smap_io.specs.Streams.{HasRead, HasWritten, HasWrittenNothing, ReaderFailsOrTires, Streams}

@@ -1,4 +1,4 @@
-use Rattle.std.proofs.Common.{◌∙◌, ap, arith, sym, true≢false, length, ◌<◌, ◌++◌, List, ℕ}
+use Rattle.std.proofs.Common.{◌∙◌, ap, arith, sym, length, ◌<◌, ◌++◌, List, ℕ}
 use Rattle.smap_tool.specs.Scripts.{script_line}
 use Rattle.smap_tool.proofs.ListingLemmas.{next_line, none_left}
 use Rattle.smap_tool.proofs.commands.scripts.scripts_text.Goals as goal
