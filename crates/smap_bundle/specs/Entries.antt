@@ -28,7 +28,7 @@ IsFaultAt seen text fault = (after trace_line text ≡ None) × (entry_in seen t
 abbrev pub refusal : ℕ → EntryFault → BundleFault
 refusal i fault = Refused (record { entry = i; fault = fault })
 
--- There is no map of this many bytes with a line feed after it, and the entry is rejected.
+-- There is no map of this many bytes with a line feed after it, and the entry is refused.
 abbrev pub cut_off : ℕ → ℕ → List ℕ → BundleFault → Type 0
 cut_off entry len more fault = (map_in len more ≡ None) × (fault ≡ refusal entry wrong.CutOff)
 

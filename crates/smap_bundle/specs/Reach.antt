@@ -1,4 +1,4 @@
--- How far a bundle is read before it is rejected: to the end of the line where the fault is, or for a fault
+-- How far a bundle is read before it is refused: to the end of the line where the fault is, or for a fault
 -- of a map at most to the byte after the map.
 use Rattle.std.specs.Prelude.{◌≡◌, ◌⊎◌, ℕ, ◌+◌, ◌≤◌, List, [], ◌++◌, length}
 use Rattle.smap_io.specs.Reading.{IsWithinLine}

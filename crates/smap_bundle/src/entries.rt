@@ -29,7 +29,7 @@ use smap_record::{Base, BaseFault, Limits, ReadError, SourceMap};
 use std::alloc::Global;
 use std::io::Read;
 
-/// An entry is rejected for this fault.
+/// An entry is refused for this fault.
 fn refused(entry: usize, fault: EntryFault) -> BundleFault
     ensures { Says (λ found. found ≡ refusal entry fault) result }
 {

@@ -1,4 +1,4 @@
-//! Why a bundle is rejected.
+//! Why a bundle is refused.
 
 use smap_record::Fault;
 
@@ -13,7 +13,7 @@ pub enum EntryFault {
     Base,
     /// The input ends within the map, or the byte after the map isn't a line feed.
     CutOff,
-    /// The map is rejected, for this fault.
+    /// The map is refused, for this fault.
     Map(Fault),
 }
 

@@ -1,11 +1,13 @@
 -- Names that are numbered one by one.
-use Rattle.std.proofs.Common.{◌≡◌, ◌≢◌, ℕ, ◌+◌, ◌<◌, ◌≤◌, List, [], ◌∷◌, ◌++◌, take, drop, set, length}
+use Rattle.std.proofs.Common.{◌≡◌, ◌≢◌, inl, inr, ℕ, ◌+◌, ◌<◌, ◌≤◌, List, [], ◌∷◌, ◌++◌, take, drop, set}
+use Rattle.std.proofs.Common.{length}
 use Rattle.std.proofs.Common.{get_or, Option, Some, None, ap, refl, ◌∙◌, sym, subst, Bool, true, false, cond}
 use Rattle.std.proofs.Common.{not, eqb, ◌||◌, true≢false, slice_get, replicate, append-nil, append_assoc}
 use Rattle.std.proofs.Common.{length-append, add-zero, arith}
 use Rattle.std.specs.Prelude.{bytes_eq, option_map, option_and_then, IfSome}
 use Rattle.std.specs.List.{AllByRecursion, list_any, filter_map, cons_option, position_or_len}
-use Rattle.std.proofs.lemmas.Bool.{eqb-true, eq-eqb}
+use Rattle.std.proofs.lemmas.Bool.{cases_eq, or_cases}
+use Rattle.std.proofs.lemmas.Bool.Decides.{nat_tests}
 use Rattle.std.proofs.lemmas.List.{take-append-drop, get_or-set_other, get_or-set_same, get_or-replicate}
 use Rattle.std.proofs.lemmas.List.{length-set, length-replicate}
 use Rattle.std.proofs.lemmas.List.Elements.{filter_map-append}
@@ -36,13 +38,7 @@ any_key k (x ∷ xs) = ap (λ b. bytes_eq k.now x.now || b) (any_key k xs)
 
 pub texts-insert_key : (ks : List (Bor (List ℕ))) (k : Bor (List ℕ))
     → texts_of (insert_key same_key ks k) ≡ insert_key bytes_eq (texts_of ks) k.now
-texts-insert_key ks k = by (list_any (same_key k) ks) refl
-  where
-    by : (b : Bool) → list_any (same_key k) ks ≡ b
-        → texts_of (cond b ks (ks ++ k ∷ [])) ≡ insert_key bytes_eq (texts_of ks) k.now
-    by true e = ap (λ b. cond b (texts_of ks) (texts_of ks ++ k.now ∷ [])) (sym e ∙ any_key k ks)
-    by false e = map-push (λ t. t.now) ks k
-        ∙ ap (λ b. cond b (texts_of ks) (texts_of ks ++ k.now ∷ [])) (sym e ∙ any_key k ks)
+texts-insert_key ks k = grind (arith, any_key k ks, map-push (λ (t : Bor (List ℕ)). t.now) ks k)
 
 pub place-key : (k : Bor (List ℕ)) (ks : List (Bor (List ℕ)))
     → position_or_len (same_key k) ks ≡ position_or_len (bytes_eq k.now) (texts_of ks)
@@ -59,16 +55,14 @@ used-next ms i m at =
 -- the names that the mappings so far use, and the next one's
 pub used-with_name : (ms : List Mapping) (i : ℕ) (m : Mapping) → slice_get ms i ≡ Some m
     → with_name (name_of m) (names_used (take i ms)) ≡ names_used (take (i + 1) ms)
-used-with_name ms i m at = by (name_of m) refl
+used-with_name ms i m at = by (name_of m) (used-next ms i m at)
   where
-    by : (o : Option (List ℕ)) → name_of m ≡ o
+    by : (o : Option (List ℕ))
+        → filter_map name_of (take (i + 1) ms) ≡ filter_map name_of (take i ms) ++ cons_option o []
         → with_name o (names_used (take i ms)) ≡ names_used (take (i + 1) ms)
-    by None e = ap (distinct bytes_eq) (sym (append-nil (filter_map name_of (take i ms)))
-        ∙ ap (λ o. filter_map name_of (take i ms) ++ cons_option o []) (sym e) ∙ sym (used-next ms i m at))
+    by None e = rw (e, append-nil (filter_map name_of (take i ms))) refl
     by (Some n) e =
-        sym (distinct-push bytes_eq same_bytes own_bytes (filter_map name_of (take i ms)) n)
-        ∙ ap (distinct bytes_eq)
-        (ap (λ o. filter_map name_of (take i ms) ++ cons_option o []) (sym e) ∙ sym (used-next ms i m at))
+        rw e (sym (distinct-push bytes_eq same_bytes own_bytes (filter_map name_of (take i ms)) n))
 
 pub used-start : (ks : List (Bor (List ℕ))) (ms : List Mapping)
     → ks ≡ [] → texts_of ks ≡ names_used (take 0 ms)
@@ -79,14 +73,11 @@ used-start ks ms e = ap texts_of e ∙ sym (ap (λ xs. names_used xs) (take_none
 
 place-front : {A : Type 0} (p : A → Bool) (xs ys : List A) → list_any p xs ≡ true
     → position_or_len p (xs ++ ys) ≡ position_or_len p xs
-place-front p [] ys h = absurd (true≢false (sym h))
-place-front p (x ∷ xs) ys h = by (p x) (place-front p xs ys) h
-  where
-    by : (b : Bool) → (list_any p xs ≡ true → position_or_len p (xs ++ ys) ≡ position_or_len p xs)
-        → (b || list_any p xs) ≡ true
-        → cond (not b) (1 + position_or_len p (xs ++ ys)) 0 ≡ cond (not b) (1 + position_or_len p xs) 0
-    by true more h = refl
-    by false more h = ap (λ n. 1 + n) (more h)
+place-front p [] ys h = absurd cc
+place-front p (x ∷ xs) ys h = elim (or_cases (p x) (list_any p xs) h) [
+  | inl here ↦ rw here refl
+  | inr later ↦ rw (place-front p xs ys later) refl
+]
 
 any_front : {A : Type 0} (p : A → Bool) (xs ys : List A) → list_any p xs ≡ true → list_any p (xs ++ ys) ≡ true
 any_front p xs ys h = list_any-append p xs ys ∙ ap (λ b. b || list_any p ys) h
@@ -94,48 +85,20 @@ any_front p xs ys h = list_any-append p xs ys ∙ ap (λ b. b || list_any p ys) 
 -- a name that is used stays where it is when another comes
 kept-any : (used : List (List ℕ)) (n k : List ℕ) → list_any (bytes_eq n) used ≡ true
     → list_any (bytes_eq n) (insert_key bytes_eq used k) ≡ true
-kept-any used n k h = by (list_any (bytes_eq k) used)
-  where
-    by : (b : Bool) → list_any (bytes_eq n) (cond b used (used ++ k ∷ [])) ≡ true
-    by true = h
-    by false = any_front (bytes_eq n) used (k ∷ []) h
+kept-any used n k h = grind (arith, any_front (bytes_eq n) used (k ∷ []))
 
 kept-place : (used : List (List ℕ)) (n k : List ℕ) → list_any (bytes_eq n) used ≡ true
     → position_or_len (bytes_eq n) (insert_key bytes_eq used k) ≡ position_or_len (bytes_eq n) used
-kept-place used n k h = by (list_any (bytes_eq k) used)
-  where
-    by : (b : Bool)
-        → position_or_len (bytes_eq n) (cond b used (used ++ k ∷ [])) ≡ position_or_len (bytes_eq n) used
-    by true = refl
-    by false = place-front (bytes_eq n) used (k ∷ []) h
+kept-place used n k h = grind (arith, place-front (bytes_eq n) used (k ∷ []))
 
 -- the name that comes is there
 own_any : (used : List (List ℕ)) (n : List ℕ) → list_any (bytes_eq n) (insert_key bytes_eq used n) ≡ true
-own_any used n = by (list_any (bytes_eq n) used) refl
-  where
-    by : (b : Bool) → list_any (bytes_eq n) used ≡ b
-        → list_any (bytes_eq n) (cond b used (used ++ n ∷ [])) ≡ true
-    by true e = e
-    by false e = list_any-append (bytes_eq n) used (n ∷ []) ∙ ap (λ b. b || list_any (bytes_eq n) (n ∷ [])) e
-        ∙ ap (λ b. b || false) (own_bytes n)
+own_any used n = grind (arith, list_any-append (bytes_eq n) used (n ∷ []), own_bytes n)
 
 -- its place is the one that it had, or else the end
 pub own_place : (used : List (List ℕ)) (n : List ℕ)
     → position_or_len (bytes_eq n) (insert_key bytes_eq used n) ≡ position_or_len (bytes_eq n) used
-own_place used n = by (list_any (bytes_eq n) used)
-  where
-    last : (b : Bool) → eqb (position_or_len (bytes_eq n) used) (length used) ≡ b
-        → cond b (length used + cond (bytes_eq n n) 0 1) (position_or_len (bytes_eq n) used)
-        ≡ position_or_len (bytes_eq n) used
-    last true e =
-        ap (λ b. length used + cond b 0 1) (own_bytes n) ∙ add-zero (length used) ∙ sym (eqb-true _ _ e)
-    last false e = refl
-
-    by : (b : Bool)
-        → position_or_len (bytes_eq n) (cond b used (used ++ n ∷ [])) ≡ position_or_len (bytes_eq n) used
-    by true = refl
-    by false = position_or_len_push (bytes_eq n) used n
-        ∙ last (eqb (position_or_len (bytes_eq n) used) (length used)) refl
+own_place used n = grind (arith, nat_tests, position_or_len_push (bytes_eq n) used n, own_bytes n)
 
 -- ---- the numbers of listed names
 
@@ -145,34 +108,19 @@ pub numbers-set : (listed used : List (List ℕ)) (numbers : List ℕ) (i : ℕ)
     → AreNumbers listed (insert_key bytes_eq used n) (set numbers i (position_or_len (bytes_eq n) used))
 numbers-set listed used numbers i n h at = record {
   count = length-set numbers i _ ∙ h.count;
-  each = λ k name found numbered. by k name found numbered (eqb k i) refl;
+  each = λ k name found numbered. elim (cases_eq k i) [
+    | inl here ↦
+        let same : n ≡ name = (let k' = rw here at found in cc) in
+        rw (here, get_or-set_same numbers i _ 0 below, ← same) (own_any used n, sym (own_place used n))
+    | inr other ↦
+        let stays = get_or-set_other numbers i k (position_or_len (bytes_eq n) used) 0 other in
+        let old = h.each k name found (rw stays at numbered) in
+        (kept-any used name n old.0, stays ∙ old.1 ∙ sym (kept-place used name n old.0))
+  ];
 }
   where
     below : i < length numbers
-    below = subst (λ len. i < len) (sym h.count) (slice_get_within listed i n at)
-
-    by : (k : ℕ) (name : List ℕ) → slice_get listed k ≡ Some name
-        → get_or (set numbers i (position_or_len (bytes_eq n) used)) k 0 ≢ UNUSED → (b : Bool) → eqb k i ≡ b
-        → (list_any (bytes_eq name) (insert_key bytes_eq used n) ≡ true)
-        × (get_or (set numbers i (position_or_len (bytes_eq n) used)) k 0
-        ≡ position_or_len (bytes_eq name) (insert_key bytes_eq used n))
-    by k name found numbered true e =
-        let here : k ≡ i = eqb-true k i e in
-        let same : n ≡ name = some-same (sym at ∙ ap (slice_get listed) (sym here) ∙ found) in (
-          subst (λ x. list_any (bytes_eq x) (insert_key bytes_eq used n) ≡ true) same (own_any used n),
-          ap (λ j. get_or (set numbers i (position_or_len (bytes_eq n) used)) j 0) here
-              ∙ get_or-set_same numbers i _ 0 below
-              ∙ sym (own_place used n)
-              ∙ ap (λ x. position_or_len (bytes_eq x) (insert_key bytes_eq used n)) same,
-        )
-      where
-        some-same : {x y : List ℕ} → Some x ≡ Some y → x ≡ y
-        some-same p = cc
-    by k name found numbered false e =
-        let other : k ≢ i = λ same. absurd (true≢false (sym (eq-eqb k i same) ∙ e)) in
-        let stays = get_or-set_other numbers i k (position_or_len (bytes_eq n) used) 0 other in
-        let old = h.each k name found (subst (λ x. x ≢ UNUSED) stays numbered) in
-        (kept-any used name n old.0, stays ∙ old.1 ∙ sym (kept-place used name n old.0))
+    below = omega (arith, h.count, slice_get_within listed i n at)
 
 -- a name that came has its number, and the others keep theirs
 pub numbers-put : (listed used new : List (List ℕ)) (numbers : List ℕ) (i number : ℕ) (n : List ℕ)
@@ -180,9 +128,7 @@ pub numbers-put : (listed used new : List (List ℕ)) (numbers : List ℕ) (i nu
     → new ≡ insert_key bytes_eq used n → number ≡ position_or_len (bytes_eq n) used
     → AreNumbers listed new (set numbers i number)
 numbers-put listed used new numbers i number n h at grown placed =
-    subst (λ ns. AreNumbers listed ns (set numbers i number)) (sym grown)
-    (subst (λ k. AreNumbers listed (insert_key bytes_eq used n) (set numbers i k)) (sym placed)
-    (numbers-set listed used numbers i n h at))
+    rw (grown, placed) (numbers-set listed used numbers i n h at)
 
 -- no name has a number at first
 pub numbers-none : (listed used : List (List ℕ)) (numbers : List ℕ)
@@ -197,11 +143,7 @@ numbers-none listed used numbers none = record {
 
 module _ (old new : List ℕ) (kept : (n : ℕ) → get_or old n 0 ≢ UNUSED → get_or new n 0 ≢ UNUSED) where
   still : (t : Token) → IsNumbered old t → IsNumbered new t
-  still t h = by (option_and_then (λ o. o.name) t.original) h
-    where
-      by : (o : Option ℕ) → IfSome o (λ n. get_or old n 0 ≢ UNUSED) → IfSome o (λ n. get_or new n 0 ≢ UNUSED)
-      by None h = tt
-      by (Some n) h = kept n h
+  still t h = grind (arith, kept)
 
   -- one token more
   pub numbered-next : (ts : List Token) (i : ℕ) (t : Token)

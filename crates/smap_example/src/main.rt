@@ -17,7 +17,7 @@ const MAP: &[u8] = br#"{"version":3,"sources":["a.js"],"mappings":"AAUE,IAEA"}"#
 enum ExampleError {
     #[error("the base is not a URL")]
     Base,
-    #[error("the map is rejected: {0}")]
+    #[error("the map is refused: {0}")]
     Map(Fault),
     #[error("{0}")]
     Trace(#[from] TraceError),

@@ -11,7 +11,8 @@ StopsInTime old new = is_over old ≡ false → has_gone_on new ≡ has_gone_on 
 abbrev pub StaysOpen : {T : Type 0} → Device T → Device T → Type 0
 StaysOpen old new = has_ended new ≡ false → is_over new ≡ is_over old
 
--- At most this many calls were made.
+-- At most this many calls were made, if the count had room for them: it stays at 2^64 - 1. That of a new
+-- device begins at 0.
 abbrev pub MakesAtMost : {T : Type 0} → ℕ → Device T → Device T → Type 0
 MakesAtMost most old new = device_calls new ≤ device_calls old + most
 

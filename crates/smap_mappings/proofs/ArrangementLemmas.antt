@@ -5,7 +5,9 @@ use Rattle.std.specs.Cmp.{IsStrictWeakOrder}
 use Rattle.std.specs.List.{AllByRecursion}
 use Rattle.std.specs.List.Sorted.{IsSortedBy, IsStableBy, ties}
 use Rattle.std.proofs.lemmas.List.Sorted.{sorted_far}
+use Rattle.std.proofs.lemmas.Bool.{cond_both}
 use Rattle.std.proofs.lemmas.Bool.Decides.{nat_tests}
+use Rattle.std.proofs.lemmas.List.Elements.{filter_agree}
 use Rattle.smap_mappings.specs.declared.token.Token.{Token}
 use Rattle.smap_mappings.specs.Position.{is_before, position_of, NeverFalls}
 use Rattle.smap_mappings.specs.Arrangement.{is_at, insert_token, arranged, IsArranged}
@@ -20,89 +22,45 @@ module _ {X : Type 0} (lt : X → X → Bool) (o : IsStrictWeakOrder lt) where
   Rises (x ∷ xs) = NoneBefore x xs × Rises xs
 
   not_itself : (x : X) → lt x x ≡ false
-  not_itself x = by_test (lt x x) refl
-    where
-      by_test : (t : Bool) → lt x x ≡ t → lt x x ≡ false
-      by_test true e = o.one_way x x e
-      by_test false e = e
-
-  -- not before, and not after
-  ties_are : (x y : X) → lt x y ≡ false → lt y x ≡ false → ties lt x y ≡ true
-  ties_are x y p q = rw (p, q) refl
-
-  ties_itself : (x : X) → ties lt x x ≡ true
-  ties_itself x = ties_are x x (not_itself x) (not_itself x)
-
-  no_tie : (x y : X) → lt x y ≡ true → ties lt x y ≡ false
-  no_tie x y p = rw p refl
-
-  no_tie_after : (x y : X) → lt y x ≡ true → ties lt x y ≡ false
-  no_tie_after x y p = rw (o.one_way y x p, p) refl
+  not_itself x = grind (arith, o.one_way x x)
 
   -- what stands after y, where nothing of the list stands before z, and y before z
   none_ties : (y z : X) (zs : List X) → lt y z ≡ true → NoneBefore z zs → filter (ties lt y) zs ≡ []
   none_ties y z [] before none = refl
-  none_ties y z (w ∷ ws) before none =
-      rw (no_tie y w (far y z w before none.0)) (none_ties y z ws before none.1)
+  none_ties y z (w ∷ ws) before none = skip y z w ws before none.0 (none_ties y z ws before none.1)
     where
-      far : (y z w : X) → lt y z ≡ true → lt w z ≡ false → lt y w ≡ true
-      far y z w before none = by_test (lt y w) refl
-        where
-          by_test : (t : Bool) → lt y w ≡ t → lt y w ≡ true
-          by_test true e = e
-          by_test false e = absurd (let k = sym before ∙ o.chain y w z e none in cc)
+      skip : (y z w : X) (ws : List X) → lt y z ≡ true → lt w z ≡ false → filter (ties lt y) ws ≡ []
+          → filter (ties lt y) (w ∷ ws) ≡ []
+      skip y z w ws before none rest = grind (arith, o.chain y w z)
 
   drop_first : (x y z : X) (ys zs : List X) → y ≡ z → filter (ties lt x) (y ∷ ys)
       ≡ filter (ties lt x) (z ∷ zs) → filter (ties lt x) ys ≡ filter (ties lt x) zs
-  drop_first x y z ys zs e h = by_test (ties lt x y) refl
-    where
-      tail_is : (us vs : List X) (u v : X) → u ∷ us ≡ v ∷ vs → us ≡ vs
-      tail_is us vs u v e = cc
-
-      by_test : (t : Bool) → ties lt x y ≡ t → filter (ties lt x) ys ≡ filter (ties lt x) zs
-      by_test true t = tail_is (filter (ties lt x) ys) (filter (ties lt x) zs) y z
-          (let l : filter (ties lt x) (y ∷ ys) ≡ y ∷ filter (ties lt x) ys = rw t refl in
-          let r : filter (ties lt x) (z ∷ zs) ≡ z ∷ filter (ties lt x) zs = rw (← e, t) refl in sym l ∙ h ∙ r)
-      by_test false t = let l : filter (ties lt x) (y ∷ ys) ≡ filter (ties lt x) ys = rw t refl in
-          let r : filter (ties lt x) (z ∷ zs) ≡ filter (ties lt x) zs = rw (← e, t) refl in sym l ∙ h ∙ r
+  drop_first x y z ys zs e h = grind arith
 
   abbrev pub SameTies : List X → List X → Type 0
   SameTies ys zs = (x : X) → filter (ties lt x) ys ≡ filter (ties lt x) zs
 
-  first_ties : (y : X) (ys : List X) → filter (ties lt y) (y ∷ ys) ≡ y ∷ filter (ties lt y) ys
-  first_ties y ys = rw (ties_itself y) refl
-
   not_first : (y z : X) (ys zs : List X) → NoneBefore z zs
       → filter (ties lt y) (y ∷ ys) ≡ filter (ties lt y) (z ∷ zs) → lt y z ≡ false
-  not_first y z ys zs none h = by_test (lt y z) refl
-    where
-      by_test : (t : Bool) → lt y z ≡ t → lt y z ≡ false
-      by_test true e =
-          let l = first_ties y ys in
-          let r : filter (ties lt y) (z ∷ zs) ≡ [] = rw (no_tie y z e) (none_ties y z zs e none) in
-          absurd (let k = sym l ∙ h ∙ r in cc)
-      by_test false e = e
+  not_first y z ys zs none h = grind (arith, not_itself y, none_ties y z zs)
 
   same_first : (y z : X) (ys zs : List X) → lt y z ≡ false → lt z y ≡ false
       → filter (ties lt y) (y ∷ ys) ≡ filter (ties lt y) (z ∷ zs) → y ≡ z
-  same_first y z ys zs p q h =
-      let l = first_ties y ys in
-      let r : filter (ties lt y) (z ∷ zs) ≡ z ∷ filter (ties lt y) zs = rw (ties_are y z p q) refl in
-      head_is y z _ _ (sym l ∙ h ∙ r)
-    where
-      head_is : (u v : X) (us vs : List X) → u ∷ us ≡ v ∷ vs → u ≡ v
-      head_is u v us vs e = cc
+  same_first y z ys zs p q h = grind (arith, not_itself y)
+
+  not_empty : (z : X) (zs : List X) → filter (ties lt z) (z ∷ zs) ≡ [] → ⊥
+  not_empty z zs h = grind (arith, not_itself z)
 
   pub same_list : (ys zs : List X) → Rises ys → Rises zs → SameTies ys zs → ys ≡ zs
   same_list [] [] p q h = refl
-  same_list [] (z ∷ zs) p q h = absurd (let k = h z ∙ first_ties z zs in cc)
-  same_list (y ∷ ys) [] p q h = absurd (let k = sym (h y) ∙ first_ties y ys in cc)
+  same_list [] (z ∷ zs) p q h = absurd (not_empty z zs (sym (h z)))
+  same_list (y ∷ ys) [] p q h = absurd (not_empty y ys (h y))
   same_list (y ∷ ys) (z ∷ zs) p q h =
       let a = not_first y z ys zs q.0 (h y) in
       let b = not_first z y zs ys p.0 (sym (h z)) in
       let e = same_first y z ys zs a b (h y) in
       let rest = same_list ys zs p.1 q.1 (λ x. drop_first x y z ys zs e (h x)) in
-      ap (λ (u : X). u ∷ ys) e ∙ ap (λ (us : List X). z ∷ us) rest
+      cc
 
   -- a list in order, index by index
   rises_from : (xs : List X)
@@ -142,12 +100,9 @@ none_before_inserted : (x t : Token) (us : List Token)
     → before t x ≡ false → AllByRecursion (λ u. before u x ≡ false) us
     → AllByRecursion (λ u. before u x ≡ false) (insert_token t us)
 none_before_inserted x t [] e all = (e, tt)
-none_before_inserted x t (u ∷ us) e all = by_test (none_before_inserted x t us e all.1) (before u t) refl
-  where
-    by_test : AllByRecursion (λ w. before w x ≡ false) (insert_token t us)
-        → (b : Bool) → before u t ≡ b → AllByRecursion (λ w. before w x ≡ false) (insert_token t (u ∷ us))
-    by_test rest true q = rw q (all.0, rest)
-    by_test rest false q = rw q (e, all)
+none_before_inserted x t (u ∷ us) e all = cond_both (before u t) (u ∷ insert_token t us) (t ∷ u ∷ us)
+    (AllByRecursion (λ w. before w x ≡ false))
+    (λ _. (all.0, none_before_inserted x t us e all.1)) (λ _. (e, all))
 
 none_before_after : (t u : Token) (us : List Token) → before u t ≡ false
     → AllByRecursion (λ w. before w u ≡ false) us → AllByRecursion (λ w. before w t ≡ false) us
@@ -157,37 +112,23 @@ none_before_after t u (w ∷ ws) e all = (before_order.chain w u t all.0 e, none
 rises_inserted : (t : Token) (us : List Token) → Rises before before_order us
     → Rises before before_order (insert_token t us)
 rises_inserted t [] r = (tt, tt)
-rises_inserted t (u ∷ us) r = by_test (rises_inserted t us r.1) (before u t) refl
-  where
-    by_test : Rises before before_order (insert_token t us) → (b : Bool) → before u t ≡ b
-        → Rises before before_order (insert_token t (u ∷ us))
-    by_test rest true q = rw q (none_before_inserted u t us (before_order.one_way u t q) r.0, rest)
-    by_test rest false q = rw q ((q, none_before_after t u us q r.0), r)
+rises_inserted t (u ∷ us) r = cond_both (before u t) (u ∷ insert_token t us) (t ∷ u ∷ us)
+    (Rises before before_order)
+    (λ e. (none_before_inserted u t us (before_order.one_way u t e) r.0, rises_inserted t us r.1))
+    (λ e. ((e, none_before_after t u us e r.0), r))
 
 not_both : (x u t : Token) → before u t ≡ true → ties before x u ≡ true → ties before x t ≡ true → ⊥
 not_both x u t q a b = grind (arith, nat_tests)
 
-swapped : (x u t : Token) (ws : List Token) → before u t ≡ true
-    → filter (ties before x) (u ∷ t ∷ ws) ≡ filter (ties before x) (t ∷ u ∷ ws)
-swapped x u t ws q = by_tests (ties before x u) refl (ties before x t) refl
-  where
-    by_tests : (a : Bool) → ties before x u ≡ a → (b : Bool) → ties before x t ≡ b
-        → filter (ties before x) (u ∷ t ∷ ws) ≡ filter (ties before x) (t ∷ u ∷ ws)
-    by_tests true e true f = absurd (not_both x u t q e f)
-    by_tests true e false f = rw (e, f) refl
-    by_tests false e b f = rw (e) refl
-
 ties_inserted : (x t : Token) (us : List Token)
     → filter (ties before x) (insert_token t us) ≡ filter (ties before x) (t ∷ us)
 ties_inserted x t [] = refl
-ties_inserted x t (u ∷ us) = by_test (ties_inserted x t us) (before u t) refl
+ties_inserted x t (u ∷ us) = one_more x t u us (ties_inserted x t us)
   where
-    by_test : filter (ties before x) (insert_token t us) ≡ filter (ties before x) (t ∷ us)
-        → (b : Bool) → before u t ≡ b
+    one_more : (x t u : Token) (us : List Token)
+        → filter (ties before x) (insert_token t us) ≡ filter (ties before x) (t ∷ us)
         → filter (ties before x) (insert_token t (u ∷ us)) ≡ filter (ties before x) (t ∷ u ∷ us)
-    by_test rest true q =
-        rw q (ap (λ (ws : List Token). cond (ties before x u) (u ∷ ws) ws) rest ∙ swapped x u t us q)
-    by_test rest false q = rw q refl
+    one_more x t u us rest = grind (arith, not_both x u t)
 
 pub rises_arranged : (ts : List Token) → Rises before before_order (arranged ts)
 rises_arranged [] = tt
@@ -221,25 +162,20 @@ rises (t ∷ u ∷ us) h = let r = rises (u ∷ us) h.1 in ((h.0, none_before_af
 ties_at : (x t : Token) → ties before x t ≡ is_at x.line x.column t
 ties_at x t = grind (arith, nat_tests)
 
-same_filter : (p q : Token → Bool) → ((t : Token) → p t ≡ q t) → (ts : List Token) → filter p ts ≡ filter q ts
-same_filter p q h [] = refl
-same_filter p q h (t ∷ ts) =
-    rw (h t) (ap (λ (us : List Token). cond (q t) (t ∷ us) us) (same_filter p q h ts))
-
 pub is_arranged : (ts : List Token) → IsArranged ts (arranged ts)
 is_arranged ts = record {
   in_order = never_falls (arranged ts) (rises_arranged ts);
   same = λ line column.
       let x : Token = record { line = line; column = column; original = None } in
-      sym (same_filter (ties before x) (is_at line column) (ties_at x) (arranged ts)) ∙ ties_arranged ts x
-      ∙ same_filter (ties before x) (is_at line column) (ties_at x) ts;
+      sym (filter_agree (ties before x) (is_at line column) (ties_at x) (arranged ts)) ∙ ties_arranged ts x
+      ∙ filter_agree (ties before x) (is_at line column) (ties_at x) ts;
 }
 
 pub one_arrangement : (old new : List Token) → IsArranged old new → new ≡ arranged old
 one_arrangement old new h =
     same_list before before_order new (arranged old) (rises new h.in_order) (rises_arranged old)
-    (λ x. same_filter (ties before x) (is_at x.line x.column) (ties_at x) new ∙ h.same x.line x.column
-    ∙ sym (same_filter (ties before x) (is_at x.line x.column) (ties_at x) old) ∙ sym (ties_arranged old x))
+    (λ x. filter_agree (ties before x) (is_at x.line x.column) (ties_at x) new ∙ h.same x.line x.column
+    ∙ sym (filter_agree (ties before x) (is_at x.line x.column) (ties_at x) old) ∙ sym (ties_arranged old x))
 
 -- a list in order is left as it is
 pub arranged-in_order : (ts : List Token) → NeverFalls (map position_of ts) → arranged ts ≡ ts

@@ -1,5 +1,5 @@
 -- The tokens of a mappings string in its order, or its first fault (ECMA-426, "Mappings structure"). This
--- project's own rule: a string is rejected at its first fault, where the standard reports an error and goes
+-- project's own rule: a string is refused at its first fault, where the standard reports an error and goes
 -- on.
 use Rattle.std.specs.Prelude.{ℕ, ◌==◌, nat_lt, min, if◌then◌else◌, List, [], ◌∷◌, ◌++◌, map, filter, length}
 use Rattle.std.specs.Prelude.{slice_index_or, Option, Some, None, ok_or, Result, Ok, Err, ℤ, pos, negsuc}

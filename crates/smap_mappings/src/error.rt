@@ -1,4 +1,4 @@
-//! Why a mappings string is rejected, and running out of memory.
+//! Why a mappings string is refused, and running out of memory.
 ghost use Rattle.std.specs.Prelude.{◌≡◌};
 
 use smap_vlq::NumberFault;

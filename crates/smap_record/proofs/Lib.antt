@@ -17,6 +17,7 @@ pub mod JoinedLemmas
 pub mod SectionLemmas
 mod WrittenLemmas
 mod WrittenUrlLemmas
+mod UrlBytesLemmas
 pub mod DepthLemmas
 pub mod LevelLemmas
 pub mod OneLevelLemmas

@@ -1,9 +1,9 @@
 -- What a list with each element once keeps of the list.
 use Rattle.std.proofs.Common.{◌≡◌, ℕ, zero, suc, ◌≤◌, List, [], ◌∷◌, length, filter, Some, slice_get, ap, ◌∙◌}
-use Rattle.std.proofs.Common.{sym, refl, Bool, true, false, cond, not, true≢false, subst, arith}
+use Rattle.std.proofs.Common.{sym, refl, inl, inr, Bool, true, false, cond, not, true≢false, subst, arith}
 use Rattle.std.specs.Prelude.{Contains}
 use Rattle.std.specs.List.{AllByRecursion, IsDistinct}
-use Rattle.std.proofs.lemmas.Bool.{not-true}
+use Rattle.std.proofs.lemmas.Bool.{cases_Bool, cond_both, not-true}
 use Rattle.smap_record.specs.Record.{distinct}
 use Rattle.smap_record.proofs.ListLemmas.{all_weaker}
 
@@ -12,40 +12,29 @@ use Rattle.smap_record.proofs.ListLemmas.{all_weaker}
 pub all_filter : {A : Type 0} (P : A → Type 0) (p : A → Bool) (xs : List A)
     → AllByRecursion P xs → AllByRecursion P (filter p xs)
 all_filter P p [] all = tt
-all_filter P p (x ∷ xs) all = by (p x) (all_filter P p xs all.1)
-  where
-    by : (b : Bool) → AllByRecursion P (filter p xs)
-        → AllByRecursion P (cond b (x ∷ filter p xs) (filter p xs))
-    by true rest = (all.0, rest)
-    by false rest = rest
+all_filter P p (x ∷ xs) all = cond_both (p x) (x ∷ filter p xs) (filter p xs) (AllByRecursion P)
+    (λ _. (all.0, all_filter P p xs all.1)) (λ _. all_filter P p xs all.1)
 
 filter_passes : {A : Type 0} (p : A → Bool) (xs : List A) → AllByRecursion (λ x. p x ≡ true) (filter p xs)
 filter_passes p [] = tt
-filter_passes p (x ∷ xs) = by (p x) refl (filter_passes p xs)
-  where
-    by : (b : Bool) → p x ≡ b → AllByRecursion (λ y. p y ≡ true) (filter p xs)
-        → AllByRecursion (λ y. p y ≡ true) (cond b (x ∷ filter p xs) (filter p xs))
-    by true e rest = (e, rest)
-    by false e rest = rest
+filter_passes p (x ∷ xs) = cond_both (p x) (x ∷ filter p xs) (filter p xs) (AllByRecursion (λ y. p y ≡ true))
+    (λ e. (e, filter_passes p xs)) (λ _. filter_passes p xs)
 
 IsDistinct-filter : {A : Type 0} (same : A → A → Bool) (p : A → Bool) (xs : List A)
     → IsDistinct same xs → IsDistinct same (filter p xs)
 unfolding IsDistinct
 IsDistinct-filter same p [] once = once
-IsDistinct-filter same p (x ∷ xs) once = by (p x) (IsDistinct-filter same p xs once.1)
-  where
-    by : (b : Bool) → IsDistinct same (filter p xs) → IsDistinct same (cond b (x ∷ filter p xs) (filter p xs))
-    by true rest = (all_filter (λ y. same x y ≡ false) p xs once.0, rest)
-    by false rest = rest
+IsDistinct-filter same p (x ∷ xs) once = cond_both (p x) (x ∷ filter p xs) (filter p xs) (IsDistinct same)
+    (λ _. (all_filter (λ y. same x y ≡ false) p xs once.0, IsDistinct-filter same p xs once.1))
+    (λ _. IsDistinct-filter same p xs once.1)
 
 length-filter_le : {A : Type 0} (p : A → Bool) (xs : List A) → length (filter p xs) ≤ length xs
 length-filter_le p [] = omega arith
-length-filter_le p (x ∷ xs) = by (p x) (length-filter_le p xs)
+length-filter_le p (x ∷ xs) = one p x (filter p xs) xs (length-filter_le p xs)
   where
-    by : (b : Bool) → length (filter p xs) ≤ length xs
-        → length (cond b (x ∷ filter p xs) (filter p xs)) ≤ length (x ∷ xs)
-    by true rest = omega (arith, rest)
-    by false rest = omega (arith, rest)
+    one : {A : Type 0} (p : A → Bool) (x : A) (ys xs : List A) → length ys ≤ length xs
+        → length (cond (p x) (x ∷ ys) ys) ≤ length (x ∷ xs)
+    one p x ys xs le = grind arith
 
 -- ---- each once
 
@@ -86,31 +75,23 @@ Contains-later x y xs c = let h = c.1 in (suc c.0, omega (arith, h), c.2)
 Contains-filter : {A : Type 0} (p : A → Bool) (xs : List A) (x : A)
     → p x ≡ true → Contains xs x → Contains (filter p xs) x
 Contains-filter p [] x e c = let h = c.1 in absurd (omega (arith, h))
-Contains-filter p (y ∷ ys) x e (zero, below, same) = by (p y) refl
-  where
-    by : (b : Bool) → p y ≡ b → Contains (cond b (y ∷ filter p ys) (filter p ys)) x
-    by true f = subst (λ z. Contains (y ∷ filter p ys) z) same (Contains-here y (filter p ys))
-    by false f = absurd (true≢false (sym e ∙ (ap p (sym same) ∙ f)))
+Contains-filter p (y ∷ ys) x e (zero, below, same) =
+    rw (ap p same ∙ e, ← same) (Contains-here y (filter p ys))
 Contains-filter p (y ∷ ys) x e (suc k, below, same) =
-    by (p y) (Contains-filter p ys x e (k, omega (arith, below), same))
-  where
-    by : (b : Bool) → Contains (filter p ys) x → Contains (cond b (y ∷ filter p ys) (filter p ys)) x
-    by true rest = Contains-later y x (filter p ys) rest
-    by false rest = rest
+    let there = Contains-filter p ys x e (k, omega (arith, below), same) in
+    cond_both (p y) (y ∷ filter p ys) (filter p ys) (λ zs. Contains zs x)
+    (λ _. Contains-later y x (filter p ys) there) (λ _. there)
 
 pub Contains-distinct : {A : Type 0} (same : A → A → Bool) (equal : (x y : A) → same x y ≡ true → x ≡ y)
     (xs : List A) (i : ℕ) (x : A) → slice_get xs i ≡ Some x → Contains (distinct same xs) x
 unfolding distinct
 Contains-distinct same equal [] i x at = cc
 Contains-distinct same equal (y ∷ ys) zero x at =
-    let e : y ≡ x = cc in subst (λ z. Contains (y ∷ filter (λ w. not (same y w)) (distinct same ys)) z) e
-    (Contains-here y (filter (λ w. not (same y w)) (distinct same ys)))
-Contains-distinct same equal (y ∷ ys) (suc i) x at =
-    by (Contains-distinct same equal ys i x at) (same y x) refl
-  where
-    by : Contains (distinct same ys) x → (b : Bool) → same y x ≡ b
-        → Contains (y ∷ filter (λ w. not (same y w)) (distinct same ys)) x
-    by there true e = subst (λ z. Contains (y ∷ filter (λ w. not (same y w)) (distinct same ys)) z)
-        (equal y x e) (Contains-here y (filter (λ w. not (same y w)) (distinct same ys)))
-    by there false e = Contains-later y x (filter (λ w. not (same y w)) (distinct same ys))
-        (Contains-filter (λ w. not (same y w)) (distinct same ys) x (ap not e) there)
+    let e : y ≡ x = cc in
+    rw (← e) (Contains-here y (filter (λ w. not (same y w)) (distinct same ys)))
+Contains-distinct same equal (y ∷ ys) (suc i) x at = elim (cases_Bool (same y x)) [
+  | inl e ↦ rw (← equal y x e) (Contains-here y (filter (λ w. not (same y w)) (distinct same ys)))
+  | inr e ↦ Contains-later y x (filter (λ w. not (same y w)) (distinct same ys))
+      (Contains-filter (λ w. not (same y w)) (distinct same ys) x (ap not e)
+      (Contains-distinct same equal ys i x at))
+]

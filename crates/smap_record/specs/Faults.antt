@@ -55,7 +55,7 @@ plain kind = record { section = outside; place = None; kind = kind }
 abbrev pub segment_fault : SegmentPlace × SegmentKind → Fault
 segment_fault f = record { section = outside; place = Some f.0; kind = kind_of_segment f.1 }
 
--- the map is rejected for this fault
+-- the map is refused for this fault
 abbrev pub refuse : {A : Type 0} → Kind → Checked A
 refuse kind = Err (plain kind)
 

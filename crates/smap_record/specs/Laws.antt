@@ -32,7 +32,7 @@ NoneBelowLastLevel = (tree : Data) (s : Section Data) (i : Index Data) → secti
     → shape_of s.map ≢ Ok (index i)
 
 -- Against reading without nested index maps: an input that is accepted there has the same file and listing,
--- and so the same record; one that is rejected there has the same fault, unless that is nested sections.
+-- and so the same record; one that is refused there has the same fault, unless that is nested sections.
 abbrev pub OldTexts : Type 0
 OldTexts = (base : Parts) (limits : Allowed) (text : List ℕ)
     → ((m : ReadMap) → one_level_reading base limits text ≡ Ok m → reading base limits text ≡ Ok m)

@@ -6,6 +6,7 @@ pub mod Flat
 pub mod Sections
 pub mod Reading
 pub mod Written
+pub mod UrlBytes
 pub mod OneLevel
 pub mod Laws
 pub mod Fitting

@@ -1,4 +1,4 @@
-//! Why a map is rejected: every kind of fault with its section, its place and its message. Whoever prints a
+//! Why a map is refused: every kind of fault with its section, its place and its message. Whoever prints a
 //! fault adds words such as `refused: ` before the message.
 ghost use Rattle.std.specs.Prelude.{◌≡◌, ◌++◌, Some, codes};
 ghost use Rattle.smap_record.specs.Messages.{said};
@@ -13,7 +13,7 @@ use smap_vlq::NumberFault;
 use std::alloc::{AllocError, AllocFailed};
 use std::fmt;
 
-/// What is wrong with a map. A map is rejected for the first fault that is met; `docs/FORMAT.md` has the
+/// What is wrong with a map. A map is refused for the first fault that is met; `docs/FORMAT.md` has the
 /// order, and what to do about each fault is in `docs/OUTPUT.md`. `Display` writes its message.
 #[derive(Clone, Copy, Debug, PartialEq, Eq)]
 pub enum Kind {

@@ -1,6 +1,6 @@
 //! A flat map, read from its members and added to what is listed before it: first its counts are compared
 //! with the limits, then its sources are resolved in turn, then its mappings are decoded. Names are copied
-//! last, when the map can't be rejected any more. The contents of a section are copied, and those of a map
+//! last, when the map can't be refused any more. The contents of a section are copied, and those of a map
 //! that isn't in a section are passed in by value.
 ghost use Rattle.std.specs.Prelude.{◌≡◌, ◌++◌, map, IfOk, false, string_bytes};
 ghost use Rattle.smap_mappings.specs.Position.{IsPosition};

@@ -14,8 +14,8 @@ pub fn sections_by_level()
     ensures last { NoneBelowLastLevel }
 {}
 
-/// A map without nested index maps is read as by a reader that rejects these, and one that such a reader
-/// rejects has the same fault, unless that is nested sections.
+/// A map without nested index maps is read as by a reader that refuses these, and one that such a reader
+/// refuses has the same fault, unless that is nested sections.
 pub fn old_texts()
     ensures { OldTexts }
 {}

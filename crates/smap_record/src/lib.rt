@@ -20,11 +20,13 @@ mod map;
 mod path;
 mod reading;
 mod reading_as_written;
+mod reading_within;
 mod section_texts;
 mod sections;
 mod source;
 mod sources;
 mod text;
+mod url_bytes;
 mod view;
 mod written;
 

@@ -1,4 +1,4 @@
-//! Limits on what a map may list, and on its generated lines. A map that lists more is rejected before any
+//! Limits on what a map may list, and on its generated lines. A map that lists more is refused before any
 //! of its sources is resolved or any name copied.
 ghost use Rattle.std.specs.Prelude.{◌≡◌, ◌≤◌, ◌↔◌, IsSome, IfSome};
 ghost use Rattle.smap_vlq.specs.Limits.{max_position};

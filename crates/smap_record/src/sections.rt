@@ -123,7 +123,7 @@ fn with_map(
     match shape(tree) {
         Ok(Shape::Flat(members)) => with_flat(alloc, before, &members, base, limits, offset),
         Ok(Shape::Index(members)) => {
-            // `section` has rejected this already. The test shows the prover that the recursion ends.
+            // `section` has refused this already. The test shows the prover that the recursion ends.
             if level == MAX_LEVEL {
                 return Err(refused(Kind::Nested));
             }

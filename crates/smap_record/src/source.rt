@@ -7,4 +7,4 @@ mod relative;
 mod resolve;
 
 pub use base::Base;
-pub(crate) use resolve::{SourceFault, resolve};
+pub(crate) use resolve::{SourceFault, prefixed, resolve};

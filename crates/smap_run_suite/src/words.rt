@@ -1,7 +1,11 @@
-//! What an error says of itself by `{}`: the words of the program's own messages after `smap: `.
+//! What an error says of itself by `{}`: the words of the program's own messages after `smap: `. And the line
+//! of each fault of a map.
 use crate::asserted::equal;
-use smap_tool::RunFault;
+use smap_mappings::{NumberFault, SegmentPlace};
+use smap_record::{Fault, Kind, Path};
+use smap_tool::{RunFault, fault_text};
 use smap_trace::TraceError;
+use std::process::Abort;
 use std::test::Fail;
 
 #[test]
@@ -37,4 +41,106 @@ fn each_error_of_a_trace_has_its_words(rt: HostRuntime) -> Result<(), Fail> {
         );
     }
     Ok(())
+}
+
+/// The line of each kind of fault, outside of sections and without a place.
+const LINES: [(Kind, &str); 33] = [
+    (Kind::Prefix, "refused: prefix without line feed"),
+    (Kind::Json, "refused: not json"),
+    (Kind::NotObject, "refused: not an object"),
+    (Kind::Version, "refused: version"),
+    (Kind::File, "refused: file"),
+    (Kind::Both, "refused: sections beside mappings"),
+    (Kind::SourceRoot, "refused: sourceRoot"),
+    (Kind::Sources, "refused: sources"),
+    (Kind::SourcesContent, "refused: sourcesContent"),
+    (Kind::Names, "refused: names"),
+    (Kind::IgnoreList, "refused: ignoreList"),
+    (Kind::Mappings, "refused: mappings"),
+    (Kind::Sections, "refused: sections"),
+    (Kind::Offset, "refused: offset"),
+    (Kind::SectionMap, "refused: map"),
+    (Kind::Nested, "refused: nested sections"),
+    (Kind::Order, "refused: order"),
+    (Kind::Overlap, "refused: overlap"),
+    (Kind::TooMany, "refused: too many sources or names"),
+    (Kind::SourceUrl(0), "refused: source 0 is no URL"),
+    (
+        Kind::UnstableUrl(12),
+        "refused: source 12 has an unstable URL",
+    ),
+    (Kind::Empty, "refused: empty segment"),
+    (
+        Kind::Number(1, NumberFault::Unfinished),
+        "refused: number 1: unfinished",
+    ),
+    (
+        Kind::Number(2, NumberFault::Character),
+        "refused: number 2: bad character",
+    ),
+    (
+        Kind::Number(3, NumberFault::TooLarge),
+        "refused: number 3: too large",
+    ),
+    (
+        Kind::Number(255, NumberFault::NegativeZero),
+        "refused: number 255: negative zero",
+    ),
+    (Kind::Count(255), "refused: 255 numbers"),
+    (Kind::GeneratedLine, "refused: generated line"),
+    (Kind::Column, "refused: generated column"),
+    (Kind::Source, "refused: source index"),
+    (Kind::OriginalLine, "refused: original line"),
+    (Kind::OriginalColumn, "refused: original column"),
+    (Kind::Name, "refused: name index"),
+];
+
+/// Asserts the line of a fault.
+fn has_line(
+    rt: &(impl Abort + AllocGlobal),
+    section: &[usize],
+    place: Option<SegmentPlace>,
+    kind: Kind,
+    line: &str,
+) {
+    let section = Path::new(section).expect(rt, "a section has a path");
+    let fault = Fault {
+        section,
+        place,
+        kind,
+    };
+    let text = fault_text(rt.alloc(), &fault).expect(rt, "a line is made");
+    equal(rt, line, text.as_str(), line);
+}
+
+#[test]
+fn each_kind_of_fault_has_its_line(rt: HostRuntime) {
+    for &(kind, line) in &LINES {
+        has_line(&rt, &[], None, kind, line);
+    }
+}
+
+const PLACE: Option<SegmentPlace> = Some(SegmentPlace {
+    line: 3,
+    segment: 4_294_967_295,
+});
+
+/// The section and the segment of a fault, and its line.
+const PLACED: [(&[usize], Option<SegmentPlace>, &str); 5] = [
+    (&[], None, "refused: map"),
+    (&[7], None, "refused: section 7: map"),
+    (&[0, 12, 3], None, "refused: section 0.12.3: map"),
+    (&[], PLACE, "refused: line 3 segment 4294967295: map"),
+    (
+        &[0],
+        PLACE,
+        "refused: section 0: line 3 segment 4294967295: map",
+    ),
+];
+
+#[test]
+fn section_and_place_stand_in_the_line_of_a_fault(rt: HostRuntime) {
+    for &(section, place, line) in &PLACED {
+        has_line(&rt, section, place, Kind::SectionMap, line);
+    }
 }

@@ -2,7 +2,7 @@
 -- the lines of each `do` are in the order in which faults are looked for. The tree is a JSON text (RFC
 -- 8259) as serde_json reads it: of two equal keys the last one's value counts, and an integer is a number
 -- that `Value::as_u64` accepts. That null counts as absent, and that a member of the wrong type is
--- rejected, are this project's own rules.
+-- refused, are this project's own rules.
 use Rattle.std.specs.Prelude.{ℕ, ◌+◌, nat_lt, List, [], ◌∷◌, length, codes, not, ◌&&◌, Bool, true, nat_eq}
 use Rattle.std.specs.Prelude.{false, Option, Some, None, is_some, is_none, option_and_then, option_map}
 use Rattle.std.specs.Prelude.{Result, Ok, Err, if◌then◌else◌}

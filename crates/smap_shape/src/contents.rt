@@ -74,7 +74,7 @@ fn split_tree(alloc: Global, tree: Value) -> Result<(Vec<Option<String>>, Value)
 ///
 /// The strings aren't copied: memory is taken only for the vector. The map's members are those of the
 /// remaining tree with these contents, so read the members after this call. Where `sourcesContent` isn't an
-/// array of strings and nulls, the tree is answered as it was, for [`shape`](crate::shape) to reject.
+/// array of strings and nulls, the tree is answered as it was, for [`shape`](crate::shape) to refuse.
 ///
 /// # Errors
 ///

@@ -5,7 +5,7 @@
 /// [`shape`](crate::shape) reports the first of NotObject, Version, File, Both; then of a flat map
 /// SourceRoot, Sources, SourcesContent, Names, IgnoreList, Mappings, and of an index map Sections.
 /// [`section`](crate::section) reports the first of NotObject, Offset, SectionMap, Nested. A member that is
-/// null counts as absent everywhere; that, and rejecting a map where the standard would skip a member of
+/// null counts as absent everywhere; that, and refusing a map where the standard would skip a member of
 /// the wrong type, are this project's own rules.
 #[derive(Clone, Copy, Debug, PartialEq, Eq)]
 pub enum ShapeFault {

@@ -7,6 +7,7 @@ use Rattle.serde_json.specs.Data.{string}
 use Rattle.serde_json.specs.Written.{compact_text}
 use Rattle.url.specs.Parts.{Parts}
 use Rattle.url.specs.Parser.{parse_url}
+use Rattle.smap_io.specs.Limits.{longest_input, most_calls}
 use Rattle.smap_io.specs.Streams.{Streams}
 use Rattle.smap_vlq.specs.Limits.{max_position}
 use Rattle.smap_mappings.specs.declared.token.Token.{Token}
@@ -211,3 +212,14 @@ RunsTask (Lookup base line column) =
     Runs (WritesOutputAgainst (parse_url None base.now) (lookup_output line column))
 RunsTask (Translate finding hide) = RunsTranslate (fates_asked finding hide)
 RunsTask Scripts = RunsScripts
+
+-- How many reads its run makes at most: one for each byte that an input may have, and one more. A trace has
+-- no limit on its length, but one on the reads, and so have the entries of a bundle.
+abbrev pub most_reads : Task → ℕ
+most_reads Respell = longest_input + 1
+most_reads (Check base) = longest_input + 1
+most_reads (Tidy base relative) = longest_input + 1
+most_reads (Flatten base) = longest_input + 1
+most_reads (Lookup base line column) = longest_input + 1
+most_reads (Translate finding hide) = 2 * most_calls
+most_reads Scripts = most_calls

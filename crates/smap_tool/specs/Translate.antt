@@ -10,7 +10,7 @@ use Rattle.smap_io.specs.Writing.{Took, TookPrefix}
 use Rattle.smap_record.specs.Faults.{◌>>=◌}
 use Rattle.smap_trace.specs.Streaming.{WritesComplete, WritesPrefix, complete_of, most_of_one_read}
 use Rattle.smap_trace.specs.Streaming.{read_lines}
-use Rattle.smap_trace.specs.Translation.{Fate, Script, fate_by, translation_by}
+use Rattle.smap_trace.specs.Translation.{Fate, Script, fate, fate_by, translation_by}
 use Rattle.smap_trace.specs.declared.finding.Finding.{Finding}
 use Rattle.smap_tool.specs.Run.{is_read, is_write}
 use Rattle.smap_tool.specs.declared.outcome.Outcome.{Outcome}
@@ -23,6 +23,10 @@ use Rattle.smap_bundle.specs.Reading.{MayFollow}
 use Rattle.smap_bundle.specs.declared.fault.BundleFault.TheVariants as bundle
 use Rattle.smap_bundle.specs.declared.fault.Refusal.{Refusal}
 use Rattle.smap_tool.specs.BundleLine.{bundle_line}
+
+-- What becomes of a line by some scripts, where positions are found in frames.
+abbrev pub fates_in_frames : Bool → List Script → List ℕ → Fate
+fates_in_frames hide scripts = fate scripts hide
 
 -- What becomes of a line by some scripts, with these flags.
 abbrev pub fates_asked : Finding → Bool → List Script → List ℕ → Fate

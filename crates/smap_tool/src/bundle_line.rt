@@ -1,4 +1,4 @@
-//! The error line of a rejected bundle.
+//! The error line of a refused bundle.
 ghost use Rattle.std.specs.Prelude.{◌≡◌, ◌∷◌, ◌++◌, [], string_bytes, IfOk};
 ghost use Rattle.smap_tool.specs.BundleLine.{bundle_line};
 

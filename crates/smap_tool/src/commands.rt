@@ -5,11 +5,11 @@ ghost use Rattle.std.specs.Prelude.{false, map, true};
 ghost use Rattle.clap.specs.Words.{app_of, fault_of, found_of, rows_of, subcommand_of, subcommand_rows_of};
 ghost use Rattle.clap.specs.Words.{takes};
 ghost use Rattle.clap.specs.declared.builder.command.Command.TheViews.{out-Command as fields_of};
-ghost use Rattle.smap_io.specs.Calls.{StopsInTime};
+ghost use Rattle.smap_io.specs.Calls.{MakesAtMost, StopsInTime};
 ghost use Rattle.smap_io.specs.Device.{device_failures, has_ended, is_over};
 ghost use Rattle.smap_io.specs.Streams.{streams};
 ghost use Rattle.smap_tool.specs.Commands as line;
-ghost use Rattle.smap_tool.specs.Commands.{IsCommand, IsInRange, IsTaskOf, RunsTask, TaskGiven};
+ghost use Rattle.smap_tool.specs.Commands.{IsCommand, IsInRange, IsTaskOf, RunsTask, TaskGiven, most_reads};
 ghost use Rattle.smap_tool.specs.Words.{IsRefusalBy};
 ghost use Rattle.smap_tool.specs.declared.words.WordsFault.TheVariants as fault;
 
@@ -41,8 +41,8 @@ pub use scripts::run_scripts;
 use scripts::scripts_command;
 pub use tidy::run_tidy;
 use tidy::tidy_command;
-pub use translate::run_translate;
 use translate::translate_command;
+pub use translate::{run_translate, run_translate_by};
 
 /// What a command line asks for: a command with its values.
 #[derive(Clone, Copy, Debug, PartialEq, Eq)]
@@ -223,6 +223,9 @@ pub fn run<R: Read, W: Write>(
     ensures answers { RunsTask task.entry
         (streams R.remaining reader.old reader.new W.contents writer.old writer.new) result }
 
+    // At most as many reads are made as the command allows.
+    ensures calls { MakesAtMost (most_reads task.entry) reader.old reader.new }
+
     // No read comes after the end or a failure. The output is flushed once, and no write comes after that or
     // after a failure.
     ensures reads_in_time { StopsInTime reader.old reader.new }
@@ -237,7 +240,7 @@ pub fn run<R: Read, W: Write>(
         Task::Lookup { base, line, column } => run_lookup(
             alloc, base, line, column, reader, writer,
         ),
-        Task::Translate { finding, hide } => run_translate(alloc, finding, hide, reader, writer),
+        Task::Translate { finding, hide } => run_translate_by(alloc, finding, hide, reader, writer),
         Task::Scripts => run_scripts(alloc, reader, writer),
     }
 }

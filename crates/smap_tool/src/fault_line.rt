@@ -1,4 +1,4 @@
-//! The error line of a rejected input.
+//! The error line of a refused input.
 ghost use Rattle.std.specs.Prelude.{◌≡◌, ◌∷◌, ◌++◌, [], string_bytes, IfOk};
 ghost use Rattle.smap_tool.specs.FaultLine.{fault_line};
 

@@ -1,7 +1,8 @@
 //! Reading an input to its end.
-ghost use Rattle.std.specs.Prelude.{◌≡◌, ◌-◌, ◌^◌, ◌<◌};
-ghost use Rattle.smap_io.specs.Calls.{StopsInTime};
+ghost use Rattle.std.specs.Prelude.{◌≡◌, ◌+◌, ◌-◌, ◌^◌, ◌<◌};
+ghost use Rattle.smap_io.specs.Calls.{MakesAtMost, StopsInTime};
 ghost use Rattle.smap_io.specs.Device.{device_failures};
+ghost use Rattle.smap_io.specs.Limits.{longest_input};
 ghost use Rattle.smap_tool.specs.Run.{ReadsInput};
 
 use crate::outcome::RunFault;
@@ -14,10 +15,11 @@ use std::io::Read;
 pub fn read_input<R: Read>(alloc: Global, reader: &mut Device<R>) -> Result<Vec<u8>, RunFault>
     requires { device_failures reader.old < 2 ^ 64 - 1 }
     ensures reads { ReadsInput R.remaining reader.old reader.new result }
+    ensures calls { MakesAtMost (longest_input + 1) reader.old reader.new }
     ensures in_time { StopsInTime reader.old reader.new }
 {
-    // Each call brings at least one byte, so that the calls can't be used up first.
-    let mut calls = u64::MAX;
+    // Each call but one that sees the end brings at least one byte, so that the calls aren't used up first.
+    let mut calls = LIMIT as u64 + 1;
     match read_up_to(alloc, reader, &mut calls, LIMIT + 1) {
         Ok(input) if input.len() <= LIMIT => Ok(input),
         Ok(_) => Err(RunFault::TooLong),

@@ -24,7 +24,7 @@ mod words;
 
 pub use commands::{
     Task, run, run_check, run_flatten, run_lookup, run_respell, run_scripts, run_tidy,
-    run_translate, task_of,
+    run_translate, run_translate_by, task_of,
 };
 pub use fault_line::fault_text;
 pub use outcome::{Outcome, RunFault, status};

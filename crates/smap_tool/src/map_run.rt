@@ -1,7 +1,8 @@
 //! The common part of the runs that read a map against a base.
-ghost use Rattle.std.specs.Prelude.{◌≡◌, ◌-◌, ◌^◌, ◌<◌, ℕ, List, None, IfOk, false, OnOk, true};
-ghost use Rattle.smap_io.specs.Calls.{StopsInTime};
+ghost use Rattle.std.specs.Prelude.{◌≡◌, ◌+◌, ◌-◌, ◌^◌, ◌<◌, ℕ, List, None, IfOk, false, OnOk, true};
+ghost use Rattle.smap_io.specs.Calls.{MakesAtMost, StopsInTime};
 ghost use Rattle.smap_io.specs.Device.{device_failures, has_ended, is_over};
+ghost use Rattle.smap_io.specs.Limits.{longest_input};
 ghost use Rattle.smap_io.specs.Streams.{streams};
 ghost use Rattle.smap_record.specs.Results.{Returns};
 ghost use Rattle.smap_record.specs.Reading.{reading};
@@ -65,6 +66,7 @@ pub(crate) fn run_on_map<C: MapCommand, R: Read, W: Write>(
     requires not_ended { has_ended reader.old ≡ false }
     ensures answers { Runs (WritesOutputAgainst (parse_url None base.now) (map_output (C.output command.now)))
         (streams R.remaining reader.old reader.new W.contents writer.old writer.new) result }
+    ensures calls { MakesAtMost (longest_input + 1) reader.old reader.new }
     ensures reads_in_time { StopsInTime reader.old reader.new }
     ensures writes_in_time { StopsInTime writer.old writer.new }
     ensures flushed { OnOk result (is_over writer.new ≡ true) }

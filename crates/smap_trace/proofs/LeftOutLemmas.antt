@@ -7,6 +7,7 @@ use Rattle.std.specs.Prelude.{Contains}
 use Rattle.std.specs.List.{list_any}
 use Rattle.std.specs.Map.{keys_of}
 use Rattle.std.specs.Option.{option_map_or}
+use Rattle.std.proofs.lemmas.Bool.Decides.{nat_tests}
 use Rattle.std.proofs.lemmas.List.Sums.{sum_by-cons}
 use Rattle.std.proofs.lemmas.Slice.Eq.{bytes_eq-Decides}
 use Rattle.smap_record.specs.Record.{Record}
@@ -24,7 +25,7 @@ use Rattle.smap_trace.specs.Translation.{map_for}
 use Rattle.smap_trace.specs.Translation.{anywhere_fate, without_line_feed, written}
 use Rattle.smap_trace.specs.Views.{at_most_u64}
 use Rattle.smap_trace.specs.declared.finding.Finding.{Finding}
-use Rattle.smap_trace.proofs.ByLengthLemmas.{either, grows, not_shorter, stays, url_length}
+use Rattle.smap_trace.proofs.ByLengthLemmas.{either, url_length}
 use Rattle.smap_trace.proofs.CountLemmas.{same_counts}
 use Rattle.smap_trace.proofs.CutLemmas.{middle_part}
 use Rattle.smap_trace.proofs.KnownLemmas.{names_script}
@@ -68,22 +69,6 @@ module _ (fates others : List ℕ → Fate) where
 
 -- ---- the map of a script that is kept
 
-passed_over : (s : Script) (ss : List Script) (url : List ℕ) → (s.0 ≡ url → ⊥)
-    → map_of ss url ≡ map_of (s ∷ ss) url
-passed_over s ss url other = go (bytes_eq s.0 url) refl
-  where
-    go : (t : Bool) → bytes_eq s.0 url ≡ t → map_of ss url ≡ map_of (s ∷ ss) url
-    go true e = absurd (other ((bytes_eq-Decides s.0 url).0 e))
-    go false e = rw e refl
-
-one_more : (s : Script) (xs ys : List Script) (url : List ℕ) → map_of xs url ≡ map_of ys url
-    → map_of (s ∷ xs) url ≡ map_of (s ∷ ys) url
-one_more s xs ys url same = go (bytes_eq s.0 url) refl
-  where
-    go : (t : Bool) → bytes_eq s.0 url ≡ t → map_of (s ∷ xs) url ≡ map_of (s ∷ ys) url
-    go true e = rw e refl
-    go false e = rw e same
-
 -- no script with this URL is left out
 abbrev KeepsAll : (Script → Bool) → List Script → List ℕ → Type 0
 KeepsAll keeps ss url = (s : Script) → Contains ss s → keeps s ≡ false → s.0 ≡ url → ⊥
@@ -93,15 +78,16 @@ module _ (keeps : Script → Bool) where
       → KeepsAll keeps ss url
   keeps_rest s ss url all t c = all t (contains_later s t ss c)
 
+  kept_one : (s : Script) (ss : List Script) (url : List ℕ) → (keeps s ≡ false → s.0 ≡ url → ⊥)
+      → map_of (filter keeps ss) url ≡ map_of ss url
+      → map_of (filter keeps (s ∷ ss)) url ≡ map_of (s ∷ ss) url
+  kept_one s ss url other same = grind (arith, (bytes_eq-Decides s.0 url).0)
+
   kept_map : (ss : List Script) (url : List ℕ) → KeepsAll keeps ss url
       → map_of (filter keeps ss) url ≡ map_of ss url
   kept_map [] url all = refl
-  kept_map (s ∷ ss) url all = go (keeps s) refl (kept_map ss url (keeps_rest s ss url all))
-    where
-      go : (b : Bool) → keeps s ≡ b → map_of (filter keeps ss) url ≡ map_of ss url
-          → map_of (cond b (s ∷ filter keeps ss) (filter keeps ss)) url ≡ map_of (s ∷ ss) url
-      go true e same = one_more s (filter keeps ss) ss url same
-      go false e same = same ∙ passed_over s ss url (all s (contains_first s ss) e)
+  kept_map (s ∷ ss) url all = kept_one s ss url (all s (contains_first s ss))
+      (kept_map ss url (keeps_rest s ss url all))
 
 -- ---- the longest occurrence
 
@@ -119,69 +105,56 @@ module _ (keeps : Script → Bool) (ignore : Bool) (text : List ℕ) where
   no_longer : (ss : List Script)
       → url_length (longest ignore (filter keeps ss) text) ≤ url_length (longest ignore ss text)
   no_longer [] = omega arith
-  no_longer (s ∷ ss) = go (keeps s) (no_longer ss)
+  no_longer (s ∷ ss) = one s ss (no_longer ss)
     where
-      go : (b : Bool)
+      one : (s : Script) (ss : List Script)
           → url_length (longest ignore (filter keeps ss) text) ≤ url_length (longest ignore ss text)
-          → url_length (longest ignore (cond b (s ∷ filter keeps ss) (filter keeps ss)) text)
-          ≤ url_length (longest ignore (s ∷ ss) text)
-      go true le = grows (occurrence_of ignore s text) (longest ignore (filter keeps ss) text)
-          (longest ignore ss text) le
-      go false le =
-          let more = (not_shorter (occurrence_of ignore s text) (longest ignore ss text)).1 in
-          omega (arith, le, more)
+          → url_length (longest ignore (filter keeps (s ∷ ss)) text)
+            ≤ url_length (longest ignore (s ∷ ss) text)
+      one s ss le = grind (arith, nat_tests)
 
-  -- the occurrence of a script that is left out isn't the longest
+  -- a script that is left out has none, or not the longest
+  one_kept : (k : Bool) (o p q : Option Occurrence) → (longer o q ≡ q → p ≡ q) → url_length p ≤ url_length q
+      → (k ≡ false → longer o q ≡ q) → cond k (longer o p) p ≡ longer o q
+  one_kept k o p q same le lost = grind (arith, nat_tests)
+
   is_later : (s : Script) (ss : List Script) (o r : Option Occurrence) → occurrence_of ignore s text ≡ o
       → keeps s ≡ false → IsKept keeps (s ∷ ss) (longer o r) → longer o r ≡ r
   is_later s ss None r e lost holds = refl
-  is_later s ss (Some o) r e lost holds = go (either (Some o) r)
-    where
-      go : (longer (Some o) r ≡ Some o) ⊎ (longer (Some o) r ≡ r) → longer (Some o) r ≡ r
-      go (inl is) = absurd (subst (IsKept keeps (s ∷ ss)) is holds s (contains_first s ss) lost
-          (names_script ignore s text o e).0)
-      go (inr is) = is
-
-  longer_kept : (ss : List Script) (t o r : Option Occurrence) → (IsKept keeps ss r → o ≡ r)
-      → url_length o ≤ url_length r → IsKept keeps ss (longer t r) → longer t o ≡ longer t r
-  longer_kept ss None o r same le holds = same holds
-  longer_kept ss (Some p) o r same le holds = go (either (Some p) r)
-    where
-      go : (longer (Some p) r ≡ Some p) ⊎ (longer (Some p) r ≡ r) → longer (Some p) o ≡ longer (Some p) r
-      go (inl is) =
-          let most = (not_shorter (Some p) r).1 in
-          let own : url_length (longer (Some p) r) ≡ length p.url = ap url_length is in
-          stays p o (omega (arith, le, most, own)) ∙ sym is
-      go (inr is) = ap (longer (Some p)) (same (subst (IsKept keeps ss) is holds))
+  is_later s ss (Some o) r e lost holds = elim (either (Some o) r) [
+    | inl is ↦ absurd (subst (IsKept keeps (s ∷ ss)) is holds s (contains_first s ss) lost
+        (names_script ignore s text o e).0)
+    | inr is ↦ is
+  ]
 
   kept_longest : (ss : List Script) → IsKept keeps ss (longest ignore ss text)
       → longest ignore (filter keeps ss) text ≡ longest ignore ss text
   kept_longest [] holds = refl
-  kept_longest (s ∷ ss) holds = go (keeps s) refl (kept_longest ss)
+  kept_longest (s ∷ ss) holds =
+      let o = occurrence_of ignore s text in
+      let same = one_kept (keeps s) o (longest ignore (filter keeps ss) text) (longest ignore ss text)
+      (λ is. kept_longest ss (kept_rest s ss _ (subst (IsKept keeps (s ∷ ss)) is holds))) (no_longer ss)
+      (λ lost. is_later s ss o (longest ignore ss text) refl lost holds) in
+      ◌∙◌ {b = cond (keeps s) (longest ignore (s ∷ filter keeps ss) text) (longest ignore (filter keeps ss) text)}
+      (at_filter (keeps s) s (filter keeps ss)) same
     where
-      go : (b : Bool) → keeps s ≡ b
-          → (IsKept keeps ss (longest ignore ss text)
-          → longest ignore (filter keeps ss) text ≡ longest ignore ss text)
-          → longest ignore (cond b (s ∷ filter keeps ss) (filter keeps ss)) text
-          ≡ longest ignore (s ∷ ss) text
-      go true e same = longer_kept ss (occurrence_of ignore s text) (longest ignore (filter keeps ss) text)
-          (longest ignore ss text) same (no_longer ss)
-          (kept_rest s ss (longer (occurrence_of ignore s text) (longest ignore ss text)) holds)
-      go false e same =
-          let is = is_later s ss (occurrence_of ignore s text) (longest ignore ss text) refl e holds in
-          same (kept_rest s ss (longest ignore ss text) (subst (IsKept keeps (s ∷ ss)) is holds)) ∙ sym is
+      at_filter : (k : Bool) (s : Script) (xs : List Script) → longest ignore (cond k (s ∷ xs) xs) text
+          ≡ cond k (longest ignore (s ∷ xs) text) (longest ignore xs text)
+      at_filter k s xs = grind arith
 
 -- ---- the pieces of a line, and its frame
 
 module _ (keeps : Script → Bool) (ignore : Bool) (ss : List Script) where
   kept_between : (front text : List ℕ) → IsKept keeps ss (occurrence_between ignore ss front text)
       → occurrence_between ignore (filter keeps ss) front text ≡ occurrence_between ignore ss front text
-  kept_between front text holds = go (may_begin front) holds
+  kept_between front text holds = at_test (may_begin front) holds (kept_longest keeps ignore text ss)
     where
-      go : (t : Bool) → IsKept keeps ss (cond t (longest ignore ss text) None)
+      at_test : (t : Bool) → IsKept keeps ss (cond t (longest ignore ss text) None)
+          → (IsKept keeps ss (longest ignore ss text)
+          → longest ignore (filter keeps ss) text ≡ longest ignore ss text)
           → cond t (longest ignore (filter keeps ss) text) None ≡ cond t (longest ignore ss text) None
-      go true h = kept_longest keeps ignore text ss h
-      go false h = refl
+      at_test true h same = same h
+      at_test false h same = refl
 
   -- none of the pieces is a position of a script that is left out
   abbrev AreKept : List Piece → Type 0

@@ -15,6 +15,7 @@ pub mod LawLemmas
 pub mod LeftOutLemmas
 pub mod LineLemmas
 pub mod LineStartLemmas
+mod LineCountLemmas
 pub mod LookupLemmas
 pub mod MarkLemmas
 pub mod MemberLemmas

@@ -12,27 +12,8 @@ use Rattle.smap_trace.specs.Views.{script_in, scripts_in}
 use Rattle.smap_trace.specs.declared.occurrences.Occurrence.{Occurrence}
 use Rattle.smap_trace.proofs.ScriptLemmas.{Given}
 
-pub longer-none : (p : Option spec.Occurrence) → longer p None ≡ p
-longer-none None = refl
-longer-none (Some p) = refl
-
 pub longer-assoc : (p q r : Option spec.Occurrence) → longer (longer p q) r ≡ longer p (longer q r)
-longer-assoc None q r = refl
-longer-assoc (Some p) None r = refl
-longer-assoc (Some p) (Some q) None = longer-none (longer (Some p) (Some q))
-longer-assoc (Some p) (Some q) (Some r) = go (nat_lt (length p.url) (length q.url))
-    (nat_lt (length q.url) (length r.url)) (nat_lt (length p.url) (length r.url)) refl refl refl
-  where
-    go : (a b d : Bool) → nat_lt (length p.url) (length q.url) ≡ a → nat_lt (length q.url) (length r.url) ≡ b
-        → nat_lt (length p.url) (length r.url) ≡ d
-        → longer (cond a (Some q) (Some p)) (Some r) ≡ longer (Some p) (cond b (Some r) (Some q))
-    go true true true e f g = rw (f, g) refl
-    go true true false e f g = absurd (grind (arith, nat_tests))
-    go true false d e f g = rw (f, e) refl
-    go false true true e f g = rw g refl
-    go false true false e f g = rw g refl
-    go false false true e f g = absurd (grind (arith, nat_tests))
-    go false false false e f g = rw (g, e) refl
+longer-assoc p q r = grind (arith, nat_tests)
 
 -- one script more
 pub next_script : (ignore : Bool) (text : List ℕ) (scripts : List Given) (i : ℕ) (s : Given)

@@ -1,29 +1,37 @@
 -- For private contracts: scripts by the lengths and the first bytes of their URLs.
-use Rattle.std.specs.Prelude.{ℕ, Bool, ◌||◌, List, [], ◌∷◌, get_or, length, nat_eq, Option, None}
-use Rattle.std.specs.List.{filter, list_all, list_any}
-use Rattle.smap_trace.specs.Anywhere.{Occurrence, longer, longest}
-use Rattle.smap_trace.specs.Scripts.{Script}
+use Rattle.std.specs.Prelude.{ℕ, Bool, ◌+◌, ◌&&◌, ◌||◌, ◌≡◌, true, List, take, drop, get_or, length, nat_eq}
+use Rattle.std.specs.Prelude.{nat_le, nat_lt}
+use Rattle.std.specs.Prelude.{if◌then◌else◌, Option, None, option_map, option_and_then}
+use Rattle.std.specs.List.{All, list_any}
+use Rattle.smap_record.specs.Record.{Record}
+use Rattle.smap_trace.specs.Anywhere.{Occurrence, place_after}
+use Rattle.smap_trace.specs.Scripts.{Script, map_of}
+use Rattle.smap_trace.specs.declared.places.Place.{Place}
 
--- The occurrence at the beginning of the text of a script whose URL has this length.
-abbrev pub of_length : Bool → List Script → List ℕ → ℕ → Option Occurrence
-of_length ignore scripts text n = longest ignore (filter (λ s. nat_eq (length s.0) n) scripts) text
+-- the occurrence of this URL and this place behind it
+abbrev pub found_at : List ℕ → Place → Record → Occurrence
+found_at url p map = record {
+  url = url;
+  map = map;
+  line = p.line;
+  column = p.column;
+  width = length url + p.width;
+}
 
--- the one with the longest URL among these lengths
-abbrev pub longest_of : Bool → List Script → List ℕ → List ℕ → Option Occurrence
-longest_of ignore scripts text [] = None
-longest_of ignore scripts text (n ∷ ns) =
-    longer (of_length ignore scripts text n) (longest_of ignore scripts text ns)
+-- The occurrence at the beginning of the text of the script whose URL is the first so many bytes of it.
+abbrev pub at_length : Bool → List Script → List ℕ → ℕ → Option Occurrence
+at_length ignore scripts text n = if nat_lt 0 n && nat_le n (length text) then
+    option_and_then (λ p. option_map (found_at (take n text) p) (map_of scripts (take n text)))
+    (place_after ignore (drop n text)) else None
 
 abbrev pub is_among : List ℕ → ℕ → Bool
 is_among ns n = list_any (λ m. nat_eq m n) ns
 
--- whether the length of each script's URL is among these
-abbrev pub are_lengths_of : List ℕ → List Script → Bool
-are_lengths_of lengths scripts = list_all (λ s. is_among lengths (length s.0)) scripts
+-- the length of each script's URL is among these
+abbrev pub AreLengthsOf : List ℕ → List Script → Type 0
+AreLengthsOf lengths scripts = All (λ s. is_among lengths (length s.0) ≡ true) scripts
 
--- whether the script's URL is empty or begins with one of these bytes
-abbrev pub begins_among : List ℕ → Script → Bool
-begins_among firsts s = nat_eq (length s.0) 0 || is_among firsts (get_or s.0 0 0)
-
-abbrev pub are_firsts_of : List ℕ → List Script → Bool
-are_firsts_of firsts scripts = list_all (begins_among firsts) scripts
+-- each script's URL is empty or begins with one of these bytes
+abbrev pub AreFirstsOf : List ℕ → List Script → Type 0
+AreFirstsOf firsts scripts =
+    All (λ s. (nat_eq (length s.0) 0 || is_among firsts (get_or s.0 0 0)) ≡ true) scripts

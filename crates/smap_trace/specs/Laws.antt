@@ -1,9 +1,13 @@
 -- Laws about the definitions.
-use Rattle.std.specs.Prelude.{◌≡◌, ◌↔◌, ◌⊎◌, ℕ, Bool, List, ◌∷◌, ◌++◌, flat_map, map, Option, Some}
+use Rattle.std.specs.Prelude.{◌≡◌, ◌↔◌, ◌⊎◌, ℕ, ◌+◌, ◌<◌, ◌==◌, Bool, List, ◌∷◌, ◌++◌, count_by, flat_map}
+use Rattle.std.specs.Prelude.{length, map, Option, slice_index, Some}
+use Rattle.smap_mappings.specs.Position.{NeverFalls}
+use Rattle.smap_record.specs.Fitting.{mapping_position}
 use Rattle.smap_record.specs.Record.{Mapping}
 use Rattle.smap_trace.specs.Anywhere.{Occurrence, Piece, byte, bytes_of, found, pieces_of}
 use Rattle.smap_trace.specs.Cuts.{IsCut}
 use Rattle.smap_trace.specs.Frame.{IsFrame, FrameParts, position_text}
+use Rattle.smap_trace.specs.LineStarts.{line_starts}
 use Rattle.smap_trace.specs.Lookup.{FallsTo, mapping_at}
 use Rattle.smap_trace.specs.Reading.{frame_of}
 use Rattle.smap_trace.specs.Scripts.{AreDistinct, Script}
@@ -21,6 +25,14 @@ OneReading = (line : List ℕ) (f g : FrameParts) → IsFrame line f → IsFrame
 abbrev pub LookupIsComputed : Type 0
 LookupIsComputed = (ms : List Mapping) (line column : ℕ) (found : Option Mapping)
     → (mapping_at ms line column ≡ found) ↔ FallsTo ms line column found
+
+-- In the table of mappings that are in order, a line's entry and the number of mappings on the line are
+-- together the next entry.
+abbrev pub LinesAreCounted : Type 0
+LinesAreCounted = (ms : List Mapping) (line : ℕ) → NeverFalls (map mapping_position ms)
+    → line + 1 < length (line_starts ms)
+    → slice_index (line_starts ms) line + count_by (λ m. m.line == line) ms
+    ≡ slice_index (line_starts ms) (line + 1)
 
 -- `pieces_of` computes exactly the pieces into which a line is cut.
 abbrev pub CutIsComputed : Type 0

@@ -1,6 +1,7 @@
 //! Laws about the definitions. Each is the contract of a function that does nothing.
 ghost use Rattle.smap_trace.specs.Laws.{CutIsComputed, FrameIsComputed, FramesAreFoundAnywhere};
-ghost use Rattle.smap_trace.specs.Laws.{LookupIsComputed, OneCut, OneReading, PiecesAreTheLine};
+ghost use Rattle.smap_trace.specs.Laws.{LinesAreCounted, LookupIsComputed, OneCut, OneReading};
+ghost use Rattle.smap_trace.specs.Laws.{PiecesAreTheLine};
 
 /// The function that finds frames finds exactly those of the grammar.
 pub fn frames_are_computed()
@@ -16,6 +17,12 @@ pub fn one_reading()
 /// is at most one.
 pub fn lookups_are_computed()
     ensures { LookupIsComputed }
+{}
+
+/// In the table of a map's lines, the difference of a line's entry and the next one is the number of mappings
+/// on the line.
+pub fn lines_are_counted()
+    ensures { LinesAreCounted }
 {}
 
 /// The function that cuts a line into bytes and positions cuts it exactly as the relation says.

@@ -82,8 +82,9 @@ fn find_between(
 }
 
 /// What [`find`] answers, by the table of the map's lines. If the table has the line, only positions of the
-/// line are compared, and the number of probes is at most that of the binary digits of the number of its
-/// mappings. `starts` must be the table of this map.
+/// line are compared: the number of probes is at most that of the binary digits of the number of its
+/// mappings, which is the difference of two entries of the table, and 0 only if the line has none. Else it is
+/// as in `find`. `starts` must be the table of this map.
 pub fn find_in(map: &SourceMap, starts: &LineStarts, line: u32, column: u32) -> (Option<usize>, u32)
     requires { starts.now ≡ line_starts (record_of map.now).mappings }
     ensures found { FallsToIndex (record_of map.now).mappings line column result.0 }
@@ -91,6 +92,9 @@ pub fn find_in(map: &SourceMap, starts: &LineStarts, line: u32, column: u32) -> 
     ensures most { IsWithinBinaryDigits result.1 (length (record_of map.now).mappings) }
     ensures most_of_line { line + 1 < length starts.now
         → IsWithinBinaryDigits result.1 (slice_index starts.now (line + 1) - slice_index starts.now line) }
+    ensures least { length starts.now ≤ line + 1 → 0 < length (record_of map.now).mappings → 0 < result.1 }
+    ensures least_of_line { line + 1 < length starts.now
+        → slice_index starts.now line < slice_index starts.now (line + 1) → 0 < result.1 }
 {
     let count = map.token_count();
     match starts.of_line(line) {
@@ -116,6 +120,9 @@ pub fn lookup_in<'a>(
     ensures most { IsWithinBinaryDigits result.1 (length (record_of map.now).mappings) }
     ensures most_of_line { line + 1 < length starts.now
         → IsWithinBinaryDigits result.1 (slice_index starts.now (line + 1) - slice_index starts.now line) }
+    ensures least { length starts.now ≤ line + 1 → 0 < length (record_of map.now).mappings → 0 < result.1 }
+    ensures least_of_line { line + 1 < length starts.now
+        → slice_index starts.now line < slice_index starts.now (line + 1) → 0 < result.1 }
 {
     let (found, probes) = find_in(map, starts, line, column);
     match found {

@@ -1,8 +1,8 @@
 //! The scripts that have maps.
-ghost use Rattle.std.specs.Prelude.{◌↔◌, ◌≡◌, List, IsTrue, IfOk, IfSome, length, option_map, true};
+ghost use Rattle.std.specs.Prelude.{◌↔◌, ◌≡◌, List, IsTrue, IfOk, IfSome, length, option_map};
 ghost use Rattle.smap_record.specs.Record.{record_of};
 ghost use Rattle.smap_trace.specs.Anywhere.{longest};
-ghost use Rattle.smap_trace.specs.ByLength.{are_firsts_of, are_lengths_of, of_length};
+ghost use Rattle.smap_trace.specs.ByLength.{AreFirstsOf, AreLengthsOf, at_length};
 ghost use Rattle.smap_trace.specs.OccurrenceView.{IsWithin, occurrence_in};
 ghost use Rattle.smap_trace.specs.Scripts.{AreDistinct, Script, map_of};
 ghost use Rattle.smap_trace.specs.Views.{scripts_in};
@@ -82,8 +82,8 @@ pub(crate) struct Indexed<'a> {
     // each once, so that at most places of a line no length is tried
     firsts: Vec<u8>,
 
-    ghost all_lengths: { are_lengths_of lengths.items (scripts_in maps.entries) ≡ true },
-    ghost all_firsts: { are_firsts_of firsts.items (scripts_in maps.entries) ≡ true },
+    ghost all_lengths: { AreLengthsOf lengths.items (scripts_in maps.entries) },
+    ghost all_firsts: { AreFirstsOf firsts.items (scripts_in maps.entries) },
 }
 
 impl Indexed<'_> {
@@ -96,7 +96,7 @@ impl Indexed<'_> {
         ignore_query: bool,
     ) -> Option<Occurrence<'_>>
         ensures value { option_map occurrence_in result
-            ≡ of_length ignore_query (scripts_in self.now.maps.entries) text.now url_len }
+            ≡ at_length ignore_query (scripts_in self.now.maps.entries) text.now url_len }
         ensures within { IfSome result (IsWithin (length text.now)) }
     {
         if url_len == 0 || url_len > text.len() {
@@ -139,7 +139,7 @@ impl Maps for Indexed<'_> {
 
 /// The lengths of the scripts' URLs, each once.
 fn url_lengths(alloc: Global, scripts: &[(&str, &SourceMap)]) -> Result<Vec<usize>, AllocError>
-    ensures { IfOk result (λ v. are_lengths_of v.items (scripts_in scripts.now) ≡ true) }
+    ensures { IfOk result (λ v. AreLengthsOf v.items (scripts_in scripts.now)) }
 {
     let mut lengths = Vec::new(alloc);
     for script in scripts {
@@ -153,7 +153,7 @@ fn url_lengths(alloc: Global, scripts: &[(&str, &SourceMap)]) -> Result<Vec<usiz
 
 /// The first bytes of the scripts' URLs, each once.
 fn first_bytes(alloc: Global, scripts: &[(&str, &SourceMap)]) -> Result<Vec<u8>, AllocError>
-    ensures { IfOk result (λ v. are_firsts_of v.items (scripts_in scripts.now) ≡ true) }
+    ensures { IfOk result (λ v. AreFirstsOf v.items (scripts_in scripts.now)) }
 {
     let mut firsts = Vec::new(alloc);
     for script in scripts {

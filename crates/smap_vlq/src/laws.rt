@@ -10,7 +10,7 @@ pub fn unique_shortest_spelling()
     ensures none_begins_another { NoneBeginsAnother }
 {}
 
-/// `read_number` reads exactly the encodings of numbers, and rejects every other string with the fault that
+/// `read_number` reads exactly the encodings of numbers, and refuses every other string with the fault that
 /// its first byte that isn't a continuation digit has.
 pub fn numbers_are_spelled()
     ensures number { NumberIsSpelled }
@@ -18,7 +18,7 @@ pub fn numbers_are_spelled()
 {}
 
 /// `read_segment` reads exactly the strings that are 1, 4 or 5 numbers with nothing between them, and
-/// rejects every other string with its first fault.
+/// refuses every other string with its first fault.
 pub fn segments_are_spelled()
     ensures segment { SegmentIsSpelled }
     ensures fault { SegmentFaultIsDecided }

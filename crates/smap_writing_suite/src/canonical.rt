@@ -1,7 +1,7 @@
 //! The canonical form and the flat form, by the calls that put reading and writing together, and records that
 //! are compared. The bytes of many more maps are in the tables of `rows/`.
 use crate::asserted::{equal, holds};
-use crate::reading::{base, read};
+use crate::reading::{base, read, read_bytes};
 use smap_canon::round_trips::{flattened, have_equal_bytes, tidied};
 use smap_canon::{canonical_mappings, same};
 use smap_record::{Limits, SourceMap};
@@ -146,6 +146,107 @@ const OTHERS: &str =
     "mappings":"CAAAA"}
 {"version":3,"file":"o","sources":["a.js","b.js"],"sourcesContent":["t"],"ignoreList":[1],"names":["n","m"],
     "mappings":"AAAAA,A"}"#;
+
+/// Maps that are accepted, flat and with sections, with and without each member.
+const ACCEPTED: &str =
+    r#"{"version":3,"sources":["a.js"],"names":["x","y"],"mappings":"AAAAC,CAACD"}
+{"version":3,"sources":["a.js"],"names":["x","y","z"],"mappings":"gAAAAC,CAACD;;"}
+{"version":3,"mappings":""}
+{"version":3,"sections":[]}
+{"version":3,"sections":[{"offset":{"line":0,"column":0},"map":{"version":3,"sources":["a.js"],
+    "mappings":"AAAA"}},{"offset":{"line":0,"column":10},"map":{"version":3,"sources":["a.js","b.js"],
+    "names":["n"],"mappings":"AAAAA;CCCC"}}]}
+{"version":3,"sections":[{"offset":{"line":0,"column":0},"map":{"version":3,"mappings":"K"}},
+    {"offset":{"line":0,"column":5},"map":{"version":3,"mappings":"A"}}]}
+{"version":3,"sections":[{"offset":{"line":16777216,"column":0},"map":{"version":3,"mappings":""}}]}
+{"version":3,"sourceRoot":"","sources":["a.js"],"mappings":""}
+{"version":3,"sourceRoot":"src","sources":["a.js"],"mappings":""}
+{"version":3,"sourceRoot":"src/","sources":["a.js"],"mappings":""}
+{"version":3,"sourceRoot":"/r","sources":["a.js"],"mappings":""}
+{"version":3,"sources":["webpack://app/./src/i.js"],"mappings":""}
+{"version":3,"sourceRoot":"src","sources":["http://x/a.js"],"mappings":""}
+{"version":3,"file":null,"sections":null,"sources":[null],"sourcesContent":["t"],"mappings":"AAAA"}
+{"version":3,"sources":["a.js","b.js"],"x_google_ignoreList":[1,1],"mappings":""}
+{"version":3,"sources":["a.js","./a.js","b.js"],"mappings":"AAAA,CCAA,CCAA"}
+{"version":3,"sources":["a.js","a.js"],"sourcesContent":["t"],"mappings":""}
+{"version":3,"sources":["a.js"],"names":["p","q"],"mappings":"EAAAA,DAACC"}
+{"version":3,"mappings":"A"}
+{"version":3,"file":"x\/y\u0009\u000b","mappings":""}
+{"version":3,"mappings":";;;A"}
+{"version":3,"sources":["a.js"],"mappings":"AAUE,IAEA"}"#;
+
+/// Asserts that bytes that were written of a map have its record.
+fn has_record(rt: &(impl Abort + AllocGlobal), text: &str, map: &SourceMap, written: &[u8]) {
+    holds(rt, text, same(map, &read_bytes(rt, written)));
+}
+
+/// Asserts that what is written of a text in one call has the record of its map: in both canonical forms,
+/// and as a flat map.
+fn is_kept(rt: &(impl Abort + AllocGlobal), text: &str, map: &SourceMap) {
+    let (alloc, base, limits) = (rt.alloc(), base(rt), Limits::usual());
+    for &relative in &[false, true] {
+        let bytes = tidied(alloc, text.as_bytes(), &base, limits, relative).expect(rt, text);
+        has_record(rt, text, map, bytes.as_slice());
+    }
+    let bytes = flattened(alloc, text.as_bytes(), &base, limits).expect(rt, text);
+    has_record(rt, text, map, bytes.as_slice());
+}
+
+#[test]
+fn what_is_written_of_a_map_has_its_record(rt: HostRuntime) -> Result<(), Fail> {
+    let table = rows(rt.alloc(), ACCEPTED)?;
+    equal(&rt, "maps", table.len(), 22);
+    for text in &table {
+        is_kept(&rt, text.as_str(), &read(&rt, text.as_str()));
+    }
+    Ok(())
+}
+
+/// A URL that two sources have, and one more source; and a URL that two sources have, one with a content.
+const TWICE: [(&str, [(&str, Option<&str>); 2]); 2] = [
+    (
+        r#"{"version":3,"sources":["a.js","./a.js","b.js"],"mappings":"AAAA,CCAA,CCAA"}"#,
+        [("http://h/m/a.js", None), ("http://h/m/b.js", None)],
+    ),
+    (
+        r#"{"version":3,"sources":["a.js","a.js"],"sourcesContent":["t"],"mappings":""}"#,
+        [("http://h/m/a.js", Some("t")), ("http://h/m/a.js", None)],
+    ),
+];
+
+/// Asserts the distinct sources of a map, none of which is ignored.
+fn has_sources(rt: &impl Abort, map: &SourceMap, sources: &[(&str, Option<&str>)]) {
+    equal(rt, "sources", map.source_count(), sources.len());
+    for i in 0..sources.len() {
+        assert!(rt; i < map.source_count());
+        let source = map.source(i);
+        let (url, content) = sources[i];
+        equal(rt, i, source.url, Some(url));
+        equal(rt, i, source.content, content);
+        holds(rt, i, !source.ignored);
+    }
+}
+
+/// Asserts that a map, and the one that is read from its canonical bytes, have these sources.
+fn keeps_sources(rt: &(impl Abort + AllocGlobal), text: &str, sources: &[(&str, Option<&str>)]) {
+    has_sources(rt, &read(rt, text), sources);
+    let bytes = tidied(
+        rt.alloc(),
+        text.as_bytes(),
+        &base(rt),
+        Limits::usual(),
+        false,
+    )
+    .expect(rt, text);
+    has_sources(rt, &read_bytes(rt, bytes.as_slice()), sources);
+}
+
+#[test]
+fn a_tidied_map_has_the_sources_of_the_map(rt: HostRuntime) {
+    for (text, sources) in &TWICE {
+        keeps_sources(&rt, text, sources.as_slice());
+    }
+}
 
 #[test]
 fn each_part_of_a_record_counts(rt: HostRuntime) -> Result<(), Fail> {

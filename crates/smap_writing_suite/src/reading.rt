@@ -12,3 +12,9 @@ pub(crate) fn read(rt: &(impl Abort + AllocGlobal), text: &str) -> SourceMap {
     let map = SourceMap::from_slice(rt.alloc(), text.as_bytes(), &base(rt), Limits::usual());
     map.expect(rt, text)
 }
+
+/// The map of the bytes of a JSON text, with that base.
+pub(crate) fn read_bytes(rt: &(impl Abort + AllocGlobal), bytes: &[u8]) -> SourceMap {
+    let map = SourceMap::from_slice(rt.alloc(), bytes, &base(rt), Limits::usual());
+    map.expect(rt, "the bytes are a map's")
+}

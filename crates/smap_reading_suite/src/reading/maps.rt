@@ -1,6 +1,9 @@
 //! Flat maps that are accepted, and what each says.
-use super::are_answered;
-use smap_record::Limits;
+use super::{ample, are_answered, usual_base};
+use crate::asserted::equal;
+use smap_record::{Limits, SourceMap};
+use std::alloc::{AllocError, Global};
+use std::process::Abort;
 
 /// What a row shows, a map, and what it says.
 const READ: &str = r#"an empty map holds nothing | {"version":3,"mappings":""} | read
@@ -63,4 +66,38 @@ a null source has no URL under a root that makes none
 #[test]
 fn a_map_tells_what_it_says(rt: HostRuntime) {
     are_answered(&rt, READ, Limits::usual());
+}
+
+/// A map that lists five sources in turn, this many in all.
+fn in_turn(alloc: Global, count: usize) -> Result<String, AllocError> {
+    let mut text = String::from_str(alloc, r#"{"version":3,"mappings":"","sources":["#)?;
+    for i in 0..count {
+        let comma = if i == 0 { "" } else { "," };
+        write!(text, "{comma}\"s{}.js\"", i % 5)?;
+    }
+    text.push_str("]}")?;
+    Ok(text)
+}
+
+/// Asserts that each listed source of a map is one of the five in turn.
+fn are_numbered_in_turn(rt: &impl Abort, map: &SourceMap, count: usize) {
+    equal(rt, "sources", map.source_count(), 5);
+    equal(rt, "listed", map.listed_count(), count);
+    for i in 0..map.listed_count() {
+        assert!(rt; i < map.listed_count());
+        equal(rt, i, map.listed(i), i % 5);
+    }
+}
+
+/// Asserts it of the map of a text.
+fn has_five_in_turn(rt: &(impl Abort + AllocGlobal), text: &str, count: usize) {
+    let base = usual_base(rt);
+    let map = SourceMap::from_slice(rt.alloc(), text.as_bytes(), &base, Limits::usual());
+    are_numbered_in_turn(rt, &map.expect(rt, "the map is read"), count);
+}
+
+#[test]
+fn five_thousand_sources_are_five(rt: HostRuntime) {
+    let text = ample(&rt, in_turn(rt.alloc(), 5000));
+    has_five_in_turn(&rt, text.as_str(), 5000);
 }

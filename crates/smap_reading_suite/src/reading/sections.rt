@@ -1,4 +1,4 @@
-//! Index maps: where sections are placed, what they list together, and why they are rejected.
+//! Index maps: where sections are placed, what they list together, and why they are refused.
 use super::are_answered;
 use crate::asserted::{equal, holds};
 use smap_record::{Limits, Path};

@@ -36,7 +36,7 @@ sections of sections stand in their place
     {"offset":{"line":1,"column":0},"map":{"version":3,"sources":[null],"mappings":""}}]}},
     {"offset":{"line":4,"column":0},"map":{"version":3,"sourceRoot":"r","sources":["c.js"],"mappings":""}}]}
     | read; "a.js" in "p"; "b.js" in "q"; null; "c.js" in "r"
-a map that is rejected has none | {"version":3,"sources":["a.js"],"mappings":"!"} | refused"#;
+a map that is refused has none | {"version":3,"sources":["a.js"],"mappings":"!"} | refused"#;
 
 /// One source, and its root.
 fn push_source(rt: &impl Abort, text: &mut String, source: Option<&str>, root: Option<&str>) {
@@ -59,7 +59,7 @@ fn sources_told(rt: &(impl Abort + AllocGlobal), written: &WrittenSources) -> St
     text
 }
 
-/// All sources of a map, or that it is rejected.
+/// All sources of a map, or that it is refused.
 fn told(
     rt: &(impl Abort + AllocGlobal),
     read: &Result<(SourceMap, WrittenSources), ReadError>,

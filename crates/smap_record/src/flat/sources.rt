@@ -5,9 +5,8 @@ ghost use Rattle.std.specs.Prelude.{ℕ, List, Option, slice_get, option_map, op
 ghost use Rattle.std.specs.Prelude.{take, drop};
 ghost use Rattle.std.specs.Vec.Iter.{into_iter_items};
 ghost use Rattle.smap_shape.specs.Members.{fitted};
-ghost use Rattle.smap_record.specs.Source.{resolve as url_of};
-ghost use Rattle.smap_record.specs.Flat.{source_at, source_url as source_url_of, source_entry, entries_from};
-ghost use Rattle.smap_record.specs.Resolving.{source_error as error_of};
+ghost use Rattle.smap_record.specs.Flat.{source_url as source_url_of, source_entry, entries_from};
+ghost use Rattle.smap_record.specs.Resolving.{source_error as error_of, url_or_error as url_or_error_of};
 ghost use Rattle.smap_record.specs.Results.{Returns};
 ghost use Rattle.smap_record.specs.Owned.{texts_of, first_of};
 ghost use Rattle.smap_record.specs.Steps.{after, with_one, AreFlags, FollowsSource};
@@ -31,25 +30,18 @@ fn source_error(i: usize, fault: SourceFault) -> ReadError
     }
 }
 
-/// The URL of a source, or the fault of the source with this index.
-fn url_at(
-    alloc: Global,
-    base: &Base,
-    root: Option<&str>,
-    i: usize,
-    source: &str,
-) -> Result<String, ReadError>
-    ensures { Returns string_bytes result
-        (source_at i (url_of base.now (option_copied root.entry) source.now)) }
+/// The URL that the source with this index resolved to, or its error.
+fn url_or_error(i: usize, resolved: Result<String, SourceFault>) -> Result<String, ReadError>
+    ensures { result ≡ url_or_error_of i resolved }
 {
-    match resolve(alloc, base, root, source) {
+    match resolved {
         Ok(text) => Ok(text),
         Err(fault) => Err(source_error(i, fault)),
     }
 }
 
 /// The URL of the i-th source; a null source has none.
-#[tactic(auto, unfolding(crate::specs::Flat::source_url))]
+#[tactic(auto, unfolding(crate::specs::Flat::source_url), using(crate::proofs::StabilityLemmas::url_of))]
 fn source_url(
     alloc: Global,
     base: &Base,
@@ -62,7 +54,7 @@ fn source_url(
 {
     match source {
         None => Ok(None),
-        Some(source) => match url_at(alloc, base, root, i, source) {
+        Some(source) => match url_or_error(i, resolve(alloc, base, root, source)) {
             Ok(text) => Ok(Some(text)),
             Err(error) => Err(error),
         },

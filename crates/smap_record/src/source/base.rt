@@ -4,6 +4,7 @@ ghost use Rattle.url.specs.Parser.{parse_url, Gives};
 ghost use Rattle.url.specs.Parts.{serialize};
 ghost use Rattle.smap_record.specs.Results.{ReturnsBase};
 ghost use Rattle.smap_record.specs.Relative.{relative_url};
+ghost use Rattle.smap_record.specs.Resolving.{LeadsToItself};
 
 use crate::fault::BaseFault;
 use std::alloc::{AllocError, Global};
@@ -24,6 +25,11 @@ impl Model for Base {
     ghost coded = { parts_code };
 
     ghost view = { λ b. b.url };
+
+    ghost use Rattle.smap_record.specs.Resolving.{IsMade};
+
+    // It was made from a text, so that no URL that is resolved against it is unstable.
+    ghost invariant = { λ b. IsMade b.url };
 }
 
 impl Base {
@@ -43,18 +49,30 @@ impl Base {
         ensures { ReturnsBase (λ b. b) result (parse_url None text.now) }
     {
         match Url::parse(alloc, text) {
-            Ok(url) => Ok(Base { url }),
+            Ok(url) => {
+                // What this call promises besides the text: the parts of a URL are valid.
+                let _ = url.as_str();
+                Ok(Base { url })
+            }
             Err(ParseError::OutOfMemory) => Err(BaseFault::Memory),
             Err(ParseError::Overflow) => Err(BaseFault::Memory),
             Err(_) => Err(BaseFault::NotUrl),
         }
     }
 
-    /// The URL that a text leads to from here.
+    /// The URL that a text leads to from here. Its own text leads to it again.
     pub(crate) fn join(&self, text: &str) -> ParseResult<Url>
-        ensures { Gives result (parse_url (Some self.now) text.now) }
+        ensures gives { Gives result (parse_url (Some self.now) text.now) }
+        ensures itself { IfOk result (LeadsToItself self.now) }
     {
-        self.url.join(text)
+        match self.url.join(text) {
+            Ok(url) => {
+                // What this call promises besides the text: the parts of a URL are valid.
+                let _ = url.as_str();
+                Ok(url)
+            }
+            Err(error) => Err(error),
+        }
     }
 
     /// The relative URL that leads from here to a URL on the same host.

@@ -2,7 +2,7 @@
 //! once more, to see that it is its own URL.
 ghost use Rattle.std.specs.Prelude.{◌≡◌, ◌++◌, string_bytes, option_copied, IfOk};
 ghost use Rattle.smap_record.specs.Source.{prefix_of, resolve as url_of};
-ghost use Rattle.smap_record.specs.Resolving.{GivesSource, if_same_again, unless_out_of_room};
+ghost use Rattle.smap_record.specs.Resolving.{GivesSource, IsNotUnstable, if_same_again, unless_out_of_room};
 ghost use Rattle.url.specs.Parts.{serialize};
 
 use crate::source::Base;
@@ -17,7 +17,12 @@ pub(crate) enum SourceFault {
     Memory,
 }
 
-fn prefixed(alloc: Global, root: Option<&str>, source: &str) -> Result<String, AllocError>
+/// The prefix that a root makes, followed by a source.
+pub(crate) fn prefixed(
+    alloc: Global,
+    root: Option<&str>,
+    source: &str,
+) -> Result<String, AllocError>
     ensures { IfOk result
         (λ s. string_bytes s ≡ prefix_of (option_copied root.entry) ++ source.now) }
 {
@@ -62,7 +67,10 @@ pub(crate) fn resolve(
     root: Option<&str>,
     source: &str,
 ) -> Result<String, SourceFault>
-    ensures { GivesSource result (url_of base.now (option_copied root.entry) source.now) }
+    ensures gives { GivesSource result (url_of base.now (option_copied root.entry) source.now) }
+
+    // The text of a URL that was parsed always leads to the URL again.
+    ensures stable { IsNotUnstable result }
 {
     let Ok(text) = prefixed(alloc, root, source) else {
         return Err(SourceFault::Memory);

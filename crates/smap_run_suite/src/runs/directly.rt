@@ -9,7 +9,6 @@ use smap_testing::{SlowReader, SlowWriter};
 use smap_tool::{
     Outcome, RunFault, run_check, run_flatten, run_lookup, run_respell, run_tidy, run_translate,
 };
-use smap_trace::Finding;
 use std::process::Abort;
 
 /// How many bytes a call moves.
@@ -102,7 +101,7 @@ fn a_position_is_looked_up(rt: HostRuntime) {
 #[test]
 fn a_trace_is_translated(rt: HostRuntime) {
     let (mut from, mut to) = (reader("trace\nkept\n"), writer(&rt));
-    let answer = run_translate(rt.alloc(), Finding::FRAMES, false, &mut from, &mut to);
+    let answer = run_translate(rt.alloc(), false, &mut from, &mut to);
     equal(&rt, "answer", answer, Ok(Outcome::Done));
     equal(
         &rt,

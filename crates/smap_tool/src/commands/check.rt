@@ -1,7 +1,8 @@
 //! The command `check`: validate a map.
-ghost use Rattle.std.specs.Prelude.{◌≡◌, ◌-◌, ◌^◌, ◌<◌, ◌++◌, None, false, IfOk, OnOk, true};
-ghost use Rattle.smap_io.specs.Calls.{StopsInTime};
+ghost use Rattle.std.specs.Prelude.{◌≡◌, ◌+◌, ◌-◌, ◌^◌, ◌<◌, ◌++◌, None, false, IfOk, OnOk, true};
+ghost use Rattle.smap_io.specs.Calls.{MakesAtMost, StopsInTime};
 ghost use Rattle.smap_io.specs.Device.{device_failures, has_ended, is_over};
+ghost use Rattle.smap_io.specs.Limits.{longest_input};
 ghost use Rattle.smap_io.specs.Streams.{streams};
 ghost use Rattle.smap_tool.specs.Commands.{check_output, check_text, counts_line, length_line, most_bytes};
 ghost use Rattle.smap_tool.specs.Run.{WritesOutputAgainst, Runs};
@@ -106,6 +107,9 @@ pub fn run_check<R: Read, W: Write>(
     // with a failure of their device, and no other answer does.
     ensures answers { Runs (WritesOutputAgainst (parse_url None base.now) check_output)
         (streams R.remaining reader.old reader.new W.contents writer.old writer.new) result }
+
+    // At most one read is made for each byte that an input may have, and one more.
+    ensures calls { MakesAtMost (longest_input + 1) reader.old reader.new }
 
     // No read comes after the end or a failure. The output is flushed once, and no write comes after that or
     // after a failure.

@@ -1,10 +1,11 @@
 //! The command `lookup`: find the original position of a generated position.
-ghost use Rattle.std.specs.Prelude.{◌≡◌, ◌-◌, ◌^◌, ◌<◌, ◌++◌, None, false, IfOk, OnOk, option_copied, true};
-ghost use Rattle.std.specs.Prelude.{option_map, string_bytes};
+ghost use Rattle.std.specs.Prelude.{◌≡◌, ◌+◌, ◌-◌, ◌^◌, ◌<◌, ◌++◌, None, false, IfOk, OnOk, true};
+ghost use Rattle.std.specs.Prelude.{option_copied, option_map, string_bytes};
 ghost use Rattle.serde_json.specs.Data.{string};
 ghost use Rattle.serde_json.specs.Written.{compact_text};
-ghost use Rattle.smap_io.specs.Calls.{StopsInTime};
+ghost use Rattle.smap_io.specs.Calls.{MakesAtMost, StopsInTime};
 ghost use Rattle.smap_io.specs.Device.{device_failures, has_ended, is_over};
+ghost use Rattle.smap_io.specs.Limits.{longest_input};
 ghost use Rattle.smap_io.specs.Streams.{streams};
 ghost use Rattle.smap_record.specs.Views.{mapping_of_view, origin_of_view};
 ghost use Rattle.smap_tool.specs.Run.{WritesOutputAgainst, Runs};
@@ -161,6 +162,9 @@ pub fn run_lookup<R: Read, W: Write>(
     // with a failure of their device, and no other answer does.
     ensures answers { Runs (WritesOutputAgainst (parse_url None base.now) (lookup_output line column))
         (streams R.remaining reader.old reader.new W.contents writer.old writer.new) result }
+
+    // At most one read is made for each byte that an input may have, and one more.
+    ensures calls { MakesAtMost (longest_input + 1) reader.old reader.new }
 
     // No read comes after the end or a failure. The output is flushed once, and no write comes after that or
     // after a failure.

@@ -1,7 +1,8 @@
 //! The command `respell`: re-encode a bare mappings string.
-ghost use Rattle.std.specs.Prelude.{◌≡◌, ◌-◌, ◌^◌, ◌<◌, false, IfOk, OnOk, true};
-ghost use Rattle.smap_io.specs.Calls.{StopsInTime};
+ghost use Rattle.std.specs.Prelude.{◌≡◌, ◌+◌, ◌-◌, ◌^◌, ◌<◌, false, IfOk, OnOk, true};
+ghost use Rattle.smap_io.specs.Calls.{MakesAtMost, StopsInTime};
 ghost use Rattle.smap_io.specs.Device.{device_failures, has_ended, is_over};
+ghost use Rattle.smap_io.specs.Limits.{longest_input};
 ghost use Rattle.smap_io.specs.Streams.{streams};
 ghost use Rattle.smap_mappings.specs.Decoded.{ReturnsTokens, decoded};
 ghost use Rattle.smap_mappings.specs.Text.{IsEncodable};
@@ -91,6 +92,9 @@ pub fn run_respell<R: Read, W: Write>(
     // of their device, and no other answer does.
     ensures answers { Runs (WritesOutput respell_output)
         (streams R.remaining reader.old reader.new W.contents writer.old writer.new) result }
+
+    // At most one read is made for each byte that an input may have, and one more.
+    ensures calls { MakesAtMost (longest_input + 1) reader.old reader.new }
 
     // No read comes after the end or a failure. The output is flushed once, and no write comes after that or
     // after a failure.

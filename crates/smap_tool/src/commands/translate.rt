@@ -6,6 +6,7 @@ ghost use Rattle.smap_io.specs.Limits.{most_calls};
 ghost use Rattle.smap_io.specs.Streams.{ReaderFailsOrTires, WriterFails, streams};
 ghost use Rattle.smap_tool.specs.Run.{is_read, is_write};
 ghost use Rattle.smap_tool.specs.Translate.{RunsTranslate, TranslatesTrace, WritesRefusal, fates_asked};
+ghost use Rattle.smap_tool.specs.Translate.{fates_in_frames};
 ghost use Rattle.smap_tool.specs.BundleLine.{bundle_line};
 ghost use Rattle.clap.specs.Words.{app_of};
 ghost use Rattle.clap.specs.declared.builder.command.Command.TheViews.{out-Command as fields_of};
@@ -103,7 +104,7 @@ fn translate_trace<R: Read, W: Write>(
 
 /// Reads a bundle, and writes the translation of its trace, line by line as it comes, or the line of the
 /// bundle's first fault with a line feed (then the answer is `Refused`). With `hide`, frames in ignored
-/// sources are left out; `finding` says how positions are found in a line.
+/// sources are left out. Positions are found in frames whose URL is that of a script.
 ///
 /// Nothing after the line `trace` is read before the translation begins, and nothing is written before that
 /// except the line of a fault. A fault is answered without reading on: as soon as its line was read, or for
@@ -117,6 +118,40 @@ fn translate_trace<R: Read, W: Write>(
 /// what [`smap_trace::translate`] promises, and else nothing was written; after `Write` it may also be a
 /// prefix of the line of the fault.
 pub fn run_translate<R: Read, W: Write>(
+    alloc: Global,
+    hide: bool,
+    reader: &mut Device<R>,
+    writer: &mut Device<W>,
+) -> Result<Outcome, RunFault>
+    requires reader { device_failures reader.old < 2 ^ 64 - 1 }
+    requires writer { device_failures writer.old < 2 ^ 64 - 1 }
+    requires not_ended { has_ended reader.old ≡ false }
+
+    // What was written is the translation of the bundle's trace, or the line of its first fault; nothing
+    // was read past what shows this fault. Read and Write come with a failure of their device, and no other
+    // answer does.
+    ensures answers { RunsTranslate (fates_in_frames hide)
+        (streams R.remaining reader.old reader.new W.contents writer.old writer.new) result }
+
+    // The bundle's entries are read by at most 4,294,967,296 calls, and so is the trace.
+    ensures calls { MakesAtMost (2 * most_calls) reader.old reader.new }
+
+    // No read comes after the end or a failure. The output is flushed once, and no write comes after that or
+    // after a failure.
+    ensures reads_in_time { StopsInTime reader.old reader.new }
+    ensures writes_in_time { StopsInTime writer.old writer.new }
+    ensures flushed { OnOk result (is_over writer.new ≡ true) }
+{
+    run_translate_by(alloc, Finding::FRAMES, hide, reader, writer)
+}
+
+/// Reads a bundle, and writes the translation of its trace, as [`run_translate`] does, where positions are
+/// found in another way as well.
+///
+/// # Errors
+///
+/// Those of [`run_translate`], with what was written then.
+pub fn run_translate_by<R: Read, W: Write>(
     alloc: Global,
     finding: Finding,
     hide: bool,

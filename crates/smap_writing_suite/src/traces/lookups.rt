@@ -169,10 +169,11 @@ fn is_found_by_table(rt: &impl Abort, map: &SourceMap, starts: &LineStarts, line
     requires { starts.now ≡ line_starts (record_of map.now).mappings }
 {
     let (index, expected) = scanned(map, line, column);
-    let (found, _probes) = find_in(map, starts, line, column);
+    let (found, probes) = find_in(map, starts, line, column);
     equal(rt, (line, column), found, index);
-    let (found, _probes) = lookup_in(map, starts, line, column);
+    let (found, same_probes) = lookup_in(map, starts, line, column);
     is_same(rt, (line, column), found, expected);
+    equal(rt, (line, column), same_probes, probes);
 }
 
 /// Asserts the same of the first columns of some lines, the last of them past the end of each map.
@@ -204,6 +205,62 @@ fn the_table_of_lines_finds_what_a_scan_finds(rt: HostRuntime) -> Result<(), Fai
         a_table_finds_them(&rt, text);
     }
     Ok(())
+}
+
+/// Four lines with 1, 0, 3 and 7 mappings, the last two with some at equal columns. By halving, a position
+/// among one less than a power of two takes as many probes as that power says, wherever it lies.
+const LINES: &str = concat!(
+    r#"{"version":3,"sources":["a.js"],"mappings":"#,
+    r#""AAAA;;AACA,CACA,AACA;AACA,CACA,CACA,AACA,CACA,CACA,CACA"}"#,
+);
+
+/// Two mappings on line 0 and one on line 1, and none on line 2, which the table doesn't have: the last line
+/// of a table is that of the last mapping.
+const THREE: &str = r#"{"version":3,"sources":["a.js"],"mappings":"AAAA,CACA;AACA"}"#;
+
+/// Asserts how many probes the lookups by a map's table take for the first columns of a line.
+fn takes_by_table(
+    rt: &impl Abort,
+    map: &SourceMap,
+    starts: &LineStarts,
+    line: u32,
+    least: u32,
+    most: u32,
+)
+    requires { starts.now ≡ line_starts (record_of map.now).mappings }
+{
+    for column in 0..8 {
+        let (_found, probes) = find_in(map, starts, line, column);
+        let few = least <= probes && probes <= most;
+        holds(rt, (line, column, probes), few);
+        let (_found, same_probes) = lookup_in(map, starts, line, column);
+        equal(rt, (line, column), same_probes, probes);
+    }
+}
+
+/// Asserts it with the table that is made of the map.
+fn takes(rt: &(impl Abort + AllocGlobal), map: &SourceMap, line: u32, least: u32, most: u32) {
+    let starts = LineStarts::new(rt.alloc(), map).expect(rt, "a table is made");
+    takes_by_table(rt, map, &starts, line, least, most);
+}
+
+#[test]
+fn a_table_leaves_the_probes_of_a_line(rt: HostRuntime) {
+    for &(text, line, least, most) in &[
+        (LINES, 0, 1, 1),
+        (LINES, 1, 0, 0),
+        (LINES, 2, 2, 2),
+        (LINES, 3, 3, 3),
+        (LINES, 4, 3, 4),
+        (THREE, 0, 1, 2),
+        (THREE, 1, 1, 1),
+        (THREE, 2, 2, 2),
+        (FAR, 0, 1, 2),
+        (FAR, 8, 1, 2),
+        (EMPTY, 0, 0, 0),
+    ] {
+        takes(&rt, &read(&rt, text), line, least, most);
+    }
 }
 
 /// Asserts the index of the mapping for a position of line 0.

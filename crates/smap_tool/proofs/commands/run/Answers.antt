@@ -16,7 +16,28 @@ pub returns-in-Lookup-clause-answers : goal.returns-in-Lookup-clause-answers
 returns-in-Lookup-clause-answers g c = rw c.in-Lookup.is c.run_lookup.ensures.answers
 
 pub returns-in-Translate-clause-answers : goal.returns-in-Translate-clause-answers
-returns-in-Translate-clause-answers g c = rw c.in-Translate.is c.run_translate.ensures.answers
+returns-in-Translate-clause-answers g c = rw c.in-Translate.is c.run_translate_by.ensures.answers
 
 pub returns-in-Scripts-clause-answers : goal.returns-in-Scripts-clause-answers
 returns-in-Scripts-clause-answers g c = rw c.in-Scripts.is c.run_scripts.ensures.answers
+
+pub returns-in-Respell-clause-calls : goal.returns-in-Respell-clause-calls
+returns-in-Respell-clause-calls g c = rw c.in-Respell.is c.run_respell.ensures.calls
+
+pub returns-in-Check-clause-calls : goal.returns-in-Check-clause-calls
+returns-in-Check-clause-calls g c = rw c.in-Check.is c.run_check.ensures.calls
+
+pub returns-in-Tidy-clause-calls : goal.returns-in-Tidy-clause-calls
+returns-in-Tidy-clause-calls g c = rw c.in-Tidy.is c.run_tidy.ensures.calls
+
+pub returns-in-Flatten-clause-calls : goal.returns-in-Flatten-clause-calls
+returns-in-Flatten-clause-calls g c = rw c.in-Flatten.is c.run_flatten.ensures.calls
+
+pub returns-in-Lookup-clause-calls : goal.returns-in-Lookup-clause-calls
+returns-in-Lookup-clause-calls g c = rw c.in-Lookup.is c.run_lookup.ensures.calls
+
+pub returns-in-Translate-clause-calls : goal.returns-in-Translate-clause-calls
+returns-in-Translate-clause-calls g c = rw c.in-Translate.is c.run_translate_by.ensures.calls
+
+pub returns-in-Scripts-clause-calls : goal.returns-in-Scripts-clause-calls
+returns-in-Scripts-clause-calls g c = rw c.in-Scripts.is c.run_scripts.ensures.calls

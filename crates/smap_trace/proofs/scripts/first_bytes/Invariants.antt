@@ -1,7 +1,8 @@
-use Rattle.std.proofs.Common.{◌≡◌, take, true}
-use Rattle.smap_trace.specs.ByLength.{are_firsts_of}
-use Rattle.smap_trace.specs.Views.{scripts_in}
+use Rattle.std.proofs.Common.{◌≡◌, ◌||◌, true, get_or, length, nat_eq, take}
+use Rattle.std.specs.List.{All}
+use Rattle.smap_trace.specs.ByLength.{is_among}
 use Rattle.smap_trace.proofs.scripts.first_bytes.Given as goal
 
 abbrev pub invariant-loop-script : goal.invariant-loop-script
-invariant-loop-script l = are_firsts_of l.firsts.items (scripts_in (take l.script-index l.scripts)) ≡ true
+invariant-loop-script l = All (λ x. (nat_eq (length x.0.now) 0 || is_among l.firsts.items (get_or x.0.now 0 0)) ≡ true)
+    (take l.script-index l.scripts)

@@ -1,28 +1,26 @@
-use Rattle.std.proofs.Common.{◌≡◌, ◌++◌, ◌∷◌, [], arith, rules, true, take, length, get_or}
+use Rattle.std.proofs.Common.{◌≡◌, ◌++◌, ◌∷◌, [], arith, length, rules}
 use Rattle.smap_trace.specs.ByLength.{is_among}
-use Rattle.smap_trace.specs.Scripts.{Script}
-use Rattle.smap_trace.specs.Views.{scripts_in}
-use Rattle.smap_trace.proofs.ByLengthLemmas.{one_length_is, one_length_more, is_last, one_script_more}
+use Rattle.smap_trace.proofs.ByLengthLemmas.{among_grows, among_last, of_scripts, one_given_more}
 use Rattle.smap_trace.proofs.scripts.url_lengths.Goals as goal
 
 pub loop-script-preserved : goal.loop-script-preserved
 loop-script-preserved c =
-    let scripts = c.args.scripts.now in
-    let i = c.loop-script.script-index in
-    let given = c.script-item.result in
-    let n = length given.0.now in
+    let n = length c.script-item.result.0.now in
     let before = c.loop-script.lengths.items in
     let after = c.if-not-contains.lengths.items in
-    elim c.if-not-contains.branch [
+    one_given_more (λ ns url. is_among ns (length url)) c.args.scripts.now c.loop-script.script-index
+    c.script-item.result before after (elim c.if-not-contains.branch [
       | goal.then-not-contains+in_ok-push w ↦
           let is : after ≡ before ++ n ∷ [] = search rules in
-          one_script_more (λ (s : Script). is_among after (length s.0)) scripts i given (omega arith)
-          (rw is (one_length_more n before (scripts_in (take i scripts)) c.loop-script.invariant))
-          (one_length_is after n (get_or scripts i given) (search rules) (rw is (is_last n before)))
-      | goal.else-not-contains w ↦
-          let is : after ≡ before = search rules in
-          let among : is_among before n ≡ true = search rules in
-          one_script_more (λ (s : Script). is_among after (length s.0)) scripts i given (omega arith)
-          (rw is c.loop-script.invariant)
-          (one_length_is after n (get_or scripts i given) (search rules) (rw is among))
-    ]
+          λ url h. rw is (among_grows before n (length url) h)
+      | goal.else-not-contains w ↦ λ url h. rw w.lengths-is h
+    ]) (omega arith) (search rules) c.loop-script.invariant (elim c.if-not-contains.branch [
+      | goal.then-not-contains+in_ok-push w ↦
+          let is : after ≡ before ++ n ∷ [] = search rules in
+          rw is (among_last before n)
+      | goal.else-not-contains w ↦ search rules
+    ])
+
+pub returns : goal.returns
+returns c = of_scripts (λ url. is_among c.loop-script.lengths.items (length url)) c.args.scripts.now
+    c.loop-script.script-index (omega arith) c.loop-script.invariant

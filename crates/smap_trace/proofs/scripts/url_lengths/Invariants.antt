@@ -1,7 +1,7 @@
-use Rattle.std.proofs.Common.{◌≡◌, take, true}
-use Rattle.smap_trace.specs.ByLength.{are_lengths_of}
-use Rattle.smap_trace.specs.Views.{scripts_in}
+use Rattle.std.proofs.Common.{◌≡◌, true, length, take}
+use Rattle.std.specs.List.{All}
+use Rattle.smap_trace.specs.ByLength.{is_among}
 use Rattle.smap_trace.proofs.scripts.url_lengths.Given as goal
 
 abbrev pub invariant-loop-script : goal.invariant-loop-script
-invariant-loop-script l = are_lengths_of l.lengths.items (scripts_in (take l.script-index l.scripts)) ≡ true
+invariant-loop-script l = All (λ x. is_among l.lengths.items (length x.0.now) ≡ true) (take l.script-index l.scripts)

@@ -1,6 +1,6 @@
 use Rattle.smap_tool.proofs.TranslateLemmas.{whole_run}
 use Rattle.smap_tool.specs.Translate.{fates_asked}
-use Rattle.smap_tool.proofs.commands.translate.run_translate.Goals as goal
+use Rattle.smap_tool.proofs.commands.translate.run_translate_by.Goals as goal
 
 pub returns-in-Ok-clause-answers : goal.returns-in-Ok-clause-answers
 returns-in-Ok-clause-answers g c =
