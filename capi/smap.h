@@ -60,14 +60,17 @@ uint32_t smap_version(void);
 /* ---- codes */
 
 enum {
-    SMAP_OK = 0,      /* done */
-    SMAP_REFUSED = 1, /* the map, or the mappings string, has an error */
-    SMAP_NOT_URL = 2, /* the base is no absolute URL; or a URL isn't UTF-8 */
-    SMAP_LIMITS = 3,  /* items above 2147483647, or lines above 16777216 */
-    SMAP_MEMORY = 4,  /* out of memory */
-    SMAP_CLOSED = 5,  /* a handle is closed */
-    SMAP_NONE = 6,    /* nothing there: no mapping, no URL, no content, no name, no file, no frame */
-    SMAP_RANGE = 7    /* the number isn't below the count */
+    SMAP_OK = 0,         /* done */
+    SMAP_REFUSED = 1,    /* the map, or the mappings string, has an error */
+    SMAP_NOT_URL = 2,    /* the base is no absolute URL; or a URL isn't UTF-8 */
+    SMAP_LIMITS = 3,     /* items above 2147483647, or lines above 16777216 */
+    SMAP_MEMORY = 4,     /* out of memory */
+    SMAP_CLOSED = 5,     /* a handle is closed */
+    SMAP_NONE = 6,       /* nothing there: no mapping, no URL, no content, no name, no file, no frame */
+    SMAP_RANGE = 7,      /* the number isn't below the count */
+    SMAP_URL_BYTES = 8,  /* the URLs of a map's sources take more bytes than they may */
+    SMAP_NOT_BASE64 = 9, /* a data: URL says that it is base64, and isn't */
+    SMAP_NOT_UTF8 = 10   /* a path or a URL isn't UTF-8 */
 };
 
 /* Copies the name of a code into `out`, such as "out of memory", and returns its length, or 0 if the number
@@ -152,6 +155,17 @@ typedef struct smap_limits {
  * number of the last mapping's line is more than twice the number of mappings. */
 uint32_t smap_open(smap_map *map, const void *text, size_t len, const char *base, size_t base_len,
                    const smap_limits *limits, smap_fault *fault);
+
+/* Reads a map as smap_open does, unless the URLs of its sources take more than `url_bytes` bytes in all. The
+ * `sourceRoot` of a map goes before each of its sources, so that a map of half a megabyte may have URLs of
+ * gigabytes: what opens maps of others needs such a bound. SIZE_MAX is none.
+ * Each source counts as often as the map lists it, with the bytes of its URL, or of the text that the URL is
+ * made from (`sourceRoot` and the source) if that has more. So the time has a bound too: it grows with the
+ * length of the text, with `url_bytes`, and for each source with the length of the base.
+ * Codes: those of smap_open, and URL_BYTES: the URLs take more, and no memory was taken for them, but for
+ * one at a time. It isn't known then whether the map has an error. */
+uint32_t smap_open_within(smap_map *map, const void *text, size_t len, const char *base, size_t base_len,
+                          const smap_limits *limits, size_t url_bytes, smap_fault *fault);
 
 /* Closes a handle. The map is freed with the last handle that shares it. A closed handle stays closed. */
 void smap_close(smap_map *map);
@@ -346,6 +360,50 @@ typedef struct smap_trace_counts {
 uint32_t smap_translate(smap_scripts *scripts, const void *trace, size_t len, uint8_t how, smap_bytes *out,
                         smap_trace_counts *counts);
 
+/* ---- which map belongs to a script (docs/LINKING.md has the rules)
+ *
+ * A script's name is its URL, or its absolute path: /a/b.js, C:\a\b.js. Each of these that has an `out`
+ * puts bytes into it; a fault that a code names leaves it as it was. */
+
+/* Copies the URL of its map that a script, or with `css` a style sheet, names in its last comment, as it
+ * stands there. The text is read from its end; a text of many U+2028 or U+2029 without line feeds takes time
+ * that grows with the square of their number. OK, NONE. */
+uint32_t smap_script_link(const void *text, size_t len, bool css, char *out, size_t room, size_t *url_len);
+
+/* That URL resolved against the script's own. OK; NOT_URL: the script's name is neither a URL nor an absolute
+ * path, or the two make no URL; NOT_UTF8; MEMORY. */
+uint32_t smap_resolve(const char *script, size_t script_len, const char *url, size_t url_len,
+                      smap_bytes *out);
+
+/* The bytes that a data: URL holds. OK; NONE: it is another URL; NOT_URL: it has no comma; NOT_BASE64;
+ * MEMORY. */
+uint32_t smap_data_url(const char *url, size_t len, smap_bytes *out);
+
+/* The file: URL of an absolute path. OK; NONE: the path isn't absolute; NOT_UTF8; MEMORY. */
+uint32_t smap_file_url(const char *path, size_t len, smap_bytes *out);
+
+/* The path of a file: URL. OK; NONE: it is another URL; NOT_URL: it names another host, or an escape of it
+ * stands for a slash or a NUL; NOT_UTF8; MEMORY. */
+uint32_t smap_file_path(const char *url, size_t len, smap_bytes *out);
+
+/* The URL of the script with this name below a folder, which has a URL or a path that ends in a slash. OK,
+ * MEMORY. */
+uint32_t smap_script_url(const char *folder, size_t folder_len, const char *name, size_t name_len,
+                         smap_bytes *out);
+
+/* The name with which smap_script_url makes this URL. OK; NONE: the script isn't below the folder, or its URL
+ * is spelled otherwise; MEMORY. */
+uint32_t smap_script_name(const char *folder, size_t folder_len, const char *url, size_t url_len,
+                          smap_bytes *out);
+
+/* What all names of a script have in common: those are alike for which these bytes are the same. OK,
+ * MEMORY. */
+uint32_t smap_normal_form(const char *name, size_t len, smap_bytes *out);
+
+/* OK: *out says whether two names are alike, that is, differ at most in the query, the fragment, the default
+ * port, the capitals of the host, in being a path or its file: URL, and in the case of the drive. MEMORY. */
+uint32_t smap_alike(const char *one, size_t one_len, const char *other, size_t other_len, bool *out);
+
 #ifdef __cplusplus
 }
 #endif
@@ -364,6 +422,16 @@ static inline uint32_t smap_open_(smap_map *map, const void *text, size_t len, c
     smap_fault unwanted;
     return smap_open(map, text ? text : smap_no_text_, len, base ? base : smap_no_text_, base_len,
                      limits ? limits : &usual, fault ? fault : &unwanted);
+}
+
+static inline uint32_t smap_open_within_(smap_map *map, const void *text, size_t len, const char *base,
+                                         size_t base_len, const smap_limits *limits, size_t url_bytes,
+                                         smap_fault *fault)
+{
+    const smap_limits usual = {0, 0};
+    smap_fault unwanted;
+    return smap_open_within(map, text ? text : smap_no_text_, len, base ? base : smap_no_text_, base_len,
+                            limits ? limits : &usual, url_bytes, fault ? fault : &unwanted);
 }
 
 static inline size_t smap_code_name_(uint32_t code, char *out, size_t room)
@@ -470,7 +538,63 @@ static inline uint32_t smap_translate_(smap_scripts *scripts, const void *trace,
                           counts ? counts : &unwanted);
 }
 
+static inline uint32_t smap_script_link_(const void *text, size_t len, bool css, char *out, size_t room,
+                                         size_t *url_len)
+{
+    char none;
+    size_t unwanted;
+    return smap_script_link(text ? text : smap_no_text_, len, css, out ? out : &none, room,
+                            url_len ? url_len : &unwanted);
+}
+
+static inline uint32_t smap_resolve_(const char *script, size_t script_len, const char *url, size_t url_len,
+                                     smap_bytes *out)
+{
+    return smap_resolve(script ? script : smap_no_text_, script_len, url ? url : smap_no_text_, url_len, out);
+}
+
+static inline uint32_t smap_data_url_(const char *url, size_t len, smap_bytes *out)
+{
+    return smap_data_url(url ? url : smap_no_text_, len, out);
+}
+
+static inline uint32_t smap_file_url_(const char *path, size_t len, smap_bytes *out)
+{
+    return smap_file_url(path ? path : smap_no_text_, len, out);
+}
+
+static inline uint32_t smap_file_path_(const char *url, size_t len, smap_bytes *out)
+{
+    return smap_file_path(url ? url : smap_no_text_, len, out);
+}
+
+static inline uint32_t smap_script_url_(const char *folder, size_t folder_len, const char *name,
+                                        size_t name_len, smap_bytes *out)
+{
+    return smap_script_url(folder ? folder : smap_no_text_, folder_len, name ? name : smap_no_text_, name_len,
+                           out);
+}
+
+static inline uint32_t smap_script_name_(const char *folder, size_t folder_len, const char *url,
+                                         size_t url_len, smap_bytes *out)
+{
+    return smap_script_name(folder ? folder : smap_no_text_, folder_len, url ? url : smap_no_text_, url_len,
+                            out);
+}
+
+static inline uint32_t smap_normal_form_(const char *name, size_t len, smap_bytes *out)
+{
+    return smap_normal_form(name ? name : smap_no_text_, len, out);
+}
+
+static inline uint32_t smap_alike_(const char *one, size_t one_len, const char *other, size_t other_len,
+                                   bool *out)
+{
+    return smap_alike(one ? one : smap_no_text_, one_len, other ? other : smap_no_text_, other_len, out);
+}
+
 #define smap_open smap_open_
+#define smap_open_within smap_open_within_
 #define smap_code_name smap_code_name_
 #define smap_fault_name smap_fault_name_
 #define smap_file smap_file_
@@ -486,5 +610,14 @@ static inline uint32_t smap_translate_(smap_scripts *scripts, const void *trace,
 #define smap_translate_line smap_translate_line_
 #define smap_add_script smap_add_script_
 #define smap_translate smap_translate_
+#define smap_script_link smap_script_link_
+#define smap_resolve smap_resolve_
+#define smap_data_url smap_data_url_
+#define smap_file_url smap_file_url_
+#define smap_file_path smap_file_path_
+#define smap_script_url smap_script_url_
+#define smap_script_name smap_script_name_
+#define smap_normal_form smap_normal_form_
+#define smap_alike smap_alike_
 
 #endif

@@ -65,6 +65,14 @@ inline uint32_t open(Map &map, const std::string &text, const std::string &base,
     return smap_open(map.handle(), text.data(), text.size(), base.data(), base.size(), limits, fault);
 }
 
+/* The same, unless the URLs of its sources take more than `url_bytes` bytes, as smap_open_within does. */
+inline uint32_t open_within(Map &map, const std::string &text, const std::string &base, size_t url_bytes,
+                            smap_fault *fault = nullptr, const smap_limits *limits = nullptr)
+{
+    return smap_open_within(map.handle(), text.data(), text.size(), base.data(), base.size(), limits,
+                            url_bytes, fault);
+}
+
 /* Makes `out` the string that a call copies into a buffer; it is empty if the code isn't OK. */
 template <typename Call>
 uint32_t copied(Call call, std::string &out)
@@ -142,6 +150,64 @@ inline uint32_t translate(Scripts &scripts, const std::string &trace, uint8_t ho
                           smap_trace_counts *counts = nullptr)
 {
     return smap_translate(scripts.handle(), trace.data(), trace.size(), how, out.handle(), counts);
+}
+
+/* The URL of its map that a script, or with `css` a style sheet, names in its last comment. */
+inline uint32_t script_link(const std::string &text, std::string &out, bool css = false)
+{
+    return copied(
+        [&](char *at, size_t n, size_t *len) {
+            return smap_script_link(text.data(), text.size(), css, at, n, len);
+        },
+        out);
+}
+
+/* That URL resolved against the script's own. */
+inline uint32_t resolve(const std::string &script, const std::string &url, Bytes &out)
+{
+    return smap_resolve(script.data(), script.size(), url.data(), url.size(), out.handle());
+}
+
+/* The bytes that a data: URL holds. */
+inline uint32_t data_url(const std::string &url, Bytes &out)
+{
+    return smap_data_url(url.data(), url.size(), out.handle());
+}
+
+/* The file: URL of an absolute path. */
+inline uint32_t file_url(const std::string &path, Bytes &out)
+{
+    return smap_file_url(path.data(), path.size(), out.handle());
+}
+
+/* The path of a file: URL. */
+inline uint32_t file_path(const std::string &url, Bytes &out)
+{
+    return smap_file_path(url.data(), url.size(), out.handle());
+}
+
+/* The URL of the script with this name below a folder. */
+inline uint32_t script_url(const std::string &folder, const std::string &name, Bytes &out)
+{
+    return smap_script_url(folder.data(), folder.size(), name.data(), name.size(), out.handle());
+}
+
+/* The name of the script with this URL below a folder. */
+inline uint32_t script_name(const std::string &folder, const std::string &url, Bytes &out)
+{
+    return smap_script_name(folder.data(), folder.size(), url.data(), url.size(), out.handle());
+}
+
+/* What all names of a script have in common. */
+inline uint32_t normal_form(const std::string &name, Bytes &out)
+{
+    return smap_normal_form(name.data(), name.size(), out.handle());
+}
+
+/* Whether two names are alike. */
+inline uint32_t alike(const std::string &one, const std::string &other, bool &out)
+{
+    return smap_alike(one.data(), one.size(), other.data(), other.size(), &out);
 }
 
 } // namespace smap

@@ -118,6 +118,10 @@ unsafe extern "C" {
         map: Owned, text: Text, len: usize, base: Text, base_len: usize, limits: *const Limits,
         fault: *mut RawFault,
     ) -> u32;
+    fn smap_open_within(
+        map: Owned, text: Text, len: usize, base: Text, base_len: usize, limits: *const Limits,
+        url_bytes: usize, fault: *mut RawFault,
+    ) -> u32;
     fn smap_close(map: Owned);
     fn smap_share(map: Owned, other: Owned) -> u32;
     fn smap_same(one: Owned, other: Owned, out: *mut bool) -> u32;
@@ -141,6 +145,25 @@ unsafe extern "C" {
     fn smap_canonical_mappings(map: Owned, out: Owned) -> u32;
     fn smap_flatten(map: Owned, out: Owned) -> u32;
     fn smap_respell(text: Text, len: usize, out: Owned, fault: *mut RawFault) -> u32;
+    fn smap_script_link(
+        text: Text, len: usize, css: bool, out: Out, room: usize, url_len: Len,
+    ) -> u32;
+    fn smap_resolve(
+        script: Text, script_len: usize, url: Text, url_len: usize, out: Owned,
+    ) -> u32;
+    fn smap_data_url(url: Text, len: usize, out: Owned) -> u32;
+    fn smap_file_url(path: Text, len: usize, out: Owned) -> u32;
+    fn smap_file_path(url: Text, len: usize, out: Owned) -> u32;
+    fn smap_script_url(
+        folder: Text, folder_len: usize, name: Text, name_len: usize, out: Owned,
+    ) -> u32;
+    fn smap_script_name(
+        folder: Text, folder_len: usize, url: Text, url_len: usize, out: Owned,
+    ) -> u32;
+    fn smap_normal_form(name: Text, len: usize, out: Owned) -> u32;
+    fn smap_alike(
+        one: Text, one_len: usize, other: Text, other_len: usize, out: *mut bool,
+    ) -> u32;
     fn smap_bytes_copy(bytes: Owned, from: usize, out: Out, room: usize) -> usize;
     fn smap_bytes_free(bytes: Owned);
     fn smap_frame(line: Text, len: usize, out: *mut RawFrame) -> u32;
@@ -160,6 +183,10 @@ const REFUSED: u32 = 1;
 const NOT_URL: u32 = 2;
 const LIMITS: u32 = 3;
 const MEMORY: u32 = 4;
+const NONE: u32 = 6;
+const URL_BYTES: u32 = 8;
+const NOT_BASE64: u32 = 9;
+const NOT_UTF8: u32 = 10;
 
 const HIDE_IGNORED: u8 = 1;
 const ANYWHERE: u8 = 2;
@@ -190,6 +217,8 @@ pub enum Error {
     NotUrl,
     Limits,
     Memory,
+    /// The URLs of the sources take more bytes than they may.
+    UrlBytes,
 }
 
 impl Error {
@@ -200,6 +229,7 @@ impl Error {
             Error::NotUrl => NOT_URL,
             Error::Limits => LIMITS,
             Error::Memory => MEMORY,
+            Error::UrlBytes => URL_BYTES,
         }
     }
 }
@@ -238,6 +268,7 @@ fn error(code: u32, fault: &RawFault) -> Error {
         }),
         NOT_URL => Error::NotUrl,
         LIMITS => Error::Limits,
+        URL_BYTES => Error::UrlBytes,
         _ => Error::Memory,
     }
 }
@@ -289,6 +320,88 @@ pub fn respell(text: &[u8]) -> Result<Vec<u8>, Error> {
     let mut fault = no_fault();
     written(|out| unsafe { smap_respell(text.as_ptr(), text.len(), out, &mut fault) })
         .map_err(|code| error(code, &fault))
+}
+
+/// Why a URL or a path gives nothing.
+#[derive(Clone, Copy, Debug, PartialEq, Eq)]
+pub enum LinkError {
+    /// It is no such URL: docs/LINKING.md says which is.
+    NotUrl,
+    NotBase64,
+    NotUtf8,
+    Memory,
+}
+
+/// What a call puts into a handle, or none if there is nothing.
+fn given(call: impl FnOnce(*mut Handle) -> u32) -> Result<Option<Vec<u8>>, LinkError> {
+    match written(call) {
+        Ok(bytes) => Ok(Some(bytes)),
+        Err(NONE) => Ok(None),
+        Err(NOT_URL) => Err(LinkError::NotUrl),
+        Err(NOT_BASE64) => Err(LinkError::NotBase64),
+        Err(NOT_UTF8) => Err(LinkError::NotUtf8),
+        Err(_) => Err(LinkError::Memory),
+    }
+}
+
+/// The URL of its map that a script, or with `css` a style sheet, names in its last comment.
+pub fn script_link(text: &[u8], css: bool) -> Option<Vec<u8>> {
+    copied(|at, n, len| unsafe { smap_script_link(text.as_ptr(), text.len(), css, at, n, len) })
+}
+
+/// That URL resolved against the script's own.
+pub fn resolve(script: &[u8], url: &[u8]) -> Result<Vec<u8>, LinkError> {
+    let call = |out| unsafe {
+        smap_resolve(script.as_ptr(), script.len(), url.as_ptr(), url.len(), out)
+    };
+    Ok(given(call)?.unwrap_or_default())
+}
+
+/// The bytes that a data: URL holds; none of another URL.
+pub fn data_url(url: &[u8]) -> Result<Option<Vec<u8>>, LinkError> {
+    given(|out| unsafe { smap_data_url(url.as_ptr(), url.len(), out) })
+}
+
+/// The file: URL of an absolute path; none of a relative one.
+pub fn file_url(path: &[u8]) -> Result<Option<Vec<u8>>, LinkError> {
+    given(|out| unsafe { smap_file_url(path.as_ptr(), path.len(), out) })
+}
+
+/// The path of a file: URL; none of another URL.
+pub fn file_path(url: &[u8]) -> Result<Option<Vec<u8>>, LinkError> {
+    given(|out| unsafe { smap_file_path(url.as_ptr(), url.len(), out) })
+}
+
+/// The URL of the script with this name below a folder.
+pub fn script_url(folder: &[u8], name: &[u8]) -> Result<Vec<u8>, LinkError> {
+    let call = |out| unsafe {
+        smap_script_url(folder.as_ptr(), folder.len(), name.as_ptr(), name.len(), out)
+    };
+    Ok(given(call)?.unwrap_or_default())
+}
+
+/// The name of the script with this URL below a folder, if it is one of those.
+pub fn script_name(folder: &[u8], url: &[u8]) -> Result<Option<Vec<u8>>, LinkError> {
+    given(|out| unsafe {
+        smap_script_name(folder.as_ptr(), folder.len(), url.as_ptr(), url.len(), out)
+    })
+}
+
+/// What all names of a script have in common.
+pub fn normal_form(name: &[u8]) -> Result<Vec<u8>, LinkError> {
+    let call = |out| unsafe { smap_normal_form(name.as_ptr(), name.len(), out) };
+    Ok(given(call)?.unwrap_or_default())
+}
+
+/// Whether two names are alike.
+pub fn alike(one: &[u8], other: &[u8]) -> Result<bool, LinkError> {
+    let mut alike = false;
+    match unsafe {
+        smap_alike(one.as_ptr(), one.len(), other.as_ptr(), other.len(), &mut alike)
+    } {
+        OK => Ok(alike),
+        _ => Err(LinkError::Memory),
+    }
 }
 
 /// A generated position and where it comes from: `source` is none where it comes from nowhere.
@@ -427,6 +540,22 @@ impl Map {
         let (map, mut fault) = (Map::closed(), no_fault());
         let code = unsafe {
             smap_open(map.0.get(), text.as_ptr(), text.len(), base.as_ptr(), base.len(), &limits, &mut fault)
+        };
+        if code == OK { Ok(map) } else { Err(error(code, &fault)) }
+    }
+
+    /// The same, if the URLs of its sources take at most `url_bytes` bytes together. Each source counts as
+    /// often as it is listed, with the bytes of its URL, or of the text that this is made from if they are
+    /// more.
+    pub fn open_within_url_bytes(
+        text: &[u8], base: &str, limits: Limits, url_bytes: usize,
+    ) -> Result<Map, Error> {
+        let (map, mut fault) = (Map::closed(), no_fault());
+        let code = unsafe {
+            smap_open_within(
+                map.0.get(), text.as_ptr(), text.len(), base.as_ptr(), base.len(), &limits, url_bytes,
+                &mut fault,
+            )
         };
         if code == OK { Ok(map) } else { Err(error(code, &fault)) }
     }

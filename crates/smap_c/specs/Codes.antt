@@ -25,6 +25,15 @@ NONE = 6
 abbrev pub RANGE : ℕ
 RANGE = 7
 
+abbrev pub URL_BYTES : ℕ
+URL_BYTES = 8
+
+abbrev pub NOT_BASE64 : ℕ
+NOT_BASE64 = 9
+
+abbrev pub NOT_UTF8 : ℕ
+NOT_UTF8 = 10
+
 -- The name of a code, or nothing for a number that is none.
 abbrev pub code_name : ℕ → List ℕ
 code_name n =
@@ -35,4 +44,7 @@ code_name n =
     if n == MEMORY then codes "out of memory" else
     if n == CLOSED then codes "closed handle" else
     if n == NONE then codes "nothing there" else
-    if n == RANGE then codes "number out of range" else []
+    if n == RANGE then codes "number out of range" else
+    if n == URL_BYTES then codes "too many bytes of URLs" else
+    if n == NOT_BASE64 then codes "not base64" else
+    if n == NOT_UTF8 then codes "not UTF-8" else []

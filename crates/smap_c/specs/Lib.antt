@@ -3,6 +3,7 @@ pub mod Codes
 pub mod FaultCodes
 pub mod Faults
 pub mod Handles
+pub mod Links
 pub mod Lists
 pub mod Lookups
 pub mod Maps

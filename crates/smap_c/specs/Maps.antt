@@ -1,5 +1,5 @@
 -- What the calls that open, share, compare and count maps come to.
-use Rattle.std.specs.Prelude.{ℕ, ◌≤◌, ◌==◌, if◌then◌else◌, ◌≡◌, ◌⊎◌, List, Option, Some, None, Result, Ok}
+use Rattle.std.specs.Prelude.{ℕ, ◌≤◌, ◌<◌, ◌==◌, if◌then◌else◌, ◌≡◌, ◌⊎◌, List, Option, Some, None, Result, Ok}
 use Rattle.std.specs.Prelude.{Err, IsErr, IsUtf8, ◌↔◌, Bool, IsTrue, length, map}
 use Rattle.smap_vlq.specs.Limits.{max_position}
 use Rattle.smap_mappings.specs.Limits.{max_lines}
@@ -8,6 +8,7 @@ use Rattle.url.specs.Parts.{Parts}
 use Rattle.url.specs.Parser.{parse_url}
 use Rattle.smap_record.specs.Reading.{reading}
 use Rattle.smap_record.specs.Written.{as_written, url_of}
+use Rattle.smap_record.specs.UrlBytes.{url_bytes}
 use Rattle.smap_mappings.specs.Text.{line_count}
 use Rattle.smap_c.specs.declared.maps.SmapLimits.{SmapLimits}
 use Rattle.smap_c.specs.Faults.{fault_told}
@@ -76,6 +77,50 @@ abbrev pub OpensInto : List ℕ → List ℕ → SmapLimits → Option Opened �
     → ℕ → Type 0
 OpensInto bytes base limits old new before after code =
     (r : Result Opened OpenFault) × Opens bytes base limits r × HandleTold r old new before after code
+
+-- ---- opening within a number of bytes
+
+-- The same, but if the sources take more bytes than they may, that is what it comes to, before the map's
+-- fault.
+abbrev pub OpensWithin : List ℕ → List ℕ → SmapLimits → ℕ → Result (Option Opened) OpenFault → Type 0
+OpensWithin bytes base limits most (Ok (Some m)) =
+    Opens bytes base limits (Ok m) × (url_bytes m.base (as_written bytes) ≤ most)
+OpensWithin bytes base limits most (Ok None) =
+    (p : Parts) × MayOpen base limits × (parse_url None base ≡ Ok p)
+    × (most < url_bytes p (as_written bytes))
+OpensWithin bytes base limits most (Err (faults.Refused f)) =
+    (p : Parts) × MayOpen base limits × (parse_url None base ≡ Ok p)
+    × (reading p (allowed limits) bytes ≡ Err f) × (url_bytes p (as_written bytes) ≤ most)
+OpensWithin bytes base limits most (Err faults.NotUrl) = Opens bytes base limits (Err faults.NotUrl)
+OpensWithin bytes base limits most (Err faults.Limits) = Opens bytes base limits (Err faults.Limits)
+OpensWithin bytes base limits most (Err faults.Memory) = Unit {0}
+
+-- the handle has the map, or is as it was
+abbrev pub HandleWithin : Result (Option Opened) OpenFault → Option Opened → Option Opened → SmapFault
+    → SmapFault → ℕ → Type 0
+HandleWithin (Ok (Some m)) old new before after code = HandleTold (Ok m) old new before after code
+HandleWithin (Ok None) old new before after code =
+    (code ≡ codes.URL_BYTES) × (after ≡ before) × (new ≡ old)
+HandleWithin (Err fault) old new before after code = HandleTold (Err fault) old new before after code
+
+-- for private contracts: the same against a base that was parsed, with what is allowed
+abbrev pub OpensAgainst : List ℕ → Parts → Allowed → ℕ → Result (Option Opened) OpenFault → Type 0
+OpensAgainst bytes p limits most (Ok (Some m)) =
+    (m.base ≡ p) × (reading m.base limits bytes ≡ Ok m.map) × IsWritten bytes m
+    × (url_bytes m.base (as_written bytes) ≤ most)
+OpensAgainst bytes p limits most (Ok None) = most < url_bytes p (as_written bytes)
+OpensAgainst bytes p limits most (Err (faults.Refused f)) =
+    (reading p limits bytes ≡ Err f) × (url_bytes p (as_written bytes) ≤ most)
+OpensAgainst bytes p limits most (Err faults.NotUrl) = ⊥
+OpensAgainst bytes p limits most (Err faults.Limits) = ⊥
+OpensAgainst bytes p limits most (Err faults.Memory) = Unit {0}
+
+-- The handle has the map that the definition gives, or is as it was, and the code and the fault say why.
+abbrev pub OpensIntoWithin : List ℕ → List ℕ → SmapLimits → ℕ → Option Opened → Option Opened → SmapFault
+    → SmapFault → ℕ → Type 0
+OpensIntoWithin bytes base limits most old new before after code =
+    (r : Result (Option Opened) OpenFault) × OpensWithin bytes base limits most r
+    × HandleWithin r old new before after code
 
 -- ---- a second handle, two maps, and how much a map holds
 

@@ -36,7 +36,7 @@ fn or_usual(limit: u32) -> u32
 }
 
 /// The limits that are asked for, unless they are too large.
-fn limits_of(asked: &SmapLimits) -> Option<Limits>
+pub(crate) fn limits_of(asked: &SmapLimits) -> Option<Limits>
     ensures valid { IsSome result ↔ AreLimits asked.now }
     ensures value { IfSome result (λ l. l ≡ allowed asked.now) }
 {

@@ -1,5 +1,5 @@
 //! Strings that go out into a buffer of the caller's.
-ghost use Rattle.std.specs.Prelude.{◌≡◌, length, option_copied};
+ghost use Rattle.std.specs.Prelude.{◌≡◌, length, option_copied, option_map};
 ghost use Rattle.smap_c.specs.Strings.{copied, TextTold};
 
 use crate::codes::{NONE, OK};
@@ -13,6 +13,22 @@ pub(crate) fn copy_out<T: Copy>(text: &[T], out: &mut [T]) -> usize
     let n = text.len().min(out.len());
     out[..n].copy_from_slice(&text[..n]);
     text.len()
+}
+
+/// Copies bytes out, where there are some.
+pub(crate) fn tell_bytes(text: Option<&[u8]>, out: &mut [u8], len: &mut usize) -> u32
+    ensures { TextTold (option_map (λ t. t.now) text.entry) out.old out.new len.new result }
+{
+    match text {
+        Some(text) => {
+            *len = copy_out(text, out);
+            OK
+        }
+        None => {
+            *len = 0;
+            NONE
+        }
+    }
 }
 
 /// Copies a text out, where there is one.

@@ -1,0 +1,18 @@
+use Rattle.std.proofs.Common.{◌≡◌, ◌∙◌, ◌⊎◌, inl, inr, ⊎_elim, ap, sym, ℕ, List, Option, Err}
+use Rattle.std.specs.Prelude.{Result}
+use Rattle.smap_c.specs.Links.{Answer, data_answer, data_code}
+use Rattle.smap_c.proofs.links.data_of.Goals as goal
+
+pub returns-in-Ok : goal.returns-in-Ok
+returns-in-Ok c =
+    let d = c.in-Ok.ensures.value in
+    (d.0, d.1, inl (ap data_answer d.2))
+
+pub returns-in-Err : goal.returns-in-Err
+returns-in-Err c =
+    let d = c.in-Err.ensures.fault in (
+      d.0,
+      d.1,
+      ⊎_elim (λ memory. inr (ap (λ (n : ℕ). Err n) (c.data_code.ensures ∙ ap data_code memory)))
+          (λ is. inl (ap (λ (n : ℕ). Err n) c.data_code.ensures ∙ sym (ap data_answer is))) d.2,
+    )

@@ -1,0 +1,15 @@
+pub mod Alike
+pub mod Choice
+pub mod Comment
+pub mod CommentView
+pub mod Ends
+pub mod Inline
+pub mod Laws
+pub mod Likeness
+pub mod Names
+pub mod Paths
+pub mod Resolved
+pub mod Table
+pub mod Tails
+pub mod Urls
+pub mod White

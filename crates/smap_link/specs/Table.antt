@@ -1,0 +1,27 @@
+-- For private contracts: the first places of texts in a list, as a table.
+use Rattle.std.specs.Prelude.{◌≡◌, ℕ, ◌+◌, List, [], ◌∷◌, ◌++◌, cond, map, Option, Some, None, is_some}
+use Rattle.std.specs.Global.{Vec}
+use Rattle.std.specs.Str.{bytes_eq}
+use Rattle.smap_link.specs.Choice.{first_of}
+
+abbrev pub Row : Type 0
+Row = List ℕ × ℕ
+
+abbrev pub row_of : Vec ℕ × ℕ → Row
+row_of e = (e.0.items, e.1)
+
+abbrev pub rows_of : List (Vec ℕ × ℕ) → List Row
+rows_of es = map row_of es
+
+-- the place beside a text
+abbrev pub place_in : List Row → List ℕ → Option ℕ
+place_in [] text = None
+place_in (row ∷ rows) text = cond (bytes_eq text row.0) (Some row.1) (place_in rows text)
+
+-- with a row more, if the text has none yet
+abbrev pub with_place : List Row → List ℕ → ℕ → List Row
+with_place rows text i = cond (is_some (place_in rows text)) rows (rows ++ (text, i) ∷ [])
+
+-- The table has the first places of these texts.
+abbrev pub HasPlaces : List Row → List (List ℕ) → Type 0
+HasPlaces rows texts = (text : List ℕ) → place_in rows text ≡ first_of text texts

@@ -1,0 +1,82 @@
+//! Names of one script that differ in spelling.
+ghost use Rattle.std.specs.Prelude.{◌≡◌, ◌++◌, IfOk, codes, not, ◌&&◌, string_bytes};
+ghost use Rattle.smap_link.specs.Alike as spec;
+
+use crate::encoding::{url_of, utf8};
+use crate::inline::bytes_of;
+use crate::paths::has_drive;
+use std::alloc::{AllocError, Global};
+use url::{ParseError, Position, Url};
+
+/// The URL of a script: the name itself, or the file: URL of a path.
+///
+/// # Errors
+///
+/// `AllocError`.
+pub fn own_url(alloc: Global, name: &[u8]) -> Result<Vec<u8>, AllocError>
+    ensures { IfOk result (λ url. url.items ≡ spec.own_url name.now) }
+{
+    match url_of(alloc, name)? {
+        Some(url) => Ok(url.into_bytes()),
+        None => Vec::from_slice(alloc, name),
+    }
+}
+
+/// A path with its drive in small.
+fn with_small_drive(path: Vec<u8>) -> Vec<u8>
+    ensures { result.items ≡ spec.with_small_drive path.items }
+{
+    let mut path = path;
+    if has_drive(&path) {
+        path[1] = path[1].to_ascii_lowercase();
+    }
+    path
+}
+
+fn is_local_file(url: &Url) -> bool
+    ensures { result ≡ spec.is_local_file url.now }
+{
+    url.scheme() == "file" && !url.has_host()
+}
+
+fn form_of_url(alloc: Global, url: &Url) -> Result<Vec<u8>, AllocError>
+    ensures { IfOk result (λ form. form.items ≡ spec.form_of_url url.now) }
+{
+    if is_local_file(url) {
+        let path = bytes_of(alloc, url.path().as_bytes())?;
+        return Ok(with_small_drive(path));
+    }
+    Vec::from_slice(
+        alloc,
+        url.slice(Position::BeforeScheme, Position::AfterPath)
+            .as_bytes(),
+    )
+}
+
+fn form_of(alloc: Global, url: &[u8]) -> Result<Vec<u8>, AllocError>
+    ensures { IfOk result (λ form. form.items ≡ spec.form_of url.now) }
+{
+    let Some(text) = utf8(url) else {
+        return Vec::from_slice(alloc, url);
+    };
+    match Url::parse(alloc, text) {
+        Ok(parsed) => form_of_url(alloc, &parsed),
+        Err(ParseError::OutOfMemory | ParseError::Overflow) => Err(AllocError),
+        Err(_) => Vec::from_slice(alloc, url),
+    }
+}
+
+/// What all names of a script have in common: two names are alike if this is the same for both. They may
+/// differ in the query, the fragment, the default port, the capitals of the host, in being a path or its
+/// file: URL, in percent escapes of a file: URL, and in the case of the drive. A name that is no URL is alike
+/// to itself alone.
+///
+/// # Errors
+///
+/// `AllocError`.
+pub fn normal_form(alloc: Global, name: &[u8]) -> Result<Vec<u8>, AllocError>
+    ensures { IfOk result (λ form. form.items ≡ spec.normal_form name.now) }
+{
+    let url = own_url(alloc, name)?;
+    form_of(alloc, &url)
+}

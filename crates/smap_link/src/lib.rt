@@ -1,0 +1,37 @@
+//! The rules that tie a script to its map: the map that a script names, the URLs of files, which names of
+//! scripts are alike, and which map belongs to which script. They work on bytes, and open no file. In prose
+//! they stand in `docs/LINKING.md`.
+//!
+//! The functions and their clauses are stable: `map_url`, `css_map_url`, `inline_map`, `resolved`,
+//! `file_url`, `file_path`, `script_url`, `script_name`, `normal_form`, `most_alike`, `common_tail`,
+//! `script_of_map` and `choose`.
+#![tactic(auto)]
+
+mod alike;
+mod choice;
+mod comment;
+mod encoding;
+mod ends;
+mod inline;
+pub mod laws;
+mod likeness;
+mod names;
+mod paths;
+mod resolve;
+mod table;
+mod tails;
+#[cfg(test)]
+mod tests;
+mod white;
+
+pub use alike::{normal_form, own_url};
+pub use choice::{Choice, ChoiceFault, choose};
+pub use comment::{css_map_url, map_url};
+pub use encoding::{IN_PATH, PathFault, file_url, is_path, script_url};
+pub use ends::script_of_map;
+pub use inline::{InlineFault, inline_map};
+pub use likeness::{Likeness, most_alike};
+pub use names::{is_below, script_name};
+pub use paths::{bare, file_path};
+pub use resolve::{LinkFault, resolved};
+pub use tails::common_tail;
