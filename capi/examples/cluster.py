@@ -19,6 +19,7 @@ import os
 import shutil
 import sys
 import tempfile
+import uuid
 from pathlib import Path
 
 import dask
@@ -43,11 +44,13 @@ class HasStore(WorkerPlugin):
 
 @contextlib.contextmanager
 def written_whole(path, room):
-    """A file that is written elsewhere first, so that it is there whole or not at all."""
-    handle, made = tempfile.mkstemp(dir=room)
-    with open(handle, "wb") as out:
+    """A file that is written elsewhere first, so that it is there whole or not at all.
+
+    Who may read it is what the umask says, as for any new file.
+    """
+    made = os.path.join(room, uuid.uuid4().hex)
+    with open(made, "xb") as out:
         yield out
-    os.chmod(made, 0o644)
     os.replace(made, path)
 
 
@@ -77,6 +80,11 @@ def added(told):
     """The sum of some counts, and all of some faults."""
     faults = {script: fault for _, some in told for script, fault in some.items()}
     return sum((counts for counts, _ in told), smap.StoreCounts()), faults
+
+
+def shown(text):
+    """A text for a terminal, which would take some characters as commands."""
+    return "".join(char if char.isprintable() else ascii(char)[1:-1] for char in text)
 
 
 def tasks(logs, out, room, block):
@@ -124,7 +132,7 @@ def main():
         counts, faults = translate(words, client)
     print(f"\n{counts}")
     for script, fault in faults.items():
-        print(f"cluster: {script}: {fault}", file=sys.stderr)
+        print(shown(f"cluster: {script}: {fault}"), file=sys.stderr)
     sys.exit(1 if faults else 0)
 
 

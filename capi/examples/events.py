@@ -62,6 +62,11 @@ def holders_of_stacks(event):
             left.extend(inner for name, inner in value.items() if name != "raw_stacktrace")
 
 
+def shown(text):
+    """A text for a terminal, which would take some characters as commands."""
+    return "".join(char if char.isprintable() else ascii(char)[1:-1] for char in text)
+
+
 def translated(event, store):
     """Whether a frame of the event was translated, in place."""
     changed = False
@@ -90,7 +95,7 @@ def main():
         sys.stdout.buffer.write(line)
         sys.stdout.buffer.flush()
     for script, fault in store.broken.items():
-        print(f"events: {script}: {fault}", file=sys.stderr)
+        print(shown(f"events: {script}: {fault}"), file=sys.stderr)
     print(f"events: {store.counts}", file=sys.stderr)
     sys.exit(1 if bad or store.broken else 0)
 

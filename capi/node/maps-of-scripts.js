@@ -4,6 +4,8 @@ const fs = require('node:fs');
 const { debuglog } = require('node:util');
 const { fileURLToPath, pathToFileURL } = require('node:url');
 const { SourceMap } = require('./index.js');
+const { mappingURL } = require('./mapping-url.js');
+const { isOfPackage } = require('./packages.js');
 
 const debug = debuglog('smap');
 
@@ -43,41 +45,25 @@ const isURL = name => /^[A-Za-z][A-Za-z0-9+.-]+:/.test(name);
 
 // A pipe or a device isn't read: the process would wait for it.
 function readDisk(name) {
-  const file = name.startsWith('file:') ? new URL(name) : name;
-  return fs.statSync(file).isFile() ? fs.readFileSync(file, 'utf8') : '';
-}
-
-function readFile(name) {
-  if (files.has(name)) return files.get(name);
-  for (const call of fileHooks.calls) {
-    const text = call(name);
-    if (text) return text;
-  }
-  if (fileHooks.only || (isURL(name) && !name.startsWith('file:'))) return '';
+  if (isURL(name) && !name.startsWith('file:')) return '';
   try {
-    return readDisk(name);
+    const file = name.startsWith('file:') ? new URL(name) : name;
+    return fs.statSync(file).isFile() ? fs.readFileSync(file, 'utf8') : '';
   } catch {
     return '';
   }
 }
 
-// The last such comment that is alone at the end of a line counts.
-const COMMENT = new RegExp(
-  '//[@#]\\s*sourceMappingURL=([^\\s\'"]+)\\s*$' +
-  '|/\\*[@#]\\s*sourceMappingURL=([^\\s*\'"]+)\\s*\\*/\\s*$', 'gm');
-
-function lastComment(text) {
-  let last = null;
-  for (const match of text.matchAll(COMMENT)) last = match[1] ?? match[2];
-  return last;
+// What the hooks have in place of the disk, or null.
+function hooked(name) {
+  for (const call of fileHooks.calls) {
+    const text = call(name);
+    if (text) return text;
+  }
+  return fileHooks.only ? '' : null;
 }
 
-// The comment is near the end, and a file may be large.
-function mappingURL(text) {
-  const from = text.lastIndexOf('sourceMappingURL=');
-  if (from < 0) return null;
-  return lastComment(text.slice(Math.max(0, text.lastIndexOf('\n', from)))) ?? lastComment(text);
-}
+const readFile = name => files.get(name) ?? hooked(name) ?? readDisk(name);
 
 const DATA = /^data:([^,]*?)(;base64)?,(.*)$/s;
 
@@ -103,11 +89,16 @@ function retrieveSourceMap(script) {
   return map ? { url: name, map } : null;
 }
 
-// A source is named like its script: by a path beside a path, else by its URL.
+// What a terminal obeys, or a reader takes for the end of a line.
+const CONTROL = /[\p{Cc}\p{Zl}\p{Zp}\p{Bidi_Control}]/gu;
+
+// A source is named like its script: by a path beside a path, else by its URL. Where the path has control
+// characters, the URL stands too, which has none.
 function named(url, base) {
   if (url === null || !url.startsWith('file:') || isURL(base)) return url;
   try {
-    return fileURLToPath(url);
+    const name = fileURLToPath(url);
+    return name.search(CONTROL) < 0 ? name : url;
   } catch {
     return url;
   }
@@ -147,15 +138,27 @@ function originalOf({ source, line, column }) {
   };
 }
 
-/** The text of a source that a map lists, from the map or the disk; or null. */
-function contentOf(source) {
-  for (const known of maps.values()) {
+// The text of a source that its map doesn't have. What the hooks have under a script's own name is what was
+// compiled, and not its source.
+function textOf(source, script) {
+  const text = source === script ? null : hooked(source);
+  if (text !== null) return text;
+  return !fileHooks.only && isOfPackage(source, script) ? readDisk(source) : '';
+}
+
+// A tab stays, as in what Node prints.
+const shown = line => line.replace(CONTROL, one => (one === '\t' ? one : '\ufffd'));
+
+/** A line of a source that a script's map lists, counted from 1, without control characters; or null. */
+function lineOf(source, line) {
+  for (const [script, known] of maps) {
     const i = known ? known.names.indexOf(source) : -1;
-    if (i >= 0) return known.map.content(i) ?? (readFile(source) || null);
+    const text = i < 0 ? '' : known.map.content(i) ?? textOf(source, script);
+    if (text) return shown(text.split(/\r\n|\r|\n/)[line - 1] ?? '') || null;
   }
   return null;
 }
 
 module.exports = {
-  forget, hookFiles, hookMaps, unhook, putFile, retrieveSourceMap, originalOf, contentOf, debug,
+  forget, hookFiles, hookMaps, unhook, putFile, retrieveSourceMap, originalOf, lineOf, debug,
 };

@@ -59,7 +59,7 @@ def started(room, name, *words):
     with open(room / f"{name}.said", "wb") as said:
         return subprocess.Popen(
             [sys.executable, "-B", "-m", f"distributed.cli.dask_{name.rstrip('12')}", *words],
-            stdout=said, stderr=said, cwd=room, start_new_session=True,
+            stdout=said, stderr=said, cwd=room, start_new_session=True, umask=0o027,
             env={**os.environ, "PYTHONPATH": str(TOP / "capi" / "python")},
         )
 
@@ -131,8 +131,11 @@ def check(room, lines):
         problems.append(f"the broken map isn't told of: {running.returncode} {said[-2000:]}")
     if f"StoreCounts(lines={lines}, " not in told:
         problems.append(f"not {lines} lines: {told[-300:]}")
-    if len(list((room / "out").iterdir())) != FILES:
+    results = list((room / "out").iterdir())
+    if len(results) != FILES:
         problems.append("there are other files than the results")
+    if {path.stat().st_mode & 0o777 for path in results} != {0o640}:
+        problems.append("the results don't have the permissions of the workers' umask")
     return done, problems
 
 

@@ -1,9 +1,14 @@
 """Tests of the finders of the Python module: which file has the map of a script."""
 
+import errno
 import os
 import pickle
+import random
+import stat
 import sys
 import tempfile
+import threading
+import time
 import unittest
 from pathlib import Path
 from types import SimpleNamespace
@@ -11,8 +16,13 @@ from unittest import mock
 
 sys.path.insert(0, str(Path(__file__).resolve().parent.parent / "python"))
 import smap  # noqa: E402
+from smap.finders import Beginnings  # noqa: E402
 
 MAP = b'{"version":3,"sources":["a.js"],"mappings":"AAUE,IAEA"}'
+
+
+def status(size, changed):
+    return SimpleNamespace(st_size=size, st_mtime_ns=changed, st_mode=stat.S_IFREG)
 
 
 class FoldersTest(unittest.TestCase):
@@ -124,7 +134,7 @@ class FoldersTest(unittest.TestCase):
     def test_a_file_that_changes_while_it_is_read_is_read_again(self):
         times = iter([1, 2, 2, 2])
         size = len(MAP)
-        with mock.patch("os.fstat", lambda _: SimpleNamespace(st_size=size, st_mtime_ns=next(times))):
+        with mock.patch("os.fstat", lambda _: status(size, next(times))):
             self.assertEqual(smap.Folders({"http://h/": self.dist})("http://h/out.js").data, MAP)
         self.assertEqual(list(times), [])
 
@@ -132,9 +142,72 @@ class FoldersTest(unittest.TestCase):
         times = iter(range(6))
         size = len(MAP)
         store = smap.Store({"http://h/": self.dist})
-        with mock.patch("os.fstat", lambda _: SimpleNamespace(st_size=size, st_mtime_ns=next(times))):
+        with mock.patch("os.fstat", lambda _: status(size, next(times))):
             self.assertEqual(store.translate("@http://h/out.js:1:1"), "@http://h/out.js:1:1")
         self.assertRegex(str(store.broken["http://h/out.js"]), "it changes while it is read: .*out.js.map")
+
+    def test_a_file_that_is_too_large_for_a_map_is_not_read(self):
+        os.truncate(self.put("dist/large.js"), 20 << 30)
+        store = smap.Store({"http://h/": self.dist})
+        self.assertEqual(store.translate("@http://h/large.js:1:1"), "@http://h/large.js:1:1")
+        fault = store.broken["http://h/large.js"]
+        self.assertIsInstance(fault, OSError)
+        self.assertEqual((fault.errno, fault.filename), (errno.EFBIG, str(self.dist / "large.js.map")))
+        self.assertIn("a map of more than 268435456 bytes", str(fault))
+
+    def test_the_bound_on_files_may_be_another(self):
+        places, script, less = {"http://h/": self.dist}, "http://h/out.js", len(MAP) - 1
+        small, store = smap.Folders(places, map_bytes=less), smap.Store(places, map_bytes=less)
+        for call in (small, pickle.loads(pickle.dumps(small))):
+            with self.assertRaisesRegex(OSError, f"a map of more than {less} bytes"):
+                call(script)
+        self.assertIsNone(store.lookup(script, 0, 0))
+        self.assertEqual(store.broken[script].filename, str(self.dist / "out.js.map"))
+        self.assertEqual(smap.Folders(places, map_bytes=len(MAP))(script).data, MAP)
+        with self.assertRaisesRegex(ValueError, "map_bytes is below 0"):
+            smap.Folders(places, map_bytes=-1)
+
+    def test_what_is_no_file_is_neither_waited_for_nor_read(self):
+        os.mkfifo(self.room / "pipe")
+        for place in (self.room / "pipe", "/dev/zero"):
+            store = smap.Store({"http://h/out.js": place})
+            thread = threading.Thread(target=store.lookup, args=("http://h/out.js", 0, 0), daemon=True)
+            thread.start()
+            thread.join(60)
+            self.assertIn("no regular file", str(store.broken["http://h/out.js"]))
+
+    def test_a_script_without_a_map_costs_a_question_or_none(self):
+        find = smap.Folders({"http://h/": self.dist, "http://h/m/": self.dist})
+        with mock.patch("os.path.realpath") as realpath, mock.patch("os.stat", wraps=os.stat) as asked:
+            for script, times in [("http://x/a.js", 0), ("http://h/..", 0), ("http://h/no.js", 1)]:
+                asked.reset_mock()
+                self.assertIsNone(find(script))
+                self.assertEqual(asked.call_count, times, script)
+            realpath.assert_not_called()
+
+    def test_many_names_are_found_at_about_the_cost_of_one(self):
+        for number in range(199):
+            self.put("dist/" + "x" * number + ".js")
+        single = {f"http://h/{'y' * number}.js": self.dist / "out.js.map" for number in range(199)}
+        for places in ({"http://h/": self.dist}, single):
+            find = smap.Folders(places)
+            start = time.thread_time()
+            self.assertEqual(list(find.named_in(b"http://h/" * 110_000)), [])
+            self.assertLess(time.thread_time() - start, 2)
+
+    def test_names_that_a_text_begins_with_are_all_found(self):
+        dice = random.Random(1)
+        for _ in range(3_000):
+            names = {bytes(dice.choices(b"ab/", k=dice.randrange(1, 6))) for _ in range(dice.randrange(9))}
+            text, found = bytes(dice.choices(b"ab/", k=dice.randrange(8))), {}
+            Beginnings(names).of(text, found)
+            self.assertEqual(set(found), {name for name in names if text.startswith(name)}, (names, text))
+
+    def test_scripts_of_any_form_are_found_in_a_text(self):
+        scripts = ["http://h/a.js", "http://h/a.js.b", "u", "C:\\x\\y.js", "/,/,/z", "http://h/\ud800"]
+        find = smap.Folders({script: self.dist / "out.js.map" for script in scripts})
+        found = set(find.named_in(b"x http://h/a.js.b:1:1 C:\\x\\y.js /,/,/,/z http://h/"))
+        self.assertEqual(found, {"http://h/a.js", "http://h/a.js.b", "C:\\x\\y.js", "/,/,/z"})
 
     def test_positions_anywhere_are_those_of_scripts_with_a_map(self):
         self.put("dist/out.js/deep.js")

@@ -3,6 +3,7 @@
 import copy
 import json
 import os
+import resource
 import subprocess
 import sys
 import tempfile
@@ -104,6 +105,26 @@ class FramesTest(unittest.TestCase):
         self.assertEqual(self.store.frames(sent), sent)
         self.assertEqual([at["lineno"] for at in self.store.frames(sent, ignore_query=True)], [3, 3])
 
+    def test_few_scripts_are_asked_for_however_many_marks_a_url_has(self):
+        url = U + "?a" * 10_000
+        (told,) = self.store.frames([frame(1, script=url)], ignore_query=True)
+        self.assertEqual(self.asked, [url, url[:-2], url[:-4], U])
+        self.assertEqual(told["abs_path"], "http://h/m/src/a.ts")
+        (told,) = self.store.frames([frame(1, script=V + "?" * 10_000)], ignore_query=True)
+        self.assertEqual(told["abs_path"], "http://h/m/src/a.ts")
+
+    def test_a_query_of_a_frame_may_have_any_marks(self):
+        for query in ["?u=http://x/y.js?z=1", "?a:b", "?a#b?c#d", "#a?b", "?", "#", "?#"]:
+            (told,) = self.store.frames([frame(1, script=U + query)], ignore_query=True)
+            self.assertEqual(told["abs_path"], "http://h/m/src/a.ts", query)
+
+    def test_numbers_below_nothing_are_refused(self):
+        with self.assertRaisesRegex(ValueError, "context is below 0"):
+            self.store.frames([frame(1)], -1)
+        for line in ("ab", "\U0001d4b3"):
+            with self.assertRaisesRegex(ValueError, "column is below 0"):
+                smap.code_point(line, -1)
+
     def test_columns_are_utf_16_units(self):
         line = "\U0001d4b3 + x"
         rows = [(0, 0), (1, 0), (2, 1), (5, 4), (6, 5), (7, 5), (100, 5)]
@@ -113,12 +134,13 @@ class FramesTest(unittest.TestCase):
 
 
 class EventsTest(unittest.TestCase):
-    def events(self, *lines):
+    def events(self, *lines, url="http://h/m/"):
         """What the example writes, says and ends with."""
         with tempfile.TemporaryDirectory() as folder:
             Path(folder, "u.js.map").write_text(json.dumps(MAP))
             Path(folder, "broken.js.map").write_text("{}")
-            words = [sys.executable, "-B", str(EVENTS), f"http://h/m/={folder}"]
+            Path(folder, "\x1b]0;x\x07\x9b\u202e.map").write_text("{}")
+            words = [sys.executable, "-B", str(EVENTS), f"{url}={folder}"]
             done = subprocess.run(words, input=b"\n".join(lines), capture_output=True, check=False)
         return done.stdout.split(b"\n"), done.stderr.decode(), done.returncode
 
@@ -158,11 +180,29 @@ class EventsTest(unittest.TestCase):
         for number, (line, reason) in enumerate(rows, 1):
             self.assertRegex(said, f"(?m)^events: line {number} is left as it is: .*{reason}")
 
+    def test_a_url_of_many_marks_takes_little_time_and_memory(self):
+        def bounded():
+            resource.setrlimit(resource.RLIMIT_AS, (1 << 30, 1 << 30))
+            resource.setrlimit(resource.RLIMIT_CPU, (20, 20))
+
+        line = json.dumps({"stacktrace": {"frames": [frame(2, script=U + "?" * 80_000)]}}).encode()
+        with tempfile.TemporaryDirectory() as folder:
+            Path(folder, "u.js.map").write_text(json.dumps(MAP))
+            words = [sys.executable, "-B", str(EVENTS), f"http://h/m/={folder}"]
+            done = subprocess.run(words, input=line, capture_output=True, check=False, preexec_fn=bounded)
+        self.assertEqual((done.returncode, b"src/a.ts" in done.stdout), (0, True), done.stderr[-1000:])
+
     def test_a_broken_map_is_told_of(self):
         line = json.dumps({"stacktrace": {"frames": [frame(2, script="http://h/m/broken.js")]}}).encode()
         told, said, status = self.events(line)
         self.assertEqual((told, status), ([line], 1))
         self.assertIn("events: http://h/m/broken.js: version\n", said)
+
+    def test_a_terminal_gets_no_commands(self):
+        sent = {"stacktrace": {"frames": [frame(2, script="/app/\x1b]0;x\x07\x9b\u202e")]}}
+        _, said, status = self.events(json.dumps(sent).encode(), url="/app/")
+        self.assertIn("events: /app/\\x1b]0;x\\x07\\x9b\\u202e: version\n", said)
+        self.assertEqual(status, 1)
 
 
 unittest.main()

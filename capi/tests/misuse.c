@@ -61,7 +61,7 @@ static void buffers(smap_map *map)
     CHECK(smap_name_at(map, 0, 1, room, 0, &len) == SMAP_OK && len == 1 && room[0] == 'x');
     CHECK(smap_code_name(SMAP_MEMORY, room, 3) == 13 && memcmp(room, "out.js", 6) == 0);
     CHECK(smap_code_name(SMAP_NONE + 100, NULL, 0) == 0);
-    for (uint32_t code = SMAP_OK; code <= SMAP_RANGE; code++) CHECK(smap_code_name(code, NULL, 0) > 3);
+    for (uint32_t code = SMAP_OK; code <= SMAP_NOT_UTF8; code++) CHECK(smap_code_name(code, NULL, 0) > 3);
     CHECK(smap_fault_name(SMAP_FAULT_OVERLAP, room, sizeof room) == 7 && memcmp(room, "Overlap", 7) == 0);
     CHECK(smap_fault_name(SMAP_FAULT_SOURCE_URL, room, 3) == 9 && memcmp(room, "Sourlap", 7) == 0);
     CHECK(smap_fault_name(0, NULL, 0) == 0 && smap_fault_name(SMAP_FAULT_NAME + 1, NULL, 0) == 0);
@@ -174,6 +174,82 @@ static void faults(void)
     smap_bytes_free(&bytes);
 }
 
+/* Opens a map whose sources may take so many bytes. */
+static uint32_t open_within(smap_map *map, const char *words, size_t url_bytes, smap_fault *fault)
+{
+    return smap_open_within(map, words, strlen(words), base, strlen(base), NULL, url_bytes, fault);
+}
+
+/* How many bytes the sources take together, which is known by hand: one less, and the map isn't opened. */
+static void bytes_of_urls(void)
+{
+    static const struct {
+        const char *text;
+        size_t bytes;
+    } rows[] = {
+        {"{\"version\":3,\"mappings\":\"\"}", 0},
+        {"{\"version\":3,\"sources\":[null,null],\"sourceRoot\":\"r\",\"mappings\":\"\"}", 0},
+        /* http://h/m/a.js, twice */
+        {"{\"version\":3,\"sources\":[\"a.js\",\"a.js\"],\"mappings\":\"\"}", 30},
+        /* http://h/m/r/%20x and http://h/m/r/%C3%BC */
+        {"{\"version\":3,\"sources\":[\" x\",\"\xc3\xbc\"],\"sourceRoot\":\"r\",\"mappings\":\"\"}",
+         17 + 19},
+        /* 27 bytes that lead to http://h/m/a.js */
+        {"{\"version\":3,\"sources\":[\"../../x/../x/../x/../m/a.js\"],\"mappings\":\"\"}", 27},
+        /* http://h/m/r/a.js in one section, http://h/m/b.js in two of the other */
+        {"{\"version\":3,\"sections\":[{\"offset\":{\"line\":0,\"column\":0},\"map\":{\"version\":3,"
+         "\"sourceRoot\":\"r\",\"sources\":[\"a.js\",null],\"mappings\":\"\"}},"
+         "{\"offset\":{\"line\":1,\"column\":0},\"map\":{\"version\":3,\"sections\":["
+         "{\"offset\":{\"line\":0,\"column\":0},\"map\":{\"version\":3,\"sources\":[\"b.js\"],"
+         "\"mappings\":\"\"}},{\"offset\":{\"line\":1,\"column\":0},\"map\":{\"version\":3,"
+         "\"sources\":[\"b.js\"],\"mappings\":\"\"}}]}}]}",
+         17 + 15 + 15},
+    };
+    const char late[] = "{\"version\":3,\"sources\":[\"a.js\"],\"mappings\":\"!\"}";
+    const smap_limits none = {1, 1};
+    smap_map map = {0};
+    smap_fault fault;
+    for (size_t i = 0; i < sizeof rows / sizeof *rows; i++) {
+        CHECK(open_within(&map, rows[i].text, rows[i].bytes, NULL) == SMAP_OK && map.is_open);
+        smap_close(&map);
+        if (rows[i].bytes == 0) continue;
+        CHECK(open_within(&map, rows[i].text, rows[i].bytes - 1, NULL) == SMAP_URL_BYTES && !map.is_open);
+        CHECK(open_within(&map, rows[i].text, 0, NULL) == SMAP_URL_BYTES);
+        CHECK(open_within(&map, rows[i].text, SIZE_MAX, NULL) == SMAP_OK);
+        smap_close(&map);
+    }
+    /* the bytes come before an error of the map, but not before one of its JSON */
+    memset(&fault, '.', sizeof fault);
+    CHECK(open_within(&map, late, 14, &fault) == SMAP_URL_BYTES && fault.text[0] == '.');
+    CHECK(open_within(&map, late, 15, &fault) == SMAP_REFUSED && fault.kind == SMAP_FAULT_CHARACTER);
+    CHECK(open_within(&map, "{", 0, &fault) == SMAP_REFUSED && fault.kind == SMAP_FAULT_JSON);
+    CHECK(smap_open_within(&map, text, strlen(text), base, strlen(base), &none, 0, NULL) == SMAP_URL_BYTES);
+    CHECK(smap_open_within(&map, text, strlen(text), base, strlen(base), &none, 45, &fault) == SMAP_REFUSED);
+    CHECK(fault.kind == SMAP_FAULT_TOO_MANY);
+    CHECK(smap_open_within(&map, NULL, 0, NULL, 0, NULL, 0, NULL) == SMAP_NOT_URL);
+    CHECK(open_text(&map, text, NULL) == SMAP_OK);
+    CHECK(open_within(&map, text, 44, NULL) == SMAP_URL_BYTES && map.is_open);
+    CHECK(open_within(&map, text, 45, NULL) == SMAP_OK && map.is_open);
+    smap_close(&map);
+}
+
+/* A map of half a megabyte whose URLs take eight gigabytes: they aren't made. */
+static void many_times_a_root(void)
+{
+    enum { ROOT = 200000, SOURCES = 40000 };
+    char *words = malloc(ROOT + 9 * SOURCES), *end = words;
+    smap_map map = {0};
+    if (!words) exit(3);
+    end += sprintf(end, "{\"version\":3,\"mappings\":\"\",\"sourceRoot\":\"");
+    memset(end, 'r', ROOT);
+    end += ROOT;
+    end += sprintf(end, "\",\"sources\":[\"0\"");
+    for (int i = 1; i < SOURCES; i++) end += sprintf(end, ",\"%d\"", i);
+    sprintf(end, "]}");
+    CHECK(open_within(&map, words, 1 << 20, NULL) == SMAP_URL_BYTES && !map.is_open);
+    free(words);
+}
+
 static void bytes_of(smap_map *map)
 {
     smap_bytes bytes = {0};
@@ -246,6 +322,62 @@ static void scripts_of(smap_map *map)
     smap_close_scripts(&scripts);
     CHECK(!scripts.is_open);
     smap_close(&other);
+    smap_bytes_free(&out);
+}
+
+static bool holds(smap_bytes *bytes, const char *text)
+{
+    const uint8_t *at;
+    size_t len;
+    return smap_bytes_data(bytes, &at, &len) == SMAP_OK && len == strlen(text) && memcmp(at, text, len) == 0;
+}
+
+#define STRING(text) text, strlen(text)
+
+static void links(void)
+{
+    smap_bytes out = {0};
+    char room[8] = ".......";
+    size_t len = 7;
+    bool flag = true;
+    CHECK(smap_script_link(STRING("f()\n//# sourceMappingURL=a.map\n\n"), false, room, 8, &len) == SMAP_OK);
+    CHECK(len == 5 && memcmp(room, "a.map..", 8) == 0);
+    CHECK(smap_script_link(STRING("/*# sourceMappingURL=a.css.map */"), true, room, 2, &len) == SMAP_OK);
+    CHECK(len == 9 && memcmp(room, "a.map..", 8) == 0);
+    CHECK(smap_script_link(STRING("//# sourceMappingURL=a.map"), true, room, 8, &len) == SMAP_NONE);
+    CHECK(len == 0);
+    CHECK(smap_script_link(NULL, 0, false, NULL, 0, NULL) == SMAP_NONE);
+    CHECK(smap_data_url(STRING("a.map"), &out) == SMAP_NONE && !out.is_open);
+    CHECK(smap_data_url(NULL, 0, &out) == SMAP_NONE && !out.is_open);
+    CHECK(smap_data_url(STRING("data:;base64,e30"), &out) == SMAP_OK && holds(&out, "{}"));
+    CHECK(smap_data_url(STRING("data:,%7b%7D%4"), &out) == SMAP_OK && holds(&out, "{}%4"));
+    CHECK(smap_data_url(STRING("data:;base64,e-_0"), &out) == SMAP_NOT_BASE64 && holds(&out, "{}%4"));
+    CHECK(smap_data_url(STRING("data:application/json"), &out) == SMAP_NOT_URL && holds(&out, "{}%4"));
+    CHECK(smap_file_url(STRING("/a b/x.js"), &out) == SMAP_OK && holds(&out, "file:///a%20b/x.js"));
+    CHECK(smap_file_url(STRING("x.js"), &out) == SMAP_NONE && smap_file_url(NULL, 0, &out) == SMAP_NONE);
+    CHECK(smap_file_url(STRING("/\xff"), &out) == SMAP_NOT_UTF8 && holds(&out, "file:///a%20b/x.js"));
+    CHECK(smap_file_path(STRING("file:///C:/a%20b.js"), &out) == SMAP_OK && holds(&out, "C:\\a b.js"));
+    CHECK(smap_file_path(STRING("http://h/a.js"), &out) == SMAP_NONE);
+    CHECK(smap_file_path(NULL, 0, &out) == SMAP_NONE);
+    CHECK(smap_file_path(STRING("file://h/a.js"), &out) == SMAP_NOT_URL);
+    CHECK(smap_file_path(STRING("file:///a%2Fb.js"), &out) == SMAP_NOT_URL);
+    CHECK(smap_file_path(STRING("file:///%ff"), &out) == SMAP_NOT_UTF8 && holds(&out, "C:\\a b.js"));
+    CHECK(smap_script_url(STRING("http://h/"), STRING("a b.js"), &out) == SMAP_OK);
+    CHECK(holds(&out, "http://h/a%20b.js"));
+    CHECK(smap_script_url(NULL, 0, NULL, 0, &out) == SMAP_OK && holds(&out, ""));
+    CHECK(smap_script_name(STRING("/s/"), STRING("/s/a b.js"), &out) == SMAP_OK && holds(&out, "a b.js"));
+    CHECK(smap_script_name(STRING("/s/"), STRING("/s/../b.js"), &out) == SMAP_NONE && holds(&out, "a b.js"));
+    CHECK(smap_script_name(NULL, 0, NULL, 0, &out) == SMAP_NONE);
+    CHECK(smap_resolve(STRING("http://h/m/a.js?x"), STRING("../a.map"), &out) == SMAP_OK);
+    CHECK(holds(&out, "http://h/a.map"));
+    CHECK(smap_resolve(STRING("a.js"), STRING("a.map"), &out) == SMAP_NOT_URL);
+    CHECK(smap_resolve(STRING("http://h/a.js"), STRING("\xff"), &out) == SMAP_NOT_UTF8);
+    CHECK(smap_resolve(NULL, 0, NULL, 0, &out) == SMAP_NOT_URL && holds(&out, "http://h/a.map"));
+    CHECK(smap_normal_form(STRING("HTTP://H:80/a.js?x#y"), &out) == SMAP_OK && holds(&out, "http://h/a.js"));
+    CHECK(smap_normal_form(NULL, 0, &out) == SMAP_OK && holds(&out, ""));
+    CHECK(smap_alike(STRING("/a.js"), STRING("file:///b.js"), &flag) == SMAP_OK && !flag);
+    CHECK(smap_alike(STRING("c:\\a.js"), STRING("file:///C:/a.js"), &flag) == SMAP_OK && flag);
+    CHECK(smap_alike(NULL, 0, NULL, 0, &flag) == SMAP_OK && flag);
     smap_bytes_free(&out);
 }
 
@@ -355,9 +487,12 @@ int main(void)
     bytes_of(&map);
     traces(&map);
     scripts_of(&map);
+    links();
     ways_of(&map);
     callers_with_bool(&map);
     faults();
+    bytes_of_urls();
+    many_times_a_root();
     CHECK(smap_share(&map, &other) == SMAP_OK && smap_same(&map, &other, &same) == SMAP_OK && same);
     CHECK(open_text(&other, "{\"version\":3,\"mappings\":\"\"}", NULL) == SMAP_OK);
     CHECK(smap_same(&map, &other, &same) == SMAP_OK && !same);

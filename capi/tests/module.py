@@ -1,5 +1,6 @@
 """Tests of the Python module."""
 
+import copy
 import pickle
 import re
 import sys
@@ -111,6 +112,46 @@ class ModuleTest(unittest.TestCase):
         for line, column in [(-1, 0), (0, -1), (1 << 32, 3), (0, (1 << 32) + 3)]:
             self.assertIsNone(self.map.find(line, column))
             self.assertIsNone(self.map.name_at(line, column))
+
+    def test_a_number_that_no_list_has_raises_what_a_list_raises(self):
+        for number in [3, -1, 1 << 31, 1 << 32, 1 << 63, 1 << 64, (1 << 64) + 1, 1 << 70, -(1 << 64)]:
+            for call in (self.map.url, self.map.content, self.map.source):
+                with self.assertRaisesRegex(IndexError, "number out of range", msg=number):
+                    call(number)
+        for call in (self.map.url, self.map.content, self.map.source):
+            with self.assertRaises(TypeError):
+                call(0.0)
+
+    def test_a_limit_is_no_other_number(self):
+        for words in [(1 << 32,), (0, 1 << 32), (1 << 64,), (0, (1 << 70) + 1)]:
+            with self.assertRaises(smap.Error, msg=words) as raised:
+                smap.Map.open(TEXT, BASE, *words)
+            self.assertEqual(raised.exception.code, 3)
+        for words, name in [((-1,), "items"), ((0, -1), "lines"), ((-(1 << 32),), "items")]:
+            with self.assertRaisesRegex(ValueError, f"{name} is below 0"):
+                smap.Map.open(TEXT, BASE, *words)
+        self.assertEqual(str(smap.Error(1 << 32)), "")
+
+    def test_the_urls_of_sources_have_a_bound(self):
+        # http://h/m/a.js, and http://h/m/b.js
+        for bound in (30, 1 << 63, 1 << 70, None):
+            with smap.Map.open(TEXT, BASE, url_bytes=bound) as opened:
+                self.assertTrue(opened.same(self.map))
+        for bound in (0, 29):
+            with self.assertRaisesRegex(smap.Error, "too many bytes of URLs") as raised:
+                smap.Map.open(TEXT, BASE, url_bytes=bound)
+            self.assertEqual(raised.exception.code, 8)
+        with self.assertRaisesRegex(ValueError, "url_bytes is below 0"):
+            smap.Map.open(TEXT, BASE, url_bytes=-1)
+
+    def test_what_owns_memory_of_the_library_has_no_copies(self):
+        with smap.Scripts({"u": self.map}) as scripts:
+            for owner in (self.map, scripts):
+                for call in (copy.copy, copy.deepcopy, pickle.dumps):
+                    with self.assertRaisesRegex(TypeError, f"cannot copy or pickle '{type(owner).__name__}'"):
+                        call(owner)
+            self.assertEqual(scripts.translate(b"@u:2:1")[0], b"@http://h/m/b.js:13:3")
+        self.assertEqual(self.map.url(0), "http://h/m/a.js")
 
     def test_two_maps_may_say_the_same(self):
         with smap.Map.open(self.map.canonical(), BASE) as tidied:

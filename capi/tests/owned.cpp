@@ -20,6 +20,9 @@ int main()
     smap_mapping found = smap_mapping();
     smap_fault fault;
     CHECK(smap::open(map, text, base) == SMAP_OK && map.is_open());
+    CHECK(smap::open_within(map, text, base, 14, &fault) == SMAP_URL_BYTES && map.is_open());
+    CHECK(smap::open_within(map, text, base, 15) == SMAP_OK && map.is_open());
+    CHECK(smap::code_name(SMAP_URL_BYTES) == "too many bytes of URLs");
     moved = std::move(map);
     CHECK(!map.is_open() && moved.is_open());
     smap::Map last(std::move(moved));
@@ -45,5 +48,19 @@ int main()
     CHECK(smap::code_name(SMAP_CLOSED) == "closed handle");
     CHECK(smap::fault_name(SMAP_FAULT_NOT_OBJECT) == "NotObject" && smap::fault_name(0) == "");
     CHECK(smap::open(last, "[]", base, &fault) == SMAP_REFUSED && std::string(fault.text) == "not an object");
+    bool alike = false;
+    CHECK(smap::script_link("//# sourceMappingURL=a.map\n", out) == SMAP_OK && out == "a.map");
+    CHECK(smap::script_link("//# sourceMappingURL=a.map", out, true) == SMAP_NONE && out == "");
+    CHECK(smap::resolve("http://h/m/a.js", "a.map", bytes) == SMAP_OK);
+    CHECK(smap::text(bytes) == "http://h/m/a.map");
+    CHECK(smap::data_url("data:;base64,e30", bytes) == SMAP_OK && smap::text(bytes) == "{}");
+    CHECK(smap::file_url("/a b.js", bytes) == SMAP_OK && smap::text(bytes) == "file:///a%20b.js");
+    CHECK(smap::file_path("file:///a%20b.js", bytes) == SMAP_OK && smap::text(bytes) == "/a b.js");
+    CHECK(smap::script_url("http://h/", "a b.js", bytes) == SMAP_OK);
+    CHECK(smap::text(bytes) == "http://h/a%20b.js");
+    CHECK(smap::script_name("http://h/", "http://h/a%20b.js", bytes) == SMAP_OK);
+    CHECK(smap::text(bytes) == "a b.js");
+    CHECK(smap::normal_form("HTTP://H:80/a.js?x", bytes) == SMAP_OK && smap::text(bytes) == "http://h/a.js");
+    CHECK(smap::alike("/a.js", "file:///a.js", alike) == SMAP_OK && alike);
     return failures != 0;
 }

@@ -43,6 +43,17 @@ static uint32_t open_broken(void)
     return open_text(&other, broken, &fault);
 }
 
+/* The sources take 45 bytes. */
+static uint32_t open_within(void)
+{
+    return smap_open_within(&other, text, strlen(text), base, strlen(base), NULL, 45, &fault);
+}
+
+static uint32_t open_beyond(void)
+{
+    return smap_open_within(&other, text, strlen(text), base, strlen(base), NULL, 44, &fault);
+}
+
 static uint32_t share(void)
 {
     return smap_share(&map, &other);
@@ -102,6 +113,49 @@ static uint32_t translate(void)
     return smap_translate(&scripts, frame_line, strlen(frame_line), how, &out, NULL);
 }
 
+static uint32_t data_url(void)
+{
+    return smap_data_url("data:;base64,e3%30", 18, &out);
+}
+
+static uint32_t file_url(void)
+{
+    return smap_file_url("C:\\a b.js", 9, &out);
+}
+
+static uint32_t file_path(void)
+{
+    return smap_file_path("file:///C:/a%20b.js", 19, &out);
+}
+
+static uint32_t script_url(void)
+{
+    return smap_script_url("http://h/", 9, "a b.js", 6, &out);
+}
+
+static uint32_t script_name(void)
+{
+    return smap_script_name("http://h/", 9, "http://h/a%20b.js", 17, &out);
+}
+
+static uint32_t resolve(void)
+{
+    return smap_resolve("/a b.js", 7, "a.map", 5, &out);
+}
+
+static uint32_t normal_form(void)
+{
+    return smap_normal_form("/a b.js", 7, &out);
+}
+
+static uint32_t alike(void)
+{
+    bool is = false;
+    uint32_t code = smap_alike("/a.js", 5, "file:///a.js", 12, &is);
+    CHECK(is == (code == SMAP_OK));
+    return code;
+}
+
 /* Makes the call with the growth of each number refused, and counts them. */
 static void refuse(const char *name, uint32_t (*call)(void), uint32_t wanted)
 {
@@ -131,6 +185,8 @@ int main(void)
     CHECK(open_text(&map, text, NULL) == SMAP_OK);
     refuse("open", open_map, SMAP_OK);
     refuse("open a broken map", open_broken, SMAP_REFUSED);
+    refuse("open within a bound", open_within, SMAP_OK);
+    refuse("open beyond a bound", open_beyond, SMAP_URL_BYTES);
     refuse("share", share, SMAP_OK);
     refuse("canonical", canonical, SMAP_OK);
     refuse("canonical, relative", relative, SMAP_OK);
@@ -138,6 +194,14 @@ int main(void)
     refuse("flatten", flatten, SMAP_OK);
     refuse("respell", respell, SMAP_OK);
     refuse("respell a broken text", respell_broken, SMAP_REFUSED);
+    refuse("a data: URL", data_url, SMAP_OK);
+    refuse("the URL of a file", file_url, SMAP_OK);
+    refuse("the path of a URL", file_path, SMAP_OK);
+    refuse("the URL of a script", script_url, SMAP_OK);
+    refuse("the name of a script", script_name, SMAP_OK);
+    refuse("resolve", resolve, SMAP_OK);
+    refuse("a normal form", normal_form, SMAP_OK);
+    refuse("names that are alike", alike, SMAP_OK);
     refuse("translate a line", line, SMAP_OK);
     how = SMAP_ANYWHERE | SMAP_IGNORE_QUERY;
     refuse("translate a line anywhere", line, SMAP_OK);

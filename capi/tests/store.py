@@ -1,6 +1,8 @@
 """Tests of the store of the Python module: its cache, its logs, its lookups."""
 
+import errno
 import io
+import itertools
 import os
 import pickle
 import resource
@@ -8,8 +10,10 @@ import sys
 import tempfile
 import threading
 import time
+import tracemalloc
 import unittest
 from pathlib import Path
+from unittest import mock
 
 sys.path.insert(0, str(Path(__file__).resolve().parent.parent / "python"))
 import smap  # noqa: E402
@@ -18,7 +22,6 @@ import smap  # noqa: E402
 MAP = b'{"version":3,"sources":["a.js"],"mappings":"AAUE,IAEA"}'
 IGNORED = b'{"version":3,"sources":["b.js"],"ignoreList":[0],"mappings":"AAUE"}'
 BROKEN = b'{"version":3,"sources":["a.js"],"mappings":"AAUE,,IAEA"}'
-SIZE = len(MAP)
 U, V, W = "http://h/u.js", "http://h/v.js", "http://h/w.js"
 
 
@@ -42,6 +45,27 @@ def some(*scripts):
 
 def frames(*scripts):
     return "".join(f"@{script}:1:1\n" for script in scripts)
+
+
+def size_of(script, data=MAP):
+    """The room that a map takes in a cache."""
+    with smap.Store(Finder({script: data})) as store:
+        store.lookup(script, 0, 0)
+        return store.kept_bytes
+
+
+SIZE = size_of(U)
+
+# URLs of sources of 2 KB, and short mappings: 15 KB that take 4.5 MB, and 1 MB that takes 16.
+ROOTED = b'{"version":3,"sourceRoot":"%s","mappings":"","sources":[%s]}' % (
+    b"r" * 2_000, b",".join(b'"%d"' % number for number in range(2_000))
+)
+MAPPED = b'{"version":3,"sources":["a.js"],"mappings":"%sAAUE"}' % (b"A," * 500_000)
+
+
+def resident():
+    """The most memory that this process took, in bytes."""
+    return resource.getrusage(resource.RUSAGE_SELF).ru_maxrss * 1024
 
 
 class CacheTest(unittest.TestCase):
@@ -127,12 +151,80 @@ class CacheTest(unittest.TestCase):
         store = smap.Store(finder, cache_bytes=2_500_000)
         log = frames(*finder.maps)
         store.translate(log)
-        before = resource.getrusage(resource.RUSAGE_SELF).ru_maxrss
+        before = resident()
         for turn in range(40):
             store.translate(log)
             store.forget(f"http://h/{turn % 10}")
         self.assertGreaterEqual(sum(store.opened.values()), 200)
-        self.assertLess(resource.getrusage(resource.RUSAGE_SELF).ru_maxrss - before, 20_000)
+        self.assertLess(resident() - before, 20_000_000)
+
+    def test_a_cache_counts_what_maps_hold(self):
+        for data in (ROOTED, MAPPED):
+            with smap.Map.open(data, U + ".map") as opened:
+                held = opened.held()
+            self.assertGreater(held, 3_000_000)
+            store = smap.Store(Finder({U: data, V: data}), cache_bytes=2 * held)
+            for script in (U, V, U, V):
+                self.assertIsNotNone(store.translate(frames(script)))
+                self.assertTrue(held <= store.kept_bytes <= 2 * held, (store.kept_bytes, held))
+            self.assertEqual(store.opened, {U: 2, V: 2})
+            store = smap.Store(Finder({U: data}), cache_bytes=held - 1)
+            store.lookup(U, 0, 0)
+            self.assertEqual((store.kept_bytes, store.broken), (0, {}))
+
+    def test_maps_make_room_before_another_is_opened(self):
+        data = MAPPED[:-200_000] + b'A"}'
+        small = [f"http://h/{number}.js" for number in range(2_000)]
+        store = smap.Store(Finder({**dict.fromkeys(small, MAP), U: data}), cache_bytes=18_000_000)
+        store.translate(frames(*small))
+        full, seen, open_map = store.kept_bytes, [], smap.Map.open
+
+        def noted(text, base, **words):
+            seen.append(store.kept_bytes)
+            return open_map(text, base, **words)
+
+        with mock.patch("smap.cache.Map.open", noted):
+            store.lookup(U, 0, 0)
+        self.assertGreater(full, 2_000 * 600)
+        self.assertTrue(14_000_000 < seen[0] <= 18_000_000, seen)
+        self.assertTrue(14_000_000 < store.kept_bytes <= 18_000_000, store.kept_bytes)
+        # where it can't be opened, the others have the room again
+        store = smap.Store(Finder({U: data[:-2], V: MAP}), cache_bytes=18_000_000)
+        store.translate(frames(U, V))
+        self.assertEqual((list(store.broken), store.kept_bytes), ([U], SIZE))
+
+    def test_maps_in_a_cache_take_the_memory_that_it_counts(self):
+        data = MAPPED[:500_000] + b'A"}'
+        scripts = [f"http://h/{number}.js" for number in range(30)]
+        store = smap.Store(Finder(dict.fromkeys(scripts, data)), cache_bytes=30_000_000)
+        before = resident()
+        for script in scripts:
+            store.lookup(script, 0, 0)
+        self.assertEqual(store.opened, dict.fromkeys(scripts, 1))
+        self.assertLess(resident() - before, 60_000_000)
+
+    def test_a_map_of_more_bytes_than_are_wanted_is_broken(self):
+        store = smap.Store(Finder({U: MAP, V: MAP + b" "}), map_bytes=len(MAP))
+        self.assertEqual(store.translate(frames(U, V)), "@http://h/a.js:11:3\n" + frames(V))
+        self.assertEqual((store.broken[V].errno, store.kept_bytes), (errno.EFBIG, SIZE))
+        self.assertEqual(pickle.loads(pickle.dumps(store)).map_bytes, len(MAP))
+        self.assertEqual(smap.Store(some()).map_bytes, 268_435_456)
+
+    def test_a_map_whose_urls_take_too_many_bytes_is_broken(self):
+        # http://h/a.js has 13 bytes
+        store = smap.Store(Finder({U: MAP, V: MAP.replace(b'"a.js"', b'"aa.js"')}), url_bytes=13)
+        self.assertEqual(store.translate(frames(U, V)), "@http://h/a.js:11:3\n" + frames(V))
+        self.assertEqual((store.broken[V].code, str(store.broken[V])), (8, "too many bytes of URLs"))
+        self.assertEqual(pickle.loads(pickle.dumps(store)).url_bytes, 13)
+        self.assertEqual(smap.Store(some()).url_bytes, 67_108_864)
+
+    def test_a_map_of_half_a_megabyte_cannot_take_gigabytes(self):
+        root, sources = b"r" * 200_000, b",".join(b'"%d"' % i for i in range(40_000))
+        data = b'{"version":3,"mappings":"AAAA","sourceRoot":"%s","sources":[%s]}' % (root, sources)
+        store, before = smap.Store(Finder({U: data})), time.process_time()
+        self.assertEqual(store.translate(frames(U)), frames(U))
+        self.assertEqual(store.broken[U].code, 8)
+        self.assertLess(time.process_time() - before, 20)
 
     def test_other_errors_of_a_finder_come_out_and_the_store_goes_on(self):
         finder = Finder({U: KeyError("bug"), V: MAP})
@@ -145,8 +237,9 @@ class CacheTest(unittest.TestCase):
         self.assertEqual(store.broken, {})
 
     def test_a_size_below_nothing_is_refused(self):
-        with self.assertRaisesRegex(ValueError, "cache_bytes is below 0"):
-            smap.Store(some(), cache_bytes=-1)
+        for word in ("cache_bytes", "map_bytes", "url_bytes"):
+            with self.assertRaisesRegex(ValueError, f"{word} is below 0"):
+                smap.Store(some(), **{word: -1})
 
     def test_a_pickled_store_has_its_finder_and_no_maps(self):
         with tempfile.TemporaryDirectory() as folder:
@@ -161,6 +254,33 @@ class CacheTest(unittest.TestCase):
         store = smap.Store(some())
         store.translate("".join(f"@n{number}:1:1\n" for number in range(10_005)))
         self.assertEqual((len(store.missing), store.counts.missing), (10_000, 10_005))
+        store = smap.Store(some())
+        store.translate("".join(f"@{'n' * 100_000}{number}:1:1\n" for number in range(50)))
+        self.assertEqual((len(store.missing), store.counts.missing), (39, 50))
+
+    def test_broken_scripts_are_known_by_name_up_to_a_bound(self):
+        def find(script):
+            asked.append(script)
+            raise OSError("no database")
+
+        asked, names = [], [f"n{number}" for number in range(10_005)]
+        store = smap.Store(find)
+        store.translate(frames(*names))
+        self.assertEqual((list(store.broken), store.counts.broken), (names[5:], 10_005))
+        store.translate(frames(names[4], names[5]))
+        self.assertEqual(asked, [*names, names[4], names[5]])
+        self.assertEqual((store.counts.broken, store.counts.missing), (10_007, 0))
+        store.forget("n7")
+        store.forget("n7")
+        self.assertEqual(len(store.broken), 9_999)
+        store.forget()
+        store.translate("".join(f"@{'n' * 100_000}{number}:1:1\n" for number in range(50)))
+        self.assertEqual((len(store.broken), store.counts.broken), (39, 10_057))
+
+    def test_opened_scripts_are_known_by_name_up_to_a_bound(self):
+        store = smap.Store(lambda script: MAP, cache_bytes=3 * SIZE)
+        store.translate(frames(*(f"http://h/{number}" for number in range(10_005))))
+        self.assertEqual((len(store.opened), store.counts.translated), (10_000, 10_005))
 
 
 class ThreadsTest(unittest.TestCase):
@@ -219,6 +339,61 @@ class LogTest(unittest.TestCase):
         told = store.translate(asked, ignore_query=True)
         self.assertEqual(told, f"@http://h/a.js:13:3\n@http://h/c.js:11:3\n@{W}?v=3:1:1\n")
         self.assertEqual(store.missing, {U + "?v=4#x": 1, W + "?v=3": 2})
+
+    def test_a_url_with_many_marks_is_looked_for_in_few_spellings(self):
+        url = U + "?" * 10_000
+        finder = some(U)
+        self.assertEqual(smap.Store(finder).translate(frames(url), ignore_query=True), frames(url))
+        self.assertEqual(finder.asked, [url, url[:-1], url[:-2], U])
+        rows = [
+            ("?a", [""]), ("#a", [""]), ("?a#b", ["?a", ""]), ("#a?b", ["#a", ""]), ("?a?b", ["?a", ""]),
+            ("?a#b?c#d?e", ["?a#b?c#d", "?a#b?c", "?a", ""]), ("?", [""]), ("", []),
+        ]
+        for query, shorter in rows:
+            finder = some()
+            smap.Store(finder).translate(frames(U + query), ignore_query=True)
+            self.assertEqual(finder.asked, [U + query, *(U + part for part in shorter)])
+
+    def test_one_map_is_opened_for_a_url_with_a_query(self):
+        asked = []
+
+        def find(script):
+            asked.append(script)
+            return MAP
+
+        store, url = smap.Store(find), U + "?" * 100
+        self.assertEqual(store.translate(frames(url), ignore_query=True), "@http://h/a.js:11:3\n")
+        self.assertEqual((store.opened, asked), ({url: 1}, [url]))
+
+    def test_the_script_of_a_query_is_that_of_the_library(self):
+        scripts = {U: b"0", U + "?": b"1", U + "?x": b"2", U + "#": b"3", U + "?x#x": b"4"}
+        maps = {script: MAP.replace(b"a.js", name + b".js") for script, name in scripts.items()}
+        opened = {script: smap.Map.open(data, script + ".map") for script, data in maps.items()}
+        queries = ["".join(some) for many in range(5) for some in itertools.product("?#:x", repeat=many)]
+        log = frames(*(U + query for query in queries))
+        wanted = smap.translate(log, opened, ignore_query=True)
+        self.assertEqual(smap.Store(Finder(maps)).translate(log, ignore_query=True), wanted)
+        self.assertGreater(len(set(wanted.split("\n")) - set(log.split("\n"))), 4)
+        for query in queries:
+            told = smap.Store(Finder(maps)).translate(frames(U + query), ignore_query=True)
+            self.assertEqual(told, smap.translate(frames(U + query), opened, ignore_query=True), query)
+
+    def test_memory_does_not_grow_with_the_scripts_that_a_log_names(self):
+        taken = []
+
+        class Target(io.RawIOBase):
+            def write(self, told):
+                taken.append(tracemalloc.get_traced_memory()[0])
+
+        many = 10_000
+        log = io.BytesIO("".join(f"@http://h/{number:0>2000}.js:1:1\n" for number in range(many)).encode())
+        tracemalloc.start()
+        counts = smap.Store(lambda script: None).translate_file(log, Target())
+        tracemalloc.stop()
+        self.assertEqual(counts, smap.StoreCounts(lines=many, missing=many))
+        # names have no more room from the fourth block on, and from the eighth all of them are others
+        self.assertGreater(len(taken), 17)
+        self.assertLess(taken[-2] - taken[8], 2_000_000)
 
     def test_a_str_may_hold_bytes_that_are_no_utf_8(self):
         store = smap.Store(some(U))

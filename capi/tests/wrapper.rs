@@ -137,6 +137,11 @@ fn errors(map: &Map) -> Result<(), Error> {
     assert_eq!((fault.kind, fault.place), (22, Some((0, 1))));
     assert_eq!(fault.words, "line 0 segment 1: empty segment");
     assert_eq!(Map::open(TEXT, "none").err().unwrap().to_string(), "not a URL");
+    let within = |bytes| Map::open_within_url_bytes(TEXT, BASE, Limits::default(), bytes);
+    assert!(within(45)?.same(map));
+    let beyond = within(44).err().unwrap();
+    assert!(matches!(beyond, Error::UrlBytes));
+    assert_eq!((beyond.code(), beyond.to_string().as_str()), (8, "too many bytes of URLs"));
     assert!(map.same(&map.share()?) && map.same(map));
     assert!(!map.same(&Map::open(br#"{"version":3,"mappings":""}"#, BASE)?));
     Ok(())

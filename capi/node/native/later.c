@@ -1,14 +1,14 @@
 /* Maps that are opened on a thread of the pool. */
 #include "smap_node.h"
 
-/* The text is a copy: a Buffer's memory may be written or taken away while the thread reads it. */
+/* What the thread reads is all in here: the texts too, since nothing keeps the Buffers of the call. */
 typedef struct opening {
     napi_async_work work;
     napi_deferred deferred;
-    char *text;
-    size_t len;
+    text_in text;
     text_in url;
     smap_limits limits;
+    int64_t url_bytes;
     smap_fault fault;
     boxed_map *boxed;
     uint32_t code;
@@ -20,7 +20,7 @@ static void free_opening(napi_env env, opening *o)
     if (o->work) napi_delete_async_work(env, o->work);
     if (o->boxed) smap_close(&o->boxed->map);
     free(o->boxed);
-    free(o->text);
+    text_done(&o->text);
     text_done(&o->url);
     free(o);
 }
@@ -29,7 +29,7 @@ static void open_runs(napi_env env, void *at)
 {
     opening *o = at;
     (void)env;
-    o->code = smap_open(&o->boxed->map, o->text, o->len, o->url.at, o->url.len, &o->limits, &o->fault);
+    o->code = open_map(&o->boxed->map, &o->text, &o->url, &o->limits, o->url_bytes, &o->fault);
 }
 
 /* The promise is settled, unless the worker is being ended: then every call fails, and all is freed. */
@@ -53,21 +53,18 @@ static void open_ends(napi_env env, napi_status status, void *at)
     free_opening(env, o);
 }
 
-/* Takes over the arguments text, url, items and lines. */
+/* Takes over the arguments text, url, items, lines and urlBytes. */
 static bool read_arguments(napi_env env, const napi_value *w, opening *o)
 {
-    text_in text;
     if (napi_get_value_uint32(env, w[2], &o->limits.items) != napi_ok ||
         napi_get_value_uint32(env, w[3], &o->limits.lines) != napi_ok) {
         failed(env);
         return false;
     }
-    if (!text_of(env, w[1], &o->url) || !text_of(env, w[0], &text)) return false;
-    o->len = text.len;
-    o->text = text.owned ? text.owned : malloc(text.len + 1);
-    if (o->text && !text.owned && text.len) memcpy(o->text, text.at, text.len);
+    if (!url_bytes_of(env, w[4], &o->url_bytes)) return false;
+    if (!kept_text_of(env, w[1], &o->url) || !kept_text_of(env, w[0], &o->text)) return false;
     o->boxed = new_map();
-    if (o->text && o->boxed) return true;
+    if (o->boxed) return true;
     throw_code(env, SMAP_MEMORY, NULL);
     return false;
 }
@@ -82,10 +79,10 @@ static napi_value start(napi_env env, opening *o)
     return promise;
 }
 
-/* openLater(text, url, items, lines): a promise of a handle */
+/* openLater(text, url, items, lines, urlBytes): a promise of a handle */
 napi_value do_open_later(napi_env env, napi_callback_info info)
 {
-    ARGUMENTS(4);
+    ARGUMENTS(5);
     opening *o = calloc(1, sizeof *o);
     if (!o) return throw_code(env, SMAP_MEMORY, NULL);
     napi_value promise = read_arguments(env, w, o) ? start(env, o) : NULL;

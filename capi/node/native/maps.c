@@ -122,11 +122,22 @@ int64_t held_by(smap_map *map)
 
 /* ---- opening and closing */
 
-static uint32_t open_text(boxed_map *boxed, const text_in *text, const text_in *url,
-                          const smap_limits *limits, smap_fault *fault)
+bool url_bytes_of(napi_env env, napi_value value, int64_t *url_bytes)
 {
-    if (!boxed) return SMAP_MEMORY;
-    return smap_open(&boxed->map, text->at, text->len, url->at, url->len, limits, fault);
+    napi_valuetype kind;
+    *url_bytes = -1;
+    if (napi_typeof(env, value, &kind) == napi_ok &&
+        (kind == napi_undefined || napi_get_value_int64(env, value, url_bytes) == napi_ok))
+        return true;
+    failed(env);
+    return false;
+}
+
+uint32_t open_map(smap_map *map, const text_in *text, const text_in *url, const smap_limits *limits,
+                  int64_t url_bytes, smap_fault *fault)
+{
+    if (url_bytes < 0) return smap_open(map, text->at, text->len, url->at, url->len, limits, fault);
+    return smap_open_within(map, text->at, text->len, url->at, url->len, limits, (size_t)url_bytes, fault);
 }
 
 /* Leaves in `found` whether a text that is given as a string may have a word in it. */
@@ -141,7 +152,7 @@ static bool look_for(napi_env env, const text_in *text, napi_value value)
     return true;
 }
 
-/* open(text, url, items, lines, word): a handle. If a word is given, `found` has whether the text may have
+/* open(text, url, items, lines, urlBytes, word): a handle. If a word is given, `found` has whether the text may have
  * it, which is sooner found out here than in JavaScript. */
 napi_value do_open(napi_env env, napi_callback_info info)
 {
@@ -150,20 +161,21 @@ napi_value do_open(napi_env env, napi_callback_info info)
     smap_fault fault = {0};
     thread_data *own = NULL;
     napi_valuetype kind;
-    ARGUMENTS(5);
+    int64_t url_bytes;
+    ARGUMENTS(6);
     CALL(napi_get_instance_data(env, (void **)&own));
-    CALL(napi_typeof(env, w[4], &kind));
+    CALL(napi_typeof(env, w[5], &kind));
     CALL(napi_get_value_uint32(env, w[2], &limits.items));
     CALL(napi_get_value_uint32(env, w[3], &limits.lines));
-    if (!text_of(env, w[1], &url)) return NULL;
+    if (!url_bytes_of(env, w[4], &url_bytes) || !text_of(env, w[1], &url)) return NULL;
     if (!text_of(env, w[0], &text)) {
         text_done(&url);
         return NULL;
     }
     close_collected(env, own);
     boxed_map *boxed = new_map();
-    uint32_t code = open_text(boxed, &text, &url, &limits, &fault);
-    bool is_done = kind == napi_undefined || code != SMAP_OK || look_for(env, &text, w[4]);
+    uint32_t code = boxed ? open_map(&boxed->map, &text, &url, &limits, url_bytes, &fault) : SMAP_MEMORY;
+    bool is_done = kind == napi_undefined || code != SMAP_OK || look_for(env, &text, w[5]);
     text_done(&text);
     text_done(&url);
     if (code == SMAP_OK && is_done) return map_out(env, boxed, held_by(&boxed->map));

@@ -83,6 +83,10 @@ typedef struct text_in {
 
 /* False if an exception is pending; then there is nothing to free. */
 bool text_of(napi_env env, napi_value value, text_in *text);
+
+/* The same for a text that is read after the call: a Buffer is copied, whose memory may be freed, written or
+ * taken away by then. */
+bool kept_text_of(napi_env env, napi_value value, text_in *text);
 void text_done(text_in *text);
 
 /* A string; or throws, as for one that is longer than a string can be. */
@@ -110,6 +114,13 @@ boxed_map *new_map(void);
 napi_value map_out(napi_env env, boxed_map *boxed, int64_t held);
 
 /* How many bytes an open map holds, about. */
+/* The greatest number of bytes of URLs that an argument is; -1, for none, if it is undefined. */
+bool url_bytes_of(napi_env env, napi_value value, int64_t *url_bytes);
+
+/* Opens a map within such a bound. */
+uint32_t open_map(smap_map *map, const text_in *text, const text_in *url, const smap_limits *limits,
+                  int64_t url_bytes, smap_fault *fault);
+
 int64_t held_by(smap_map *map);
 
 /* Tells V8 that so many bytes more, or fewer, hang on its objects: it sees some ten bytes of a handle, and

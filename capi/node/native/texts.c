@@ -36,6 +36,20 @@ bool text_of(napi_env env, napi_value value, text_in *text)
     return false;
 }
 
+bool kept_text_of(napi_env env, napi_value value, text_in *text)
+{
+    if (!text_of(env, value, text)) return false;
+    if (text->is_string) return true;
+    text->owned = malloc(text->len + 1);
+    if (!text->owned) {
+        throw_code(env, SMAP_MEMORY, NULL);
+        return false;
+    }
+    if (text->len) memcpy(text->owned, text->at, text->len);
+    text->at = text->owned;
+    return true;
+}
+
 void text_done(text_in *text)
 {
     free(text->owned);

@@ -78,6 +78,7 @@ test('the other codes', () => {
   }
   code('SMAP_LIMITS', () => new SourceMap(text, BASE, { limits: { items: 2 ** 31 } }));
   code('SMAP_LIMITS', () => new SourceMap(text, BASE, { limits: { lines: 2 ** 24 + 1 } }));
+  code('SMAP_URL_BYTES', () => new SourceMap(text, BASE, { limits: { urlBytes: 0 } }));
   code('SMAP_RANGE', () => new SourceMap(text, BASE).content(1));
   code('SMAP_CLOSED', () => SourceMap.take(2 ** 40));
 });
@@ -106,10 +107,10 @@ test('the names of kinds and codes are those of the header', is, () => {
   const kinds = [...text.matchAll(/^ {4}SMAP_FAULT_([A-Z_]+) = \d+/gm)].map(match => match[1]);
   assert.equal(kinds.length, 33);
   assert.deepEqual(kindsOf(types), kinds.map(words));
-  const codes = [...text.matchAll(/^ {4}(SMAP_[A-Z_]+) = [0-7],? +\/\*/gm)].map(match => match[1])
+  const codes = [...text.matchAll(/^ {4}(SMAP_[A-Z_]+) = [0-8],? +\/\*/gm)].map(match => match[1])
     .filter(name => !/FAULT|KEPT|HIDE|ANYWHERE|IGNORE/.test(name));
   assert.deepEqual([...source.matchAll(/\[(SMAP_(?!FAULT)\w+)\] = "\1"/g)].map(match => match[1]), codes);
-  assert.equal(codes.length, 8);
+  assert.equal(codes.length, 9);
 });
 
 test('each kind has a map above, but one that no URL parser gives cause for', is, () => {

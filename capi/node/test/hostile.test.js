@@ -2,7 +2,11 @@
 // Calls that nobody should make: each has to throw, and none may end the process or read what isn't its own.
 const assert = require('node:assert');
 const { test } = require('node:test');
-const { SourceMap, Scripts } = require('smap');
+const { SourceMap, Scripts, respell, translate } = require('smap');
+const { TraceMap, decodedMap, decodedMappings } = require('smap/trace-mapping');
+const { spelled } = require('../halves.js');
+const { encode } = require('../vlq.js');
+const { numbers } = require('./many-maps.js');
 const native = require('../native.js');
 
 const BASE = 'http://h/m/out.js.map';
@@ -109,6 +113,74 @@ test('a Buffer that there is no memory for', () => {
     Buffer.allocUnsafeSlow = real;
   }
   assert.ok(new SourceMap(text, BASE).canonical({ buffer: true }).length > 0);
+});
+
+// ---- what is large, or asks for much
+
+// Seconds of the processor: others may use it too. The sanitizers take a few times as long.
+function isQuick(call, seconds = 3) {
+  const before = process.cpuUsage();
+  const result = call();
+  const { user, system } = process.cpuUsage(before);
+  assert.ok((user + system) / 1e6 < seconds, `${(user + system) / 1e6} s`);
+  return result;
+}
+
+test('half surrogate pairs are spelled by three bytes each, and in a time that grows with the text', () => {
+  const rows = [['\ud800', 'eda080'], ['\udfff', 'edbfbf'], ['a\udc00\u00e9', '61edb080c3a9'],
+    ['\ud800\u{10000}\udbff', 'eda080f0908080edafbf'], ['\udc00\ud800', 'edb080eda080']];
+  for (const [text, bytes] of rows) assert.equal(spelled(text).toString('hex'), bytes);
+  const many = '\ud800'.repeat(2e6);
+  assert.throws(() => isQuick(() => respell(many)), { kind: 'Character' });
+  assert.ok(isQuick(() => translate(many) === many));
+});
+
+test('what is spelled comes back', () => {
+  const next = numbers(1);
+  const units = [0, 0x61, 0x7f, 0x80, 0x7ff, 0x800, 0xd7ff, 0xd800, 0xdbff, 0xdc00, 0xdfff, 0xe000, 0xffff];
+  for (let i = 0; i < 5000; i++) {
+    const all = Array.from({ length: next(9) }, () => units[next(units.length)]);
+    const text = String.fromCharCode(...all);
+    assert.ok(translate(text) === text, JSON.stringify(text));
+  }
+});
+
+test('mappings that are no segments are refused at once', () => {
+  const segments = [[1e999], [-1e999, 0, 0, 0], [NaN], [0.5], ['1'], [1n], { length: 1e7 }, new Array(4),
+    new Array(1e7), [], [0, 1], null];
+  for (const mappings of [...segments.map(segment => [[segment]]), [null], [{ length: 3 }], new Array(3)]) {
+    const map = { version: 3, sources: ['a'], names: [], mappings };
+    const sections = [{ offset: { line: 0, column: 0 }, map }];
+    assert.throws(() => isQuick(() => new TraceMap(map)), { name: 'TypeError', message: /^mappings\[0\]/ });
+    assert.throws(() => isQuick(() => new TraceMap({ version: 3, sections })), TypeError);
+  }
+  assert.throws(() => isQuick(() => encode(new Array(2 ** 24 + 1))), RangeError);
+  for (const mappings of [{ length: 1e7 }, 1e999, null, undefined]) {
+    assert.throws(() => new TraceMap({ version: 3, mappings }), { kind: 'Mappings' });
+  }
+  // What is a number, and too large for a map, the library tells.
+  for (const [segment, kind] of [[[2 ** 32], 'TooLarge'], [[-1], 'Column'], [[2 ** 53 - 1], 'TooLarge']]) {
+    assert.throws(() => new TraceMap({ version: 3, mappings: [[segment]] }), { kind });
+  }
+});
+
+test('a map has as many decoded lines as its text has characters, or a million', () => {
+  const inner = { version: 3, sources: ['a'], names: [], mappings: 'AAAA' };
+  const far = line => new TraceMap({ version: 3, sections: [{ offset: { line, column: 0 }, map: inner }] });
+  for (const call of [decodedMap, decodedMappings]) {
+    const refused = { name: 'RangeError', code: 'SMAP_TOO_LONG' };
+    for (const line of [2 ** 20, 16777214]) assert.throws(() => isQuick(() => call(far(line))), refused);
+  }
+  assert.equal(decodedMappings(far(2 ** 20 - 1)).length, 2 ** 20);
+  const long = new TraceMap({ ...inner, mappings: ';'.repeat(2 ** 20) + 'AAAA' });
+  assert.equal(decodedMappings(long).length, 2 ** 20 + 1);
+});
+
+test("the folder of a map's URL is found at once", () => {
+  const map = { version: 3, sources: ['a.js'], names: [], mappings: 'AAAA' };
+  const names = 'x'.repeat(80000);
+  const { resolvedSources } = isQuick(() => new TraceMap(map, `/${names}/${names}`));
+  assert.deepEqual(resolvedSources, [`/${names}/a.js`]);
 });
 
 const large = { skip: process.env.SMAP_LARGE ? false : 'it takes 3 GB, and runs if SMAP_LARGE is set' };

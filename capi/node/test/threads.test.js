@@ -1,9 +1,11 @@
 'use strict';
 const assert = require('node:assert');
+const { spawnSync } = require('node:child_process');
 const { once } = require('node:events');
 const { test } = require('node:test');
 const { Worker } = require('node:worker_threads');
 const { SourceMap, SmapError } = require('smap');
+const native = require('../native.js');
 
 const BASE = 'http://h/m/out.js.map';
 const text = '{"version":3,"sources":["a.js"],"names":["n"],"mappings":"AAUE,IAEAA"}';
@@ -19,6 +21,43 @@ test('a map is opened on another thread', async () => {
   const open = () => SourceMap.open(Buffer.from(text), new URL(BASE));
   const many = await Promise.all(Array.from({ length: 30 }, open));
   assert.ok(many.every(one => one.same(map)));
+});
+
+// More maps than the pool has threads, so that what is opened after them waits.
+const keepBusy = () => Promise.all(Array.from({ length: 8 }, () => SourceMap.open(large, BASE)));
+
+test('nothing that was passed is read once the call has returned', async () => {
+  const busy = keepBusy();
+  const given = [Buffer.from(text), Buffer.from(BASE)];
+  const opened = native.openLater(...given, 0, 0);
+  for (const bytes of given) bytes.fill(' ');
+  assert.equal(native.text(await opened, 1, 0), 'http://h/m/a.js');
+  await busy;
+});
+
+// In a process of its own, which would crash: memory of that size is given back to the system there.
+const crashes = { skip: process.env.ASAN_OPTIONS ? 'the sanitizers keep freed memory' : false };
+
+test('a URL with half surrogate pairs may be collected while its map is opened', crashes, () => {
+  const code = `${HEAD}
+    const large = JSON.stringify({ version: 3, sources: ['a'], mappings: 'AAAA' + ',CAAC'.repeat(300000) });
+    const open = url => SourceMap.open(large, url).then(() => 0, error => error.code === 'SMAP_NOT_URL');
+    async function main() {
+      let refused = 0;
+      for (let turn = 0; turn < 6; turn++) {
+        const busy = Array.from({ length: 16 }, () => open('${BASE}'));
+        const all = Array.from({ length: 8 }, () => open('http://h/' + '\\ud800'.repeat(100000)));
+        await new Promise(setImmediate);
+        for (let i = 0; i < 3; i++) gc();
+        for (const isRefused of await Promise.all(all)) refused += isRefused;
+        await Promise.all(busy);
+      }
+      console.log(refused);
+    }
+    main();`;
+  const env = { ...process.env, MALLOC_MMAP_THRESHOLD_: '65536' };
+  const ended = spawnSync(process.execPath, ['--expose-gc', '-e', code], { encoding: 'utf8', env });
+  assert.deepEqual([ended.stdout, ended.signal, ended.status], ['48\n', null, 0], ended.stderr);
 });
 
 test('what the constructor throws, the promise is rejected with', async () => {

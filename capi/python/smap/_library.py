@@ -3,16 +3,27 @@
 from __future__ import annotations
 
 import ctypes
+import operator
 import os
 from ctypes import POINTER, byref, c_bool, c_char, c_char_p, c_size_t, c_uint8, c_uint32, c_uint64, c_void_p
 from pathlib import Path
-from typing import Any, Callable, List, Optional, Tuple, Type
+from typing import Any, Callable, List, NoReturn, Optional, Tuple, Type
 
-OK, REFUSED, NOT_URL, LIMITS, MEMORY, CLOSED, NONE, RANGE = range(8)
+OK, REFUSED, NOT_URL, LIMITS, MEMORY, CLOSED, NONE, RANGE, URL_BYTES = range(9)
 HIDE_IGNORED, ANYWHERE, IGNORE_QUERY = 1, 2, 4
 
+# The greatest numbers that the types of the library hold. ctypes cuts off the bits above them.
+LARGEST_U32, LARGEST_SIZE = 0xFFFFFFFF, c_size_t(-1).value
 
-class Handle(ctypes.Structure):
+
+class Owner:
+    """What a handle of the library belongs to. A copy would free it a second time, so there is none."""
+
+    def __reduce__(self) -> NoReturn:
+        raise TypeError(f"cannot copy or pickle '{type(self).__name__}' object: it owns memory of libsmap")
+
+
+class Handle(Owner, ctypes.Structure):
     _fields_ = [("is_open", c_bool), ("at", c_void_p)]
 
 
@@ -126,6 +137,7 @@ def declare(lib: ctypes.CDLL) -> ctypes.CDLL:
         ("code_name", size, u32, *text),
         ("fault_name", size, u32, *text),
         ("open", u32, handle, *text, *text, POINTER(Limits), POINTER(Fault)),
+        ("open_within", u32, handle, *text, *text, POINTER(Limits), size, POINTER(Fault)),
         ("close", None, handle),
         ("share", u32, handle, handle),
         ("same", u32, handle, handle, POINTER(c_bool)),
@@ -165,7 +177,9 @@ lib = declare(load())
 
 
 def code_name(code: int) -> str:
-    """What the library calls a code, such as "closed handle"."""
+    """What the library calls a code, such as "closed handle"; "" if it is none."""
+    if not 0 <= code <= LARGEST_U32:
+        return ""
     out = ctypes.create_string_buffer(64)
     n = lib.smap_code_name(code, out, 64)
     return out.raw[:n].decode()
@@ -188,6 +202,37 @@ def check(code: int, fault: Optional[Fault] = None) -> None:
         raise IndexError("number out of range")
     if code != OK:
         raise Error(code)
+
+
+def index_of(value: int) -> int:
+    """A number by which the library counts. Raises IndexError where it has none so small or so large."""
+    number = operator.index(value)
+    if not 0 <= number <= LARGEST_SIZE:
+        raise IndexError("number out of range")
+    return number
+
+
+def limit_of(name: str, value: int) -> int:
+    """A limit. Raises ValueError where it is below 0, and what the library says where it is too large."""
+    number = operator.index(value)
+    if number < 0:
+        raise ValueError(f"{name} is below 0")
+    if number > LARGEST_U32:
+        raise Error(LIMITS)
+    return number
+
+
+def bound_of(name: str, value: int) -> int:
+    """A greatest number of bytes. Raises ValueError where it is below 0."""
+    number = operator.index(value)
+    if number < 0:
+        raise ValueError(f"{name} is below 0")
+    return min(number, LARGEST_SIZE)
+
+
+def are_position(line: int, column: int) -> bool:
+    """Whether the library has such numbers of lines and columns."""
+    return 0 <= operator.index(line) <= LARGEST_U32 and 0 <= operator.index(column) <= LARGEST_U32
 
 
 def written(call: Callable[..., int], *words: object) -> bytes:

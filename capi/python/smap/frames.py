@@ -29,8 +29,10 @@ def code_point(line: str, column: int) -> int:
 
     Columns of source maps and of `colno` count UTF-16 code units, while a str counts code points, of which
     one may be two units. A column in the middle of these is that of their code point, and one behind the end
-    of the line is its length. Both count from 0: subtract 1 from a `colno`.
+    of the line is its length. Both count from 0: subtract 1 from a `colno`. Raises ValueError below 0.
     """
+    if column < 0:
+        raise ValueError("column is below 0")
     if line.isascii():
         return min(column, len(line))
     return len(line.encode("utf-16-le", "surrogatepass")[: 2 * column].decode("utf-16-le", "ignore"))

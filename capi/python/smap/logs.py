@@ -76,5 +76,17 @@ def middle(block: bytes) -> int:
 
 
 def spellings(url: str) -> List[str]:
-    """A URL, and what of it is before a `?` or a `#`: the longest first."""
-    return [url] + [url[:at] for at in range(len(url) - 1, 0, -1) if url[at] in "?#"]
+    """A URL, and what of it may be a script's if a query and a fragment are ignored: the longest first.
+
+    These are at most five, however many marks the URL has. As docs/OUTPUT.md has it, a query and a fragment
+    have no further `?` or `#`, so they begin at one of the last two. By the URL Standard, a fragment begins
+    at the first `#` and a query at the first `?`, which counts for URLs that don't stand in a log.
+    """
+    last = _last_mark(url, len(url))
+    cuts = {last, _last_mark(url, last), url.find("?"), url.find("#")}
+    return [url] + [url[:cut] for cut in sorted(cuts, reverse=True) if cut > 0]
+
+
+def _last_mark(url: str, end: int) -> int:
+    """Where the last mark of a query or a fragment before the end is, or -1."""
+    return max(url.rfind("?", 0, end), url.rfind("#", 0, end))

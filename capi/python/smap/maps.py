@@ -6,13 +6,11 @@ from ctypes import byref, c_bool, c_size_t, c_uint32, create_string_buffer
 from dataclasses import dataclass
 from typing import AnyStr, Callable, Iterator, List, Optional, Tuple
 
-from ._library import NONE, Counts, Fault, Handle, Limits, MappingStruct, check, how_bits, lib, taken, written
+from ._library import NONE, Counts, Fault, Handle, Limits, MappingStruct, Owner, are_position, bound_of, check
+from ._library import how_bits, index_of, lib, limit_of, taken, written
 from .traces import translate
 
 __all__ = ["Map", "Mapping", "Source", "respell"]
-
-# What a line and a column of a generated text are, at most, for the library.
-LARGEST = 0xFFFFFFFF
 
 
 @dataclass(frozen=True)
@@ -46,28 +44,36 @@ def respell(text: bytes) -> bytes:
     return taken(out)
 
 
-class Map:
-    """A source map. `Map.open` makes it; `close`, the end of a `with` or that of the object frees it."""
+class Map(Owner):
+    """A source map. `Map.open` makes it; `close`, the end of a `with` or that of the object frees it.
+
+    It can't be copied or pickled, which raises TypeError: `share` gives a second one. A number of a source
+    that the map doesn't have, a negative one too, raises IndexError.
+    """
 
     def __init__(self) -> None:
         self._handle = Handle()
 
     @classmethod
-    def open(cls, data: bytes, base: str, items: int = 0, lines: int = 0) -> Map:
+    def open(
+        cls, data: bytes, base: str, items: int = 0, lines: int = 0, url_bytes: Optional[int] = None
+    ) -> Map:
         """Reads a map, whose URL is `base`.
 
         `items` bounds how many sources and how many names it may list, `lines` how many generated lines it
-        may have; 0 stands for 16777216. Raises Refused, and Error where `base` is no URL or a limit is too
-        large.
+        may have; 0 stands for 16777216. `url_bytes` bounds how many bytes the URLs of its sources may take
+        together, which can be gigabytes for a map of half a megabyte; None is no bound. Raises Refused, Error
+        where `base` is no URL, a limit is too large or the URLs take more (its code is 8, SMAP_URL_BYTES of
+        smap.h), and ValueError where a limit is below 0.
         """
         made, fault, url = cls(), Fault(), base.encode()
-        limits = Limits(items, lines)
-        check(
-            lib.smap_open(
-                byref(made._handle), data, len(data), url, len(url), byref(limits), byref(fault)
-            ),
-            fault,
-        )
+        limits = Limits(limit_of("items", items), limit_of("lines", lines))
+        words = byref(made._handle), data, len(data), url, len(url), byref(limits)
+        if url_bytes is None:
+            code = lib.smap_open(*words, byref(fault))
+        else:
+            code = lib.smap_open_within(*words, bound_of("url_bytes", url_bytes), byref(fault))
+        check(code, fault)
         return made
 
     def close(self) -> None:
@@ -129,16 +135,16 @@ class Map:
 
     def url(self, source: int) -> Optional[str]:
         """The URL of a source."""
-        return self._text(lib.smap_source_url, source)
+        return self._text(lib.smap_source_url, index_of(source))
 
     def content(self, source: int) -> Optional[str]:
         """The text of a source."""
-        return self._text(lib.smap_source_content, source)
+        return self._text(lib.smap_source_content, index_of(source))
 
     def source(self, source: int) -> Source:
         """A source by its number."""
         ignored = c_bool()
-        check(lib.smap_is_ignored(byref(self._handle), source, byref(ignored)))
+        check(lib.smap_is_ignored(byref(self._handle), index_of(source), byref(ignored)))
         return Source(self.url(source), self.content(source), ignored.value)
 
     def written_sources(self) -> List[Tuple[Optional[str], Optional[str]]]:
@@ -153,7 +159,7 @@ class Map:
 
     def name_at(self, line: int, column: int) -> Optional[str]:
         """The name of the mapping that a generated position falls to."""
-        if not (0 <= line <= LARGEST and 0 <= column <= LARGEST):
+        if not are_position(line, column):
             return None
         return self._text(lib.smap_name_at, line, column)
 
@@ -168,7 +174,7 @@ class Map:
 
     def find(self, line: int, column: int) -> Optional[Mapping]:
         """The same without URL and name, which is faster."""
-        if not (0 <= line <= LARGEST and 0 <= column <= LARGEST):
+        if not are_position(line, column):
             return None
         m = MappingStruct()
         code = lib.smap_lookup(byref(self._handle), line, column, byref(m))
@@ -179,7 +185,7 @@ class Map:
 
     def index_at(self, line: int, column: int) -> Optional[int]:
         """The number of the mapping that a generated position falls to, in the order of `mappings`."""
-        if not (0 <= line <= LARGEST and 0 <= column <= LARGEST):
+        if not are_position(line, column):
             return None
         i = c_size_t()
         code = lib.smap_find(byref(self._handle), line, column, byref(i))

@@ -3,35 +3,25 @@
 from __future__ import annotations
 
 import io
-import threading
-from collections import OrderedDict
 from collections.abc import Mapping as AnyMapping
-from dataclasses import dataclass
-from typing import Any, AnyStr, BinaryIO, Dict, Iterable, List, Optional, Set, Tuple, Union
+from typing import Any, AnyStr, BinaryIO, Dict, Iterable, Iterator, List, Optional, Set, Tuple, Union
 
-from ._library import Error, TraceCounts
-from .finders import Finder, Folders, Found, PathLike, base_of
+from ._library import TraceCounts
+from .cache import Bounds, Cache, Kept
+from .finders import MOST_BYTES, Finder, Folders, PathLike
 from .frames import places_by_script, translate_all
 from .logs import StoreCounts, Way, lines_that_stay, middle, spellings, whole_lines
 from .maps import Map, Mapping
+from .noted import Noted
 from .traces import Scripts, named_by
 
 __all__ = ["Store", "StoreCounts"]
 
-# Of how many scripts without a map the store knows the names.
-MOST_MISSING = 10_000
-
+# How many bytes the URLs of a map's sources take at most: a thousand bytes each, of 67,108 sources.
+MOST_URL_BYTES = 67_108_864
 
 # What a lookup counts as.
 _LINE, _TRANSLATED = StoreCounts(lines=1), StoreCounts(lines=1, translated=1)
-
-
-@dataclass(frozen=True)
-class _Kept:
-    """An open map in the cache, and the size of its text."""
-
-    map: Map
-    size: int
 
 
 class _Call:
@@ -40,13 +30,14 @@ class _Call:
     def __init__(self) -> None:
         self.scripts = Scripts()
         self.names: Set[str] = set()
-        self.absent: Set[str] = set()
+        # whether each script that can't be added has a broken map, or none
+        self.absent: Noted[bool] = Noted()
         self.size = 0
 
-    def add(self, script: str, opened: Map, size: int) -> None:
-        self.scripts.add(script, opened)
+    def add(self, script: str, opened: Kept) -> None:
+        self.scripts.add(script, opened.map)
         self.names.add(script)
-        self.size += size
+        self.size += opened.size
 
     def clear(self) -> None:
         self.scripts.close()
@@ -63,56 +54,76 @@ class Store:
     `finder` is a dictionary for `Folders`, or a function that gets the URL of a script and returns its map
     (`Found`, or bytes), or None if there is none. It may be called by several threads at once.
 
-    At most `cache_bytes` of maps are kept open, by the bytes of their texts: those that were used last. A
-    call in progress may hold up to as much again, if another thread makes room meanwhile. A map that is
-    larger than that is opened for the lines that name it, and closed behind them.
+    At most `cache_bytes` of memory are taken by maps that are kept open (`Map.held`), or being opened: those
+    that were used last. A call in progress may hold up to as much again, if another thread makes room
+    meanwhile. A map that is larger than that is opened for the lines that name it, and closed behind them,
+    as are all maps of one line that names several, as with `anywhere` it may. A map whose text has more than
+    `map_bytes` bytes is broken, and so is one whose sources have more than `url_bytes` bytes of URLs together,
+    as those of a short text may.
 
     A script without a map, or with a broken one, leaves its lines as they are, and is counted. One without a
     map is looked for again by each call; one that is broken stays in `broken` until `forget`. A map stays as
-    it was opened until it makes room, or until `forget`, whatever becomes of its file.
+    it was opened until it makes room, or until `forget`, whatever becomes of its file. What a store knows by
+    names, it knows of 10,000 scripts at most, so that its memory doesn't grow with what logs name.
 
     A finder's OSError and smap.Error make the map broken; all other exceptions come out of the call.
-    All threads may use a store at once. A pickled store has its finder and its size, and no maps.
+    All threads may use a store at once. A pickled store has its finder and its bounds, and no maps.
     """
 
     def __init__(
-        self, finder: Union[AnyMapping[str, PathLike], Finder], cache_bytes: int = 1 << 30
+        self,
+        finder: Union[AnyMapping[str, PathLike], Finder],
+        cache_bytes: int = 1 << 30,
+        map_bytes: int = MOST_BYTES,
+        url_bytes: int = MOST_URL_BYTES,
     ) -> None:
-        if cache_bytes < 0:
-            raise ValueError("cache_bytes is below 0")
-        self.cache_bytes = cache_bytes
+        self._bounds = Bounds(cache_bytes, map_bytes, url_bytes)
         if isinstance(finder, AnyMapping):
-            finder = Folders(finder)
+            finder = Folders(finder, map_bytes)
         self._finder: Finder = finder
-        self._lock = threading.Lock()
-        self._kept: OrderedDict[str, _Kept] = OrderedDict()
-        self._size = 0
-        self._opening: Dict[str, threading.Event] = {}
-        self._sizes: Dict[str, int] = {}
-        self._opened: Dict[str, int] = {}
-        self._broken: Dict[str, Exception] = {}
-        self._missing: Dict[str, int] = {}
+        self._cache = Cache(finder, self._bounds)
+        self._lock = self._cache.lock
+        self._missing: Noted[int] = Noted()
         self._counts = StoreCounts()
 
     # ---- what the store knows
 
     @property
+    def cache_bytes(self) -> int:
+        """How much memory maps that are kept open may take."""
+        return self._bounds.cache_bytes
+
+    @property
+    def map_bytes(self) -> int:
+        """How many bytes the text of a map may have."""
+        return self._bounds.map_bytes
+
+    @property
+    def url_bytes(self) -> int:
+        """How many bytes the URLs of a map's sources may take together."""
+        return self._bounds.url_bytes
+
+    @property
     def opened(self) -> Dict[str, int]:
-        """How often the map of each script was opened: more than once if it made room for others."""
-        with self._lock:
-            return dict(self._opened)
+        """How often the map of each script was opened: more than once if it made room for others.
+
+        The last 10,000 are known by name.
+        """
+        return self._cache.opened()
 
     @property
     def broken(self) -> Dict[str, Exception]:
-        """The fault of each script whose map is broken: Refused, Error, Repeated or OSError."""
-        with self._lock:
-            return dict(self._broken)
+        """The fault of each script whose map is broken: Refused, Error, Repeated or OSError.
+
+        The last 10,000 are known by name, and others looked for again.
+        """
+        return self._cache.broken()
 
     @property
     def missing(self) -> Dict[str, int]:
         """Scripts without a map, and how many lines named each. The first 10,000 are known by name."""
         with self._lock:
-            return dict(self._missing)
+            return self._missing.as_dict()
 
     @property
     def counts(self) -> StoreCounts:
@@ -122,17 +133,12 @@ class Store:
 
     @property
     def kept_bytes(self) -> int:
-        """How many bytes of maps are open in the cache, or are being opened for it: at most `cache_bytes`."""
-        with self._lock:
-            return self._size
+        """How much memory maps in the cache take, and those being opened for it: at most `cache_bytes`."""
+        return self._cache.size
 
     def forget(self, script: Optional[str] = None) -> None:
         """Closes the map of a script, or all maps, and forgets faults: all that is looked for again."""
-        with self._lock:
-            for name in list(self._kept) if script is None else [script] * (script in self._kept):
-                self._drop(name)
-            for name in list(self._broken) if script is None else [script] * (script in self._broken):
-                del self._broken[name]
+        self._cache.forget(script)
         if script is None:
             getattr(self._finder, "forget", lambda: None)()
 
@@ -146,8 +152,8 @@ class Store:
     def __exit__(self, *error: object) -> None:
         self.close()
 
-    def __reduce__(self) -> Tuple[type, Tuple[Finder, int]]:
-        return type(self), (self._finder, self.cache_bytes)
+    def __reduce__(self) -> Tuple[type, Tuple[Finder, int, int, int]]:
+        return type(self), (self._finder, self.cache_bytes, self.map_bytes, self.url_bytes)
 
     # ---- logs
 
@@ -189,6 +195,7 @@ class Store:
         try:
             for block in whole_lines(source):
                 told, of_block = self._translated(block, call, way)
+                call.absent.trim()
                 counts += of_block
                 target.write(told)
                 target.flush()
@@ -202,9 +209,8 @@ class Store:
         if done is not None:
             return done
         named = self._named(block.split(b"\n"), way, block)
-        scripts = list(dict.fromkeys(script for scripts, _ in named for script in scripts))
         cut = middle(block)
-        if not self._gather(call, scripts, cut == 0):
+        if not self._gather(call, [spelled for spelled, _ in named], cut == 0):
             first, counts = self._translated(block[:cut], call, way)
             rest, more = self._translated(block[cut:], call, way)
             return first + rest, counts + more
@@ -225,7 +231,7 @@ class Store:
         named = self._named(lines_that_stay(block, told), way, block)
         if any(script not in call.names and script not in call.absent for (script,), _ in named):
             return None
-        self._touch(call.names)
+        self._cache.touch(call.names)
         return told, self._counted(call, named, seen)
 
     def _named(self, lines: Iterable[bytes], way: Way, block: bytes) -> List[Tuple[List[str], int]]:
@@ -241,55 +247,72 @@ class Store:
             named += [([script], 0) for script in getattr(self._finder, "named_in")(block)]
         return named
 
-    def _gather(self, call: _Call, scripts: List[str], whole: bool) -> bool:
-        """Puts scripts into a call. False if they have no room together, which `whole` doesn't ask."""
-        if self._add_all(call, scripts, None if whole and not call.names else self.cache_bytes):
+    def _gather(self, call: _Call, wanted: List[List[str]], whole: bool) -> bool:
+        """Puts scripts into a call, the first with a map of each list. False if they have no room together,
+        which `whole` doesn't ask.
+        """
+        if self._add_all(call, wanted, None if whole and not call.names else self.cache_bytes):
             return True
         call.clear()
-        return self._add_all(call, scripts, None if whole else self.cache_bytes)
+        return self._add_all(call, wanted, None if whole else self.cache_bytes)
 
-    def _add_all(self, call: _Call, scripts: List[str], room: Optional[int]) -> bool:
-        """Adds those of the scripts that have a map. False if they have no room, some being added then."""
-        new = [script for script in scripts if script not in call.names and script not in call.absent]
-        known = [self._sizes[script] for script in new if script in self._sizes]
-        if room is not None and len(call.names) + len(known) > 1 and call.size + sum(known) > room:
+    def _add_all(self, call: _Call, wanted: List[List[str]], room: Optional[int]) -> bool:
+        """Adds scripts that have a map. False if they have no room, some being added then."""
+        new = [spelled for spelled in wanted if spelled[0] not in call.names]
+        if room is not None and not self._may_have_room(call, new, room):
             return False
-        for script in new:
-            opened = self._open(script)
+        for script in (script for spelled in new for script in self._until_added(call, spelled)):
+            opened = self._cache.open(script)
             if opened is None:
-                call.absent.add(script)
+                call.absent.note(script, self._cache.is_broken(script))
                 continue
             with opened.map:
                 if room is not None and call.names and call.size + opened.size > room:
                     return False
-                call.add(script, opened.map, opened.size)
-        self._touch(scripts)
+                call.add(script, opened)
+        self._cache.touch(script for spelled in wanted for script in spelled)
         return True
+
+    @staticmethod
+    def _until_added(call: _Call, spelled: List[str]) -> Iterator[str]:
+        """Those of the spellings of a URL that have to be opened, up to the first that the call has then."""
+        for script in spelled:
+            if script in call.names:
+                return
+            if script not in call.absent:
+                yield script
+                if script in call.names:
+                    return
+
+    def _may_have_room(self, call: _Call, new: List[List[str]], room: int) -> bool:
+        """Whether a call has room for scripts, by what is known of their sizes before they are opened."""
+        known: Dict[str, int] = {}
+        for spelled in new:
+            sizes = ((script, self._cache.size_of(script)) for script in self._until_added(call, spelled))
+            script, size = next((found for found in sizes if found[1] is not None), ("", None))
+            if size is not None:
+                known[script] = size
+        return len(call.names) + len(known) <= 1 or call.size + sum(known.values()) <= room
 
     def _counted(self, call: _Call, named: List[Tuple[List[str], int]], seen: TraceCounts) -> StoreCounts:
         """The counts of translated lines, which are added to the sums."""
-        left = self._left(call, named)
+        left = StoreCounts()
+        for spelled, lines in named:
+            if lines and not any(script in call.names for script in spelled):
+                left += self._left(spelled[0], lines, any(map(call.absent.get, spelled)))
         counts = StoreCounts(seen.lines, seen.translated, seen.dropped, left.missing, left.broken)
         self._count(counts)
         return counts
 
-    def _left(self, call: _Call, named: Iterable[Tuple[List[str], int]]) -> StoreCounts:
-        """Counts the lines whose scripts have no map, or a broken one."""
-        missing = broken = 0
+    def _left(self, script: str, lines: int, is_broken: bool) -> StoreCounts:
+        """Counts the lines of a script that has no map, or a broken one."""
+        if is_broken:
+            return StoreCounts(broken=lines)
         with self._lock:
-            for scripts, lines in named:
-                if lines == 0 or any(script in call.names for script in scripts):
-                    continue
-                if any(script in self._broken for script in scripts):
-                    broken += lines
-                    continue
-                missing += lines
-                self._note_missing(scripts[0], lines)
-        return StoreCounts(missing=missing, broken=broken)
-
-    def _note_missing(self, script: str, lines: int) -> None:
-        if script in self._missing or len(self._missing) < MOST_MISSING:
-            self._missing[script] = self._missing.get(script, 0) + lines
+            known = self._missing.get(script)
+            if known or self._missing.has_room(script):
+                self._missing.note(script, (known or 0) + lines)
+        return StoreCounts(missing=lines)
 
     def _count(self, counts: StoreCounts) -> None:
         with self._lock:
@@ -303,13 +326,12 @@ class Store:
         Line and column count from 0. None too where the script has no map, or a broken one.
         """
         with self._lock:
-            kept = self._kept.get(script)
+            kept = self._cache.kept(script)
             if kept is not None:
-                self._kept.move_to_end(script)
                 return self._looked_up(kept.map, line, column)
-        opened = self._open(script)
+        opened = self._cache.open(script)
         if opened is None:
-            self._count(self._left(_Call(), [([script], 1)]) + StoreCounts(lines=1))
+            self._count(self._left(script, 1, self._cache.is_broken(script)) + _LINE)
             return None
         with opened.map, self._lock:
             return self._looked_up(opened.map, line, column)
@@ -336,102 +358,20 @@ class Store:
 
         All else stays, `function` too. So do, as a whole, frames that have no such position (other types,
         values below 1 or above 2147483648), no map, no mapping there, or a source without a URL.
-        With `ignore_query`, a query and a fragment may follow the URL of a script.
+        With `ignore_query`, a query and a fragment may follow the URL of a script. The longest that has a map
+        is taken.
         """
+        if context < 0:
+            raise ValueError("context is below 0")
         told = list(frames)
         done, left = 0, StoreCounts()
         for script, places in places_by_script(told).items():
-            names = spellings(script) if ignore_query else [script]
-            opened = next(filter(None, map(self._open, names)), None)
+            spelled = spellings(script) if ignore_query else [script]
+            opened = next(filter(None, map(self._cache.open, spelled)), None)
             if opened is None:
-                left += self._left(_Call(), [(names, len(places))])
+                left += self._left(script, len(places), any(map(self._cache.is_broken, spelled)))
                 continue
             with opened.map:
                 done += translate_all(told, places, opened.map, context)
         self._count(left + StoreCounts(lines=len(told), translated=done))
         return told
-
-    # ---- the cache
-
-    def _open(self, script: str) -> Optional[_Kept]:
-        """A handle of its own of the script's map; None where there is no map, or a broken one."""
-        while True:
-            with self._lock:
-                kept = self._kept.get(script)
-                if kept is not None:
-                    self._kept.move_to_end(script)
-                    return _Kept(kept.map.share(), kept.size)
-                if script in self._broken:
-                    return None
-                other = self._opening.get(script)
-                if other is None:
-                    mine = self._opening[script] = threading.Event()
-                    break
-            other.wait()
-        try:
-            return self._find(script)
-        finally:
-            with self._lock:
-                del self._opening[script]
-            mine.set()
-
-    def _find(self, script: str) -> Optional[_Kept]:
-        """The same, for a script that is in the cache neither as a map nor as a broken one."""
-        try:
-            script.encode()
-        except UnicodeEncodeError:
-            return None  # half a surrogate pair, which no URL has
-        try:
-            found = self._finder(script)
-            if found is None:
-                return None
-            return self._keep(script, found if isinstance(found, Found) else Found(found, base_of(script)))
-        except (Error, OSError) as fault:
-            # what it was raised in would keep the map's text alive
-            fault.__traceback__ = fault.__context__ = fault.__cause__ = None
-            with self._lock:
-                self._broken[script] = fault
-            return None
-
-    def _keep(self, script: str, found: Found) -> _Kept:
-        """Opens a map, and puts it into the cache if that is large enough."""
-        size = len(found.data)
-        reserved = self._reserve(size)
-        try:
-            opened = Map.open(found.data, found.base)
-        except BaseException:
-            with self._lock:
-                self._size -= size * reserved
-            raise
-        with self._lock:
-            self._sizes[script] = size
-            self._opened[script] = self._opened.get(script, 0) + 1
-            if not reserved:
-                return _Kept(opened, size)
-            self._kept[script] = _Kept(opened, size)
-            return _Kept(opened.share(), size)
-
-    def _reserve(self, size: int) -> bool:
-        """Makes room for a map; False if there can't be any."""
-        if size > self.cache_bytes:
-            return False
-        with self._lock:
-            while self._kept and self._size + size > self.cache_bytes:
-                self._drop(next(iter(self._kept)))
-            if self._size + size > self.cache_bytes:
-                return False
-            self._size += size
-            return True
-
-    def _drop(self, script: str) -> None:
-        """Closes a map of the cache. The lock is held."""
-        kept = self._kept.pop(script)
-        kept.map.close()
-        self._size -= kept.size
-
-    def _touch(self, scripts: Iterable[str]) -> None:
-        """Notes that scripts are used now."""
-        with self._lock:
-            for script in scripts:
-                if script in self._kept:
-                    self._kept.move_to_end(script)

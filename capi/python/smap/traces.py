@@ -7,7 +7,7 @@ from ctypes import byref
 from dataclasses import dataclass
 from typing import TYPE_CHECKING, AnyStr, Dict, Iterable, Optional, Tuple
 
-from ._library import OK, FrameStruct, Handle, TraceCounts, check, how_bits, lib, taken
+from ._library import OK, FrameStruct, Handle, Owner, TraceCounts, check, how_bits, lib, taken
 
 if TYPE_CHECKING:
     from .maps import Map
@@ -53,8 +53,11 @@ def named_by(lines: Iterable[bytes]) -> Dict[bytes, int]:
     return named
 
 
-class Scripts:
-    """Scripts, each a URL and a map, by which traces are translated. Maps may be closed once they are in."""
+class Scripts(Owner):
+    """Scripts, each a URL and a map, by which traces are translated. Maps may be closed once they are in.
+
+    They can't be copied or pickled, which raises TypeError.
+    """
 
     def __init__(self, scripts: Optional[Dict[str, Map]] = None) -> None:
         self._handle = Handle()

@@ -1,0 +1,56 @@
+"""What is noted of scripts: by their names, which a log makes up, and so in bounded memory."""
+
+from __future__ import annotations
+
+from collections import OrderedDict
+from typing import Dict, Generic, Optional, TypeVar
+
+__all__ = ["Noted"]
+
+# How many names are known, and how many characters they have together.
+MOST_NAMES = 10_000
+MOST_CHARACTERS = 4_000_000
+
+Value = TypeVar("Value")
+
+
+class Noted(Generic[Value]):
+    """Values of scripts by their names, in the order in which they were noted."""
+
+    def __init__(self) -> None:
+        self._values: OrderedDict[str, Value] = OrderedDict()
+        self._characters = 0
+
+    def __contains__(self, name: object) -> bool:
+        return name in self._values
+
+    def get(self, name: str) -> Optional[Value]:
+        return self._values.get(name)
+
+    def has_room(self, name: str) -> bool:
+        """Whether a new name fits beside those that are known."""
+        return len(self._values) < MOST_NAMES and self._characters + len(name) <= MOST_CHARACTERS
+
+    def note(self, name: str, value: Value) -> None:
+        """Notes a value, which is then the newest. Nothing makes room for it before `trim`."""
+        if name not in self._values:
+            self._characters += len(name)
+        self._values[name] = value
+        self._values.move_to_end(name)
+
+    def trim(self) -> None:
+        """Forgets the oldest until the others have room."""
+        while len(self._values) > MOST_NAMES or self._characters > MOST_CHARACTERS:
+            self._characters -= len(self._values.popitem(last=False)[0])
+
+    def forget(self, name: str) -> None:
+        if name in self._values:
+            del self._values[name]
+            self._characters -= len(name)
+
+    def clear(self) -> None:
+        self._values.clear()
+        self._characters = 0
+
+    def as_dict(self) -> Dict[str, Value]:
+        return dict(self._values)
