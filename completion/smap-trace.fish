@@ -13,17 +13,20 @@ complete -c smap-trace -l list -d 'List the scripts that the log names'
 complete -c smap-trace -a '(__smap_trace_maps)'
 
 # Leaves the URL alone, and completes the file or the folder after its =: maps and folders or, if there are
-# none, any file. After URL=FILE= comes another URL.
+# none, any file. After URL=FILE= comes another URL. Names with control characters are left out, since a name
+# is a line, up to a tab.
 function __smap_trace_maps
-    set -l word (commandline -ct)
+    # the word is as it was typed, and a quote may be open
+    set -l typed (commandline -ct | string collect)
+    set -l word (string unescape -- $typed; or string unescape -- $typed\'; or string unescape -- $typed\")
     string match -q '*=*' -- $word; or return
     set -l path (string replace -r '.*=' '' -- $word)
     set -l head (string replace -r '[^=]*$' '' -- $word)
     set -l before (string replace -r '.*=' '' -- (string replace -r '=$' '' -- $head))
-    string match -q '*=*=' -- $head; and test -f $before; and return
+    string match -q '*=*=' -- $head; and test -f "$before"; and return
     set -l found $path*.map $path*/
     set -q found[1]; or set found $path*
     for name in $found
-        echo $head$name
+        string match -q -r '[[:cntrl:]]' -- $name; or printf '%s\n' $head$name
     end
 end

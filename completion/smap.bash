@@ -1,6 +1,6 @@
 # shellcheck shell=bash
-# Completion of smap, smap-trace, smap-maps and smap-view for bash 4 and later. The package bash-completion loads this file
-# once one of them is completed; without that package, `. smap.bash` in ~/.bashrc does.
+# Completion of smap, smap-trace, smap-maps and smap-view for bash 4 and later. The package bash-completion
+# loads this file once one of them is completed; without that package, `. smap.bash` in ~/.bashrc does.
 
 # The options of each command. rows/completion.rows compares these lines with --help.
 _smap_options='
@@ -31,20 +31,25 @@ _smap_words() {
     done <<<"$_smap_options"
 }
 
-# Splits the line before the cursor into `words`, and sets `quote` to the quote that is open at its end. In
-# bash's own COMP_WORDS a URL is split at each of its : and =.
+# Splits the line before the cursor into `words`, without their quotes, and sets `quote` to the quote that is
+# open at its end. In bash's own COMP_WORDS a URL is split at each of its : and =. What bash replaces is the
+# end of the line, $1; `kept` is set to what is before that in the last word.
 _smap_split() {
-    local LC_ALL=C line=${COMP_LINE:0:COMP_POINT} word='' in_word='' i c
+    local LC_ALL=C line=${COMP_LINE:0:COMP_POINT} word='' in_word='' i c from
+    from=$((${#line} - ${#1}))
     words=()
     quote=''
+    kept=''
     for ((i = 0; i < ${#line}; i++)); do
+        ((i != from)) || kept=$word
         c=${line:i:1}
         if [[ -n $quote && $c == "$quote" ]]; then
             quote=''
         elif [[ $quote == \' ]]; then
             word+=$c
         elif [[ $c == \\ && ($quote == '' || ${line:i+1:1} == [\\\"\$\`]) ]]; then
-            word+=${line:++i:1}
+            word+=${line:i+1:1}
+            ((i++))
             in_word=yes
         elif [[ -n $quote ]]; then
             word+=$c
@@ -61,6 +66,7 @@ _smap_split() {
             in_word=yes
         fi
     done
+    ((i != from)) || kept=$word
     words+=("$word")
 }
 
@@ -70,40 +76,74 @@ _smap_choose() {
     found=$(compgen -W "$1" -- "$2") && mapfile -t COMPREPLY <<<"$found"
 }
 
-# Completes the name of a file that begins with $1: maps and folders or, if there are none or $4 is `any`, any
-# file. $2 is what stands before it in its word, and $3 the end of that word, which bash replaces.
+# Sets `files` to the names that begin with $1, except those with control characters. compgen -f would take
+# what is a quote or a backslash in a name for one of the line.
+_smap_find() {
+    local saved name
+    saved=$(shopt -p nullglob dotglob failglob)
+    [[ $- != *f* ]] || saved+='; set -f'
+    shopt -s nullglob dotglob
+    shopt -u failglob
+    set +f
+    files=()
+    for name in "$1"*; do
+        [[ $name == *[[:cntrl:]]* ]] || files+=("$name")
+    done
+    eval "$saved"
+}
+
+# Sets `name` to what stands for it in the line, within the quote that is open. In "" history expansion takes
+# a ! even behind a backslash, so that stands between other quotes. bash itself leaves a $ or a ` as it is in
+# what several names begin with, so it isn't asked.
+_smap_quote() {
+    local c
+    case $quote in
+    \') set -- ;;
+    \") set -- \\ \" \$ \` ;;
+    *) set -- \\ \" \$ \` \! \' ' ' '~' '#' '&' '*' '(' ')' '|' '[' ']' '{' '}' ';' '<' '>' '?' '^' ',' ;;
+    esac
+    for c; do
+        name=${name//"$c"/"\\$c"}
+    done
+    case $quote in
+    \') name=${name//\'/\'\\\'\'} ;;
+    \") name=${name//\!/\"\'!\'\"} ;;
+    esac
+    # one that comes first takes the place of the open one
+    [[ -z $quote || $name != "$quote"* ]] || name=$quote$name
+}
+
+# Completes the name of a file that begins with $1: maps and folders or, if there are none or $3 is `any`, any
+# file. $2 is what stands before it in its word.
 _smap_files() {
-    local name found maps=() files=() head=$2 piece=$3 kept
-    found=$(compgen -f -- "$1") || return
-    while IFS= read -r name; do
-        files+=("$name")
+    local name files maps=() head=$2 tilde=''
+    # the home folder, unless a quote or a backslash is before the ~
+    [[ -n $quote$head || $piece != \~/* ]] || tilde=\~
+    _smap_find "${tilde:+$HOME}${1#"$tilde"}"
+    for name in "${files[@]}"; do
         [[ $name != *.map && ! -d $name ]] || maps+=("$name")
-    done <<<"$found"
-    [[ ${#maps[@]} -eq 0 || $4 == any ]] || files=("${maps[@]}")
-    [[ $head$1 == *"$piece" ]] || piece=${piece//\\/}
-    kept=${head}$1
-    kept=${kept%"$piece"}
-    if [[ $kept == "$head" ]]; then
-        COMPREPLY=("${files[@]}")
-        compopt -o filenames
-        return
-    fi
+    done
+    [[ ${#maps[@]} -eq 0 || $3 == any ]] || files=("${maps[@]}")
     for name in "${files[@]}"; do
         if [[ -d $name ]]; then
             name+=/
             compopt -o nospace
         fi
+        [[ -z $tilde ]] || name=${name#"$HOME"}
+        [[ -n $head || $name != -* ]] || name=./$name
         name=$head$name
         name=${name#"$kept"}
-        [[ -n $quote ]] || printf -v name %q "$name"
-        COMPREPLY+=("$name")
+        _smap_quote
+        COMPREPLY+=("$tilde$name")
     done
+    # what is listed ends with the names alone
+    compopt -o filenames -o noquote 2>/dev/null
 }
 
 _smap() {
-    local program=${1##*/} piece=$2 words quote word before command='' last i
+    local program=${1##*/} piece=$2 words quote kept word before command='' last i
     COMPREPLY=()
-    _smap_split
+    _smap_split "$piece"
     last=$((${#words[@]} - 1))
     word=${words[last]}
     before=${words[last - 1]}
@@ -122,13 +162,13 @@ _smap() {
     case $program:$before in
     *:'<')
         case $program:$command in
-        smap:check | smap:tidy | smap:flatten | smap:lookup) _smap_files "$word" '' "$piece" ;;
-        *) _smap_files "$word" '' "$piece" any ;;
+        smap:check | smap:tidy | smap:flatten | smap:lookup) _smap_files "$word" '' ;;
+        *) _smap_files "$word" '' any ;;
         esac
         return
         ;;
     *:'>')
-        _smap_files "$word" '' "$piece" any
+        _smap_files "$word" '' any
         return
         ;;
     smap-maps:--base | smap-maps:--jobs | smap-view:--base) return ;;
@@ -138,15 +178,15 @@ _smap() {
     smap-trace:*=*)
         # After URL=FILE= comes another URL.
         local url=${word%=*}
-        [[ -f ${url##*=} && $url == *=* ]] || _smap_files "${word##*=}" "${word%"${word##*=}"}" "$piece"
+        [[ -f ${url##*=} && $url == *=* ]] || _smap_files "${word##*=}" "${word%"${word##*=}"}"
         ;;
     smap-trace:*) ;;
-    smap-view:*) _smap_files "$word" '' "$piece" "$([[ $before != *.map ]] || echo any)" ;;
+    smap-view:*) _smap_files "$word" '' "$([[ $before != *.map ]] || echo any)" ;;
     *)
         if [[ -z $command ]]; then
             _smap_choose "$(_smap_words "$program")" "$word"
         elif [[ $program == smap-maps ]]; then
-            _smap_files "$word" '' "$piece"
+            _smap_files "$word" ''
         fi
         ;;
     esac

@@ -107,7 +107,7 @@ def respelled(text, output):
 
 
 def no_mappings(text, line):
-    """A mappings string is rejected with this line."""
+    """A mappings string is refused with this line."""
     yield run("respell", text, 1, line + "\n")
 
 
@@ -117,7 +117,7 @@ def tidied(text, output):
 
 
 def refused(text, line):
-    """A map is rejected with this line, by `check` and by `tidy`."""
+    """A map is refused with this line, by `check` and by `tidy`."""
     for command in "check", "tidy":
         yield run(command, text, 1, line + "\n")
 

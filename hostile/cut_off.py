@@ -18,7 +18,7 @@ MAPS = [
     r'{"version":3,"file":"x\/y\u0009\u000b","mappings":""}',
 ]
 
-# A map that is rejected even if it is complete.
+# A map that is refused even if it is complete.
 REFUSED = '{"version":3,"sources":["a.js","b.js"],"ignoreList":[2],"mappings":""}'
 
 

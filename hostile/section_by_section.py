@@ -63,7 +63,7 @@ def accepted(*texts):
         yield BothWays(as_bytes(text), True)
 
 
-def rejected(*texts):
+def refused(*texts):
     for text in texts:
         yield BothWays(as_bytes(text), False)
 
@@ -88,7 +88,7 @@ def white_space_may_stand_between_tokens_both_ways():
         for token in '{}[]:,':
             yield from accepted(text.replace(token, token + space), text.replace(token, space + token))
         yield from accepted(space + text + space)
-    yield from rejected(text.replace(",", "\x0b,"), text + "\x00", text + "}", text + ",", text[:-1])
+    yield from refused(text.replace(",", "\x0b,"), text + "\x00", text + "}", text + ",", text[:-1])
 
 
 @test
@@ -105,12 +105,12 @@ def members_before_and_after_the_sections_both_ways():
         yield from accepted(index_map(*parts, front=front))
     yield from accepted(index_map(*parts).replace('"sections"', r'"\u0073ections"', 1))
     for front in '"version":3,"version":2', '"version":"3"', '"version":3,"mappings":""', '"file":"f"':
-        yield from rejected(index_map(*parts, front=front))
+        yield from refused(index_map(*parts, front=front))
     for end in ',"sections":7}', ',"mappings":""}':
-        yield from rejected(index_map(*parts, end=end))
-    yield from rejected('{"sections":[' + parts[0] + "]}", '{"version":3,"sections":[' + parts[0] + "],}")
+        yield from refused(index_map(*parts, end=end))
+    yield from refused('{"sections":[' + parts[0] + "]}", '{"version":3,"sections":[' + parts[0] + "],}")
     yield from accepted('{"version":3,"sections":[]}', '{"version":3,"sections":[ ]}')
-    yield from rejected('{"version":3,"sections":[,]}', '{"version":3,"sections":[' + parts[0] + ",]}")
+    yield from refused('{"version":3,"sections":[,]}', '{"version":3,"sections":[' + parts[0] + ",]}")
 
 
 @test
@@ -118,10 +118,10 @@ def a_prefix_line_and_bytes_that_are_not_utf_8_both_ways():
     text = index_map(section(0), section(1)).encode()
     for prefix in b")]}'\n", b")]}'\r\n", b")]}' x\n":
         yield from accepted(prefix + text)
-    yield from rejected(b"\xef\xbb\xbf" + text, b")]}'" + text)
+    yield from refused(b"\xef\xbb\xbf" + text, b")]}'" + text)
     for byte in b"\x80", b"\xc3", b"\xff", b"\xed\xa0\x80":
-        yield from rejected(text.replace(b"a.js", byte + b".js", 1), text.replace(b"version", b"v" + byte, 1))
-        yield from rejected(text.replace(b"]}", b"]" + byte + b"}"), text + byte)
+        yield from refused(text.replace(b"a.js", byte + b".js", 1), text.replace(b"version", b"v" + byte, 1))
+        yield from refused(text.replace(b"]}", b"]" + byte + b"}"), text + byte)
     yield from accepted(text.replace(b"a.js", "ä.js".encode()))
 
 
@@ -130,7 +130,7 @@ def sections_nest_as_deep_as_json_may_both_ways():
     # The text's object, its sections, a section and its map are four levels.
     for levels in range(120, 130):
         members = '"sources":[],"mappings":"","x":' + "[" * (levels - 4) + "]" * (levels - 4)
-        kind = accepted if levels <= 127 else rejected
+        kind = accepted if levels <= 127 else refused
         yield from kind(index_map(section(0, members)), index_map(section(0), section(1, members)))
         front = '"version":3,"x":' + "[" * (levels - 1) + "]" * (levels - 1)
         yield from kind(index_map(section(0), front=front))
@@ -138,7 +138,7 @@ def sections_nest_as_deep_as_json_may_both_ways():
     for _ in range(7):
         inner = section(0, f'"sections":[{inner}]')
     yield from accepted(index_map(inner))
-    yield from rejected(index_map(section(0, f'"sections":[{inner}]')))
+    yield from refused(index_map(section(0, f'"sections":[{inner}]')))
 
 
 @test
@@ -150,15 +150,15 @@ def the_first_fault_is_answered_both_ways():
         '"sources":[],"mappings":"AAAA"',
     ]
     for one, other in itertools.product(faults, repeat=2):
-        yield from rejected(index_map(section(0), section(1), section(2, one)))
-        yield from rejected(index_map(section(0, one), section(1), section(2, other)))
-        yield from rejected(index_map(section(1, one), section(0, other)))
-        yield from rejected(index_map(section(0), section(0, one), section(0)))
+        yield from refused(index_map(section(0), section(1), section(2, one)))
+        yield from refused(index_map(section(0, one), section(1), section(2, other)))
+        yield from refused(index_map(section(1, one), section(0, other)))
+        yield from refused(index_map(section(0), section(0, one), section(0)))
         for broken in '{"offset":7}', "7", "{", "nul":
-            yield from rejected(index_map(section(0, one), broken), index_map(broken, section(1, one)))
+            yield from refused(index_map(section(0, one), broken), index_map(broken, section(1, one)))
     for section_in_place in "7", "null", "[]", section(0, '"version":2,"mappings":""'):
-        yield from rejected(index_map(section_in_place), index_map(section(0), section_in_place))
-    yield from rejected(index_map(section(5), section(4)))
+        yield from refused(index_map(section_in_place), index_map(section(0), section_in_place))
+    yield from refused(index_map(section(5), section(4)))
 
 
 def maps():

@@ -88,8 +88,9 @@ erase_progress() {
 # ---- checking
 
 # Takes the sizes of the maps of a list. The file `measured` has the list with a number and a size in front of
-# each line, `NUMBER SIZE NAME BASE FILE`, without the maps that can't be read, for which it notes that. The
-# file header.NUMBER has the header of the map in a bundle, behind the line feed that ends the map before.
+# each line, `NUMBER SIZE NAME BASE FILE`, without the maps that can't be read, or whose URLs a bundle can't
+# hold, for which it notes that. The file header.NUMBER has the header of the map in a bundle, behind the line
+# feed that ends the map before.
 measure() {
     sed -e 's/^[^ ]* [^ ]* //' -e '/^\//!s,^,./,' "$1" | tr '\n' '\000' |
         xargs -0 wc -c -- 2>/dev/null >"$room/sizes"
@@ -109,12 +110,27 @@ measure() {
             if (file !~ /^\//) file = "./" file
             # wc adds a line for the total, once or more often
             while (next_one < count && path[next_one + 1] == "total") next_one++
-            if (path[next_one + 1] == file) {
-                note("header." number, "\nmap " front size[++next_one])
-                print number, size[next_one], $0
-            } else {
+            if (path[next_one + 1] != file) {
                 note(number ".fault", "3 cannot read it")
+                next
             }
+            header = "map " front size[++next_one]
+            if (!is_utf8(header)) {
+                note(number ".fault", "1 its URL is not in UTF-8")
+            } else if (length(header) > 65535) {
+                note(number ".fault", "1 its URL is too long")
+            } else {
+                note("header." number, "\n" header)
+                print number, size[next_one], $0
+            }
+        }
+        function is_utf8(text) {
+            gsub(/[\302-\337][\200-\277]|\340[\240-\277][\200-\277]/, " ", text)
+            gsub(/[\341-\354\356\357][\200-\277][\200-\277]|\355[\200-\237][\200-\277]/, " ", text)
+            gsub(/\360[\220-\277][\200-\277][\200-\277]/, " ", text)
+            gsub(/[\361-\363][\200-\277][\200-\277][\200-\277]/, " ", text)
+            gsub(/\364[\200-\217][\200-\277][\200-\277]/, " ", text)
+            return text !~ /[\200-\377]/
         }
         function note(name, text) {
             name = room "/" name

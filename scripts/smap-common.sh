@@ -9,9 +9,21 @@ unset CDPATH
 newline='
 '
 
-# Says something on standard error.
+# Sets `shown` to a text as a terminal may have it: with control characters, which names may hold, as in JSON.
+make_shown() {
+    case $1 in
+    *[!\ -~]*)
+        shown=$(printf '%s\n' "$1" |
+            awk "$in_awk"'{ printf "%s%s", (NR > 1 ? "\\u000a" : ""), escape($0) }')
+        ;;
+    *) shown=$1 ;;
+    esac
+}
+
+# Says something on standard error, after a name, by default that of the script.
 say() {
-    printf '%s: %s\n' "$me" "$1" >&2
+    make_shown "${2-$me}: $1"
+    printf '%s\n' "$shown" >&2
 }
 
 # Says what is wrong, and ends with a status, by default 2.
@@ -94,10 +106,12 @@ deliver() {
     judge_writing "$?" "$said"
 }
 
-# Writes a line to standard output. If that fails, `cat` tries it again, since it says why.
+# Writes a line to standard output, as make_shown makes it. If that fails, `cat` tries it again, since it says
+# why.
 put() {
-    if ! { printf '%s\n' "$1" >&5; } 2>/dev/null; then
-        printf '%s\n' "$1" >"$room/unwritten" || no_room
+    make_shown "$1"
+    if ! { printf '%s\n' "$shown" >&5; } 2>/dev/null; then
+        printf '%s\n' "$shown" >"$room/unwritten" || no_room
         deliver "$room/unwritten"
     fi
 }
@@ -116,13 +130,16 @@ judge_writing() {
 
 # Functions of awk that more than one program needs. `encode` gives a path as in a URL: each byte that a URL
 # can't have there is percent-encoded. `decode` is the reverse, and `bare` a URL without query and fragment.
-# `own_url` is the URL of a script: that in the log, or the file: URL of a path.
+# `own_url` is the URL of a script: that in the log, or the file: URL of a path. `escape` gives a line with
+# its control characters, of one byte or of two in UTF-8, as in JSON.
 # shellcheck disable=SC2016
 in_awk='
     BEGIN {
         for (code = 1; code < 256; code++) {
             character = sprintf("%c", code)
             byte[sprintf("%02x", code)] = character
+            if (code < 32 || code == 127) shown_as[character] = sprintf("\\u%04x", code)
+            if (code > 127 && code < 160) shown_as["\302" character] = sprintf("\\u%04x", code)
             in_url[character] = code < 33 || code > 126 || index("\"#%<>?\\^`{}", character) ? \
                 sprintf("%%%02X", code) : character
         }
@@ -149,6 +166,11 @@ in_awk='
             script = "/" script
         }
         return script ~ /^\// ? "file://" encode(script) : script
+    }
+    function escape(line, character) {
+        if (line ~ /[\001-\037\177]|\302[\200-\237]/)
+            for (character in shown_as) gsub(character, shown_as[character], line)
+        return line
     }'
 
 # Sets `encoded` to a path as in a URL.
@@ -216,6 +238,12 @@ without_slashes() {
     while [ "$folder" != "${folder%/}" ]; do
         folder=${folder%/}
     done
+}
+
+# Whether a file is a file of a folder, or of one below it, once links are followed.
+is_below() {
+    [ -f "$1" ] && real=$(readlink -f -- "$1") && top=$(cd -- "$2" 2>/dev/null && pwd -P) || return 1
+    case $real in "${top%/}"/*) ;; *) return 1 ;; esac
 }
 
 # Splits a line of a list. `path` is the file under a name that no command takes for an option.
@@ -288,8 +316,8 @@ fault_of() {
     esac
 }
 
-# Splits the error of a refused map, `fault`: sets `section` to the path of its section, `segment` to its line and
-# segment, both empty where it has none, and `message` to the rest.
+# Splits the error of a refused map, `fault`: sets `section` to the path of its section, `segment` to its line
+# and segment, both empty where it has none, and `message` to the rest.
 take_place() {
     section='' segment=''
     message=$fault

@@ -12,7 +12,7 @@ find_log() {
     [ -f /proc/self/fd/3 ] && { : </proc/self/fd/3; } 2>/dev/null || return 0
     log=/proc/self/fd/3
     size=$(($(wc -c <"$log")))
-    case $(od -A n -t x1 -N 3 "$log") in
+    case $(od -A n -t x1 -N 3 <"$log") in
     ' 1f 8b'*) say 'the log is compressed: zcat crash.log.gz | smap-trace ... reads it' ;;
     ' ff fe'* | ' fe ff'*)
         say 'the log is in UTF-16: iconv -f UTF-16 -t UTF-8 crash.log | smap-trace ... reads it'
@@ -74,7 +74,7 @@ name_scripts() {
 # Those that frames don't name are looked for as they are, with and without their default port, as a path and
 # as a file: URL, and in capitals and small letters.
 name_texts() {
-    awk '
+    awk -F '[ ]' '
         { print $1 }
         match($1, /^https?:\/\/[^\/?#]*/) {
             host = substr($1, 1, RLENGTH)
@@ -112,10 +112,10 @@ look_at_log() {
 
 # Lists the scripts that frames of the log name, the most frequent first.
 write_list() {
-    sort -k 1,1nr -k 2 "$room/named" | awk '
+    sort -k 1,1nr -k 2 "$room/named" | awk -F '[ ]' "$in_awk"'
         list { on_list[$1] = 1; next }
         matched { if ($1 in on_list) has[$2] = 1; next }
-        { printf "%7d  %-9s  %s\n", $1, $2 in has ? "has a map" : "no map", $2 }
+        { printf "%7d  %-9s  %s\n", $1, $2 in has ? "has a map" : "no map", escape($2) }
     ' list=1 "$room/list" list= matched=1 "$room/matched" matched= -
 }
 
@@ -139,12 +139,12 @@ hint_at_list() {
 
 # Names scripts that have no map only because of their query or fragment.
 hint_at_queries() {
-    awk "$in_awk"'
+    awk -F '[ ]' "$in_awk"'
         given { name[bare($1)] = $1; next }
         matched { has[$2] = 1; next }
         !($2 in has) && bare($2) in name && count++ < 3 { print $2, name[bare($2)] }
     ' given=1 "$room/given" given= matched=1 "$room/matched" matched= "$room/named" >"$room/differ" || no_room
-    while read -r url name; do
+    while IFS=' ' read -r url name; do
         case $name in
         *[?#]*) say "$url differs from $name, which has a map, by the query or fragment" ;;
         *) say "$url differs by ${url#"$name"} from $name, which has a map: --ignore-query leaves that out" ;;
@@ -174,10 +174,41 @@ list_scripts() {
 
 # ---- the translation
 
+# Writes the bundle of maps that were measured: of each no more than then, whatever comes behind it since.
+write_measured() {
+    while IFS= read -r line; do
+        line=${line#* }
+        length=${line%% *}
+        take_apart "${line#* }"
+        printf 'map %s %s %s\n' "$name" "$base" "$length"
+        head -c "$length" <"$path"
+        echo
+    done <"$room/measured"
+    cat "$room/trace"
+}
+
+# Ends if a map isn't what it was when it was checked, as far as its size says that.
+measure_again() {
+    mv -f "$room/measured" "$room/before"
+    measure "$room/list"
+    judge_maps
+    awk '
+        {
+            file = $0
+            sub(/^[^ ]* [^ ]* [^ ]* [^ ]* /, "", file)
+        }
+        before { size[file] = $2; next }
+        size[file] != $2 { print file }
+    ' before=1 "$room/before" before= "$room/measured" >"$room/differ" || no_room
+    while IFS= read -r file; do
+        fail "$file has changed since it was checked" 3
+    done <"$room/differ"
+}
+
 # Writes the bundle and the log. The folder for temporary files goes as soon as the bundle is written.
 send() {
     trap 'rm -rf "$room"; exit 1' HUP INT TERM PIPE
-    write_bundle "$room/measured" 1 2>/dev/null
+    write_measured 2>/dev/null
     rm -rf "$room"
     trap - HUP INT TERM PIPE
     read_log
@@ -185,7 +216,7 @@ send() {
 
 # Translates the log. What writes the output is `cat`, since it says why it can't, where smap can't say that.
 translate() {
-    cmp -s "$room/list" "$room/checked" || measure "$room/list"
+    measure_again
     # from here on a signal ends the script at once, however long the log is followed
     trap - EXIT HUP INT TERM PIPE
     told=$(

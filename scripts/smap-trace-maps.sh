@@ -46,6 +46,7 @@ add_folder() {
     parent=$folder
     case $1 in *"$newline"*) fail "the URL is empty or holds a space (in a URL that is %20): '$1'" ;; esac
     files_below "$parent" -name '?*.map' -o -name '?*.js' -o -name '?*.[cm]js' >"$room/names" || exit
+    printf '%s\n' "$parent" >>"$room/folders" || no_room
     awk '
         maps { if (sub(/\.map$/, "")) has[$0] = 1; next }
         !($0 in has)' maps=1 "$room/names" maps= "$room/names" >"$room/wanted" || no_room
@@ -81,12 +82,16 @@ is_map() {
     { [ -f "$1" ] || [ -p "$1" ]; } && [ -r "$1" ]
 }
 
-# Adds the map of a script: its file, and `=BASE` if one is given.
+# Adds the map of a script: its file, and `=BASE` if one is given. A pipe, which is read once, is always a
+# map.
 add_map() {
     [ "$3" != = ] || fail "the base is empty or holds a space (in a URL that is %20): ''"
     base=${3#=}
-    ! is_script "$2" || base=+$base
-    [ ! -p "$2" ] || printf '%s\n' "$2" >>"$room/pipes" || no_room
+    if [ -p "$2" ]; then
+        printf '%s\n' "$2" >>"$room/pipes" || no_room
+    elif is_script "$2"; then
+        base=+$base
+    fi
     add "$1" "$base" "$2"
 }
 
@@ -139,7 +144,7 @@ no_map() {
 # the host, or in being a path or its file: URL. The file `given` has the whole list then, and `matched` a
 # line for each name in the log that has a map: the name on the list, and that in the log.
 choose_maps() {
-    awk -v may_be_alike="$1" -v query="$query" -v room="$room" "$in_awk"'
+    awk -F '[ ]' -v may_be_alike="$1" -v query="$query" -v room="$room" "$in_awk"'
         # a path, the same for C:\ and C:/
         function path_key(path) {
             if (path ~ /^\/[A-Za-z]:/) path = substr(path, 2)
@@ -208,11 +213,31 @@ tell_choice() {
 
 # ---- maps that scripts name
 
-# Whether the last line of a script names a map. Its name is in the file `link` then.
+# Whether the last line of a script names a map. Its name is in the file `link` then, as far as 64 KiB have
+# it.
 find_link() {
-    tail -n 1 -- "$1" 2>/dev/null |
+    tail -n 1 -- "$1" 2>/dev/null | head -c 65536 |
         sed -n 's,^//[#@] sourceMappingURL=\([^[:space:]]*\)[[:space:]]*$,\1,p' >"$room/link" || no_room
     [ -s "$room/link" ]
+}
+
+# Writes the map in the last line of a script, behind the comma of its data: URL, without holding the line.
+write_inline() {
+    front=$(sed 's/,.*/,/' "$room/link")
+    tail -n 1 -- "$1" | tail -c "+$((${#front} + 22))" | tr -d '[:space:]' | base64 -d 2>/dev/null
+}
+
+# Whether a file that a script names is one of its folder, once links are followed: of the folder that was
+# given, or else of the script's own.
+stays() {
+    if [ "$base" != - ]; then
+        is_below "$1" "${path%/*}/"
+        return
+    fi
+    while IFS= read -r folder; do
+        case $given in "$folder"/*) ! is_below "$1" "$folder/" || return 0 ;; esac
+    done <"$room/folders"
+    return 1
 }
 
 # Sets `file` to the map that a script of the list names, `base` to its URL, and `which` to what it is.
@@ -223,7 +248,7 @@ follow_script() {
     own_url "$name"
     case $(cut -c 1-100 "$room/link") in
     data:*\;base64,*)
-        sed 's/^[^,]*,//' "$room/link" | base64 -d >"$room/copy.$1" 2>/dev/null || return 1
+        write_inline "$path" >"$room/copy.$1" || return 1
         printf '%s\n' "$file" >"$room/copy.$1.name" || no_room
         which='inline map'
         base=$own
@@ -231,13 +256,18 @@ follow_script() {
         ;;
     *:* | /*) return 1 ;;
     *)
-        base=${own%/*}/$(cat "$room/link")
         which=$(awk "$in_awk"'{ print decode(bare($0)) }' "$room/link")
+        named=${path%/*}/$which
         case $file in */*) which=${file%/*}/$which ;; esac
-        if ! is_map "$which"; then
+        case $which in *"$newline"*) return 1 ;; esac
+        if [ ! -r "$named" ]; then
             which="names a map that can't be read: $which"
             return 1
+        elif ! stays "$named"; then
+            which="names what is no file of its folder: $which"
+            return 1
         fi
+        base=${own%/*}/$(cat "$room/link")
         file=$which
         which="map, $which,"
         ;;
@@ -283,6 +313,7 @@ settle_map() {
         if follow_script "$number"; then
             say "$given ($name) is a script: its $which is used"
         else
+            [ ! -s "$room/link" ] || say "$given ($name): it $which"
             own_url "$name"
             base=$own.map
         fi

@@ -1,6 +1,6 @@
 # shellcheck shell=sh
 # What scripts/run-packages tests of the completions: a line is typed into bash and zsh as a user does, with a
-# tab, and fish is asked what it offers.
+# tab, and fish is asked what it offers. Names that strangers might choose are completed in all three.
 
 # The folder in which a command is completed.
 put_lines() {
@@ -53,15 +53,27 @@ bind -x '"\\C-x\\C-l": printf "\\002%s\\003" "\$READLINE_LINE"'
 END
 }
 
+# The same for zsh, whose start file is in a folder of its own.
 start_zsh() {
-    mkdir -p "$work/zsh" && cat >"$work/zsh/.zshrc" <<END
+    mkdir -p "$1" && cat >"$1/.zshrc" <<END
 PS1=\$'\\005'
-cd $work/completed
+cd $2
 fpath=("$usr/share/zsh/site-functions" \$fpath)
-autoload -Uz compinit && compinit -u -d $work/zsh/dump
+autoload -Uz compinit && compinit -u -d $1/dump
 line() { printf '\\002%s\\003' "\$BUFFER" }
 zle -N line
 bindkey '^X^L' line
+END
+}
+
+start_fish() {
+    cat >"$1" <<END
+set -g fish_complete_path '$usr/share/fish/vendor_completions.d' \$fish_complete_path
+set -g fish_greeting
+function fish_prompt; printf '\005'; end
+function fish_title; end
+function line; printf '\002%s\003' (commandline | string collect); end
+bind \cx\cl line
 END
 }
 
@@ -88,16 +100,32 @@ completes_in_fish() {
     done <"$work/lines"
 }
 
+# Completes names that strangers might choose, in the shell that the words run.
+completes_names() {
+    shell=$1
+    shift
+    mkdir -p "$work/names" && python3 -B completion/tests/names.py "$work/names/$shell" "$@"
+}
+
 test_completion() {
     put_lines "$work/completed"
     lines >"$work/lines"
     if has bash 'completion in bash'; then
         start_bash "$work/bashrc" "$work/completed" "$usr/share/bash-completion/completions"
         try 'bash completes commands' completes "$work/lines" bash --noprofile --rcfile "$work/bashrc" -i
+        start_bash "$work/names-bashrc" . "$usr/share/bash-completion/completions"
+        try 'bash completes any name' completes_names bash bash --noprofile --rcfile "$work/names-bashrc" -i
     fi
     if has zsh 'completion in zsh'; then
-        start_zsh
+        start_zsh "$work/zsh" "$work/completed"
         try 'zsh completes commands' completes "$work/lines" env ZDOTDIR="$work/zsh" zsh -d -i
+        start_zsh "$work/names-zsh" .
+        try 'zsh completes any name' completes_names zsh env ZDOTDIR="$work/names-zsh" zsh -d -i
     fi
-    has fish 'completion in fish' && try 'fish completes commands' completes_in_fish
+    if has fish 'completion in fish'; then
+        try 'fish completes commands' completes_in_fish
+        start_fish "$work/names.fish"
+        try 'fish completes any name' completes_names fish \
+            env HOME="$work/fish" fish --no-config --init-command "source $work/names.fish" -i
+    fi
 }
