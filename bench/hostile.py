@@ -4,12 +4,14 @@
     python3 bench/hostile.py crates/smap/out/smap --only sections
     python3 bench/hostile.py crates/smap/out/smap --into docs/PERFORMANCE.md
     python3 bench/hostile.py crates/smap/out/smap --once
+    python3 bench/hostile.py crates/smap/out/smap --library capi/out
 
 Each input is long or deep in one respect, and its answer is made beside it, without the program. Prints the
 processor time and the peak memory at the largest size, and the exponent of growth from an eighth of it: time
 goes with the bytes that are read and written to that power. The last line says how many answers were wrong.
 With --into the table is put between the two lines of that file that hold `figures of hostile.py`. A command
-that the program doesn't have is left out.
+that the program doesn't have is left out. With --library, which takes the folder that scripts/build-capi made,
+the C library also opens inputs, without and with a bound on the bytes of their URLs, by the Python module.
 
 With --once each input is run at its largest size alone, and the run has to keep to what docs/PERFORMANCE.md
 states of it. It passes where the answer is right, the processor time is at most five times that of the table
@@ -169,6 +171,16 @@ def long_host(n):
 def long_root(n):
     text = map_of(sourceRoot="r" * n, sources=[f"{i}.js" for i in range(100)])
     return text, canonical(sources=[HERE + "r" * n + f"/{i}.js" for i in range(100)])
+
+
+def many_times_a_root(n):
+    """A fifth as many sources as the root has bytes: the URLs take the square of the text."""
+    text = map_of(sourceRoot="r" * n, sources=[str(i) for i in range(n // 5)])
+    return text, f"{n // 5} sources\n"
+
+
+def beyond_the_bound(n):
+    return many_times_a_root(n)[0], refused("too many bytes of URLs")
 
 
 def every_source_ignored(n):
@@ -454,13 +466,29 @@ ROWS = [
     ("translate", 500, long_script),
 ]
 
+# The same for the library, with the bound on the bytes of URLs if there is one.
+LIBRARY_ROWS = [
+    ("open", 20_000, many_times_a_root),
+    ("open within", 20_000, beyond_the_bound),
+    ("open within", 200_000, beyond_the_bound),
+]
+BOUNDS = {"open": [], "open within": ["1048576"]}
+OPENED = Path(__file__).resolve().parent / "opened.py"
 
-def answered(program, command, make, size, folder):
+
+def command_line(program, library, command):
+    """The program that runs a command, and its words."""
+    if command in BOUNDS:
+        return sys.executable, ["-B", OPENED, library / "libsmap.so", BASE, *BOUNDS[command]]
+    return program, words_of(command)
+
+
+def answered(program, library, command, make, size, folder):
     """The bytes, time and memory of one run, and whether its answer was right."""
     source, sink = folder / "input", folder / "output"
     text, output = make(size)
     source.write_text(text, encoding="utf-8")
-    status, seconds, memory = run(program, words_of(command), source, sink)
+    status, seconds, memory = run(*command_line(program, library, command), source, sink)
     expected = output.encode()
     right = status == (1 if output.startswith("refused: ") else 0) and sink.read_bytes() == expected
     return source.stat().st_size + len(expected), seconds, memory, right
@@ -471,9 +499,14 @@ def label_of(size, make):
     return f"{make.__name__.replace('_', ' ')}, {size:,}"
 
 
-def rows_of(part):
+def has(program, command):
+    return command in BOUNDS or has_command(program, command)
+
+
+def rows_of(part, library):
     """The rows with this part of a name, each with its label."""
-    rows = [(command, size, make, label_of(size, make)) for command, size, make in ROWS]
+    rows = ROWS + LIBRARY_ROWS if library else ROWS
+    rows = [(command, size, make, label_of(size, make)) for command, size, make in rows]
     return [row for row in rows if part.replace("_", " ") in row[3].rpartition(", ")[0]]
 
 
@@ -502,16 +535,16 @@ def faults_of(right, seconds, memory, stated):
         yield f"{memory:.0f} MB, and not {most_memory:.0f} MB at most"
 
 
-def run_once(program, part):
+def run_once(program, library, part):
     """Runs each input at its largest size, tells what fails, and answers how many did."""
     resource.prlimit(starter().pid, resource.RLIMIT_CPU, (MOST_SECONDS + 1, MOST_SECONDS + 1))
     stated = figures_in(FIGURES)
-    rows = rows_of(part)
+    rows = rows_of(part, library)
     failed = 0
     with tempfile.TemporaryDirectory() as folder:
         for command, size, make, label in rows:
-            if has_command(program, command):
-                _, seconds, memory, right = answered(program, command, make, size, Path(folder))
+            if has(program, command):
+                _, seconds, memory, right = answered(program, library, command, make, size, Path(folder))
                 faults = list(faults_of(right, seconds, memory, stated.get((command, label))))
             else:
                 faults = ["the program doesn't have this command"]
@@ -522,17 +555,18 @@ def run_once(program, part):
     return failed
 
 
-def run_at_four_sizes(program, part, into):
+def run_at_four_sizes(program, library, part, into):
     """Prints the table, and answers how many rows were answered wrongly."""
     lines = [HEAD]
     print(HEAD, flush=True)
     wrong = 0
     with tempfile.TemporaryDirectory() as folder:
-        for command, size, make, label in rows_of(part):
-            if not has_command(program, command):
+        for command, size, make, label in rows_of(part, library):
+            if not has(program, command):
                 print(f"{command}, {label}: the program doesn't have this command", file=sys.stderr)
                 continue
-            seen = [answered(program, command, make, size * k // 8, Path(folder)) for k in (1, 2, 4, 8)]
+            sizes = [size * k // 8 for k in (1, 2, 4, 8)]
+            seen = [answered(program, library, command, make, n, Path(folder)) for n in sizes]
             if not all(right for _, _, _, right in seen):
                 wrong += 1
                 print(f"{command}, {label}: WRONG", file=sys.stderr)
@@ -551,14 +585,15 @@ def main():
     raw = argparse.RawDescriptionHelpFormatter
     parser = argparse.ArgumentParser(description=__doc__, formatter_class=raw)
     parser.add_argument("program", help="the built program")
+    parser.add_argument("--library", type=Path, help="the folder of the built C library")
     parser.add_argument("--only", default="", help="a part of the names of the inputs that are run")
     parser.add_argument("--into", help="a file to put the table into")
     parser.add_argument("--once", action="store_true", help="run each input once, and hold it to the table")
     options = parser.parse_args()
     if options.once:
-        wrong = run_once(options.program, options.only)
+        wrong = run_once(options.program, options.library, options.only)
     else:
-        wrong = run_at_four_sizes(options.program, options.only, options.into)
+        wrong = run_at_four_sizes(options.program, options.library, options.only, options.into)
     return 1 if wrong else 0
 
 
