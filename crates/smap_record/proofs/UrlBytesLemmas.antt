@@ -59,7 +59,7 @@ module _ (base : Parts) where
     pub url_bytes_at_least : url_bytes base (take i ws) + source_bytes base root source ≤ url_bytes base ws
     url_bytes_at_least =
         let least =
-            sum_by_more_le (λ (s : Spelling). source_bytes base s.root s.source) ws i no_source within in
+        sum_by_more_le (λ (s : Spelling). source_bytes base s.root s.source) ws i no_source within in
         omega (arith, least, is_next)
 
 -- ---- the URLs of what is listed
@@ -76,7 +76,7 @@ module _ (base : Parts) (root : Option (List ℕ)) where
 
       stable : (b : Bool) (text : List ℕ)
           → length (unwrap_or (url_if (if b then resolved text else unstable)) [])
-            ≤ max (length own) (length text)
+          ≤ max (length own) (length text)
       stable true text = omega arith
       stable false text = omega arith
 
@@ -101,7 +101,7 @@ module _ (base : Parts) where
       let own = own_within s in
       let rest = all_within ws in
       let urls =
-          sum_by-cons (λ (u : Option (List ℕ)). length (unwrap_or u [])) (url_of base s) (map (url_of base) ws) in
+      sum_by-cons (λ (u : Option (List ℕ)). length (unwrap_or u [])) (url_of base s) (map (url_of base) ws) in
       let bytes = sum_by-cons (λ (s : Spelling). source_bytes base s.root s.source) s ws in
       omega (arith, own, rest, urls, bytes)
 
@@ -118,7 +118,7 @@ module _ (base : Parts) where
   listed_within es ws most same few =
       let all = all_within ws in
       let urls =
-          of_urls es ∙ ap (λ (us : List (Option (List ℕ))). sum_by (λ u. length (unwrap_or u [])) us) same in
+      of_urls es ∙ ap (λ (us : List (Option (List ℕ))). sum_by (λ u. length (unwrap_or u [])) us) same in
       grind (arith, nat_tests, all, urls, few)
 
 -- ---- a map within its bytes

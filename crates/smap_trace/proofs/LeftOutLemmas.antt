@@ -110,7 +110,7 @@ module _ (keeps : Script → Bool) (ignore : Bool) (text : List ℕ) where
       one : (s : Script) (ss : List Script)
           → url_length (longest ignore (filter keeps ss) text) ≤ url_length (longest ignore ss text)
           → url_length (longest ignore (filter keeps (s ∷ ss)) text)
-            ≤ url_length (longest ignore (s ∷ ss) text)
+          ≤ url_length (longest ignore (s ∷ ss) text)
       one s ss le = grind (arith, nat_tests)
 
   -- a script that is left out has none, or not the longest

@@ -106,8 +106,12 @@ pub anywhere_written : (ignore : Bool) (scripts : List Script) (hide : Bool) (li
     ≡ written (anywhere_fate ignore scripts hide (without_line_feed line)) line
 anywhere_written ignore scripts hide line shown =
     let text = without_line_feed line in
-    grind (arith, kept_pieces (pieces_of ignore scripts text), pieces_joined ignore scripts [] 0 text,
-        line_parts line)
+    grind (
+      arith,
+      kept_pieces (pieces_of ignore scripts text),
+      pieces_joined ignore scripts [] 0 text,
+      line_parts line,
+    )
 
 pub shown_all : (ignore : Bool) (scripts : List Script) (hide : Bool) (text : List ℕ) → hide ≡ false
     → is_dropped (frame_fate ignore scripts hide text) ≡ false

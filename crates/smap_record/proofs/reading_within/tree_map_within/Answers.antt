@@ -32,7 +32,7 @@ returns-in_err-map-clause-reads c =
     ∙ tree_without tree left (contents_of tree) c.in_ok-contents.ensures.members in
     let p = err_from_is_err_and c.from_residual-in_err-map.result c.from_residual-in_err-map.ensures.1 in
     let few : are_within c.args.base.now c.args.most ws ≡ true =
-        sym c.in_ok-within.ensures ∙ c.if-not-within.false in
+    sym c.in_ok-within.ensures ∙ c.if-not-within.false in
     let members : tree_map c.args.base.now c.args.limits tree ≡ members_map c.args.base.now c.args.limits
     (map_value (map_with_contents (texts_of c.in_ok-contents.contents.items)) (shape_of left)) =
     ap (members_map c.args.base.now c.args.limits) (c.in_ok-contents.ensures.members
@@ -50,7 +50,7 @@ returns-clause-reads c =
     let written : ws ≡ of_tree tree = c.in_ok-written.ensures
     ∙ tree_without tree left (contents_of tree) members in
     let few : are_within c.args.base.now c.args.most ws ≡ true =
-        sym c.in_ok-within.ensures ∙ c.if-not-within.false in
+    sym c.in_ok-within.ensures ∙ c.if-not-within.false in
     let reads : tree_map c.args.base.now c.args.limits tree ≡ Ok c.in_ok-map.map =
     ap (members_map c.args.base.now c.args.limits) (members
     ∙ ap (λ (own : List (Option (List ℕ))). map_value (map_with_contents own) (shape_of left))
@@ -70,7 +70,7 @@ returns-clause-within c =
     (sym c.in_ok-contents.ensures.contents))
     ∙ c.in_ok-map.ensures.reads in
     let few : are_within c.args.base.now c.args.most ws ≡ true =
-        sym c.in_ok-within.ensures ∙ c.if-not-within.false in
+    sym c.in_ok-within.ensures ∙ c.if-not-within.false in
     listed_within c.args.base.now c.in_ok-map.map.listing.sources ws c.args.most
     (listed_urls c.args.base.now c.args.limits tree c.in_ok-map.map reads ws
     (c.in_ok-written.ensures ∙ tree_without tree left (contents_of tree) members)) few

@@ -17,7 +17,7 @@ returns-in_err-tree-clause-reads c =
 pub returns-clause-reads : goal.returns-clause-reads
 returns-clause-reads c =
     subst (λ (expected : Checked (Option ReadMap)).
-            Returns (option_map (λ r. r.0)) c.tree_map_within.result expected)
+    Returns (option_map (λ r. r.0)) c.tree_map_within.result expected)
     (sym (read_within c.args.base.now c.args.limits c.args.url_bytes c.args.bytes.now (view c.in_ok-tree.tree)
     c.in_ok-tree.ensures))
     c.tree_map_within.ensures.reads
