@@ -1,5 +1,6 @@
 -- Answers that are known but for a want of memory.
-use Rattle.std.proofs.Common.{◌≡◌, ◌∙◌, ◌⊎◌, inl, inr, ⊎_elim, ℕ, List, Option, Some, None, Ok, Err, sym, subst}
+use Rattle.std.proofs.Common.{◌≡◌, ◌∙◌, ◌⊎◌, inl, inr, ⊎_elim, ℕ, List, Option, Some, None, Ok, Err, sym}
+use Rattle.std.proofs.Common.{subst}
 use Rattle.std.specs.Prelude.{Result}
 use Rattle.std.specs.declared.option.Option.TheVariants as o
 use Rattle.std.specs.declared.result.Result.TheVariants as r
@@ -18,4 +19,5 @@ pub given : (answer : Result (Option (Vec ℕ)) ℕ) (said : Answer) (old new : 
     → IsAnswer answer said → Gives (answer_of answer) old new code → Gives said old new code
 given answer said old new code is gives =
     ⊎_elim (λ same. subst (λ (a : Answer). Gives a old new code) same gives)
-    (λ memory. without_memory said old new code (subst (λ (a : Answer). Gives a old new code) memory gives)) is
+    (λ memory. without_memory said old new code
+    (subst (λ (a : Answer). Gives a old new code) memory gives)) is

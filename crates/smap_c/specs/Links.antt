@@ -1,9 +1,10 @@
 -- What the calls that tie a script to its map come to.
-use Rattle.std.specs.Prelude.{◌≡◌, ◌⊎◌, ℕ, Bool, true, false, List, Option, Some, None, Result, Ok, Err, option_map}
+use Rattle.std.specs.Prelude.{◌≡◌, ◌⊎◌, ℕ, Bool, true, false, List, Option, Some, None, Result, Ok, Err}
+use Rattle.std.specs.Prelude.{cond, option_map}
 use Rattle.std.specs.Global.{Vec}
 use Rattle.std.specs.Str.{bytes_eq, is_utf8}
 use Rattle.base64.specs.declared.engine.general_purpose.GeneralPurpose.{GeneralPurpose as Engine}
-use Rattle.smap_link.specs.Alike.{normal_form}
+use Rattle.smap_link.specs.Alike.{key_of, normal_form}
 use Rattle.smap_link.specs.Comment.{css_map_url, map_url}
 use Rattle.smap_link.specs.Inline.{IsForgiving, inline_map}
 use Rattle.smap_link.specs.Names.{script_name}
@@ -36,7 +37,8 @@ Answer = Result (Option (List ℕ)) ℕ
 
 -- the handle has the bytes, or the code says why not; or memory ran out
 abbrev pub Gives : Answer → Option (Vec ℕ) → Option (Vec ℕ) → ℕ → Type 0
-Gives (Ok (Some bytes)) old new code = (Holds bytes new × (code ≡ codes.OK)) ⊎ ((new ≡ old) × (code ≡ codes.MEMORY))
+Gives (Ok (Some bytes)) old new code = (Holds bytes new × (code ≡ codes.OK))
+    ⊎ ((new ≡ old) × (code ≡ codes.MEMORY))
 Gives (Ok None) old new code = (new ≡ old) × ((code ≡ codes.NONE) ⊎ (code ≡ codes.MEMORY))
 Gives (Err fault) old new code = (new ≡ old) × ((code ≡ fault) ⊎ (code ≡ codes.MEMORY))
 
@@ -53,7 +55,8 @@ data_answer (Err fault) = Err (data_code fault)
 
 -- The bytes that a data: URL holds.
 abbrev pub DataGiven : List ℕ → Option (Vec ℕ) → Option (Vec ℕ) → ℕ → Type 0
-DataGiven url old new code = (e : Engine) × IsForgiving e × Gives (data_answer (inline_map e url)) old new code
+DataGiven url old new code = (e : Engine) × IsForgiving e
+    × Gives (data_answer (inline_map e url)) old new code
 
 -- The file: URL of an absolute path.
 abbrev pub url_answer : Bool → List ℕ → Answer
@@ -98,13 +101,17 @@ link_answer (Err fault) = Err (link_code fault)
 abbrev pub ResolvedGiven : List ℕ → List ℕ → Option (Vec ℕ) → Option (Vec ℕ) → ℕ → Type 0
 ResolvedGiven script url old new code = Gives (link_answer (resolved script url)) old new code
 
--- What all names of a script have in common.
-abbrev pub FormGiven : List ℕ → Option (Vec ℕ) → Option (Vec ℕ) → ℕ → Type 0
-FormGiven name old new code = Gives (Ok (Some (normal_form name))) old new code
+-- What all names of a script have in common, or those with the same query.
+abbrev pub form_of : Bool → List ℕ → List ℕ
+form_of with_query name = cond with_query (key_of name) (normal_form name)
+
+abbrev pub FormGiven : Bool → List ℕ → Option (Vec ℕ) → Option (Vec ℕ) → ℕ → Type 0
+FormGiven with_query name old new code = Gives (Ok (Some (form_of with_query name))) old new code
 
 -- Two names have that in common.
 abbrev pub AlikeTold : List ℕ → List ℕ → Bool → Bool → ℕ → Type 0
-AlikeTold one other before after code = ((code ≡ codes.OK) × (after ≡ bytes_eq (normal_form one) (normal_form other)))
+AlikeTold one other before after code =
+    ((code ≡ codes.OK) × (after ≡ bytes_eq (normal_form one) (normal_form other)))
     ⊎ ((code ≡ codes.MEMORY) × (after ≡ before))
 
 -- ---- for private contracts

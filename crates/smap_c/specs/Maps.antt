@@ -1,5 +1,6 @@
 -- What the calls that open, share, compare and count maps come to.
-use Rattle.std.specs.Prelude.{ℕ, ◌≤◌, ◌<◌, ◌==◌, if◌then◌else◌, ◌≡◌, ◌⊎◌, List, Option, Some, None, Result, Ok}
+use Rattle.std.specs.Prelude.{ℕ, ◌≤◌, ◌<◌, ◌==◌, if◌then◌else◌, ◌≡◌, ◌⊎◌, List, Option, Some, None, Result}
+use Rattle.std.specs.Prelude.{Ok}
 use Rattle.std.specs.Prelude.{Err, IsErr, IsUtf8, ◌↔◌, Bool, IsTrue, length, map}
 use Rattle.smap_vlq.specs.Limits.{max_position}
 use Rattle.smap_mappings.specs.Limits.{max_lines}

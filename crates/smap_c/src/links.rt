@@ -83,7 +83,8 @@ fn data_of(alloc: Global, url: &[u8]) -> Result<Option<Vec<u8>>, u32>
 /// The bytes that a data: URL holds.
 #[unsafe(no_mangle)]
 pub extern "C" fn smap_data_url(alloc: Global, url: &[u8], out: &mut SmapBytes) -> u32
-    ensures { spec.DataGiven url.now (held_bytes out.old.owner.value) (held_bytes out.new.owner.value) result }
+    ensures { spec.DataGiven url.now (held_bytes out.old.owner.value)
+        (held_bytes out.new.owner.value) result }
 {
     let answer = data_of(alloc, url);
     give(alloc, answer, out)
@@ -102,7 +103,8 @@ fn url_of(alloc: Global, path: &[u8]) -> Result<Option<Vec<u8>>, u32>
 /// The file: URL of an absolute path.
 #[unsafe(no_mangle)]
 pub extern "C" fn smap_file_url(alloc: Global, path: &[u8], out: &mut SmapBytes) -> u32
-    ensures { spec.FileUrlGiven path.now (held_bytes out.old.owner.value) (held_bytes out.new.owner.value) result }
+    ensures { spec.FileUrlGiven path.now (held_bytes out.old.owner.value)
+        (held_bytes out.new.owner.value) result }
 {
     let answer = url_of(alloc, path);
     give(alloc, answer, out)
@@ -130,7 +132,8 @@ fn path_of(alloc: Global, url: &[u8]) -> Result<Option<Vec<u8>>, u32>
 /// The path of a file: URL.
 #[unsafe(no_mangle)]
 pub extern "C" fn smap_file_path(alloc: Global, url: &[u8], out: &mut SmapBytes) -> u32
-    ensures { spec.FilePathGiven url.now (held_bytes out.old.owner.value) (held_bytes out.new.owner.value) result }
+    ensures { spec.FilePathGiven url.now (held_bytes out.old.owner.value)
+        (held_bytes out.new.owner.value) result }
 {
     let answer = path_of(alloc, url);
     give(alloc, answer, out)
@@ -213,21 +216,37 @@ pub extern "C" fn smap_resolve(alloc: Global, script: &[u8], url: &[u8], out: &m
     give(alloc, answer, out)
 }
 
-fn form_of(alloc: Global, name: &[u8]) -> Result<Option<Vec<u8>>, u32>
-    ensures { spec.IsAnswer result (Ok (Some (normal_form name.now))) }
+fn form_of(alloc: Global, name: &[u8], with_query: bool) -> Result<Vec<u8>, AllocError>
+    ensures { IfOk result (λ form. form.items ≡ spec.form_of with_query name.now) }
 {
-    match smap_link::normal_form(alloc, name) {
+    if with_query {
+        smap_link::key_of(alloc, name)
+    } else {
+        smap_link::normal_form(alloc, name)
+    }
+}
+
+fn form_answer(alloc: Global, name: &[u8], with_query: bool) -> Result<Option<Vec<u8>>, u32>
+    ensures { spec.IsAnswer result (Ok (Some (spec.form_of with_query name.now))) }
+{
+    match form_of(alloc, name, with_query) {
         Ok(form) => Ok(Some(form)),
         Err(_) => Err(MEMORY),
     }
 }
 
-/// What all names of a script have in common.
+/// What all names of a script have in common, or those with the same query.
 #[unsafe(no_mangle)]
-pub extern "C" fn smap_normal_form(alloc: Global, name: &[u8], out: &mut SmapBytes) -> u32
-    ensures { spec.FormGiven name.now (held_bytes out.old.owner.value) (held_bytes out.new.owner.value) result }
+pub extern "C" fn smap_normal_form(
+    alloc: Global,
+    name: &[u8],
+    with_query: bool,
+    out: &mut SmapBytes,
+) -> u32
+    ensures { spec.FormGiven with_query name.now (held_bytes out.old.owner.value)
+        (held_bytes out.new.owner.value) result }
 {
-    let answer = form_of(alloc, name);
+    let answer = form_answer(alloc, name, with_query);
     give(alloc, answer, out)
 }
 

@@ -1,5 +1,6 @@
 -- A byte within a comment.
-use Rattle.std.proofs.Common.{◌≡◌, ◌∙◌, ℕ, ◌+◌, ◌-◌, ◌<◌, Bool, true, false, List, length, take, drop, get_or, nat_lt, ap, sym, arith}
+use Rattle.std.proofs.Common.{◌≡◌, ◌∙◌, ℕ, ◌+◌, ◌-◌, ◌<◌, Bool, true, false, List, length, take, drop, get_or}
+use Rattle.std.proofs.Common.{nat_lt, ap, sym, arith}
 use Rattle.std.proofs.lemmas.Bool.{cond-true, cond-false}
 use Rattle.std.proofs.lemmas.List.{drop_more}
 use Rattle.smap_link.specs.Comment as spec
@@ -13,7 +14,8 @@ pub ends_comment : (two : Bool) (line : List ℕ) (i start k : ℕ) (e found : E
 ends_comment two line i start k e found lt closed len is =
     ap (λ rest. effect two (spec.Block (drop start line) (i - start)) e rest) (drop_more line i 0 lt)
     ∙ cond-true _ _ _ closed
-    ∙ ap (λ n. effect two (spec.Code 0) (said (url_in (take n (drop start line))) e) (drop (i + 1) line)) (sym len)
+    ∙ ap (λ n. effect two (spec.Code 0) (said (url_in (take n (drop start line))) e) (drop (i + 1) line))
+    (sym len)
     ∙ ap (λ f. effect two (spec.Code 0) f (drop (i + 1) line)) (sym is)
 
 pub goes_on : (two : Bool) (line : List ℕ) (i start n : ℕ) (e : Effect) → i < length line
@@ -31,4 +33,5 @@ lt_true a b lt = grind arith
 pub passes_white : (two : Bool) (line : List ℕ) (i left : ℕ) (e : Effect) → i < length line → 0 < left
     → effect two (spec.Code left) e (drop i line) ≡ effect two (spec.Code (left - 1)) e (drop (i + 1) line)
 passes_white two line i left e lt some =
-    ap (λ rest. effect two (spec.Code left) e rest) (drop_more line i 0 lt) ∙ cond-true _ _ _ (lt_true 0 left some)
+    ap (λ rest. effect two (spec.Code left) e rest) (drop_more line i 0 lt)
+    ∙ cond-true _ _ _ (lt_true 0 left some)

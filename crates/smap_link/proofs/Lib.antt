@@ -1,4 +1,5 @@
 pub mod CommentLemmas
+pub mod EndingLemmas
 pub mod InlineLemmas
 pub mod LineLemmas
 pub mod NameLemmas

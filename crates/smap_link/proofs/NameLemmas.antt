@@ -1,21 +1,24 @@
 -- Names below folders, and paths beside their URLs.
-use Rattle.std.proofs.Common.{◌≡◌, ◌∙◌, ℕ, ◌<◌, ◌==◌, Bool, true, false, List, [], ◌∷◌, ◌++◌, length, take, drop, cond, bytes_eq, Option, Some, None, nat_eq, ap, refl, sym, subst, ◌&&◌, codes, arith, is_some, true≢false}
+use Rattle.std.proofs.Common.{◌≡◌, ◌∙◌, ℕ, ◌<◌, ◌==◌, Bool, true, false, List, [], ◌∷◌, ◌++◌, length, take}
+use Rattle.std.proofs.Common.{cond, bytes_eq, Option, Some, nat_eq, ap, refl, sym, subst, ◌&&◌}
+use Rattle.std.proofs.Common.{codes, arith, is_some, true≢false}
 use Rattle.std.specs.Prelude.{unwrap_or}
 use Rattle.std.proofs.Math.Seq.{drop-append_seam, take-append_seam}
 use Rattle.std.specs.List.{All, starts_with}
 use Rattle.std.proofs.lemmas.Bool.{cond-true, cond-false, eqb-true}
 use Rattle.std.proofs.lemmas.Slice.Eq.{bytes_eq-Decides}
-use Rattle.percent_encoding.specs.Percent.{percent_decode}
 use Rattle.percent_encoding.proofs.PercentLemmas.{round_trip}
 use Rattle.smap_link.specs.declared.encoding.TheConstants.{IN_PATH}
 use Rattle.smap_link.specs.Alike.{IsAlike, form_of, own_url}
 use Rattle.smap_link.specs.Names.{is_below, kept, name_behind, script_name}
-use Rattle.smap_link.specs.Urls.{backslashed, encoded, has_backslashes, is_drive, is_path, is_rooted, script_url, slashed, url_of}
+use Rattle.smap_link.specs.Urls.{backslashed, encoded, has_backslashes, is_drive, is_path, is_rooted}
+use Rattle.smap_link.specs.Urls.{script_url, slashed, url_of}
 
 turned : (b : ℕ) → cond (cond (b == 47) 92 b == 92) 47 (cond (b == 47) 92 b) ≡ cond (b == 92) 47 b
 turned b = by (b == 47) refl
   where
-    by : (t : Bool) → (b == 47) ≡ t → cond (cond (b == 47) 92 b == 92) 47 (cond (b == 47) 92 b) ≡ cond (b == 92) 47 b
+    by : (t : Bool) → (b == 47) ≡ t
+        → cond (cond (b == 47) 92 b == 92) 47 (cond (b == 47) 92 b) ≡ cond (b == 92) 47 b
     by true is = rw (eqb-true b 47 is) refl
     by false is = ap (λ c. cond (c == 92) 47 c) (cond-false (b == 47) 92 b is)
 
@@ -27,16 +30,22 @@ slashed_back (b ∷ name) =
     ∙ ap (λ l. cond (b == 92) 47 b ∷ l) (slashed_back name)
 
 -- what stands behind the folder's URL gives the name
-behind : (folder name : List ℕ) → All (λ b. b < 256) name → (has_backslashes folder ≡ true → slashed name ≡ name)
-    → name_behind folder (cond (has_backslashes folder) (backslashed name) (cond (is_path folder) name (encoded name)))
+behind : (folder name : List ℕ) → All (λ b. b < 256) name
+    → (has_backslashes folder ≡ true → slashed name ≡ name)
+    → name_behind folder (cond (has_backslashes folder) (backslashed name)
+    (cond (is_path folder) name (encoded name)))
     ≡ name
 behind folder name bytes clean = by (has_backslashes folder) refl (is_path folder) refl
   where
     by : (h : Bool) → has_backslashes folder ≡ h → (p : Bool) → is_path folder ≡ p
-        → name_behind folder (cond (has_backslashes folder) (backslashed name) (cond (is_path folder) name (encoded name))) ≡ name
-    by true is p q = ap (name_behind folder) (cond-true _ _ _ is) ∙ cond-true _ _ _ is ∙ slashed_back name ∙ clean is
-    by false is true q = ap (name_behind folder) (cond-false _ _ _ is ∙ cond-true _ _ _ q) ∙ cond-false _ _ _ is ∙ cond-true _ _ _ q
-    by false is false q = ap (name_behind folder) (cond-false _ _ _ is ∙ cond-false _ _ _ q) ∙ cond-false _ _ _ is
+        → name_behind folder (cond (has_backslashes folder) (backslashed name)
+        (cond (is_path folder) name (encoded name))) ≡ name
+    by true is p q = ap (name_behind folder) (cond-true _ _ _ is) ∙ cond-true _ _ _ is ∙ slashed_back name
+        ∙ clean is
+    by false is true q = ap (name_behind folder) (cond-false _ _ _ is ∙ cond-true _ _ _ q)
+        ∙ cond-false _ _ _ is ∙ cond-true _ _ _ q
+    by false is false q = ap (name_behind folder) (cond-false _ _ _ is ∙ cond-false _ _ _ q)
+        ∙ cond-false _ _ _ is
         ∙ cond-false _ _ _ q ∙ round_trip IN_PATH name refl bytes
 
 starts_with_own : (folder rest : List ℕ) → starts_with nat_eq (folder ++ rest) folder ≡ true
@@ -72,7 +81,8 @@ own_is_own path url is = by (is_rooted path) refl (is_drive path) refl
   where
     by : (r : Bool) → is_rooted path ≡ r → (d : Bool) → is_drive path ≡ d → own_url url ≡ url
     by true r d q = posix_is_own url (encoded path) (some_is _ _ (sym is ∙ cond-true _ _ _ r))
-    by false r true q = drive_is_own url (encoded (slashed path)) (some_is _ _ (sym is ∙ cond-false _ _ _ r ∙ cond-true _ _ _ q))
+    by false r true q = drive_is_own url (encoded (slashed path))
+        (some_is _ _ (sym is ∙ cond-false _ _ _ r ∙ cond-true _ _ _ q))
     by false r false q = absurd (true≢false (ap is_some (sym is ∙ cond-false _ _ _ r ∙ cond-false _ _ _ q)))
 
 pub path_is_alike : (path url : List ℕ) → url_of path ≡ Some url → IsAlike path url

@@ -1,81 +1,57 @@
--- U+2028 and U+2029, and where the last line begins.
-use Rattle.std.proofs.Common.{◌≡◌, ◌∙◌, ◌⊎◌, ℕ, ◌+◌, ◌-◌, ◌<◌, ◌≤◌, ◌==◌, Bool, true, false, List, length, take, drop, get_or, None, Some, Option, ap, refl, sym, subst, arith, ◌||◌, ◌&&◌, inl, inr, ⊎_elim}
-use Rattle.std.proofs.Common.{length-drop, length-take-le}
+-- Line terminators, and where the last line begins.
+use Rattle.std.proofs.Common.{◌≡◌, ◌∙◌, ◌⊎◌, ℕ, ◌+◌, ◌-◌, ◌<◌, ◌≤◌, ◌==◌, Bool, true, false, List, length}
+use Rattle.std.proofs.Common.{take}
+use Rattle.std.proofs.Common.{drop, get_or, None, Some, ap, refl, sym, subst, arith, ◌||◌, ◌&&◌, inl}
+use Rattle.std.proofs.Common.{inr}
+use Rattle.std.proofs.Common.{⊎_elim, length-drop, length-take-le}
 use Rattle.std.proofs.lemmas.List.{get_or-drop, get_or-take}
 use Rattle.smap_link.specs.Comment.{ends_line, ends_separator, is_newline}
-use Rattle.smap_link.specs.CommentView.{IsBehindNewline, IsLastSeparator, IsSeparatorAt, StartsLastLine}
-use Rattle.memchr.specs.Find.{IsLastByte, is_byte, is_byte2}
+use Rattle.smap_link.specs.CommentView.{IsSeparatorAt, StartsLastLine}
+use Rattle.memchr.specs.Find.{IsLastByte, Nowhere, Passes, is_byte3}
+
+-- a newline, or the first byte of a separator
+abbrev is_mark : ℕ → Bool
+is_mark = is_byte3 10 13 226
+
+-- From here on there is no newline, and no separator begins.
+abbrev pub Quiet : List ℕ → ℕ → Type 0
+Quiet text at = (k : ℕ) → at ≤ k → k < length text
+    → (is_newline (get_or text k 0) ≡ true → ⊥) × ¬ IsSeparatorAt text k
+
+newline_is_mark : (b c : ℕ) → b ≡ c → is_newline c ≡ true → is_mark b ≡ true
+newline_is_mark b c same newline = grind arith
+
+lead_is_mark : (b c : ℕ) → b ≡ c → c ≡ 226 → is_mark b ≡ true
+lead_is_mark b c same lead = grind arith
+
+other_mark : (b c : ℕ) → b ≡ c → is_mark b ≡ true → (c == 226) ≡ false → is_newline c ≡ true
+other_mark b c same mark other = grind arith
+
+lead_no_newline : (b : ℕ) → (b == 226) ≡ true → is_newline b ≡ true → ⊥
+lead_no_newline b lead newline = grind arith
+
+module _ (text : List ℕ) (end : ℕ) (within : end ≤ length text) (quiet : Quiet text end) where
+  long : length (take end text) ≡ end
+  long = length-take-le end text within
+
+  quiet_from : (from : ℕ) → Nowhere (Passes is_mark (take end text)) from (length (take end text))
+      → Quiet text from
+  quiet_from from none = λ k low lt.
+      let cases : (k < end) ⊎ (end ≤ k) = grind arith in
+      ⊎_elim
+      (λ below.
+      let no = none k low (omega (arith, long, below)) in
+      let same = get_or-take end text k 0 below in (
+        λ newline. no (newline_is_mark (get_or (take end text) k 0) (get_or text k 0) same newline),
+        λ is. no (lead_is_mark (get_or (take end text) k 0) (get_or text k 0) same is.0),
+      ))
+      (λ past. quiet k past lt) cases
+
+-- ---- one line
 
 fails : (b : Bool) → (b ≡ true → ⊥) → b ≡ false
 fails true h = absurd (h refl)
 fails false h = refl
-
-eq_true : (a b : ℕ) → a ≡ b → (a == b) ≡ true
-eq_true a b e = grind arith
-
--- no separator begins where there is no E2
-no_lead : (text : List ℕ) (end at k : ℕ) → end ≤ length text → IsLastByte (is_byte 226) (take end text) (Some at)
-    → at < k → k < end → ¬ IsSeparatorAt text k
-no_lead text end at k le found behind lt is =
-    let long : length (take end text) ≡ end = length-take-le end text le in
-    found.0.after k (omega (arith, behind)) (omega (arith, long, lt))
-    (eq_true (get_or (take end text) k 0) 226 (get_or-take end text k 0 lt ∙ is.0))
-
-behind : (text : List ℕ) (end at k : ℕ) → end ≤ length text
-    → ((k : ℕ) → end ≤ k → k < length text → ¬ IsSeparatorAt text k)
-    → IsLastByte (is_byte 226) (take end text) (Some at) → at < k → k < length text → ¬ IsSeparatorAt text k
-behind text end at k le none found low lt =
-    let cases : (k < end) ⊎ (end ≤ k) = grind arith in
-    ⊎_elim (λ below. no_lead text end at k le found low below) (λ past. none k past lt) cases
-
-pub none_behind : (text : List ℕ) (end at : ℕ) → end ≤ length text
-    → ((k : ℕ) → end ≤ k → k < length text → ¬ IsSeparatorAt text k)
-    → IsLastByte (is_byte 226) (take end text) (Some at) → ¬ IsSeparatorAt text at
-    → (at ≤ length text) × ((k : ℕ) → at ≤ k → k < length text → ¬ IsSeparatorAt text k)
-none_behind text end at le none found other =
-    let long : length (take end text) ≡ end = length-take-le end text le in (
-      omega (arith, found.0.high, long, le),
-      λ k low lt is.
-          let cases : (k ≡ at) ⊎ (at < k) = grind (arith, low) in
-          ⊎_elim (λ same. other (subst (IsSeparatorAt text) same is))
-          (λ past. behind text end at k le none found past lt is) cases,
-    )
-
-pub last_here : (text : List ℕ) (end at : ℕ) → end ≤ length text
-    → ((k : ℕ) → end ≤ k → k < length text → ¬ IsSeparatorAt text k)
-    → IsLastByte (is_byte 226) (take end text) (Some at) → at + 3 ≤ length text → IsSeparatorAt text at
-    → IsLastSeparator text (Some at)
-last_here text end at le none found fits is = (fits, is, λ k low lt. behind text end at k le none found low lt)
-
-pub none_at_all : (text : List ℕ) (end : ℕ) → end ≤ length text
-    → ((k : ℕ) → end ≤ k → k < length text → ¬ IsSeparatorAt text k)
-    → IsLastByte (is_byte 226) (take end text) None → IsLastSeparator text None
-none_at_all text end le none found = λ k lt is.
-    let long : length (take end text) ≡ end = length-take-le end text le in
-    let cases : (k < end) ⊎ (end ≤ k) = grind arith in
-    ⊎_elim (λ below. found k (omega arith) (omega (arith, long, below))
-    (eq_true (get_or (take end text) k 0) 226 (get_or-take end text k 0 below ∙ is.0))) (λ past. none k past lt is) cases
-
--- ---- newlines
-
-pub after_newline : (text : List ℕ) (at : ℕ) → IsLastByte (is_byte2 10 13) text (Some at)
-    → IsBehindNewline text (at + 1) 1
-after_newline text at found = record {
-  within = omega (arith, found.0.high);
-  none = found.0.after;
-  size_is = inr (omega arith, refl);
-  newline = λ _. ap (λ k. is_newline (get_or text k 0)) (let back : at + 1 - 1 ≡ at = omega arith in back) ∙ found.1;
-}
-
-pub no_newline : (text : List ℕ) → IsLastByte (is_byte2 10 13) text None → IsBehindNewline text 0 0
-no_newline text none = record {
-  within = omega arith;
-  none = λ k low lt. none k low lt;
-  size_is = inl (refl, refl);
-  newline = λ lt. absurd (omega arith);
-}
-
--- ---- the last line
 
 or_cases : (a b : Bool) → (a || b) ≡ true → (a ≡ true) ⊎ (b ≡ true)
 or_cases a b e = grind arith
@@ -91,7 +67,8 @@ separator_before : (t : List ℕ) (at k : ℕ) → at ≤ length t → at + k < 
 separator_before t at k within lt is =
     let line = take k (drop at t) in
     let long : length line ≡ k = length-take-le k (drop at t) (omega (arith, length-drop at t, lt)) in
-    let parts = separator_parts (get_or t (at + k) 0) (get_or line (length line - 2) 0) (get_or line (length line - 1) 0) is in
+    let parts = separator_parts (get_or t (at + k) 0) (get_or line (length line - 2) 0)
+    (get_or line (length line - 1) 0) is in
     let cases : (k < 2) ⊎ (2 ≤ k) = grind arith in
     ⊎_elim
     (λ short.
@@ -118,61 +95,72 @@ separator_before t at k within lt is =
     ))
     cases
 
-one_line : (t : List ℕ) (at : ℕ) → at ≤ length t
-    → ((k : ℕ) → at ≤ k → k < length t → is_newline (get_or t k 0) ≡ true → ⊥)
-    → ((k : ℕ) → at ≤ k → k < length t → ¬ IsSeparatorAt t k)
+one_line : (t : List ℕ) (at : ℕ) → at ≤ length t → Quiet t at
     → (k : ℕ) → at + k < length t → ends_line (take k (drop at t)) (get_or t (at + k) 0) ≡ false
-one_line t at within no_newline no_separator k lt =
+one_line t at within quiet k lt =
     fails (ends_line (take k (drop at t)) (get_or t (at + k) 0)) (λ yes.
-    ⊎_elim (λ newline. no_newline (at + k) (omega arith) lt newline)
+    ⊎_elim (λ newline. (quiet (at + k) (omega arith) lt).0 newline)
     (λ separator. let found = separator_before t at k within lt separator in
-    no_separator found.0 found.2 found.3 found.1)
-    (or_cases (is_newline (get_or t (at + k) 0)) (ends_separator (take k (drop at t)) (get_or t (at + k) 0)) yes))
+    (quiet found.0 found.2 found.3).1 found.1)
+    (or_cases (is_newline (get_or t (at + k) 0))
+    (ends_separator (take k (drop at t)) (get_or t (at + k) 0)) yes))
 
-moved : (t : List ℕ) (from s : ℕ) → IsSeparatorAt (drop from t) s → IsSeparatorAt t (from + s)
-moved t from s is = (
-  sym (get_or-drop from t s 0) ∙ is.0,
-  ap (λ i. get_or t i 0) (let to : from + s + 1 ≡ from + (s + 1) = omega arith in to) ∙ sym (get_or-drop from t (s + 1) 0) ∙ is.1,
-  subst (λ i. (get_or t i 0 ≡ 168) ⊎ (get_or t i 0 ≡ 169)) (let to : from + (s + 2) ≡ from + s + 2 = omega arith in to)
-      (subst (λ b. (b ≡ 168) ⊎ (b ≡ 169)) (get_or-drop from t (s + 2) 0) is.2),
-)
+-- ---- the last line
 
-back : (t : List ℕ) (from k : ℕ) → from ≤ k → IsSeparatorAt t k → IsSeparatorAt (drop from t) (k - from)
-back t from k le is =
-    let to : k ≡ from + (k - from) = omega (arith, le) in
-    let to1 : from + (k - from + 1) ≡ k + 1 = omega (arith, le) in
-    let to2 : k + 2 ≡ from + (k - from + 2) = omega (arith, le) in (
-      get_or-drop from t (k - from) 0 ∙ ap (λ i. get_or t i 0) (sym to) ∙ is.0,
-      get_or-drop from t (k - from + 1) 0 ∙ ap (λ i. get_or t i 0) to1 ∙ is.1,
-      subst (λ b. (b ≡ 168) ⊎ (b ≡ 169)) (sym (get_or-drop from t (k - from + 2) 0))
-          (subst (λ i. (get_or t i 0 ≡ 168) ⊎ (get_or t i 0 ≡ 169)) to2 is.2),
+module _ (text : List ℕ) (end : ℕ) (within : end ≤ length text) (quiet : Quiet text end) where
+  pub none_at_all : IsLastByte is_mark (take end text) None → StartsLastLine text 0 0
+  none_at_all none = record {
+    within = omega arith;
+    one_line = one_line text 0 (omega arith) (quiet_from text end within quiet 0 none);
+    fits = omega arith;
+    some = λ lt. absurd (omega (arith, lt));
+    behind = λ lt. absurd (omega (arith, lt));
+  }
+
+  module _ (at : ℕ) (found : IsLastByte is_mark (take end text) (Some at)) where
+    below : at < end
+    below = omega (arith, found.0.high, long text end within quiet)
+
+    behind_mark : Quiet text (at + 1)
+    behind_mark = quiet_from text end within quiet (at + 1) found.0.after
+
+    pub at_newline : (get_or text at 0 == 226) ≡ false → StartsLastLine text (at + 1) 1
+    at_newline other =
+        let fits : at + 1 ≤ length text = omega (arith, below, within) in
+        let same = get_or-take end text at 0 below in
+        let newline = other_mark (get_or (take end text) at 0) (get_or text at 0) same found.1 other in
+        let back : at ≡ at + 1 - 1 = omega arith in
+        record {
+          within = fits;
+          one_line = one_line text (at + 1) fits behind_mark;
+          fits = omega arith;
+          some = λ _. omega arith;
+          behind = λ _. inl (refl, subst (λ k. is_newline (get_or text k 0) ≡ true) back newline);
+        }
+
+    pub at_separator : at + 3 ≤ length text → IsSeparatorAt text at → StartsLastLine text (at + 3) 3
+    at_separator fits is =
+        let back : at ≡ at + 3 - 3 = omega arith in
+        record {
+          within = fits;
+          one_line = one_line text (at + 3) fits (λ k low lt. behind_mark k (omega (arith, low)) lt);
+          fits = omega arith;
+          some = λ _. omega arith;
+          behind = λ _. inr (refl, subst (IsSeparatorAt text) back is);
+        }
+
+    -- what begins here is another character
+    pub none_here : (get_or text at 0 == 226) ≡ true → ¬ IsSeparatorAt text at
+        → (at ≤ length text) × Quiet text at
+    none_here lead other = (
+      omega (arith, below, within),
+      λ k low lt.
+          let cases : (k ≡ at) ⊎ (at + 1 ≤ k) = grind (arith, low) in
+          ⊎_elim
+          (λ same. (
+            λ newline. lead_no_newline (get_or text k 0)
+                (ap (λ i. get_or text i 0 == 226) same ∙ lead) newline,
+            λ is. other (subst (IsSeparatorAt text) same is),
+          ))
+          (λ past. behind_mark k past lt) cases,
     )
-
-pub at_newline : (t : List ℕ) (from size : ℕ) → IsBehindNewline t from size → IsLastSeparator (drop from t) None
-    → StartsLastLine t from size
-at_newline t from size b none = record {
-  within = b.within;
-  one_line = one_line t from b.within b.none (λ k low lt is.
-      none (k - from) (omega (arith, length-drop from t, low, lt)) (back t from k low is));
-  fits = omega (arith, b.size_is);
-  some = λ lt. omega (arith, b.size_is, lt);
-  behind = λ lt. inl (omega (arith, b.size_is, lt), b.newline lt);
-}
-
-pub at_separator : (t : List ℕ) (from size s : ℕ) → IsBehindNewline t from size → IsLastSeparator (drop from t) (Some s)
-    → StartsLastLine t (from + s + 3) 3
-at_separator t from size s b found =
-    let fits : from + s + 3 ≤ length t = omega (arith, length-drop from t, b.within, found.0) in
-    record {
-      within = fits;
-      one_line = one_line t (from + s + 3) fits (λ k low lt. b.none k (omega (arith, low)) lt) (λ k low lt is.
-          let far : from ≤ k = omega (arith, low) in
-          found.2 (k - from) (omega (arith, low)) (omega (arith, length-drop from t, far, lt)) (back t from k far is));
-      fits = omega arith;
-      some = λ _. omega arith;
-      behind = λ _. inr (
-        refl,
-        subst (IsSeparatorAt t) (let to : from + s ≡ from + s + 3 - 3 = omega arith in to)
-            (moved t from s found.1),
-      );
-    }

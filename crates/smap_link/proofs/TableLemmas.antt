@@ -1,17 +1,19 @@
 -- The first places of texts in a list.
-use Rattle.std.proofs.Common.{◌≡◌, ◌≢◌, ◌∙◌, ℕ, zero, suc, Bor, map, ◌+◌, ◌<◌, ◌≤◌, Bool, true, false, List, [], ◌∷◌, ◌++◌, length, take, drop, get_or, cond, bytes_eq, Option, Some, None, is_some, ap, refl, sym, subst, arith, true≢false}
+use Rattle.std.proofs.Common.{◌≡◌, ◌∙◌, ℕ, zero, suc, Bor, map, ◌+◌, ◌<◌, Bool, true, false, List}
+use Rattle.std.proofs.Common.{[], ◌∷◌, ◌++◌, length, take, drop, get_or, cond, bytes_eq, Option, Some, None}
+use Rattle.std.proofs.Common.{is_some, ap, refl, sym, subst, arith, true≢false}
 use Rattle.std.proofs.Common.{length-take-le}
 use Rattle.std.proofs.Math.Seq.{take-length}
 use Rattle.std.specs.Global.{Vec}
 use Rattle.std.specs.Map.{lookup}
-use Rattle.std.specs.List.{position, position_from}
+use Rattle.std.specs.List.{position_from}
 use Rattle.std.proofs.lemmas.Bool.{cond-true, cond-false}
 use Rattle.std.proofs.lemmas.Iterator.Adapters.{position_from-zero}
 use Rattle.std.proofs.lemmas.List.{drop_more, get_or-take, take_more, take-append-drop}
 use Rattle.std.proofs.lemmas.List.Quantifiers.{position-Some}
 use Rattle.std.proofs.lemmas.Slice.Eq.{bytes_eq-Decides}
 use Rattle.indexmap.specs.IndexMap.{insert_entry}
-use Rattle.smap_link.specs.Choice.{AreDistinct, IsRepeated, first_of, or_else}
+use Rattle.smap_link.specs.Choice.{IsRepeated, first_of, or_else}
 use Rattle.smap_link.specs.Table.{HasPlaces, Row, place_in, rows_of, with_place}
 
 -- ---- the map's words
@@ -23,13 +25,15 @@ place_is text (e ∷ es) = ap (λ r. cond (bytes_eq text e.0.items) (Some e.1) r
 
 -- where no key is the text, inserting it adds a row
 insert_new : (es : List (Vec ℕ × ℕ)) (k : Vec ℕ) (i : ℕ) → place_in (rows_of es) k.items ≡ None
-    → rows_of (insert_entry (λ (a b : Vec ℕ). bytes_eq a.items b.items) es k i) ≡ rows_of es ++ (k.items, i) ∷ []
+    → rows_of (insert_entry (λ (a b : Vec ℕ). bytes_eq a.items b.items) es k i)
+    ≡ rows_of es ++ (k.items, i) ∷ []
 insert_new [] k i none = refl
 insert_new (e ∷ es) k i none = by (bytes_eq k.items e.0.items) refl (λ n. insert_new es k i n)
   where
     by : (b : Bool) → bytes_eq k.items e.0.items ≡ b
         → (place_in (rows_of es) k.items ≡ None
-        → rows_of (insert_entry (λ (a b : Vec ℕ). bytes_eq a.items b.items) es k i) ≡ rows_of es ++ (k.items, i) ∷ [])
+        → rows_of (insert_entry (λ (a b : Vec ℕ). bytes_eq a.items b.items) es k i)
+        ≡ rows_of es ++ (k.items, i) ∷ [])
         → rows_of (insert_entry (λ (a b : Vec ℕ). bytes_eq a.items b.items) (e ∷ es) k i)
         ≡ rows_of (e ∷ es) ++ (k.items, i) ∷ []
     by true is rec = absurd (true≢false (ap is_some (sym (cond-true _ _ _ is) ∙ none)))
@@ -43,10 +47,15 @@ added es new k i none is =
     ap rows_of is ∙ insert_new es k i none
     ∙ sym (cond-false (is_some (place_in (rows_of es) k.items)) _ _ (ap is_some none))
 
-pub stays : (rows : List Row) (text : List ℕ) (i j : ℕ) → place_in rows text ≡ Some j → rows ≡ with_place rows text i
+pub stays : (rows : List Row) (text : List ℕ) (i j : ℕ) → place_in rows text ≡ Some j
+    → rows ≡ with_place rows text i
 stays rows text i j there = sym (cond-true (is_some (place_in rows text)) _ _ (ap is_some there))
 
 -- ---- places
+
+pub or_else_none : (found other : Option ℕ) → found ≡ None → or_else found other ≡ other
+or_else_none None other is = refl
+or_else_none (Some i) other is = absurd (true≢false (ap is_some is))
 
 pub both_parts : (p : List ℕ → Bool) (i : ℕ) (xs ys : List (List ℕ))
     → position_from p i (xs ++ ys) ≡ or_else (position_from p i xs) (position_from p (i + length xs) ys)
@@ -61,7 +70,8 @@ both_parts p i (x ∷ xs) ys =
     ]
 
 row_more : (rows : List Row) (new text : List ℕ) (i : ℕ)
-    → place_in (rows ++ (new, i) ∷ []) text ≡ or_else (place_in rows text) (cond (bytes_eq text new) (Some i) None)
+    → place_in (rows ++ (new, i) ∷ []) text
+    ≡ or_else (place_in rows text) (cond (bytes_eq text new) (Some i) None)
 row_more [] new text i = refl
 row_more (row ∷ rows) new text i =
     elim (bytes_eq text row.0) as (λ b. cond b (Some row.1) (place_in (rows ++ (new, i) ∷ []) text)
@@ -78,7 +88,8 @@ there_first rows new text i there = by (place_in rows text) refl
     other : (b : Bool) → bytes_eq text new ≡ b → place_in rows text ≡ None
         → None ≡ cond (bytes_eq text new) (Some i) None
     other true is none = absurd (true≢false (sym there
-        ∙ ap (λ (t : List ℕ). is_some (place_in rows t)) (sym ((bytes_eq-Decides text new).0 is)) ∙ ap is_some none))
+        ∙ ap (λ (t : List ℕ). is_some (place_in rows t)) (sym ((bytes_eq-Decides text new).0 is))
+        ∙ ap is_some none))
     other false is none = sym (cond-false _ _ _ is)
 
     by : (r : Option ℕ) → place_in rows text ≡ r
@@ -87,11 +98,13 @@ there_first rows new text i there = by (place_in rows text) refl
     by (Some j) is = refl
 
 with_place_is : (rows : List Row) (new text : List ℕ) (i : ℕ)
-    → place_in (with_place rows new i) text ≡ or_else (place_in rows text) (cond (bytes_eq text new) (Some i) None)
+    → place_in (with_place rows new i) text
+    ≡ or_else (place_in rows text) (cond (bytes_eq text new) (Some i) None)
 with_place_is rows new text i = by (is_some (place_in rows new)) refl
   where
     by : (b : Bool) → is_some (place_in rows new) ≡ b
-        → place_in (with_place rows new i) text ≡ or_else (place_in rows text) (cond (bytes_eq text new) (Some i) None)
+        → place_in (with_place rows new i) text
+        ≡ or_else (place_in rows text) (cond (bytes_eq text new) (Some i) None)
     by true is = ap (λ (r : List Row). place_in r text) (cond-true _ _ _ is) ∙ there_first rows new text i is
     by false is = ap (λ (r : List Row). place_in r text) (cond-false _ _ _ is) ∙ row_more rows new text i
 
@@ -100,7 +113,8 @@ no_places = λ text. refl
 
 -- with one text more
 pub more_places : (rows new : List Row) (all : List (List ℕ)) (i : ℕ) → i < length all
-    → HasPlaces rows (take i all) → new ≡ with_place rows (get_or all i []) i → HasPlaces new (take (i + 1) all)
+    → HasPlaces rows (take i all) → new ≡ with_place rows (get_or all i []) i
+    → HasPlaces new (take (i + 1) all)
 more_places rows new all i lt has is = λ text.
     let one = get_or all i [] in
     let long : i ≡ 0 + length (take i all) = omega (arith, length-take-le i all (omega arith)) in
@@ -118,14 +132,17 @@ pub repeated : (all : List (List ℕ)) (i j : ℕ) → i < length all
 repeated all i j lt found =
     let one = get_or all i [] in
     let long : length (take i all) ≡ i = length-take-le i all (omega arith) in
-    let parts = position-Some (bytes_eq one) (take i all) j [] (position_from-zero (bytes_eq one) (take i all) ∙ found) in
+    let parts = position-Some (bytes_eq one) (take i all) j []
+    (position_from-zero (bytes_eq one) (take i all) ∙ found) in
     let low : j < i = omega (arith, parts.0, long) in (
       low,
       lt,
-      sym ((bytes_eq-Decides one (get_or all j [])).0 (ap (bytes_eq one) (sym (get_or-take i all j [] low)) ∙ parts.1)),
+      sym ((bytes_eq-Decides one (get_or all j [])).0
+          (ap (bytes_eq one) (sym (get_or-take i all j [] low)) ∙ parts.1)),
     )
 
-pub first_here : (all : List (List ℕ)) (i : ℕ) → i < length all → first_of (get_or all i []) (take i all) ≡ None
+pub first_here : (all : List (List ℕ)) (i : ℕ) → i < length all
+    → first_of (get_or all i []) (take i all) ≡ None
     → first_of (get_or all i []) all ≡ Some i
 first_here all i lt none =
     let one = get_or all i [] in
@@ -137,7 +154,8 @@ first_here all i lt none =
     ∙ cond-true _ _ _ ((bytes_eq-Decides one one).1 refl)
     ∙ ap Some long
 
-pub all_places : (rows : List Row) (all : List (List ℕ)) (i : ℕ) → i ≡ length all → HasPlaces rows (take i all)
+pub all_places : (rows : List Row) (all : List (List ℕ)) (i : ℕ) → i ≡ length all
+    → HasPlaces rows (take i all)
     → HasPlaces rows all
 all_places rows all i is has =
     subst (HasPlaces rows) (ap (λ (n : ℕ). take n all) is ∙ take-length all) has

@@ -1,15 +1,16 @@
 -- Names of one script, as logs and folders have them: they differ in the query, the fragment, the default
 -- port, the capitals of the host, in being a path or its file: URL, or in the case of the drive. Over the URL
 -- Standard's parser.
-use Rattle.std.specs.Prelude.{◌≡◌, ℕ, Bool, not, ◌&&◌, List, [], ◌∷◌, ◌++◌, codes, cond, Option, Some, None, unwrap_or}
-use Rattle.std.specs.Prelude.{Ok, Err}
+use Rattle.std.specs.Prelude.{◌≡◌, ℕ, ◌==◌, Bool, not, ◌&&◌, List, [], ◌∷◌, ◌++◌, codes, cond, drop, take}
+use Rattle.std.specs.Prelude.{Some, None, unwrap_or, Ok, Err}
+use Rattle.std.specs.List.{prefix_len}
 use Rattle.std.specs.Str.{bytes_eq, is_utf8}
 use Rattle.std.specs.Char.{to_ascii_lowercase}
 use Rattle.percent_encoding.specs.Percent.{percent_decode}
 use Rattle.url.specs.Parser.{Parsed, parse_url}
 use Rattle.url.specs.Parts.{Parts, has_host, text_between}
 use Rattle.url.specs.declared.slicing.Position.TheVariants.{BeforeScheme, AfterPath}
-use Rattle.smap_link.specs.Paths.{bare, has_drive}
+use Rattle.smap_link.specs.Paths.{bare_size, has_drive}
 use Rattle.smap_link.specs.Urls.{url_of}
 
 -- The URL of a script: the name itself, or the file: URL of a path.
@@ -43,6 +44,29 @@ form_of text = cond (is_utf8 text) (form_in text (parse_url None text)) text
 -- What all names of a script have in common. What is no URL is alike to itself alone.
 abbrev pub normal_form : List ℕ → List ℕ
 normal_form name = form_of (own_url name)
+
+-- ---- names with their query
+
+-- a URL without its fragment
+abbrev pub whole_size : List ℕ → ℕ
+whole_size url = prefix_len (λ b. not (b == 35)) url
+
+abbrev pub whole : List ℕ → List ℕ
+whole url = take (whole_size url) url
+
+-- the query of a URL, from its question mark on; empty where there is none
+abbrev pub query_of : List ℕ → List ℕ
+query_of url = drop (bare_size (whole url)) (whole url)
+
+-- What names have in common that are alike and have the same query: a script with another query is another
+-- one. (A query has no `#`.)
+abbrev pub key_in : List ℕ → List ℕ
+key_in url = query_of url ++ 35 ∷ form_of url
+
+abbrev pub key_of : List ℕ → List ℕ
+key_of name = key_in (own_url name)
+
+-- ---- names that are alike
 
 abbrev pub IsAlike : List ℕ → List ℕ → Type 0
 IsAlike a b = normal_form a ≡ normal_form b

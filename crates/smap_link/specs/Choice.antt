@@ -1,8 +1,9 @@
 -- Which map each script has that a log names.
-use Rattle.std.specs.Prelude.{◌≡◌, ℕ, ◌+◌, ◌<◌, Bool, List, [], ◌∷◌, ◌++◌, cond, length, map, get_or, Option, Some, None}
+use Rattle.std.specs.Prelude.{◌≡◌, ℕ, ◌+◌, ◌<◌, Bool, List, [], ◌∷◌, ◌++◌, cond, length, map, get_or, Option}
+use Rattle.std.specs.Prelude.{Some, None}
 use Rattle.std.specs.List.{position_from}
 use Rattle.std.specs.Str.{bytes_eq}
-use Rattle.smap_link.specs.Alike.{normal_form}
+use Rattle.smap_link.specs.Alike.{key_of}
 use Rattle.smap_link.specs.Paths.{bare}
 use Rattle.smap_link.specs.declared.choice.Choice.{Choice}
 use Rattle.smap_link.specs.declared.choice.ChoiceFault.{ChoiceFault}
@@ -17,13 +18,13 @@ abbrev pub or_else : Option ℕ → Option ℕ → Option ℕ
 or_else None other = other
 or_else (Some i) other = Some i
 
--- the first place of a list at which a name stands that is alike
+-- the first place of a list at which a name stands that is alike and has the same query
 abbrev pub alike_in : List ℕ → List (List ℕ) → Option ℕ
-alike_in name all = first_of (normal_form name) (map normal_form all)
+alike_in name all = first_of (key_of name) (map key_of all)
 
 -- Of these scripts the one that a log means by a name: that of this very name; or else, if names may be
--- alike, the first that is alike to it; or else the first that is alike to it without its query and its
--- fragment.
+-- alike, the first that is alike to it and has the same query; or else the first that is alike to it without
+-- its query and its fragment.
 abbrev pub meant : Bool → List (List ℕ) → List ℕ → Option ℕ
 meant may_be_alike scripts name = or_else (first_of name scripts)
     (cond may_be_alike (or_else (alike_in name scripts) (alike_in (bare name) scripts)) None)

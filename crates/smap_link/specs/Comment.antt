@@ -2,7 +2,8 @@
 -- and from CSS. A text is split at line terminators. A line says what map there is if a comment of it does,
 -- and that there is none if it has anything but white space and comments; the last line that says something
 -- counts.
-use Rattle.std.specs.Prelude.{ℕ, ◌+◌, ◌-◌, ◌==◌, Bool, nat_eq, nat_lt, true, false, ◌&&◌, ◌||◌, List, [], ◌∷◌, ◌++◌}
+use Rattle.std.specs.Prelude.{ℕ, ◌+◌, ◌-◌, ◌==◌, Bool, nat_eq, nat_lt, true, false, ◌&&◌, ◌||◌, List, [], ◌∷◌}
+use Rattle.std.specs.Prelude.{◌++◌}
 use Rattle.std.specs.Prelude.{length, take, drop, get_or, codes, cond, Option, Some, None}
 use Rattle.std.specs.List.{starts_with}
 use Rattle.smap_link.specs.White.{behind_white, white_size, word_size}
@@ -15,7 +16,8 @@ is_nothing (b ∷ rest) = false
 
 -- a URL without white space, and behind it white space alone
 abbrev pub alone : List ℕ → Option (List ℕ)
-alone text = cond (is_nothing (behind_white 0 (drop (word_size text) text))) (Some (take (word_size text) text)) None
+alone text = cond (is_nothing (behind_white 0 (drop (word_size text) text)))
+    (Some (take (word_size text) text)) None
 
 abbrev pub named : List ℕ → Option (List ℕ)
 named text = cond (starts_with nat_eq text (codes "sourceMappingURL=")) (alone (drop 17 text)) None
@@ -65,11 +67,13 @@ effect two (Code n) e (b ∷ rest) = cond (nat_lt 0 n) (effect two (Code (n - 1)
     (cond (nat_lt 0 (white_size (b ∷ rest))) (effect two (Code (white_size (b ∷ rest) - 1)) e rest)
     (effect two (Code 0) (Some None) rest)))
 effect two Slash e [] = Some None
-effect two Slash e (b ∷ rest) = cond (b == 47) (cond two (said (url_in rest) e) (effect two Slash (Some None) rest))
+effect two Slash e (b ∷ rest) = cond (b == 47)
+    (cond two (said (url_in rest) e) (effect two Slash (Some None) rest))
     (cond (b == 42) (effect two (Block rest 0) e rest) (effect two (Code 0) (Some None) rest))
 effect two (Block comment n) e [] = cond (ends_white comment) e (Some None)
 effect two (Block comment n) e (b ∷ rest) = cond (closes comment n b)
-    (effect two (Code 0) (said (url_in (take (n - 1) comment)) e) rest) (effect two (Block comment (n + 1)) e rest)
+    (effect two (Code 0) (said (url_in (take (n - 1) comment)) e) rest)
+    (effect two (Block comment (n + 1)) e rest)
 effect two Done e [] = e
 effect two Done e (b ∷ rest) = e
 
@@ -104,7 +108,8 @@ later e (Some link) = Some link
 -- What the lines of a text say, where the line goes on that begins so.
 abbrev pub settled : Bool → Effect → List ℕ → List ℕ → Effect
 settled two e line [] = later e (effect_of two line)
-settled two e line (b ∷ rest) = cond (ends_line line b) (settled two (later e (effect_of two (cut line b))) [] rest)
+settled two e line (b ∷ rest) = cond (ends_line line b)
+    (settled two (later e (effect_of two (cut line b))) [] rest)
     (settled two e (line ++ b ∷ []) rest)
 
 abbrev pub link_said : Effect → Option (List ℕ)

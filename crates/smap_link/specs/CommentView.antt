@@ -1,5 +1,7 @@
 -- What is known of a line while it is read.
-use Rattle.std.specs.Prelude.{◌≡◌, ◌⊎◌, ℕ, ◌+◌, ◌-◌, ◌<◌, ◌≤◌, Bool, false, true, List, [], ◌∷◌, drop, take, get_or, length, Option, Some, None, MatchOption}
+use Rattle.std.specs.Prelude.{◌≡◌, ◌⊎◌, ℕ, ◌+◌, ◌-◌, ◌<◌, ◌≤◌, Bool, false, true, List, drop, take}
+use Rattle.std.specs.Prelude.{get_or}
+use Rattle.std.specs.Prelude.{length, Some, None}
 use Rattle.smap_link.specs.Comment.{Effect, Place, effect, ends_line, is_newline}
 use Rattle.smap_link.specs.Comment as spec
 use Rattle.smap_link.specs.declared.comment.Mode.{Mode}
@@ -22,31 +24,20 @@ place_in m.Done comment n = spec.Done
 -- what the line says, if so much of it was read
 abbrev pub effect_from : Bool → List ℕ → ℕ → Scan → Effect
 effect_from two line i scan =
-    effect two (place_in scan.mode (drop scan.start line) (i - scan.start)) (effect_in scan.said) (drop i line)
+    effect two (place_in scan.mode (drop scan.start line) (i - scan.start)) (effect_in scan.said)
+    (drop i line)
 
 -- U+2028 or U+2029 begins here.
 abbrev pub IsSeparatorAt : List ℕ → ℕ → Type 0
 IsSeparatorAt text at = (get_or text at 0 ≡ 226) × (get_or text (at + 1) 0 ≡ 128)
     × ((get_or text (at + 2) 0 ≡ 168) ⊎ (get_or text (at + 2) 0 ≡ 169))
 
--- Where the last of them begins, if there is one.
-abbrev pub IsLastSeparator : List ℕ → Option ℕ → Type 0
-IsLastSeparator text found = MatchOption found
-    ((k : ℕ) → k < length text → ¬ IsSeparatorAt text k)
-    (λ at. (at + 3 ≤ length text) × IsSeparatorAt text at × ((k : ℕ) → at < k → k < length text → ¬ IsSeparatorAt text k))
-
--- Behind the last newline, of so many bytes, the text goes on here; without one it begins here.
-pub record IsBehindNewline (text : List ℕ) (at : ℕ) (size : ℕ) : Type 0 where
-  pub within : at ≤ length text
-  pub none : (k : ℕ) → at ≤ k → k < length text → is_newline (get_or text k 0) ≡ true → ⊥
-  pub size_is : ((at ≡ 0) × (size ≡ 0)) ⊎ ((0 < at) × (size ≡ 1))
-  pub newline : 0 < at → is_newline (get_or text (at - 1) 0) ≡ true
-
 -- The last line of a text begins here, and before it stands a line terminator of so many bytes, if anything
 -- does.
 pub record StartsLastLine (text : List ℕ) (at : ℕ) (size : ℕ) : Type 0 where
   pub within : at ≤ length text
-  pub one_line : (k : ℕ) → at + k < length text → ends_line (take k (drop at text)) (get_or text (at + k) 0) ≡ false
+  pub one_line : (k : ℕ) → at + k < length text
+      → ends_line (take k (drop at text)) (get_or text (at + k) 0) ≡ false
   pub fits : size ≤ at
   pub some : 0 < at → 0 < size
   pub behind : 0 < at → ((size ≡ 1) × (is_newline (get_or text (at - 1) 0) ≡ true))

@@ -1,6 +1,7 @@
 -- A map inside the comment of its script: the Fetch Standard's data: URL processor, and the forgiving-base64
 -- decode of the Infra Standard.
-use Rattle.std.specs.Prelude.{◌≡◌, ℕ, ◌+◌, ◌-◌, ◌%◌, ◌==◌, Bool, true, false, not, min, nat_eq, nat_lt, ◌||◌, ◌&&◌, List, length, take, drop, codes, cond, map}
+use Rattle.std.specs.Prelude.{◌≡◌, ℕ, ◌+◌, ◌-◌, ◌%◌, ◌==◌, Bool, true, false, not, min, nat_eq, nat_lt, ◌||◌}
+use Rattle.std.specs.Prelude.{◌&&◌, List, length, take, drop, codes, cond, map}
 use Rattle.std.specs.Prelude.{Option, Some, None, Result, Ok, Err}
 use Rattle.std.specs.List.{ends_with, filter, prefix_len, suffix_len}
 use Rattle.std.specs.Str.{bytes_eq}

@@ -2,6 +2,7 @@ pub mod Alike
 pub mod Choice
 pub mod Comment
 pub mod CommentView
+pub mod Endings
 pub mod Ends
 pub mod Inline
 pub mod Laws

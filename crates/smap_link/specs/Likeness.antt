@@ -27,3 +27,8 @@ IsMostAlikeOf path names count n (Unclear i j) = (0 < n) × (i < j) × (j < coun
 
 abbrev pub IsMostAlike : List ℕ → List (List ℕ) → Likeness → Type 0
 IsMostAlike path names found = (n : ℕ) × IsMostAlikeOf path names (length names) n found
+
+-- For each of some paths the one of the others that is most like it.
+abbrev pub AreMostAlike : List (List ℕ) → List (List ℕ) → List Likeness → Type 0
+AreMostAlike paths names found = (length found ≡ length paths)
+    × ((i : ℕ) → i < length paths → IsMostAlike (get_or paths i []) names (get_or found i Unlike))

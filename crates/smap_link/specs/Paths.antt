@@ -1,11 +1,12 @@
 -- The path of a file: URL: the URL Standard's percent-decode, and the rules of Node's `fileURLToPath`.
-use Rattle.std.specs.Prelude.{ℕ, ◌==◌, Bool, true, false, not, nat_eq, ◌&&◌, ◌||◌, List, [], ◌∷◌, codes, cond, count_by, drop, take}
+use Rattle.std.specs.Prelude.{ℕ, ◌==◌, Bool, true, false, not, ◌&&◌, ◌||◌, List, [], ◌∷◌, codes, cond}
+use Rattle.std.specs.Prelude.{count_by, drop, take}
 use Rattle.std.specs.Prelude.{Option, Some, None, Result, Ok, Err}
-use Rattle.std.specs.List.{list_any, prefix_len, starts_with}
+use Rattle.std.specs.List.{list_any, prefix_len}
 use Rattle.std.specs.Str.{is_utf8}
 use Rattle.percent_encoding.specs.Percent.{percent_decode}
 use Rattle.smap_link.specs.Inline.{same_word}
-use Rattle.smap_link.specs.Urls.{backslashed, is_drive, is_slash}
+use Rattle.smap_link.specs.Urls.{backslashed, is_drive}
 use Rattle.smap_link.specs.declared.encoding.PathFault.{PathFault}
 use Rattle.smap_link.specs.declared.encoding.PathFault.TheVariants as fault
 

@@ -1,5 +1,5 @@
 -- The URL of a script's map, by the URL Standard.
-use Rattle.std.specs.Prelude.{◌≡◌, ◌⊎◌, ℕ, ◌&&◌, List, cond, Result, Ok, Err, None, Some}
+use Rattle.std.specs.Prelude.{ℕ, ◌&&◌, List, cond, Result, Ok, Err, None, Some}
 use Rattle.std.specs.Str.{is_utf8}
 use Rattle.url.specs.Parser.{Parsed, parse_url}
 use Rattle.url.specs.Parts.{Parts, serialize}
@@ -25,8 +25,9 @@ joined (Err e) url = Err kind.NoBase
 
 -- the URL that a text stands for, seen from a URL
 abbrev pub resolved_from : List ℕ → List ℕ → Result (List ℕ) LinkFault
-resolved_from base url = cond (is_utf8 base && is_utf8 url) (joined (parse_url None base) url) (Err kind.NotUtf8)
+resolved_from base url = cond (is_utf8 base && is_utf8 url) (joined (parse_url None base) url)
+    (Err kind.NotUtf8)
 
 -- The URL of the map of a script, which names it so.
 abbrev pub resolved : List ℕ → List ℕ → Result (List ℕ) LinkFault
-resolved script url = resolved_from (own_url script) url
+resolved script url = cond (is_utf8 script) (resolved_from (own_url script) url) (Err kind.NotUtf8)

@@ -1,7 +1,7 @@
 -- The URLs of files and of scripts below a folder. This project's own rules, over the percent-encoding of the
 -- URL Standard.
-use Rattle.std.specs.Prelude.{ℕ, Bool, true, false, ◌==◌, ◌&&◌, ◌||◌, List, [], ◌∷◌, ◌++◌, codes, map, cond}
-use Rattle.std.specs.Prelude.{Option, Some, None, unwrap_or}
+use Rattle.std.specs.Prelude.{ℕ, Bool, false, ◌==◌, ◌&&◌, ◌||◌, List, [], ◌∷◌, ◌++◌, codes, map, cond}
+use Rattle.std.specs.Prelude.{Option, Some, None}
 use Rattle.std.specs.Char.{is_ascii_alphabetic}
 use Rattle.percent_encoding.specs.Percent.{percent_encode}
 use Rattle.smap_link.specs.declared.encoding.TheConstants.{IN_PATH}

@@ -1,10 +1,10 @@
 //! Names of one script that differ in spelling.
-ghost use Rattle.std.specs.Prelude.{◌≡◌, ◌++◌, IfOk, codes, not, ◌&&◌, string_bytes};
+ghost use Rattle.std.specs.Prelude.{◌≡◌, ◌≤◌, ◌++◌, IfOk, codes, length, not, ◌&&◌, string_bytes};
 ghost use Rattle.smap_link.specs.Alike as spec;
 
 use crate::encoding::{url_of, utf8};
 use crate::inline::bytes_of;
-use crate::paths::has_drive;
+use crate::paths::{bare_size, has_drive};
 use std::alloc::{AllocError, Global};
 use url::{ParseError, Position, Url};
 
@@ -79,4 +79,36 @@ pub fn normal_form(alloc: Global, name: &[u8]) -> Result<Vec<u8>, AllocError>
 {
     let url = own_url(alloc, name)?;
     form_of(alloc, &url)
+}
+
+fn whole_size(url: &[u8]) -> usize
+    ensures value { result ≡ spec.whole_size url.now }
+    ensures within { result ≤ length url.now }
+{
+    url.iter().take_while(|b| **b != b'#').count()
+}
+
+/// The query of a URL, from its question mark on; empty where there is none.
+fn query_of<'a>(url: &'a [u8]) -> &'a [u8]
+    ensures { result.now ≡ spec.query_of url.now }
+{
+    let whole = &url[..whole_size(url)];
+    &whole[bare_size(whole)..]
+}
+
+/// What the names of a script have in common that are alike (`normal_form`) and have the same query: a script
+/// with another query is another one.
+///
+/// # Errors
+///
+/// `AllocError`.
+pub fn key_of(alloc: Global, name: &[u8]) -> Result<Vec<u8>, AllocError>
+    ensures { IfOk result (λ key. key.items ≡ spec.key_of name.now) }
+{
+    let url = own_url(alloc, name)?;
+    let form = form_of(alloc, &url)?;
+    let mut key = Vec::from_slice(alloc, query_of(&url))?;
+    key.push(b'#')?;
+    key.extend_from_slice(&form)?;
+    Ok(key)
 }

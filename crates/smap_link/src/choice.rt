@@ -1,10 +1,10 @@
 //! Which map each script has that a log names.
 ghost use Rattle.std.specs.Prelude.{◌≡◌, ◌++◌, true, List, ℕ, IfErr, IfOk, OnOk, map};
-ghost use Rattle.smap_link.specs.Alike.{normal_form as form_of};
+ghost use Rattle.smap_link.specs.Alike.{key_of as key_in};
 ghost use Rattle.smap_link.specs.Choice as spec;
 ghost use Rattle.smap_link.specs.Table.{HasPlaces, rows_of};
 
-use crate::alike::normal_form;
+use crate::alike::key_of;
 use crate::paths::bare;
 use crate::table::{alike_table, name_table, place};
 use indexmap::IndexMap;
@@ -41,12 +41,12 @@ impl From<AllocError> for ChoiceFault {
 fn meant(
     alloc: Global,
     names: &IndexMap<Vec<u8>, usize>,
-    forms: &IndexMap<Vec<u8>, usize>,
+    keys: &IndexMap<Vec<u8>, usize>,
     may_be_alike: bool,
     name: &[u8],
 ) -> Result<Option<usize>, AllocError>
     ensures { (scripts : List (List ℕ)) → HasPlaces (rows_of names.now.entries) scripts
-        → (may_be_alike ≡ true → HasPlaces (rows_of forms.now.entries) (map form_of scripts))
+        → (may_be_alike ≡ true → HasPlaces (rows_of keys.now.entries) (map key_in scripts))
         → IfOk result (λ found. found ≡ spec.meant may_be_alike scripts name.now) }
 {
     if let Some(i) = place(names, name) {
@@ -55,21 +55,21 @@ fn meant(
     if !may_be_alike {
         return Ok(None);
     }
-    let form = normal_form(alloc, name)?;
-    if let Some(i) = place(forms, &form) {
+    let key = key_of(alloc, name)?;
+    if let Some(i) = place(keys, &key) {
         return Ok(Some(i));
     }
-    let form = normal_form(alloc, bare(name))?;
-    Ok(place(forms, &form))
+    let key = key_of(alloc, bare(name))?;
+    Ok(place(keys, &key))
 }
 
-fn forms_of(
+fn keys_of(
     alloc: Global,
     scripts: &[&[u8]],
     may_be_alike: bool,
 ) -> Result<IndexMap<Vec<u8>, usize>, AllocError>
     ensures { IfOk result (λ t. may_be_alike ≡ true
-        → HasPlaces (rows_of t.entries) (map form_of (map (λ s. s.now) scripts.now))) }
+        → HasPlaces (rows_of t.entries) (map key_in (map (λ s. s.now) scripts.now))) }
 {
     if may_be_alike {
         alike_table(alloc, scripts)
@@ -88,9 +88,9 @@ fn add_choice(found: &mut Vec<Choice>, i: usize, script: Option<usize>) -> Resul
 }
 
 /// For each name of a log, in its order, the script that is meant, if one of these is: that of this very
-/// name; or else, if names may be alike, the first that is alike to it (`normal_form`); or else the first
-/// that is alike to it without its query and its fragment, which a path has too in some logs. What is left
-/// out has no map here.
+/// name; or else, if names may be alike, the first that is alike to it and has the same query (`key_of`); or
+/// else the first that is alike to it without its query and its fragment, which a path has too in some logs.
+/// What is left out has no map here.
 ///
 /// The time is proportional to the bytes of all names.
 ///
@@ -109,10 +109,10 @@ pub fn choose(
     ensures fault { IfErr result (λ e. spec.IsFaultOf (map (λ s. s.now) scripts.now) e) }
 {
     let places = name_table(alloc, scripts)?;
-    let forms = forms_of(alloc, scripts, may_be_alike)?;
+    let keys = keys_of(alloc, scripts, may_be_alike)?;
     let mut found = Vec::new(alloc);
     for i in 0..names.len() {
-        let script = meant(alloc, &places, &forms, may_be_alike, names[i])?;
+        let script = meant(alloc, &places, &keys, may_be_alike, names[i])?;
         add_choice(&mut found, i, script)?;
     }
     Ok(found)

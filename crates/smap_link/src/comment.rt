@@ -1,9 +1,8 @@
 //! The map that a script names in its last comment.
-ghost use Rattle.std.specs.Prelude.{◌≡◌, ℕ, ◌+◌, ◌-◌, ◌<◌, ◌≤◌, Bool, IsTrue, ◌↔◌, List, [], ◌∷◌, drop, get_or, length, option_map, take};
+ghost use Rattle.std.specs.Prelude.{◌≡◌, ℕ, ◌+◌, ◌-◌, ◌<◌, ◌≤◌, Bool, IsTrue, ◌↔◌, List, [], ◌∷◌, drop};
+ghost use Rattle.std.specs.Prelude.{get_or, length, option_map, take};
 ghost use Rattle.smap_link.specs.Comment as spec;
 ghost use Rattle.smap_link.specs.CommentView.{
-  IsBehindNewline,
-  IsLastSeparator,
   IsSeparatorAt,
   StartsLastLine,
   effect_from,
@@ -12,7 +11,7 @@ ghost use Rattle.smap_link.specs.CommentView.{
 };
 
 use crate::white::{behind_white, white_size, word_size};
-use memchr::{memrchr, memrchr2};
+use memchr::memrchr3;
 
 /// Where in a line a place is.
 #[derive(Clone, Copy)]
@@ -129,7 +128,8 @@ fn code_step<'a>(line: &'a [u8], i: usize, left: usize, said: Said<'a>) -> (Mode
 fn slash_step<'a>(line: &'a [u8], i: usize, two: bool, said: Said<'a>) -> (Mode, Said<'a>)
     requires { i < length line.now }
     ensures { spec.effect two spec.Slash (effect_in said.entry) (drop i line.now)
-        ≡ spec.effect two (place_in result.0 (drop (i + 1) line.now) 0) (effect_in result.1) (drop (i + 1) line.now) }
+        ≡ spec.effect two (place_in result.0 (drop (i + 1) line.now) 0) (effect_in result.1)
+        (drop (i + 1) line.now) }
 {
     match line[i] {
         b'/' if two => (Mode::Done, after_comment(&line[i + 1..], said)),
@@ -144,7 +144,8 @@ fn block_step<'a>(line: &'a [u8], i: usize, start: usize, said: Said<'a>) -> (Mo
     requires within { i < length line.now }
     requires started { start ≤ i }
     ensures { (two : Bool) →
-        spec.effect two (spec.Block (drop start line.now) (i - start)) (effect_in said.entry) (drop i line.now)
+        spec.effect two (spec.Block (drop start line.now) (i - start)) (effect_in said.entry)
+        (drop i line.now)
         ≡ spec.effect two (place_in result.0 (drop start line.now) (i + 1 - start)) (effect_in result.1)
         (drop (i + 1) line.now) }
 {
@@ -236,40 +237,22 @@ fn is_separator(text: &[u8], at: usize) -> bool
         && (text[at + 2] == 0xa8 || text[at + 2] == 0xa9)
 }
 
-/// Where the last line or paragraph separator begins.
-fn last_separator(text: &[u8]) -> Option<usize>
-    ensures { IsLastSeparator text.now result }
-{
-    let mut end = text.len();
-    'places: loop {
-        let Some(at) = memrchr(0xe2, &text[..end]) else {
-            return None;
-        };
-        if is_separator(text, at) {
-            return Some(at);
-        }
-        end = at;
-    }
-}
-
-/// Where the text goes on behind its last newline, and the size of that.
-fn behind_newline(text: &[u8]) -> (usize, usize)
-    ensures { IsBehindNewline text.now result.0 result.1 }
-{
-    match memrchr2(b'\n', b'\r', text) {
-        Some(at) => (at + 1, 1),
-        None => (0, 0),
-    }
-}
-
 /// Where the last line begins, and the size of the line terminator before it.
 fn line_start(text: &[u8]) -> (usize, usize)
     ensures { StartsLastLine text.now result.0 result.1 }
 {
-    let (from, size) = behind_newline(text);
-    match last_separator(&text[from..]) {
-        Some(at) => (from + at + 3, 3),
-        None => (from, size),
+    let mut end = text.len();
+    'places: loop {
+        let Some(at) = memrchr3(b'\n', b'\r', 0xe2, &text[..end]) else {
+            return (0, 0);
+        };
+        if text[at] != 0xe2 {
+            return (at + 1, 1);
+        }
+        if is_separator(text, at) {
+            return (at + 3, 3);
+        }
+        end = at;
     }
 }
 

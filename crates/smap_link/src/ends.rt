@@ -27,14 +27,14 @@ fn path_of(alloc: Global, name: &[u8], url: &[u8]) -> Result<Vec<u8>, AllocError
 }
 
 /// The path of a script's URL, decoded; of a name that is no URL the name without query and fragment.
-fn script_path(alloc: Global, name: &[u8]) -> Result<Vec<u8>, AllocError>
+pub(crate) fn script_path(alloc: Global, name: &[u8]) -> Result<Vec<u8>, AllocError>
     ensures { IfOk result (λ path. path.items ≡ spec.script_path name.now) }
 {
     let url = own_url(alloc, name)?;
     path_of(alloc, name, &url)
 }
 
-fn stem<'a>(name: &'a [u8]) -> &'a [u8]
+pub(crate) fn stem<'a>(name: &'a [u8]) -> &'a [u8]
     ensures { result.now ≡ spec.stem name.now }
 {
     if name.ends_with(b".map") {

@@ -134,7 +134,8 @@ fn forgiving() -> GeneralPurpose
 
 fn decode(alloc: Global, engine: &GeneralPurpose, text: &[u8]) -> Result<Vec<u8>, InlineFault>
     ensures value { IfOk result (λ v. Ok v.items ≡ spec.decoded engine.now text.now) }
-    ensures fault { IfErr result (λ e. (e ≡ InlineFault.Memory) ⊎ (spec.decoded engine.now text.now ≡ Err e)) }
+    ensures fault { IfErr result
+        (λ e. (e ≡ InlineFault.Memory) ⊎ (spec.decoded engine.now text.now ≡ Err e)) }
 {
     match engine.decode(alloc, unpadded(text)) {
         Ok(bytes) => Ok(bytes),
@@ -165,7 +166,8 @@ fn body_of(
 /// What follows `data:`.
 fn of_data(alloc: Global, engine: &GeneralPurpose, rest: &[u8]) -> Result<Vec<u8>, InlineFault>
     ensures value { IfOk result (λ v. Ok v.items ≡ spec.of_data engine.now rest.now) }
-    ensures fault { IfErr result (λ e. (e ≡ InlineFault.Memory) ⊎ (spec.of_data engine.now rest.now ≡ Err e)) }
+    ensures fault { IfErr result
+        (λ e. (e ≡ InlineFault.Memory) ⊎ (spec.of_data engine.now rest.now ≡ Err e)) }
 {
     let at = comma(rest);
     if at >= rest.len() {
@@ -202,8 +204,10 @@ fn inline_map_by(
     engine: &GeneralPurpose,
     url: &[u8],
 ) -> Result<Option<Vec<u8>>, InlineFault>
-    ensures value { IfOk result (λ found. Ok (option_map (λ v. v.items) found) ≡ spec.inline_map engine.now url.now) }
-    ensures fault { IfErr result (λ e. (e ≡ InlineFault.Memory) ⊎ (spec.inline_map engine.now url.now ≡ Err e)) }
+    ensures value { IfOk result
+        (λ found. Ok (option_map (λ v. v.items) found) ≡ spec.inline_map engine.now url.now) }
+    ensures fault { IfErr result
+        (λ e. (e ≡ InlineFault.Memory) ⊎ (spec.inline_map engine.now url.now ≡ Err e)) }
 {
     if is_data(url) {
         return some_map(alloc, engine, &url[5..]);

@@ -3,14 +3,16 @@
 //! they stand in `docs/LINKING.md`.
 //!
 //! The functions and their clauses are stable: `map_url`, `css_map_url`, `inline_map`, `resolved`,
-//! `file_url`, `file_path`, `script_url`, `script_name`, `normal_form`, `most_alike`, `common_tail`,
-//! `script_of_map` and `choose`.
+//! `file_url`, `file_path`, `script_url`, `script_name`, `normal_form`, `key_of`, `most_alike`,
+//! `common_tail`, `script_of_map`, `scripts_of_maps`, `maps_of_scripts` and
+//! `choose`.
 #![tactic(auto)]
 
 mod alike;
 mod choice;
 mod comment;
 mod encoding;
+mod endings;
 mod ends;
 mod inline;
 pub mod laws;
@@ -24,10 +26,11 @@ mod tails;
 mod tests;
 mod white;
 
-pub use alike::{normal_form, own_url};
+pub use alike::{key_of, normal_form, own_url};
 pub use choice::{Choice, ChoiceFault, choose};
 pub use comment::{css_map_url, map_url};
 pub use encoding::{IN_PATH, PathFault, file_url, is_path, script_url};
+pub use endings::{maps_of_scripts, scripts_of_maps};
 pub use ends::script_of_map;
 pub use inline::{InlineFault, inline_map};
 pub use likeness::{Likeness, most_alike};

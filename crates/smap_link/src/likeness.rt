@@ -1,5 +1,6 @@
 //! The map whose path is most like a script's.
-ghost use Rattle.std.specs.Prelude.{◌+◌, ℕ, List, map};
+ghost use Rattle.std.specs.Prelude.{◌+◌, ◌<◌, ℕ, List, length, map};
+ghost use Rattle.smap_link.specs.Endings.{IsMostAlikeFrom};
 ghost use Rattle.smap_link.specs.Likeness.{IsLike, IsMostAlike, IsMostAlikeOf};
 
 use crate::tails::common_tail;
@@ -43,6 +44,30 @@ pub(crate) fn better(best: Best, i: usize, size: usize) -> Best
             found: Likeness::Unclear(first, i),
         },
         _ => best,
+    }
+}
+
+/// What is most alike once this path is among them, which stands before the others.
+pub(crate) fn better_before(best: Best, i: usize, size: usize) -> Best
+    ensures { (path : List ℕ) (names : List (List ℕ)) → i < length names → IsLike path names i size
+        → IsMostAlikeFrom path names (i + 1) best.size best.found
+        → IsMostAlikeFrom path names i result.size result.found }
+{
+    if size > best.size {
+        return Best {
+            size,
+            found: Likeness::Like(i),
+        };
+    }
+    if size < best.size || size == 0 {
+        return best;
+    }
+    match best.found {
+        Likeness::Like(later) | Likeness::Unclear(later, _) => Best {
+            size,
+            found: Likeness::Unclear(i, later),
+        },
+        Likeness::Unlike => best,
     }
 }
 

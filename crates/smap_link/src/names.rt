@@ -63,7 +63,8 @@ fn name_behind(alloc: Global, folder: &[u8], rest: &[u8]) -> Result<Vec<u8>, All
 ///
 /// `AllocError`.
 pub fn script_name(alloc: Global, folder: &[u8], url: &[u8]) -> Result<Option<Vec<u8>>, AllocError>
-    ensures { IfOk result (λ found. option_map (λ name. name.items) found ≡ spec.script_name folder.now url.now) }
+    ensures { IfOk result
+        (λ found. option_map (λ name. name.items) found ≡ spec.script_name folder.now url.now) }
 {
     if !url.starts_with(folder) {
         return Ok(None);

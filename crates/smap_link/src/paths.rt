@@ -8,7 +8,7 @@ use crate::encoding::{PathFault, backslashed, is_drive, utf8};
 use crate::inline::{bytes_of, same_word};
 use std::alloc::{AllocError, Global};
 
-fn bare_size(url: &[u8]) -> usize
+pub(crate) fn bare_size(url: &[u8]) -> usize
     ensures value { result ≡ spec.bare_size url.now }
     ensures within { result ≤ length url.now }
 {
@@ -80,7 +80,8 @@ fn native(alloc: Global, path: Vec<u8>) -> Result<Vec<u8>, AllocError>
 }
 
 fn checked(alloc: Global, path: &[u8], made: Vec<u8>) -> Result<Option<Vec<u8>>, PathFault>
-    ensures value { IfOk result (λ found. Ok (option_map (λ p. p.items) found) ≡ spec.checked path.now made.items) }
+    ensures value { IfOk result
+        (λ found. Ok (option_map (λ p. p.items) found) ≡ spec.checked path.now made.items) }
     ensures fault { IfErr result (λ e. (e ≡ PathFault.Memory) ⊎ (spec.checked path.now made.items ≡ Err e)) }
 {
     if is_forged(path, &made) {

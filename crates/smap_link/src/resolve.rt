@@ -44,7 +44,8 @@ fn unless_no_room(error: ParseError, fault: LinkFault) -> LinkFault
 
 fn joined(alloc: Global, base: &str, url: &str) -> Result<String, LinkFault>
     ensures value { IfOk result (λ t. Ok (string_bytes t) ≡ spec.joined (parse_url None base.now) url.now) }
-    ensures fault { IfErr result (λ e. (e ≡ LinkFault.Memory) ⊎ (spec.joined (parse_url None base.now) url.now ≡ Err e)) }
+    ensures fault { IfErr result
+        (λ e. (e ≡ LinkFault.Memory) ⊎ (spec.joined (parse_url None base.now) url.now ≡ Err e)) }
 {
     let base = match Url::parse(alloc, base) {
         Ok(base) => base,
@@ -69,6 +70,9 @@ pub fn resolved(alloc: Global, script: &[u8], url: &[u8]) -> Result<String, Link
     ensures value { IfOk result (λ t. Ok (string_bytes t) ≡ spec.resolved script.now url.now) }
     ensures fault { IfErr result (λ e. (e ≡ LinkFault.Memory) ⊎ (spec.resolved script.now url.now ≡ Err e)) }
 {
+    if utf8(script).is_none() {
+        return Err(LinkFault::NotUtf8);
+    }
     let own = own_url(alloc, script)?;
     let Some(base) = utf8(&own) else {
         return Err(LinkFault::NotUtf8);

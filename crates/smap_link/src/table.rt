@@ -1,10 +1,10 @@
 //! The first places of names in a list, found in time proportional to their bytes.
 ghost use Rattle.std.specs.Prelude.{◌≡◌, ◌<◌, ◌≤◌, List, ℕ, IfErr, IfOk, OnOk, length, map};
-ghost use Rattle.smap_link.specs.Alike.{normal_form as form_of};
+ghost use Rattle.smap_link.specs.Alike.{key_of as key_in};
 ghost use Rattle.smap_link.specs.Choice.{AreDistinct, IsFaultOf};
 ghost use Rattle.smap_link.specs.Table.{HasPlaces, place_in, rows_of, with_place};
 
-use crate::alike::normal_form;
+use crate::alike::key_of;
 use crate::choice::ChoiceFault;
 use indexmap::IndexMap;
 use std::alloc::{AllocError, Global};
@@ -32,17 +32,17 @@ fn add(table: &mut IndexMap<Vec<u8>, usize>, text: Vec<u8>, i: usize) -> Result<
     }
 }
 
-/// The first place of each normal form.
+/// The first place of each key (`key_of`).
 pub(crate) fn alike_table(
     alloc: Global,
     scripts: &[&[u8]],
 ) -> Result<IndexMap<Vec<u8>, usize>, AllocError>
-    ensures { IfOk result (λ t. HasPlaces (rows_of t.entries) (map form_of (map (λ s. s.now) scripts.now))) }
+    ensures { IfOk result (λ t. HasPlaces (rows_of t.entries) (map key_in (map (λ s. s.now) scripts.now))) }
 {
     let mut table = IndexMap::new(alloc);
     for i in 0..scripts.len() {
-        let form = normal_form(alloc, scripts[i])?;
-        add(&mut table, form, i)?;
+        let key = key_of(alloc, scripts[i])?;
+        add(&mut table, key, i)?;
     }
     Ok(table)
 }

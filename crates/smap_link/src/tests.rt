@@ -1,7 +1,7 @@
 use crate::{
     Choice, ChoiceFault, InlineFault, Likeness, LinkFault, PathFault, choose, css_map_url,
-    file_path, file_url, inline_map, map_url, most_alike, normal_form, resolved, script_name,
-    script_of_map, script_url,
+    file_path, file_url, inline_map, map_url, maps_of_scripts, most_alike, normal_form, resolved,
+    script_name, script_of_map, script_url, scripts_of_maps,
 };
 use std::alloc::Global;
 use std::test::Fail;
@@ -84,20 +84,20 @@ fn urls_of_files(rt: HostRuntime) -> Result<(), Fail> {
         .ok_or("err")?
         .ok_or("none")?;
     assert_eq!(rt; url.as_str(), "file:///C:/a%20b/x.js");
-    let url = file_url(alloc, "/tmp/a#b?c%é.js".as_bytes())
+    let url = file_url(alloc, "/app/a#b?c%é.js".as_bytes())
         .ok()
         .ok_or("err")?
         .ok_or("none")?;
-    assert_eq!(rt; url.as_str(), "file:///tmp/a%23b%3Fc%25%C3%A9.js");
+    assert_eq!(rt; url.as_str(), "file:///app/a%23b%3Fc%25%C3%A9.js");
     assert_eq!(rt;
-        file_url(alloc, b"/tmp/\xff.js").err(),
+        file_url(alloc, b"/app/\xff.js").err(),
         Some(PathFault::NotUtf8)
     );
-    let path = file_path(alloc, b"file:///tmp/a%23b%25%C3%A9.js?x#y")
+    let path = file_path(alloc, b"file:///app/a%23b%25%C3%A9.js?x#y")
         .ok()
         .ok_or("err")?
         .ok_or("none")?;
-    assert_eq!(rt; text(&path), "/tmp/a#b%é.js");
+    assert_eq!(rt; text(&path), "/app/a#b%é.js");
     let path = file_path(alloc, b"FILE://localhost/C:/a%20b/x.js")
         .ok()
         .ok_or("err")?
@@ -307,6 +307,10 @@ fn resolved_urls(rt: HostRuntime) -> Result<(), Fail> {
         resolved(alloc, b"https://h/a.js", b"\xff").err(),
         Some(LinkFault::NotUtf8)
     );
+    assert_eq!(rt;
+        resolved(alloc, b"/srv/\xff/a.js", b"a.js.map").err(),
+        Some(LinkFault::NotUtf8)
+    );
     Ok(())
 }
 
@@ -332,6 +336,25 @@ fn maps_by_their_ends(rt: HostRuntime) -> Result<(), Fail> {
         script_of_map(alloc, b"ain.js.map", scripts.as_slice())?,
         Likeness::Unlike
     );
+    let names = [
+        b"build/static/js/main.js.map".as_slice(),
+        b"main.js.map".as_slice(),
+        b"a b/main.js".as_slice(),
+        b"ain.js.map".as_slice(),
+        b"".as_slice(),
+    ];
+    let wanted = [
+        Likeness::Like(1),
+        Likeness::Unclear(0, 1),
+        Likeness::Like(2),
+        Likeness::Unlike,
+        Likeness::Unlike,
+    ];
+    let found = scripts_of_maps(alloc, names.as_slice(), scripts.as_slice())?;
+    assert_eq!(rt; found.as_slice(), wanted.as_slice());
+    let wanted = [Likeness::Like(0), Likeness::Like(0), Likeness::Like(2)];
+    let found = maps_of_scripts(alloc, scripts.as_slice(), names.as_slice())?;
+    assert_eq!(rt; found.as_slice(), wanted.as_slice());
     Ok(())
 }
 
@@ -366,6 +389,23 @@ fn choices(rt: HostRuntime) -> Result<(), Fail> {
     assert_eq!(rt;
         found.as_slice(),
         [Choice { name: 3, script: 2 }].as_slice()
+    );
+    let scripts = [
+        b"https://h/a.js?v=2".as_slice(),
+        b"/srv/b.js?v=2".as_slice(),
+    ];
+    let names = [
+        b"https://h/a.js?v=3".as_slice(),
+        b"https://h/a.js".as_slice(),
+        b"HTTPS://h:443/a.js?v=2#x".as_slice(),
+        b"/srv/b.js?v=3".as_slice(),
+    ];
+    let found = choose(alloc, names.as_slice(), scripts.as_slice(), true)
+        .ok()
+        .ok_or("fault")?;
+    assert_eq!(rt;
+        found.as_slice(),
+        [Choice { name: 2, script: 0 }].as_slice()
     );
     let scripts = [b"a.js".as_slice(), b"b.js".as_slice(), b"a.js".as_slice()];
     let fault = choose(alloc, names.as_slice(), scripts.as_slice(), true).err();

@@ -1,4 +1,5 @@
-use Rattle.std.proofs.Common.{◌≡◌, ◌∙◌, ◌<◌, ◌+◌, ◌++◌, ℕ, List, Bor, [], ap, sym, subst, map, length, get_or, drop, append_assoc, arith, true}
+use Rattle.std.proofs.Common.{◌≡◌, ◌∙◌, ◌<◌, ◌+◌, ◌++◌, ℕ, List, Bor, [], ap, sym, map, length, get_or}
+use Rattle.std.proofs.Common.{drop, append_assoc, arith}
 use Rattle.std.proofs.lemmas.List.{drop_more, length-map}
 use Rattle.smap_link.specs.Choice as spec
 use Rattle.smap_link.proofs.TableLemmas.{read_at}
@@ -13,7 +14,8 @@ loop-i-preserved c =
     let some : i < length names = simp length-map (omega (arith, c.loop-i-test.true)) in
     let one = read_at c.args.names.now i _ c.loop-i-test.true in
     let script : c.in_ok-script.script ≡ spec.meant m scripts (get_or names i []) =
-    c.in_ok-script.ensures scripts c.in_ok-places.ensures.value c.in_ok-forms.ensures ∙ ap (spec.meant m scripts) one in
+    c.in_ok-script.ensures scripts c.in_ok-places.ensures.value c.in_ok-keys.ensures
+    ∙ ap (spec.meant m scripts) one in
     let rest = spec.choices_from m scripts (i + 1) (drop (i + 1) names) in
     ap (λ (l : List _). l ++ rest) (c.in_ok-add_choice.ensures
     ∙ ap (λ o. c.loop-i.found.items ++ spec.choice_at i o) script)

@@ -5,8 +5,8 @@ use Rattle.smap_link.proofs.comment.map_url_in.Goals as goal
 pub returns-in-Missing : goal.returns-in-Missing
 returns-in-Missing c =
     let made = c.line_start-start.result in
-    link_here c.args.two c.args.text.now c.lines.end made.0 made.1 None c.lines.invariant.0 c.lines.invariant.1
-    c.line_start-start.ensures c.in-Missing.ensures
+    link_here c.args.two c.args.text.now c.lines.end made.0 made.1 None c.lines.invariant.0
+    c.lines.invariant.1 c.line_start-start.ensures c.in-Missing.ensures
 
 pub returns-in-Url : goal.returns-in-Url
 returns-in-Url c =

@@ -1,4 +1,4 @@
-use Rattle.std.proofs.Common.{◌≡◌, ◌∙◌, ap, ℕ, ◌+◌, ◌-◌, drop, arith}
+use Rattle.std.proofs.Common.{◌≡◌, ◌∙◌, ap, ◌+◌, ◌-◌, drop, arith}
 use Rattle.smap_link.specs.Comment as spec
 use Rattle.smap_link.specs.CommentView.{effect_in, place_in}
 use Rattle.smap_link.proofs.comment.step.Goals as goal
@@ -8,7 +8,8 @@ returns-in-Code-clause-same c =
     let line = c.args.line.now in
     let i = c.args.i in
     let two = c.args.two in
-    ap (λ m. spec.effect two (place_in m (drop c.args.scan.start line) (i - c.args.scan.start)) (effect_in c.args.scan.said)
+    ap (λ m. spec.effect two (place_in m (drop c.args.scan.start line) (i - c.args.scan.start))
+    (effect_in c.args.scan.said)
     (drop i line)) c.in-Code.is
     ∙ c.code_step-mode.ensures two (drop 0 line) (i + 1 - 0)
 
@@ -18,7 +19,8 @@ returns-in-Slash-clause-same c =
     let i = c.args.i in
     let two = c.args.two in
     let made = c.slash_step-mode.result in
-    ap (λ m. spec.effect two (place_in m (drop c.args.scan.start line) (i - c.args.scan.start)) (effect_in c.args.scan.said)
+    ap (λ m. spec.effect two (place_in m (drop c.args.scan.start line) (i - c.args.scan.start))
+    (effect_in c.args.scan.said)
     (drop i line)) c.in-Slash.is
     ∙ c.slash_step-mode.ensures
     ∙ ap (λ n. spec.effect two (place_in made.0 (drop (i + 1) line) n) (effect_in made.1) (drop (i + 1) line))

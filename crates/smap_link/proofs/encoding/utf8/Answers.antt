@@ -1,4 +1,3 @@
-use Rattle.std.proofs.Common.{refl}
 use Rattle.smap_link.proofs.WordLemmas.{not_utf8, yes_utf8}
 use Rattle.smap_link.proofs.encoding.utf8.Goals as goal
 

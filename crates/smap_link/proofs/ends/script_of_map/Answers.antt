@@ -12,8 +12,10 @@ returns c =
     let paths = map script_path scripts in
     let all : c.loop-i.i ≡ length paths = simp length-map (omega arith) in (
       c.loop-i.best.size,
-      subst (λ (w : List ℕ). IsMostAlikeOf w paths (length paths) c.loop-i.best.size c.loop-i.best.found) c.stem-wanted.ensures
-          (subst (λ (k : ℕ). IsMostAlikeOf c.stem-wanted.result.now paths k c.loop-i.best.size c.loop-i.best.found) all
+      subst (λ (w : List ℕ). IsMostAlikeOf w paths
+          (length paths) c.loop-i.best.size c.loop-i.best.found) c.stem-wanted.ensures
+          (subst (λ (k : ℕ).
+          IsMostAlikeOf c.stem-wanted.result.now paths k c.loop-i.best.size c.loop-i.best.found) all
           c.loop-i.invariant),
     )
 
@@ -24,7 +26,9 @@ loop-i-preserved c =
     let some : i < length scripts = simp length-map (omega (arith, c.loop-i-test.true)) in
     let path : c.deref.result.now ≡ get_or (map script_path scripts) i [] =
     c.deref.ensures.value ∙ c.in_ok-path.ensures
-    ∙ ap script_path (read_at c.args.scripts.now i _ c.loop-i-test.true) ∙ mapped_at script_path scripts i some in
+    ∙ ap script_path (read_at c.args.scripts.now i _ c.loop-i-test.true)
+    ∙ mapped_at script_path scripts i some in
     c.better-best.ensures c.stem-wanted.result.now (map script_path scripts)
-    (subst (λ (p : List ℕ). IsLongestTail c.stem-wanted.result.now p c.common_tail.result) path c.common_tail.ensures)
+    (subst (λ (p : List ℕ). IsLongestTail c.stem-wanted.result.now p c.common_tail.result) path
+    c.common_tail.ensures)
     c.loop-i.invariant

@@ -7,10 +7,14 @@ use Rattle.smap_link.proofs.inline.inline_map_by.Goals as goal
 
 pub returns-then-is_data-clause-value : goal.returns-then-is_data-clause-value
 returns-then-is_data-clause-value c =
-    subst (λ (x : Result (Option (List ℕ)) InlineFault). IfOk c.some_map.result (λ found. Ok (option_map (λ v. v.items) found) ≡ x))
-    (map_is c.args.engine.now c.args.url.now (sym c.is_data.ensures ∙ c.if-is_data.true)) c.some_map.ensures.value
+    subst (λ (x : Result (Option (List ℕ)) InlineFault). IfOk c.some_map.result
+    (λ found. Ok (option_map (λ v. v.items) found) ≡ x))
+    (map_is c.args.engine.now c.args.url.now
+    (sym c.is_data.ensures ∙ c.if-is_data.true)) c.some_map.ensures.value
 
 pub returns-then-is_data-clause-fault : goal.returns-then-is_data-clause-fault
 returns-then-is_data-clause-fault c =
-    subst (λ (x : Result (Option (List ℕ)) InlineFault). IfErr c.some_map.result (λ e. (e ≡ fault.Memory) ⊎ (x ≡ Err e)))
-    (map_is c.args.engine.now c.args.url.now (sym c.is_data.ensures ∙ c.if-is_data.true)) c.some_map.ensures.fault
+    subst (λ (x : Result (Option (List ℕ)) InlineFault). IfErr c.some_map.result
+    (λ e. (e ≡ fault.Memory) ⊎ (x ≡ Err e)))
+    (map_is c.args.engine.now c.args.url.now
+    (sym c.is_data.ensures ∙ c.if-is_data.true)) c.some_map.ensures.fault

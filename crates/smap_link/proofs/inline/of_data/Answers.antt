@@ -1,6 +1,5 @@
 use Rattle.std.proofs.Common.{◌≡◌, inr, subst, arith, List, ℕ, Ok, Err, ◌⊎◌}
 use Rattle.std.specs.Prelude.{IfErr, IfOk, Result}
-use Rattle.smap_link.specs.Inline as spec
 use Rattle.smap_link.specs.declared.inline.InlineFault.{InlineFault}
 use Rattle.smap_link.specs.declared.inline.InlineFault.TheVariants as fault
 use Rattle.smap_link.proofs.InlineLemmas.{body_is, no_comma}
@@ -13,11 +12,14 @@ returns-then-at-rest-clause-fault c =
 pub returns-clause-value : goal.returns-clause-value
 returns-clause-value c =
     subst (λ (x : Result (List ℕ) InlineFault). IfOk c.body_of.result (λ v. Ok v.items ≡ x))
-    (body_is c.args.engine.now c.args.rest.now c.comma-at.result c.is_base64.result c.comma-at.ensures.value (omega arith)
+    (body_is c.args.engine.now c.args.rest.now c.comma-at.result c.is_base64.result c.comma-at.ensures.value
+    (omega arith)
     c.is_base64.ensures) c.body_of.ensures.value
 
 pub returns-clause-fault : goal.returns-clause-fault
 returns-clause-fault c =
-    subst (λ (x : Result (List ℕ) InlineFault). IfErr c.body_of.result (λ e. (e ≡ fault.Memory) ⊎ (x ≡ Err e)))
-    (body_is c.args.engine.now c.args.rest.now c.comma-at.result c.is_base64.result c.comma-at.ensures.value (omega arith)
+    subst (λ (x : Result (List ℕ) InlineFault). IfErr c.body_of.result
+    (λ e. (e ≡ fault.Memory) ⊎ (x ≡ Err e)))
+    (body_is c.args.engine.now c.args.rest.now c.comma-at.result c.is_base64.result c.comma-at.ensures.value
+    (omega arith)
     c.is_base64.ensures) c.body_of.ensures.fault

@@ -1,6 +1,6 @@
-use Rattle.std.proofs.Common.{◌≡◌, ◌∙◌, ◌<◌, ℕ, List, Bor, [], ap, map, length, get_or, rules, arith}
+use Rattle.std.proofs.Common.{◌≡◌, ◌∙◌, ◌<◌, ℕ, List, Bor, [], ap, map, length, get_or, arith}
 use Rattle.std.proofs.lemmas.List.{length-map}
-use Rattle.smap_link.specs.Alike.{normal_form}
+use Rattle.smap_link.specs.Alike.{key_of}
 use Rattle.smap_link.specs.Table.{rows_of, with_place}
 use Rattle.smap_link.proofs.TableLemmas.{mapped_at, more_places, read_at}
 use Rattle.smap_link.proofs.table.alike_table.Goals as goal
@@ -8,11 +8,13 @@ use Rattle.smap_link.proofs.table.alike_table.Goals as goal
 pub loop-i-preserved : goal.loop-i-preserved
 loop-i-preserved c =
     let scripts = map {A = Bor (List ℕ)} {B = List ℕ} (λ s. s.now) c.args.scripts.now in
-    let forms = map normal_form scripts in
+    let keys = map key_of scripts in
     let i = c.loop-i.i in
     let some : i < length scripts = simp length-map (omega (arith, c.loop-i-test.true)) in
-    let in_forms : i < length forms = simp length-map (omega (arith, c.loop-i-test.true)) in
-    let form : c.in_ok-form.form.items ≡ get_or forms i [] =
-    c.in_ok-form.ensures ∙ ap normal_form (read_at c.args.scripts.now i _ c.loop-i-test.true) ∙ mapped_at normal_form scripts i some in
-    more_places (rows_of c.loop-i.table.entries) (rows_of c.add.new.table.entries) forms i in_forms c.loop-i.invariant
-    (c.in_ok-add.ensures ∙ ap (λ (t : List ℕ). with_place (rows_of c.loop-i.table.entries) t i) form)
+    let in_keys : i < length keys = simp length-map (omega (arith, c.loop-i-test.true)) in
+    let key : c.in_ok-key.key.items ≡ get_or keys i [] =
+    c.in_ok-key.ensures ∙ ap key_of (read_at c.args.scripts.now i _ c.loop-i-test.true)
+    ∙ mapped_at key_of scripts i some in
+    more_places (rows_of c.loop-i.table.entries)
+    (rows_of c.add.new.table.entries) keys i in_keys c.loop-i.invariant
+    (c.in_ok-add.ensures ∙ ap (λ (t : List ℕ). with_place (rows_of c.loop-i.table.entries) t i) key)

@@ -1,4 +1,5 @@
-use Rattle.std.proofs.Common.{◌≡◌, ◌∙◌, ◌⊎◌, ⊎_elim, ℕ, ◌<◌, List, Bor, [], Some, None, ap, sym, subst, map, length, get_or, take, rules, arith}
+use Rattle.std.proofs.Common.{◌≡◌, ◌∙◌, ◌⊎◌, ⊎_elim, ℕ, ◌<◌, List, Bor, [], Some, None, ap, sym, subst, map}
+use Rattle.std.proofs.Common.{length, get_or, take, arith}
 use Rattle.std.proofs.lemmas.List.{length-map}
 use Rattle.smap_link.specs.Choice.{first_of}
 use Rattle.smap_link.specs.Table.{place_in, rows_of, with_place}
@@ -24,11 +25,14 @@ loop-i-preserved c =
     let none : first_of (get_or scripts i []) (take i scripts) ≡ None =
     sym (c.loop-i.invariant.0 (get_or scripts i []))
     ∙ ap (place_in (rows_of c.loop-i.table.entries)) (sym one) ∙ sym c.in_default.ensures in (
-      more_places (rows_of c.loop-i.table.entries) (rows_of c.add.new.table.entries) scripts i some c.loop-i.invariant.0
-          (c.in_ok-add.ensures ∙ ap (λ (t : List ℕ). with_place (rows_of c.loop-i.table.entries) t i) (c.in_ok-name.ensures.items ∙ one)),
+      more_places (rows_of c.loop-i.table.entries)
+          (rows_of c.add.new.table.entries) scripts i some c.loop-i.invariant.0
+          (c.in_ok-add.ensures ∙ ap (λ (t : List ℕ). with_place (rows_of c.loop-i.table.entries) t i)
+          (c.in_ok-name.ensures.items ∙ one)),
       λ j lt.
           let cases : (j ≡ i) ⊎ (j < i) = grind arith in
-          ⊎_elim (λ same. subst (λ (k : ℕ). first_of (get_or scripts k []) scripts ≡ Some k) (sym same) (first_here scripts i some none))
+          ⊎_elim (λ same. subst (λ (k : ℕ). first_of (get_or scripts k []) scripts ≡ Some k) (sym same)
+          (first_here scripts i some none))
           (λ before. c.loop-i.invariant.1 j before) cases,
     )
 

@@ -5,4 +5,5 @@ use Rattle.smap_link.proofs.table.name_table.Given as goal
 
 abbrev pub invariant-loop-i : goal.invariant-loop-i
 invariant-loop-i l = HasPlaces (rows_of l.table.entries) (take l.i (map (λ s. s.now) l.scripts))
-    × ((j : ℕ) → j < l.i → first_of (get_or (map (λ s. s.now) l.scripts) j []) (map (λ s. s.now) l.scripts) ≡ Some j)
+    × ((j : ℕ) → j < l.i → first_of (get_or (map (λ s. s.now) l.scripts) j []) (map (λ s. s.now) l.scripts)
+    ≡ Some j)

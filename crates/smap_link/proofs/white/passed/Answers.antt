@@ -1,11 +1,12 @@
-use Rattle.std.proofs.Common.{◌≡◌, ◌∙◌, ◌-◌, ◌+◌, ◌<◌, drop, ap, sym, subst, ℕ, arith}
+use Rattle.std.proofs.Common.{◌∙◌, ◌-◌, ◌+◌, ◌<◌, drop, ap, sym, subst, ℕ, arith}
 use Rattle.std.proofs.lemmas.List.{take_rest}
 use Rattle.smap_link.specs.White as spec
 use Rattle.smap_link.proofs.WhiteLemmas.{passes_first, passes_one}
 use Rattle.smap_link.proofs.white.passed.Goals as goal
 
 pub returns-then-left-gt0 : goal.returns-then-left-gt0
-returns-then-left-gt0 c = passes_one c.args.text.now c.args.i c.args.left c.requires (omega (arith, c.if-left-gt0.true))
+returns-then-left-gt0 c = passes_one c.args.text.now c.args.i c.args.left c.requires
+    (omega (arith, c.if-left-gt0.true))
 
 pub returns-then-size-gt0 : goal.returns-then-size-gt0
 returns-then-size-gt0 c =

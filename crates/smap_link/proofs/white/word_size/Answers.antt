@@ -1,4 +1,4 @@
-use Rattle.std.proofs.Common.{◌≡◌, ◌∙◌, ap, ◌+◌, ℕ, drop, sym, arith}
+use Rattle.std.proofs.Common.{◌≡◌, ◌∙◌, ap, drop, sym, arith}
 use Rattle.std.proofs.lemmas.List.{take_rest}
 use Rattle.smap_link.specs.White as spec
 use Rattle.smap_link.proofs.WhiteLemmas.{word_goes_on}

@@ -1,0 +1,66 @@
+-- For private contracts: paths that end in the same segment, and what is most alike from some path on.
+use Rattle.std.specs.Prelude.{◌≡◌, ℕ, ◌+◌, ◌-◌, ◌==◌, ◌<◌, ◌≤◌, not, List, [], drop, get_or, length, reverse}
+use Rattle.std.specs.Prelude.{Option, Some, None, MatchOption}
+use Rattle.std.specs.List.{prefix_len}
+use Rattle.smap_link.specs.Likeness.{IsLike}
+use Rattle.smap_link.specs.Table.{Row, place_in, rows_of}
+use Rattle.smap_link.specs.declared.endings.Endings.{Endings}
+use Rattle.smap_link.specs.declared.likeness.Likeness.{Likeness}
+use Rattle.smap_link.specs.declared.likeness.Likeness.TheVariants.{Unlike, Like, Unclear}
+
+-- how many bytes the last segment of a path has
+abbrev pub segment_size : List ℕ → ℕ
+segment_size path = prefix_len (λ b. not (b == 47)) (reverse path)
+
+-- what stands behind the last slash of a path
+abbrev pub last_segment : List ℕ → List ℕ
+last_segment path = drop (length path - segment_size path) path
+
+-- ---- paths by their last segments
+
+-- The last of the first `count` paths that ends in this segment, if one does.
+abbrev pub IsLatest : List (List ℕ) → ℕ → List ℕ → Option ℕ → Type 0
+IsLatest paths count segment found = MatchOption found
+    ((k : ℕ) → k < count → ¬ (last_segment (get_or paths k []) ≡ segment))
+    (λ i. (i < count) × (last_segment (get_or paths i []) ≡ segment)
+    × ((k : ℕ) → i < k → k < count → ¬ (last_segment (get_or paths k []) ≡ segment)))
+
+-- The table has for each segment the last of the first `count` paths that ends in it.
+abbrev pub HasLatest : List Row → List (List ℕ) → ℕ → Type 0
+HasLatest rows paths count = (segment : List ℕ) → IsLatest paths count segment (place_in rows segment)
+
+-- For each of the first `count` paths the last one before it that ends in the same segment.
+abbrev pub HasEarlier : List (Option ℕ) → List (List ℕ) → ℕ → Type 0
+HasEarlier earlier paths count = (i : ℕ) → i < count
+    → IsLatest paths i (last_segment (get_or paths i [])) (get_or earlier i None)
+
+abbrev pub AreEndings : Endings → List (List ℕ) → Type 0
+AreEndings e paths = HasLatest (rows_of e.latest.entries) paths (length paths)
+    × (length e.earlier.items ≡ length paths) × HasEarlier e.earlier.items paths (length paths)
+
+-- ---- the paths from some path on
+
+abbrev pub AtMostFrom : List ℕ → List (List ℕ) → ℕ → ℕ → Type 0
+AtMostFrom path names from n = (k m : ℕ) → from ≤ k → k < length names → IsLike path names k m → m ≤ n
+
+abbrev pub OthersBelowFrom : List ℕ → List (List ℕ) → ℕ → ℕ → ℕ → Type 0
+OthersBelowFrom path names from i n =
+    (k m : ℕ) → from ≤ k → k < length names → IsLike path names k m → ¬ (k ≡ i) → m < n
+
+-- What `IsMostAlikeOf` says of the first paths, of those from this one on.
+abbrev pub IsMostAlikeFrom : List ℕ → List (List ℕ) → ℕ → ℕ → Likeness → Type 0
+IsMostAlikeFrom path names from n Unlike = (n ≡ 0) × AtMostFrom path names from n
+IsMostAlikeFrom path names from n (Like i) = (0 < n) × (from ≤ i) × (i < length names) × IsLike path names i n
+    × OthersBelowFrom path names from i n
+IsMostAlikeFrom path names from n (Unclear i j) = (0 < n) × (from ≤ i) × (i < j) × (j < length names)
+    × IsLike path names i n × IsLike path names j n × AtMostFrom path names from n
+
+-- the number of paths up to this one
+abbrev pub up_to : Option ℕ → ℕ
+up_to None = 0
+up_to (Some i) = i + 1
+
+-- It ends in the same segment, if there is one.
+abbrev pub EndsAlike : List ℕ → List (List ℕ) → Option ℕ → Type 0
+EndsAlike path names at = MatchOption at (Unit {0})
+    (λ i. (i < length names) × (last_segment (get_or names i []) ≡ last_segment path))
