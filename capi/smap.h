@@ -45,6 +45,18 @@
 extern "C" {
 #endif
 
+/* Marks the functions that take a text or fill a buffer. In C and C++ they are inline functions of this
+ * header, and allow NULL: for a text or a buffer of length 0, for limits, and for a fault, length, counts or
+ * outcome that isn't wanted.
+ *
+ * The library has functions of the same names, which take no NULL, for other languages. A program that makes
+ * bindings out of this header reads declarations of these, and nothing inline, if SMAP_NO_INLINE is defined. */
+#ifdef SMAP_NO_INLINE
+#define SMAP_INLINE extern
+#else
+#define SMAP_INLINE static inline
+#endif
+
 /* ---- the version */
 
 #define SMAP_VERSION_MAJOR 0
@@ -75,7 +87,7 @@ enum {
 
 /* Copies the name of a code into `out`, such as "out of memory", and returns its length, or 0 if the number
  * is no code. */
-size_t smap_code_name(uint32_t code, char *out, size_t room);
+SMAP_INLINE size_t smap_code_name(uint32_t code, char *out, size_t room);
 
 /* ---- errors of maps */
 
@@ -118,7 +130,7 @@ enum {
 
 /* Copies the name of a kind of error, as docs/OUTPUT.md has it, into `out`, such as "SourceUrl", and returns
  * its length, or 0 if the number is no kind. */
-size_t smap_fault_name(uint32_t kind, char *out, size_t room);
+SMAP_INLINE size_t smap_fault_name(uint32_t kind, char *out, size_t room);
 
 /* The first error of a map or of a mappings string. */
 typedef struct smap_fault {
@@ -153,8 +165,8 @@ typedef struct smap_limits {
  * Beside the map the handle keeps its sources as the text writes them, and a table of its lines, by which
  * lookups are faster. The table takes at most 16 bytes for each mapping and 16 more, and nothing if the
  * number of the last mapping's line is more than twice the number of mappings. */
-uint32_t smap_open(smap_map *map, const void *text, size_t len, const char *base, size_t base_len,
-                   const smap_limits *limits, smap_fault *fault);
+SMAP_INLINE uint32_t smap_open(smap_map *map, const void *text, size_t len, const char *base,
+                               size_t base_len, const smap_limits *limits, smap_fault *fault);
 
 /* Reads a map as smap_open does, unless the URLs of its sources take more than `url_bytes` bytes in all. The
  * `sourceRoot` of a map goes before each of its sources, so that a map of half a megabyte may have URLs of
@@ -164,8 +176,9 @@ uint32_t smap_open(smap_map *map, const void *text, size_t len, const char *base
  * length of the text, with `url_bytes`, and for each source with the length of the base.
  * Codes: those of smap_open, and URL_BYTES: the URLs take more, and no memory was taken for them, but for
  * one at a time. It isn't known then whether the map has an error. */
-uint32_t smap_open_within(smap_map *map, const void *text, size_t len, const char *base, size_t base_len,
-                          const smap_limits *limits, size_t url_bytes, smap_fault *fault);
+SMAP_INLINE uint32_t smap_open_within(smap_map *map, const void *text, size_t len, const char *base,
+                                      size_t base_len, const smap_limits *limits, size_t url_bytes,
+                                      smap_fault *fault);
 
 /* Closes a handle. The map is freed with the last handle that shares it. A closed handle stays closed. */
 void smap_close(smap_map *map);
@@ -195,7 +208,7 @@ uint32_t smap_count(smap_map *map, smap_counts *out);
 uint32_t smap_held(smap_map *map, size_t *out);
 
 /* Copies the name of the generated file. OK; NONE: the map has none; CLOSED. */
-uint32_t smap_file(smap_map *map, char *out, size_t room, size_t *len);
+SMAP_INLINE uint32_t smap_file(smap_map *map, char *out, size_t room, size_t *len);
 
 /* ---- lookups */
 
@@ -218,7 +231,8 @@ uint32_t smap_lookup(smap_map *map, uint32_t line, uint32_t column, smap_mapping
 uint32_t smap_find(smap_map *map, uint32_t line, uint32_t column, size_t *out);
 
 /* Copies the name that the mapping there has. OK; NONE: there is no mapping, or it has no name; CLOSED. */
-uint32_t smap_name_at(smap_map *map, uint32_t line, uint32_t column, char *out, size_t room, size_t *len);
+SMAP_INLINE uint32_t smap_name_at(smap_map *map, uint32_t line, uint32_t column, char *out, size_t room,
+                                  size_t *len);
 
 /* The i-th mapping, in order of line and column. OK, RANGE, CLOSED. */
 uint32_t smap_token(smap_map *map, size_t i, smap_mapping *out);
@@ -226,10 +240,10 @@ uint32_t smap_token(smap_map *map, size_t i, smap_mapping *out);
 /* ---- sources, by their numbers from 0 */
 
 /* Copies the URL of a source. OK; NONE: it has no URL; RANGE; CLOSED. */
-uint32_t smap_source_url(smap_map *map, size_t source, char *out, size_t room, size_t *len);
+SMAP_INLINE uint32_t smap_source_url(smap_map *map, size_t source, char *out, size_t room, size_t *len);
 
 /* Copies the content of a source. OK; NONE: the map doesn't have it; RANGE; CLOSED. */
-uint32_t smap_source_content(smap_map *map, size_t source, char *out, size_t room, size_t *len);
+SMAP_INLINE uint32_t smap_source_content(smap_map *map, size_t source, char *out, size_t room, size_t *len);
 
 /* OK: *out says whether the source is ignored. RANGE, CLOSED. */
 uint32_t smap_is_ignored(smap_map *map, size_t source, bool *out);
@@ -250,14 +264,14 @@ uint32_t smap_listed_source(smap_map *map, size_t i, size_t *out);
 
 /* Copies the i-th source in the list as the text of the map writes it: not resolved, and without its
  * `sourceRoot`. OK; NONE: it is null; RANGE; CLOSED. */
-uint32_t smap_written_source(smap_map *map, size_t i, char *out, size_t room, size_t *len);
+SMAP_INLINE uint32_t smap_written_source(smap_map *map, size_t i, char *out, size_t room, size_t *len);
 
 /* Copies the `sourceRoot` that applies to the i-th source in the list, which may be empty: in an index map
  * that of the section's map. OK; NONE: there is none; RANGE; CLOSED. */
-uint32_t smap_written_root(smap_map *map, size_t i, char *out, size_t room, size_t *len);
+SMAP_INLINE uint32_t smap_written_root(smap_map *map, size_t i, char *out, size_t room, size_t *len);
 
 /* Copies the i-th name in the list. OK, RANGE, CLOSED. */
-uint32_t smap_listed_name(smap_map *map, size_t i, char *out, size_t room, size_t *len);
+SMAP_INLINE uint32_t smap_listed_name(smap_map *map, size_t i, char *out, size_t room, size_t *len);
 
 /* The i-th mapping, with indices into the lists, in order of line and column. OK, RANGE, CLOSED. */
 uint32_t smap_listed_token(smap_map *map, size_t i, smap_listed_mapping *out);
@@ -275,7 +289,7 @@ typedef struct smap_bytes {
 uint32_t smap_bytes_data(smap_bytes *bytes, const uint8_t **at, size_t *len);
 
 /* Copies the bytes from `from` on into `out`, and returns how many there are in all, or 0 if it is closed. */
-size_t smap_bytes_copy(smap_bytes *bytes, size_t from, void *out, size_t room);
+SMAP_INLINE size_t smap_bytes_copy(smap_bytes *bytes, size_t from, void *out, size_t room);
 
 /* Frees the bytes. A closed handle stays closed. */
 void smap_bytes_free(smap_bytes *bytes);
@@ -296,7 +310,7 @@ uint32_t smap_flatten(smap_map *map, smap_bytes *out);
 
 /* A mappings string, sorted and as short as possible. OK: `out` holds it. REFUSED: *fault says why (`fault`
  * may be NULL). MEMORY. */
-uint32_t smap_respell(const char *text, size_t len, smap_bytes *out, smap_fault *fault);
+SMAP_INLINE uint32_t smap_respell(const char *text, size_t len, smap_bytes *out, smap_fault *fault);
 
 /* ---- stack traces */
 
@@ -310,7 +324,7 @@ typedef struct smap_frame_parts {
 } smap_frame_parts;
 
 /* OK: the line, without its line feed, is a frame as V8, Firefox or Safari writes it. NONE: it isn't. */
-uint32_t smap_frame(const void *line, size_t len, smap_frame_parts *out);
+SMAP_INLINE uint32_t smap_frame(const void *line, size_t len, smap_frame_parts *out);
 
 /* How a trace is translated: 0, or some of these joined by `|`. Other bits aren't looked at.
  *
@@ -332,9 +346,9 @@ enum {
 
 /* Translates one line, with its line feed if it has one, by the map of the script at `url`. OK: `out` gets
  * the line to write, and *outcome is what became of it. NOT_URL: `url` isn't UTF-8. CLOSED, MEMORY. */
-uint32_t smap_translate_line(smap_map *map, const char *url, size_t url_len, const void *line,
-                             size_t line_len, uint8_t how, char *out, size_t room, size_t *len,
-                             uint32_t *outcome);
+SMAP_INLINE uint32_t smap_translate_line(smap_map *map, const char *url, size_t url_len, const void *line,
+                                         size_t line_len, uint8_t how, char *out, size_t room, size_t *len,
+                                         uint32_t *outcome);
 
 /* Scripts, each a URL and a map. Its fields are for the library alone. */
 typedef struct smap_scripts {
@@ -345,7 +359,7 @@ typedef struct smap_scripts {
 /* Adds a script; a closed handle is opened by it. The map is shared, so its handle may be closed afterwards.
  * A script with that URL, byte for byte, gets this map in place of its own. OK; NOT_URL: `url` isn't UTF-8;
  * CLOSED: `map` is; MEMORY. */
-uint32_t smap_add_script(smap_scripts *scripts, const char *url, size_t url_len, smap_map *map);
+SMAP_INLINE uint32_t smap_add_script(smap_scripts *scripts, const char *url, size_t url_len, smap_map *map);
 
 /* Closes a handle of scripts. A closed handle stays closed. */
 void smap_close_scripts(smap_scripts *scripts);
@@ -357,8 +371,8 @@ typedef struct smap_trace_counts {
 
 /* Translates a whole trace. OK: `out` holds the translated trace, and *counts (`counts` may be NULL) says how
  * many lines there were. CLOSED: `scripts` is; MEMORY. */
-uint32_t smap_translate(smap_scripts *scripts, const void *trace, size_t len, uint8_t how, smap_bytes *out,
-                        smap_trace_counts *counts);
+SMAP_INLINE uint32_t smap_translate(smap_scripts *scripts, const void *trace, size_t len, uint8_t how,
+                                    smap_bytes *out, smap_trace_counts *counts);
 
 /* ---- which map belongs to a script (docs/LINKING.md has the rules)
  *
@@ -366,258 +380,380 @@ uint32_t smap_translate(smap_scripts *scripts, const void *trace, size_t len, ui
  * puts bytes into it; a fault that a code names leaves it as it was. */
 
 /* Copies the URL of its map that a script, or with `css` a style sheet, names in its last comment, as it
- * stands there. The text is read from its end; a text of many U+2028 or U+2029 without line feeds takes time
- * that grows with the square of their number. OK, NONE. */
-uint32_t smap_script_link(const void *text, size_t len, bool css, char *out, size_t room, size_t *url_len);
+ * stands there. The text is read from its end, and no further than the last line that has more than white
+ * space and comments. OK, NONE. */
+SMAP_INLINE uint32_t smap_script_link(const void *text, size_t len, bool css, char *out, size_t room,
+                                      size_t *url_len);
 
 /* That URL resolved against the script's own. OK; NOT_URL: the script's name is neither a URL nor an absolute
  * path, or the two make no URL; NOT_UTF8; MEMORY. */
-uint32_t smap_resolve(const char *script, size_t script_len, const char *url, size_t url_len,
-                      smap_bytes *out);
+SMAP_INLINE uint32_t smap_resolve(const char *script, size_t script_len, const char *url, size_t url_len,
+                                  smap_bytes *out);
 
 /* The bytes that a data: URL holds. OK; NONE: it is another URL; NOT_URL: it has no comma; NOT_BASE64;
  * MEMORY. */
-uint32_t smap_data_url(const char *url, size_t len, smap_bytes *out);
+SMAP_INLINE uint32_t smap_data_url(const char *url, size_t len, smap_bytes *out);
 
 /* The file: URL of an absolute path. OK; NONE: the path isn't absolute; NOT_UTF8; MEMORY. */
-uint32_t smap_file_url(const char *path, size_t len, smap_bytes *out);
+SMAP_INLINE uint32_t smap_file_url(const char *path, size_t len, smap_bytes *out);
 
 /* The path of a file: URL. OK; NONE: it is another URL; NOT_URL: it names another host, or an escape of it
  * stands for a slash or a NUL; NOT_UTF8; MEMORY. */
-uint32_t smap_file_path(const char *url, size_t len, smap_bytes *out);
+SMAP_INLINE uint32_t smap_file_path(const char *url, size_t len, smap_bytes *out);
 
 /* The URL of the script with this name below a folder, which has a URL or a path that ends in a slash. OK,
  * MEMORY. */
-uint32_t smap_script_url(const char *folder, size_t folder_len, const char *name, size_t name_len,
-                         smap_bytes *out);
+SMAP_INLINE uint32_t smap_script_url(const char *folder, size_t folder_len, const char *name,
+                                     size_t name_len, smap_bytes *out);
 
 /* The name with which smap_script_url makes this URL. OK; NONE: the script isn't below the folder, or its URL
  * is spelled otherwise; MEMORY. */
-uint32_t smap_script_name(const char *folder, size_t folder_len, const char *url, size_t url_len,
-                          smap_bytes *out);
+SMAP_INLINE uint32_t smap_script_name(const char *folder, size_t folder_len, const char *url,
+                                      size_t url_len, smap_bytes *out);
 
-/* What all names of a script have in common: those are alike for which these bytes are the same. OK,
- * MEMORY. */
-uint32_t smap_normal_form(const char *name, size_t len, smap_bytes *out);
+/* What all names of a script have in common: those are alike for which these bytes are the same. With
+ * `with_query` what those have in common that also have the same query, since a script with another query is
+ * another one. OK, MEMORY. */
+SMAP_INLINE uint32_t smap_normal_form(const char *name, size_t len, bool with_query, smap_bytes *out);
 
 /* OK: *out says whether two names are alike, that is, differ at most in the query, the fragment, the default
  * port, the capitals of the host, in being a path or its file: URL, and in the case of the drive. MEMORY. */
-uint32_t smap_alike(const char *one, size_t one_len, const char *other, size_t other_len, bool *out);
+SMAP_INLINE uint32_t smap_alike(const char *one, size_t one_len, const char *other, size_t other_len,
+                                bool *out);
 
-#ifdef __cplusplus
-}
-#endif
+#ifndef SMAP_NO_INLINE
 
-/* ---- NULL
+/* ---- texts that end with a NUL
  *
- * The functions of the library take no NULL. In C and C++ the ones below replace them, which take it for a
- * text or a buffer of length 0, for limits, and for a fault, length, counts or outcome that isn't wanted. */
+ * NAME_text is NAME for such texts, without their lengths. NULL stands for an empty one. */
+
+static inline size_t smap_length_(const char *text)
+{
+    size_t len = 0;
+    while (text && text[len]) len++;
+    return len;
+}
+
+static inline uint32_t smap_open_text(smap_map *map, const char *text, const char *base,
+                                      const smap_limits *limits, smap_fault *fault)
+{
+    return smap_open(map, text, smap_length_(text), base, smap_length_(base), limits, fault);
+}
+
+static inline uint32_t smap_open_within_text(smap_map *map, const char *text, const char *base,
+                                             const smap_limits *limits, size_t url_bytes, smap_fault *fault)
+{
+    return smap_open_within(map, text, smap_length_(text), base, smap_length_(base), limits, url_bytes,
+                            fault);
+}
+
+static inline uint32_t smap_respell_text(const char *text, smap_bytes *out, smap_fault *fault)
+{
+    return smap_respell(text, smap_length_(text), out, fault);
+}
+
+static inline uint32_t smap_frame_text(const char *line, smap_frame_parts *out)
+{
+    return smap_frame(line, smap_length_(line), out);
+}
+
+static inline uint32_t smap_translate_line_text(smap_map *map, const char *url, const char *line,
+                                                uint8_t how, char *out, size_t room, size_t *len,
+                                                uint32_t *outcome)
+{
+    return smap_translate_line(map, url, smap_length_(url), line, smap_length_(line), how, out, room, len,
+                               outcome);
+}
+
+static inline uint32_t smap_add_script_text(smap_scripts *scripts, const char *url, smap_map *map)
+{
+    return smap_add_script(scripts, url, smap_length_(url), map);
+}
+
+static inline uint32_t smap_translate_text(smap_scripts *scripts, const char *trace, uint8_t how,
+                                           smap_bytes *out, smap_trace_counts *counts)
+{
+    return smap_translate(scripts, trace, smap_length_(trace), how, out, counts);
+}
+
+static inline uint32_t smap_script_link_text(const char *text, bool css, char *out, size_t room,
+                                             size_t *url_len)
+{
+    return smap_script_link(text, smap_length_(text), css, out, room, url_len);
+}
+
+static inline uint32_t smap_resolve_text(const char *script, const char *url, smap_bytes *out)
+{
+    return smap_resolve(script, smap_length_(script), url, smap_length_(url), out);
+}
+
+static inline uint32_t smap_data_url_text(const char *url, smap_bytes *out)
+{
+    return smap_data_url(url, smap_length_(url), out);
+}
+
+static inline uint32_t smap_file_url_text(const char *path, smap_bytes *out)
+{
+    return smap_file_url(path, smap_length_(path), out);
+}
+
+static inline uint32_t smap_file_path_text(const char *url, smap_bytes *out)
+{
+    return smap_file_path(url, smap_length_(url), out);
+}
+
+static inline uint32_t smap_script_url_text(const char *folder, const char *name, smap_bytes *out)
+{
+    return smap_script_url(folder, smap_length_(folder), name, smap_length_(name), out);
+}
+
+static inline uint32_t smap_script_name_text(const char *folder, const char *url, smap_bytes *out)
+{
+    return smap_script_name(folder, smap_length_(folder), url, smap_length_(url), out);
+}
+
+static inline uint32_t smap_normal_form_text(const char *name, bool with_query, smap_bytes *out)
+{
+    return smap_normal_form(name, smap_length_(name), with_query, out);
+}
+
+static inline uint32_t smap_alike_text(const char *one, const char *other, bool *out)
+{
+    return smap_alike(one, smap_length_(one), other, smap_length_(other), out);
+}
+
+/* ---- the functions that are marked SMAP_INLINE
+ *
+ * NAME_strict is the library's function NAME, which takes no NULL. It has this second name since nothing in C
+ * calls a function of a library from an inline function that has its name. */
+
+uint32_t smap_open_strict(smap_map *map, const void *text, size_t len, const char *base, size_t base_len,
+                          const smap_limits *limits, smap_fault *fault);
+uint32_t smap_open_within_strict(smap_map *map, const void *text, size_t len, const char *base,
+                                 size_t base_len, const smap_limits *limits, size_t url_bytes,
+                                 smap_fault *fault);
+size_t smap_code_name_strict(uint32_t code, char *out, size_t room);
+size_t smap_fault_name_strict(uint32_t kind, char *out, size_t room);
+uint32_t smap_file_strict(smap_map *map, char *out, size_t room, size_t *len);
+uint32_t smap_name_at_strict(smap_map *map, uint32_t line, uint32_t column, char *out, size_t room,
+                             size_t *len);
+uint32_t smap_source_url_strict(smap_map *map, size_t source, char *out, size_t room, size_t *len);
+uint32_t smap_source_content_strict(smap_map *map, size_t source, char *out, size_t room, size_t *len);
+uint32_t smap_written_source_strict(smap_map *map, size_t i, char *out, size_t room, size_t *len);
+uint32_t smap_written_root_strict(smap_map *map, size_t i, char *out, size_t room, size_t *len);
+uint32_t smap_listed_name_strict(smap_map *map, size_t i, char *out, size_t room, size_t *len);
+size_t smap_bytes_copy_strict(smap_bytes *bytes, size_t from, void *out, size_t room);
+uint32_t smap_respell_strict(const char *text, size_t len, smap_bytes *out, smap_fault *fault);
+uint32_t smap_frame_strict(const void *line, size_t len, smap_frame_parts *out);
+uint32_t smap_translate_line_strict(smap_map *map, const char *url, size_t url_len, const void *line,
+                                    size_t line_len, uint8_t how, char *out, size_t room, size_t *len,
+                                    uint32_t *outcome);
+uint32_t smap_add_script_strict(smap_scripts *scripts, const char *url, size_t url_len, smap_map *map);
+uint32_t smap_translate_strict(smap_scripts *scripts, const void *trace, size_t len, uint8_t how,
+                               smap_bytes *out, smap_trace_counts *counts);
+uint32_t smap_script_link_strict(const void *text, size_t len, bool css, char *out, size_t room,
+                                 size_t *url_len);
+uint32_t smap_resolve_strict(const char *script, size_t script_len, const char *url, size_t url_len,
+                             smap_bytes *out);
+uint32_t smap_data_url_strict(const char *url, size_t len, smap_bytes *out);
+uint32_t smap_file_url_strict(const char *path, size_t len, smap_bytes *out);
+uint32_t smap_file_path_strict(const char *url, size_t len, smap_bytes *out);
+uint32_t smap_script_url_strict(const char *folder, size_t folder_len, const char *name, size_t name_len,
+                                smap_bytes *out);
+uint32_t smap_script_name_strict(const char *folder, size_t folder_len, const char *url, size_t url_len,
+                                 smap_bytes *out);
+uint32_t smap_normal_form_strict(const char *name, size_t len, bool with_query, smap_bytes *out);
+uint32_t smap_alike_strict(const char *one, size_t one_len, const char *other, size_t other_len, bool *out);
 
 static const char smap_no_text_[1] = {0};
 
-static inline uint32_t smap_open_(smap_map *map, const void *text, size_t len, const char *base,
-                                  size_t base_len, const smap_limits *limits, smap_fault *fault)
+static inline uint32_t smap_open(smap_map *map, const void *text, size_t len, const char *base,
+                                 size_t base_len, const smap_limits *limits, smap_fault *fault)
 {
     const smap_limits usual = {0, 0};
     smap_fault unwanted;
-    return smap_open(map, text ? text : smap_no_text_, len, base ? base : smap_no_text_, base_len,
-                     limits ? limits : &usual, fault ? fault : &unwanted);
+    return smap_open_strict(map, text ? text : smap_no_text_, len, base ? base : smap_no_text_, base_len,
+                            limits ? limits : &usual, fault ? fault : &unwanted);
 }
 
-static inline uint32_t smap_open_within_(smap_map *map, const void *text, size_t len, const char *base,
-                                         size_t base_len, const smap_limits *limits, size_t url_bytes,
-                                         smap_fault *fault)
+static inline uint32_t smap_open_within(smap_map *map, const void *text, size_t len, const char *base,
+                                        size_t base_len, const smap_limits *limits, size_t url_bytes,
+                                        smap_fault *fault)
 {
     const smap_limits usual = {0, 0};
     smap_fault unwanted;
-    return smap_open_within(map, text ? text : smap_no_text_, len, base ? base : smap_no_text_, base_len,
-                            limits ? limits : &usual, url_bytes, fault ? fault : &unwanted);
+    return smap_open_within_strict(map, text ? text : smap_no_text_, len, base ? base : smap_no_text_,
+                                   base_len, limits ? limits : &usual, url_bytes,
+                                   fault ? fault : &unwanted);
 }
 
-static inline size_t smap_code_name_(uint32_t code, char *out, size_t room)
+static inline size_t smap_code_name(uint32_t code, char *out, size_t room)
 {
     char none;
-    return smap_code_name(code, out ? out : &none, room);
+    return smap_code_name_strict(code, out ? out : &none, room);
 }
 
-static inline size_t smap_fault_name_(uint32_t kind, char *out, size_t room)
+static inline size_t smap_fault_name(uint32_t kind, char *out, size_t room)
 {
     char none;
-    return smap_fault_name(kind, out ? out : &none, room);
+    return smap_fault_name_strict(kind, out ? out : &none, room);
 }
 
-static inline uint32_t smap_file_(smap_map *map, char *out, size_t room, size_t *len)
-{
-    char none;
-    size_t unwanted;
-    return smap_file(map, out ? out : &none, room, len ? len : &unwanted);
-}
-
-static inline uint32_t smap_name_at_(smap_map *map, uint32_t line, uint32_t column, char *out, size_t room,
-                                     size_t *len)
+static inline uint32_t smap_file(smap_map *map, char *out, size_t room, size_t *len)
 {
     char none;
     size_t unwanted;
-    return smap_name_at(map, line, column, out ? out : &none, room, len ? len : &unwanted);
+    return smap_file_strict(map, out ? out : &none, room, len ? len : &unwanted);
 }
 
-static inline uint32_t smap_source_url_(smap_map *map, size_t source, char *out, size_t room, size_t *len)
+static inline uint32_t smap_name_at(smap_map *map, uint32_t line, uint32_t column, char *out, size_t room,
+                                    size_t *len)
 {
     char none;
     size_t unwanted;
-    return smap_source_url(map, source, out ? out : &none, room, len ? len : &unwanted);
+    return smap_name_at_strict(map, line, column, out ? out : &none, room, len ? len : &unwanted);
 }
 
-static inline uint32_t smap_source_content_(smap_map *map, size_t source, char *out, size_t room, size_t *len)
+static inline uint32_t smap_source_url(smap_map *map, size_t source, char *out, size_t room, size_t *len)
 {
     char none;
     size_t unwanted;
-    return smap_source_content(map, source, out ? out : &none, room, len ? len : &unwanted);
+    return smap_source_url_strict(map, source, out ? out : &none, room, len ? len : &unwanted);
 }
 
-static inline uint32_t smap_written_source_(smap_map *map, size_t i, char *out, size_t room, size_t *len)
+static inline uint32_t smap_source_content(smap_map *map, size_t source, char *out, size_t room,
+                                           size_t *len)
 {
     char none;
     size_t unwanted;
-    return smap_written_source(map, i, out ? out : &none, room, len ? len : &unwanted);
+    return smap_source_content_strict(map, source, out ? out : &none, room, len ? len : &unwanted);
 }
 
-static inline uint32_t smap_written_root_(smap_map *map, size_t i, char *out, size_t room, size_t *len)
+static inline uint32_t smap_written_source(smap_map *map, size_t i, char *out, size_t room, size_t *len)
 {
     char none;
     size_t unwanted;
-    return smap_written_root(map, i, out ? out : &none, room, len ? len : &unwanted);
+    return smap_written_source_strict(map, i, out ? out : &none, room, len ? len : &unwanted);
 }
 
-static inline uint32_t smap_listed_name_(smap_map *map, size_t i, char *out, size_t room, size_t *len)
+static inline uint32_t smap_written_root(smap_map *map, size_t i, char *out, size_t room, size_t *len)
 {
     char none;
     size_t unwanted;
-    return smap_listed_name(map, i, out ? out : &none, room, len ? len : &unwanted);
+    return smap_written_root_strict(map, i, out ? out : &none, room, len ? len : &unwanted);
 }
 
-static inline size_t smap_bytes_copy_(smap_bytes *bytes, size_t from, void *out, size_t room)
+static inline uint32_t smap_listed_name(smap_map *map, size_t i, char *out, size_t room, size_t *len)
 {
     char none;
-    return smap_bytes_copy(bytes, from, out ? out : &none, room);
+    size_t unwanted;
+    return smap_listed_name_strict(map, i, out ? out : &none, room, len ? len : &unwanted);
 }
 
-static inline uint32_t smap_respell_(const char *text, size_t len, smap_bytes *out, smap_fault *fault)
+static inline size_t smap_bytes_copy(smap_bytes *bytes, size_t from, void *out, size_t room)
+{
+    char none;
+    return smap_bytes_copy_strict(bytes, from, out ? out : &none, room);
+}
+
+static inline uint32_t smap_respell(const char *text, size_t len, smap_bytes *out, smap_fault *fault)
 {
     smap_fault unwanted;
-    return smap_respell(text ? text : smap_no_text_, len, out, fault ? fault : &unwanted);
+    return smap_respell_strict(text ? text : smap_no_text_, len, out, fault ? fault : &unwanted);
 }
 
-static inline uint32_t smap_frame_(const void *line, size_t len, smap_frame_parts *out)
+static inline uint32_t smap_frame(const void *line, size_t len, smap_frame_parts *out)
 {
-    return smap_frame(line ? line : smap_no_text_, len, out);
+    return smap_frame_strict(line ? line : smap_no_text_, len, out);
 }
 
-static inline uint32_t smap_translate_line_(smap_map *map, const char *url, size_t url_len, const void *line,
-                                            size_t line_len, uint8_t how, char *out, size_t room, size_t *len,
-                                            uint32_t *outcome)
+static inline uint32_t smap_translate_line(smap_map *map, const char *url, size_t url_len, const void *line,
+                                           size_t line_len, uint8_t how, char *out, size_t room,
+                                           size_t *len, uint32_t *outcome)
 {
     char none;
     size_t unwanted;
     uint32_t ignored;
-    return smap_translate_line(map, url ? url : smap_no_text_, url_len, line ? line : smap_no_text_, line_len,
-                               how, out ? out : &none, room, len ? len : &unwanted,
-                               outcome ? outcome : &ignored);
+    return smap_translate_line_strict(map, url ? url : smap_no_text_, url_len, line ? line : smap_no_text_,
+                                      line_len, how, out ? out : &none, room, len ? len : &unwanted,
+                                      outcome ? outcome : &ignored);
 }
 
-static inline uint32_t smap_add_script_(smap_scripts *scripts, const char *url, size_t url_len, smap_map *map)
+static inline uint32_t smap_add_script(smap_scripts *scripts, const char *url, size_t url_len,
+                                       smap_map *map)
 {
-    return smap_add_script(scripts, url ? url : smap_no_text_, url_len, map);
+    return smap_add_script_strict(scripts, url ? url : smap_no_text_, url_len, map);
 }
 
-static inline uint32_t smap_translate_(smap_scripts *scripts, const void *trace, size_t len, uint8_t how,
-                                       smap_bytes *out, smap_trace_counts *counts)
+static inline uint32_t smap_translate(smap_scripts *scripts, const void *trace, size_t len, uint8_t how,
+                                      smap_bytes *out, smap_trace_counts *counts)
 {
     smap_trace_counts unwanted;
-    return smap_translate(scripts, trace ? trace : smap_no_text_, len, how, out,
-                          counts ? counts : &unwanted);
+    return smap_translate_strict(scripts, trace ? trace : smap_no_text_, len, how, out,
+                                 counts ? counts : &unwanted);
 }
 
-static inline uint32_t smap_script_link_(const void *text, size_t len, bool css, char *out, size_t room,
-                                         size_t *url_len)
+static inline uint32_t smap_script_link(const void *text, size_t len, bool css, char *out, size_t room,
+                                        size_t *url_len)
 {
     char none;
     size_t unwanted;
-    return smap_script_link(text ? text : smap_no_text_, len, css, out ? out : &none, room,
-                            url_len ? url_len : &unwanted);
+    return smap_script_link_strict(text ? text : smap_no_text_, len, css, out ? out : &none, room,
+                                   url_len ? url_len : &unwanted);
 }
 
-static inline uint32_t smap_resolve_(const char *script, size_t script_len, const char *url, size_t url_len,
-                                     smap_bytes *out)
+static inline uint32_t smap_resolve(const char *script, size_t script_len, const char *url, size_t url_len,
+                                    smap_bytes *out)
 {
-    return smap_resolve(script ? script : smap_no_text_, script_len, url ? url : smap_no_text_, url_len, out);
+    return smap_resolve_strict(script ? script : smap_no_text_, script_len, url ? url : smap_no_text_,
+                               url_len, out);
 }
 
-static inline uint32_t smap_data_url_(const char *url, size_t len, smap_bytes *out)
+static inline uint32_t smap_data_url(const char *url, size_t len, smap_bytes *out)
 {
-    return smap_data_url(url ? url : smap_no_text_, len, out);
+    return smap_data_url_strict(url ? url : smap_no_text_, len, out);
 }
 
-static inline uint32_t smap_file_url_(const char *path, size_t len, smap_bytes *out)
+static inline uint32_t smap_file_url(const char *path, size_t len, smap_bytes *out)
 {
-    return smap_file_url(path ? path : smap_no_text_, len, out);
+    return smap_file_url_strict(path ? path : smap_no_text_, len, out);
 }
 
-static inline uint32_t smap_file_path_(const char *url, size_t len, smap_bytes *out)
+static inline uint32_t smap_file_path(const char *url, size_t len, smap_bytes *out)
 {
-    return smap_file_path(url ? url : smap_no_text_, len, out);
+    return smap_file_path_strict(url ? url : smap_no_text_, len, out);
 }
 
-static inline uint32_t smap_script_url_(const char *folder, size_t folder_len, const char *name,
-                                        size_t name_len, smap_bytes *out)
+static inline uint32_t smap_script_url(const char *folder, size_t folder_len, const char *name,
+                                       size_t name_len, smap_bytes *out)
 {
-    return smap_script_url(folder ? folder : smap_no_text_, folder_len, name ? name : smap_no_text_, name_len,
-                           out);
+    return smap_script_url_strict(folder ? folder : smap_no_text_, folder_len, name ? name : smap_no_text_,
+                                  name_len, out);
 }
 
-static inline uint32_t smap_script_name_(const char *folder, size_t folder_len, const char *url,
-                                         size_t url_len, smap_bytes *out)
+static inline uint32_t smap_script_name(const char *folder, size_t folder_len, const char *url,
+                                        size_t url_len, smap_bytes *out)
 {
-    return smap_script_name(folder ? folder : smap_no_text_, folder_len, url ? url : smap_no_text_, url_len,
-                            out);
+    return smap_script_name_strict(folder ? folder : smap_no_text_, folder_len, url ? url : smap_no_text_,
+                                   url_len, out);
 }
 
-static inline uint32_t smap_normal_form_(const char *name, size_t len, smap_bytes *out)
+static inline uint32_t smap_normal_form(const char *name, size_t len, bool with_query, smap_bytes *out)
 {
-    return smap_normal_form(name ? name : smap_no_text_, len, out);
+    return smap_normal_form_strict(name ? name : smap_no_text_, len, with_query, out);
 }
 
-static inline uint32_t smap_alike_(const char *one, size_t one_len, const char *other, size_t other_len,
-                                   bool *out)
+static inline uint32_t smap_alike(const char *one, size_t one_len, const char *other, size_t other_len,
+                                  bool *out)
 {
-    return smap_alike(one ? one : smap_no_text_, one_len, other ? other : smap_no_text_, other_len, out);
+    return smap_alike_strict(one ? one : smap_no_text_, one_len, other ? other : smap_no_text_, other_len,
+                             out);
 }
 
-#define smap_open smap_open_
-#define smap_open_within smap_open_within_
-#define smap_code_name smap_code_name_
-#define smap_fault_name smap_fault_name_
-#define smap_file smap_file_
-#define smap_name_at smap_name_at_
-#define smap_source_url smap_source_url_
-#define smap_source_content smap_source_content_
-#define smap_written_source smap_written_source_
-#define smap_written_root smap_written_root_
-#define smap_listed_name smap_listed_name_
-#define smap_bytes_copy smap_bytes_copy_
-#define smap_respell smap_respell_
-#define smap_frame smap_frame_
-#define smap_translate_line smap_translate_line_
-#define smap_add_script smap_add_script_
-#define smap_translate smap_translate_
-#define smap_script_link smap_script_link_
-#define smap_resolve smap_resolve_
-#define smap_data_url smap_data_url_
-#define smap_file_url smap_file_url_
-#define smap_file_path smap_file_path_
-#define smap_script_url smap_script_url_
-#define smap_script_name smap_script_name_
-#define smap_normal_form smap_normal_form_
-#define smap_alike smap_alike_
+#endif
+
+#ifdef __cplusplus
+}
+#endif
 
 #endif

@@ -198,10 +198,10 @@ inline uint32_t script_name(const std::string &folder, const std::string &url, B
     return smap_script_name(folder.data(), folder.size(), url.data(), url.size(), out.handle());
 }
 
-/* What all names of a script have in common. */
-inline uint32_t normal_form(const std::string &name, Bytes &out)
+/* What all names of a script have in common, or with_query those that have the same query too. */
+inline uint32_t normal_form(const std::string &name, Bytes &out, bool with_query = false)
 {
-    return smap_normal_form(name.data(), name.size(), out.handle());
+    return smap_normal_form(name.data(), name.size(), with_query, out.handle());
 }
 
 /* Whether two names are alike. */

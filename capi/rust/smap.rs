@@ -160,7 +160,7 @@ unsafe extern "C" {
     fn smap_script_name(
         folder: Text, folder_len: usize, url: Text, url_len: usize, out: Owned,
     ) -> u32;
-    fn smap_normal_form(name: Text, len: usize, out: Owned) -> u32;
+    fn smap_normal_form(name: Text, len: usize, with_query: bool, out: Owned) -> u32;
     fn smap_alike(
         one: Text, one_len: usize, other: Text, other_len: usize, out: *mut bool,
     ) -> u32;
@@ -387,9 +387,9 @@ pub fn script_name(folder: &[u8], url: &[u8]) -> Result<Option<Vec<u8>>, LinkErr
     })
 }
 
-/// What all names of a script have in common.
-pub fn normal_form(name: &[u8]) -> Result<Vec<u8>, LinkError> {
-    let call = |out| unsafe { smap_normal_form(name.as_ptr(), name.len(), out) };
+/// What all names of a script have in common, or `with_query` those that have the same query too.
+pub fn normal_form(name: &[u8], with_query: bool) -> Result<Vec<u8>, LinkError> {
+    let call = |out| unsafe { smap_normal_form(name.as_ptr(), name.len(), with_query, out) };
     Ok(given(call)?.unwrap_or_default())
 }
 

@@ -373,8 +373,9 @@ static void links(void)
     CHECK(smap_resolve(STRING("a.js"), STRING("a.map"), &out) == SMAP_NOT_URL);
     CHECK(smap_resolve(STRING("http://h/a.js"), STRING("\xff"), &out) == SMAP_NOT_UTF8);
     CHECK(smap_resolve(NULL, 0, NULL, 0, &out) == SMAP_NOT_URL && holds(&out, "http://h/a.map"));
-    CHECK(smap_normal_form(STRING("HTTP://H:80/a.js?x#y"), &out) == SMAP_OK && holds(&out, "http://h/a.js"));
-    CHECK(smap_normal_form(NULL, 0, &out) == SMAP_OK && holds(&out, ""));
+    CHECK(smap_normal_form(STRING("HTTP://H:80/a.js?x#y"), false, &out) == SMAP_OK);
+    CHECK(holds(&out, "http://h/a.js"));
+    CHECK(smap_normal_form(NULL, 0, false, &out) == SMAP_OK && holds(&out, ""));
     CHECK(smap_alike(STRING("/a.js"), STRING("file:///b.js"), &flag) == SMAP_OK && !flag);
     CHECK(smap_alike(STRING("c:\\a.js"), STRING("file:///C:/a.js"), &flag) == SMAP_OK && flag);
     CHECK(smap_alike(NULL, 0, NULL, 0, &flag) == SMAP_OK && flag);

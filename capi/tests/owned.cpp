@@ -61,6 +61,11 @@ int main()
     CHECK(smap::script_name("http://h/", "http://h/a%20b.js", bytes) == SMAP_OK);
     CHECK(smap::text(bytes) == "a b.js");
     CHECK(smap::normal_form("HTTP://H:80/a.js?x", bytes) == SMAP_OK && smap::text(bytes) == "http://h/a.js");
+    std::string query;
+    CHECK(smap::normal_form("HTTP://H:80/a.js?x#y", bytes, true) == SMAP_OK);
+    query = smap::text(bytes);
+    CHECK(smap::normal_form("http://h/a.js?x", bytes, true) == SMAP_OK && smap::text(bytes) == query);
+    CHECK(smap::normal_form("http://h/a.js?z", bytes, true) == SMAP_OK && smap::text(bytes) != query);
     CHECK(smap::alike("/a.js", "file:///a.js", alike) == SMAP_OK && alike);
     return failures != 0;
 }

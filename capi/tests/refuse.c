@@ -145,7 +145,7 @@ static uint32_t resolve(void)
 
 static uint32_t normal_form(void)
 {
-    return smap_normal_form("/a b.js", 7, &out);
+    return smap_normal_form("/a b.js", 7, true, &out);
 }
 
 static uint32_t alike(void)

@@ -20,8 +20,10 @@ is_bare() {
     in_root sh -c 'for tool in cc gcc python3 rt; do ! command -v "$tool" || exit 1; done'
 }
 
+# The file that the line of README names: sudo apt install ./FILE
 installs_program() {
-    contents >"$work/before" && apt install "/try/smap_${version}_amd64.deb"
+    line=$(install_line 'sudo apt install') || return 1
+    contents >"$work/before" && apt install "/try/$(echo "$line" | cut -d ' ' -f 4)"
 }
 
 runs_example() {
@@ -157,8 +159,8 @@ test_program() {
 test_all() {
     try 'all packages are installed' installs_all
     try 'dpkg finds every file as it was packed' is_whole
-    try 'the C program of README is compiled by pkg-config' runs_c_program
-    try 'the Python program of README runs' runs_python_program
+    try 'the C program of the manual is compiled by pkg-config' runs_c_program
+    try 'the Python program of the manual runs' runs_python_program
     [ -z "$with_node" ] || try "the first program of Node's manual runs, and smap/register" runs_node_program
     try 'the packages are upgraded' upgrades
     try 'all are purged, and nothing stays' removes_all

@@ -2,11 +2,12 @@
 # What scripts/run-packages tests of what any user can install: the archive, unpacked into any folder, the
 # wheel in a virtual environment, and the package for npm in a project.
 
-usr="$work/any where/$archive"
+usr="$work/any where/.local"
 
+# By the line of README, which unpacks it below the home folder.
 unpacks_anywhere() {
-    mkdir "$work/any where" && tar -xzf "$dist/$archive.tar.gz" -C "$work/any where" &&
-        put_example "$work/example" || return 1
+    install_line 'mkdir -p ~/.local &&' >"$work/line" &&
+        (cd "$dist" && HOME="$work/any where" sh "$work/line") && put_example "$work/example" || return 1
     (unset SMAP && cd "$work/example" && PATH="$usr/bin:$PATH" sh ./command >written && diff wanted written)
 }
 
@@ -23,8 +24,10 @@ archive_compiles() {
 venv=$work/venv
 
 installs_wheel() {
-    "$venv/bin/python" -m pip install --no-index --disable-pip-version-check "$wheel" &&
-        "$venv/bin/python" -m pip check &&
+    install_line 'pip install' >"$work/line" || return 1
+    (
+        cd "$dist" && PATH="$venv/bin:$PATH" PIP_NO_INDEX=1 PIP_DISABLE_PIP_VERSION_CHECK=1 sh "$work/line"
+    ) && "$venv/bin/python" -m pip check &&
         [ "$(cd / && "$venv/bin/python" -c 'import smap; print(smap.version())')" = "$version" ]
 }
 
@@ -59,15 +62,16 @@ removes_wheel() {
         [ -z "$(find "$venv" -name '*smap*')" ]
 }
 
-# npm with a cache and a home of its own, and without a network.
-npm_here() {
-    set -- "$@" --offline --no-audit --no-fund
-    (cd "$work/project" && HOME=$work/npm-home npm_config_cache=$work/npm npm "$@")
-}
+# Runs a command in the project, for which npm has a cache and a home of its own, and no network.
+with_npm() (
+    cd "$work/project" && npm_config_offline=true npm_config_audit=false npm_config_fund=false &&
+        export npm_config_offline npm_config_audit npm_config_fund &&
+        HOME=$work/npm-home npm_config_cache=$work/npm "$@"
+)
 
 installs_npm() {
     mkdir "$work/project" "$work/npm-home" && cp "$npm_tgz" "$work/project" &&
-        echo '{"private":true}' >"$work/project/package.json" && npm_here install "./${npm_tgz##*/}" &&
+        echo '{"private":true}' >"$work/project/package.json" && install_line 'npm install' >"$work/line" && with_npm sh "$work/line" &&
         [ "$(cd "$work/project" && node -p "require('smap').version")" = "$version" ]
 }
 
@@ -87,25 +91,25 @@ npm_runs_programs() {
 }
 
 removes_npm() {
-    npm_here uninstall smap && [ -z "$(find "$work/project/node_modules" -name '*smap*' 2>/dev/null)" ]
+    with_npm npm uninstall smap && [ -z "$(find "$work/project/node_modules" -name '*smap*' 2>/dev/null)" ]
 }
 
 test_npm() {
-    try 'the package for npm is installed' installs_npm || return
+    try 'the package for npm is installed by the line of README' installs_npm || return
     try 'the package for npm runs the programs of its manual, and smap/register' npm_runs_programs
     try 'the package for npm is removed, and nothing stays' removes_npm
 }
 
 test_prefix() {
-    try 'the archive, unpacked anywhere, runs the first example of README' unpacks_anywhere
+    try 'the archive, unpacked by the line of README, runs its first example' unpacks_anywhere
     if has cc 'a C program with the archive' && has pkg-config 'a C program with the archive'; then
-        try 'the archive compiles the C program of README' archive_compiles
+        try 'the archive compiles the C program of its manual' archive_compiles
     fi
     if ! python3 -c 'import ensurepip, venv' 2>/dev/null; then
         leave_out 'the wheel' 'python3 has no venv here'
     elif try 'a virtual environment is made' python3 -m venv "$venv" &&
-        try 'the wheel is installed' installs_wheel; then
-        try 'the wheel runs the Python program of README' wheel_runs_program
+        try 'the wheel is installed by the line of README' installs_wheel; then
+        try 'the wheel runs the Python program of its manual' wheel_runs_program
         has mypy 'the types of the Python module' && try 'the wheel has types' has_types
         try 'the wheel is removed, and nothing stays' removes_wheel
     fi

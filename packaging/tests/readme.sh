@@ -1,26 +1,25 @@
 # shellcheck shell=sh
-# What README shows, for scripts/run-packages to try with what was packed.
+# What README and the manuals show, for scripts/run-packages to try with what was packed.
 
-# A block of the first example of README: 1, the log; 2, the command; 3, what it writes.
-first_example() {
-    awk -v "wanted=$1" '
-        /^## A crash log and a folder of maps$/ { found = 1 }
-        found && /^```/ { inside = !inside; count += inside; next }
-        inside && count == wanted' README.md
+# Writes the blocks of README to the folder $work/blocks.
+put_blocks() {
+    [ -e "$work/blocks" ] || python3 -B rows/pages.py blocks README.md "$work/blocks"
 }
 
-# Puts the first example into a folder, with its maps.
+# The line of README, "Install", that begins with these words.
+install_line() {
+    put_blocks >/dev/null && grep "^$1 " "$work/blocks/install-1.sh"
+}
+
+# Puts the first example of README into a folder: its lines, and what they write.
 put_example() {
-    mkdir -p "$1/dist/lazy" && cp rows/maps/trace.map "$1/dist/out.js.map" &&
-        cp rows/maps/trace.map "$1/dist/lazy/one.js.map" && first_example 1 >"$1/crash.log" &&
-        first_example 2 >"$1/command" && first_example 3 >"$1/wanted" &&
-        [ -s "$1/command" ] && [ -s "$1/wanted" ]
+    put_blocks && mkdir -p "$1" && cp "$work/blocks/smap-1.sh" "$1/command" &&
+        cp "$work/blocks/smap-1.out" "$1/wanted"
 }
 
-# Puts a program of README into a folder, with the map and the log that it reads: its ending.
+# Puts a program of capi/README.md into a folder, with the map and the log that it reads: its ending.
 put_program() {
-    mkdir -p "$2" &&
-        python3 -B capi/tests/readme.py README.md 'From C, C++, Python and Rust' "$work/programs" &&
+    mkdir -p "$2" && python3 -B capi/tests/readme.py capi/README.md "$work/programs" &&
         cp "$work/programs/program.$1" "$work/programs/program.$1.out" "$2" &&
         cp rows/maps/trace.map "$2/out.js.map" &&
         printf 'Error: x\n    at f (http://h/m/out.js:1:2)\n' >"$2/crash.log"

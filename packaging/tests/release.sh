@@ -27,7 +27,8 @@ makes_the_same() {
     mkdir "$work/a copy" || return 1
     cp -r VERSION CHANGELOG.md completion docs packaging scripts "$work/a copy" || return 1
     mkdir "$work/a copy/capi" || return 1
-    cp -r capi/smap.h capi/cpp capi/python capi/node capi/examples "$work/a copy/capi" || return 1
+    cp -r capi/smap.h capi/libsmap.versions capi/cpp capi/rust capi/python capi/node capi/examples \
+        "$work/a copy/capi" || return 1
     cp "$SMAP" "$work/a copy/program" && cp -r "$lib" "$work/a copy/library" || return 1
     (
         umask 077
@@ -141,6 +142,40 @@ readme_names_c_library() {
         grep -F "glibc 2.$greatest or later" README.md && grep -F "${wheel##*/}" README.md
 }
 
+# The first release whose library has versions of names, without which no program starts that wants them: this
+# one, until that is made.
+first_with_versions() {
+    if dpkg --compare-versions "$version" lt 0.3.0; then echo "$version"; else echo 0.3.0; fi
+}
+
+# The symbols file has each name of the library, with its version and the number of that release.
+has_symbols() {
+    file=$work/unpacked/libsmap0/DEBIAN/symbols
+    objdump -T "$work/unpacked/libsmap0/usr/lib/x86_64-linux-gnu/libsmap.so.0" |
+        sed -n 's/.* \(SMAP_[0-9.]*\)  *\([^ ]*\)$/\2@\1/p' | sort >"$work/names-of-library"
+    sed -n 's/^ \([^ ]*\) .*/\1/p' "$file" | sort | diff "$work/names-of-library" - &&
+        grep -x " smap_open@SMAP_0\.1 $(first_with_versions)" "$file"
+}
+
+# By it Debian's tools find what a program wants of the library.
+finds_dependency() {
+    wants=$work/wants
+    mkdir -p "$wants/debian" && cp packaging/debian/control "$wants/debian" || return 1
+    printf '#include "smap.h"\nint main(void) { return !smap_code_name(0, NULL, 0); }\n' >"$wants/program.c"
+    cc -I"$lib" -o "$wants/program" "$wants/program.c" "$lib/libsmap.so" &&
+        (cd "$wants" && dpkg-shlibdeps -O -S"$work/unpacked/libsmap0" program >found) &&
+        grep -F "libsmap0 (>= $(first_with_versions))" "$wants/found"
+}
+
+# A library whose names have no versions isn't packed.
+refuses_other_names() {
+    cp -r "$lib" "$work/unversioned" && rm "$work/unversioned"/libsmap.so* &&
+        cc -shared -Wl,-soname,libsmap.so.0 -o "$work/unversioned/libsmap.so.0" \
+            -Wl,--whole-archive "$work/unversioned/libsmap.a" -Wl,--no-whole-archive || return 1
+    ! SMAP=$SMAP SMAP_CAPI=$work/unversioned scripts/build-packages "$work/none" 2>"$work/said" || return 1
+    grep '^build-packages: the names of libsmap.so.0 are not' "$work/said" && [ -z "$(ls "$work/none")" ]
+}
+
 # No license has been chosen, so there is no file that has one. Nothing else may be an error.
 lintian_is_content() {
     # shellcheck disable=SC2086
@@ -166,6 +201,11 @@ test_release() {
     try 'what is no maintainer is refused' refuses_maintainer
     try 'the wheel names the C library that it wants' wheel_names_c_library
     try 'README names the C library that is wanted' readme_names_c_library
+    try 'the Debian package of the library has its symbols' has_symbols
+    if has cc 'what a program wants of the library'; then
+        try 'Debian'\''s tools find what a program wants of the library' finds_dependency
+        try 'a library with other names is not packed' refuses_other_names
+    fi
     if has lintian 'lintian'; then
         try 'lintian has no error but the missing license' lintian_is_content &&
             echo 'lintian: no-copyright-file in each package, since no license has been chosen'
