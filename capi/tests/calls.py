@@ -10,6 +10,7 @@ amid a call; one seed gives the same calls, but threads meet in another order.
 """
 
 import argparse
+import base64
 import copy
 import ctypes
 import faulthandler
@@ -27,6 +28,8 @@ from pathlib import Path
 
 sys.path.insert(0, str(Path(__file__).resolve().parent.parent / "python"))
 import smap  # noqa: E402
+from asserted import is_error, raised, same  # noqa: E402
+from link_calls import LINK_CALLS  # noqa: E402
 
 DIGITS = "ABCDEFGHIJKLMNOPQRSTUVWXYZabcdefghijklmnopqrstuvwxyz0123456789+/"
 EDGES = [0, 1 << 31, 1 << 32, 1 << 63, 1 << 64, 1 << 70]
@@ -119,24 +122,6 @@ def number_like(dice, count):
     if dice.random() < 0.5:
         return dice.randrange(count + 1)
     return dice.choice([1, -1]) * dice.choice(EDGES) + dice.randrange(-2, 3)
-
-
-def raised(call, *words, **more):
-    """What a call returns, or the error that it raises."""
-    try:
-        return call(*words, **more)
-    except Exception as error:
-        return error
-
-
-def same(found, wanted, *of):
-    if found != wanted:
-        raise AssertionError(f"{str(found)[:300]!r} and not {str(wanted)[:300]!r}: {str(of)[:300]}")
-
-
-def is_error(found, kind, *of):
-    if not isinstance(found, kind):
-        raise AssertionError(f"{str(found)[:300]!r} and no {kind}: {str(of)[:300]}")
 
 
 # ---- calls of maps
@@ -260,6 +245,12 @@ class Shop:
             file = room / (script[len("http://h/m/") :].replace("?", "%3F") + ".map")
             file.parent.mkdir(exist_ok=True, parents=True)
             file.write_bytes(made.text)
+        self.linked = {"http://h/m/linked.js": self.models["http://h/m/b/c.js"]}
+        (room / "linked.js").write_bytes(b"f()\n//# sourceMappingURL=./x/../b/c.js.map?v=3\n\n")
+        self.linked["http://h/m/b/inline.js"] = made
+        data = b"data:application/json;base64," + base64.b64encode(made.text)
+        (room / "b" / "inline.js").write_bytes(b"f() //@ sourceMappingURL=" + data + b"\n// end")
+        (room / "outside.js").write_bytes(b"//# sourceMappingURL=../x.map")
         self.asked = threading.local()
 
     def again(self):
@@ -365,6 +356,36 @@ def ask_folders(dice, shop, room):
     same(set(in_folder.named_in(text)), {at for at in named if at in shop.models and "?" not in at}, text)
 
 
+def name_like(dice, script):
+    """Another name of a script, or one that only looks like that, and whether it is one of the script."""
+    path = script[len("http://h") :]
+    begins = [("HTTP://h", True), ("http://H:80", True), ("http://h/./x/..", True), ("https://h", False)]
+    begin, is_alike = dice.choice([*begins, ("http://h:8080", False), ("http://h/m", False)])
+    ends = [("", True), ("?v=4", False), ("#x", True), ("?" * dice.randrange(1, 3000), False), ("x", False)]
+    end, has_end = dice.choice([ends[0], ends[0], *ends])
+    return begin + path + end, is_alike and has_end
+
+
+def ask_alike(dice, shop, room):
+    """Names that mean scripts with maps beside them, or which name their maps."""
+    scripts = {script: made for script, made in shop.models.items() if "?" not in script}
+    scripts.update(shop.linked)
+    script = dice.choice(list(scripts))
+    name, is_alike = name_like(dice, script)
+    find = smap.Folders({"http://h/m/": room})
+    same(find.meant_by(name), script if is_alike else None, name)
+    line, column = number_like(dice, 4), number_like(dice, 60)
+    store = smap.Store(find, dice.choice([0, shop.size, 1 << 30]))
+    at = scripts[script].at(line, column) if column < 1 << 32 else None
+    for known, wanted in [(name, at if is_alike else None), (script, at)]:
+        found = store.lookup(known, line, column)
+        same(found and (found.column, found.source), wanted and wanted[:2], known, line, column)
+    same(list(store.opened), [script])
+    is_error(raised(find, "http://h/m/outside.js"), smap.OutsideFolder)
+    log = f"@{name}:{1 << 31}:1\n" * 3
+    same(store.translate(log, ignore_query=dice.random() < 0.5), log)
+
+
 MAP_CALLS = [ask_lists, ask_position, ask_copies, ask_texts, ask_limits, ask_changed, ask_held]
 STORE_CALLS = [ask_log, ask_frames, ask_lookup, ask_what_it_knows]
 
@@ -408,7 +429,10 @@ class Run:
             own.close()
             same(own.kept_bytes, 0)
             self.timed(ask_folders, dice, shop, room)
+            self.timed(ask_alike, dice, shop, room)
             self.timed(text_calls, dice)
+            for call in LINK_CALLS:
+                self.timed(call, dice)
 
     def guarded(self, name, *words):
         try:

@@ -4,45 +4,21 @@ import errno
 import os
 import pickle
 import random
-import stat
 import sys
-import tempfile
 import threading
 import time
 import unittest
 from pathlib import Path
-from types import SimpleNamespace
 from unittest import mock
+
+from files_case import MAP, FilesCase, status
 
 sys.path.insert(0, str(Path(__file__).resolve().parent.parent / "python"))
 import smap  # noqa: E402
 from smap.finders import Beginnings  # noqa: E402
 
-MAP = b'{"version":3,"sources":["a.js"],"mappings":"AAUE,IAEA"}'
 
-
-def status(size, changed):
-    return SimpleNamespace(st_size=size, st_mtime_ns=changed, st_mode=stat.S_IFREG)
-
-
-class FoldersTest(unittest.TestCase):
-    def setUp(self):
-        made = tempfile.TemporaryDirectory()
-        self.addCleanup(made.cleanup)
-        self.room = Path(made.name)
-        self.dist = self.put("dist/out.js").parent
-
-    def put(self, name, data=MAP):
-        file = self.room / (name + ".map")
-        file.parent.mkdir(parents=True, exist_ok=True)
-        file.write_bytes(data)
-        return file
-
-    def found(self, key, script, folder="dist"):
-        """The base of the map that is found for a script, or None."""
-        found = smap.Folders({key: self.room / folder})(script)
-        return found and found.base
-
+class FoldersTest(FilesCase):
     def test_names_are_below_the_folder(self):
         self.put("dist/lazy/one.js")
         key = "http://h/m/"
@@ -125,7 +101,7 @@ class FoldersTest(unittest.TestCase):
         (self.dist / "loop.js.map").symlink_to(self.dist / "loop.js.map")
         (self.dist / "dir.js.map").mkdir()
         store = smap.Store({"http://h/": self.dist})
-        with mock.patch("smap.finders.open", side_effect=PermissionError(13, "no"), create=True):
+        with mock.patch("smap.files.open", side_effect=PermissionError(13, "no"), create=True):
             store.translate("@http://h/out.js:1:1\n@http://h/loop.js:1:1\n@http://h/dir.js:1:1\n")
         self.assertEqual(list(store.broken), ["http://h/out.js"])
         self.assertIsInstance(store.broken["http://h/out.js"], PermissionError)
@@ -176,10 +152,11 @@ class FoldersTest(unittest.TestCase):
             thread.join(60)
             self.assertIn("no regular file", str(store.broken["http://h/out.js"]))
 
-    def test_a_script_without_a_map_costs_a_question_or_none(self):
+    def test_a_script_without_a_map_costs_two_questions_at_most(self):
         find = smap.Folders({"http://h/": self.dist, "http://h/m/": self.dist})
         with mock.patch("os.path.realpath") as realpath, mock.patch("os.stat", wraps=os.stat) as asked:
-            for script, times in [("http://x/a.js", 0), ("http://h/..", 0), ("http://h/no.js", 1)]:
+            for name, times in [("x/a.js", 0), ("h/..", 0), ("h/no", 1), ("h/no.js", 2), ("h/no.css", 2)]:
+                script = "http://" + name
                 asked.reset_mock()
                 self.assertIsNone(find(script))
                 self.assertEqual(asked.call_count, times, script)
@@ -234,6 +211,26 @@ class FoldersTest(unittest.TestCase):
         line = "x http://h/out.js?v=3#z:1:1 y"
         self.assertEqual(store.translate(line, anywhere=True), line)
         self.assertEqual(store.translate(line, anywhere=True, ignore_query=True), "x http://h/a.js:11:3 y")
+
+    def test_a_name_that_is_no_utf_8_is_one_as_a_url(self):
+        (self.dist / "\udcff.js.map").write_bytes(MAP)
+        self.assertEqual(self.found("http://h/", "http://h/%FF.js"), "http://h/%FF.js.map")
+        self.assertIsNone(self.found("http://h/", "http://h/%ff.js"))
+        # a path has no URL then
+        with self.assertRaisesRegex(smap.Error, "not UTF-8") as raised:
+            self.found("/s/", "/s/\udcff.js")
+        self.assertEqual(raised.exception.code, 10)
+        store = smap.Store({"/s/": self.dist})
+        self.assertEqual(store.translate(b"@/s/\xff.js:1:1"), b"@/s/\xff.js:1:1")
+        self.assertEqual(store.counts, smap.StoreCounts(lines=1, missing=1))
+
+    def test_names_may_hold_tabs(self):
+        self.put("dist/a.js\tb.js", MAP.replace(b"a.js", b"other.js"))
+        self.put("dist/a.js")
+        log = "    at f (/s/a.js\tb.js:1:1)\n    at f (/s/a.js:1:1)\n"
+        told = "    at f (file:///s/other.js:11:3)\n    at f (file:///s/a.js:11:3)\n"
+        self.assertEqual(smap.Store({"/s/": self.dist}).translate(log), told)
+        self.assertEqual(self.found("http://h/", "http://h/a.js%09b.js"), "http://h/a.js%09b.js.map")
 
 
 unittest.main()

@@ -1,12 +1,16 @@
 """Tests of the Python module."""
 
+import base64
 import copy
+import ctypes
 import pickle
 import re
 import sys
 import threading
 import unittest
-from pathlib import Path
+from pathlib import Path, PurePosixPath, PureWindowsPath
+from urllib.parse import quote, urljoin, urlsplit
+from urllib.request import url2pathname, urlopen
 
 sys.path.insert(0, str(Path(__file__).resolve().parent.parent / "python"))
 import smap  # noqa: E402
@@ -247,6 +251,178 @@ class ModuleTest(unittest.TestCase):
 
     def test_the_version_has_three_numbers(self):
         self.assertRegex(smap.version(), r"^[0-9]+\.[0-9]+\.[0-9]+$")
+
+
+class LinksTest(unittest.TestCase):
+    def refused(self, code, call, *words):
+        with self.assertRaises(smap.Error, msg=words) as raised:
+            call(*words)
+        self.assertEqual(raised.exception.code, code, words)
+
+    def test_a_script_names_its_map_in_its_last_comment(self):
+        # ECMA-426, "Linking generated code to source maps", without parsing
+        rows = [
+            ("f()\n//# sourceMappingURL=a.map", "a.map"),
+            ("f()\n//# sourceMappingURL=a.map\n\n \t\r\n", "a.map"),
+            ("f() //# sourceMappingURL=a.map", "a.map"),
+            ("//@sourceMappingURL=a.map", "a.map"),
+            ("//#\u00a0\tsourceMappingURL=a.map\ufeff\u3000", "a.map"),
+            ("/*# sourceMappingURL=a.map */ // end", "a.map"),
+            ("//# sourceMappingURL=a.map\n//# sourceMappingURL=b.map\n// c", "b.map"),
+            ("//# sourceMappingURL=a.map\u2028\n", "a.map"),
+            ("//# sourceMappingURL=", ""),
+            ('s = "//# sourceMappingURL=a.map"', 'a.map"'),
+            ("//# sourceMappingURL=a.map\nf()", None),
+            ("//# sourceMappingURL=a.map\u2029f()", None),
+            ("//# sourceMappingURL=a.map b", None),
+            ("//# sourcemappingurl=a.map", None),
+            ("// # sourceMappingURL=a.map", None),
+            ("/*# sourceMappingURL=a.map", None),
+            ("/*\n# sourceMappingURL=a.map\n*/", None),
+            ("", None),
+        ]
+        for text, url in rows:
+            self.assertEqual(smap.script_link(text), url, text)
+            self.assertEqual(smap.script_link(text.encode()), None if url is None else url.encode(), text)
+
+    def test_a_style_sheet_has_other_comments(self):
+        for text, of_script, of_sheet in [
+            ("a{}\n/*# sourceMappingURL=a.css.map */\n", "a.css.map", "a.css.map"),
+            ("//# sourceMappingURL=a.map", "a.map", None),
+            ("/*# sourceMappingURL=a.css.map */ //", "a.css.map", None),
+        ]:
+            self.assertEqual(smap.script_link(text), of_script, text)
+            self.assertEqual(smap.script_link(text, css=True), of_sheet, text)
+
+    def test_the_url_of_a_map_may_be_long_or_no_utf_8(self):
+        for url in (b"x" * 511, b"x" * 512, b"x" * 513, b"x" * 1_000_000, b"\xff\xfe"):
+            self.assertEqual(smap.script_link(b"f()\n//# sourceMappingURL=" + url), url)
+        self.assertEqual(smap.script_link("//# sourceMappingURL=\udcff"), "\udcff")
+
+    def test_a_url_is_resolved_against_that_of_its_script(self):
+        script = "http://h/m/n/out.js?x#y"
+        for url in ["a.map", "../a.map", "./b/../a.map?v=3#z", "/a.map", "//k/a.map", "https://k/a", "?q"]:
+            self.assertEqual(smap.resolve(script, url), urljoin(script, url))
+            self.assertEqual(smap.resolve(script.encode(), url.encode()), urljoin(script, url).encode())
+        for script, url, found in [
+            ("http://h/out.js", "\u00e4 b.map", "http://h/%C3%A4%20b.map"),
+            ("http://h/out.js", "..\\..\\a.map", "http://h/a.map"),
+            ("/srv/a b/out.js", "c.map", "file:///srv/a%20b/c.map"),
+            ("C:\\d\\out.js", "../c.map", "file:///C:/c.map"),
+            ("http://h/m/out.js", "", "http://h/m/out.js"),
+        ]:
+            self.assertEqual(smap.resolve(script, url), found)
+        for script, url in [("out.js", "a.map"), ("", ""), ("http://h/", "http://[")]:
+            self.refused(2, smap.resolve, script, url)
+        for script, url in [(b"http://h/", b"\xff"), ("http://h/", "\udcff"), ("http://h/\ud800", "a")]:
+            self.refused(10, smap.resolve, script, url)
+
+    def test_a_data_url_holds_bytes(self):
+        data = TEXT + bytes(range(256))
+        base64_of = base64.b64encode(data).decode()
+        for url in [
+            "data:application/json;base64," + base64_of,
+            "data:application/json;charset=utf-8;base64," + base64_of,
+            "data:application/json;base64," + quote(base64_of, ""),
+            "data:application/json," + quote(data),
+            "data:," + quote(data, ""),
+        ]:
+            with urlopen(url) as response:
+                self.assertEqual(response.read(), data)
+            self.assertEqual(smap.data_url(url), data)
+            self.assertEqual(smap.data_url(url.encode()), data)
+        # the Fetch Standard and the Infra Standard, where the module of Python has its own ways
+        for url, found in [
+            ("DATA:;BASE64,e30", b"{}"),
+            ("data:;base64,e3\n0= ", b"{}"),
+            ("data:x;base64 ,e30", b"{}"),
+            ("data:x;base64;y,e30", b"e30"),
+            ("data:,{}#x", b"{}"),
+            ("data:,%7b%7D%4", b"{}%4"),
+            ("data:,", b""),
+        ]:
+            self.assertEqual(smap.data_url(url), found, url)
+        for url in ["http://h/a.map", "a.map", "", "dat:,x"]:
+            self.assertIsNone(smap.data_url(url))
+        for url in ["data:;base64,e-_0", "data:;base64,e", "data:;base64,e30=="]:
+            self.refused(9, smap.data_url, url)
+        self.refused(2, smap.data_url, "data:application/json")
+
+    def test_a_path_has_a_file_url(self):
+        for path in ["/", "/a b/\u00e9.js", "/%41?x#y", "/a\tb\n.js", "/a\\b"]:
+            self.assertEqual(smap.file_url(path), PurePosixPath(path).as_uri())
+        for path in ["C:\\a b\\\u00e9.js", "c:/a/b.js"]:
+            self.assertEqual(smap.file_url(path), PureWindowsPath(path).as_uri())
+        self.assertEqual(smap.file_url(b"/a b.js"), b"file:///a%20b.js")
+        for path in ["a.js", "", "C:a.js", "http://h/a.js"]:
+            self.assertIsNone(smap.file_url(path))
+        for path in [b"/\xff", "/\udcff", "/\ud800", "C:\\\udcff"]:
+            self.refused(10, smap.file_url, path)
+
+    def test_a_file_url_has_a_path(self):
+        for url in ["file:///a%20b/%C3%A9.js", "file:///%2541?x", "file:///a%5Cb#y", "FILE://localhost/a.js"]:
+            self.assertEqual(smap.file_path(url), url2pathname(urlsplit(url).path))
+        self.assertEqual(smap.file_path(b"file:///C:/a%20b/c.js"), b"C:\\a b\\c.js")
+        for url in ["http://h/a.js", "/a.js", ""]:
+            self.assertIsNone(smap.file_path(url))
+        for url in ["file://h/a.js", "file:///a%2fb", "file:///a%00", "file:///C:/a%5Cb"]:
+            self.refused(2, smap.file_path, url)
+        self.refused(10, smap.file_path, "file:///%ff")
+
+    def test_a_script_below_a_folder_has_a_url_and_its_url_a_name(self):
+        for name in ["out.js", "a/b.js", "a b/\u00e4.js", "%41", "[id]", "q?x#y", "it's", "a\\b", "a\tb"]:
+            encoded = quote(name, "/[]!'()*,;:@&=+$|")
+            self.assertEqual(smap.script_url("http://h/", name), "http://h/" + encoded)
+            for folder in ["http://h/", "file:///s/", "/s/"]:
+                url = smap.script_url(folder, name)
+                self.assertEqual(smap.script_name(folder, url), name)
+        for folder, name, url in [
+            ("/s/", "a b.js", "/s/a b.js"),
+            ("C:\\s\\", "a/b.js", "C:\\s\\a\\b.js"),
+            ("C:/s/", "a/b.js", "C:/s/a/b.js"),
+            (b"http://h/", b"\xff", b"http://h/%FF"),
+        ]:
+            self.assertEqual(smap.script_url(folder, name), url)
+            self.assertEqual(smap.script_name(folder, url), name)
+        for url in [
+            "http://h/", "http://h/../a.js", "http://h/%2E%2E/a.js", "http://h/a%2Fb.js", "http://h//a.js",
+            "http://h/a/./b.js", "http://h/a b.js", "http://h/%c3%a4", "http://h/%41", "http://h/%00",
+            "http://k/a.js",
+        ]:
+            self.assertIsNone(smap.script_name("http://h/", url), url)
+        self.assertIsNone(smap.script_name("/s/", "/s/../a.js"))
+        self.assertIsNone(smap.script_name("C:\\s\\", "C:\\s\\a/b.js"))
+
+    def test_names_of_one_script_are_alike(self):
+        # the URL Standard, and RFC 8089 for paths
+        groups = [
+            ["http://h/a.js", "HTTP://H:80/a.js", "http://h/a.js?v=3", "http://h/./x/../a.js#y"],
+            ["https://h/a.js", "https://h:443/a.js"],
+            ["http://h:443/a.js"],
+            ["http://h/A.js"],
+            ["/s/a b.js", "file:///s/a%20b.js", "file://localhost/s/a%20b.js?x"],
+            ["c:\\s\\a.js", "C:/s/a.js", "file:///C:/s/a.js", "file:///c:/s/a.js"],
+            ["/s/a.js?x", "file:///s/a.js%3Fx"],
+            ["a.js"],
+            ["a.js?x"],
+            [""],
+        ]
+        names = [(name, number) for number, group in enumerate(groups) for name in group]
+        for one, group in names:
+            for other, other_group in names:
+                wanted = group == other_group
+                self.assertEqual(smap.alike(one, other.encode()), wanted, (one, other))
+                self.assertEqual(smap.normal_form(one) == smap.normal_form(other), wanted, (one, other))
+        self.assertEqual(smap.normal_form("HTTP://H:80/a.js?v=3"), "http://h/a.js")
+        self.assertEqual(smap.normal_form(b"\xff"), b"\xff")
+        self.refused(10, smap.normal_form, "\ud800")
+        self.refused(10, smap.alike, "a", "\ud800")
+
+    def test_what_is_no_text_is_refused(self):
+        for call in (smap.script_link, smap.data_url, smap.file_url, smap.file_path, smap.normal_form):
+            for word in (None, 1, ["a"]):
+                with self.assertRaises((TypeError, ctypes.ArgumentError), msg=word):
+                    call(word)
 
 
 unittest.main()

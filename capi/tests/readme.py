@@ -1,9 +1,8 @@
-"""readme.py PAGE SECTION FOLDER: writes the programs of a page and what they print to files, and lists them.
+"""readme.py PAGE FOLDER: writes the programs of a page and what they print to files, and lists them.
 
 A program is a block of c, python or rust. What it prints is the last of the blocks of plain text that come
-after it and before the next program, or, where there are none, what the next program prints. SECTION is the
-heading of the only section that is read, or empty: then all are. There is a program in each language; where
-there are several, they are program.py, program2.py and so on.
+after it in its section and before the next program, or, where there are none, what the next program prints.
+There is a program in each language; where there are several, they are program.py, program2.py and so on.
 """
 
 import re
@@ -12,12 +11,10 @@ from pathlib import Path
 
 ENDINGS = {"c": "c", "python": "py", "rust": "rs"}
 
-page, wanted, folder = Path(sys.argv[1]).read_text(), sys.argv[2], Path(sys.argv[3])
+page, folder = Path(sys.argv[1]).read_text(), Path(sys.argv[2])
 folder.mkdir(parents=True, exist_ok=True)
 found = []
 for section in re.split(r"^## ", page, flags=re.M):
-    if wanted and section.split("\n")[0] != wanted:
-        continue
     printed, is_next, in_section = None, False, []
     for language, text in reversed(re.findall(r"^```(\w*)\n(.*?)^```$", section, flags=re.M | re.S)):
         if not language and (printed is None or is_next):

@@ -10,6 +10,8 @@
     store = smap.Store({"http://h/m/": "dist/"})  # opens maps as they are named
     print(store.translate(log), store.broken)
 
+    smap.script_link(b"//# sourceMappingURL=out.js.map")  # which map a script names
+
 Over the C library libsmap by ctypes alone. The shared object is the one that the environment's SMAP_LIBRARY
 names, or one beside this file, or the one that was installed with it, or the system's. Lines and columns
 count from 0, but in traces from 1. A map may be used by one thread at a time; `share` gives another thread
@@ -17,13 +19,16 @@ one of its own. A store may be used by all threads at once.
 """
 
 from ._library import Counts, Error, Refused, TraceCounts, version
-from .finders import Folders, Found, Repeated
+from .finders import Folders, Found, OutsideFolder, Repeated
 from .frames import code_point
+from .links import alike, data_url, file_path, file_url, normal_form, resolve, script_link, script_name
+from .links import script_url
 from .logs import StoreCounts
 from .maps import Map, Mapping, Source, respell
 from .store import Store
 from .traces import Frame, Scripts, frame, named_scripts, translate
 
-__all__ = ["Counts", "Error", "Folders", "Found", "Frame", "Map", "Mapping", "Refused", "Repeated", "Scripts"]
-__all__ += ["Source", "Store", "StoreCounts", "TraceCounts", "code_point", "frame", "named_scripts"]
-__all__ += ["respell", "translate", "version"]
+__all__ = ["Counts", "Error", "Folders", "Found", "Frame", "Map", "Mapping", "OutsideFolder", "Refused"]
+__all__ += ["Repeated", "Scripts", "Source", "Store", "StoreCounts", "TraceCounts", "alike", "code_point"]
+__all__ += ["data_url", "file_path", "file_url", "frame", "named_scripts", "normal_form", "resolve"]
+__all__ += ["respell", "script_link", "script_name", "script_url", "translate", "version"]

@@ -9,7 +9,7 @@ from ctypes import POINTER, byref, c_bool, c_char, c_char_p, c_size_t, c_uint8, 
 from pathlib import Path
 from typing import Any, Callable, List, NoReturn, Optional, Tuple, Type
 
-OK, REFUSED, NOT_URL, LIMITS, MEMORY, CLOSED, NONE, RANGE, URL_BYTES = range(9)
+OK, REFUSED, NOT_URL, LIMITS, MEMORY, CLOSED, NONE, RANGE, URL_BYTES, NOT_BASE64, NOT_UTF8 = range(11)
 HIDE_IGNORED, ANYWHERE, IGNORE_QUERY = 1, 2, 4
 
 # The greatest numbers that the types of the library hold. ctypes cuts off the bits above them.
@@ -128,46 +128,58 @@ def load() -> ctypes.CDLL:
     return ctypes.CDLL("libsmap.so.0")
 
 
+# The functions that the module calls: their names, what they return, and their parameters.
+HANDLE, LEN, TEXT = POINTER(Handle), POINTER(c_size_t), (c_char_p, c_size_t)
+U32, SIZE = c_uint32, c_size_t
+FUNCTIONS: List[Tuple[Any, ...]] = [
+    ("version", U32),
+    ("code_name", SIZE, U32, *TEXT),
+    ("fault_name", SIZE, U32, *TEXT),
+    ("open", U32, HANDLE, *TEXT, *TEXT, POINTER(Limits), POINTER(Fault)),
+    ("open_within", U32, HANDLE, *TEXT, *TEXT, POINTER(Limits), SIZE, POINTER(Fault)),
+    ("close", None, HANDLE),
+    ("share", U32, HANDLE, HANDLE),
+    ("same", U32, HANDLE, HANDLE, POINTER(c_bool)),
+    ("count", U32, HANDLE, POINTER(Counts)),
+    ("held", U32, HANDLE, LEN),
+    ("file", U32, HANDLE, *TEXT, LEN),
+    ("lookup", U32, HANDLE, U32, U32, POINTER(MappingStruct)),
+    ("find", U32, HANDLE, U32, U32, LEN),
+    ("name_at", U32, HANDLE, U32, U32, *TEXT, LEN),
+    ("token", U32, HANDLE, SIZE, POINTER(MappingStruct)),
+    ("source_url", U32, HANDLE, SIZE, *TEXT, LEN),
+    ("source_content", U32, HANDLE, SIZE, *TEXT, LEN),
+    ("is_ignored", U32, HANDLE, SIZE, POINTER(c_bool)),
+    ("written_source", U32, HANDLE, SIZE, *TEXT, LEN),
+    ("written_root", U32, HANDLE, SIZE, *TEXT, LEN),
+    ("listed_name", U32, HANDLE, SIZE, *TEXT, LEN),
+    ("bytes_copy", SIZE, HANDLE, SIZE, *TEXT),
+    ("bytes_free", None, HANDLE),
+    ("canonical", U32, HANDLE, HANDLE),
+    ("canonical_relative", U32, HANDLE, HANDLE),
+    ("canonical_mappings", U32, HANDLE, HANDLE),
+    ("flatten", U32, HANDLE, HANDLE),
+    ("respell", U32, *TEXT, HANDLE, POINTER(Fault)),
+    ("frame", U32, *TEXT, POINTER(FrameStruct)),
+    ("translate_line", U32, HANDLE, *TEXT, *TEXT, c_uint8, *TEXT, LEN, POINTER(U32)),
+    ("add_script", U32, HANDLE, *TEXT, HANDLE),
+    ("close_scripts", None, HANDLE),
+    ("translate", U32, HANDLE, *TEXT, c_uint8, HANDLE, POINTER(TraceCounts)),
+    ("script_link", U32, *TEXT, c_bool, *TEXT, LEN),
+    ("resolve", U32, *TEXT, *TEXT, HANDLE),
+    ("data_url", U32, *TEXT, HANDLE),
+    ("file_url", U32, *TEXT, HANDLE),
+    ("file_path", U32, *TEXT, HANDLE),
+    ("script_url", U32, *TEXT, *TEXT, HANDLE),
+    ("script_name", U32, *TEXT, *TEXT, HANDLE),
+    ("normal_form", U32, *TEXT, c_bool, HANDLE),
+    ("alike", U32, *TEXT, *TEXT, POINTER(c_bool)),
+]
+
+
 def declare(lib: ctypes.CDLL) -> ctypes.CDLL:
     """Gives the functions that the module calls their types."""
-    handle, n, text = POINTER(Handle), POINTER(c_size_t), (c_char_p, c_size_t)
-    u32, size = c_uint32, c_size_t
-    functions: List[Tuple[Any, ...]] = [
-        ("version", u32),
-        ("code_name", size, u32, *text),
-        ("fault_name", size, u32, *text),
-        ("open", u32, handle, *text, *text, POINTER(Limits), POINTER(Fault)),
-        ("open_within", u32, handle, *text, *text, POINTER(Limits), size, POINTER(Fault)),
-        ("close", None, handle),
-        ("share", u32, handle, handle),
-        ("same", u32, handle, handle, POINTER(c_bool)),
-        ("count", u32, handle, POINTER(Counts)),
-        ("held", u32, handle, n),
-        ("file", u32, handle, *text, n),
-        ("lookup", u32, handle, u32, u32, POINTER(MappingStruct)),
-        ("find", u32, handle, u32, u32, n),
-        ("name_at", u32, handle, u32, u32, *text, n),
-        ("token", u32, handle, size, POINTER(MappingStruct)),
-        ("source_url", u32, handle, size, *text, n),
-        ("source_content", u32, handle, size, *text, n),
-        ("is_ignored", u32, handle, size, POINTER(c_bool)),
-        ("written_source", u32, handle, size, *text, n),
-        ("written_root", u32, handle, size, *text, n),
-        ("listed_name", u32, handle, size, *text, n),
-        ("bytes_copy", size, handle, size, *text),
-        ("bytes_free", None, handle),
-        ("canonical", u32, handle, handle),
-        ("canonical_relative", u32, handle, handle),
-        ("canonical_mappings", u32, handle, handle),
-        ("flatten", u32, handle, handle),
-        ("respell", u32, *text, handle, POINTER(Fault)),
-        ("frame", u32, *text, POINTER(FrameStruct)),
-        ("translate_line", u32, handle, *text, *text, c_uint8, *text, n, POINTER(u32)),
-        ("add_script", u32, handle, *text, handle),
-        ("close_scripts", None, handle),
-        ("translate", u32, handle, *text, c_uint8, handle, POINTER(TraceCounts)),
-    ]
-    for name, result, *parameters in functions:
+    for name, result, *parameters in FUNCTIONS:
         function = getattr(lib, "smap_" + name)
         function.restype, function.argtypes = result, parameters
     return lib

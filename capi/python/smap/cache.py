@@ -5,14 +5,15 @@ from __future__ import annotations
 import threading
 from collections import OrderedDict
 from dataclasses import dataclass
-from typing import Dict, Iterable, Optional, Tuple
+from typing import Callable, Dict, Iterable, Optional, Tuple
 
 from ._library import Error
-from .finders import Finder, Found, base_of, too_large
+from .files import too_large
+from .finders import Finder, Found, base_by_default
 from .maps import Map
 from .noted import Noted
 
-__all__ = ["Bounds", "Cache", "Kept"]
+__all__ = ["Bounds", "Cache", "Kept", "beside"]
 
 # What Python's objects for a map take, about, beside its name and what the library holds.
 BESIDE = 1_000
@@ -38,10 +39,15 @@ class Bounds:
 
 @dataclass(frozen=True)
 class Kept:
-    """An open map, and the memory that it takes."""
+    """An open map, the memory that it takes, and the script whose map it is."""
 
     map: Map
     size: int
+    script: str
+
+    def share(self) -> Kept:
+        """A handle of its own of the same map."""
+        return Kept(self.map.share(), self.size, self.script)
 
 
 def expected(data: bytes) -> int:
@@ -49,12 +55,22 @@ def expected(data: bytes) -> int:
     return len(data) + MAPPING * sum(data.count(end) for end in ENDS_OF_MAPPINGS)
 
 
+def beside(name: str) -> int:
+    """How much memory a script of this name takes beside its map, about."""
+    return len(name.encode()) + BESIDE
+
+
 class Cache:
-    """The maps of scripts. All threads may use it at once."""
+    """The maps of scripts. All threads may use it at once.
+
+    What it knows of a script it knows by the script's own name. Another name means the script if it is alike,
+    and that of no script with a map, and the finder says so by a method `meant_by`.
+    """
 
     def __init__(self, finder: Finder, bounds: Bounds) -> None:
         self.lock = threading.Lock()
         self._finder = finder
+        self._meant_by: Callable[[str], Optional[str]] = getattr(finder, "meant_by", lambda name: None)
         self._bounds = bounds
         self._kept: OrderedDict[str, Kept] = OrderedDict()
         self._kept_size = 0
@@ -63,6 +79,8 @@ class Cache:
         # the size of each map that was opened, and how often it was
         self._opened: Noted[Tuple[int, int]] = Noted()
         self._broken: Noted[Exception] = Noted()
+        # the scripts that other names mean
+        self._meant: Noted[str] = Noted()
 
     # ---- what it knows
 
@@ -80,47 +98,88 @@ class Cache:
         with self.lock:
             return self._broken.as_dict()
 
-    def is_broken(self, script: str) -> bool:
+    def _own_name(self, name: str) -> str:
+        """The name of the script that a name means, as far as that is known."""
+        return self._meant.get(name) or name
+
+    def is_broken(self, name: str) -> bool:
         with self.lock:
-            return script in self._broken
+            return name in self._broken or self._own_name(name) in self._broken
 
-    def size_of(self, script: str) -> Optional[int]:
-        """The memory that the script's map took when it was last opened, if that is known."""
+    def size_of(self, name: str) -> Optional[Tuple[str, int]]:
+        """The script that a name means, and the memory that its map took when it was last opened, if that is
+        known.
+        """
+        script = self._own_name(name)
         known = self._opened.get(script)
-        return known and known[0]
+        return known and (script, known[0])
 
-    def kept(self, script: str) -> Optional[Kept]:
+    def kept(self, name: str) -> Optional[Kept]:
         """The script's map, which is used now, if it is kept. It belongs to the cache. The lock is held."""
+        script = self._own_name(name)
         kept = self._kept.get(script)
         if kept is not None:
             self._kept.move_to_end(script)
         return kept
 
-    def touch(self, scripts: Iterable[str]) -> None:
+    def touch(self, names: Iterable[str]) -> None:
         """Notes that scripts are used now."""
         with self.lock:
-            for script in scripts:
-                self.kept(script)
+            for name in names:
+                self.kept(name)
 
-    def forget(self, script: Optional[str] = None) -> None:
-        """Closes the map of a script, or all maps, and forgets faults."""
+    def forget(self, name: Optional[str] = None) -> None:
+        """Closes the map of a script, or all maps, and forgets faults and what names mean."""
         with self.lock:
-            for name in list(self._kept) if script is None else [script] * (script in self._kept):
-                self._drop(name)
-            if script is None:
+            if name is None:
+                for script in list(self._kept):
+                    self._drop(script)
                 self._broken.clear()
-            else:
+                self._meant.clear()
+                return
+            for script in {name, self._own_name(name)}:
+                if script in self._kept:
+                    self._drop(script)
                 self._broken.forget(script)
+            self._meant.forget(name)
 
     # ---- maps are opened
 
-    def open(self, script: str) -> Optional[Kept]:
-        """A handle of its own of the script's map; None where there is no map, or a broken one."""
+    def open(self, name: str) -> Optional[Kept]:
+        """A handle of its own of the map of the script that a name means; None where there is no map, or a
+        broken one.
+        """
+        try:
+            name.encode()
+        except UnicodeEncodeError:
+            return None  # half a surrogate pair, which no URL has
+        found = self._open(name)
+        if found is not None or self.is_broken(name):
+            return found
+        script = self._script_meant(name)
+        return None if script is None else self._open(script)
+
+    def _script_meant(self, name: str) -> Optional[str]:
+        """Another script that the name means, if there is one."""
+        try:
+            script = self._meant_by(name)
+        except (Error, OSError) as fault:
+            self._note_broken(name, fault)
+            return None
+        if script is None or script == name:
+            return None
+        with self.lock:
+            self._meant.note(name, script)
+            self._meant.trim()
+        return script
+
+    def _open(self, script: str) -> Optional[Kept]:
+        """The same as `open`, for a script's own name, or one that is known to mean it."""
         while True:
             with self.lock:
                 kept = self.kept(script)
                 if kept is not None:
-                    return Kept(kept.map.share(), kept.size)
+                    return kept.share()
                 if script in self._broken:
                     return None
                 other = self._opening.get(script)
@@ -136,23 +195,24 @@ class Cache:
             mine.set()
 
     def _find(self, script: str) -> Optional[Kept]:
-        """The same as `open`, for a script that the cache has neither as a map nor as a broken one."""
-        try:
-            script.encode()
-        except UnicodeEncodeError:
-            return None  # half a surrogate pair, which no URL has
+        """The same, for a script that the cache has neither as a map nor as a broken one."""
         try:
             found = self._finder(script)
             if found is None:
                 return None
-            return self._read(script, found if isinstance(found, Found) else Found(found, base_of(script)))
+            if not isinstance(found, Found):
+                found = Found(found, base_by_default(script))
+            return self._read(script, found)
         except (Error, OSError) as fault:
-            # what it was raised in would keep the map's text alive
-            fault.__traceback__ = fault.__context__ = fault.__cause__ = None
-            with self.lock:
-                self._broken.note(script, fault)
-                self._broken.trim()
+            self._note_broken(script, fault)
             return None
+
+    def _note_broken(self, script: str, fault: Exception) -> None:
+        # what it was raised in would keep the map's text alive
+        fault.__traceback__ = fault.__context__ = fault.__cause__ = None
+        with self.lock:
+            self._broken.note(script, fault)
+            self._broken.trim()
 
     def _read(self, script: str, found: Found) -> Kept:
         """Opens a map, for which others make room before it is known how much it takes."""
@@ -164,7 +224,7 @@ class Cache:
             self._opening_size += reserved
         try:
             opened = Map.open(found.data, found.base, url_bytes=self._bounds.url_bytes)
-            made = Kept(opened, opened.held() + len(script.encode()) + BESIDE)
+            made = Kept(opened, opened.held() + beside(script), script)
         except BaseException:
             with self.lock:
                 self._opening_size -= reserved
@@ -175,6 +235,7 @@ class Cache:
         """A handle of its own of a map, which stays in the cache if that is large enough."""
         with self.lock:
             self._opening_size -= reserved
+            self._meant.forget(script)
             _, times = self._opened.get(script) or (0, 0)
             self._opened.note(script, (made.size, times + 1))
             self._opened.trim()
@@ -182,7 +243,7 @@ class Cache:
                 return made
             self._kept[script] = made
             self._kept_size += made.size
-            return Kept(made.map.share(), made.size)
+            return made.share()
 
     def _make_room(self, size: int) -> bool:
         """Closes the maps that were used least recently for one of this size; False if there can't be room.

@@ -5,21 +5,28 @@ from __future__ import annotations
 import errno
 import os
 import re
-import stat
 from bisect import bisect_right
 from collections.abc import Mapping as AnyMapping
+from contextlib import contextmanager
+from dataclasses import dataclass
 from typing import Callable, Dict, Iterable, Iterator, List, NamedTuple, Optional, Tuple, Union
-from urllib.parse import quote_from_bytes, unquote_to_bytes
 
-from ._library import REFUSED, Error
+from ._library import NOT_URL, REFUSED, Error
+from .files import MOST_BYTES, link_in, read_file, too_large
+from .links import as_bytes, data_url, file_path, file_url, normal_form, resolve, script_name, script_url
 
-__all__ = ["MOST_BYTES", "Finder", "Folders", "Found", "Repeated", "base_of", "too_large"]
+__all__ = ["Finder", "Folders", "Found", "OutsideFolder", "Repeated", "base_by_default"]
 
-# How many bytes a map has at most, as for the program smap.
-MOST_BYTES = 268_435_456
+# The names of scripts end in one of these. Those of style sheets have other comments.
+IS_STYLE_SHEET = {".js": False, ".mjs": False, ".cjs": False, ".css": True}
 
-# The characters beside letters and digits that a path in a URL may have, as smap-trace writes it.
-PLAIN = "!$&'()*+,-./:;=@[]_|~"
+# A folder that stands for that of a script when the URL of its map is resolved: what leaves the one leads out
+# of the other.
+SOME_FOLDER = b"/the folder of the script/"
+
+# How many bytes the URL of a file has at most, however it is spelled, and how many of them an error shows.
+LONGEST_URL = 65_536
+MOST_SHOWN = 200
 
 PathLike = Union[str, "os.PathLike[str]"]
 
@@ -46,63 +53,143 @@ class Repeated(Error):
         return type(self), (self.files,)
 
 
-def is_path(script: str) -> bool:
-    """Whether a script is named by a path, and not by a URL."""
-    return script.startswith("/") or re.match(r"[A-Za-z]:[/\\]", script) is not None
+class OutsideFolder(Error):
+    """A script that names what is no file of its folder as its map.
 
-
-def encoded(path: str) -> str:
-    """A path as in a URL: each byte that a URL can't have there is percent-encoded."""
-    return quote_from_bytes(os.fsencode(path), PLAIN)
-
-
-def base_of(script: str) -> str:
-    """The URL of a script's map unless one is given: the script's and `.map`; for a path as a file: URL."""
-    if not is_path(script):
-        return script + ".map"
-    path = script if script.startswith("/") else "/" + script.replace("\\", "/")
-    return "file://" + encoded(path) + ".map"
-
-
-def too_large(most: int, path: Optional[str] = None) -> OSError:
-    """The error of a map that isn't read, or not opened, since it has too many bytes."""
-    return OSError(errno.EFBIG, f"a map of more than {most} bytes", path)
-
-
-def _opener(path: str, flags: int) -> int:
-    # a pipe would be waited for; where there is no such flag there are no such pipes
-    return os.open(path, flags | getattr(os, "O_NONBLOCK", 0))
-
-
-def read_file(path: str, most: int = MOST_BYTES) -> bytes:
-    """The bytes of a regular file of so many at most. Raises OSError.
-
-    If the file changes meanwhile, it is read again, and an OSError after the third time.
+    `file` is the script, and `url` what it names, or the beginning of that.
     """
-    for _ in range(3):
-        with open(path, "rb", opener=_opener) as file:
-            before = os.fstat(file.fileno())
-            if not stat.S_ISREG(before.st_mode):
-                raise OSError(errno.EINVAL, "no regular file", path)
-            if before.st_size > most:
-                raise too_large(most, path)
-            data = file.read(before.st_size + 1)
-            after = os.fstat(file.fileno())
-        if before.st_mtime_ns == after.st_mtime_ns and before.st_size == after.st_size == len(data):
-            return data
-    raise OSError(errno.EBUSY, "it changes while it is read", path)
+
+    def __init__(self, file: str, url: str) -> None:
+        super().__init__(REFUSED, f"{file} names a map that is no file of its folder: {url}")
+        self.file, self.url = file, url
+
+    def __reduce__(self) -> Tuple[type, Tuple[str, str]]:
+        return type(self), (self.file, self.url)
+
+
+def _own_url(script: str) -> str:
+    """The URL of a script, which may be named by a path."""
+    return file_url(script) or script
+
+
+def base_by_default(script: str) -> str:
+    """The URL of a script's map unless one is given: the script's and `.map`."""
+    return _own_url(script) + ".map"
+
+
+@dataclass(frozen=True)
+class Folder:
+    """A folder of maps and scripts, and the beginning of the scripts' URLs, or of their paths."""
+
+    key: str
+    place: str
+    # what the names of scripts in it have in common before their names below it, if there is that
+    form: Optional[bytes]
+
+    def name_of(self, script: str) -> Optional[str]:
+        """The name of the script below the folder, if it is one of those."""
+        if not script.startswith(self.key):
+            return None
+        name = script_name(as_bytes(self.key), as_bytes(script))
+        return None if name is None else os.fsdecode(name)
+
+    def name_alike(self, form: bytes) -> Optional[bytes]:
+        """The same of any script whose name has this normal form."""
+        if self.form is None or not form.startswith(self.form):
+            return None
+        return script_name(self.form, form)
+
+    def maps(self, name: str) -> Iterator[str]:
+        """The file of the map beside the script, if there is one."""
+        return self._files(name + ".map")
+
+    def scripts(self, name: str) -> Iterator[str]:
+        """The file of the script, if there is one."""
+        return self._files(name) if _ending(name) in IS_STYLE_SHEET else iter(())
+
+    def _files(self, name: str) -> Iterator[str]:
+        file = os.path.join(self.place, name)
+        if not os.path.isfile(file):
+            return
+        # a link to a folder leads elsewhere
+        parent = os.path.dirname(os.path.join(os.path.realpath(self.place), name))
+        if os.path.realpath(parent) == parent:
+            yield file
+
+
+def _ending(name: str) -> str:
+    return os.path.splitext(name)[1]
+
+
+@dataclass(frozen=True)
+class Link:
+    """What a script names as its map: a URL, as it stands in the script of this name in a folder."""
+
+    place: str
+    name: str
+    url: bytes
+
+    @property
+    def script(self) -> str:
+        """The file of the script."""
+        return os.path.join(self.place, self.name)
+
+    def file(self) -> Optional[str]:
+        """The file of the map, where all links are followed; None if there is none. Raises Error."""
+        name = self._name()
+        if name is None:
+            raise self._outside()
+        file = os.path.join(self.place, os.fsdecode(name))
+        if not os.path.exists(file):
+            return None
+        file = os.path.realpath(file)
+        if not file.startswith(os.path.join(os.path.realpath(self.place), "")):
+            raise self._outside()
+        return file
+
+    def _name(self) -> Optional[bytes]:
+        """The name of the map below the folder; None where the URL leads elsewhere."""
+        if len(self.url) > LONGEST_URL:
+            return None
+        url = resolve(script_url(SOME_FOLDER, os.fsencode(self.name)), self.url)
+        try:
+            path = file_path(url)
+        except Error as fault:
+            if fault.code != NOT_URL:
+                raise
+            return None
+        return None if path is None else script_name(SOME_FOLDER, path)
+
+    def _outside(self) -> OutsideFolder:
+        shown = self.url[:MOST_SHOWN].decode("utf-8", "replace")
+        return OutsideFolder(self.script, shown + "..." * (len(self.url) > MOST_SHOWN))
+
+
+@contextmanager
+def _named_by(file: str) -> Iterator[None]:
+    """Where the library has a fault, says what it is a fault of."""
+    try:
+        yield
+    except OutsideFolder:
+        raise
+    except Error as fault:
+        raise Error(fault.code, f"the map that {file} names: {fault}") from None
 
 
 class Folders:
     """Finds maps in files and folders, as smap-trace does: Folders({"https://h/m/": "dist/"}).
 
     For a key that ends in `/` or `\\`, each NAME.map in the folder or below it is the map of the script whose
-    URL is the key with NAME behind it, percent-encoded unless the key is a path. Links to files are followed,
-    links to folders aren't. Any other key is a script itself, and its value the file of its map.
+    URL is the key with NAME behind it, percent-encoded unless the key is a path. Where there is none, the
+    script NAME (.js, .mjs, .cjs, .css) may name its map in its last comment: one in the folder or below it,
+    by a relative URL, or in a data: URL. Links to files are followed, links to folders aren't, and what a
+    script names is read nowhere else than in the folder (`OutsideFolder`). Any other key is a script itself,
+    and its value the file of its map, or the script's, if that names a map in its own folder.
 
     Raises NotADirectoryError if there is no such folder, and ValueError if a folder's key lacks its `/`.
     A script for which several folders have a map is `Repeated`; one that is a key is looked for in no folder.
-    A map that has more than `map_bytes` bytes, or is no regular file, isn't read, but an OSError.
+    A map that has more than `map_bytes` bytes, or is no regular file, isn't read, but an OSError. Of a script
+    no more is read than its end, a third more than `map_bytes` and 64 KiB at most.
     """
 
     def __init__(self, places: AnyMapping[str, PathLike], map_bytes: int = MOST_BYTES) -> None:
@@ -110,7 +197,8 @@ class Folders:
             raise ValueError("map_bytes is below 0")
         self._map_bytes = map_bytes
         self._files: Dict[str, str] = {}
-        self._folders: List[Tuple[str, str]] = []
+        self._folders: List[Folder] = []
+        self._forms: Optional[Dict[bytes, str]] = None
         self._listed: Optional[List[Tuple[bytes, Beginnings]]] = None
         for key, place in places.items():
             self._add(key, os.fspath(place))
@@ -120,7 +208,7 @@ class Folders:
         if key.endswith(("/", "\\")):
             if not is_folder:
                 raise NotADirectoryError(errno.ENOTDIR, "no such folder", place)
-            self._folders.append((key, place))
+            self._folders.append(Folder(key, place, _form(key)))
         elif is_folder:
             raise ValueError(f"{place} is a folder, so its URL ends in a slash: {key}/")
         else:
@@ -128,27 +216,100 @@ class Folders:
 
     def __call__(self, script: str) -> Optional[Found]:
         if script in self._files:
-            return self._read(self._files[script], script)
-        files = [file for key, place in self._folders for file in _file_below(key, place, script)]
+            return self._in_file(script, self._files[script])
+        named = [(folder, folder.name_of(script)) for folder in self._folders]
+        below = [(folder, name) for folder, name in named if name is not None]
+        files = [file for folder, name in below for file in folder.maps(name)]
         if len(files) > 1:
             raise Repeated(files)
         try:
-            return self._read(files[0], script) if files else None
+            if files:
+                return self._read(files[0], base_by_default(script))
+            return self._in_scripts(script, below)
         except FileNotFoundError:
             return None  # it was removed meanwhile
 
-    def _read(self, file: str, script: str) -> Found:
-        return Found(read_file(file, self._map_bytes), base_of(script))
+    def _read(self, file: str, base: str) -> Found:
+        return Found(read_file(file, self._map_bytes), base)
+
+    def _links(self, place: str, name: str) -> Iterator[Link]:
+        """What a script in a folder names, if it names a map."""
+        url = link_in(os.path.join(place, name), IS_STYLE_SHEET[_ending(name)], self._map_bytes)
+        if url is not None:
+            yield Link(place, name, url)
+
+    def _in_scripts(self, script: str, below: List[Tuple[Folder, str]]) -> Optional[Found]:
+        """The map that a script names, whose file is in one of these folders under this name."""
+        there = [(folder.place, name) for folder, name in below for _ in folder.scripts(name)]
+        links = [link for place, name in there for link in self._links(place, name)]
+        if len(links) > 1:
+            raise Repeated([link.script for link in links])
+        return self._linked(script, links[0]) if links else None
+
+    def _in_file(self, script: str, file: str) -> Found:
+        """The map of a script whose file is given, or the script's, which may name its map."""
+        place, name = os.path.split(file)
+        links = list(self._links(place, name)) if _ending(name) in IS_STYLE_SHEET else []
+        if not links:
+            return self._read(file, base_by_default(script))
+        found = self._linked(script, links[0])
+        if found is None:
+            raise FileNotFoundError(errno.ENOENT, "the map that it names is missing", file)
+        return found
+
+    def _linked(self, script: str, link: Link) -> Optional[Found]:
+        """The map that a script names, if it is there."""
+        with _named_by(link.script):
+            data = data_url(link.url)
+            if data is None:
+                file = link.file()
+                if file is None:
+                    return None
+                return self._read(file, resolve(as_bytes(script), link.url).decode())
+        if len(data) > self._map_bytes:
+            raise too_large(self._map_bytes, link.script)
+        return Found(data, _own_url(script))
+
+    def meant_by(self, name: str) -> Optional[str]:
+        """The first script with a map to whose name this one is alike (`smap.alike`), which has none itself.
+
+        With another query it is another script.
+        """
+        text = as_bytes(name)
+        return self._files_by_form().get(normal_form(text, True)) or next(self._alike_below(text), None)
+
+    def _files_by_form(self) -> Dict[bytes, str]:
+        """The first script of each normal form, with the query, that has a file of its own."""
+        if self._forms is None:
+            forms: Dict[bytes, str] = {}
+            for script in self._files:
+                form = _form(script, True)
+                if form is not None:
+                    forms.setdefault(form, script)
+            self._forms = forms
+        return self._forms
+
+    def _alike_below(self, text: bytes) -> Iterator[str]:
+        """The scripts below the folders to whose names this one is alike, and which may have a map."""
+        form, whole = normal_form(text), normal_form(text, True)
+        for folder in self._folders:
+            found = folder.name_alike(form)
+            if found is None:
+                continue
+            name, script = os.fsdecode(found), script_url(as_bytes(folder.key), found)
+            if normal_form(script, True) == whole and (any(folder.maps(name)) or any(folder.scripts(name))):
+                yield script.decode("utf-8", "surrogateescape")
 
     def named_in(self, text: bytes) -> Iterator[str]:
-        """The scripts whose URLs stand anywhere in a text, which `anywhere` needs. Some may be no positions.
+        """The scripts whose URLs stand anywhere in a text, which `anywhere` needs. Some may be no positions,
+        or have no map.
 
         The folders are listed for it once; `forget` has them listed again.
         """
         if self._listed is None:
             listed = _by_folder(self._files)
-            for url, place in self._folders:
-                listed.setdefault(url.encode(), []).extend(_names(url, place))
+            for folder in self._folders:
+                listed.setdefault(folder.key.encode(), []).extend(_names(folder))
             self._listed = [(key, Beginnings(names)) for key, names in listed.items()]
         for key, names in self._listed:
             for name in _found_behind(key, names, text):
@@ -159,38 +320,16 @@ class Folders:
         self._listed = None
 
     def __reduce__(self) -> Tuple[type, Tuple[Dict[str, str], int]]:
-        return type(self), ({**self._files, **dict(self._folders)}, self._map_bytes)
+        folders = {folder.key: folder.place for folder in self._folders}
+        return type(self), ({**self._files, **folders}, self._map_bytes)
 
 
-def _file_below(key: str, place: str, script: str) -> Iterator[str]:
-    """The file of the script's map in a folder, if there is one.
-
-    Most scripts end at the first question, which asks no file, and all others without a map at the second.
-    """
-    name = _name_below(key, script[len(key) :]) if script.startswith(key) else None
-    if name is None:
-        return
-    file = os.path.join(place, name + ".map")
-    if not os.path.isfile(file):
-        return
-    # a link to a folder, or a name above it, leads elsewhere
-    parent = os.path.dirname(os.path.join(os.path.realpath(place), name))
-    if os.path.realpath(parent) == parent:
-        yield file
-
-
-def _name_below(key: str, rest: str) -> Optional[str]:
-    """The name of a script below its folder, by the key and the rest of its URL; None if no file has it."""
-    if not is_path(key):
-        name = os.fsdecode(unquote_to_bytes(rest.encode("utf-8", "surrogatepass")))
-        whole = encoded(name) == rest
-    elif key.startswith("/") or key[2] == "/":
-        name, whole = rest, True
-    else:
-        name, whole = rest.replace("\\", "/"), "/" not in rest
-    if not whole or "\0" in name or any(part in ("", ".", "..") for part in name.split("/")):
+def _form(name: str, with_query: bool = False) -> Optional[bytes]:
+    """What all names of a script have in common; None where there is no UTF-8."""
+    try:
+        return normal_form(as_bytes(name), with_query)
+    except Error:
         return None
-    return name
 
 
 def _by_folder(scripts: Iterable[str]) -> Dict[bytes, List[bytes]]:
@@ -203,16 +342,23 @@ def _by_folder(scripts: Iterable[str]) -> Dict[bytes, List[bytes]]:
     return names
 
 
-def _names(key: str, place: str) -> Iterator[bytes]:
-    """The rests of the URLs of all scripts that have a map in a folder. A URL is UTF-8 and has no space."""
-    for parent, _, files in os.walk(place, onerror=_fail):
-        below = os.path.relpath(parent, place)
-        for file in files:
-            if not file.endswith(".map") or len(file) == 4:
-                continue
-            rest = _rest_of(key, os.path.normpath(os.path.join(below, file[:-4])))
+def _names(folder: Folder) -> Iterator[bytes]:
+    """The rests of the URLs of all scripts in a folder that may have a map. A URL is UTF-8 without spaces."""
+    key = folder.key.encode()
+    for parent, _, files in os.walk(folder.place, onerror=_fail):
+        below = os.path.relpath(parent, folder.place)
+        for name in filter(None, map(_script_of, files)):
+            path = os.path.normpath(os.path.join(below, name))
+            rest = script_url(key, os.fsencode(path))[len(key) :]
             if not re.search(b"[ \n]", rest) and is_utf8(rest):
                 yield rest
+
+
+def _script_of(file: str) -> str:
+    """The name of the script whose map may be in a file; empty for other files."""
+    if file.endswith(".map"):
+        return file[:-4]
+    return file if _ending(file) in IS_STYLE_SHEET else ""
 
 
 def _fail(error: OSError) -> None:
@@ -226,13 +372,6 @@ def is_utf8(text: bytes) -> bool:
     except UnicodeDecodeError:
         return False
     return True
-
-
-def _rest_of(key: str, name: str) -> bytes:
-    """What is behind the key in the URL of the script with this name."""
-    if not is_path(key):
-        return encoded(name).encode()
-    return os.fsencode(name if key.startswith("/") or key[2] == "/" else name.replace("/", "\\"))
 
 
 class Beginnings:

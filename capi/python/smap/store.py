@@ -7,8 +7,9 @@ from collections.abc import Mapping as AnyMapping
 from typing import Any, AnyStr, BinaryIO, Dict, Iterable, Iterator, List, Optional, Set, Tuple, Union
 
 from ._library import TraceCounts
-from .cache import Bounds, Cache, Kept
-from .finders import MOST_BYTES, Finder, Folders, PathLike
+from .cache import Bounds, Cache, Kept, beside
+from .files import MOST_BYTES
+from .finders import Finder, Folders, PathLike
 from .frames import places_by_script, translate_all
 from .logs import StoreCounts, Way, lines_that_stay, middle, spellings, whole_lines
 from .maps import Map, Mapping
@@ -20,29 +21,55 @@ __all__ = ["Store", "StoreCounts"]
 # How many bytes the URLs of a map's sources take at most: a thousand bytes each, of 67,108 sources.
 MOST_URL_BYTES = 67_108_864
 
+# How many names that are only alike to scripts a call has at once, where positions are found anywhere: each
+# place of a text is looked at once for each length of a name.
+MOST_ALIKE = 100
+
 # What a lookup counts as.
 _LINE, _TRANSLATED = StoreCounts(lines=1), StoreCounts(lines=1, translated=1)
 
 
 class _Call:
-    """The scripts by which a call translates lines: those that its lines name, as far as they have room."""
+    """The scripts by which a call translates lines: those that its lines name, as far as they have room.
 
-    def __init__(self) -> None:
+    Each is there under the names that the lines have for it.
+    """
+
+    def __init__(self, most_alike: Optional[int] = None) -> None:
         self.scripts = Scripts()
         self.names: Set[str] = set()
         # whether each script that can't be added has a broken map, or none
         self.absent: Noted[bool] = Noted()
         self.size = 0
+        self._most_alike = most_alike
+        self._alike = 0
+        # the scripts whose maps are there
+        self.opened: Set[str] = set()
 
-    def add(self, script: str, opened: Kept) -> None:
-        self.scripts.add(script, opened.map)
-        self.names.add(script)
-        self.size += opened.size
+    def has_room(self, name: str, opened: Kept, room: int) -> bool:
+        """Whether a script has room under one more name."""
+        if not self.names:
+            return True
+        if self._most_alike is not None and self._alike >= self._most_alike and name != opened.script:
+            return False
+        return self.size + self._size_of(name, opened) <= room
+
+    def _size_of(self, name: str, opened: Kept) -> int:
+        """The memory that a script takes: of a map that is there under another name, what a name takes."""
+        return beside(name) if opened.script in self.opened else opened.size
+
+    def add(self, name: str, opened: Kept) -> None:
+        self.scripts.add(name, opened.map)
+        self.size += self._size_of(name, opened)
+        self.names.add(name)
+        self.opened.add(opened.script)
+        self._alike += name != opened.script
 
     def clear(self) -> None:
         self.scripts.close()
         self.names.clear()
-        self.size = 0
+        self.opened.clear()
+        self.size = self._alike = 0
 
 
 class Store:
@@ -52,7 +79,9 @@ class Store:
         print(store.translate(log), store.broken)
 
     `finder` is a dictionary for `Folders`, or a function that gets the URL of a script and returns its map
-    (`Found`, or bytes), or None if there is none. It may be called by several threads at once.
+    (`Found`, or bytes), or None if there is none. It may be called by several threads at once. A name without
+    a map means the first script with one to whose name it is alike (`smap.alike`), but for another query,
+    where the finder has a method `meant_by` that says which, as `Folders` has it.
 
     At most `cache_bytes` of memory are taken by maps that are kept open (`Map.held`), or being opened: those
     that were used last. A call in progress may hold up to as much again, if another thread makes room
@@ -113,7 +142,7 @@ class Store:
 
     @property
     def broken(self) -> Dict[str, Exception]:
-        """The fault of each script whose map is broken: Refused, Error, Repeated or OSError.
+        """The fault of each script whose map is broken: Refused, Error, Repeated, OutsideFolder or OSError.
 
         The last 10,000 are known by name, and others looked for again.
         """
@@ -191,7 +220,8 @@ class Store:
         """
         if anywhere and not hasattr(self._finder, "named_in"):
             raise ValueError("anywhere needs a finder with a method named_in")
-        way, call, counts = Way(hide, anywhere, ignore_query), _Call(), StoreCounts()
+        way, counts = Way(hide, anywhere, ignore_query), StoreCounts()
+        call = _Call(MOST_ALIKE if anywhere else None)
         try:
             for block in whole_lines(source):
                 told, of_block = self._translated(block, call, way)
@@ -267,7 +297,7 @@ class Store:
                 call.absent.note(script, self._cache.is_broken(script))
                 continue
             with opened.map:
-                if room is not None and call.names and call.size + opened.size > room:
+                if room is not None and not call.has_room(script, opened, room):
                     return False
                 call.add(script, opened)
         self._cache.touch(script for spelled in wanted for script in spelled)
@@ -288,10 +318,9 @@ class Store:
         """Whether a call has room for scripts, by what is known of their sizes before they are opened."""
         known: Dict[str, int] = {}
         for spelled in new:
-            sizes = ((script, self._cache.size_of(script)) for script in self._until_added(call, spelled))
-            script, size = next((found for found in sizes if found[1] is not None), ("", None))
-            if size is not None:
-                known[script] = size
+            found = next(filter(None, map(self._cache.size_of, self._until_added(call, spelled))), None)
+            if found is not None and found[0] not in call.opened:
+                known[found[0]] = found[1]
         return len(call.names) + len(known) <= 1 or call.size + sum(known.values()) <= room
 
     def _counted(self, call: _Call, named: List[Tuple[List[str], int]], seen: TraceCounts) -> StoreCounts:
