@@ -55,10 +55,14 @@ function unspelled(bytes) {
 }
 
 function stringOf(units, length) {
-  if (length > constants.MAX_STRING_LENGTH) {
-    throw Object.assign(new RangeError('longer than a string can be'), { code: 'SMAP_TOO_LONG' });
-  }
+  checkLength(length);
   return Buffer.from(units.buffer, 0, 2 * length).toString('utf16le');
 }
 
-module.exports = { isWellFormed, spelled, unspelled };
+/** Throws for what is longer than a string can be, in code units, or in bytes. */
+function checkLength(length) {
+  if (length <= constants.MAX_STRING_LENGTH) return;
+  throw Object.assign(new RangeError('longer than a string can be'), { code: 'SMAP_TOO_LONG' });
+}
+
+module.exports = { isWellFormed, spelled, unspelled, checkLength };

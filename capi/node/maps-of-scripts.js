@@ -1,13 +1,14 @@
 'use strict';
-// The maps of the scripts that run: found by the comment that names them, or by what a program hooks in.
+// The maps of the scripts that run: those that the scripts name, or that a program hooks in. What a script
+// names, and what a name stands for, the library says; here are the files, and what was read of them.
 const fs = require('node:fs');
+const path = require('node:path');
 const { debuglog } = require('node:util');
-const { fileURLToPath, pathToFileURL } = require('node:url');
-const { SourceMap } = require('./index.js');
-const { mappingURL } = require('./mapping-url.js');
+const { SourceMap, SmapError, scriptLink, resolveLink, inlineMap, fileUrl, filePath } = require('./index.js');
 const { isOfPackage } = require('./packages.js');
 
 const debug = debuglog('smap');
+const tellNone = (script, error) => debug('no map for %s: %s', script, error.message);
 
 let files = new Map();   // path: text, for what isn't read from the disk
 let maps = new Map();    // script: { map, names } or null
@@ -41,14 +42,22 @@ function putFile(name, text) {
   maps.delete(name);
 }
 
-const isURL = name => /^[A-Za-z][A-Za-z0-9+.-]+:/.test(name);
+// A script or a map is named by a URL or a path, and Node takes a path that isn't absolute for one below the
+// working directory.
+const whole = name => (fileUrl(name) !== null || URL.canParse(name) ? name : path.resolve(name));
+
+// The file that a name stands for; null for what is none here, such as a web address.
+function fileOf(name) {
+  const own = whole(name);
+  const file = fileUrl(own) === null ? filePath(own) : own;
+  return file !== null && path.isAbsolute(file) ? file : null;
+}
 
 // A pipe or a device isn't read: the process would wait for it.
 function readDisk(name) {
-  if (isURL(name) && !name.startsWith('file:')) return '';
   try {
-    const file = name.startsWith('file:') ? new URL(name) : name;
-    return fs.statSync(file).isFile() ? fs.readFileSync(file, 'utf8') : '';
+    const file = fileOf(name);
+    return file !== null && fs.statSync(file).isFile() ? fs.readFileSync(file, 'utf8') : '';
   } catch {
     return '';
   }
@@ -65,51 +74,64 @@ function hooked(name) {
 
 const readFile = name => files.get(name) ?? hooked(name) ?? readDisk(name);
 
-const DATA = /^data:([^,]*?)(;base64)?,(.*)$/s;
+// What is read of the map that a script names, or null.
+function namedMap(script) {
+  const link = scriptLink(readFile(script));
+  // An empty one leads to the script itself.
+  if (!link) return null;
+  const map = inlineMap(link);
+  if (map) return { url: script, map };
+  const own = whole(script);
+  const url = resolveLink(own, link);
+  // The map of a script that is named by its path is named so too.
+  const name = fileUrl(own) === null ? url : filePath(url) ?? url;
+  const text = readFile(name);
+  return text ? { url: name, map: text } : null;
+}
 
-/** The text of a script's map and its URL, or null. */
-function retrieveSourceMap(script) {
+// A script's map and its URL or path, or null.
+function retrieve(script) {
   for (const call of mapHooks.calls) {
     const got = call(script);
     if (got) return got;
   }
-  const found = mapHooks.only ? null : mappingURL(readFile(script));
-  if (!found) return null;
-  const data = DATA.exec(found);
-  if (data) {
-    const [, , isBase64, text] = data;
-    return { url: script, map: isBase64 ? Buffer.from(text, 'base64') : decodeURIComponent(text) };
+  return mapHooks.only ? null : namedMap(script);
+}
+
+/** The text of a script's map and its URL or path; null if there is none, or the script names it wrongly. */
+function retrieveSourceMap(script) {
+  try {
+    const got = retrieve(script);
+    return Buffer.isBuffer(got?.map) ? { ...got, map: got.map.toString() } : got;
+  } catch (error) {
+    if (!(error instanceof SmapError)) throw error;
+    tellNone(script, error);
+    return null;
   }
-  // A script that is named by its path has its map beside it, whatever characters the path has.
-  const base = isURL(script) ? script : pathToFileURL(script).href;
-  if (!URL.canParse(found, base)) return null;
-  const url = new URL(found, base).href;
-  const name = !isURL(script) && url.startsWith('file:') ? fileURLToPath(url) : url;
-  const map = readFile(name);
-  return map ? { url: name, map } : null;
 }
 
 // What a terminal obeys, or a reader takes for the end of a line.
 const CONTROL = /[\p{Cc}\p{Zl}\p{Zp}\p{Bidi_Control}]/gu;
 
-// A source is named like its script: by a path beside a path, else by its URL. Where the path has control
-// characters, the URL stands too, which has none.
-function named(url, base) {
-  if (url === null || !url.startsWith('file:') || isURL(base)) return url;
+// Beside a map that is named by its path, a source is named so too. Where the path has control characters the
+// URL stands, which has none, and where there is no path: on another host, say.
+function pathNamed(url) {
+  if (url === null) return null;
   try {
-    const name = fileURLToPath(url);
-    return name.search(CONTROL) < 0 ? name : url;
+    const name = filePath(url);
+    return name === null || name.search(CONTROL) >= 0 ? url : name;
   } catch {
     return url;
   }
 }
 
 function read(script) {
-  const got = retrieveSourceMap(script);
+  const got = retrieve(script);
   if (!got || !got.map) return null;
-  const base = got.url ?? script;
-  const map = new SourceMap(got.map, isURL(base) ? base : pathToFileURL(base).href);
-  return { map, names: map.sources.map(source => named(source, base)) };
+  const base = whole(String(got.url ?? script));
+  const url = fileUrl(base);
+  const map = new SourceMap(got.map, url ?? base);
+  return { map, names: url === null ? map.sources : map.sources.map(pathNamed) };
 }
 
 // The map of a script, read once. One that is refused is none: a trace must not fail because of it.
@@ -120,7 +142,7 @@ function mapOf(script) {
   try {
     maps.set(script, read(script));
   } catch (error) {
-    debug('no map for %s: %s', script, error.message);
+    tellNone(script, error);
   }
   return maps.get(script);
 }

@@ -2,9 +2,9 @@
 // Which files belong to a script's package.
 const fs = require('node:fs');
 const path = require('node:path');
-const { fileURLToPath } = require('node:url');
+const { filePath } = require('./index.js');
 
-const pathOf = name => fs.realpathSync(name.startsWith('file:') ? fileURLToPath(name) : name);
+const pathOf = name => fs.realpathSync(filePath(name) ?? name);
 
 // Builds write files of that name that only say how scripts are read, into the folder of these.
 function hasName(file) {

@@ -2,9 +2,17 @@
 #include "smap_node.h"
 
 static const char *const codes[] = {
-    [SMAP_OK] = "SMAP_OK",         [SMAP_REFUSED] = "SMAP_REFUSED", [SMAP_NOT_URL] = "SMAP_NOT_URL",
-    [SMAP_LIMITS] = "SMAP_LIMITS", [SMAP_MEMORY] = "SMAP_MEMORY",   [SMAP_CLOSED] = "SMAP_CLOSED",
-    [SMAP_NONE] = "SMAP_NONE",     [SMAP_RANGE] = "SMAP_RANGE",     [SMAP_URL_BYTES] = "SMAP_URL_BYTES",
+    [SMAP_OK] = "SMAP_OK",
+    [SMAP_REFUSED] = "SMAP_REFUSED",
+    [SMAP_NOT_URL] = "SMAP_NOT_URL",
+    [SMAP_LIMITS] = "SMAP_LIMITS",
+    [SMAP_MEMORY] = "SMAP_MEMORY",
+    [SMAP_CLOSED] = "SMAP_CLOSED",
+    [SMAP_NONE] = "SMAP_NONE",
+    [SMAP_RANGE] = "SMAP_RANGE",
+    [SMAP_URL_BYTES] = "SMAP_URL_BYTES",
+    [SMAP_NOT_BASE64] = "SMAP_NOT_BASE64",
+    [SMAP_NOT_UTF8] = "SMAP_NOT_UTF8",
 };
 
 napi_value failed(napi_env env)

@@ -84,6 +84,15 @@ static const struct {
     {"closeScripts", do_close_scripts},
     {"translate", do_translate},
     {"frame", do_frame},
+    {"scriptLink", do_script_link},
+    {"resolveLink", do_resolve_link},
+    {"inlineMap", do_inline_map},
+    {"fileUrl", do_file_url},
+    {"filePath", do_file_path},
+    {"scriptUrl", do_script_url},
+    {"scriptName", do_script_name},
+    {"normalForm", do_normal_form},
+    {"areAlike", do_are_alike},
 #ifdef SMAP_NODE_TEST
     /* test/refuse.c */
     {"refuse", do_refuse},

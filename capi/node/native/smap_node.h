@@ -92,6 +92,9 @@ void text_done(text_in *text);
 /* A string; or throws, as for one that is longer than a string can be. */
 napi_value string_out(napi_env env, const char *at, size_t len);
 
+/* A Buffer, which JavaScript makes; or throws. */
+napi_value buffer_out(napi_env env, const void *at, size_t len);
+
 /* A string or a Buffer, or throws. The bytes are freed. */
 napi_value bytes_out(napi_env env, smap_bytes *bytes, bool as_buffer);
 
@@ -153,6 +156,16 @@ napi_value do_add_script(napi_env env, napi_callback_info info);
 napi_value do_close_scripts(napi_env env, napi_callback_info info);
 napi_value do_translate(napi_env env, napi_callback_info info);
 napi_value do_frame(napi_env env, napi_callback_info info);
+
+napi_value do_script_link(napi_env env, napi_callback_info info);
+napi_value do_resolve_link(napi_env env, napi_callback_info info);
+napi_value do_inline_map(napi_env env, napi_callback_info info);
+napi_value do_file_url(napi_env env, napi_callback_info info);
+napi_value do_file_path(napi_env env, napi_callback_info info);
+napi_value do_script_url(napi_env env, napi_callback_info info);
+napi_value do_script_name(napi_env env, napi_callback_info info);
+napi_value do_normal_form(napi_env env, napi_callback_info info);
+napi_value do_are_alike(napi_env env, napi_callback_info info);
 #ifdef SMAP_NODE_TEST
 napi_value do_refuse(napi_env env, napi_callback_info info);
 napi_value do_allocated(napi_env env, napi_callback_info info);

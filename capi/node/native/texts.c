@@ -66,8 +66,8 @@ napi_value string_out(napi_env env, const char *at, size_t len)
     return NULL;
 }
 
-/* A Buffer that JavaScript makes: it throws where there is no memory, and Node-API would end the process. */
-static napi_value buffer_out(napi_env env, const uint8_t *at, size_t len)
+/* JavaScript makes it, which throws where there is no memory: Node-API would end the process. */
+napi_value buffer_out(napi_env env, const void *at, size_t len)
 {
     thread_data *own = NULL;
     napi_value make, this, word, out;

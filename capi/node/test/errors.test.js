@@ -107,10 +107,12 @@ test('the names of kinds and codes are those of the header', is, () => {
   const kinds = [...text.matchAll(/^ {4}SMAP_FAULT_([A-Z_]+) = \d+/gm)].map(match => match[1]);
   assert.equal(kinds.length, 33);
   assert.deepEqual(kindsOf(types), kinds.map(words));
-  const codes = [...text.matchAll(/^ {4}(SMAP_[A-Z_]+) = [0-8],? +\/\*/gm)].map(match => match[1])
+  const codes = [...text.matchAll(/^ {4}(SMAP_[A-Z0-9_]+) = \d+,? +\/\*/gm)].map(match => match[1])
     .filter(name => !/FAULT|KEPT|HIDE|ANYWHERE|IGNORE/.test(name));
   assert.deepEqual([...source.matchAll(/\[(SMAP_(?!FAULT)\w+)\] = "\1"/g)].map(match => match[1]), codes);
-  assert.equal(codes.length, 9);
+  assert.equal(codes.length, 11);
+  const given = /type SmapErrorCode =([^;]*);/.exec(types)[1].match(/SMAP_\w+/g);
+  assert.deepEqual(given.sort(), codes.filter(code => !['SMAP_OK', 'SMAP_NONE'].includes(code)).sort());
 });
 
 test('each kind has a map above, but one that no URL parser gives cause for', is, () => {

@@ -6,9 +6,9 @@ const os = require('node:os');
 const path = require('node:path');
 const { spawnSync } = require('node:child_process');
 const { test } = require('node:test');
-const { mappingURL } = require('../mapping-url.js');
-const { getErrorSource } = require('smap/support');
-const { numbers } = require('./many-maps.js');
+const { scriptLink } = require('smap');
+const { getErrorSource, mapSourcePosition } = require('smap/support');
+const { isQuick } = require('./quick.js');
 
 const root = fs.realpathSync(fs.mkdtempSync(path.join(os.tmpdir(), 'smap-hostile-')));
 test.after(() => fs.rmSync(root, { recursive: true }));
@@ -18,15 +18,6 @@ const below = name => path.join(root, name);
 function write(name, text) {
   fs.mkdirSync(path.dirname(below(name)), { recursive: true });
   fs.writeFileSync(below(name), text);
-}
-
-// Seconds of the processor.
-function isQuick(call, seconds = 2) {
-  const before = process.cpuUsage();
-  const result = call();
-  const { user, system } = process.cpuUsage(before);
-  assert.ok((user + system) / 1e6 < seconds, `${(user + system) / 1e6} s`);
-  return result;
 }
 
 function run(name, cwd = root) {
@@ -43,34 +34,44 @@ function writeScript(name, text, map) {
 
 // ---- what a comment may be
 
-// The expression of source-map-support, whose time grows with the square of the text.
-const THEIRS = new RegExp('(?://[@#][\\s]*sourceMappingURL=([^\\s\'"]+)[\\s]*$)|' +
-  '(?:/\\*[@#][\\s]*sourceMappingURL=([^\\s*\'"]+)[\\s]*(?:\\*/)[\\s]*$)', 'gm');
-const PIECES = ['//#', '//@', '/*#', '/*@', 'sourceMappingURL=', '//# sourceMappingURL=',
-  '/*# sourceMappingURL=', ' ', '\n', '\t', '*/', '*', '/', 'a', 'b.map', "'", '"', '\r', '\u2028', 'x y', '//',
-  '/*'];
-
-test('the comment that counts is that of source-map-support', () => {
-  const next = numbers(1);
-  let count = 0;
-  for (let i = 0; i < 100000; i++) {
-    const text = Array.from({ length: next(9) }, () => PIECES[next(PIECES.length)]).join('');
-    const last = [...text.matchAll(THEIRS)].at(-1);
-    const wants = last ? last[1] ?? last[2] : null;
-    assert.equal(mappingURL(text), wants, JSON.stringify(text));
-    count += wants !== null;
-  }
-  assert.ok(count > 2000, `${count} comments`);
-});
-
 test('comments of any form are read in a time that grows with the text', () => {
   const [line, block] = ['//#sourceMappingURL=', '/*#sourceMappingURL='];
   const spaces = ' '.repeat(200000);
-  const texts = [line.repeat(20000) + "'", block.repeat(20000), (line + block).repeat(10000) + ' x',
-    line.repeat(10000) + 'a' + spaces + 'x', block.repeat(10000) + 'a' + spaces + '*/x',
-    ('//#' + ' '.repeat(500)).repeat(500) + 'sourceMappingURL=', '/'.repeat(400000) + 'sourceMappingURL='];
-  for (const text of texts) assert.equal(isQuick(() => mappingURL(text)), null);
-  assert.equal(isQuick(() => mappingURL(line.repeat(20000) + 'a')), line.repeat(19999) + 'a');
+  const many = 'x '.repeat(200000);
+  const rows = [
+    [line.repeat(20000) + 'a', line.repeat(19999) + 'a'],
+    [line.repeat(20000) + ' x', null],
+    [block.repeat(20000), null],
+    [block.repeat(20000) + '*/', block.repeat(19999)],
+    [`${block}a*/`.repeat(20000), 'a'],
+    [`${block}a*/`.repeat(20000) + 'x', null],
+    [`${block}a b*/`.repeat(20000), null],
+    [(line + block).repeat(10000) + ' x', null],
+    [line.repeat(10000) + 'a' + spaces + 'x', null],
+    [line.repeat(10000) + 'a' + spaces, line.repeat(9999) + 'a'],
+    [block.repeat(10000) + 'a' + spaces + '*/x', null],
+    [('//#' + ' '.repeat(500)).repeat(500) + 'sourceMappingURL=', null],
+    ['/'.repeat(400000) + 'sourceMappingURL=', null],
+    ['/*'.repeat(200000), null],
+    ['/* '.repeat(200000), null],
+    [`${line}a\n` + '/* '.repeat(200000), 'a'],
+    [`${line}a\n` + '/**/'.repeat(100000), 'a'],
+    [`${line}a` + '\n'.repeat(400000), 'a'],
+    [`${line}a` + '\r\n//'.repeat(100000), 'a'],
+    [`${line}a\n` + spaces + '//' + many, 'a'],
+    [`${line}a\n` + spaces + many, null],
+    ['\ufeff\u00a0'.repeat(100000) + `${line}a`, 'a'],
+  ];
+  for (const [text, wants] of rows) assert.equal(isQuick(() => scriptLink(text)), wants, text.slice(0, 60));
+});
+
+test('lines that end with U+2028 are read in a time that grows with their number', () => {
+  const text = '//# sourceMappingURL=lines.js.map' + '\u2028'.repeat(400000);
+  write('out/lines.js', text);
+  write('out/lines.js.map', '{"version":3,"sources":["lines.ts"],"mappings":"AAUA"}');
+  assert.equal(isQuick(() => scriptLink(text), 1), 'lines.js.map');
+  const at = isQuick(() => mapSourcePosition({ source: below('out/lines.js'), line: 1, column: 0 }), 1);
+  assert.deepEqual([at.source, at.line], [below('out/lines.ts'), 11]);
 });
 
 test('stacks of any form are read in a time that grows with the text', () => {

@@ -7,6 +7,7 @@ const { TraceMap, decodedMap, decodedMappings } = require('smap/trace-mapping');
 const { spelled } = require('../halves.js');
 const { encode } = require('../vlq.js');
 const { numbers } = require('./many-maps.js');
+const { isQuick } = require('./quick.js');
 const native = require('../native.js');
 
 const BASE = 'http://h/m/out.js.map';
@@ -116,15 +117,6 @@ test('a Buffer that there is no memory for', () => {
 });
 
 // ---- what is large, or asks for much
-
-// Seconds of the processor: others may use it too. The sanitizers take a few times as long.
-function isQuick(call, seconds = 3) {
-  const before = process.cpuUsage();
-  const result = call();
-  const { user, system } = process.cpuUsage(before);
-  assert.ok((user + system) / 1e6 < seconds, `${(user + system) / 1e6} s`);
-  return result;
-}
 
 test('half surrogate pairs are spelled by three bytes each, and in a time that grows with the text', () => {
   const rows = [['\ud800', 'eda080'], ['\udfff', 'edbfbf'], ['a\udc00\u00e9', '61edb080c3a9'],

@@ -2,9 +2,13 @@
 // The calls of one seed, for random.js.
 const assert = require('node:assert');
 const { Worker } = require('node:worker_threads');
-const { SourceMap, Scripts, SmapError, translate, frame, respell } = require('smap');
+const {
+  SourceMap, Scripts, SmapError, translate, frame, respell,
+  scriptLink, resolveLink, inlineMap, fileUrl, filePath, scriptUrl, scriptName, normalForm, areAlike,
+} = require('smap');
 const tracing = require('smap/trace-mapping');
 const { SourceMapConsumer } = require('smap/source-map');
+const { isWellFormed } = require('../halves.js');
 const native = require('../native.js');
 const { makeMap, numbers } = require('./many-maps.js');
 
@@ -23,6 +27,10 @@ const PIECES = ['\ud800', '\udc00', '\u00e9', '\u{1f600}', 'a', '/', ':1:1', ' (
   'g', '"', '\n', '    at f (', '\0', '%1b'];
 const VALUES = [undefined, null, true, 0, -1, 1, 7, 2 ** 31, 2 ** 32, 2 ** 53, 1e999, NaN, 0.5, '', 'a.js',
   1n, Symbol('x'), {}, [], { length: 1e7 }, () => 0];
+const IN_SCRIPTS = ['//# sourceMappingURL=', '/*# sourceMappingURL=', '//', '/*', '*/', '\n', '\r', '\u2028',
+  ' ', '\u00a0', ';', 'a.map', '/', '\ud800', '\u{1f600}'];
+const BEGINNINGS = ['/', '/a b/', 'C:\\', 'c:/', 'file:///', 'file:///C:/', 'file://h/', 'http://h/',
+  'HTTP://H:80/', 'http://[', 'webpack:///', 'data:,', 'data:;base64,', '//', ''];
 const SEGMENTS = [[0], [3, 0, 1, 2], [4, 0, 1, 2, 0], [1e999], { length: 1e7 }, [-1], [2 ** 53, 0, 0, 0], [],
   [1, 2], null, new Array(4)];
 
@@ -56,6 +64,15 @@ class Given {
   url() {
     const url = this.one(['http://h/m/out.js.map', 'file:///a/b.map', 'http://h/', 'no url', '']);
     return this.next(3) ? url : url + this.string();
+  }
+
+  name() {
+    return this.one(BEGINNINGS) + (this.next(3) ? this.string() : this.one(['a b', '%2f', '%ff', '%25', '..']));
+  }
+
+  script() {
+    const piece = () => (this.next(4) ? this.one(IN_SCRIPTS) : this.one(IN_SCRIPTS).repeat(this.length()));
+    return Array.from({ length: this.next(9) }, piece).join('');
   }
 
   map() {
@@ -187,6 +204,46 @@ const ways = given => ({
   hideIgnored: given.next(2) === 0, anywhere: given.next(2) === 0, ignoreQuery: given.next(2) === 0,
 });
 
+// What holds of any name, or of any text.
+const LINK_CALLS = {
+  script(given) {
+    const text = given.script();
+    scriptLink(given.next(2) ? text : given.bytes(text), { css: given.next(2) === 0, buffer: true });
+    assert.equal(scriptLink(`${text}\n//# sourceMappingURL=x`), 'x');
+    assert.equal(scriptLink(`${text}\n;`), null);
+  },
+  path(given) {
+    const path = given.name();
+    const url = fileUrl(path);
+    if (url === null) return;
+    assert.ok(areAlike(path, url));
+    // Below `/C:/` a path is one of Windows, and a NUL is in none.
+    if (/^\/(?![A-Za-z]:[\\/])/.test(path) && !path.includes('\0')) assert.equal(filePath(url), path);
+  },
+  below(given) {
+    const [folder, name] = [given.name(), given.string()];
+    const found = scriptName(folder, scriptUrl(folder, name, { buffer: true }), { buffer: true });
+    assert.ok(found === null || !isWellFormed(name) || found.toString() === name);
+  },
+  alike(given) {
+    const names = [given.name(), given.name()];
+    const [one, other] = names.map(name => normalForm(name, { buffer: true }));
+    assert.equal(areAlike(...names), one.equals(other));
+  },
+  inline(given) {
+    const text = given.string();
+    const base64 = Buffer.from(text).toString('base64');
+    assert.ok(inlineMap(`data:;base64,${base64}`).equals(Buffer.from(text)));
+    if (isWellFormed(text)) assert.equal(inlineMap(`data:,${encodeURIComponent(text)}`).toString(), text);
+  },
+  any(given) {
+    const calls = [scriptLink, resolveLink, inlineMap, fileUrl, filePath, scriptUrl, scriptName, normalForm,
+      areAlike];
+    const word = () => given.one([given.value(), given.name(), given.bytes(given.name())]);
+    given.one(calls)(word(), word());
+  },
+};
+
 const aMap = () => native.open('{"version":3,"mappings":"A"}', 'http://h/', 0, 0);
 
 const CALLS_OF = {
@@ -223,6 +280,7 @@ const CALLS_OF = {
     assert.ok(translate(log) === log);
   },
   frame: given => frame(given.next(2) ? given.log() : given.string()),
+  links: given => LINK_CALLS[given.one(Object.keys(LINK_CALLS))](given),
   respell: given => respell(given.next(2) ? given.string() : given.bytes(given.string())),
   tracing(given) {
     const map = given.map();

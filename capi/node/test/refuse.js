@@ -2,7 +2,10 @@
 // Each request for memory refused in turn, and what maps hold beside what the collector is told; over the
 // test build of build.sh: see scripts/run-node.
 const assert = require('node:assert');
-const { SourceMap, Scripts, translate, frame, respell } = require('smap');
+const {
+  SourceMap, Scripts, translate, frame, respell,
+  scriptLink, resolveLink, inlineMap, fileUrl, filePath, scriptUrl, scriptName, normalForm, areAlike,
+} = require('smap');
 const native = require('../native.js');
 
 const BASE = 'http://h/m/out.js.map';
@@ -40,6 +43,19 @@ const CALLS = {
   respell: () => assert.equal(respell('gAAAA;' + ';'.repeat(3000)), 'AAAA'),
 };
 
+// Here the library asks for room ahead as well, and does without it.
+const LINK_CALLS = {
+  scriptLink: () => assert.equal(scriptLink(`//# sourceMappingURL=${long}`), long),
+  resolveLink: () => assert.equal(resolveLink(`/${long}/a.js`, 'b.map'), `file:///${long}/b.map`),
+  inlineMap: () => assert.equal(inlineMap(`data:;base64,${btoa(long)}`).toString(), long),
+  fileUrl: () => assert.equal(fileUrl(`C:\\${long}`), `file:///C:/${long}`),
+  filePath: () => assert.equal(filePath(`file:///${long}`), `/${long}`),
+  scriptUrl: () => assert.equal(scriptUrl(SCRIPT + '/', long), `${SCRIPT}/${long}`),
+  scriptName: () => assert.equal(scriptName(SCRIPT + '/', `${SCRIPT}/${long}`), long),
+  normalForm: () => assert.equal(normalForm(`${SCRIPT}?${long}`), SCRIPT),
+  areAlike: () => assert.equal(areAlike(`${SCRIPT}?${long}`, `${SCRIPT}#${long}`), true),
+};
+
 // A refused request isn't taken for the error that a call expects.
 function rethrown(error) {
   if (error.code === 'SMAP_MEMORY') throw error;
@@ -47,7 +63,7 @@ function rethrown(error) {
 }
 
 function refuseEach(name, call) {
-  for (let n = 0; ; n++) {
+  for (let n = 0, refused = 0; ; n++) {
     let thrown = null;
     native.refuse(n);
     try {
@@ -58,9 +74,12 @@ function refuseEach(name, call) {
     const was = native.refuse(-1);
     if (was >= 0) {
       if (thrown) throw thrown;
+      assert.ok(refused > 0 || name in CALLS, `${name}: no request refused`);
       return n;
     }
-    assert.ok(thrown && thrown.code === 'SMAP_MEMORY', `${name}, request ${n}: ${thrown}`);
+    const isRefused = thrown?.code === 'SMAP_MEMORY';
+    assert.ok(isRefused || (!thrown && name in LINK_CALLS), `${name}, request ${n}: ${thrown}`);
+    refused += isRefused;
     call();
   }
 }
@@ -104,10 +123,11 @@ function heldIsNear(name, text) {
 async function main() {
   for (const [name, text] of Object.entries(HELD)) heldIsNear(name, text);
   let count = 0;
-  for (const [name, call] of Object.entries(CALLS)) count += refuseEach(name, call);
+  const calls = Object.entries({ ...CALLS, ...LINK_CALLS });
+  for (const [name, call] of calls) count += refuseEach(name, call);
   await refuseLater();
   assert.ok(count > 100, `${count} requests`);
-  console.log(`${Object.keys(CALLS).length} calls, ${count} requests refused`);
+  console.log(`${calls.length} calls, ${count} requests refused`);
 }
 
 main();

@@ -1,5 +1,9 @@
 // What the types have to allow, and what they have to refuse.
-import { SourceMap, Scripts, SmapError, translate, frame, respell, version } from 'smap';
+import {
+  SourceMap, Scripts, SmapError, translate, frame, respell,
+  scriptLink, resolveLink, inlineMap, fileUrl, filePath, scriptUrl, scriptName, normalForm, areAlike,
+  version,
+} from 'smap';
 import { TraceMap, originalPositionFor, LEAST_UPPER_BOUND, type Segment } from 'smap/trace-mapping';
 import { SourceMapConsumer, BasicSourceMapConsumer } from 'smap/source-map';
 import { install, type Options } from 'smap/support';
@@ -23,6 +27,12 @@ const told: string = translate(text, new Map([['a', map]]));
 const parts: { url: string; line: number; column: number } | null = frame(told);
 const short: string = respell(version);
 const columns: Int32Array = map.table().column;
+const link: string | null = scriptLink('f()', { css: true });
+const inline: Uint8Array | null = inlineMap(resolveLink(new URL('http://h/a.js'), link ?? 'a.map'));
+const file: string | null = filePath(fileUrl('/a.js') ?? new URL('file:///a.js'));
+const below: string | null = scriptName('/s/', scriptUrl('/s/', new Uint8Array(3), { buffer: true }));
+const form: Uint8Array = normalForm('/a.js', { buffer: true });
+const alike: boolean = areAlike(form, normalForm('/a.js'));
 
 function handle(error: unknown): number | null {
   if (!(error instanceof SmapError)) return null;
@@ -35,11 +45,16 @@ const consumer: SourceMapConsumer = new BasicSourceMapConsumer('{}');
 const options: Options = { retrieveSourceMap: script => ({ url: script, map: '{}' }), hookRequire: true };
 install(options);
 console.log(later, lines, parts, short, columns, handle, segment, original.name, consumer.sources);
+console.log(inline, file, below, alike);
 
 // @ts-expect-error: a column is missing
 map.lookup(0);
 // @ts-expect-error: no such option
 map.translate('x', 'y', { hide: true });
+// @ts-expect-error: the text of a script is no URL
+scriptLink(new URL('http://h/a.js'));
+// @ts-expect-error: there may be no name
+const name: string = scriptName('/s/', '/s/a.js');
 // @ts-expect-error: no such kind
 if (handle instanceof SmapError && handle.kind === 'Nothing') console.log(map);
 // @ts-expect-error: a map's counts can't be written
