@@ -1,0 +1,14 @@
+use Rattle.std.proofs.Common.{inr}
+use Rattle.smap_pick.specs.PlaceView.{places_in}
+use Rattle.smap_pick.specs.Places.{scripts_of}
+use Rattle.smap_pick.proofs.opening.open_named.Goals as goal
+
+pub returns-clause-fault : goal.returns-clause-fault
+returns-clause-fault g c =
+    inr (
+      c.in-Ok.picks.items,
+      (
+        c.in-Ok.ensures (scripts_of (places_in c.args.places.now)) c.requires,
+        rw c.deref.ensures.value at c.in-Err-open_picks.ensures.fault,
+      ),
+    )

@@ -1,0 +1,7 @@
+pub mod Finding
+pub mod Linked
+pub mod Memory
+pub mod Opening
+pub mod Places
+pub mod PlaceView
+pub mod TablesView
