@@ -1,0 +1,7 @@
+pub mod LineLemmas
+pub mod ListLemmas
+pub mod ReadingLemmas
+pub mod RequestLemmas
+pub mod RowLemmas
+pub mod SplitLemmas
+mod Examples
