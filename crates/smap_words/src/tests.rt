@@ -33,7 +33,7 @@ fn all_options(rt: HostRuntime) -> Result<(), Fail> {
         "out.txt",
         "--context=3",
         "--source-prefix",
-        "webpack://app/=/home/me/app/",
+        "webpack://app/=/srv/app/",
         "logs",
         "--list",
         "--source-prefix=a=b=c",
@@ -48,7 +48,7 @@ fn all_options(rt: HostRuntime) -> Result<(), Fail> {
     let prefixes = [
         Prefix {
             from: "webpack://app/",
-            to: "/home/me/app/",
+            to: "/srv/app/",
         },
         Prefix {
             from: "a",
