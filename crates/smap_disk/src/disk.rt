@@ -1,0 +1,112 @@
+//! What a program asks of a file system. Paths are text, in UTF-8.
+
+use std::alloc::Global;
+use std::io::{self, Read, Write};
+
+/// What is there under a name, links followed.
+#[derive(Clone, Copy, Debug, PartialEq, Eq)]
+pub enum Kind {
+    File,
+    Folder,
+    /// A pipe, a device or a socket.
+    Special,
+    Missing,
+}
+
+/// What an entry of a folder is, links not followed.
+#[derive(Clone, Copy, Debug, PartialEq, Eq)]
+pub enum EntryKind {
+    File,
+    Folder,
+    Link,
+    Special,
+}
+
+/// An entry of a folder.
+#[derive(Drop)]
+pub struct Entry {
+    /// Its name in the folder, without a slash.
+    pub name: String,
+    pub kind: EntryKind,
+}
+
+/// The entries of one folder, and how many have names that aren't UTF-8, which can't be opened.
+#[derive(Drop)]
+pub struct Listing {
+    pub entries: Vec<Entry>,
+    pub unnamed: u64,
+}
+
+/// Linux's number for it.
+const EISDIR: i32 = 21;
+
+/// Why a folder isn't read or written, as the system says it.
+pub(crate) fn is_a_folder() -> io::Error {
+    io::Error::from_raw_os_error(EISDIR)
+}
+
+/// A file system.
+pub trait Disk {
+    type Reader: Read + Drop;
+
+    type Writer: Write + Drop;
+
+    /// What can't be looked at is missing.
+    fn kind(&self, path: &str) -> Kind;
+
+    /// A file to be read from its start.
+    ///
+    /// # Errors
+    ///
+    /// The system's.
+    fn open(&self, path: &str) -> io::Result<Self::Reader>;
+
+    /// In bytes.
+    ///
+    /// # Errors
+    ///
+    /// The system's: `IsADirectory` for a folder.
+    fn size(&self, path: &str) -> io::Result<u64>;
+
+    /// The entries of a folder, in no order; a link to a folder is followed.
+    ///
+    /// # Errors
+    ///
+    /// The system's.
+    fn list(&self, alloc: Global, path: &str) -> io::Result<Listing>;
+
+    /// The absolute path once links are followed.
+    ///
+    /// # Errors
+    ///
+    /// The system's: `NotFound` where there is no such file.
+    fn real_path(&self, alloc: Global, path: &str) -> io::Result<String>;
+
+    /// A file that isn't there yet: whatever has this name, a link too, is refused.
+    ///
+    /// # Errors
+    ///
+    /// `AlreadyExists`, or the system's.
+    fn create_new(&self, path: &str) -> io::Result<Self::Writer>;
+
+    /// Gives a file the permissions of another.
+    ///
+    /// # Errors
+    ///
+    /// The system's.
+    fn copy_permissions(&self, from: &str, to: &str) -> io::Result<()>;
+
+    /// Gives a file another name, in place of what had it.
+    ///
+    /// # Errors
+    ///
+    /// The system's.
+    fn rename(&self, from: &str, to: &str) -> io::Result<()>;
+
+    /// Removes a file.
+    ///
+    /// # Errors
+    ///
+    /// The system's.
+    fn remove(&self, path: &str) -> io::Result<()>;
+}

@@ -1,0 +1,34 @@
+//! What a program asks of a file system ([`Disk`]), of the machine's ([`System`]) or, for tests, of one in
+//! memory ([`MemoryDisk`]): files that are read whole and only up to a limit ([`read_file`]), the names of
+//! the files below a folder ([`walk`]), and a file that is written beside its name and takes it at the end
+//! ([`create_beside`]). A writer can be asked why it failed ([`Watched`]), an error for its text ([`reason`]),
+//! and names become safe to print ([`printable`]).
+//!
+//! Contracts say nothing of what a file holds: the disk isn't the program's alone.
+#![tactic(auto)]
+
+mod beside;
+mod disk;
+mod found;
+mod held;
+mod memory;
+mod paths;
+mod printing;
+mod reading;
+mod reasons;
+mod system;
+#[cfg(test)]
+mod tests;
+mod walking;
+mod watched;
+
+pub use beside::{Beside, create_beside};
+pub use disk::{Disk, Entry, EntryKind, Kind, Listing};
+pub use found::{Walk, WalkFault};
+pub use memory::{MemoryDisk, MemoryReader, MemoryWriter};
+pub use printing::printable;
+pub use reading::{FileFault, read_file};
+pub use reasons::reason;
+pub use system::System;
+pub use walking::walk;
+pub use watched::Watched;

@@ -1,0 +1,234 @@
+//! The files below a folder.
+ghost use Rattle.std.specs.Prelude.{◌≡◌, [], List, ℕ, true, IfOk, OnOk, ◌++◌, ◌∷◌, string_bytes, string_cmp};
+ghost use Rattle.std.specs.Borrow.{Bor};
+ghost use Rattle.std.specs.List.Sorted.{IsSorted};
+ghost use Rattle.smap_disk.specs.Walking as spec;
+ghost use Rattle.smap_disk.specs.Walking.{AreWanted};
+
+use crate::disk::{Disk, Entry, EntryKind, Kind, Listing};
+use crate::found::{Walk, WalkFault};
+use crate::paths::joined;
+use std::alloc::{AllocError, Global};
+use std::io::{self, ErrorKind};
+
+/// A walk that isn't over.
+#[derive(Drop)]
+struct State {
+    names: Vec<String>,
+    unnamed: u64,
+    /// The folders that are still to be read.
+    folders: Vec<String>,
+    links: bool,
+    /// Whether there is anything but links and folders.
+    others: bool,
+}
+
+/// Whether a name ends in this, with something before it.
+fn has_one(name: &[u8], ending: &[u8]) -> bool
+    ensures { result ≡ spec.has_one name.now ending.now }
+{
+    ending.len() < name.len() && name.ends_with(ending)
+}
+
+fn has_ending(name: &str, endings: &[&str]) -> bool
+    ensures { result ≡ spec.has_ending endings.now name.now }
+{
+    endings
+        .iter()
+        .any(|ending| has_one(name.as_bytes(), ending.as_bytes()))
+}
+
+/// Whether a link leads to a file.
+fn leads_to_file<D: Disk>(
+    alloc: Global,
+    disk: &D,
+    root: &str,
+    name: &str,
+) -> Result<bool, AllocError> {
+    let path = joined(alloc, root, name)?;
+    Ok(disk.kind(&path) == Kind::File)
+}
+
+/// Whether an entry with this name below the root counts.
+fn is_wanted<D: Disk>(
+    alloc: Global,
+    disk: &D,
+    root: &str,
+    name: &str,
+    entry: &Entry,
+    endings: &[&str],
+) -> Result<bool, AllocError>
+    ensures { IfOk result (λ b. b ≡ true
+        → spec.has_ending endings.now (string_bytes entry.now.name) ≡ true) }
+{
+    if !has_ending(&entry.name, endings) {
+        return Ok(false);
+    }
+    match entry.kind {
+        EntryKind::File => Ok(true),
+        EntryKind::Link => leads_to_file(alloc, disk, root, name),
+        EntryKind::Folder | EntryKind::Special => Ok(false),
+    }
+}
+
+impl State {
+    /// A walk that has the root to read.
+    fn new(alloc: Global) -> Result<State, AllocError>
+        ensures { IfOk result (λ s. s.names.items ≡ []) }
+    {
+        Ok(State {
+            names: Vec::new(alloc),
+            unnamed: 0,
+            folders: vec![in alloc; String::new(alloc)]?,
+            links: false,
+            others: false,
+        })
+    }
+
+    /// Notes what an entry is.
+    fn note(&mut self, kind: EntryKind)
+        ensures { self.new.names ≡ self.old.names }
+    {
+        match kind {
+            EntryKind::Link => self.links = true,
+            EntryKind::File | EntryKind::Special => self.others = true,
+            EntryKind::Folder => {}
+        }
+    }
+
+    /// Notes how many entries have no name.
+    fn note_unnamed(&mut self, count: u64)
+        ensures { self.new.names ≡ self.old.names }
+    {
+        self.unnamed = self.unnamed.saturating_add(count);
+        if count > 0 {
+            self.others = true;
+        }
+    }
+
+    fn add_folder(&mut self, name: String) -> Result<(), AllocError>
+        ensures { self.new.names ≡ self.old.names }
+    {
+        self.folders.push(name)?;
+        Ok(())
+    }
+
+    fn add_name(&mut self, name: String) -> Result<(), AllocError>
+        ensures { OnOk result (self.new.names.items ≡ self.old.names.items ++ name ∷ []) }
+    {
+        self.names.push(name)?;
+        Ok(())
+    }
+
+    /// Takes in an entry of a folder below the root.
+    fn add<D: Disk>(
+        &mut self,
+        alloc: Global,
+        disk: &D,
+        root: &str,
+        folder: &str,
+        entry: &Entry,
+        endings: &[&str],
+    ) -> Result<(), AllocError>
+        ensures { AreWanted endings.now self.old.names.items
+            → OnOk result (AreWanted endings.now self.new.names.items) }
+    {
+        self.note(entry.kind);
+        let name = joined(alloc, folder, &entry.name)?;
+        if entry.kind == EntryKind::Folder {
+            return self.add_folder(name);
+        }
+        if is_wanted(alloc, disk, root, &name, entry, endings)? {
+            return self.add_name(name);
+        }
+        Ok(())
+    }
+
+    /// Takes in all entries of a folder below the root.
+    fn add_all<D: Disk>(
+        &mut self,
+        alloc: Global,
+        disk: &D,
+        root: &str,
+        folder: &str,
+        listing: &Listing,
+        endings: &[&str],
+    ) -> Result<(), AllocError>
+        ensures { AreWanted endings.now self.old.names.items
+            → OnOk result (AreWanted endings.now self.new.names.items) }
+    {
+        self.note_unnamed(listing.unnamed);
+        for entry in &listing.entries {
+            self.add(alloc, disk, root, folder, entry, endings)?;
+        }
+        Ok(())
+    }
+
+    fn finish(self) -> Result<Walk, AllocError>
+        ensures order { IfOk result (λ w. IsSorted string_cmp w.names.items) }
+        ensures wanted { (endings : List (Bor (List ℕ))) → AreWanted endings self.names.items
+            → IfOk result (λ w. AreWanted endings w.names.items) }
+    {
+        let State {
+            mut names,
+            unnamed,
+            folders: _,
+            links,
+            others,
+        } = self;
+        names.sort()?;
+        Ok(Walk {
+            names,
+            unnamed,
+            only_links: links && !others,
+        })
+    }
+}
+
+fn fault_of(path: String, error: io::Error) -> WalkFault {
+    if error.kind() == ErrorKind::OutOfMemory {
+        WalkFault::Memory
+    } else {
+        WalkFault::Folder { path, error }
+    }
+}
+
+/// The entries of a folder below the root.
+fn listing_of<D: Disk>(
+    alloc: Global,
+    disk: &D,
+    root: &str,
+    folder: &str,
+) -> Result<Listing, WalkFault> {
+    let path = joined(alloc, root, folder)?;
+    match disk.list(alloc, &path) {
+        Ok(listing) => Ok(listing),
+        Err(error) => Err(fault_of(path, error)),
+    }
+}
+
+/// The files at any depth below a folder whose names end in one of these with something before it. Links to
+/// files count, links to folders aren't followed, pipes and devices don't count.
+///
+/// # Errors
+///
+/// `Folder` with the first folder that can't be read; `Memory`.
+pub fn walk<D: Disk>(
+    alloc: Global,
+    disk: &D,
+    folder: &str,
+    endings: &[&str],
+) -> Result<Walk, WalkFault>
+    ensures order { IfOk result (λ w. IsSorted string_cmp w.names.items) }
+    ensures wanted { IfOk result (λ w. AreWanted endings.now w.names.items) }
+{
+    let mut state = State::new(alloc)?;
+    for _ in 0..u64::MAX {
+        let Some(below) = state.folders.pop() else {
+            break;
+        };
+        let listing = listing_of(alloc, disk, folder, &below)?;
+        state.add_all(alloc, disk, folder, &below, &listing, endings)?;
+    }
+    Ok(state.finish()?)
+}

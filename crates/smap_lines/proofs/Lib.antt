@@ -1,0 +1,4 @@
+pub mod WholeLemmas
+pub mod SpanLemmas
+pub mod NameLemmas
+pub mod BeginningLemmas

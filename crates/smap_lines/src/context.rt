@@ -1,0 +1,150 @@
+//! The lines of a source around a position.
+ghost use Rattle.std.specs.Io.{StartsWith};
+
+use crate::shown::{add_blanks, add_text, count_units, window_of};
+use crate::source_lines::{count_lines, line_at};
+use std::alloc::{AllocError, Global};
+
+/// Which lines are shown, and how: those around the marked one, from this first to this last, numbers padded
+/// to this width.
+#[derive(Clone, Copy)]
+struct Shown {
+    first: u32,
+    marked: u32,
+    last: u32,
+    /// From 1, in UTF-16 units.
+    column: u32,
+    width: usize,
+}
+
+fn add_spaces(count: usize, row: &mut String) -> Result<(), AllocError> {
+    for _ in 0..count {
+        row.push(' ')?;
+    }
+    Ok(())
+}
+
+/// Adds what stands before a line's text.
+fn add_head(mark: &str, number: &str, width: usize, row: &mut String) -> Result<(), AllocError> {
+    row.push_str(mark)?;
+    add_spaces(width.saturating_sub(number.len()), row)?;
+    row.push_str(number)?;
+    row.push_str(" | ")
+}
+
+/// Adds the line with `^` under the column, if the text has this column or ends before it.
+fn add_caret(text: &str, shown: Shown, row: &mut String) -> Result<(), AllocError> {
+    if shown.column == 0 {
+        return Ok(());
+    }
+    let unit = shown.column as usize - 1;
+    if unit > count_units(text) {
+        return Ok(());
+    }
+    add_head("  ", "", shown.width, row)?;
+    add_blanks(text, window_of(text, unit), unit, row)?;
+    row.push_str("^\n")
+}
+
+/// Adds a line that isn't the marked one.
+fn add_other(
+    alloc: Global,
+    text: &str,
+    number: &str,
+    width: usize,
+    row: &mut String,
+) -> Result<(), AllocError> {
+    add_head("  ", number, width, row)?;
+    add_text(alloc, text, window_of(text, 0), row)?;
+    row.push('\n')
+}
+
+/// Adds the marked line, and the line with `^` under the column.
+fn add_marked(
+    alloc: Global,
+    text: &str,
+    number: &str,
+    shown: Shown,
+    row: &mut String,
+) -> Result<(), AllocError> {
+    let unit = (shown.column as usize).saturating_sub(1);
+    add_head("> ", number, shown.width, row)?;
+    add_text(alloc, text, window_of(text, unit), row)?;
+    row.push('\n')?;
+    add_caret(text, shown, row)
+}
+
+/// Adds what is shown of a line with this number.
+fn add_row(
+    alloc: Global,
+    text: &str,
+    number: u32,
+    shown: Shown,
+    out: &mut Vec<u8>,
+) -> Result<(), AllocError>
+    ensures { StartsWith out.new.items out.old.items }
+{
+    let mut row = String::new(alloc);
+    let digits = format!(in alloc; "{number}")?;
+    if number == shown.marked {
+        add_marked(alloc, text, &digits, shown, &mut row)?;
+    } else {
+        add_other(alloc, text, &digits, shown.width, &mut row)?;
+    }
+    out.extend_from_slice(row.as_bytes())
+}
+
+/// Adds the lines that are shown.
+fn add_rows(alloc: Global, source: &str, shown: Shown, out: &mut Vec<u8>) -> Result<(), AllocError>
+    ensures { StartsWith out.new.items out.old.items }
+{
+    let mut at = 0;
+    for before in 0..shown.last {
+        let number = before + 1;
+        let found = line_at(source.as_bytes(), at);
+        if number >= shown.first {
+            let text = source.get(at..found.end).unwrap_or("");
+            add_row(alloc, text, number, shown, out)?;
+        }
+        at = found.next;
+    }
+    Ok(())
+}
+
+/// Writes the lines of a source around one of them, as Node and compilers show it: `count` lines before and
+/// after the line with this number, those that there are, each with its number, and below the marked line a
+/// `^` under the column. Line and column count from 1, the column in UTF-16 units.
+///
+/// A line ends at a line feed, at a carriage return, at both in this order, at U+2028 or at U+2029; nothing
+/// behind the last of these is no line. A line number past the end writes nothing, and so does 0. No `^` is
+/// written for column 0, and for one that is more than one past the end of the text. Of a longer text 200
+/// characters are shown, those around the column or else the first, with `…` where it is cut. Control
+/// characters other than tabs, and those that turn the direction of text, are written as `\u001b`.
+///
+/// # Errors
+///
+/// `AllocError`; a part may have been written.
+pub fn add_context(
+    source: &str,
+    line: u32,
+    column: u32,
+    count: u32,
+    out: &mut Vec<u8>,
+) -> Result<(), AllocError>
+    ensures { StartsWith out.new.items out.old.items }
+{
+    let last = count_lines(source.as_bytes(), line.saturating_add(count));
+    if line == 0 || line > last {
+        return Ok(());
+    }
+    let alloc = *out.allocator();
+    let digits = format!(in alloc; "{last}")?;
+    let shown = Shown {
+        first: line.saturating_sub(count),
+        marked: line,
+        last,
+        column,
+        width: digits.len(),
+    };
+    add_rows(alloc, source, shown, out)
+}
