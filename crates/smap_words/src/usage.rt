@@ -32,8 +32,8 @@ Rewrites the stack traces in a log: positions in scripts become positions in the
   -V, --version    Print the version
   -h, --help       Print help
 
-If the log is a file, only the maps of scripts that it names are opened. Lines are written as soon as they are
-read, so a log can be followed:
+Only the maps of scripts that the log names are opened. Lines are written as soon as they are read, so a log
+can be followed:
 
   tail -f app.log | smap-trace https://example.org/=dist/
 
