@@ -31,6 +31,13 @@ TOP = Path(__file__).resolve().parent.parent
 URL = "http://h/m/"
 
 
+def put_on_path(program, room):
+    """Makes the program the one that is called by the name smap-trace."""
+    (room / "bin").mkdir()
+    (room / "bin" / "smap-trace").symlink_to(program.resolve())
+    os.environ["PATH"] = f"{room / 'bin'}:{os.environ['PATH']}"
+
+
 def make_maps(room, many, segments):
     """A folder of maps, all links to one file: its text is what a bundler writes for so many mappings."""
     folder = room / "dist"
@@ -89,10 +96,10 @@ def in_store(folder, log, maps):
 
 
 def by_trace(folder, log):
-    """Seconds of processor time of smap-trace, and of all that it starts."""
+    """Seconds of processor time of smap-trace."""
     before = resource.getrusage(resource.RUSAGE_CHILDREN)
     with open(log, "rb") as data:
-        words = [TOP / "scripts" / "smap-trace", f"{URL}={folder}/"]
+        words = ["smap-trace", f"{URL}={folder}/"]
         subprocess.run(words, stdin=data, stdout=subprocess.DEVNULL, check=True)
     after = resource.getrusage(resource.RUSAGE_CHILDREN)
     return after.ru_utime + after.ru_stime - before.ru_utime - before.ru_stime
@@ -131,7 +138,7 @@ def by_parallel(folder, logs, workers):
     seconds = 0.0
     for log in logs:
         block = max(1, log.stat().st_size // workers + 100)
-        trace = f"{TOP}/scripts/smap-trace {URL}={folder}/ <{{}}"
+        trace = f"smap-trace {URL}={folder}/ <{{}}"
         words = ["parallel", "-j", str(workers), "--pipepart", "-a", str(log), "--block", str(block)]
         seconds += timed([*words, "-k", "--cat", trace])
     return seconds
@@ -218,11 +225,11 @@ def main():
     parser.add_argument("--megabytes", type=int, default=200, help="of the logs of the second table")
     parser.add_argument("--files", type=int, default=20, help="in which these are")
     words = parser.parse_args()
-    os.environ["SMAP"] = str(words.program.resolve())
     os.environ["SMAP_LIBRARY"] = str(words.lib.resolve() / "libsmap.so")
     os.environ["PYTHONPATH"] = str(TOP / "capi" / "python")
     with tempfile.TemporaryDirectory() as folder:
         room = Path(folder)
+        put_on_path(words.program, room)
         dist = make_maps(room, max(words.maps), words.segments)
         text = table_of_maps(room, dist, words, (room / "map").stat().st_size)
         text += "\n" + table_of_workers(room, dist, words)

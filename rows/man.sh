@@ -8,7 +8,7 @@ options_of_page() {
 
 # The options that a text of help names.
 options_of_help() {
-    grep -o -e '--*[a-zA-Z][-a-z]*' | grep -e '^--[a-z]' -e '^-[hvV]$' | sort -u
+    grep -o -e '--*[a-zA-Z][-a-z]*' | grep -e '^--[a-z]' -e '^-[hovV]$' | sort -u
 }
 
 # Runs the example of a page: its lines that begin with `$ ` as commands, in the folder $work. Says where
@@ -25,6 +25,7 @@ run_example() {
     done <example
     mkdir bin
     ln -s "$SMAP" bin/smap
+    ln -s smap bin/smap-trace
     PATH=$work/bin:$PATH sh ./commands >written 2>&1
     diff wanted written
     grep -c '' commands

@@ -9,6 +9,7 @@ run_blocks() {
     shift
     mkdir -p bin room
     ln -sf "$SMAP" bin/smap
+    ln -sf smap bin/smap-trace
     for heading in "$@"; do
         grep -q "^$heading-[0-9]*$" names || echo "no block below $heading"
     done

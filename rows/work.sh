@@ -57,6 +57,7 @@ as_nobody() {
     fi
     mkdir -p programs
     cp "$SMAP" "$rows"/../scripts/smap-* programs
+    ln -sf smap programs/smap-trace
     chmod -R a+rX programs
     if command -v setpriv >/dev/null; then
         SMAP=$work/programs/smap PATH=$work/programs:$PATH \

@@ -1,5 +1,5 @@
 # shellcheck shell=sh disable=SC2034,SC2154
-# Functions of smap-trace and smap-maps that look at many maps. They use smap-common.sh.
+# Functions of smap-maps that look at many maps. They use smap-common.sh.
 #
 # A list of maps is a file with a line `NAME BASE FILE` for each. NAME and BASE have no spaces, and no two
 # maps that are checked together have the same NAME. What is wrong with the map on line N of the list that is

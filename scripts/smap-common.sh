@@ -1,5 +1,5 @@
 # shellcheck shell=sh disable=SC2034,SC2154
-# Functions that smap-trace, smap-maps and smap-view share. Each script sets `me`, its name, and `here`, its
+# Functions that smap-maps and smap-view share. Each script sets `me`, its name, and `here`, its
 # folder, before it reads this file.
 
 LC_ALL=C
@@ -129,15 +129,13 @@ judge_writing() {
 # ---- names
 
 # Functions of awk that more than one program needs. `encode` gives a path as in a URL: each byte that a URL
-# can't have there is percent-encoded. `decode` is the reverse, and `bare` a URL without query and fragment.
-# `own_url` is the URL of a script: that in the log, or the file: URL of a path. `escape` gives a line with
-# its control characters, of one byte or of two in UTF-8, as in JSON.
+# can't have there is percent-encoded. `escape` gives a line with its control characters, of one byte or of two
+# in UTF-8, as in JSON.
 # shellcheck disable=SC2016
 in_awk='
     BEGIN {
         for (code = 1; code < 256; code++) {
             character = sprintf("%c", code)
-            byte[sprintf("%02x", code)] = character
             if (code < 32 || code == 127) shown_as[character] = sprintf("\\u%04x", code)
             if (code > 127 && code < 160) shown_as["\302" character] = sprintf("\\u%04x", code)
             in_url[character] = code < 33 || code > 126 || index("\"#%<>?\\^`{}", character) ? \
@@ -148,24 +146,6 @@ in_awk='
         if (path !~ /[^A-Za-z0-9\/._~@+-]/) return path
         for (i = 1; i <= length(path); i++) done = done in_url[substr(path, i, 1)]
         return done
-    }
-    function decode(text, done) {
-        while (match(text, /%[0-9A-Fa-f][0-9A-Fa-f]/)) {
-            done = done substr(text, 1, RSTART - 1) byte[tolower(substr(text, RSTART + 1, 2))]
-            text = substr(text, RSTART + 3)
-        }
-        return done text
-    }
-    function bare(url) {
-        sub(/[?#].*/, "", url)
-        return url
-    }
-    function own_url(script) {
-        if (script ~ /^[A-Za-z]:[\/\\]/) {
-            gsub(/\\/, "/", script)
-            script = "/" script
-        }
-        return script ~ /^\// ? "file://" encode(script) : script
     }
     function escape(line, character) {
         if (line ~ /[\001-\037\177]|\302[\200-\237]/)
@@ -188,7 +168,7 @@ encode() {
 }
 
 # Writes the names of files in a folder and below it, relative to the folder, one a line in byte order. What
-# follows the folder are tests of `find`; the names end in .map, .js, .mjs or .cjs.
+# follows the folder are tests of `find`; the names end in .map.
 files_below() {
     folder=$1
     given=$1
@@ -213,7 +193,7 @@ files_below() {
             front = ENVIRON["folder"] "/"
             is_below = index(name, front) == 1
             if (is_below) name = substr(name, length(front) + 1)
-            if (!is_below || name !~ /\.(map|[cm]?js)$/) {
+            if (!is_below || name !~ /\.map$/) {
                 print name >(room "/cut")
                 exit
             }

@@ -1,4 +1,4 @@
-/* trace URL=MAP .. <LOG: a crash log with the positions of the sources, as scripts/smap-trace writes it; the
+/* trace URL=MAP .. <LOG: a crash log with the positions of the sources, as smap-trace writes it; the
  * standard error says how many lines were translated. MAP is the map of the script at URL, and its own URL is
  * URL.map. A log that grows may go through smap_translate in pieces, each of whole lines.
  *

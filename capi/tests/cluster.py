@@ -1,7 +1,7 @@
 """cluster.py [MEGABYTES]: the example cluster.py with a scheduler and two workers as processes of this
 machine, one of which is ended in the middle: all bytes are those of smap-trace.
 
-The log has so many MB, 200 unless it is given, in 20 files. The program is the one that SMAP names, the
+The log has so many MB, 200 unless it is given, in 20 files. The program is smap-trace on the PATH, the
 library that of SMAP_LIBRARY, and Python the one that runs this, which needs dask.distributed.
 """
 
@@ -105,7 +105,7 @@ def differing(room):
     """The logs whose result isn't what smap-trace writes."""
     for path in sorted((room / "logs").iterdir()):
         with open(path, "rb") as log, open(room / "wanted", "wb") as wanted:
-            words = [TOP / "scripts" / "smap-trace", "--skip-broken", f"http://h/m/={room / 'dist'}/"]
+            words = ["smap-trace", "--skip-broken", f"http://h/m/={room / 'dist'}/"]
             subprocess.run(words, stdin=log, stdout=wanted, stderr=subprocess.DEVNULL, check=True)
         if (room / "wanted").read_bytes() != (room / "out" / path.name).read_bytes():
             yield path.name

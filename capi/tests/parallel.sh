@@ -1,12 +1,11 @@
 #!/bin/sh
 # The recipe of docs/SCALE.md for GNU parallel, run on this machine: its bytes are those of smap-trace.
-# The program is the one that SMAP names.
+# The program is smap-trace on the PATH.
 cd "$(dirname "$0")/../.." || exit 1
 top=$(pwd)
 work=$(mktemp -d) || exit 1
 trap 'rm -rf "$work"' EXIT
 trap 'exit 1' HUP INT TERM
-PATH=$top/scripts:$PATH
 cd "$work" || exit 1
 
 mkdir -p dist/lazy || exit 1

@@ -20,12 +20,12 @@ from table import TABLE, Reader, Wrong, lay_out, text  # noqa: E402
 DESCRIPTION = """Makes the folder of each row of rows/links/links.table, translates the row's log by each of
 these tools, and compares what they write with what the row says:
 
-  smap-trace  scripts/smap-trace, the log in a file
-  pipe        scripts/smap-trace, the log in a pipe
+  smap-trace  smap-trace, the log in a file
+  pipe        smap-trace, the log in a pipe
   store       the store of the Python module, smap.Store(smap.Folders(..))
   node        the package for Node, `mapSourcePosition` of smap/support, which is what smap/register asks
 
-The first two want the program: the one that SMAP names, or crates/smap/out/smap. The store is that of
+The first two want the program: the one that SMAP_TRACE names, or smap-trace on the PATH. The store is that of
 capi/python, or of the folder that SMAP_PYTHON names, and wants the library, which SMAP_LIBRARY names or the
 system has. Node wants the package with its addon, in the folder that SMAP_NODE names, or in capi/node. A tool
 that isn't at hand is left out: a line that begins with LEFT OUT says so.
@@ -72,7 +72,7 @@ def kill(pid):
 
 def environment(**more):
     kept = {name: value for name, value in os.environ.items() if name not in ("NODE_OPTIONS", "NODE_DEBUG")}
-    return {**kept, "LC_ALL": "C", "SMAP": program(), **more}
+    return {**kept, "LC_ALL": "C", **more}
 
 
 def run(words, room, log, **more):
@@ -105,7 +105,7 @@ def run(words, room, log, **more):
 def words_of_trace(row, room):
     options = [text(word, room) for word in row.options]
     places = [text(place, room) for place in row.places]
-    return [str(TOP / "scripts/smap-trace"), "-v", "--skip-broken", *options, "--", *places]
+    return [program(), "-v", "--skip-broken", *options, "--", *places]
 
 
 def by_file(row, room, log):
@@ -186,7 +186,10 @@ TOOLS = {"smap-trace": by_file, "pipe": by_pipe, "store": by_store, "node": by_n
 # ---- what is at hand
 
 def program():
-    return os.path.abspath(os.environ.get("SMAP") or TOP / "crates/smap/out/smap")
+    """The file of smap-trace, or the name that was looked for in vain."""
+    name = os.environ.get("SMAP_TRACE") or "smap-trace"
+    found = shutil.which(name)
+    return os.path.abspath(found) if found else name
 
 
 def python_modules():
@@ -198,7 +201,7 @@ def node_package():
 
 
 def lacks_program():
-    return "" if os.access(program(), os.X_OK) else f"no program {program()}"
+    return "" if os.path.isabs(program()) else f"no program {program()}"
 
 
 def last_line(words, **more):

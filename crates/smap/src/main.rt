@@ -1,10 +1,15 @@
-//! The program `smap`: from the arguments of its command line to a task, the run of the task on the
-//! standard streams, and its exit status. What each run reads and writes is defined in `smap_tool`.
-//! Standard input is buffered, since a bundle's headers are read byte by byte.
+//! The programs of this repository in one, each by the name that it is called by: `smap-trace`, or `smap` by
+//! any other. `smap` reads its arguments as a task, runs it on the standard streams and exits with its status;
+//! what each run reads and writes is defined in `smap_tool`. Standard input is buffered there, since a bundle's
+//! headers are read byte by byte. `smap-trace` is a run of `smap_tracer` over the file system.
 #![tactic(auto)]
 
+mod standard;
+
+use smap_disk::System;
 use smap_io::Device;
 use smap_tool::{RunFault, WordsFault, run, status, task_of};
+use standard::{input, is_output_closed, placeholders};
 use std::alloc::{AllocError, Global};
 use std::env;
 use std::io::{self, BufReader, ErrorKind};
@@ -36,6 +41,58 @@ fn texts(alloc: Global, words: &[String]) -> Result<Vec<&str>, AllocError> {
     Ok(texts)
 }
 
+/// The name that the program is called by, without its folder.
+fn name<'a>(words: &[&'a str]) -> &'a str {
+    let [name, ..] = words else {
+        return "";
+    };
+    match name.rsplit_once('/') {
+        Some((_, name)) => name,
+        None => *name,
+    }
+}
+
+/// Runs `smap-trace`.
+fn trace(rt: &HostRuntime, words: &[&str]) -> u8 {
+    let disk = System::new(rt);
+    if is_output_closed(&disk) {
+        let _ = eprint!(rt; "smap-trace: cannot write: standard output is closed\n");
+        return 3;
+    }
+    let input = input(rt, &disk);
+    let held = placeholders(rt.alloc(), &disk);
+    let status = smap_tracer::run(rt, &disk, words, input, io::writer(rt));
+    drop(held);
+    status
+}
+
+/// Runs `smap`.
+fn map(rt: &HostRuntime, words: &[&str]) -> u8 {
+    match task_of(rt.alloc(), words) {
+        Ok(task) => {
+            let Ok(input) = BufReader::new(rt.alloc(), rt.reader()) else {
+                let _ = eprint!(rt; "{OUT_OF_MEMORY}");
+                return 4;
+            };
+            let mut reader = Device::new(input);
+            let mut writer = Device::new(io::writer(rt));
+            let answer = run(rt.alloc(), task, &mut reader, &mut writer);
+            if let Err(fault) = answer {
+                let _ = eprint!(rt; "{}", message(fault));
+            }
+            status(&answer)
+        }
+        Err(WordsFault::Words(error)) => {
+            let _ = error.print(rt);
+            error.exit_code() as u8
+        }
+        Err(WordsFault::Memory) => {
+            let _ = eprint!(rt; "{OUT_OF_MEMORY}");
+            4
+        }
+    }
+}
+
 fn main(rt: HostRuntime) -> ExitCode {
     let words = match arguments(&rt) {
         Ok(words) => words,
@@ -52,27 +109,9 @@ fn main(rt: HostRuntime) -> ExitCode {
         let _ = eprint!(rt; "{OUT_OF_MEMORY}");
         return ExitCode::from(4);
     };
-    match task_of(rt.alloc(), words.as_slice()) {
-        Ok(task) => {
-            let Ok(input) = BufReader::new(rt.alloc(), rt.reader()) else {
-                let _ = eprint!(rt; "{OUT_OF_MEMORY}");
-                return ExitCode::from(4);
-            };
-            let mut reader = Device::new(input);
-            let mut writer = Device::new(io::writer(&rt));
-            let answer = run(rt.alloc(), task, &mut reader, &mut writer);
-            if let Err(fault) = answer {
-                let _ = eprint!(rt; "{}", message(fault));
-            }
-            ExitCode::from(status(&answer))
-        }
-        Err(WordsFault::Words(error)) => {
-            let _ = error.print(&rt);
-            ExitCode::from(error.exit_code() as u8)
-        }
-        Err(WordsFault::Memory) => {
-            let _ = eprint!(rt; "{OUT_OF_MEMORY}");
-            ExitCode::from(4)
-        }
-    }
+    let words = words.as_slice();
+    ExitCode::from(match name(words) {
+        "smap-trace" => trace(&rt, words),
+        _ => map(&rt, words),
+    })
 }

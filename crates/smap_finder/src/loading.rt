@@ -1,0 +1,163 @@
+//! The files of maps, read.
+ghost use Rattle.std.specs.Prelude.{◌≡◌, ◌++◌, ◌∷◌, [], OnErr, OnOk, map};
+ghost use Rattle.smap_pick.specs.Memory.{names_in};
+
+use crate::folders::LIMIT;
+use crate::wanted::is_script;
+use smap_disk::{Disk, FileFault, Kind, read_file};
+use smap_pick::{OpenFault, Place, Store};
+use smap_record::{Base, BaseFault, Fault, Limits, ReadError, SourceMap};
+use std::alloc::{AllocError, Global};
+
+/// What a file shows at its beginning that is no map.
+#[derive(Clone, Copy, Debug, PartialEq, Eq)]
+pub enum Start {
+    /// A byte order mark.
+    Mark,
+    /// That it is compressed by gzip.
+    Gzip,
+    Other,
+}
+
+/// Why a file gives no map.
+#[derive(Debug, Drop)]
+pub enum MapFault {
+    /// It can't be read.
+    Unread,
+    TooLong,
+    /// The URL of its script, or its own, isn't UTF-8.
+    NotUtf8,
+    /// Its base is no URL.
+    NotUrl,
+    /// It is a script, and what it names for its map is none: this, in words.
+    Link(String),
+    /// It isn't accepted.
+    Refused(Fault, Start),
+}
+
+/// What a file holds.
+#[derive(Drop)]
+pub enum Loaded {
+    Map(SourceMap),
+    /// The text of a script, which may name its map.
+    Script(Vec<u8>),
+    Broken(MapFault),
+}
+
+fn start_of(bytes: &[u8]) -> Start {
+    if bytes.starts_with(b"\xef\xbb\xbf") {
+        Start::Mark
+    } else if bytes.starts_with(b"\x1f\x8b") {
+        Start::Gzip
+    } else {
+        Start::Other
+    }
+}
+
+/// The map that these bytes are, or what is wrong with them.
+pub fn loaded_from(alloc: Global, bytes: Vec<u8>, base: &[u8]) -> Result<Loaded, AllocError> {
+    let start = start_of(&bytes);
+    let Ok(base) = std::str::from_utf8(base) else {
+        return Ok(Loaded::Broken(MapFault::NotUtf8));
+    };
+    let base = match Base::new(alloc, base) {
+        Ok(base) => base,
+        Err(BaseFault::NotUrl) => return Ok(Loaded::Broken(MapFault::NotUrl)),
+        Err(BaseFault::Memory) => return Err(AllocError),
+    };
+    match SourceMap::from_vec(alloc, bytes, &base, Limits::usual()) {
+        Ok(map) => Ok(Loaded::Map(map)),
+        Err(ReadError::Refused(fault)) => Ok(Loaded::Broken(MapFault::Refused(fault, start))),
+        Err(ReadError::Memory) => Err(AllocError),
+    }
+}
+
+/// A fault that a store of files doesn't have: what is wrong with a file is in what it holds.
+#[derive(Clone, Copy, Debug, PartialEq, Eq)]
+pub struct NoFault;
+
+/// The files of a disk as maps and scripts.
+#[derive(Drop)]
+pub struct FileStore<'a, D> {
+    disk: &'a D,
+    /// The names of the files that were opened, in order.
+    opened: Vec<Vec<u8>>,
+    /// Whether a file with the name of a script is one.
+    scripts: bool,
+}
+
+/// What a file holds, read whole.
+fn load<D: Disk>(
+    alloc: Global,
+    disk: &D,
+    scripts: bool,
+    place: &Place,
+) -> Result<Loaded, AllocError> {
+    let Ok(file) = std::str::from_utf8(&place.file) else {
+        return Ok(Loaded::Broken(MapFault::Unread));
+    };
+    match read_file(alloc, disk, file, LIMIT) {
+        Ok(bytes) if scripts && is_script(&place.file) && disk.kind(file) == Kind::File => {
+            Ok(Loaded::Script(bytes))
+        }
+        Ok(bytes) => loaded_from(alloc, bytes, &place.base),
+        Err(FileFault::TooLong) => Ok(Loaded::Broken(MapFault::TooLong)),
+        Err(FileFault::Read(_)) => Ok(Loaded::Broken(MapFault::Unread)),
+        Err(FileFault::Memory) => Err(AllocError),
+    }
+}
+
+impl<'a, D> FileStore<'a, D> {
+    pub fn new(alloc: Global, disk: &'a D) -> FileStore<'a, D> {
+        FileStore {
+            disk,
+            opened: Vec::new(alloc),
+            scripts: true,
+        }
+    }
+
+    /// Takes each file for a map from now on, or scripts for scripts.
+    pub fn take_scripts(&mut self, scripts: bool)
+        ensures { self.new.opened ≡ self.old.opened }
+    {
+        self.scripts = scripts;
+    }
+
+    /// Notes that this file is opened.
+    fn note(&mut self, alloc: Global, file: &[u8]) -> Result<(), AllocError>
+        ensures ok { OnOk result (names_in self.new.opened.items
+            ≡ names_in self.old.opened.items ++ file.now ∷ []) }
+        ensures err { OnErr result (self.new.opened.items ≡ self.old.opened.items) }
+    {
+        let text = Vec::from_slice(alloc, file)?;
+        match self.opened.push(text) {
+            Ok(()) => Ok(()),
+            Err(_) => Err(AllocError),
+        }
+    }
+}
+
+impl<D: Disk> Store for FileStore<'_, D> {
+    ghost use Rattle.std.specs.Prelude.{⊤, None};
+    ghost use Rattle.smap_pick.specs.Memory.{names_in};
+
+    type Map = Loaded;
+
+    type Fault = NoFault;
+
+    ghost opened = { λ s. names_in s.opened.items };
+
+    ghost held = { λ s. None };
+
+    ghost made_of = { λ held place it. ⊤ };
+
+    fn open(&mut self, alloc: Global, place: &Place) -> Result<Loaded, OpenFault<NoFault>> {
+        let Ok(()) = self.note(alloc, place.file.as_slice()) else {
+            return Err(OpenFault::Memory);
+        };
+        match load(alloc, self.disk, self.scripts, place) {
+            Ok(loaded) => Ok(loaded),
+            Err(_) => Err(OpenFault::Memory),
+        }
+    }
+}

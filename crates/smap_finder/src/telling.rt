@@ -1,0 +1,186 @@
+//! What is said of maps: why one is refused, which one a name is taken for.
+use crate::chosen::{Chosen, How};
+use crate::host::{Host, Stop, shown};
+use crate::loading::{MapFault, Start};
+use crate::opening::Subject;
+use crate::wanted::{Wanted, is_script};
+use smap_disk::Disk;
+use smap_link::bare;
+use smap_pick::{Found, Pick, Place};
+use smap_record::Kind;
+use std::alloc::{AllocError, Global};
+
+/// So many names are told to be taken for others at most.
+const MOST_TOLD: usize = 1_000;
+
+/// Says something of a map: its file, its script, and what.
+pub(crate) fn say_of<E: Eprint + AllocGlobal, D: Disk>(
+    host: &Host<'_, E, D>,
+    place: &Place,
+    what: &str,
+) -> Result<(), Stop> {
+    let alloc = host.alloc();
+    let file = shown(alloc, &place.file)?;
+    let script = shown(alloc, &place.script)?;
+    let (file, script) = (file.as_str(), script.as_str());
+    let text = format!(in alloc; "{file} ({script}){what}")?;
+    host.say(text.as_str());
+    Ok(())
+}
+
+/// What may help with a map that isn't accepted.
+fn hint(fault: &smap_record::Fault, start: Start, file: &[u8]) -> &'static str {
+    if fault.kind != Kind::Json {
+        return "";
+    }
+    match start {
+        Start::Mark => " (it begins with a byte order mark: remove that)",
+        Start::Gzip => " (it is compressed: gunzip it)",
+        Start::Other if is_script(file) => " (it is a script, which names no map)",
+        Start::Other => "",
+    }
+}
+
+/// What is wrong with a map in words, and the status of that.
+fn words_of(alloc: Global, place: &Place, fault: &MapFault) -> Result<(String, u8), AllocError> {
+    match fault {
+        MapFault::Unread => Ok((String::from_str(alloc, "cannot read it")?, 3)),
+        MapFault::TooLong => Ok((String::from_str(alloc, "input too long")?, 3)),
+        MapFault::NotUtf8 => Ok((String::from_str(alloc, "its URL is not in UTF-8")?, 1)),
+        MapFault::NotUrl => {
+            let base = shown(alloc, &place.base)?;
+            let script = shown(alloc, &place.script)?;
+            let file = shown(alloc, &place.file)?;
+            let (base, script, file) = (base.as_str(), script.as_str(), file.as_str());
+            let text = format!(in alloc;
+                "base is no URL: {base} (add =BASE, the URL of the map: {script}={file}=https://example.org/{script}.map)"
+            )?;
+            Ok((text, 1))
+        }
+        MapFault::Link(what) => {
+            let what = what.as_str();
+            Ok((format!(in alloc; "it {what}")?, 1))
+        }
+        MapFault::Refused(fault, start) => {
+            let hint = hint(fault, *start, &place.file);
+            Ok((format!(in alloc; "{fault}{hint}")?, 1))
+        }
+    }
+}
+
+/// Names a map that is refused. Answers its status.
+pub(crate) fn say_fault<E: Eprint + AllocGlobal, D: Disk>(
+    host: &Host<'_, E, D>,
+    place: &Place,
+    fault: &MapFault,
+) -> Result<u8, Stop> {
+    let alloc = host.alloc();
+    let (words, status) = words_of(alloc, place, fault)?;
+    let words = words.as_str();
+    let text = format!(in alloc; ": {words}")?;
+    say_of(host, place, text.as_str())?;
+    Ok(status)
+}
+
+pub(crate) fn say_used<E: Eprint + AllocGlobal, D: Disk>(
+    host: &Host<'_, E, D>,
+    how: How,
+    subject: &Subject<'_>,
+    which: &str,
+) -> Result<(), Stop> {
+    let alloc = host.alloc();
+    if subject.root.is_none() {
+        let text = format!(in alloc; " is a script: its {which} is used")?;
+        return say_of(host, &subject.place, text.as_str());
+    }
+    if how.verbose {
+        let text = format!(in alloc; ": its {which} is used")?;
+        return say_of(host, &subject.place, text.as_str());
+    }
+    Ok(())
+}
+
+/// Says which script a name was taken for, and that it is unclear which.
+pub(crate) fn tell_pick<E: Eprint + AllocGlobal, D: Disk>(
+    host: &Host<'_, E, D>,
+    how: How,
+    wanted: &Wanted<'_>,
+    pick: &Pick<'_>,
+    chosen: &mut Chosen,
+) -> Result<(), Stop> {
+    match pick.found {
+        Found::Given(i) if how.verbose => match wanted.places.get(i) {
+            Some(place) if place.script.as_slice() != pick.name => {
+                tell_alike(host, place, pick.name, chosen)
+            }
+            _ => Ok(()),
+        },
+        Found::Unclear(i, j) => match (wanted.files.get(i), wanted.files.get(j)) {
+            (Some(first), Some(second)) => {
+                chosen.is_unclear = true;
+                say_unclear(host, pick.name, first, second)
+            }
+            _ => Ok(()),
+        },
+        _ => Ok(()),
+    }
+}
+
+fn tell_alike<E: Eprint + AllocGlobal, D: Disk>(
+    host: &Host<'_, E, D>,
+    place: &Place,
+    name: &[u8],
+    chosen: &mut Chosen,
+) -> Result<(), Stop> {
+    let alloc = host.alloc();
+    if chosen.told.len() >= MOST_TOLD {
+        return Ok(());
+    }
+    let key = Vec::from_slice(alloc, bare(name))?;
+    if chosen.told.insert(key, ())?.is_some() {
+        return Ok(());
+    }
+    let name = shown(alloc, name)?;
+    let script = shown(alloc, &place.script)?;
+    let file = shown(alloc, &place.file)?;
+    let (name, script, file) = (name.as_str(), script.as_str(), file.as_str());
+    let text = format!(in alloc; "{name} in the log is taken for {script} ({file})")?;
+    host.say(text.as_str());
+    Ok(())
+}
+
+fn say_unclear<E: Eprint + AllocGlobal, D: Disk>(
+    host: &Host<'_, E, D>,
+    name: &[u8],
+    first: &[u8],
+    second: &[u8],
+) -> Result<(), Stop> {
+    let alloc = host.alloc();
+    let name = shown(alloc, name)?;
+    let first = shown(alloc, first)?;
+    let second = shown(alloc, second)?;
+    let (name, first, second) = (name.as_str(), first.as_str(), second.as_str());
+    let text = format!(in alloc;
+        "{name} is left as it is: its map may be {first} or {second}; URL=FILE says which"
+    )?;
+    host.say(text.as_str());
+    Ok(())
+}
+
+/// Says how many maps were opened.
+pub fn tell_count<E: Eprint + AllocGlobal, D: Disk>(
+    host: &Host<'_, E, D>,
+    how: How,
+    wanted: &Wanted<'_>,
+    chosen: &Chosen,
+) -> Result<(), Stop> {
+    if !how.verbose {
+        return Ok(());
+    }
+    let alloc = host.alloc();
+    let opened = chosen.opened_count();
+    let all = wanted.places.len().saturating_add(wanted.files.len());
+    let text = format!(in alloc; "{opened} of {all} maps are opened")?;
+    host.say(text.as_str());
+    Ok(())
+}

@@ -1,0 +1,72 @@
+//! What the arguments name: maps, files of folders, logs.
+use smap_pick::Place;
+use std::alloc::{AllocError, Global};
+
+/// A folder.
+#[derive(Drop)]
+pub struct Root {
+    /// The URL of what is in it, or its path as the log has it, with a slash at the end. A folder that is given
+    /// alone has a URL of its own, so that none leads out of it.
+    pub url: Vec<u8>,
+    /// Its name, without slashes at the end.
+    pub path: String,
+}
+
+/// How a map is named.
+#[derive(Clone, Copy, Debug, PartialEq, Eq)]
+pub enum Origin {
+    /// By its own argument, perhaps with its base.
+    Alone { has_base: bool },
+    /// As a file below the folder with this number.
+    Below(usize),
+}
+
+/// What the arguments name.
+#[derive(Drop)]
+pub struct Wanted<'a> {
+    /// The maps of scripts with names, and scripts that may name their maps.
+    pub places: Vec<Place>,
+    /// How each of them is named.
+    pub origins: Vec<Origin>,
+    /// The maps in folders that are given alone, and then the scripts there that may name theirs.
+    pub files: Vec<Vec<u8>>,
+    /// The number of the folder of each.
+    pub file_roots: Vec<usize>,
+    /// How many of them are maps.
+    pub map_count: usize,
+    pub roots: Vec<Root>,
+    pub logs: Vec<&'a str>,
+}
+
+impl<'a> Wanted<'a> {
+    pub fn new(alloc: Global) -> Wanted<'a> {
+        Wanted {
+            places: Vec::new(alloc),
+            origins: Vec::new(alloc),
+            files: Vec::new(alloc),
+            file_roots: Vec::new(alloc),
+            map_count: 0,
+            roots: Vec::new(alloc),
+            logs: Vec::new(alloc),
+        }
+    }
+
+    /// Whether no map can be found.
+    pub fn is_empty(&self) -> bool {
+        self.places.is_empty() && self.files.is_empty()
+    }
+}
+
+/// The texts as slices.
+pub fn slices(alloc: Global, texts: &[Vec<u8>]) -> Result<Vec<&[u8]>, AllocError> {
+    let mut slices = Vec::with_capacity(alloc, texts.len())?;
+    for text in texts {
+        slices.push(text.as_slice())?;
+    }
+    Ok(slices)
+}
+
+/// Whether a file's name is that of a script, which may name its map.
+pub fn is_script(name: &[u8]) -> bool {
+    name.ends_with(b".js") || name.ends_with(b".mjs") || name.ends_with(b".cjs")
+}

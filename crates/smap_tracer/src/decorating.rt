@@ -1,0 +1,270 @@
+//! Lines translated with what `--source-prefix` and `--context` ask for. Each position is translated by
+//! itself, as the translation of the whole line has it, so that its URL is known.
+ghost use Rattle.smap_trace.specs.Translation.{AreDistinct};
+ghost use Rattle.smap_trace.specs.Views.{scripts_in};
+
+use crate::scripts::Scripts;
+use smap_finder::Chosen;
+use smap_lines::{Span, add_context, add_spans, with_prefix};
+use smap_record::SourceMap;
+use smap_trace::{Counts, Finding, LineOutcome, frame, lookup, translate_line_by};
+use std::alloc::{AllocError, Global};
+
+/// How lines are translated.
+#[derive(Clone, Copy)]
+pub(crate) struct Style<'a> {
+    pub(crate) finding: Finding,
+    pub(crate) hide: bool,
+    /// What is written for the beginnings of source URLs.
+    pub(crate) prefixes: &'a [(&'a str, &'a str)],
+    /// How many lines of the source are shown around a position.
+    pub(crate) context: Option<u32>,
+}
+
+impl Style<'_> {
+    /// Whether lines are written as they are translated.
+    pub(crate) fn is_plain(&self) -> bool {
+        self.prefixes.is_empty() && self.context.is_none()
+    }
+}
+
+/// Translates these lines.
+pub(crate) fn decorate(
+    alloc: Global,
+    lines: &[u8],
+    scripts: &Scripts<'_>,
+    chosen: &Chosen,
+    style: &Style<'_>,
+    out: &mut Vec<u8>,
+) -> Result<Counts, AllocError> {
+    let mut counts = Counts {
+        lines: 0,
+        translated: 0,
+        dropped: 0,
+    };
+    for line in lines.split_inclusive(|b| *b == b'\n') {
+        counts.lines = counts.lines.saturating_add(1);
+        match decorate_line(alloc, line, scripts, chosen, style, out)? {
+            LineOutcome::Kept => {}
+            LineOutcome::Translated => counts.translated = counts.translated.saturating_add(1),
+            LineOutcome::Dropped => counts.dropped = counts.dropped.saturating_add(1),
+        }
+    }
+    Ok(counts)
+}
+
+/// Translates a line, which may have its end.
+fn decorate_line(
+    alloc: Global,
+    line: &[u8],
+    scripts: &Scripts<'_>,
+    chosen: &Chosen,
+    style: &Style<'_>,
+    out: &mut Vec<u8>,
+) -> Result<LineOutcome, AllocError> {
+    let (text, end) = match line.strip_suffix(b"\n".as_slice()) {
+        Some(text) => (text, b"\n".as_slice()),
+        None => (line, b"".as_slice()),
+    };
+    let mut plain = Vec::new(alloc);
+    let outcome = translated_line(text, &scripts.list, style.finding, style.hide, &mut plain)?;
+    match outcome {
+        LineOutcome::Dropped => {}
+        LineOutcome::Kept => {
+            out.extend_from_slice(text)?;
+            out.extend_from_slice(end)?;
+        }
+        LineOutcome::Translated => {
+            let spans = spans_of(alloc, text, chosen, style)?;
+            add_pieces(alloc, text, &spans, &plain, chosen, style, out)?;
+            out.extend_from_slice(end)?;
+            add_sources(text, &spans, chosen, style, end.is_empty(), out)?;
+        }
+    }
+    Ok(outcome)
+}
+
+fn translated_line(
+    line: &[u8],
+    scripts: &[(&str, &SourceMap)],
+    finding: Finding,
+    hide: bool,
+    out: &mut Vec<u8>,
+) -> Result<LineOutcome, AllocError>
+    requires { AreDistinct (scripts_in scripts.now) }
+{
+    match translate_line_by(line, scripts, finding, hide, out) {
+        Ok(outcome) => Ok(outcome),
+        Err(_) => Err(AllocError),
+    }
+}
+
+/// Where the positions of the line are whose scripts have maps, from left to right.
+fn spans_of(
+    alloc: Global,
+    line: &[u8],
+    chosen: &Chosen,
+    style: &Style<'_>,
+) -> Result<Vec<Span>, AllocError> {
+    let mut spans = Vec::new(alloc);
+    if style.finding.anywhere {
+        let mut all = Vec::new(alloc);
+        add_spans(line, &mut all)?;
+        for span in &all {
+            add_span(line, *span, chosen, &mut spans)?;
+        }
+    } else if let Some(f) = frame(line) {
+        let start = f.before.len();
+        spans.push(Span {
+            start,
+            url_end: start.saturating_add(f.url.len()),
+            end: line.len().saturating_sub(f.after.len()),
+        })?;
+    }
+    Ok(spans)
+}
+
+/// Adds a position behind those that are there; of several with one end that with the longest name.
+fn add_span(
+    line: &[u8],
+    span: Span,
+    chosen: &Chosen,
+    spans: &mut Vec<Span>,
+) -> Result<(), AllocError> {
+    let Some(name) = line.get(span.start..span.url_end) else {
+        return Ok(());
+    };
+    if chosen.map_of(name).is_none() {
+        return Ok(());
+    }
+    if let Some(last) = spans.last().copied() {
+        if last.end == span.end && span.start < last.start {
+            let _ = spans.pop();
+        } else if span.start < last.end {
+            return Ok(());
+        }
+    }
+    spans.push(span)?;
+    Ok(())
+}
+
+/// The map of the script that a position names, and the line and the column, from 1.
+fn position_of<'a>(
+    line: &[u8],
+    span: Span,
+    chosen: &'a Chosen,
+) -> Option<(&'a SourceMap, u32, u32)> {
+    let map = chosen.map_of(line.get(span.start..span.url_end)?)?;
+    let numbers = line
+        .get(span.url_end..span.end)?
+        .strip_prefix(b":".as_slice())?;
+    let numbers = std::str::from_utf8(numbers).ok()?;
+    let (number, column) = numbers.split_once(':')?;
+    Some((
+        map,
+        number.parse::<u32>().ok()?,
+        column.parse::<u32>().ok()?,
+    ))
+}
+
+/// The translation of one position, if it has one.
+fn piece_of(
+    alloc: Global,
+    line: &[u8],
+    span: Span,
+    chosen: &Chosen,
+) -> Result<Option<Vec<u8>>, AllocError> {
+    let (Some(name), Some(text)) = (
+        line.get(span.start..span.url_end),
+        line.get(span.start..span.end),
+    ) else {
+        return Ok(None);
+    };
+    let (Ok(name), Some(map)) = (std::str::from_utf8(name), chosen.map_of(name)) else {
+        return Ok(None);
+    };
+    let scripts = [(name, map)];
+    let finding = Finding {
+        anywhere: true,
+        ignore_query: false,
+    };
+    let mut out = Vec::new(alloc);
+    match translated_line(text, scripts.as_slice(), finding, false, &mut out)? {
+        LineOutcome::Translated => Ok(Some(out)),
+        _ => Ok(None),
+    }
+}
+
+/// Adds the line with its positions translated one by one, with their prefixes; where that without prefixes
+/// isn't the translation of the line, adds the translation as it is.
+fn add_pieces(
+    alloc: Global,
+    line: &[u8],
+    spans: &[Span],
+    plain: &[u8],
+    chosen: &Chosen,
+    style: &Style<'_>,
+    out: &mut Vec<u8>,
+) -> Result<(), AllocError> {
+    let mut bare = Vec::new(alloc);
+    let mut dressed = Vec::new(alloc);
+    let mut at = 0;
+    for span in spans {
+        let Some(piece) = piece_of(alloc, line, *span, chosen)? else {
+            continue
+        };
+        let Some(gap) = line.get(at..span.start) else {
+            continue
+        };
+        bare.extend_from_slice(gap)?;
+        bare.extend_from_slice(&piece)?;
+        dressed.extend_from_slice(gap)?;
+        dressed.extend_from_slice(&with_prefix(alloc, style.prefixes, &piece)?)?;
+        at = span.end;
+    }
+    let rest = line.get(at..).unwrap_or(b"");
+    bare.extend_from_slice(rest)?;
+    dressed.extend_from_slice(rest)?;
+    if bare.as_slice() == plain {
+        out.extend_from_slice(&dressed)
+    } else {
+        out.extend_from_slice(plain)
+    }
+}
+
+/// Adds the lines of the sources around the positions of a line.
+fn add_sources(
+    line: &[u8],
+    spans: &[Span],
+    chosen: &Chosen,
+    style: &Style<'_>,
+    needs_end: bool,
+    out: &mut Vec<u8>,
+) -> Result<(), AllocError> {
+    let Some(count) = style.context else {
+        return Ok(());
+    };
+    let mut needs_end = needs_end;
+    for span in spans {
+        let Some((map, number, column)) = position_of(line, *span, chosen) else {
+            continue
+        };
+        let (found, _) = lookup(map, number.saturating_sub(1), column.saturating_sub(1));
+        let Some(original) = found.and_then(|token| token.original) else {
+            continue
+        };
+        let Some(content) = original.source.content else {
+            continue
+        };
+        if needs_end {
+            out.push(b'\n')?;
+            needs_end = false;
+        }
+        let (row, place) = (
+            original.line.saturating_add(1),
+            original.column.saturating_add(1),
+        );
+        add_context(content, row, place, count, out)?;
+    }
+    Ok(())
+}

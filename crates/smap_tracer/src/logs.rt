@@ -1,0 +1,140 @@
+//! Logs, read block by block: whole lines as soon as they are there.
+use smap_disk::Disk;
+use smap_finder::{Host, Stop};
+use smap_lines::Block;
+use std::alloc::{AllocError, Global};
+use std::io::{self, ErrorKind, Read};
+
+const PIECE: usize = 65_536;
+
+/// A log that is read.
+#[derive(Drop)]
+pub(crate) struct Log<R> {
+    reader: R,
+    buffer: Vec<u8>,
+    block: Block,
+    ended: bool,
+}
+
+/// What a log is read for at one time.
+#[derive(Clone, Copy, Debug, PartialEq, Eq)]
+enum Step {
+    Lines,
+    More,
+    End,
+}
+
+impl<R: Read> Log<R> {
+    pub(crate) fn new(alloc: Global, reader: R) -> Result<Log<R>, AllocError>
+    where
+        R: Drop,
+    {
+        let buffer = vec![in alloc; 0u8; PIECE]?;
+        Ok(Log {
+            reader,
+            buffer,
+            block: Block::new(alloc),
+            ended: false,
+        })
+    }
+
+    /// The lines that were read; the last of a log may have no end.
+    pub(crate) fn lines(&self) -> &[u8] {
+        if self.ended {
+            self.block.all()
+        } else {
+            self.block.lines()
+        }
+    }
+
+    /// Reads once.
+    fn step<E: Eprint + AllocGlobal, D: Disk>(
+        &mut self,
+        host: &Host<'_, E, D>,
+    ) -> Result<Step, Stop> {
+        match self.reader.read(self.buffer.as_mut_slice()) {
+            Ok(0) => {
+                self.ended = true;
+                Ok(Step::End)
+            }
+            Ok(count) => {
+                if let Some(bytes) = self.buffer.get(..count) {
+                    self.block.push(bytes)?;
+                }
+                Ok(if self.block.lines().is_empty() {
+                    Step::More
+                } else {
+                    Step::Lines
+                })
+            }
+            Err(error) if error.kind() == ErrorKind::Interrupted => Ok(Step::More),
+            Err(error) => Err(host.fail_reading(&error)),
+        }
+    }
+
+    /// Goes on to the next lines, if there are more.
+    pub(crate) fn advance<E: Eprint + AllocGlobal, D: Disk>(
+        &mut self,
+        host: &Host<'_, E, D>,
+    ) -> Result<bool, Stop> {
+        if self.ended {
+            return Ok(false);
+        }
+        self.block.pass();
+        for _ in 0..u64::MAX {
+            match self.step(host)? {
+                Step::Lines => return Ok(true),
+                Step::End => return Ok(!self.block.all().is_empty()),
+                Step::More => {}
+            }
+        }
+        Ok(false)
+    }
+}
+
+/// A reader that keeps why it failed, and the last byte that was read.
+#[derive(Drop)]
+pub(crate) struct Heeded<R> {
+    reader: R,
+    fault: Option<io::Error>,
+    last: Option<u8>,
+}
+
+impl<R> Heeded<R> {
+    pub(crate) fn new(reader: R) -> Heeded<R> {
+        Heeded {
+            reader,
+            fault: None,
+            last: None,
+        }
+    }
+
+    /// Whether what was read ends within a line.
+    pub(crate) fn ends_within_line(&self) -> bool {
+        match self.last {
+            Some(b) => b != b'\n',
+            None => false,
+        }
+    }
+
+    pub(crate) fn fault(&self) -> Option<io::Error> {
+        self.fault
+    }
+}
+
+impl<R: Read> Read for Heeded<R> {
+    ghost remaining = { λ h. R.remaining h.reader };
+
+    fn read(&mut self, buf: &mut [u8]) -> io::Result<usize> {
+        let answer = self.reader.read(buf);
+        match &answer {
+            Ok(count) => {
+                if let Some(b) = buf.get(..*count).and_then(|bytes| bytes.last()) {
+                    self.last = Some(*b);
+                }
+            }
+            Err(error) => self.fault = Some(*error),
+        }
+        answer
+    }
+}

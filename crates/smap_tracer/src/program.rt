@@ -1,0 +1,362 @@
+//! A run of `smap-trace`.
+use crate::decorating::Style;
+use crate::listing::{Listed, hint_at_list, list_log, list_text};
+use crate::tracing::{
+    Job, State, new_state, open_names, say_nothing, trace_files, trace_input, trace_stream,
+    trace_streams,
+};
+use crate::translating::write_out;
+use smap_disk::{Disk, Kind, Watched, create_beside};
+use smap_finder::{Host, How, Opener, Stop, Wanted, check_all, settle, tell_count, wanted_by};
+use smap_trace::Finding;
+use smap_words::{
+    Asked, HELP, Prefix, TRY_HELP, TraceWords, VERSION, WordFault, message, trace_words,
+};
+use std::alloc::{AllocError, Global};
+use std::io::{Read, Write};
+
+/// The name by which standard input can be read from its beginning, if it is a file.
+const STDIN: &str = "/proc/self/fd/0";
+
+/// What standard input is.
+#[derive(Clone, Copy, Debug, PartialEq, Eq)]
+pub enum InputKind {
+    Closed,
+    Terminal,
+    /// A file, which [`STDIN`] names.
+    File,
+    Other,
+}
+
+/// Standard input.
+#[derive(Drop)]
+pub struct Input<I> {
+    pub reader: I,
+    pub kind: InputKind,
+}
+
+/// Whether all logs can be read twice.
+fn are_files<D: Disk>(disk: &D, paths: &[&str]) -> bool {
+    for path in paths {
+        if disk.kind(path) != Kind::File {
+            return false;
+        }
+    }
+    !paths.is_empty()
+}
+
+/// Translates the logs.
+fn trace_logs<E: Eprint + AllocGlobal, D: Disk, I: Read, W: Write>(
+    host: &Host<'_, E, D>,
+    job: &Job<'_>,
+    opener: &mut Opener<'_, D>,
+    input: Input<I>,
+    state: &mut State,
+    writer: &mut Watched<W>,
+) -> Result<(), Stop>
+where
+    I: Drop,
+{
+    let Input { reader, kind } = input;
+    let logs = job.wanted.logs.as_slice();
+    if logs.is_empty() {
+        return if kind == InputKind::File {
+            trace_input(host, job, opener, STDIN, reader, state, writer)
+        } else {
+            trace_stream(host, job, opener, reader, state, writer)
+        };
+    }
+    if are_files(host.disk, logs) {
+        trace_files(host, job, opener, logs, state, writer)
+    } else {
+        trace_streams(host, job, opener, logs, state, writer)
+    }
+}
+
+/// Reads the logs for a list.
+fn list_logs<E: Eprint + AllocGlobal, D: Disk, I: Read>(
+    host: &Host<'_, E, D>,
+    job: &Job<'_>,
+    input: I,
+    listed: &mut Listed,
+) -> Result<(), Stop>
+where
+    I: Drop,
+{
+    if job.wanted.logs.is_empty() {
+        return list_log(host, input, job.how.verbose, listed);
+    }
+    for path in &job.wanted.logs {
+        match host.disk.open(path) {
+            Ok(log) => list_log(host, log, job.how.verbose, listed)?,
+            Err(error) => return Err(host.fail_reading(&error)),
+        }
+    }
+    Ok(())
+}
+
+/// Writes the list.
+fn write_list<E: Eprint + AllocGlobal, D: Disk, W: Write>(
+    host: &Host<'_, E, D>,
+    job: &Job<'_>,
+    listed: &Listed,
+    state: &State,
+    writer: &mut Watched<W>,
+) -> Result<(), Stop> {
+    let text = list_text(host.alloc(), &listed.names, &state.chosen)?;
+    write_out(host, text.as_bytes(), writer)?;
+    hint_at_list(host, listed, &state.chosen, &job.wanted, job.anywhere)
+}
+
+/// Lists the scripts that the logs name.
+fn list<E: Eprint + AllocGlobal, D: Disk, I: Read, W: Write>(
+    host: &Host<'_, E, D>,
+    job: &Job<'_>,
+    opener: &mut Opener<'_, D>,
+    input: I,
+    state: &mut State,
+    writer: &mut Watched<W>,
+) -> Result<(), Stop>
+where
+    I: Drop,
+{
+    let mut listed = Listed::new(host.alloc());
+    list_logs(host, job, input, &mut listed)?;
+    open_names(host, opener, job, &listed.names, &mut state.chosen)?;
+    tell_count(host, job.how, &job.wanted, &state.chosen)?;
+    write_list(host, job, &listed, state, writer)
+}
+
+/// Does what is asked for with what opens the maps.
+fn run_over<E: Eprint + AllocGlobal, D: Disk, I: Read, W: Write>(
+    host: &Host<'_, E, D>,
+    job: &Job<'_>,
+    opener: &mut Opener<'_, D>,
+    input: Input<I>,
+    state: &mut State,
+    writer: &mut Watched<W>,
+) -> Result<(), Stop>
+where
+    I: Drop,
+{
+    if job.check_all {
+        check_all(host, opener, job.how, &job.wanted, &mut state.chosen)?;
+    }
+    if job.list {
+        return list(host, job, opener, input.reader, state, writer);
+    }
+    trace_logs(host, job, opener, input, state, writer)?;
+    say_nothing(host, job, state)
+}
+
+/// Does what is asked for, once the arguments are read.
+fn run_with<E: Eprint + AllocGlobal, D: Disk, I: Read, W: Write>(
+    host: &Host<'_, E, D>,
+    job: &Job<'_>,
+    input: Input<I>,
+    writer: &mut Watched<W>,
+) -> Result<(), Stop>
+where
+    I: Drop,
+{
+    let mut opener = Opener::new(host.alloc(), host.disk, &job.wanted)?;
+    let mut state = new_state(host.alloc());
+    run_over(host, job, &mut opener, input, &mut state, writer)
+}
+
+/// Refuses a log that can't be had, and says what is waited for.
+fn check_input<E: Eprint + AllocGlobal, D: Disk>(
+    host: &Host<'_, E, D>,
+    wanted: &Wanted<'_>,
+    kind: InputKind,
+) -> Result<(), Stop> {
+    if !wanted.logs.is_empty() {
+        return Ok(());
+    }
+    match kind {
+        InputKind::Closed => { Err(host.fail(3, "cannot read the log: standard input is closed")) }
+        InputKind::Terminal => {
+            host.say(
+                "reading the log from the terminal (Ctrl-D ends it); smap-trace ... <crash.log reads a file",
+            );
+            Ok(())
+        }
+        InputKind::File | InputKind::Other => Ok(()),
+    }
+}
+
+/// The prefixes as pairs.
+fn prefixes<'a>(alloc: Global, all: &[Prefix<'a>]) -> Result<Vec<(&'a str, &'a str)>, AllocError> {
+    let mut prefixes = Vec::new(alloc);
+    for prefix in all {
+        prefixes.push((prefix.from, prefix.to))?;
+    }
+    Ok(prefixes)
+}
+
+/// Writes to the file that `-o` names, beside it until all is written.
+fn run_to_file<E: Eprint + AllocGlobal, D: Disk, I: Read>(
+    host: &Host<'_, E, D>,
+    job: &Job<'_>,
+    input: Input<I>,
+    file: &str,
+) -> Result<(), Stop>
+where
+    I: Drop,
+{
+    if host.disk.kind(file) == Kind::Special {
+        return Err(host.fail(
+            2,
+            "-o: expected the name of a file, which no pipe or device is",
+        ));
+    }
+    let (beside, writer) = match create_beside(host.alloc(), host.disk, file) {
+        Ok(made) => made,
+        Err(error) => return Err(host.fail_writing(&error)),
+    };
+    let mut writer = Watched::new(writer);
+    let answer = run_with(host, job, input, &mut writer);
+    drop(writer);
+    match answer {
+        Ok(()) => match beside.finish(host.disk) {
+            Ok(()) => Ok(()),
+            Err(error) => Err(host.fail_writing(&error)),
+        },
+        Err(stop) => {
+            beside.abandon(host.disk);
+            Err(stop)
+        }
+    }
+}
+
+/// What the arguments name.
+fn found<'a, E: Eprint + AllocGlobal, D: Disk>(
+    host: &Host<'_, E, D>,
+    asked: &TraceWords<'a>,
+    kind: InputKind,
+) -> Result<Wanted<'a>, Stop> {
+    let mut wanted = wanted_by(host, &asked.arguments)?;
+    settle(host, asked.skip_broken, &mut wanted)?;
+    if wanted.is_empty() && !asked.list {
+        return Err(host.fail(
+            2,
+            "no map is given: expected URL=FILE, URL/=FOLDER/ or a folder",
+        ));
+    }
+    check_input(host, &wanted, kind)?;
+    Ok(wanted)
+}
+
+/// What a run does, of these words and of what their arguments name.
+fn job_of<'a>(
+    asked: &TraceWords<'a>,
+    wanted: Wanted<'a>,
+    prefixes: &'a [(&'a str, &'a str)],
+) -> Job<'a> {
+    Job {
+        anywhere: asked.anywhere,
+        list: asked.list,
+        check_all: asked.check_all,
+        wanted,
+        how: How {
+            skip: asked.skip_broken,
+            verbose: asked.verbose,
+        },
+        style: Style {
+            finding: Finding {
+                anywhere: asked.anywhere,
+                ignore_query: false,
+            },
+            hide: asked.hide_ignored,
+            prefixes,
+            context: asked.context,
+        },
+    }
+}
+
+/// Translates or lists.
+fn trace<E: Eprint + AllocGlobal, D: Disk, I: Read, W: Write>(
+    host: &Host<'_, E, D>,
+    asked: &TraceWords<'_>,
+    input: Input<I>,
+    writer: &mut Watched<W>,
+) -> Result<(), Stop>
+where
+    I: Drop,
+{
+    let wanted = found(host, asked, input.kind)?;
+    let prefixes = prefixes(host.alloc(), &asked.prefixes)?;
+    let job = job_of(asked, wanted, &prefixes);
+    match asked.output {
+        Some(file) => run_to_file(host, &job, input, file),
+        None => run_with(host, &job, input, writer),
+    }
+}
+
+/// Says what is wrong with the words.
+fn refuse<E: Eprint + AllocGlobal, D: Disk>(host: &Host<'_, E, D>, fault: &WordFault<'_>) -> Stop {
+    let rt = host.rt;
+    match fault {
+        WordFault::Memory => Stop::Memory,
+        WordFault::Nothing => {
+            let _ = eprint!(rt; "{HELP}");
+            Stop::Said(2)
+        }
+        _ => match message(host.alloc(), fault) {
+            Ok(text) => {
+                let stop = host.fail(2, text.as_str());
+                if !matches!(fault, WordFault::Argument { .. }) {
+                    let _ = eprintln!(rt; "{TRY_HELP}");
+                }
+                stop
+            }
+            Err(_) => Stop::Memory,
+        },
+    }
+}
+
+/// What the words ask for.
+fn answer<E: Eprint + AllocGlobal, D: Disk, I: Read, W: Write>(
+    host: &Host<'_, E, D>,
+    words: &[&str],
+    input: Input<I>,
+    writer: &mut Watched<W>,
+) -> Result<(), Stop>
+where
+    I: Drop,
+{
+    match trace_words(host.alloc(), words) {
+        Ok(Asked::Help) => write_out(host, HELP.as_bytes(), writer),
+        Ok(Asked::Version) => write_out(host, VERSION.as_bytes(), writer),
+        Ok(Asked::Trace(asked)) => trace(host, &asked, input, writer),
+        Err(fault) => Err(refuse(host, &fault)),
+    }
+}
+
+/// Runs `smap-trace`. The first word is the name of the program, and isn't looked at. Answers the exit
+/// status: 0 where it is done, 1 where a map is refused, 2 where the command line is wrong or names what
+/// can't be read, 3 where a file or the log can't be read or the output can't be written, 4 where memory ran
+/// out, 141 where nobody reads the output any more.
+pub fn run<E: Eprint + AllocGlobal, D: Disk, I: Read, W: Write>(
+    rt: &E,
+    disk: &D,
+    words: &[&str],
+    input: Input<I>,
+    output: W,
+) -> u8
+where
+    I: Drop,
+    W: Drop,
+{
+    let host = Host { rt, disk };
+    let mut writer = Watched::new(output);
+    match answer(&host, words, input, &mut writer) {
+        Ok(()) => 0,
+        Err(Stop::Said(status)) => status,
+        Err(Stop::Unread) => 141,
+        Err(Stop::Memory) => {
+            host.say("out of memory");
+            4
+        }
+    }
+}

@@ -1,0 +1,322 @@
+//! Logs translated: files, whose names are all looked for first, and streams, as they come.
+use crate::decorating::Style;
+use crate::hints::{hint_at_nothing, hint_at_start};
+use crate::logs::Log;
+use crate::naming::{Names, names_in};
+use crate::translating::{Tally, begin_log, translate_lines, translate_log};
+use smap_disk::{Disk, Watched};
+use smap_finder::{Chosen, Host, How, Opener, Stop, Wanted, open_for, tell_count};
+use std::alloc::Global;
+use std::io::{Read, Take, Write};
+
+/// So many names are counted at most, where a log is read once, for what is said at its end.
+const MOST_COUNTED: usize = 10_000;
+
+/// What a run has been asked for, and has found.
+#[derive(Drop)]
+pub(crate) struct Job<'a> {
+    pub(crate) anywhere: bool,
+    pub(crate) list: bool,
+    pub(crate) check_all: bool,
+    pub(crate) wanted: Wanted<'a>,
+    pub(crate) how: How,
+    pub(crate) style: Style<'a>,
+}
+
+/// What has become of the logs.
+#[derive(Drop)]
+pub(crate) struct State {
+    pub(crate) chosen: Chosen,
+    names: Names,
+    tally: Tally,
+    /// Whether a log was begun.
+    has_begun: bool,
+    /// Whether it was said that a log isn't text in UTF-8.
+    is_hinted: bool,
+}
+
+pub(crate) fn new_state(alloc: Global) -> State {
+    State {
+        chosen: Chosen::new(alloc),
+        names: Names::new(alloc),
+        tally: Tally::none(),
+        has_begun: false,
+        is_hinted: false,
+    }
+}
+
+/// Opens the maps of these names.
+pub(crate) fn open_names<E: Eprint + AllocGlobal, D: Disk>(
+    host: &Host<'_, E, D>,
+    opener: &mut Opener<'_, D>,
+    job: &Job<'_>,
+    names: &Names,
+    chosen: &mut Chosen,
+) -> Result<(), Stop> {
+    let alloc = host.alloc();
+    let (how, wanted) = (job.how, &job.wanted);
+    let frames = names.of_frames(alloc)?;
+    open_for(host, opener, how, wanted, true, frames.as_slice(), chosen)?;
+    let others = names.of_others(alloc)?;
+    open_for(host, opener, how, wanted, false, others.as_slice(), chosen)
+}
+
+/// Says what the first log is, where it isn't text in UTF-8.
+fn note_start<E: Eprint + AllocGlobal, D: Disk>(
+    host: &Host<'_, E, D>,
+    job: &Job<'_>,
+    lines: &[u8],
+    state: &mut State,
+) {
+    if !state.has_begun {
+        state.has_begun = true;
+        state.is_hinted = hint_at_start(host, lines, job.how.verbose);
+    }
+}
+
+/// Adds the names that lines have.
+fn name_lines(alloc: Global, job: &Job<'_>, lines: &[u8], names: &mut Names) -> Result<(), Stop> {
+    names.add_frames(alloc, lines)?;
+    if job.anywhere {
+        names.add_others(alloc, lines)?;
+    }
+    Ok(())
+}
+
+/// Adds the names that a log has.
+fn name_log<E: Eprint + AllocGlobal, D: Disk, R: Read>(
+    host: &Host<'_, E, D>,
+    job: &Job<'_>,
+    reader: R,
+    state: &mut State,
+) -> Result<(), Stop>
+where
+    R: Drop,
+{
+    let mut log = Log::new(host.alloc(), reader)?;
+    for _ in 0..u64::MAX {
+        if !log.advance(host)? {
+            break;
+        }
+        let lines = log.lines();
+        note_start(host, job, lines, state);
+        name_lines(host.alloc(), job, lines, &mut state.names)?;
+    }
+    Ok(())
+}
+
+/// Opens the maps of the scripts that lines name.
+fn open_lines<E: Eprint + AllocGlobal, D: Disk>(
+    host: &Host<'_, E, D>,
+    job: &Job<'_>,
+    opener: &mut Opener<'_, D>,
+    lines: &[u8],
+    state: &mut State,
+) -> Result<(), Stop> {
+    let alloc = host.alloc();
+    let names = names_in(alloc, lines, job.anywhere)?;
+    state.names.add_counts(alloc, &names, MOST_COUNTED)?;
+    state.chosen.forget_many(alloc);
+    open_names(host, opener, job, &names, &mut state.chosen)
+}
+
+/// Translates lines of a log that is read once.
+fn follow_lines<E: Eprint + AllocGlobal, D: Disk, W: Write>(
+    host: &Host<'_, E, D>,
+    job: &Job<'_>,
+    opener: &mut Opener<'_, D>,
+    lines: &[u8],
+    state: &mut State,
+    writer: &mut Watched<W>,
+) -> Result<(), Stop> {
+    note_start(host, job, lines, state);
+    open_lines(host, job, opener, lines, state)?;
+    let tally = &mut state.tally;
+    translate_lines(host, lines, &state.chosen, &job.style, writer, tally)
+}
+
+/// Translates a log that is read once: maps are opened as its frames first name their scripts.
+fn follow_log<E: Eprint + AllocGlobal, D: Disk, R: Read, W: Write>(
+    host: &Host<'_, E, D>,
+    job: &Job<'_>,
+    opener: &mut Opener<'_, D>,
+    reader: R,
+    state: &mut State,
+    writer: &mut Watched<W>,
+) -> Result<(), Stop>
+where
+    R: Drop,
+{
+    let mut log = Log::new(host.alloc(), reader)?;
+    for _ in 0..u64::MAX {
+        if !log.advance(host)? {
+            break;
+        }
+        follow_lines(host, job, opener, log.lines(), state, writer)?;
+    }
+    Ok(())
+}
+
+/// Opens a log that is a file, as far as it went at this size.
+fn opened_log<E: Eprint + AllocGlobal, D: Disk>(
+    host: &Host<'_, E, D>,
+    path: &str,
+    size: u64,
+) -> Result<Take<D::Reader>, Stop> {
+    match host.disk.open(path) {
+        Ok(reader) => Ok(reader.take(size)),
+        Err(error) => Err(host.fail_reading(&error)),
+    }
+}
+
+/// Adds the names of logs that are files. Answers how far each was read.
+fn name_logs<E: Eprint + AllocGlobal, D: Disk>(
+    host: &Host<'_, E, D>,
+    job: &Job<'_>,
+    paths: &[&str],
+    state: &mut State,
+) -> Result<Vec<u64>, Stop> {
+    let mut sizes = Vec::new(host.alloc());
+    for path in paths {
+        let size = match host.disk.size(path) {
+            Ok(size) => size,
+            Err(error) => return Err(host.fail_reading(&error)),
+        };
+        let log = opened_log(host, path, size)?;
+        name_log(host, job, log, state)?;
+        sizes.push(size)?;
+    }
+    Ok(sizes)
+}
+
+/// Translates a log that is a file, as far as its names were looked for.
+fn translate_file<E: Eprint + AllocGlobal, D: Disk, W: Write>(
+    host: &Host<'_, E, D>,
+    job: &Job<'_>,
+    path: &str,
+    size: u64,
+    state: &mut State,
+    writer: &mut Watched<W>,
+) -> Result<(), Stop> {
+    let tally = &mut state.tally;
+    begin_log(host, writer, tally)?;
+    let log = opened_log(host, path, size)?;
+    translate_log(host, log, &state.chosen, &job.style, writer, tally)
+}
+
+/// Opens the maps of all names of logs that are files, and answers how far each was read.
+fn open_files<E: Eprint + AllocGlobal, D: Disk>(
+    host: &Host<'_, E, D>,
+    job: &Job<'_>,
+    opener: &mut Opener<'_, D>,
+    paths: &[&str],
+    state: &mut State,
+) -> Result<Vec<u64>, Stop> {
+    let sizes = name_logs(host, job, paths, state)?;
+    open_names(host, opener, job, &state.names, &mut state.chosen)?;
+    tell_count(host, job.how, &job.wanted, &state.chosen)?;
+    Ok(sizes)
+}
+
+/// Translates logs that are files: all names first, then the maps of these, then the logs.
+pub(crate) fn trace_files<E: Eprint + AllocGlobal, D: Disk, W: Write>(
+    host: &Host<'_, E, D>,
+    job: &Job<'_>,
+    opener: &mut Opener<'_, D>,
+    paths: &[&str],
+    state: &mut State,
+    writer: &mut Watched<W>,
+) -> Result<(), Stop> {
+    let sizes = open_files(host, job, opener, paths, state)?;
+    for (i, path) in paths.iter().enumerate() {
+        let size = sizes.get(i).copied().unwrap_or(0);
+        translate_file(host, job, path, size, state, writer)?;
+    }
+    Ok(())
+}
+
+/// The same of standard input, which is a file with this name as well. It is read on from where it is.
+pub(crate) fn trace_input<E: Eprint + AllocGlobal, D: Disk, I: Read, W: Write>(
+    host: &Host<'_, E, D>,
+    job: &Job<'_>,
+    opener: &mut Opener<'_, D>,
+    path: &str,
+    input: I,
+    state: &mut State,
+    writer: &mut Watched<W>,
+) -> Result<(), Stop>
+where
+    I: Drop,
+{
+    let paths = [path];
+    let sizes = open_files(host, job, opener, paths.as_slice(), state)?;
+    let size = sizes.first().copied().unwrap_or(0);
+    let tally = &mut state.tally;
+    translate_log(
+        host,
+        input.take(size),
+        &state.chosen,
+        &job.style,
+        writer,
+        tally,
+    )
+}
+
+/// Translates a log with this name that is read once.
+fn follow_path<E: Eprint + AllocGlobal, D: Disk, W: Write>(
+    host: &Host<'_, E, D>,
+    job: &Job<'_>,
+    opener: &mut Opener<'_, D>,
+    path: &str,
+    state: &mut State,
+    writer: &mut Watched<W>,
+) -> Result<(), Stop> {
+    begin_log(host, writer, &mut state.tally)?;
+    match host.disk.open(path) {
+        Ok(log) => follow_log(host, job, opener, log, state, writer),
+        Err(error) => Err(host.fail_reading(&error)),
+    }
+}
+
+/// Translates logs of which one can be read only once.
+pub(crate) fn trace_streams<E: Eprint + AllocGlobal, D: Disk, W: Write>(
+    host: &Host<'_, E, D>,
+    job: &Job<'_>,
+    opener: &mut Opener<'_, D>,
+    paths: &[&str],
+    state: &mut State,
+    writer: &mut Watched<W>,
+) -> Result<(), Stop> {
+    for path in paths {
+        follow_path(host, job, opener, path, state, writer)?;
+    }
+    tell_count(host, job.how, &job.wanted, &state.chosen)
+}
+
+/// Translates standard input as it comes.
+pub(crate) fn trace_stream<E: Eprint + AllocGlobal, D: Disk, I: Read, W: Write>(
+    host: &Host<'_, E, D>,
+    job: &Job<'_>,
+    opener: &mut Opener<'_, D>,
+    input: I,
+    state: &mut State,
+    writer: &mut Watched<W>,
+) -> Result<(), Stop>
+where
+    I: Drop,
+{
+    follow_log(host, job, opener, input, state, writer)?;
+    tell_count(host, job.how, &job.wanted, &state.chosen)
+}
+
+/// Says why nothing was translated, where nothing was.
+pub(crate) fn say_nothing<E: Eprint + AllocGlobal, D: Disk>(
+    host: &Host<'_, E, D>,
+    job: &Job<'_>,
+    state: &State,
+) -> Result<(), Stop> {
+    if state.tally.changed > 0 || state.tally.lines == 0 || state.is_hinted {
+        return Ok(());
+    }
+    hint_at_nothing(host, &job.wanted, &state.names, &state.chosen, job.anywhere)
+}
