@@ -12,7 +12,7 @@ smap lookup: --help
 smap respell: --help
 smap scripts: --help
 smap translate: --hide-ignored --anywhere --ignore-query --help
-smap-trace: --anywhere --ignore-query --hide-ignored --skip-broken --check-all --list --verbose --version --help
+smap-trace: --anywhere --ignore-query --hide-ignored --skip-broken --check-all --list --context --source-prefix --verbose --version --help
 smap-view: --base --version --help
 smap-maps: --version --help
 smap-maps check: --base --jobs --json --version --help
@@ -167,11 +167,12 @@ _smap() {
         esac
         return
         ;;
-    *:'>')
+    *:'>' | smap-trace:-o)
         _smap_files "$word" '' any
         return
         ;;
     smap-maps:--base | smap-maps:--jobs | smap-view:--base) return ;;
+    smap-trace:--context | smap-trace:--source-prefix) return ;;
     esac
     case $program:$word in
     *:-*) _smap_choose "$(_smap_words "$program" "$command")" "$word" ;;
@@ -180,7 +181,7 @@ _smap() {
         local url=${word%=*}
         [[ -f ${url##*=} && $url == *=* ]] || _smap_files "${word##*=}" "${word%"${word##*=}"}"
         ;;
-    smap-trace:*) ;;
+    smap-trace:*) _smap_files "$word" '' any ;;
     smap-view:*) _smap_files "$word" '' "$([[ $before != *.map ]] || echo any)" ;;
     *)
         if [[ -z $command ]]; then

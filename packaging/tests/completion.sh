@@ -19,6 +19,11 @@ smap-trace http://h/m/=di|smap-trace http://h/m/=dist/
 smap-trace http://h/m/out.js=dist/o|smap-trace http://h/m/out.js=dist/out.js.map
 smap-trace http://h/m/=dist/ 'C:\m\=sr|smap-trace http://h/m/=dist/ 'C:\m\=src/
 smap-trace http://h/m/=dist/ <cr|smap-trace http://h/m/=dist/ <crash.log
+smap-trace di|smap-trace dist/
+smap-trace dist/ cr|smap-trace dist/ crash.log
+smap-trace -o cr|smap-trace -o crash.log
+smap-trace --sou|smap-trace --source-prefix
+smap-trace --context cr|smap-trace --context cr
 smap-maps fl|smap-maps flatten
 smap-maps tidy --ba|smap-maps tidy --base
 smap-maps --base http://h/m/ ch|smap-maps --base http://h/m/ check
