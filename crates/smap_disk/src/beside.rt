@@ -30,13 +30,24 @@ fn target_of<D: Disk>(alloc: Global, disk: &D, path: &str) -> io::Result<(String
     }
 }
 
-/// A file by the first name beside another that isn't there.
-fn create_first<D: Disk>(alloc: Global, disk: &D, target: &str) -> io::Result<(String, D::Writer)>
+/// A file by the first name beside another that isn't there. One that gets the permissions of another is its
+/// owner's alone until then.
+fn create_first<D: Disk>(
+    alloc: Global,
+    disk: &D,
+    target: &str,
+    private: bool,
+) -> io::Result<(String, D::Writer)>
     ensures { IfOk result (λ made. IsOneBeside target.now (string_bytes made.0)) }
 {
     for number in 1..=MOST_NAMES {
         let name = beside(alloc, target, number)?;
-        match disk.create_new(&name) {
+        let made = if private {
+            disk.create_private(&name)
+        } else {
+            disk.create_new(&name)
+        };
+        match made {
             Ok(writer) => return Ok((name, writer)),
             Err(error) if error.kind() == ErrorKind::AlreadyExists => {}
             Err(error) => return Err(error),
@@ -46,7 +57,8 @@ fn create_first<D: Disk>(alloc: Global, disk: &D, target: &str) -> io::Result<(S
 }
 
 /// Begins a file that takes this name at the end. A link is followed to its file first, and the permissions
-/// of an existing file are copied.
+/// of an existing file are copied, and its owner where the system allows that: until then nobody but the owner
+/// may read the new one.
 ///
 /// # Errors
 ///
@@ -59,7 +71,7 @@ pub fn create_beside<D: Disk>(
     ensures { IfOk result (λ made. IsOneBeside (target_in made.0) (temporary_in made.0)) }
 {
     let (target, exists) = target_of(alloc, disk, path)?;
-    let (temporary, writer) = create_first(alloc, disk, &target)?;
+    let (temporary, writer) = create_first(alloc, disk, &target, exists)?;
     if exists {
         if let Err(error) = disk.copy_permissions(&target, &temporary) {
             let _ = disk.remove(&temporary);

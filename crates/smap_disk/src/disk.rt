@@ -89,12 +89,33 @@ pub trait Disk {
     /// `AlreadyExists`, or the system's.
     fn create_new(&self, path: &str) -> io::Result<Self::Writer>;
 
-    /// Gives a file the permissions of another.
+    /// The same, of a file that nobody but its owner may read or write.
+    ///
+    /// # Errors
+    ///
+    /// Those of `create_new`.
+    fn create_private(&self, path: &str) -> io::Result<Self::Writer>;
+
+    /// Whether a file may be written; a link is followed. Nothing is written.
+    ///
+    /// # Errors
+    ///
+    /// The system's, where it may not.
+    fn check_writable(&self, path: &str) -> io::Result<()>;
+
+    /// Gives a file the permissions of another, and its owner and group where the system allows that.
+    ///
+    /// # Errors
+    ///
+    /// The system's, of the permissions.
+    fn copy_permissions(&self, from: &str, to: &str) -> io::Result<()>;
+
+    /// Waits until what was written to a file is on the medium.
     ///
     /// # Errors
     ///
     /// The system's.
-    fn copy_permissions(&self, from: &str, to: &str) -> io::Result<()>;
+    fn sync(&self, file: &Self::Writer) -> io::Result<()>;
 
     /// Gives a file another name, in place of what had it.
     ///

@@ -168,9 +168,29 @@ impl Disk for MemoryDisk {
         Ok(MemoryWriter { bytes, fault })
     }
 
+    fn create_private(&self, path: &str) -> io::Result<MemoryWriter> {
+        let writer = self.create_new(path)?;
+        self.set_permissions(path, 0o600)?;
+        Ok(writer)
+    }
+
+    fn check_writable(&self, path: &str) -> io::Result<()> {
+        if self.permissions(path)? & 0o200 == 0 {
+            return Err(io::Error::from(ErrorKind::PermissionDenied));
+        }
+        Ok(())
+    }
+
     fn copy_permissions(&self, from: &str, to: &str) -> io::Result<()> {
         let permissions = self.permissions(from)?;
         self.set_permissions(to, permissions)
+    }
+
+    fn sync(&self, file: &MemoryWriter) -> io::Result<()> {
+        match file.fault {
+            Some(kind) => Err(io::Error::from(kind)),
+            None => Ok(()),
+        }
     }
 
     fn rename(&self, from: &str, to: &str) -> io::Result<()> {

@@ -4,8 +4,9 @@ ghost use Rattle.std.specs.Fs.{IsDir, IsFile, IsSymlink, file_type};
 
 use crate::disk::{Disk, Entry, EntryKind, Kind, Listing, is_a_folder};
 use std::alloc::Global;
-use std::fs::{self, DirEntry, FileType, Metadata, OpenOptions};
+use std::fs::{self, DirEntry, FileType, Metadata, OpenFile, OpenOptions};
 use std::io::{self, ErrorKind};
+use std::os::unix::fs::{MetadataExt, OpenOptionsExt};
 use std::rt::Files;
 
 /// The file system of the machine, or what a runtime has in place of it.
@@ -119,9 +120,30 @@ impl<R: Files + AllocGlobal + Clone + Drop> Disk for System<'_, R> {
             .open(self.rt, path)
     }
 
+    fn create_private(&self, path: &str) -> io::Result<R::File> {
+        OpenOptions::new()
+            .write(true)
+            .create_new(true)
+            .mode(0o600)
+            .open(self.rt, path)
+    }
+
+    fn check_writable(&self, path: &str) -> io::Result<()> {
+        let file = OpenOptions::new().write(true).open(self.rt, path)?;
+        drop(file);
+        Ok(())
+    }
+
     fn copy_permissions(&self, from: &str, to: &str) -> io::Result<()> {
         let metadata = fs::metadata(self.rt, from)?;
+        let _ = self
+            .rt
+            .chown(to, Some(metadata.uid()), Some(metadata.gid()));
         fs::set_permissions(self.rt, to, metadata.permissions())
+    }
+
+    fn sync(&self, file: &R::File) -> io::Result<()> {
+        file.sync_all()
     }
 
     fn rename(&self, from: &str, to: &str) -> io::Result<()> {

@@ -1,8 +1,8 @@
 //! From the arguments to what they name, as the file system has it.
 use crate::folders::{add_folder, add_folder_alone};
-use crate::host::{Host, Stop};
 use crate::wanted::{Origin, Wanted};
 use smap_disk::{Disk, Kind as OnDisk};
+use smap_host::{Host, Stop};
 use smap_pick::usual_place;
 use smap_words::{Argument, Kind, Split, needs_url, path_message, place_message, split_message};
 use std::alloc::Global;

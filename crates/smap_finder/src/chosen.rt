@@ -27,6 +27,8 @@ pub struct Chosen {
     pub(crate) files: IndexMap<usize, ()>,
     /// How often one of them was opened for a further name.
     pub(crate) again: usize,
+    /// How many of the maps are those of a file that was opened for another name.
+    pub(crate) repeated: usize,
     /// Names that have no map.
     pub(crate) missing: IndexMap<Vec<u8>, ()>,
     /// Names that were told to be taken for others.
@@ -45,6 +47,7 @@ impl Chosen {
             opened: IndexMap::new(alloc),
             files: IndexMap::new(alloc),
             again: 0,
+            repeated: 0,
             missing: IndexMap::new(alloc),
             told: IndexMap::new(alloc),
             worst: 0,
@@ -57,9 +60,9 @@ impl Chosen {
         self.is_unclear
     }
 
-    /// How many maps were opened.
+    /// How many files gave maps.
     pub fn opened_count(&self) -> usize {
-        self.maps.len()
+        self.maps.len().saturating_sub(self.repeated)
     }
 
     /// The map of a name.

@@ -1,19 +1,19 @@
 //! The maps in folders, and the scripts there that may name theirs.
-use crate::host::{Host, Stop, shown};
-use crate::wanted::{Origin, Root, Wanted, is_script};
+use crate::wanted::{Origin, Root, Wanted, may_name_map};
 use indexmap::IndexMap;
-use smap_disk::{Disk, WalkFault, read_file, reason, walk};
-use smap_link::{map_url, script_url};
+use smap_disk::{Disk, read_file, walk};
+use smap_host::{Host, Stop, shown};
+use smap_link::{link_in, script_url};
 use smap_pick::{Place, below, usual_place};
 use std::alloc::{AllocError, Global};
 
 /// The most bytes that a map or a script may have.
-pub const LIMIT: u64 = 268_435_456;
+pub(crate) const LIMIT: u64 = 268_435_456;
 
-const ENDINGS: [&str; 4] = [".map", ".js", ".mjs", ".cjs"];
+const ENDINGS: [&str; 5] = [".map", ".js", ".mjs", ".cjs", ".css"];
 
 /// A folder's name without slashes at its end; the root's is empty.
-pub fn without_slashes(name: &str) -> &str {
+pub(crate) fn without_slashes(name: &str) -> &str {
     name.trim_end_matches('/')
 }
 
@@ -42,7 +42,7 @@ fn has_map<E: Eprint + AllocGlobal, D: Disk>(
 ) -> Result<bool, Stop> {
     let alloc = host.alloc();
     for name in names {
-        if !is_script(name.as_str().as_bytes()) {
+        if !may_name_map(name.as_str().as_bytes()) {
             return Ok(true);
         }
     }
@@ -55,36 +55,14 @@ fn has_map<E: Eprint + AllocGlobal, D: Disk>(
     Ok(false)
 }
 
-/// Whether a script names a map.
+/// Whether a script or a style sheet names a map.
 fn names_map<E: Eprint + AllocGlobal, D: Disk>(host: &Host<'_, E, D>, file: &[u8]) -> bool {
     let Ok(file) = std::str::from_utf8(file) else {
         return false;
     };
     match read_file(host.alloc(), host.disk, file, LIMIT) {
-        Ok(text) => map_url(&text).is_some(),
+        Ok(text) => link_in(file.as_bytes(), &text).is_some(),
         Err(_) => false,
-    }
-}
-
-fn fail_walking<E: Eprint + AllocGlobal, D: Disk>(
-    host: &Host<'_, E, D>,
-    given: &str,
-    fault: WalkFault,
-) -> Stop {
-    let alloc = host.alloc();
-    match fault {
-        WalkFault::Memory => Stop::Memory,
-        WalkFault::Folder { path, error } => {
-            let path = path.as_str();
-            let Ok(why) = reason(alloc, &error) else {
-                return Stop::Memory;
-            };
-            let why = why.as_str();
-            match format!(in alloc; "cannot read all of {given}: {path}: {why}") {
-                Ok(text) => host.fail(3, text.as_str()),
-                Err(_) => Stop::Memory,
-            }
-        }
     }
 }
 
@@ -99,17 +77,9 @@ fn names_in<E: Eprint + AllocGlobal, D: Disk>(
     let start = if path.is_empty() { "/" } else { path };
     let found = match walk(alloc, host.disk, start, &ENDINGS) {
         Ok(found) => found,
-        Err(fault) => return Err(fail_walking(host, given, fault)),
+        Err(fault) => return Err(host.fail_walking(given, fault)),
     };
-    if found.unnamed > 0 {
-        let unnamed = found.unnamed;
-        let text = if unnamed == 1 {
-            format!(in alloc; "left out a name in {given} that is not in UTF-8")?
-        } else {
-            format!(in alloc; "left out {unnamed} names in {given} that are not in UTF-8")?
-        };
-        host.say(text.as_str());
-    }
+    host.say_unnamed(given, found.unnamed)?;
     let only_links = found.only_links;
     let names = wanted_names(alloc, found.names)?;
     if has_map(host, path, names.as_slice())? {
@@ -151,7 +121,7 @@ fn leave_out<E: Eprint + AllocGlobal, D: Disk>(
 }
 
 /// Adds the maps in a folder, as those of scripts below a URL, or below a path as the log has it.
-pub fn add_folder<E: Eprint + AllocGlobal, D: Disk>(
+pub(crate) fn add_folder<E: Eprint + AllocGlobal, D: Disk>(
     host: &Host<'_, E, D>,
     url: &str,
     given: &str,
@@ -179,7 +149,7 @@ pub fn add_folder<E: Eprint + AllocGlobal, D: Disk>(
 }
 
 /// Adds a folder whose files go by the ends of their names.
-pub fn add_folder_alone<E: Eprint + AllocGlobal, D: Disk>(
+pub(crate) fn add_folder_alone<E: Eprint + AllocGlobal, D: Disk>(
     host: &Host<'_, E, D>,
     given: &str,
     wanted: &mut Wanted<'_>,

@@ -1,8 +1,8 @@
 //! The map that a script names.
-use crate::host::{Host, Stop, shown};
 use crate::wanted::Root;
 use smap_disk::{Disk, Kind};
-use smap_link::{InlineFault, bare, inline_map, map_url, own_url, resolved};
+use smap_host::{Host, Stop, shown};
+use smap_link::{InlineFault, bare, inline_map, link_in, own_url, resolved};
 use smap_pick::{LinkedFault, Place, below, linked_name};
 use std::alloc::{AllocError, Global};
 
@@ -11,7 +11,7 @@ const LONGEST: usize = 65_536;
 
 /// What a script names for its map.
 #[derive(Drop)]
-pub enum Followed {
+pub(crate) enum Followed {
     /// The map itself.
     Inline(Vec<u8>),
     /// A file of its folder, and the URL of that.
@@ -120,14 +120,14 @@ fn follow_file<D: Disk>(
 
 /// The map that the text of a script names: in a `data:` URL, or as a file of the folder that the script was
 /// found in, or else of its own.
-pub fn follow<E: Eprint + AllocGlobal, D: Disk>(
+pub(crate) fn follow<E: Eprint + AllocGlobal, D: Disk>(
     host: &Host<'_, E, D>,
     script: &Place,
     root: Option<&Root>,
     text: &[u8],
 ) -> Result<Followed, Stop> {
     let alloc = host.alloc();
-    let Some(url) = map_url(text) else {
+    let Some(url) = link_in(&script.file, text) else {
         return Ok(Followed::Nothing);
     };
     match inline_map(alloc, url) {
@@ -154,6 +154,6 @@ pub fn follow<E: Eprint + AllocGlobal, D: Disk>(
 }
 
 /// The URL of a map that stands in its script.
-pub fn inline_base(alloc: Global, script: &[u8]) -> Result<Vec<u8>, AllocError> {
+pub(crate) fn inline_base(alloc: Global, script: &[u8]) -> Result<Vec<u8>, AllocError> {
     own_url(alloc, script)
 }

@@ -3,7 +3,7 @@ ghost use Rattle.std.specs.Prelude.{◌≡◌, ◌++◌, ◌∷◌, [], OnErr, O
 ghost use Rattle.smap_pick.specs.Memory.{names_in};
 
 use crate::folders::LIMIT;
-use crate::wanted::is_script;
+use crate::wanted::may_name_map;
 use smap_disk::{Disk, FileFault, Kind, read_file};
 use smap_pick::{OpenFault, Place, Store};
 use smap_record::{Base, BaseFault, Fault, Limits, ReadError, SourceMap};
@@ -11,7 +11,7 @@ use std::alloc::{AllocError, Global};
 
 /// What a file shows at its beginning that is no map.
 #[derive(Clone, Copy, Debug, PartialEq, Eq)]
-pub enum Start {
+pub(crate) enum Start {
     /// A byte order mark.
     Mark,
     /// That it is compressed by gzip.
@@ -21,7 +21,7 @@ pub enum Start {
 
 /// Why a file gives no map.
 #[derive(Debug, Drop)]
-pub enum MapFault {
+pub(crate) enum MapFault {
     /// It can't be read.
     Unread,
     TooLong,
@@ -37,7 +37,7 @@ pub enum MapFault {
 
 /// What a file holds.
 #[derive(Drop)]
-pub enum Loaded {
+pub(crate) enum Loaded {
     Map(SourceMap),
     /// The text of a script, which may name its map.
     Script(Vec<u8>),
@@ -55,7 +55,11 @@ fn start_of(bytes: &[u8]) -> Start {
 }
 
 /// The map that these bytes are, or what is wrong with them.
-pub fn loaded_from(alloc: Global, bytes: Vec<u8>, base: &[u8]) -> Result<Loaded, AllocError> {
+pub(crate) fn loaded_from(
+    alloc: Global,
+    bytes: Vec<u8>,
+    base: &[u8],
+) -> Result<Loaded, AllocError> {
     let start = start_of(&bytes);
     let Ok(base) = std::str::from_utf8(base) else {
         return Ok(Loaded::Broken(MapFault::NotUtf8));
@@ -74,11 +78,11 @@ pub fn loaded_from(alloc: Global, bytes: Vec<u8>, base: &[u8]) -> Result<Loaded,
 
 /// A fault that a store of files doesn't have: what is wrong with a file is in what it holds.
 #[derive(Clone, Copy, Debug, PartialEq, Eq)]
-pub struct NoFault;
+pub(crate) struct NoFault;
 
 /// The files of a disk as maps and scripts.
 #[derive(Drop)]
-pub struct FileStore<'a, D> {
+pub(crate) struct FileStore<'a, D> {
     disk: &'a D,
     /// The names of the files that were opened, in order.
     opened: Vec<Vec<u8>>,
@@ -97,7 +101,7 @@ fn load<D: Disk>(
         return Ok(Loaded::Broken(MapFault::Unread));
     };
     match read_file(alloc, disk, file, LIMIT) {
-        Ok(bytes) if scripts && is_script(&place.file) && disk.kind(file) == Kind::File => {
+        Ok(bytes) if scripts && may_name_map(&place.file) && disk.kind(file) == Kind::File => {
             Ok(Loaded::Script(bytes))
         }
         Ok(bytes) => loaded_from(alloc, bytes, &place.base),
@@ -108,7 +112,7 @@ fn load<D: Disk>(
 }
 
 impl<'a, D> FileStore<'a, D> {
-    pub fn new(alloc: Global, disk: &'a D) -> FileStore<'a, D> {
+    pub(crate) fn new(alloc: Global, disk: &'a D) -> FileStore<'a, D> {
         FileStore {
             disk,
             opened: Vec::new(alloc),
@@ -117,7 +121,7 @@ impl<'a, D> FileStore<'a, D> {
     }
 
     /// Takes each file for a map from now on, or scripts for scripts.
-    pub fn take_scripts(&mut self, scripts: bool)
+    pub(crate) fn take_scripts(&mut self, scripts: bool)
         ensures { self.new.opened ≡ self.old.opened }
     {
         self.scripts = scripts;

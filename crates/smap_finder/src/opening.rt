@@ -1,14 +1,14 @@
 //! The maps of the scripts that a log names, opened as the log first names them.
 use crate::chosen::{Chosen, How};
 use crate::following::{Followed, follow, inline_base};
-use crate::host::{Host, Stop, shown};
 use crate::loading::{FileStore, Loaded, MapFault, loaded_from};
 use crate::picking::{key_of_found, name_of_file, own_name, picks_of, unopened};
 use crate::telling::{say_fault, say_of, say_used, tell_pick};
 use crate::wanted::{Origin, Root, Wanted, slices};
 use smap_disk::Disk;
-use smap_link::ChoiceFault;
-use smap_pick::{Found, Pick, Place, Tables, open_picks, tables_of, usual_place};
+use smap_host::{Host, Stop, shown};
+use smap_link::{ChoiceFault, ScriptTable};
+use smap_pick::{Found, Pick, Place, open_picks, table_of, usual_place};
 use smap_record::SourceMap;
 use std::alloc::{AllocError, Global};
 
@@ -19,16 +19,16 @@ const MOST_AGAIN: usize = 16;
 /// What opens the maps.
 #[derive(Drop)]
 pub struct Opener<'a, D> {
-    tables: Tables,
+    table: ScriptTable,
     store: FileStore<'a, D>,
 }
 
 impl<'a, D> Opener<'a, D> {
     /// Over maps of which no two have the same script.
     pub fn new(alloc: Global, disk: &'a D, wanted: &Wanted<'_>) -> Result<Opener<'a, D>, Stop> {
-        match tables_of(alloc, wanted.places.as_slice()) {
-            Ok(tables) => Ok(Opener {
-                tables,
+        match table_of(alloc, wanted.places.as_slice()) {
+            Ok(table) => Ok(Opener {
+                table,
                 store: FileStore::new(alloc, disk),
             }),
             Err(ChoiceFault::Memory) => Err(Stop::Memory),
@@ -229,6 +229,14 @@ fn open_one<E: Eprint + AllocGlobal, D: Disk>(
     Ok(Some(number))
 }
 
+/// Whether a pick's file was opened for another name.
+fn is_further(pick: &Pick<'_>, chosen: &Chosen) -> bool {
+    match pick.found {
+        Found::ByEnd(i) => chosen.files.contains_key(&i),
+        _ => false,
+    }
+}
+
 /// Whether a pick is opened: a file that was opened for other names is so a few times more. Once it is not,
 /// that is said.
 fn may_open<E: Eprint + AllocGlobal, D: Disk>(
@@ -275,8 +283,12 @@ fn open_all<E: Eprint + AllocGlobal, D: Disk>(
             name,
             found: pick.found,
         };
+        let is_further = is_further(pick, chosen);
         if may_open(host, pick, chosen)? {
             let number = open_one(host, opener, how, wanted, opened, chosen)?;
+            if is_further && number.is_some() {
+                chosen.repeated = chosen.repeated.saturating_add(1);
+            }
             let key = key_of_found(alloc, pick)?;
             chosen.opened.insert(key, number)?;
         }
@@ -329,7 +341,7 @@ pub fn open_for<E: Eprint + AllocGlobal, D: Disk>(
     if fresh.is_empty() {
         return Ok(());
     }
-    let picks = picks_of(host, &opener.tables, wanted, in_frames, fresh.as_slice())?;
+    let picks = picks_of(host, &mut opener.table, wanted, in_frames, fresh.as_slice())?;
     let wanting = unopened(alloc, chosen, picks.as_slice())?;
     open_all(host, opener, how, wanted, wanting.as_slice(), chosen)?;
     for pick in &picks {

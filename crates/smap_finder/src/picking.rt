@@ -2,12 +2,12 @@
 use crate::chosen::Chosen;
 use crate::folders::LIMIT;
 use crate::following::{Followed, follow};
-use crate::host::{Host, Stop};
 use crate::wanted::{Wanted, slices};
 use indexmap::IndexMap;
 use smap_disk::{Disk, read_file};
-use smap_link::{bare, is_path, own_url};
-use smap_pick::{Found, Pick, Tables, pick_all, usual_place};
+use smap_host::{Host, Stop};
+use smap_link::{ScriptTable, bare, is_path, own_url};
+use smap_pick::{Found, Pick, pick_all, usual_place};
 use std::alloc::{AllocError, Global};
 
 /// What stands for what was found in the table of what was opened: a map in a folder without a URL is
@@ -115,7 +115,7 @@ fn half_unclear<'a>(
 /// What names have that a script and a map end alike with: the map, through the script if that names it.
 fn settled<'a, E: Eprint + AllocGlobal, D: Disk>(
     host: &Host<'_, E, D>,
-    tables: &Tables,
+    table: &mut ScriptTable,
     wanted: &Wanted<'_>,
     names: &[&'a [u8]],
 ) -> Result<Vec<Pick<'a>>, Stop> {
@@ -123,8 +123,8 @@ fn settled<'a, E: Eprint + AllocGlobal, D: Disk>(
     let files = slices(alloc, wanted.files.as_slice())?;
     let maps = files.get(..wanted.map_count).unwrap_or(&[]);
     let scripts = files.get(wanted.map_count..).unwrap_or(&[]);
-    let by_script = pick_all(alloc, tables, scripts, true, names)?;
-    let by_map = pick_all(alloc, tables, maps, true, names)?;
+    let by_script = pick_all(alloc, table, scripts, true, names)?;
+    let by_map = pick_all(alloc, table, maps, true, names)?;
     let mut settled = Vec::with_capacity(alloc, names.len())?;
     for (script, map) in by_script.into_iter().zip(by_map) {
         settled.push(script_or_map(host, wanted, script, map)?)?;
@@ -184,16 +184,16 @@ fn names_this<E: Eprint + AllocGlobal, D: Disk>(
 /// What each name has.
 pub(crate) fn picks_of<'a, E: Eprint + AllocGlobal, D: Disk>(
     host: &Host<'_, E, D>,
-    tables: &Tables,
+    table: &mut ScriptTable,
     wanted: &Wanted<'_>,
     in_frames: bool,
     names: &[&'a [u8]],
 ) -> Result<Vec<Pick<'a>>, Stop> {
     let alloc = host.alloc();
     let files = slices(alloc, wanted.files.as_slice())?;
-    let picks = pick_all(alloc, tables, files.as_slice(), true, names)?;
+    let picks = pick_all(alloc, table, files.as_slice(), true, names)?;
     let unclear = half_unclear(alloc, wanted, picks.as_slice())?;
-    let mut again = settled(host, tables, wanted, unclear.as_slice())?.into_iter();
+    let mut again = settled(host, table, wanted, unclear.as_slice())?.into_iter();
     let mut all = Vec::with_capacity(alloc, picks.len())?;
     for pick in picks {
         let pick = if is_half_unclear(wanted, &pick) {

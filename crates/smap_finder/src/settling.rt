@@ -1,9 +1,9 @@
 //! One map for each script: those that are named twice are told, and a script that may name its map gives way
 //! to a map that is there.
-use crate::host::{Host, Stop, shown};
-use crate::wanted::{Origin, Wanted, is_script};
+use crate::wanted::{Origin, Wanted, may_name_map};
 use indexmap::IndexMap;
 use smap_disk::Disk;
+use smap_host::{Host, Stop, shown};
 use smap_pick::Place;
 use std::alloc::{AllocError, Global};
 
@@ -20,7 +20,7 @@ enum Fate {
 /// Whether this is a script in a folder, which may name its map.
 fn may_link(place: &Place, origin: Option<&Origin>) -> bool {
     match origin {
-        Some(Origin::Below(_)) => is_script(&place.file),
+        Some(Origin::Below(_)) => may_name_map(&place.file),
         _ => false,
     }
 }
@@ -78,7 +78,7 @@ fn put_maps_first(alloc: Global, wanted: &mut Wanted<'_>) -> Result<(), AllocErr
     let mut scripts = Vec::new(alloc);
     let mut script_roots = Vec::new(alloc);
     for (file, root) in files.into_iter().zip(roots) {
-        if is_script(&file) {
+        if may_name_map(&file) {
             scripts.push(file)?;
             script_roots.push(root)?;
         } else {

@@ -1,11 +1,11 @@
 //! What is said of maps: why one is refused, which one a name is taken for.
 use crate::chosen::{Chosen, How};
-use crate::host::{Host, Stop, shown};
 use crate::loading::{MapFault, Start};
 use crate::opening::Subject;
-use crate::wanted::{Wanted, is_script};
+use crate::wanted::Wanted;
 use smap_disk::Disk;
-use smap_link::bare;
+use smap_host::{Host, Stop, shown};
+use smap_link::{FileKind, bare, file_kind};
 use smap_pick::{Found, Pick, Place};
 use smap_record::Kind;
 use std::alloc::{AllocError, Global};
@@ -36,8 +36,19 @@ fn hint(fault: &smap_record::Fault, start: Start, file: &[u8]) -> &'static str {
     match start {
         Start::Mark => " (it begins with a byte order mark: remove that)",
         Start::Gzip => " (it is compressed: gunzip it)",
-        Start::Other if is_script(file) => " (it is a script, which names no map)",
-        Start::Other => "",
+        Start::Other => match file_kind(file) {
+            FileKind::Script => " (it is a script, which names no map)",
+            FileKind::StyleSheet => " (it is a style sheet, which names no map)",
+            FileKind::Map | FileKind::Other => "",
+        },
+    }
+}
+
+/// What a file is that names its map.
+fn kind_word(file: &[u8]) -> &'static str {
+    match file_kind(file) {
+        FileKind::StyleSheet => "style sheet",
+        FileKind::Script | FileKind::Map | FileKind::Other => "script",
     }
 }
 
@@ -90,7 +101,8 @@ pub(crate) fn say_used<E: Eprint + AllocGlobal, D: Disk>(
 ) -> Result<(), Stop> {
     let alloc = host.alloc();
     if subject.root.is_none() {
-        let text = format!(in alloc; " is a script: its {which} is used")?;
+        let kind = kind_word(&subject.place.file);
+        let text = format!(in alloc; " is a {kind}: its {which} is used")?;
         return say_of(host, &subject.place, text.as_str());
     }
     if how.verbose {

@@ -1,4 +1,5 @@
 //! What the arguments name: maps, files of folders, logs.
+use smap_link::{FileKind, file_kind};
 use smap_pick::Place;
 use std::alloc::{AllocError, Global};
 
@@ -58,7 +59,7 @@ impl<'a> Wanted<'a> {
 }
 
 /// The texts as slices.
-pub fn slices(alloc: Global, texts: &[Vec<u8>]) -> Result<Vec<&[u8]>, AllocError> {
+pub(crate) fn slices(alloc: Global, texts: &[Vec<u8>]) -> Result<Vec<&[u8]>, AllocError> {
     let mut slices = Vec::with_capacity(alloc, texts.len())?;
     for text in texts {
         slices.push(text.as_slice())?;
@@ -66,7 +67,7 @@ pub fn slices(alloc: Global, texts: &[Vec<u8>]) -> Result<Vec<&[u8]>, AllocError
     Ok(slices)
 }
 
-/// Whether a file's name is that of a script, which may name its map.
-pub fn is_script(name: &[u8]) -> bool {
-    name.ends_with(b".js") || name.ends_with(b".mjs") || name.ends_with(b".cjs")
+/// Whether a file's name is that of a script or of a style sheet, which may name its map.
+pub(crate) fn may_name_map(name: &[u8]) -> bool {
+    matches!(file_kind(name), FileKind::Script | FileKind::StyleSheet)
 }

@@ -1,20 +1,20 @@
 -- The first places of texts in a list.
 use Rattle.std.proofs.Common.{◌≡◌, ◌∙◌, ℕ, zero, suc, Bor, map, ◌+◌, ◌<◌, Bool, true, false, List}
-use Rattle.std.proofs.Common.{[], ◌∷◌, ◌++◌, length, take, drop, get_or, cond, bytes_eq, Option, Some, None}
+use Rattle.std.proofs.Common.{[], ◌∷◌, ◌++◌, length, take, drop, get_or, cond, bytes_eq, Option, Some, None, option_map, unwrap_or}
 use Rattle.std.proofs.Common.{is_some, ap, refl, sym, subst, arith, true≢false}
 use Rattle.std.proofs.Common.{length-take-le}
 use Rattle.std.proofs.Math.Seq.{take-length}
 use Rattle.std.specs.Global.{Vec}
 use Rattle.std.specs.Map.{lookup}
-use Rattle.std.specs.List.{position_from}
+use Rattle.std.specs.List.{position_from, slice_get}
 use Rattle.std.proofs.lemmas.Bool.{cond-true, cond-false}
 use Rattle.std.proofs.lemmas.Iterator.Adapters.{position_from-zero}
-use Rattle.std.proofs.lemmas.List.{drop_more, get_or-take, take_more, take-append-drop}
+use Rattle.std.proofs.lemmas.List.{drop_more, get_or-take, length-map, map-append, take_more, take-append-drop}
 use Rattle.std.proofs.lemmas.List.Quantifiers.{position-Some}
 use Rattle.std.proofs.lemmas.Slice.Eq.{bytes_eq-Decides}
 use Rattle.indexmap.specs.IndexMap.{insert_entry}
 use Rattle.smap_link.specs.Choice.{IsRepeated, first_of, or_else}
-use Rattle.smap_link.specs.Table.{HasPlaces, Row, place_in, rows_of, with_place}
+use Rattle.smap_link.specs.Table.{HasPlaces, Row, place_in, rows_of, texts_in, with_place}
 
 -- ---- the map's words
 
@@ -124,6 +124,34 @@ more_places rows new all i lt has is = λ text.
     ∙ ap (λ n. or_else (first_of text (take i all)) (cond (bytes_eq text one) (Some n) None)) long
     ∙ sym (both_parts (bytes_eq text) 0 (take i all) (one ∷ []))
     ∙ ap (position_from (bytes_eq text) 0) (sym (take_more all i [] lt))
+
+-- the text at a place of the map
+pub text_got : (es : List (Vec ℕ × ℕ)) (i : ℕ)
+    → unwrap_or (option_map (λ (e : Vec ℕ × ℕ). e.0.items) (slice_get es i)) []
+    ≡ get_or (texts_in (rows_of es)) i []
+text_got [] i = refl
+text_got (e ∷ es) zero = refl
+text_got (e ∷ es) (suc i) = text_got es i
+
+-- one text more is read
+pub read_more : (es : List (Vec ℕ × ℕ)) (i : ℕ) → i < length es → (now after : List (Bor (List ℕ)))
+    → (t : Bor (List ℕ)) → after ≡ now ++ t ∷ [] → t.now ≡ get_or (texts_in (rows_of es)) i []
+    → map (λ t. t.now) now ≡ take i (texts_in (rows_of es))
+    → map (λ t. t.now) after ≡ take (i + 1) (texts_in (rows_of es))
+read_more es i lt now after t is one was =
+    ap (map (λ t. t.now)) is ∙ map-append (λ (t : Bor (List ℕ)). t.now) now (t ∷ [])
+    ∙ ap (λ (l : List (List ℕ)). l ++ t.now ∷ []) was
+    ∙ ap (λ (x : List ℕ). take i (texts_in (rows_of es)) ++ x ∷ []) one
+    ∙ sym (take_more (texts_in (rows_of es)) i [] (simp length-map (omega (arith, lt))))
+
+-- a text that wasn't there is added at the end
+pub more_texts : (rows new : List Row) (all : List (List ℕ)) (i : ℕ) → i < length all
+    → place_in rows (get_or all i []) ≡ None → new ≡ with_place rows (get_or all i []) i
+    → texts_in rows ≡ take i all → texts_in new ≡ take (i + 1) all
+more_texts rows new all i lt none is was =
+    ap texts_in (is ∙ cond-false (is_some (place_in rows (get_or all i []))) _ _ (ap is_some none))
+    ∙ map-append (λ (row : Row). row.0) rows ((get_or all i [], i) ∷ [])
+    ∙ ap (λ (l : List (List ℕ)). l ++ get_or all i [] ∷ []) was ∙ sym (take_more all i [] lt)
 
 -- ---- repeated texts
 

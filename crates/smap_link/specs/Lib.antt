@@ -5,6 +5,7 @@ pub mod CommentView
 pub mod Endings
 pub mod Ends
 pub mod Inline
+pub mod Kinds
 pub mod Laws
 pub mod Likeness
 pub mod Names

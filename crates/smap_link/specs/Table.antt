@@ -1,8 +1,10 @@
--- For private contracts: the first places of texts in a list, as a table.
-use Rattle.std.specs.Prelude.{◌≡◌, ℕ, List, [], ◌∷◌, ◌++◌, cond, map, Option, Some, None, is_some}
+-- The first places of texts in a list, as a table.
+use Rattle.std.specs.Prelude.{◌≡◌, ⊤, ℕ, List, [], ◌∷◌, ◌++◌, cond, map, Option, Some, None, is_some, option_map}
 use Rattle.std.specs.Global.{Vec}
 use Rattle.std.specs.Str.{bytes_eq}
+use Rattle.smap_link.specs.Alike.{key_of}
 use Rattle.smap_link.specs.Choice.{first_of}
+use Rattle.smap_link.specs.declared.table.ScriptTable.{ScriptTable}
 
 abbrev pub Row : Type 0
 Row = List ℕ × ℕ
@@ -25,3 +27,18 @@ with_place rows text i = cond (is_some (place_in rows text)) rows (rows ++ (text
 -- The table has the first places of these texts.
 abbrev pub HasPlaces : List Row → List (List ℕ) → Type 0
 HasPlaces rows texts = (text : List ℕ) → place_in rows text ≡ first_of text texts
+
+-- the texts, in the order in which they were added
+abbrev pub texts_in : List Row → List (List ℕ)
+texts_in rows = map (λ row. row.0) rows
+
+-- What keys there are, are the first places of these.
+abbrev pub AreKeys : Option (List Row) → List (List ℕ) → Type 0
+AreKeys None keys = ⊤
+AreKeys (Some rows) keys = HasPlaces rows keys
+
+-- The table is that of these scripts' names.
+pub record IsTable (table : ScriptTable) (scripts : List (List ℕ)) : Type 0 where
+  pub of_names : HasPlaces (rows_of table.names.entries) scripts
+  pub of_keys : AreKeys (option_map (λ t. rows_of t.entries) table.keys) (map key_of scripts)
+  pub texts : texts_in (rows_of table.names.entries) ≡ scripts

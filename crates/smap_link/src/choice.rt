@@ -1,13 +1,9 @@
 //! Which map each script has that a log names.
-ghost use Rattle.std.specs.Prelude.{◌≡◌, ◌++◌, true, List, ℕ, IfErr, IfOk, OnOk, map};
-ghost use Rattle.smap_link.specs.Alike.{key_of as key_in};
+ghost use Rattle.std.specs.Prelude.{◌≡◌, ◌++◌, List, ℕ, IfErr, IfOk, OnOk, map};
 ghost use Rattle.smap_link.specs.Choice as spec;
-ghost use Rattle.smap_link.specs.Table.{HasPlaces, rows_of};
+ghost use Rattle.smap_link.specs.Table.{IsTable};
 
-use crate::alike::key_of;
-use crate::paths::bare;
-use crate::table::{alike_table, name_table, place};
-use indexmap::IndexMap;
+use crate::table::ScriptTable;
 use std::alloc::{AllocError, Global};
 
 /// A name of a log, and the script that it means, by their places in the lists of both.
@@ -40,41 +36,18 @@ impl From<AllocError> for ChoiceFault {
 /// The script that a log means by a name.
 fn meant(
     alloc: Global,
-    names: &IndexMap<Vec<u8>, usize>,
-    keys: &IndexMap<Vec<u8>, usize>,
+    table: &mut ScriptTable,
     may_be_alike: bool,
     name: &[u8],
 ) -> Result<Option<usize>, AllocError>
-    ensures { (scripts : List (List ℕ)) → HasPlaces (rows_of names.now.entries) scripts
-        → (may_be_alike ≡ true → HasPlaces (rows_of keys.now.entries) (map key_in scripts))
+    ensures value { (scripts : List (List ℕ)) → IsTable table.old scripts
         → IfOk result (λ found. found ≡ spec.meant may_be_alike scripts name.now) }
+    ensures table { (scripts : List (List ℕ)) → IsTable table.old scripts → IsTable table.new scripts }
 {
-    if let Some(i) = place(names, name) {
-        return Ok(Some(i));
-    }
-    if !may_be_alike {
-        return Ok(None);
-    }
-    let key = key_of(alloc, name)?;
-    if let Some(i) = place(keys, &key) {
-        return Ok(Some(i));
-    }
-    let key = key_of(alloc, bare(name))?;
-    Ok(place(keys, &key))
-}
-
-fn keys_of(
-    alloc: Global,
-    scripts: &[&[u8]],
-    may_be_alike: bool,
-) -> Result<IndexMap<Vec<u8>, usize>, AllocError>
-    ensures { IfOk result (λ t. may_be_alike ≡ true
-        → HasPlaces (rows_of t.entries) (map key_in (map (λ s. s.now) scripts.now))) }
-{
-    if may_be_alike {
-        alike_table(alloc, scripts)
-    } else {
-        Ok(IndexMap::new(alloc))
+    match table.named(name) {
+        Some(i) => Ok(Some(i)),
+        None if may_be_alike => table.alike(alloc, name, true),
+        None => Ok(None),
     }
 }
 
@@ -108,11 +81,10 @@ pub fn choose(
     ensures distinct { OnOk result (spec.AreDistinct (map (λ s. s.now) scripts.now)) }
     ensures fault { IfErr result (λ e. spec.IsFaultOf (map (λ s. s.now) scripts.now) e) }
 {
-    let places = name_table(alloc, scripts)?;
-    let keys = keys_of(alloc, scripts, may_be_alike)?;
+    let mut table = ScriptTable::new(alloc, scripts)?;
     let mut found = Vec::new(alloc);
     for i in 0..names.len() {
-        let script = meant(alloc, &places, &keys, may_be_alike, names[i])?;
+        let script = meant(alloc, &mut table, may_be_alike, names[i])?;
         add_choice(&mut found, i, script)?;
     }
     Ok(found)

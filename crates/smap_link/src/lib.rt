@@ -4,8 +4,8 @@
 //!
 //! The functions and their clauses are stable: `map_url`, `css_map_url`, `inline_map`, `resolved`,
 //! `file_url`, `file_path`, `script_url`, `script_name`, `normal_form`, `key_of`, `most_alike`,
-//! `common_tail`, `script_of_map`, `scripts_of_maps`, `maps_of_scripts` and
-//! `choose`.
+//! `common_tail`, `script_of_map`, `scripts_of_maps`, `maps_of_scripts`, `choose`,
+//! `file_kind` and `link_in`.
 #![tactic(auto)]
 
 mod alike;
@@ -15,6 +15,7 @@ mod encoding;
 mod endings;
 mod ends;
 mod inline;
+mod kinds;
 pub mod laws;
 mod likeness;
 mod names;
@@ -33,8 +34,10 @@ pub use encoding::{IN_PATH, PathFault, file_url, is_path, script_url};
 pub use endings::{maps_of_scripts, scripts_of_maps};
 pub use ends::script_of_map;
 pub use inline::{InlineFault, inline_map};
+pub use kinds::{FileKind, file_kind, link_in};
 pub use likeness::{Likeness, most_alike};
 pub use names::{is_below, script_name};
 pub use paths::{bare, file_path};
 pub use resolve::{LinkFault, resolved};
+pub use table::ScriptTable;
 pub use tails::common_tail;

@@ -1,11 +1,12 @@
-//! The first places of names in a list, found in time proportional to their bytes.
-ghost use Rattle.std.specs.Prelude.{◌≡◌, ◌<◌, ◌≤◌, List, ℕ, IfErr, IfOk, OnOk, length, map};
+//! The scripts that have maps, found by their names in time proportional to the bytes of these.
+ghost use Rattle.std.specs.Prelude.{◌≡◌, ◌<◌, ◌≤◌, true, List, [], ℕ, IfErr, IfOk, OnOk, get_or, is_some, length, map};
 ghost use Rattle.smap_link.specs.Alike.{key_of as key_in};
-ghost use Rattle.smap_link.specs.Choice.{AreDistinct, IsFaultOf};
-ghost use Rattle.smap_link.specs.Table.{HasPlaces, place_in, rows_of, with_place};
+ghost use Rattle.smap_link.specs.Choice.{AreDistinct, IsFaultOf, alike_to, first_of};
+ghost use Rattle.smap_link.specs.Table.{HasPlaces, IsTable, place_in, rows_of, texts_in, with_place};
 
 use crate::alike::key_of;
 use crate::choice::ChoiceFault;
+use crate::paths::bare;
 use indexmap::IndexMap;
 use std::alloc::{AllocError, Global};
 
@@ -33,10 +34,7 @@ fn add(table: &mut IndexMap<Vec<u8>, usize>, text: Vec<u8>, i: usize) -> Result<
 }
 
 /// The first place of each key (`key_of`).
-pub(crate) fn alike_table(
-    alloc: Global,
-    scripts: &[&[u8]],
-) -> Result<IndexMap<Vec<u8>, usize>, AllocError>
+fn alike_table(alloc: Global, scripts: &[&[u8]]) -> Result<IndexMap<Vec<u8>, usize>, AllocError>
     ensures { IfOk result (λ t. HasPlaces (rows_of t.entries) (map key_in (map (λ s. s.now) scripts.now))) }
 {
     let mut table = IndexMap::new(alloc);
@@ -48,11 +46,9 @@ pub(crate) fn alike_table(
 }
 
 /// The place of each name, which may stand there once.
-pub(crate) fn name_table(
-    alloc: Global,
-    scripts: &[&[u8]],
-) -> Result<IndexMap<Vec<u8>, usize>, ChoiceFault>
+fn name_table(alloc: Global, scripts: &[&[u8]]) -> Result<IndexMap<Vec<u8>, usize>, ChoiceFault>
     ensures value { IfOk result (λ t. HasPlaces (rows_of t.entries) (map (λ s. s.now) scripts.now)) }
+    ensures texts { IfOk result (λ t. texts_in (rows_of t.entries) ≡ map (λ s. s.now) scripts.now) }
     ensures distinct { OnOk result (AreDistinct (map (λ s. s.now) scripts.now)) }
     ensures fault { IfErr result (λ e. IsFaultOf (map (λ s. s.now) scripts.now) e) }
 {
@@ -65,4 +61,120 @@ pub(crate) fn name_table(
         add(&mut table, name, i)?;
     }
     Ok(table)
+}
+
+/// The text at this place of a table, or an empty one.
+fn text_at(table: &IndexMap<Vec<u8>, usize>, i: usize) -> &[u8]
+    ensures { result.now ≡ get_or (texts_in (rows_of table.now.entries)) i [] }
+{
+    match table.get_index(i) {
+        Some((text, _)) => text.as_slice(),
+        None => b"",
+    }
+}
+
+/// The texts of a table, in the order in which they were added.
+fn texts(alloc: Global, table: &IndexMap<Vec<u8>, usize>) -> Result<Vec<&[u8]>, AllocError>
+    ensures { IfOk result (λ all. map (λ t. t.now) all.items ≡ texts_in (rows_of table.now.entries)) }
+{
+    let mut all = Vec::new(alloc);
+    for i in 0..table.len() {
+        all.push(text_at(table, i))?;
+    }
+    Ok(all)
+}
+
+/// The first place of each key of a table's texts.
+fn keys_of(
+    alloc: Global,
+    names: &IndexMap<Vec<u8>, usize>,
+) -> Result<IndexMap<Vec<u8>, usize>, AllocError>
+    ensures { IfOk result (λ t. HasPlaces (rows_of t.entries) (map key_in (texts_in (rows_of names.now.entries)))) }
+{
+    let texts = texts(alloc, names)?;
+    alike_table(alloc, &texts)
+}
+
+/// The names of scripts in a table, of which no two are the same.
+#[derive(Drop)]
+pub struct ScriptTable {
+    names: IndexMap<Vec<u8>, usize>,
+    /// The keys (`key_of`), once a name was looked for that isn't there as it is.
+    keys: Option<IndexMap<Vec<u8>, usize>>,
+}
+
+impl ScriptTable {
+    /// The time is proportional to the bytes of the names.
+    ///
+    /// # Errors
+    ///
+    /// `Repeated` where two of the scripts have the same name; `Memory`.
+    pub fn new(alloc: Global, scripts: &[&[u8]]) -> Result<ScriptTable, ChoiceFault>
+        ensures value { IfOk result (λ t. IsTable t (map (λ s. s.now) scripts.now)) }
+        ensures distinct { OnOk result (AreDistinct (map (λ s. s.now) scripts.now)) }
+        ensures fault { IfErr result (λ e. IsFaultOf (map (λ s. s.now) scripts.now) e) }
+    {
+        let names = name_table(alloc, scripts)?;
+        Ok(ScriptTable { names, keys: None })
+    }
+
+    /// The place in the list of scripts of the one that has this very name.
+    pub fn named(&self, name: &[u8]) -> Option<usize>
+        ensures { (scripts : List (List ℕ)) → IsTable self.now scripts → result ≡ first_of name.now scripts }
+    {
+        place(&self.names, name)
+    }
+
+    /// Adds the keys, if they aren't there yet.
+    fn add_keys(&mut self, alloc: Global) -> Result<(), AllocError>
+        ensures table { (scripts : List (List ℕ)) → IsTable self.old scripts → IsTable self.new scripts }
+        ensures keys { OnOk result (is_some self.new.keys ≡ true) }
+    {
+        if self.keys.is_none() {
+            let keys = keys_of(alloc, &self.names)?;
+            self.keys = Some(keys);
+        }
+        Ok(())
+    }
+
+    /// The place of the first script that has this key.
+    fn keyed(&self, key: &[u8]) -> Option<usize>
+        ensures { (scripts : List (List ℕ)) → IsTable self.now scripts → is_some self.now.keys ≡ true
+            → result ≡ first_of key.now (map key_in scripts) }
+    {
+        match &self.keys {
+            Some(keys) => place(keys, key),
+            None => None,
+        }
+    }
+
+    /// The place in the list of scripts of the first whose name is alike to this one and has the same query, or
+    /// else, if queries are ignored, of the first that is alike to it without its query and its fragment.
+    ///
+    /// The first call takes time proportional to the bytes of all names.
+    ///
+    /// # Errors
+    ///
+    /// `AllocError`.
+    pub fn alike(
+        &mut self,
+        alloc: Global,
+        name: &[u8],
+        ignore_query: bool,
+    ) -> Result<Option<usize>, AllocError>
+        ensures value { (scripts : List (List ℕ)) → IsTable self.old scripts
+            → IfOk result (λ found. found ≡ alike_to ignore_query scripts name.now) }
+        ensures table { (scripts : List (List ℕ)) → IsTable self.old scripts → IsTable self.new scripts }
+    {
+        self.add_keys(alloc)?;
+        let key = key_of(alloc, name)?;
+        if let Some(i) = self.keyed(&key) {
+            return Ok(Some(i));
+        }
+        if !ignore_query {
+            return Ok(None);
+        }
+        let key = key_of(alloc, bare(name))?;
+        Ok(self.keyed(&key))
+    }
 }

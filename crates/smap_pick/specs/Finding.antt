@@ -1,10 +1,9 @@
 -- Which map a script has that a log names.
-use Rattle.std.specs.Prelude.{◌≡◌, ℕ, Bool, List, cond, map, Option, None, Some}
+use Rattle.std.specs.Prelude.{◌≡◌, ℕ, Bool, List, map, Option, None, Some}
 use Rattle.std.specs.List.{All}
-use Rattle.smap_link.specs.Choice.{alike_in, first_of, or_else}
+use Rattle.smap_link.specs.Choice.{alike_to, first_of, or_else}
 use Rattle.smap_link.specs.Ends.{script_path, stem}
 use Rattle.smap_link.specs.Likeness.{IsMostAlike}
-use Rattle.smap_link.specs.Paths.{bare}
 use Rattle.smap_link.specs.declared.likeness.Likeness.{Likeness}
 use Rattle.smap_link.specs.declared.likeness.Likeness.TheVariants as ends
 use Rattle.smap_pick.specs.declared.finding.Found.{Found}
@@ -16,7 +15,7 @@ use Rattle.smap_pick.specs.declared.finding.Pick.{Pick}
 -- its query and its fragment.
 abbrev pub meant : Bool → List (List ℕ) → List ℕ → Option ℕ
 meant ignore_query scripts name = or_else (first_of name scripts)
-    (or_else (alike_in name scripts) (cond ignore_query (alike_in (bare name) scripts) None))
+    (alike_to ignore_query scripts name)
 
 -- Of these files the one whose name, without `.map`, has the longest end in common with the script's path.
 abbrev pub IsMapOf : List (List ℕ) → List ℕ → Likeness → Type 0

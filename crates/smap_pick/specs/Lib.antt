@@ -4,4 +4,3 @@ pub mod Memory
 pub mod Opening
 pub mod Places
 pub mod PlaceView
-pub mod TablesView

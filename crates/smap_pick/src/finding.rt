@@ -1,14 +1,10 @@
 //! Which map a script has that a log names.
 ghost use Rattle.std.specs.Prelude.{◌≡◌, List, ℕ, IfOk, get_or, map};
-ghost use Rattle.smap_link.specs.Alike.{key_of as key_in};
-ghost use Rattle.smap_link.specs.Table.{HasPlaces, rows_of};
+ghost use Rattle.smap_link.specs.Table.{IsTable};
 ghost use Rattle.smap_pick.specs.Finding as spec;
 ghost use Rattle.smap_pick.specs.Finding.{ArePicks, IsMapOf, IsPick};
-ghost use Rattle.smap_pick.specs.TablesView.{AreTables};
 
-use crate::tables::{Tables, place_of};
-use indexmap::IndexMap;
-use smap_link::{Likeness, bare, key_of, maps_of_scripts};
+use smap_link::{Likeness, ScriptTable, maps_of_scripts};
 use std::alloc::{AllocError, Global};
 
 /// What a name of a log has.
@@ -34,27 +30,18 @@ pub struct Pick<'a> {
 /// The script that a log means by a name.
 fn meant(
     alloc: Global,
-    names: &IndexMap<Vec<u8>, usize>,
-    keys: &IndexMap<Vec<u8>, usize>,
+    table: &mut ScriptTable,
     ignore_query: bool,
     name: &[u8],
 ) -> Result<Option<usize>, AllocError>
-    ensures { (scripts : List (List ℕ)) → HasPlaces (rows_of names.now.entries) scripts
-        → HasPlaces (rows_of keys.now.entries) (map key_in scripts)
+    ensures value { (scripts : List (List ℕ)) → IsTable table.old scripts
         → IfOk result (λ found. found ≡ spec.meant ignore_query scripts name.now) }
+    ensures table { (scripts : List (List ℕ)) → IsTable table.old scripts → IsTable table.new scripts }
 {
-    if let Some(i) = place_of(names, name) {
-        return Ok(Some(i));
+    match table.named(name) {
+        Some(i) => Ok(Some(i)),
+        None => table.alike(alloc, name, ignore_query),
     }
-    let key = key_of(alloc, name)?;
-    if let Some(i) = place_of(keys, &key) {
-        return Ok(Some(i));
-    }
-    if !ignore_query {
-        return Ok(None);
-    }
-    let key = key_of(alloc, bare(name))?;
-    Ok(place_of(keys, &key))
 }
 
 fn of_end(end: Likeness) -> Found
@@ -80,16 +67,17 @@ fn found_of(script: Option<usize>, end: Likeness) -> Found
 /// What a name of a log has, if the ends of the files' names say this of it.
 fn pick_one<'a>(
     alloc: Global,
-    tables: &Tables,
+    table: &mut ScriptTable,
     ignore_query: bool,
     name: &'a [u8],
     end: Likeness,
 ) -> Result<Pick<'a>, AllocError>
     ensures name { IfOk result (λ pick. pick.name.now ≡ name.now) }
-    ensures found { (scripts files : List (List ℕ)) → AreTables tables.now scripts → IsMapOf files name.now end
+    ensures found { (scripts files : List (List ℕ)) → IsTable table.old scripts → IsMapOf files name.now end
         → IfOk result (IsPick ignore_query scripts files) }
+    ensures table { (scripts : List (List ℕ)) → IsTable table.old scripts → IsTable table.new scripts }
 {
-    let script = meant(alloc, &tables.names, &tables.keys, ignore_query, name)?;
+    let script = meant(alloc, table, ignore_query, name)?;
     let found = found_of(script, end);
     Ok(Pick { name, found })
 }
@@ -116,19 +104,20 @@ fn end_at(ends: &[Likeness], i: usize) -> Likeness
 /// `AllocError`.
 pub fn pick_all<'a>(
     alloc: Global,
-    tables: &Tables,
+    table: &mut ScriptTable,
     files: &[&[u8]],
     ignore_query: bool,
     names: &[&'a [u8]],
 ) -> Result<Vec<Pick<'a>>, AllocError>
-    ensures { (scripts : List (List ℕ)) → AreTables tables.now scripts
+    ensures picks { (scripts : List (List ℕ)) → IsTable table.old scripts
         → IfOk result (λ picks. ArePicks ignore_query scripts (map (λ f. f.now) files.now)
         (map (λ n. n.now) names.now) picks.items) }
+    ensures table { (scripts : List (List ℕ)) → IsTable table.old scripts → IsTable table.new scripts }
 {
     let ends = maps_of_scripts(alloc, names, files)?;
     let mut picks = Vec::new(alloc);
     for i in 0..names.len() {
-        let pick = pick_one(alloc, tables, ignore_query, names[i], end_at(&ends, i))?;
+        let pick = pick_one(alloc, table, ignore_query, names[i], end_at(&ends, i))?;
         picks.push(pick)?;
     }
     Ok(picks)

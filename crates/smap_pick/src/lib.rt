@@ -9,7 +9,7 @@ mod linked;
 mod memory;
 mod opening;
 mod places;
-mod tables;
+mod table;
 #[cfg(test)]
 mod tests;
 
@@ -18,4 +18,4 @@ pub use linked::{LinkedFault, linked_name};
 pub use memory::{HeldFile, MemoryStore, NoFile};
 pub use opening::{Failure, OpenFault, Opened, Store, open_named, open_picks};
 pub use places::{Place, add_folder, below, usual_place};
-pub use tables::{Tables, tables_of};
+pub use table::table_of;

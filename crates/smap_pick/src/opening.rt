@@ -1,6 +1,7 @@
 //! Which maps are opened for a log, whatever holds them.
 ghost use Rattle.std.specs.Prelude.{◌≡◌, ◌++◌, ◌∷◌, [], List, ℕ, Option, IfErr, IfOk, OnOk, map, option_map};
 ghost use Rattle.std.specs.List.{AllZip, slice_get};
+ghost use Rattle.smap_link.specs.Table.{IsTable};
 ghost use Rattle.smap_pick.specs.Finding.{ArePicks};
 ghost use Rattle.smap_pick.specs.Opening.{
   IsFailure,
@@ -16,11 +17,10 @@ ghost use Rattle.smap_pick.specs.Opening.{
 };
 ghost use Rattle.smap_pick.specs.PlaceView.{place_in, places_in};
 ghost use Rattle.smap_pick.specs.Places.{MapPlace, scripts_of, usual_place as spec_place};
-ghost use Rattle.smap_pick.specs.TablesView.{AreTables};
 
 use crate::finding::{Found, Pick, pick_all};
 use crate::places::{Place, usual_place};
-use crate::tables::Tables;
+use smap_link::ScriptTable;
 use std::alloc::Global;
 
 /// Why a map isn't opened.
@@ -248,12 +248,13 @@ pub fn open_named<'a, S: Store>(
     alloc: Global,
     store: &mut S,
     places: &[Place],
-    tables: &Tables,
+    table: &mut ScriptTable,
     files: &[&[u8]],
     ignore_query: bool,
     names: &[&'a [u8]],
 ) -> Result<Opened<'a, S::Map>, Failure<S::Fault>>
-    requires { AreTables tables.now (scripts_of (places_in places.now)) }
+    requires { IsTable table.old (scripts_of (places_in places.now)) }
+    ensures table { IsTable table.new (scripts_of (places_in places.now)) }
     ensures picks { IfOk result (λ o. ArePicks ignore_query (scripts_of (places_in places.now))
         (map (λ f. f.now) files.now) (map (λ n. n.now) names.now) o.picks.items) }
     ensures opened { IfOk result (λ o. S.opened store.new ≡ S.opened store.old
@@ -266,7 +267,7 @@ pub fn open_named<'a, S: Store>(
     ensures made { IfOk result (λ o. AllZip (IsMadeOf S.made_of (S.held store.old))
         (chosen (places_in places.now) (map (λ f. f.now) files.now) o.picks.items) o.maps.items) }
 {
-    let picks = match pick_all(alloc, tables, files, ignore_query, names) {
+    let picks = match pick_all(alloc, table, files, ignore_query, names) {
         Ok(picks) => picks,
         Err(_) => {
             return Err(Failure {

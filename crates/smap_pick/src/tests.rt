@@ -1,7 +1,7 @@
 //! What no contract says: these calls with ample memory, and rows worked out by hand.
 use crate::{
     Found, HeldFile, LinkedFault, MemoryStore, Place, add_folder, below, linked_name, open_named,
-    pick_all, tables_of, usual_place,
+    pick_all, table_of, usual_place,
 };
 use smap_link::ChoiceFault;
 use std::alloc::Global;
@@ -21,7 +21,7 @@ fn three(alloc: Global) -> Result<Vec<Place>, Fail> {
 
 fn found_for(alloc: Global, name: &str, ignore_query: bool) -> Result<Found, Fail> {
     let places = three(alloc)?;
-    let tables = tables_of(alloc, &places)?;
+    let mut table = table_of(alloc, &places)?;
     let files = [
         b"dist/static/js/main.js.map".as_slice(),
         b"dist/js/main.js.map".as_slice(),
@@ -30,7 +30,7 @@ fn found_for(alloc: Global, name: &str, ignore_query: bool) -> Result<Found, Fai
     let names = [name.as_bytes()];
     let picks = pick_all(
         alloc,
-        &tables,
+        &mut table,
         files.as_slice(),
         ignore_query,
         names.as_slice(),
@@ -106,7 +106,7 @@ fn a_script_that_two_places_name(rt: HostRuntime) -> Result<(), Fail> {
     let mut places = three(alloc)?;
     places.push(usual_place(alloc, b"https://h/a.js", b"other.map")?)?;
     assert_eq!(rt;
-        tables_of(alloc, &places).err(),
+        table_of(alloc, &places).err(),
         Some(ChoiceFault::Repeated(0, 3))
     );
     Ok(())
@@ -137,7 +137,7 @@ fn folders(rt: HostRuntime) -> Result<(), Fail> {
 fn maps_that_are_opened(rt: HostRuntime) -> Result<(), Fail> {
     let alloc = rt.alloc();
     let places = three(alloc)?;
-    let tables = tables_of(alloc, &places)?;
+    let mut table = table_of(alloc, &places)?;
     let files = [
         HeldFile {
             name: b"a.map".as_slice(),
@@ -159,7 +159,7 @@ fn maps_that_are_opened(rt: HostRuntime) -> Result<(), Fail> {
         alloc,
         &mut store,
         &places,
-        &tables,
+        &mut table,
         none.as_slice(),
         false,
         names.as_slice(),

@@ -1,6 +1,6 @@
 //! Logs, read block by block: whole lines as soon as they are there.
 use smap_disk::Disk;
-use smap_finder::{Host, Stop};
+use smap_host::{Host, Stop};
 use smap_lines::Block;
 use std::alloc::{AllocError, Global};
 use std::io::{self, ErrorKind, Read};
@@ -68,7 +68,7 @@ impl<R: Read> Log<R> {
                 })
             }
             Err(error) if error.kind() == ErrorKind::Interrupted => Ok(Step::More),
-            Err(error) => Err(host.fail_reading(&error)),
+            Err(error) => Err(host.fail_for("cannot read the log", &error)),
         }
     }
 

@@ -5,9 +5,9 @@ use crate::tracing::{
     Job, State, new_state, open_names, say_nothing, trace_files, trace_input, trace_stream,
     trace_streams,
 };
-use crate::translating::write_out;
 use smap_disk::{Disk, Kind, Watched, create_beside};
-use smap_finder::{Host, How, Opener, Stop, Wanted, check_all, settle, tell_count, wanted_by};
+use smap_finder::{How, Opener, Wanted, check_all, settle, tell_count, wanted_by};
+use smap_host::{Host, Stop};
 use smap_trace::Finding;
 use smap_words::{
     Asked, HELP, Prefix, TRY_HELP, TraceWords, VERSION, WordFault, message, trace_words,
@@ -89,7 +89,7 @@ where
     for path in &job.wanted.logs {
         match host.disk.open(path) {
             Ok(log) => list_log(host, log, job.how.verbose, listed)?,
-            Err(error) => return Err(host.fail_reading(&error)),
+            Err(error) => return Err(host.fail_for("cannot read the log", &error)),
         }
     }
     Ok(())
@@ -104,7 +104,7 @@ fn write_list<E: Eprint + AllocGlobal, D: Disk, W: Write>(
     writer: &mut Watched<W>,
 ) -> Result<(), Stop> {
     let text = list_text(host.alloc(), &listed.names, &state.chosen)?;
-    write_out(host, text.as_bytes(), writer)?;
+    host.write(text.as_bytes(), writer)?;
     hint_at_list(host, listed, &state.chosen, &job.wanted, job.anywhere)
 }
 
@@ -326,8 +326,8 @@ where
     I: Drop,
 {
     match trace_words(host.alloc(), words) {
-        Ok(Asked::Help) => write_out(host, HELP.as_bytes(), writer),
-        Ok(Asked::Version) => write_out(host, VERSION.as_bytes(), writer),
+        Ok(Asked::Help) => host.write(HELP.as_bytes(), writer),
+        Ok(Asked::Version) => host.write(VERSION.as_bytes(), writer),
         Ok(Asked::Trace(asked)) => trace(host, &asked, input, writer),
         Err(fault) => Err(refuse(host, &fault)),
     }
@@ -348,15 +348,14 @@ where
     I: Drop,
     W: Drop,
 {
-    let host = Host { rt, disk };
+    let host = Host {
+        rt,
+        disk,
+        name: "smap-trace",
+    };
     let mut writer = Watched::new(output);
     match answer(&host, words, input, &mut writer) {
         Ok(()) => 0,
-        Err(Stop::Said(status)) => status,
-        Err(Stop::Unread) => 141,
-        Err(Stop::Memory) => {
-            host.say("out of memory");
-            4
-        }
+        Err(stop) => host.end(stop),
     }
 }

@@ -3,7 +3,8 @@ ghost use Rattle.std.specs.Prelude.{◌≡◌, IfOk, IfSome, map};
 ghost use Rattle.smap_trace.specs.Translation.{AreDistinct};
 ghost use Rattle.smap_trace.specs.Views.{scripts_in};
 
-use smap_finder::{Chosen, Stop};
+use smap_finder::Chosen;
+use smap_host::Stop;
 use smap_link::{ChoiceFault, choose};
 use smap_record::SourceMap;
 use std::alloc::{AllocError, Global};

@@ -5,7 +5,8 @@ use crate::logs::Log;
 use crate::naming::{Names, names_in};
 use crate::translating::{Tally, begin_log, translate_lines, translate_log};
 use smap_disk::{Disk, Watched};
-use smap_finder::{Chosen, Host, How, Opener, Stop, Wanted, open_for, tell_count};
+use smap_finder::{Chosen, How, Opener, Wanted, open_for, tell_count};
+use smap_host::{Host, Stop};
 use std::alloc::Global;
 use std::io::{Read, Take, Write};
 
@@ -165,7 +166,7 @@ fn opened_log<E: Eprint + AllocGlobal, D: Disk>(
 ) -> Result<Take<D::Reader>, Stop> {
     match host.disk.open(path) {
         Ok(reader) => Ok(reader.take(size)),
-        Err(error) => Err(host.fail_reading(&error)),
+        Err(error) => Err(host.fail_for("cannot read the log", &error)),
     }
 }
 
@@ -180,7 +181,7 @@ fn name_logs<E: Eprint + AllocGlobal, D: Disk>(
     for path in paths {
         let size = match host.disk.size(path) {
             Ok(size) => size,
-            Err(error) => return Err(host.fail_reading(&error)),
+            Err(error) => return Err(host.fail_for("cannot read the log", &error)),
         };
         let log = opened_log(host, path, size)?;
         name_log(host, job, log, state)?;
@@ -274,7 +275,7 @@ fn follow_path<E: Eprint + AllocGlobal, D: Disk, W: Write>(
     begin_log(host, writer, &mut state.tally)?;
     match host.disk.open(path) {
         Ok(log) => follow_log(host, job, opener, log, state, writer),
-        Err(error) => Err(host.fail_reading(&error)),
+        Err(error) => Err(host.fail_for("cannot read the log", &error)),
     }
 }
 

@@ -3,7 +3,8 @@ use crate::decorating::{Style, decorate};
 use crate::logs::{Heeded, Log};
 use crate::scripts::{Scripts, scripts_of};
 use smap_disk::{Disk, Watched};
-use smap_finder::{Chosen, Host, Stop};
+use smap_finder::Chosen;
+use smap_host::{Host, Stop};
 use smap_io::Device;
 use smap_trace::{Counts, TraceError, translate_by};
 use std::alloc::Global;
@@ -46,7 +47,7 @@ fn fail_translating<E: Eprint + AllocGlobal, D: Disk, R, W>(
     match error {
         TraceError::Memory => Stop::Memory,
         TraceError::Read => match reader.fault() {
-            Some(error) => host.fail_reading(&error),
+            Some(error) => host.fail_for("cannot read the log", &error),
             None => host.fail(3, "cannot read the log"),
         },
         TraceError::Write => match writer.fault() {
@@ -117,7 +118,7 @@ pub(crate) fn translate_lines<E: Eprint + AllocGlobal, D: Disk, W: Write>(
     }
     let mut out = Vec::new(alloc);
     let counts = decorate(alloc, lines, &scripts, chosen, style, &mut out)?;
-    write_out(host, &out, writer)?;
+    host.write(&out, writer)?;
     tally.add(counts);
     tally.ends_within_line = !lines.ends_with(b"\n");
     Ok(())
@@ -130,26 +131,10 @@ pub(crate) fn begin_log<E: Eprint + AllocGlobal, D: Disk, W: Write>(
     tally: &mut Tally,
 ) -> Result<(), Stop> {
     if tally.ends_within_line {
-        write_out(host, b"\n", writer)?;
+        host.write(b"\n", writer)?;
         tally.ends_within_line = false;
     }
     Ok(())
-}
-
-/// Writes a text.
-pub(crate) fn write_out<E: Eprint + AllocGlobal, D: Disk, W: Write>(
-    host: &Host<'_, E, D>,
-    text: &[u8],
-    writer: &mut Watched<W>,
-) -> Result<(), Stop> {
-    let written = match writer.write_all(text) {
-        Ok(()) => writer.flush(),
-        Err(error) => Err(error),
-    };
-    match written {
-        Ok(()) => Ok(()),
-        Err(error) => Err(host.fail_writing(&error)),
-    }
 }
 
 /// Translates a log whose maps are open.

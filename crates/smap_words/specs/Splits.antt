@@ -1,8 +1,11 @@
 -- The ways to read an argument with a `=` (61) as URL=FILE[=BASE], and what is wrong with one.
-use Rattle.std.specs.Prelude.{ℕ, ◌+◌, ◌||◌, Bool, [], ◌∷◌, length, drop}
-use Rattle.std.specs.Prelude.{Option, Some, None, codes, nat_eq, nat_lt, if◌then◌else◌}
+use Rattle.std.specs.Prelude.{ℕ, ◌+◌, ◌||◌, Bool, true, false, [], ◌∷◌, length, drop}
+use Rattle.std.specs.Prelude.{Option, Some, None, nat_eq, nat_lt, if◌then◌else◌}
 use Rattle.std.specs.List.{ends_with}
 use Rattle.clap.specs.Words.{Text}
+use Rattle.smap_link.specs.Kinds.{file_kind}
+use Rattle.smap_link.specs.declared.kinds.FileKind.{FileKind}
+use Rattle.smap_link.specs.declared.kinds.FileKind.TheVariants.{Script, StyleSheet, Map, Other}
 use Rattle.smap_words.specs.Urls.{can_be_url}
 use Rattle.smap_words.specs.declared.splits.Kind.{Kind}
 use Rattle.smap_words.specs.declared.splits.Kind.TheVariants.{File, Folder}
@@ -30,6 +33,11 @@ split_fault kind url base = if can_be_url url then kind_fault kind url base else
 
 -- ---- names of files that are no logs
 
+abbrev pub is_of_build : FileKind → Bool
+is_of_build Script = true
+is_of_build StyleSheet = true
+is_of_build Map = true
+is_of_build Other = false
+
 abbrev pub needs_url : Text → Bool
-needs_url name = ends_with nat_eq name (codes ".map") || (ends_with nat_eq name (codes ".js")
-    || (ends_with nat_eq name (codes ".mjs") || ends_with nat_eq name (codes ".cjs")))
+needs_url name = is_of_build (file_kind name)

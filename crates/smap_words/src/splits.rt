@@ -5,6 +5,7 @@ ghost use Rattle.smap_words.specs.Order.{IsSplit};
 ghost use Rattle.smap_words.specs.Splits as spec;
 
 use crate::argument::can_be_url;
+use smap_link::{FileKind, file_kind};
 
 /// A way to read an argument: its URL ends at one `=`, and the name of its file at a later one, or at its
 /// end. What stands behind that is its base.
@@ -127,15 +128,14 @@ fn kind_fault(kind: Kind, url: &str, base: Option<&str>) -> Option<SplitFault>
     }
 }
 
-/// Whether a file with this name is no log: it is a map or a script, which needs a URL.
+/// Whether a file with this name is no log: it is a map, a script or a style sheet, which needs a URL.
 pub fn needs_url(name: &str) -> bool
     ensures { result ≡ spec.needs_url name.now }
 {
-    let name = name.as_bytes();
-    name.ends_with(b".map")
-        || name.ends_with(b".js")
-        || name.ends_with(b".mjs")
-        || name.ends_with(b".cjs")
+    match file_kind(name.as_bytes()) {
+        FileKind::Script | FileKind::StyleSheet | FileKind::Map => true,
+        FileKind::Other => false,
+    }
 }
 
 impl<'a> Split<'a> {

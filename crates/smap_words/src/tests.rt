@@ -302,7 +302,7 @@ fn what_is_not_there(rt: HostRuntime) -> Result<(), Fail> {
         "maps/trace.map: expected URL=FILE, as https://example.org/app.js=maps/trace.map"
     );
     assert!(rt;
-        needs_url("a.cjs") && needs_url("b/a.mjs") && needs_url("a.js") && !needs_url("a.json")
+        needs_url("a.cjs") && needs_url("b/a.mjs") && needs_url("a.css") && !needs_url("a.json")
     );
     Ok(())
 }

@@ -14,11 +14,13 @@ loop-i-preserved c =
     let some : i < length names = simp length-map (omega (arith, c.loop-i-test.true)) in
     let one = read_at c.args.names.now i _ c.loop-i-test.true in
     let script : c.in_ok-script.script ≡ spec.meant m scripts (get_or names i []) =
-    c.in_ok-script.ensures scripts c.in_ok-places.ensures.value c.in_ok-keys.ensures
+    c.in_ok-script.ensures.value scripts c.loop-i.invariant.0
     ∙ ap (spec.meant m scripts) one in
-    let rest = spec.choices_from m scripts (i + 1) (drop (i + 1) names) in
-    ap (λ (l : List _). l ++ rest) (c.in_ok-add_choice.ensures
-    ∙ ap (λ o. c.loop-i.found.items ++ spec.choice_at i o) script)
-    ∙ append_assoc c.loop-i.found.items (spec.choice_at i (spec.meant m scripts (get_or names i []))) rest
-    ∙ ap (λ l. c.loop-i.found.items ++ spec.choices_from m scripts i l) (sym (drop_more names i [] some))
-    ∙ c.loop-i.invariant
+    let rest = spec.choices_from m scripts (i + 1) (drop (i + 1) names) in (
+      c.in_ok-script.ensures.table scripts c.loop-i.invariant.0,
+      ap (λ (l : List _). l ++ rest) (c.in_ok-add_choice.ensures
+          ∙ ap (λ o. c.loop-i.found.items ++ spec.choice_at i o) script)
+          ∙ append_assoc c.loop-i.found.items (spec.choice_at i (spec.meant m scripts (get_or names i []))) rest
+          ∙ ap (λ l. c.loop-i.found.items ++ spec.choices_from m scripts i l) (sym (drop_more names i [] some))
+          ∙ c.loop-i.invariant.1,
+    )

@@ -1,9 +1,9 @@
-use Rattle.std.proofs.Common.{◌≡◌, ◌∙◌, ◌⊎◌, ⊎_elim, ℕ, ◌<◌, List, Bor, [], Some, None, ap, sym, subst, map}
+use Rattle.std.proofs.Common.{◌≡◌, ◌∙◌, ◌⊎◌, ⊎_elim, ℕ, ◌<◌, ◌≤◌, List, Bor, [], Some, None, ap, sym, subst, map}
 use Rattle.std.proofs.Common.{length, get_or, take, arith}
-use Rattle.std.proofs.lemmas.List.{length-map}
+use Rattle.std.proofs.lemmas.List.{length-map, take_all}
 use Rattle.smap_link.specs.Choice.{first_of}
 use Rattle.smap_link.specs.Table.{place_in, rows_of, with_place}
-use Rattle.smap_link.proofs.TableLemmas.{first_here, more_places, read_at, repeated}
+use Rattle.smap_link.proofs.TableLemmas.{first_here, more_places, more_texts, read_at, repeated}
 use Rattle.smap_link.proofs.table.name_table.Goals as goal
 
 pub returns-in-Some-clause-fault : goal.returns-in-Some-clause-fault
@@ -29,13 +29,26 @@ loop-i-preserved c =
           (rows_of c.add.new.table.entries) scripts i some c.loop-i.invariant.0
           (c.in_ok-add.ensures ∙ ap (λ (t : List ℕ). with_place (rows_of c.loop-i.table.entries) t i)
           (c.in_ok-name.ensures.items ∙ one)),
-      λ j lt.
-          let cases : (j ≡ i) ⊎ (j < i) = grind arith in
-          ⊎_elim (λ same. subst (λ (k : ℕ). first_of (get_or scripts k []) scripts ≡ Some k) (sym same)
-          (first_here scripts i some none))
-          (λ before. c.loop-i.invariant.1 j before) cases,
+      (
+        λ j lt.
+            let cases : (j ≡ i) ⊎ (j < i) = grind arith in
+            ⊎_elim (λ same. subst (λ (k : ℕ). first_of (get_or scripts k []) scripts ≡ Some k) (sym same)
+            (first_here scripts i some none))
+            (λ before. c.loop-i.invariant.1.0 j before) cases,
+        more_texts (rows_of c.loop-i.table.entries) (rows_of c.add.new.table.entries) scripts i some
+            (ap (place_in (rows_of c.loop-i.table.entries)) (sym one) ∙ sym c.in_default.ensures)
+            (c.in_ok-add.ensures ∙ ap (λ (t : List ℕ). with_place (rows_of c.loop-i.table.entries) t i)
+            (c.in_ok-name.ensures.items ∙ one))
+            c.loop-i.invariant.1.1,
+      ),
     )
 
 pub returns-clause-distinct : goal.returns-clause-distinct
 returns-clause-distinct c = λ j lt.
-    c.loop-i.invariant.1 j (omega (arith, c.loop-i-test.false, simp length-map at lt))
+    c.loop-i.invariant.1.0 j (omega (arith, c.loop-i-test.false, simp length-map at lt))
+
+pub returns-clause-texts : goal.returns-clause-texts
+returns-clause-texts c =
+    let scripts = map {A = Bor (List ℕ)} {B = List ℕ} (λ s. s.now) c.args.scripts.now in
+    let ended : length scripts ≤ c.loop-i.i = simp length-map (omega (arith, c.loop-i-test.false)) in
+    c.loop-i.invariant.1.1 ∙ take_all c.loop-i.i scripts ended

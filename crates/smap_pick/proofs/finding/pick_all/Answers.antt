@@ -10,7 +10,8 @@ use Rattle.smap_pick.proofs.PickLemmas.{one_more_pick}
 use Rattle.smap_pick.proofs.finding.pick_all.Goals as goal
 
 pub loop-i-preserved : goal.loop-i-preserved
-loop-i-preserved c = λ scripts tables.
+loop-i-preserved c = λ scripts given.
+    let now = c.loop-i.invariant scripts given in
     let more : c.push.new.self.items ≡ c.loop-i.picks.items ++ c.in_ok-pick.pick ∷ [] = search rules in
     let names = map {A = Bor (List ℕ)} {B = List ℕ} (λ n. n.now) c.args.names.now in
     let files = map {A = Bor (List ℕ)} {B = List ℕ} (λ n. n.now) c.args.files.now in
@@ -23,15 +24,17 @@ loop-i-preserved c = λ scripts tables.
     c.end_at.ensures ∙ ap (λ (es : List Likeness). get_or es i Unlike) c.deref.ensures.value in
     let is = subst (λ (p : List ℕ). IsMostAlike p (map stem files) c.end_at.result) (sym path)
     (subst (λ (e : Likeness). IsMostAlike (get_or (map script_path names) i []) (map stem files) e) (sym end)
-    (c.in_ok-ends.ensures.1 i in_paths)) in
-    one_more_pick c.args.ignore_query scripts files names i some c.loop-i.picks.items c.push.new.self.items
-    c.in_ok-pick.pick more (c.in_ok-pick.ensures.name ∙ one)
-    (c.in_ok-pick.ensures.found scripts files tables is) (c.loop-i.invariant scripts tables)
+    (c.in_ok-ends.ensures.1 i in_paths)) in (
+      c.in_ok-pick.ensures.table scripts now.0,
+      one_more_pick c.args.ignore_query scripts files names i some c.loop-i.picks.items c.push.new.self.items
+          c.in_ok-pick.pick more (c.in_ok-pick.ensures.name ∙ one)
+          (c.in_ok-pick.ensures.found scripts files now.0 is) now.1,
+    )
 
-pub returns : goal.returns
-returns c = λ scripts tables.
+pub returns-clause-picks : goal.returns-clause-picks
+returns-clause-picks c = λ scripts given.
     let names = map {A = Bor (List ℕ)} {B = List ℕ} (λ n. n.now) c.args.names.now in
     let files = map {A = Bor (List ℕ)} {B = List ℕ} (λ n. n.now) c.args.files.now in
     let ended : length names ≤ c.loop-i.i = simp length-map (omega (arith, c.loop-i-test.false)) in
     subst (λ (ns : List (List ℕ)). ArePicks c.args.ignore_query scripts files ns c.loop-i.picks.items)
-    (take_all c.loop-i.i names ended) (c.loop-i.invariant scripts tables)
+    (take_all c.loop-i.i names ended) (c.loop-i.invariant scripts given).1

@@ -8,6 +8,6 @@ returns-clause-found c = λ scripts files t is. (
   (
     is,
     c.found_of-found.ensures
-        ∙ ap (λ (o : Option ℕ). found_of o c.args.end) (c.in_ok-script.ensures scripts t.of_names t.of_keys),
+        ∙ ap (λ (o : Option ℕ). found_of o c.args.end) (c.in_ok-script.ensures.value scripts t),
   ),
 )

@@ -8,7 +8,7 @@ returns-clause-fault g c =
     inr (
       c.in-Ok.picks.items,
       (
-        c.in-Ok.ensures (scripts_of (places_in c.args.places.now)) c.requires,
+        c.in-Ok.ensures.picks (scripts_of (places_in c.args.places.now)) c.requires,
         rw c.deref.ensures.value at c.in-Err-open_picks.ensures.fault,
       ),
     )

@@ -1,7 +1,7 @@
 use Rattle.std.proofs.Common.{◌≡◌, ◌∙◌, ◌++◌, ◌∷◌, [], ap, arith, rules}
 use Rattle.smap_pick.proofs.PickLemmas.{one_more_script}
 use Rattle.smap_pick.specs.declared.places.Place.{Place}
-use Rattle.smap_pick.proofs.tables.scripts_in.Goals as goal
+use Rattle.smap_pick.proofs.table.scripts_in.Goals as goal
 
 pub loop-place-preserved : goal.loop-place-preserved
 loop-place-preserved c =
