@@ -1,0 +1,5 @@
+pub mod Paths
+pub mod Points
+pub mod Ranges
+pub mod Segments
+pub mod Written

@@ -1,0 +1,29 @@
+//! Where something is written in a JSON text (RFC 8259): a value by the names and indices that lead to it
+//! ([`value_range`]), and a segment of a mappings string ([`segment_range`]). [`point_of`] makes a line and a
+//! column of a place.
+//!
+//! A place is found by a scan, and no answer rests on that scan: what is found is tried before it is handed
+//! out. The bytes there must read as the value that the tree of the text has at the path, and where another
+//! value is put in their place, the text must read as a tree that has that other value there. So a range is
+//! the range of that value, and not of an equal one elsewhere in the text.
+#![tactic(auto)]
+
+mod bytes;
+mod point;
+mod range;
+mod scan;
+mod segment;
+mod spelling;
+mod step;
+#[cfg(test)]
+mod tests;
+mod trial;
+mod walk;
+mod written;
+
+pub use point::{Point, point_of};
+pub use range::TextRange;
+pub use segment::segment_range;
+pub use step::{Key, Step};
+pub use walk::{there, value_at};
+pub use written::value_range;
