@@ -1,0 +1,10 @@
+pub mod Findings
+pub mod Formats
+pub mod Words
+pub mod Escapes
+pub mod Lines
+pub mod Text
+pub mod Sarif
+pub mod Junit
+pub mod Reports
+pub mod Laws

@@ -1,0 +1,20 @@
+//! Findings about files as a report ([`report_text`]): for people, as lines that editors and CI servers read,
+//! as SARIF, JUnit's XML or JSON ([`Format`]).
+#![tactic(auto)]
+
+mod escapes;
+mod findings;
+mod formats;
+mod junit;
+pub mod laws;
+mod lines;
+mod reports;
+mod sarif;
+#[cfg(test)]
+mod tests;
+mod text;
+mod words;
+
+pub use findings::{Finding, Level, Point, Report, Rule, has_error};
+pub use formats::{FORMAT_WORDS, Format, format_named};
+pub use reports::report_text;
