@@ -1,0 +1,5 @@
+pub mod Halves
+pub mod Leading
+pub mod Listed
+pub mod Repairing
+pub mod Words

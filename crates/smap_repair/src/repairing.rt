@@ -1,0 +1,123 @@
+//! A text that is read, and where it is refused, repaired and read again.
+ghost use Rattle.std.specs.Prelude.{◌≡◌, IfOk, ℕ, List, IfSome, IsOk, IsErr, Ok, Err};
+ghost use Rattle.smap_record.specs.Reading.{reading};
+ghost use Rattle.smap_repair.specs.Leading.{Leads};
+ghost use Rattle.smap_repair.specs.Repairing.{IsRepaired};
+
+use crate::edits::{edits_of_maps, edits_of_text};
+use crate::mending::{Mended, with_edits};
+use crate::repair::Repair;
+use smap_record::{Base, Fault, Limits, ReadError, SourceMap};
+use std::alloc::{AllocError, Global};
+
+/// What becomes of a map's text that is repaired.
+#[derive(Debug, Drop)]
+pub enum Repaired {
+    /// The text is read as it is, and stays so.
+    Sound,
+    /// The text was refused, and is read now.
+    Mended {
+        /// The mended text.
+        text: Vec<u8>,
+        /// What was done, in order.
+        repairs: Vec<Repair>,
+    },
+    /// The text is refused, and stays as it is.
+    Refused {
+        /// Its first fault.
+        fault: Fault,
+        /// The first fault that the repairs leave; none where there is nothing to repair.
+        left: Option<Fault>,
+    },
+}
+
+/// The first fault of a text; none if it is read.
+fn fault_of(
+    alloc: Global,
+    text: &[u8],
+    base: &Base,
+    limits: Limits,
+) -> Result<Option<Fault>, AllocError>
+    ensures read { IfOk result (λ o. o ≡ None → IsOk (reading base.now limits text.now)) }
+    ensures refused { IfOk result (λ o. IfSome o (λ f. reading base.now limits text.now ≡ Err f)) }
+{
+    let error = match SourceMap::from_slice(alloc, text, base, limits) {
+        Ok(_map) => return Ok(None),
+        Err(error) => error,
+    };
+    match error {
+        ReadError::Refused(fault) => Ok(Some(fault)),
+        ReadError::Memory => Err(AllocError),
+    }
+}
+
+/// The text with what keeps it from being JSON repaired.
+#[tactic(auto, using(crate::proofs::LeadLemmas::leads_nowhere))]
+fn text_mended(alloc: Global, text: &[u8]) -> Result<Option<Mended>, AllocError>
+    ensures { IfOk result (λ o. IfSome o (λ m. Leads m.repairs.items text.now m.text.items)) }
+{
+    let edits = edits_of_text(alloc, text)?;
+    match with_edits(alloc, text, Vec::new(alloc), edits)? {
+        Some(mended) => Ok(Some(mended)),
+        None => Ok(None),
+    }
+}
+
+/// A text, with what its maps have to be repaired repaired as well; none if nothing was to be repaired.
+fn maps_mended(alloc: Global, mended: Mended, base: &Base) -> Result<Option<Mended>, AllocError>
+    ensures { IfOk result (λ o. IfSome o (λ m. (old : List ℕ)
+        → Leads mended.repairs.items old mended.text.items → Leads m.repairs.items old m.text.items)) }
+{
+    let Mended { text, repairs } = mended;
+    let edits = edits_of_maps(alloc, &text, base)?;
+    if repairs.is_empty() && edits.is_empty() {
+        return Ok(None);
+    }
+    with_edits(alloc, &text, repairs, edits)
+}
+
+/// The text with what the list has for it repaired; none if nothing is to be repaired.
+fn mended(alloc: Global, text: &[u8], base: &Base) -> Result<Option<Mended>, AllocError>
+    ensures { IfOk result (λ o. IfSome o (λ m. Leads m.repairs.items text.now m.text.items)) }
+{
+    let Some(mended) = text_mended(alloc, text)? else {
+        return Ok(None);
+    };
+    match maps_mended(alloc, mended, base)? {
+        Some(mended) => Ok(Some(mended)),
+        None => Ok(None),
+    }
+}
+
+/// Repairs the text of a map, if it is refused as it is and the closed list of repairs suffices.
+///
+/// `base` and `limits` are those with which the map is read, before and after. The text is looked through a
+/// few times, whatever the number of repairs, and read twice. A map that needs anything else besides stays
+/// refused, and so does one that needs more than 65,536 repairs. Which section and which index a repair is
+/// told with is tested, and not promised.
+///
+/// # Errors
+///
+/// `AllocError`, also for a URL of 4 GiB or more.
+pub fn repair_text(
+    alloc: Global,
+    text: &[u8],
+    base: &Base,
+    limits: Limits,
+) -> Result<Repaired, AllocError>
+    ensures { IfOk result (IsRepaired base.now limits text.now) }
+{
+    let Some(fault) = fault_of(alloc, text, base, limits)? else {
+        return Ok(Repaired::Sound);
+    };
+    let Some(Mended { text, repairs }) = mended(alloc, text, base)? else {
+        return Ok(Repaired::Refused { fault, left: None });
+    };
+    match fault_of(alloc, &text, base, limits)? {
+        None => Ok(Repaired::Mended { text, repairs }),
+        Some(left) => Ok(Repaired::Refused {
+            fault,
+            left: Some(left),
+        }),
+    }
+}

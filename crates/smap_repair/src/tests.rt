@@ -1,0 +1,54 @@
+//! Rows for each repair, with what is said of it.
+use crate::{Repair, Repaired, repair_text, sentence};
+use smap_record::{Base, Limits};
+use std::alloc::Global;
+use std::test::Fail;
+
+/// A mended text, and behind it each repair in a line.
+fn mended_words(alloc: Global, text: &[u8], repairs: &[Repair]) -> Result<String, Fail> {
+    let mut words = String::from_str(alloc, str::from_utf8(text)?)?;
+    for repair in repairs {
+        words.push_str("\n")?;
+        words.push_str(sentence(alloc, repair)?.as_str())?;
+    }
+    Ok(words)
+}
+
+/// What becomes of a text.
+fn said(alloc: Global, text: &[u8]) -> Result<String, Fail> {
+    let base = Base::new(alloc, "http://h/m/out.js.map")?;
+    match repair_text(alloc, text, &base, Limits::usual())? {
+        Repaired::Sound => Ok(String::from_str(alloc, "sound")?),
+        Repaired::Refused { .. } => Ok(String::from_str(alloc, "refused")?),
+        Repaired::Mended { text, repairs } => mended_words(alloc, &text, &repairs),
+    }
+}
+
+#[test]
+fn a_mark_and_halves(rt: HostRuntime) -> Result<(), Fail> {
+    let text =
+        b"\xef\xbb\xbf{\"version\":3,\"mappings\":\"\",\"x\":\"\\ud800\\ud83d\\ude00\\\\ud800\"}";
+    assert_eq!(rt;
+        said(rt.alloc(), text)?.as_str(),
+        "{\"version\":3,\"mappings\":\"\",\"x\":\"\\ufffd\\ud83d\\ude00\\\\ud800\"}\n\
+         byte order mark: removed\n\
+         byte 32: \\ud800 becomes \\ufffd"
+    );
+    Ok(())
+}
+
+#[test]
+fn maps_of_sections(rt: HostRuntime) -> Result<(), Fail> {
+    let text =
+        b"{\"version\":3,\"mappings\":\"\",\"sections\":[{\"offset\":{\"line\":0,\"column\":0},\
+        \"map\":{\"version\":\"3\", \"sources\":[null,\"w://a [b/c\"],\"mappings\":\"\"}}]}";
+    assert_eq!(rt;
+        said(rt.alloc(), text)?.as_str(),
+        "{\"version\":3,\"mappings\":null,\"sections\":[{\"offset\":{\"line\":0,\"column\":0},\
+         \"map\":{\"version\":3, \"sources\":[null,\"w://a%20%5Bb/c\"],\"mappings\":\"\"}}]}\n\
+         mappings beside sections: \"\" becomes null\n\
+         version of section 0: \"3\" becomes 3\n\
+         source 1 of section 0: \"w://a [b/c\" becomes \"w://a%20%5Bb/c\""
+    );
+    Ok(())
+}
