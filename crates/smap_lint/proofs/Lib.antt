@@ -1,0 +1,6 @@
+pub mod WalkLemmas
+pub mod WidthLemmas
+pub mod ShareLemmas
+pub mod ContentLemmas
+pub mod IdLemmas
+pub mod MarkLemmas

@@ -1,0 +1,185 @@
+//! A folder and the names of its files.
+use smap_disk::{Disk, FileFault, Kind, read_file, reason, walk};
+use smap_host::{Host, Stop};
+use smap_link::file_url;
+use std::alloc::{AllocError, Global};
+use std::io::ErrorKind;
+
+/// The most bytes that a script, a map or a source may have.
+pub(crate) const LIMIT: u64 = 268_435_456;
+
+const ENDINGS: [&str; 5] = [".js", ".mjs", ".cjs", ".css", ".map"];
+
+/// A folder, and the names of the scripts and maps below it, in byte order.
+#[derive(Drop)]
+pub(crate) struct Folder<'a> {
+    /// As it was given, without slashes at its end; the root's is empty.
+    pub(crate) path: &'a str,
+    /// Whether its names are all that it has, and not those of one file that was given and its script or map.
+    pub(crate) is_whole: bool,
+    /// Its file: URL once links are followed, with a slash at its end.
+    pub(crate) url: String,
+    pub(crate) names: Vec<String>,
+    /// By the numbers of the names, whether a script was found to have this map.
+    used: Vec<bool>,
+}
+
+/// The path of a file below a folder.
+pub(crate) fn path_below(alloc: Global, folder: &str, name: &str) -> Result<String, AllocError> {
+    format!(in alloc; "{folder}/{name}")
+}
+
+/// The names of the scripts and maps in a folder and below it.
+fn names_in<E: Eprint + AllocGlobal, D: Disk>(
+    host: &Host<'_, E, D>,
+    given: &str,
+) -> Result<Vec<String>, Stop> {
+    let alloc = host.alloc();
+    let found = match walk(alloc, host.disk, given, &ENDINGS) {
+        Ok(found) => found,
+        Err(fault) => return Err(host.fail_walking(given, fault)),
+    };
+    host.say_unnamed(given, found.unnamed)?;
+    Ok(found.names)
+}
+
+/// The URL of a folder, with a slash at its end.
+fn url_of<E: Eprint + AllocGlobal, D: Disk>(
+    host: &Host<'_, E, D>,
+    given: &str,
+) -> Result<String, Stop> {
+    let alloc = host.alloc();
+    let path = match host.disk.real_path(alloc, given) {
+        Ok(path) => path,
+        Err(error) if error.kind() == ErrorKind::OutOfMemory => return Err(Stop::Memory),
+        Err(error) => return Err(host.fail_for(given, &error)),
+    };
+    match file_url(alloc, path.as_bytes()) {
+        Ok(Some(mut url)) => {
+            if !url.as_str().ends_with('/') {
+                url.push_str("/")?;
+            }
+            Ok(url)
+        }
+        Ok(None) => Err(host.fail_with(3, given, "has no path")),
+        Err(_) => Err(Stop::Memory),
+    }
+}
+
+/// The folder of a file, and its name there.
+fn parted(file: &str) -> (&str, &str) {
+    match file.rsplit_once('/') {
+        Some((folder, name)) => (folder, name),
+        None => (".", file),
+    }
+}
+
+/// The names in a folder of a script and its map, of which this is one: those that are files.
+fn pair_names<D: Disk>(
+    alloc: Global,
+    disk: &D,
+    folder: &str,
+    name: &str,
+) -> Result<Vec<String>, AllocError> {
+    let script = name.strip_suffix(".map").unwrap_or(name);
+    let map = format!(in alloc; "{script}.map")?;
+    let mut names = Vec::new(alloc);
+    for name in [script, map.as_str()] {
+        let path = path_below(alloc, folder, name)?;
+        if disk.kind(path.as_str()) == Kind::File {
+            let name = String::from_str(alloc, name)?;
+            if names.push(name).is_err() {
+                return Err(AllocError);
+            }
+        }
+    }
+    Ok(names)
+}
+
+impl<'a> Folder<'a> {
+    /// A folder with these names.
+    fn with<E: Eprint + AllocGlobal, D: Disk>(
+        host: &Host<'_, E, D>,
+        path: &'a str,
+        names: Vec<String>,
+        is_whole: bool,
+    ) -> Result<Folder<'a>, Stop> {
+        let top = if path.is_empty() { "/" } else { path };
+        let url = url_of(host, top)?;
+        let used = vec![in host.alloc(); false; names.len()]?;
+        Ok(Folder {
+            path,
+            is_whole,
+            url,
+            names,
+            used,
+        })
+    }
+
+    /// The folder with this path, or the one of the file with this path, with that file alone and its script
+    /// or map.
+    pub(crate) fn new<E: Eprint + AllocGlobal, D: Disk>(
+        host: &Host<'_, E, D>,
+        given: &'a str,
+    ) -> Result<Folder<'a>, Stop> {
+        if host.disk.kind(given) == Kind::File {
+            let (path, name) = parted(given);
+            let names = pair_names(host.alloc(), host.disk, path, name)?;
+            return Folder::with(host, path, names, false);
+        }
+        let names = names_in(host, given)?;
+        Folder::with(host, given.trim_end_matches('/'), names, true)
+    }
+
+    /// The number of the file with this name.
+    pub(crate) fn number(&self, name: &str) -> Option<usize> {
+        match self
+            .names
+            .binary_search_by(|other| other.as_str().cmp(name))
+        {
+            Ok(number) => Some(number),
+            Err(_) => None,
+        }
+    }
+
+    /// Notes that a script has the map with this number, and answers whether another one had it before.
+    pub(crate) fn use_map(&mut self, number: usize) -> bool {
+        match self.used.get_mut(number) {
+            Some(used) => {
+                let before = *used;
+                *used = true;
+                before
+            }
+            None => false,
+        }
+    }
+
+    /// Whether a script has the map with this number.
+    pub(crate) fn is_used(&self, number: usize) -> bool {
+        match self.used.get(number) {
+            Some(used) => *used,
+            None => false,
+        }
+    }
+}
+
+/// What a file holds; none if it can't be read, which is said.
+pub(crate) fn read<E: Eprint + AllocGlobal, D: Disk>(
+    host: &Host<'_, E, D>,
+    path: &str,
+) -> Result<Option<Vec<u8>>, Stop> {
+    let alloc = host.alloc();
+    match read_file(alloc, host.disk, path, LIMIT) {
+        Ok(bytes) => Ok(Some(bytes)),
+        Err(FileFault::Memory) => Err(Stop::Memory),
+        Err(FileFault::TooLong) => {
+            host.say_of(path, "input too long");
+            Ok(None)
+        }
+        Err(FileFault::Read(error)) => {
+            let why = reason(alloc, &error)?;
+            host.say_of(path, why.as_str());
+            Ok(None)
+        }
+    }
+}

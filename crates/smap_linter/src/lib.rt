@@ -1,0 +1,20 @@
+//! A run of `smap-maps lint` ([`lint`]): the scripts and maps of folders, one pair after the other, and what
+//! keeps the maps from working, as a report. Which rule finds what is in `smap_lint`, and the report's forms
+//! are in `smap_report`. The file system is `smap_disk`'s trait, so that tests have it in memory.
+#![tactic(auto)]
+
+mod asked;
+mod book;
+mod folder;
+mod links;
+mod maps;
+mod pairs;
+mod positions;
+mod program;
+mod scripts;
+mod sources;
+#[cfg(test)]
+mod tests;
+
+pub use asked::LintAsked;
+pub use program::lint;

@@ -1,0 +1,123 @@
+//! What a map says beside its mappings, and what it lists in vain.
+use crate::book::Book;
+use crate::pairs::Pair;
+use serde_json::Value;
+use smap_host::shown;
+use smap_lint::{
+    Check, Members, Paths, debug_id, file_agrees, members_of, repeated_count, same_id, unused_count,
+};
+use smap_record::SourceMap;
+use std::alloc::{AllocError, Global};
+
+/// A map's text without the line `)]}'` that may stand before it.
+fn json_of(bytes: &[u8]) -> &[u8] {
+    if !bytes.starts_with(b")]}'") {
+        return bytes;
+    }
+    match bytes.iter().position(|b| *b == b'\n') {
+        Some(at) => match bytes.get(at..) {
+            Some(rest) => rest,
+            None => bytes,
+        },
+        None => bytes,
+    }
+}
+
+/// Whether the debug ids of the script and the map are the same, where both have one.
+fn lint_ids(
+    alloc: Global,
+    book: &mut Book,
+    pair: &Pair<'_>,
+    members: &Members,
+) -> Result<(), AllocError> {
+    let (Some((_, text)), Some(of_map)) = (pair.script, &members.debug_id) else {
+        return Ok(());
+    };
+    let Some(of_script) = debug_id(text) else {
+        return Ok(());
+    };
+    if same_id(of_script, of_map.as_str().as_bytes()) {
+        return Ok(());
+    }
+    let of_script = shown(alloc, of_script)?;
+    let (of_script, of_map) = (of_script.as_str(), of_map.as_str());
+    let message = format!(in alloc; "has debug id {of_map}, and its script {of_script}")?;
+    book.add(Check::DebugId, pair.file, message)
+}
+
+fn lint_paths(
+    alloc: Global,
+    book: &mut Book,
+    pair: &Pair<'_>,
+    paths: &Paths,
+) -> Result<(), AllocError> {
+    if let Some(root) = &paths.absolute_root {
+        let root = root.as_str();
+        let message = format!(in alloc; "sourceRoot is an absolute path: {root}")?;
+        book.add(Check::AbsoluteRoot, pair.file, message)?;
+    }
+    if let Some(first) = &paths.machine_path {
+        let (first, count) = (first.as_str(), paths.machine_paths);
+        let message = format!(in alloc;
+            "sources by paths of the machine that built it: {count}, as {first}"
+        )?;
+        book.add(Check::MachinePath, pair.file, message)?;
+    }
+    Ok(())
+}
+
+/// Lints what a map says beside its mappings.
+pub(crate) fn lint_members(
+    alloc: Global,
+    book: &mut Book,
+    pair: &Pair<'_>,
+    bytes: &[u8],
+) -> Result<(), AllocError> {
+    let tree = match Value::from_slice(alloc, json_of(bytes)) {
+        Ok(tree) => tree,
+        Err(error) if error.is_memory() => return Err(AllocError),
+        Err(_) => return Ok(()),
+    };
+    let members = members_of(alloc, &tree)?;
+    drop(tree);
+    lint_ids(alloc, book, pair, &members)?;
+    lint_paths(alloc, book, pair, &members.paths)
+}
+
+/// Whether the member `file` names the script.
+fn lint_name(
+    alloc: Global,
+    book: &mut Book,
+    pair: &Pair<'_>,
+    map: &SourceMap,
+) -> Result<(), AllocError> {
+    let (Some((name, _)), Some(file)) = (pair.script, map.file()) else {
+        return Ok(());
+    };
+    if file_agrees(file.as_bytes(), name.as_bytes()) {
+        return Ok(());
+    }
+    let message = format!(in alloc; "is the map of {file}, and {name} has it")?;
+    book.add(Check::OtherFile, pair.file, message)
+}
+
+/// Lints what a map lists.
+pub(crate) fn lint_lists(
+    alloc: Global,
+    book: &mut Book,
+    pair: &Pair<'_>,
+    map: &SourceMap,
+) -> Result<(), AllocError> {
+    lint_name(alloc, book, pair, map)?;
+    let (repeated, listed) = (repeated_count(map), map.listed_count());
+    if repeated > 0 {
+        let message = format!(in alloc; "{repeated} of {listed} sources are listed before")?;
+        book.add(Check::RepeatedSource, pair.file, message)?;
+    }
+    let (unused, listed) = (unused_count(alloc, map)?, map.name_count());
+    if unused > 0 {
+        let message = format!(in alloc; "{unused} of {listed} names have no mapping")?;
+        book.add(Check::UnusedName, pair.file, message)?;
+    }
+    Ok(())
+}
