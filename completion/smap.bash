@@ -18,6 +18,8 @@ smap-maps: --version --help
 smap-maps check: --base --jobs --json --version --help
 smap-maps tidy: --base --jobs --json --absolute --relative --write --drop --diff --version --help
 smap-maps flatten: --base --jobs --json --write --drop --diff --version --help
+smap-maps lint: --base --jobs --format --rule --min-mapped --version --help
+smap-maps repair: --base --jobs --write --version --help
 '
 
 # Writes what a program takes next: the options of one of its commands, or with one argument its commands.
@@ -171,7 +173,12 @@ _smap() {
         _smap_files "$word" '' any
         return
         ;;
+    smap-maps:--format)
+        _smap_choose 'text gnu github sarif junit json' "$word"
+        return
+        ;;
     smap-maps:--base | smap-maps:--jobs | smap-view:--base) return ;;
+    smap-maps:--rule | smap-maps:--min-mapped) return ;;
     smap-trace:--context | smap-trace:--source-prefix) return ;;
     esac
     case $program:$word in

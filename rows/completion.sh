@@ -7,7 +7,8 @@ completion=$rows/../completion
 all_commands() {
     echo smap
     smap --help | sed -n '/^Commands:/,/^$/s/^  \([a-z]*\) .*/smap \1/p'
-    printf '%s\n' smap-trace smap-view 'smap-maps check' 'smap-maps tidy' 'smap-maps flatten'
+    printf '%s\n' smap-trace smap-view 'smap-maps check' 'smap-maps tidy' 'smap-maps flatten' \
+        'smap-maps lint' 'smap-maps repair'
 }
 
 # The long options that the completion of a shell has for a command, one a line: those of its bash, zsh or
@@ -68,7 +69,7 @@ compare() {
 
 # Says which options that a completion has for a command of smap-maps that command doesn't take.
 refused_by_maps() {
-    for command in check tidy flatten; do
+    for command in check tidy flatten lint repair; do
         options_in "$1" "smap-maps $command" | while read -r option; do
             smap-maps "$command" "$option" 2>&1 | grep -e 'no such option' -e ' has no '
         done

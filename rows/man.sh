@@ -26,6 +26,7 @@ run_example() {
     mkdir bin
     ln -s "$SMAP" bin/smap
     ln -s smap bin/smap-trace
+    ln -s smap bin/smap-maps
     PATH=$work/bin:$PATH sh ./commands >written 2>&1
     diff wanted written
     grep -c '' commands

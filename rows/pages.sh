@@ -10,6 +10,7 @@ run_blocks() {
     mkdir -p bin room
     ln -sf "$SMAP" bin/smap
     ln -sf smap bin/smap-trace
+    ln -sf smap bin/smap-maps
     for heading in "$@"; do
         grep -q "^$heading-[0-9]*$" names || echo "no block below $heading"
     done

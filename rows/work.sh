@@ -30,24 +30,6 @@ maps_at() {
     done
 }
 
-# Makes a program, slow, that works as smap does once the file `seen` shows how many maps of $1 are done before.
-slow_smap() {
-    : >calls
-    cat >slow <<END
-#!/bin/sh
-before=\$((\$(wc -l <calls)))
-echo >>calls
-tries=0
-until grep -q "\$before of $1" seen || [ "\$tries" -eq 200 ]; do
-    tries=\$((tries + 1))
-    sleep 0.1
-done
-exec "$SMAP" "\$@"
-END
-    chmod +x slow
-    SMAP=$work/slow
-}
-
 # Runs a command with the rights of nobody, where it would have those of root. The programs are copied
 # to where nobody can read them.
 as_nobody() {
@@ -58,6 +40,7 @@ as_nobody() {
     mkdir -p programs
     cp "$SMAP" "$rows"/../scripts/smap-* programs
     ln -sf smap programs/smap-trace
+    ln -sf smap programs/smap-maps
     chmod -R a+rX programs
     if command -v setpriv >/dev/null; then
         SMAP=$work/programs/smap PATH=$work/programs:$PATH \

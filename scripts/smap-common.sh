@@ -1,6 +1,5 @@
 # shellcheck shell=sh disable=SC2034,SC2154
-# Functions that smap-maps and smap-view share. Each script sets `me`, its name, and `here`, its
-# folder, before it reads this file.
+# Functions of smap-view, which sets `me`, its name, and `here`, its folder, before it reads this file.
 
 LC_ALL=C
 export LC_ALL
@@ -64,8 +63,6 @@ no_room() {
 # Makes the folder for temporary files, which is removed at the end and on signals.
 make_room() {
     room=
-    workers=
-    shower=
     trap clean_up EXIT
     trap 'stop 129' HUP
     trap 'stop 130' INT
@@ -73,7 +70,6 @@ make_room() {
     # a reader that is gone, as after `| head`
     trap 'exit 141' PIPE
     room=$(mktemp -d 2>/dev/null) || no_room
-    { echo trace >"$room/trace" && { echo && echo trace; } >"$room/end"; } 2>/dev/null || no_room
 }
 
 # Removes the temporary files. Another signal doesn't stop that.
@@ -82,13 +78,9 @@ clean_up() {
     [ -z "$room" ] || rm -rf "$room"
 }
 
-# Ends after a signal: workers end first, so that they leave nothing behind.
+# Ends after a signal.
 stop() {
     trap '' HUP INT TERM
-    # shellcheck disable=SC2086
-    [ -z "$workers$shower" ] || kill $workers $shower 2>/dev/null
-    wait
-    [ -z "$shower" ] || erase_progress
     # if a signal comes while the shell ends, nothing else does this
     clean_up
     exit "$1"
@@ -106,16 +98,6 @@ deliver() {
     judge_writing "$?" "$said"
 }
 
-# Writes a line to standard output, as make_shown makes it. If that fails, `cat` tries it again, since it says
-# why.
-put() {
-    make_shown "$1"
-    if ! { printf '%s\n' "$shown" >&5; } 2>/dev/null; then
-        printf '%s\n' "$shown" >"$room/unwritten" || no_room
-        deliver "$room/unwritten"
-    fi
-}
-
 # Ends if `cat` couldn't write, as its status and its message say. Where the reader is gone, that is quiet,
 # with the status of a program that SIGPIPE has ended.
 judge_writing() {
@@ -128,7 +110,7 @@ judge_writing() {
 
 # ---- names
 
-# Functions of awk that more than one program needs. `encode` gives a path as in a URL: each byte that a URL
+# Functions of awk. `encode` gives a path as in a URL: each byte that a URL
 # can't have there is percent-encoded. `escape` gives a line with its control characters, of one byte or of two
 # in UTF-8, as in JSON.
 # shellcheck disable=SC2016
@@ -167,75 +149,10 @@ encode() {
     encoded=${encoded%/}
 }
 
-# Writes the names of files in a folder and below it, relative to the folder, one a line in byte order. What
-# follows the folder are tests of `find`; the names end in .map.
-files_below() {
-    folder=$1
-    given=$1
-    shift
-    case $folder in [!A-Za-z0-9/._]*) folder=./$folder ;; esac
-    # find writes twice what may be no file: links, and pipes
-    if ! find "$folder/" \( "$@" \) ! -type d \( -type f -o -print \) -print \
-        >"$room/found" 2>"$room/find.err"; then
-        [ -s "$room/find.err" ] || no_room
-        fail "cannot read all of $given: $(sed -e 's/^find: //' -e 1q "$room/find.err")" 3
-    fi
-    sort "$room/found" >"$room/sorted" || no_room
-    uniq -d "$room/sorted" | while IFS= read -r found; do
-        [ -f "$found" ] || printf '%s\n' "$found" 2>/dev/null || no_room
-    done >"$room/others" || exit
-    rm -f "$room/cut"
-    folder=$folder awk -v room="$room" '
-        others { is_other[$0] = 1; next }
-        $0 == last { next }
-        {
-            last = name = $0
-            front = ENVIRON["folder"] "/"
-            is_below = index(name, front) == 1
-            if (is_below) name = substr(name, length(front) + 1)
-            if (!is_below || name !~ /\.map$/) {
-                print name >(room "/cut")
-                exit
-            }
-            sub(/^\//, "", name)
-            if (!($0 in is_other)) print name
-        }' others=1 "$room/others" others= "$room/sorted" || no_room
-    [ ! -e "$room/cut" ] || fail "a file name in $given holds a line feed: $(cat "$room/cut")"
-}
-
-# Ends because there is no map in the folder $parent, which was given as $1.
-no_maps() {
-    case $parent in [!A-Za-z0-9/._]*) parent=./$parent ;; esac
-    if [ -n "$(find "$parent/" -type l)" ] && [ -z "$(find "$parent/" ! -type l ! -type d)" ]; then
-        fail "no *.map in $1, which holds only links (those to folders aren't followed)"
-    fi
-    fail "no *.map in $1"
-}
-
-# Sets `folder` to a folder's name without slashes at its end; the root becomes empty.
-without_slashes() {
-    folder=$1
-    while [ "$folder" != "${folder%/}" ]; do
-        folder=${folder%/}
-    done
-}
-
 # Whether a file is a file of a folder, or of one below it, once links are followed.
 is_below() {
     [ -f "$1" ] && real=$(readlink -f -- "$1") && top=$(cd -- "$2" 2>/dev/null && pwd -P) || return 1
     case $real in "${top%/}"/*) ;; *) return 1 ;; esac
-}
-
-# Splits a line of a list. `path` is the file under a name that no command takes for an option.
-take_apart() {
-    name=${1%% *}
-    rest=${1#* }
-    base=${rest%% *}
-    file=${rest#* }
-    case $file in
-    /*) path=$file ;;
-    *) path=./$file ;;
-    esac
 }
 
 # Sets `above` to the URL of a folder: the one that is given, or its own.

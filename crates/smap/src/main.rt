@@ -1,7 +1,8 @@
-//! The programs of this repository in one, each by the name that it is called by: `smap-trace`, or `smap` by
-//! any other. `smap` reads its arguments as a task, runs it on the standard streams and exits with its status;
-//! what each run reads and writes is defined in `smap_tool`. Standard input is buffered there, since a bundle's
-//! headers are read byte by byte. `smap-trace` is a run of `smap_tracer` over the file system.
+//! The programs of this repository in one, each by the name that it is called by: `smap-trace`, `smap-maps`,
+//! or `smap` by any other. `smap` reads its arguments as a task, runs it on the standard streams and exits
+//! with its status; what each run reads and writes is defined in `smap_tool`. Standard input is buffered
+//! there, since a bundle's headers are read byte by byte. `smap-trace` is a run of `smap_tracer` over the
+//! file system, and `smap-maps` one of `smap_mapper`.
 #![tactic(auto)]
 
 mod standard;
@@ -12,7 +13,7 @@ use smap_tool::{RunFault, WordsFault, run, status, task_of};
 use standard::{input, is_output_closed, placeholders};
 use std::alloc::{AllocError, Global};
 use std::env;
-use std::io::{self, BufReader, ErrorKind};
+use std::io::{self, BufReader, ErrorKind, IsTerminal};
 use std::process::ExitCode;
 use std::rt::Env;
 
@@ -66,6 +67,20 @@ fn trace(rt: &HostRuntime, words: &[&str]) -> u8 {
     status
 }
 
+/// Runs `smap-maps`.
+fn maps(rt: &HostRuntime, words: &[&str]) -> u8 {
+    let disk = System::new(rt);
+    if is_output_closed(&disk) {
+        let _ = eprint!(rt; "smap-maps: cannot write: standard output is closed\n");
+        return 3;
+    }
+    let held = placeholders(rt.alloc(), &disk);
+    let on_terminal = rt.stderr().is_terminal();
+    let status = smap_mapper::run(rt, &disk, words, on_terminal, io::writer(rt));
+    drop(held);
+    status
+}
+
 /// Runs `smap`.
 fn map(rt: &HostRuntime, words: &[&str]) -> u8 {
     match task_of(rt.alloc(), words) {
@@ -112,6 +127,7 @@ fn main(rt: HostRuntime) -> ExitCode {
     let words = words.as_slice();
     ExitCode::from(match name(words) {
         "smap-trace" => trace(&rt, words),
+        "smap-maps" => maps(&rt, words),
         _ => map(&rt, words),
     })
 }

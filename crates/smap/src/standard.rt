@@ -1,5 +1,6 @@
-//! The standard streams as `smap-trace` has them. A descriptor that is closed is told by its name in `/proc`,
-//! before anything is opened that could take its number; where there is no `/proc`, none is taken for closed.
+//! The standard streams as `smap-trace` and `smap-maps` have them. A descriptor that is closed is told by its
+//! name in `/proc`, before anything is opened that could take its number; where there is no `/proc`, none is
+//! taken for closed.
 use smap_disk::{Disk, Kind};
 use smap_tracer::{Input, InputKind};
 use std::alloc::Global;

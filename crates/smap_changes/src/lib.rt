@@ -1,0 +1,11 @@
+//! What a rewrite changes of a map, in words, member by member ([`changes`]): a map is one line mostly, so that
+//! no comparison of lines says anything. `docs/OUTPUT.md` has the lines.
+#![tactic(auto)]
+
+mod comparing;
+mod entries;
+mod showing;
+#[cfg(test)]
+mod tests;
+
+pub use comparing::changes;

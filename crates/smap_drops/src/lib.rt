@@ -1,0 +1,16 @@
+//! What a rewrite of a source map drops: the members that the canonical form, or a flat map, doesn't have
+//! ([`dropped`]), asked of the map's JSON tree ([`tree_of`]). Members of sections are those of the tree's
+//! sections, at any level, and of their maps.
+#![tactic(auto)]
+
+mod members;
+mod naming;
+mod reading;
+mod sections;
+#[cfg(test)]
+mod tests;
+
+pub use members::Part;
+pub use naming::{MOST_SHOWN, shown_name};
+pub use reading::tree_of;
+pub use sections::{Drops, dropped};

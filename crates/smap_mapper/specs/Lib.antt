@@ -1,0 +1,4 @@
+pub mod Deciding
+pub mod Forms
+pub mod Judging
+pub mod Outcomes

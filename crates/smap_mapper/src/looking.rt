@@ -1,0 +1,227 @@
+//! One map: read, checked, and rewritten if it would change.
+ghost use Rattle.smap_record.specs.Reading.{reading};
+ghost use Rattle.smap_record.specs.Record.{usual};
+ghost use Rattle.smap_record.specs.Results.{Returns};
+ghost use Rattle.smap_mapper.specs.Judging.{IsJudged, IsJudgedFor};
+
+use crate::deciding::{Deed, decided};
+use crate::forms::{Form, formed};
+use crate::outcome::{Failure, Outcome, Start, Verdict};
+use crate::replacing::replace;
+use crate::targets::Target;
+use serde_json::Value;
+use smap_changes::changes;
+use smap_disk::{Disk, FileFault, read_file};
+use smap_drops::{Drops, dropped, tree_of};
+use smap_maps_words::Rewrite;
+use smap_record::{Base, BaseFault, Limits, ReadError, SourceMap};
+use std::alloc::{AllocError, Global};
+
+/// The most bytes that a map may have.
+const LIMIT: u64 = 268_435_456;
+
+/// What an outcome is without a rewrite.
+pub(crate) fn plain(alloc: Global, verdict: Verdict) -> Outcome {
+    Outcome {
+        verdict,
+        drops: Vec::new(alloc),
+        changes: Vec::new(alloc),
+    }
+}
+
+pub(crate) fn start_of(bytes: &[u8]) -> Start {
+    if bytes.starts_with(b"\xef\xbb\xbf") {
+        Start::Mark
+    } else if bytes.starts_with(b"\x1f\x8b") {
+        Start::Gzip
+    } else {
+        Start::Other
+    }
+}
+
+/// A file's bytes.
+pub(crate) fn bytes_of<D: Disk>(alloc: Global, disk: &D, path: &str) -> Result<Vec<u8>, Verdict> {
+    match read_file(alloc, disk, path, LIMIT) {
+        Ok(bytes) => Ok(bytes),
+        Err(FileFault::TooLong) => Err(Verdict::Failed(Failure::TooLong)),
+        Err(FileFault::Read(_)) => Err(Verdict::Failed(Failure::Unread)),
+        Err(FileFault::Memory) => Err(Verdict::Failed(Failure::Memory)),
+    }
+}
+
+/// What a map that isn't read is.
+fn verdict_of(error: ReadError, start: Start) -> Verdict
+    ensures { IsJudgedFor error result }
+{
+    match error {
+        ReadError::Refused(fault) => Verdict::Refused(fault, start),
+        ReadError::Memory => Verdict::Failed(Failure::Memory),
+    }
+}
+
+pub(crate) fn base_of(alloc: Global, url: &[u8]) -> Result<Base, Verdict> {
+    let Ok(url) = std::str::from_utf8(url) else {
+        return Err(Verdict::NotUrl);
+    };
+    match Base::new(alloc, url) {
+        Ok(base) => Ok(base),
+        Err(BaseFault::NotUrl) => Err(Verdict::NotUrl),
+        Err(BaseFault::Memory) => Err(Verdict::Failed(Failure::Memory)),
+    }
+}
+
+/// The map that these bytes are.
+fn map_of(alloc: Global, base: &Base, bytes: Vec<u8>) -> Result<SourceMap, ReadError>
+    ensures { Returns (λ m. m) result (reading base.now usual bytes.items) }
+{
+    SourceMap::from_vec(alloc, bytes, base, Limits::usual())
+}
+
+/// What a map is that these bytes should be.
+fn judged(alloc: Global, base: &Base, bytes: Vec<u8>) -> Verdict
+    ensures { IsJudged (reading base.now usual bytes.items) result }
+{
+    let start = start_of(&bytes);
+    match map_of(alloc, base, bytes) {
+        Ok(map) => {
+            drop(map);
+            Verdict::Accepted
+        }
+        Err(error) => verdict_of(error, start),
+    }
+}
+
+fn checked<D: Disk>(alloc: Global, disk: &D, target: &Target) -> Result<Verdict, Verdict> {
+    let bytes = bytes_of(alloc, disk, target.file.as_str())?;
+    let base = base_of(alloc, &target.url)?;
+    Ok(judged(alloc, &base, bytes))
+}
+
+/// Checks a map.
+pub(crate) fn check<D: Disk>(alloc: Global, disk: &D, target: &Target) -> Outcome {
+    match checked(alloc, disk, target) {
+        Ok(verdict) | Err(verdict) => plain(alloc, verdict),
+    }
+}
+
+/// The tree of a map that is accepted.
+fn tree(alloc: Global, bytes: &[u8]) -> Result<Value, AllocError> {
+    match tree_of(alloc, bytes) {
+        Ok(tree) => Ok(tree),
+        Err(_) => Err(AllocError),
+    }
+}
+
+/// The names of what is dropped.
+fn names_of(alloc: Global, drops: &Drops<'_>) -> Result<Vec<String>, AllocError> {
+    let mut names = Vec::new(alloc);
+    for name in &drops.own {
+        names.push(String::from_str(alloc, *name)?)?;
+    }
+    for name in &drops.in_sections {
+        let name = *name;
+        names.push(format!(in alloc; "sections.{name}")?)?;
+    }
+    Ok(names)
+}
+
+/// The names of what a rewrite drops of a tree.
+fn lost_names(alloc: Global, before: &Value) -> Result<Vec<String>, AllocError> {
+    let drops = dropped(alloc, before)?;
+    names_of(alloc, &drops)
+}
+
+/// What changes of a tree, if that is asked for.
+fn changes_of(
+    alloc: Global,
+    before: &Value,
+    text: &[u8],
+    shows: bool,
+) -> Result<Vec<String>, AllocError> {
+    if !shows {
+        return Ok(Vec::new(alloc));
+    }
+    let after = tree(alloc, text)?;
+    changes(alloc, before, &after)
+}
+
+/// What is dropped and, if that is asked for, what changes.
+fn differences(
+    alloc: Global,
+    bytes: &[u8],
+    text: &[u8],
+    shows: bool,
+) -> Result<(Vec<String>, Vec<String>), AllocError> {
+    let before = tree(alloc, bytes)?;
+    let names = lost_names(alloc, &before)?;
+    let changes = changes_of(alloc, &before, text, shows)?;
+    Ok((names, changes))
+}
+
+/// Does with a map that would change what is to be done.
+pub(crate) fn change<D: Disk>(
+    alloc: Global,
+    disk: &D,
+    path: &str,
+    text: &[u8],
+    deed: Deed,
+) -> Verdict {
+    match deed {
+        Deed::Tell | Deed::Show => Verdict::Changed,
+        Deed::Keep => Verdict::Kept,
+        Deed::Write => match replace(alloc, disk, path, text) {
+            Ok(()) => Verdict::Rewritten,
+            Err(failure) => Verdict::Failed(failure),
+        },
+    }
+}
+
+/// Compares a map with a form of it.
+fn compared<D: Disk>(
+    alloc: Global,
+    disk: &D,
+    target: &Target,
+    form: Form,
+    rewrite: Rewrite,
+) -> Result<Outcome, Verdict> {
+    let path = target.file.as_str();
+    let bytes = bytes_of(alloc, disk, path)?;
+    let base = base_of(alloc, &target.url)?;
+    let text = match formed(alloc, form, &base, &bytes) {
+        Ok(text) => text,
+        Err(error) => return Err(verdict_of(error, start_of(&bytes))),
+    };
+    if text.as_slice() == bytes.as_slice() {
+        return Ok(plain(alloc, Verdict::Unchanged));
+    }
+    let shows = rewrite == Rewrite::Diff;
+    let Ok((drops, changes)) = differences(alloc, &bytes, &text, shows) else {
+        return Err(Verdict::Failed(Failure::Memory));
+    };
+    let verdict = change(
+        alloc,
+        disk,
+        path,
+        &text,
+        decided(rewrite, !drops.is_empty()),
+    );
+    Ok(Outcome {
+        verdict,
+        drops,
+        changes,
+    })
+}
+
+/// Tidies or flattens a map.
+pub(crate) fn compare<D: Disk>(
+    alloc: Global,
+    disk: &D,
+    target: &Target,
+    form: Form,
+    rewrite: Rewrite,
+) -> Outcome {
+    match compared(alloc, disk, target, form, rewrite) {
+        Ok(outcome) => outcome,
+        Err(verdict) => plain(alloc, verdict),
+    }
+}

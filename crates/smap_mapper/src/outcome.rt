@@ -1,0 +1,131 @@
+//! What became of a map, and the status of that.
+ghost use Rattle.std.specs.Prelude.{◌≡◌};
+ghost use Rattle.smap_mapper.specs.Outcomes as spec;
+
+use smap_record::Fault;
+
+/// What a file shows at its beginning that is no map.
+#[derive(Clone, Copy, Debug, PartialEq, Eq)]
+pub(crate) enum Start {
+    /// A byte order mark.
+    Mark,
+    /// That it is compressed by gzip.
+    Gzip,
+    Other,
+}
+
+/// Why a map is neither accepted nor refused, or can't be replaced.
+#[derive(Clone, Copy, Debug, PartialEq, Eq)]
+pub(crate) enum Failure {
+    /// The file can't be read.
+    Unread,
+    /// It has more than 268,435,456 bytes.
+    TooLong,
+    /// It may not be written.
+    Unwritable,
+    /// No file can be made in its folder.
+    Folder,
+    /// The new file wasn't written in full.
+    NotWritten,
+    /// Out of memory.
+    Memory,
+}
+
+/// What became of a map.
+#[derive(Debug, Drop)]
+pub(crate) enum Verdict {
+    /// It is a map: nothing more was asked.
+    Accepted,
+    /// It is as it would be written.
+    Unchanged,
+    /// It would change.
+    Changed,
+    /// It would lose members, and wasn't rewritten.
+    Kept,
+    Rewritten,
+    Refused(Fault, Start),
+    /// Its own URL is none.
+    NotUrl,
+    Failed(Failure),
+}
+
+impl Verdict {
+    /// Its name in a line of JSON.
+    pub(crate) fn name(&self) -> &'static str
+        ensures { result.now ≡ spec.name self.now }
+    {
+        match self {
+            Verdict::Accepted => "accepted",
+            Verdict::Unchanged => "unchanged",
+            Verdict::Changed => "changed",
+            Verdict::Kept => "kept",
+            Verdict::Rewritten => "rewritten",
+            Verdict::Refused(_, _) | Verdict::NotUrl => "refused",
+            Verdict::Failed(_) => "failed",
+        }
+    }
+
+    /// The exit status of a run over this map alone.
+    pub(crate) fn status(&self) -> u8
+        ensures { result ≡ spec.status self.now }
+    {
+        match self {
+            Verdict::Accepted | Verdict::Unchanged | Verdict::Rewritten => 0,
+            Verdict::Changed | Verdict::Kept | Verdict::Refused(_, _) | Verdict::NotUrl => 1,
+            Verdict::Failed(Failure::Memory) => 4,
+            Verdict::Failed(_) => 3,
+        }
+    }
+}
+
+/// What became of a map, and what a rewrite of it drops and changes.
+#[derive(Debug, Drop)]
+pub(crate) struct Outcome {
+    pub(crate) verdict: Verdict,
+    /// The names of the members that a rewrite drops, those of sections behind `sections.`.
+    pub(crate) drops: Vec<String>,
+    /// What a rewrite changes, if that is asked for; of a map that stays refused, what repairs would leave.
+    pub(crate) changes: Vec<String>,
+}
+
+/// The maps that were looked at.
+#[derive(Clone, Copy, Debug, PartialEq, Eq)]
+pub(crate) struct Tally {
+    pub(crate) accepted: usize,
+    /// Those with another status than 0.
+    pub(crate) refused: usize,
+    /// The greatest status of all.
+    pub(crate) worst: u8,
+}
+
+impl Tally {
+    pub(crate) fn new() -> Tally
+        ensures { result ≡ spec.none }
+    {
+        Tally {
+            accepted: 0,
+            refused: 0,
+            worst: 0,
+        }
+    }
+
+    /// The same with one map more.
+    pub(crate) fn with(self, status: u8) -> Tally
+        ensures { result ≡ spec.with_map self status }
+    {
+        let worst = self.worst.max(status);
+        if status == 0 {
+            Tally {
+                accepted: self.accepted.saturating_add(1),
+                refused: self.refused,
+                worst,
+            }
+        } else {
+            Tally {
+                accepted: self.accepted,
+                refused: self.refused.saturating_add(1),
+                worst,
+            }
+        }
+    }
+}

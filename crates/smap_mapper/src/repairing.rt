@@ -1,0 +1,90 @@
+//! One map that is refused: repaired, and rewritten if that is wanted.
+
+use crate::deciding::Deed;
+use crate::looking::{base_of, bytes_of, change, plain, start_of};
+use crate::outcome::{Failure, Outcome, Verdict};
+use crate::targets::Target;
+use smap_disk::Disk;
+use smap_record::{Base, Fault, Limits};
+use smap_repair::{Repair, Repaired, repair_text, sentence};
+use std::alloc::{AllocError, Global};
+
+fn sentences(alloc: Global, repairs: &[Repair]) -> Result<Vec<String>, AllocError> {
+    let mut all = Vec::with_capacity(alloc, repairs.len())?;
+    for repair in repairs {
+        all.push(sentence(alloc, repair)?)?;
+    }
+    Ok(all)
+}
+
+/// The fault that repairs leave, if it is another one.
+fn left_text(
+    alloc: Global,
+    fault: &Fault,
+    left: &Option<Fault>,
+) -> Result<Vec<String>, AllocError> {
+    let mut all = Vec::new(alloc);
+    if let Some(left) = left {
+        if left != fault {
+            all.push(format!(in alloc; "{left}")?)?;
+        }
+    }
+    Ok(all)
+}
+
+/// A map that stays refused, with the fault that repairs would leave.
+fn refused(alloc: Global, bytes: &[u8], fault: Fault, left: &Option<Fault>) -> Outcome {
+    match left_text(alloc, &fault, left) {
+        Ok(changes) => Outcome {
+            verdict: Verdict::Refused(fault, start_of(bytes)),
+            drops: Vec::new(alloc),
+            changes,
+        },
+        Err(_) => plain(alloc, Verdict::Failed(Failure::Memory)),
+    }
+}
+
+/// What becomes of these bytes: the mended text with what was done, or what the map is without a repair.
+fn mended(alloc: Global, base: &Base, bytes: &[u8]) -> Result<(Vec<u8>, Vec<String>), Outcome> {
+    match repair_text(alloc, bytes, base, Limits::usual()) {
+        Ok(Repaired::Sound) => Err(plain(alloc, Verdict::Unchanged)),
+        Ok(Repaired::Refused { fault, left }) => Err(refused(alloc, bytes, fault, &left)),
+        Ok(Repaired::Mended { text, repairs }) => match sentences(alloc, &repairs) {
+            Ok(sentences) => Ok((text, sentences)),
+            Err(_) => Err(plain(alloc, Verdict::Failed(Failure::Memory))),
+        },
+        Err(_) => Err(plain(alloc, Verdict::Failed(Failure::Memory))),
+    }
+}
+
+/// What becomes of the map in a file with these bytes.
+fn repaired<D: Disk>(
+    alloc: Global,
+    disk: &D,
+    target: &Target,
+    bytes: &[u8],
+    base: &Base,
+    write: bool,
+) -> Outcome {
+    let deed = if write { Deed::Write } else { Deed::Show };
+    match mended(alloc, base, bytes) {
+        Ok((text, changes)) => Outcome {
+            verdict: change(alloc, disk, target.file.as_str(), &text, deed),
+            drops: Vec::new(alloc),
+            changes,
+        },
+        Err(outcome) => outcome,
+    }
+}
+
+/// Repairs a map.
+pub(crate) fn repair<D: Disk>(alloc: Global, disk: &D, target: &Target, write: bool) -> Outcome {
+    let bytes = match bytes_of(alloc, disk, target.file.as_str()) {
+        Ok(bytes) => bytes,
+        Err(verdict) => return plain(alloc, verdict),
+    };
+    match base_of(alloc, &target.url) {
+        Ok(base) => repaired(alloc, disk, target, &bytes, &base, write),
+        Err(verdict) => plain(alloc, verdict),
+    }
+}

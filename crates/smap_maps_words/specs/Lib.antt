@@ -1,0 +1,5 @@
+pub mod Line
+pub mod Options
+pub mod Request
+pub mod Rows
+pub mod Values

@@ -1,0 +1,104 @@
+use crate::{
+    Asked, Format, HELP, Level, MapsWords, Rewrite, RuleLevel, Task, VERSION, maps_words, message,
+};
+use std::alloc::Global;
+use std::process::Abort;
+use std::test::Fail;
+
+/// The values of words that are right.
+fn asked<'a>(alloc: Global, words: &'a [&'a str]) -> Result<MapsWords<'a>, Fail> {
+    match maps_words(alloc, words) {
+        Ok(Asked::Maps(asked)) => Ok(asked),
+        Ok(_) => Err(Fail::from("help or the version")),
+        Err(fault) => Err(Fail::from(message(alloc, &fault)?.as_str())),
+    }
+}
+
+#[test]
+fn rewriting(rt: HostRuntime) -> Result<(), Fail> {
+    let words = [
+        "smap-maps",
+        "--base=http://h/m/",
+        "tidy",
+        "dist",
+        "--write",
+        "--jobs",
+        "4",
+        "--drop",
+        "--",
+        "-x.map",
+    ];
+    let asked = asked(rt.alloc(), words.as_slice())?;
+    let rewrite = Rewrite::Write {
+        drop: true,
+        json: false,
+    };
+    assert!(rt;
+        matches!(asked.task, Task::Tidy { relative: true, rewrite: found } if found == rewrite)
+    );
+    assert_eq!(rt; asked.base, Some("http://h/m/"));
+    assert_eq!(rt; asked.paths.as_slice(), ["dist", "-x.map"].as_slice());
+    Ok(())
+}
+
+#[test]
+fn linting(rt: HostRuntime) -> Result<(), Fail> {
+    let words = [
+        "smap-maps",
+        "lint",
+        "--format=sarif",
+        "--rule",
+        "no-content=off",
+        "dist",
+        "--min-mapped=90",
+    ];
+    let asked = asked(rt.alloc(), words.as_slice())?;
+    let Task::Lint {
+        format,
+        rules,
+        min_mapped,
+    } = &asked.task
+    else {
+        return Err(Fail::from("another command"));
+    };
+    assert_eq!(rt; *format, Format::Sarif);
+    assert_eq!(rt; *min_mapped, Some(90));
+    let rule = RuleLevel {
+        rule: "no-content",
+        level: Level::Off,
+    };
+    assert_eq!(rt; rules.as_slice(), [rule].as_slice());
+    Ok(())
+}
+
+/// Words behind the name of the program, and what is said of them.
+fn says(rt: &(impl Abort + AllocGlobal), words: [&str; 4], text: &str) -> Result<(), Fail> {
+    let said = match maps_words(rt.alloc(), words.as_slice()) {
+        Ok(_) => String::from_str(rt.alloc(), "nothing")?,
+        Err(fault) => message(rt.alloc(), &fault)?,
+    };
+    assert_eq!(rt; said.as_str(), text);
+    Ok(())
+}
+
+#[test]
+fn faults(rt: HostRuntime) -> Result<(), Fail> {
+    says(&rt, ["", "check", "--write", "m"], "check has no --write")?;
+    says(&rt, ["", "tidy", "m", "--base"], "--base needs a URL")?;
+    says(&rt, ["", "check", "--all", "m"], "no such option: --all")?;
+    says(
+        &rt,
+        ["", "check", "--jobs=0", "m"],
+        "--jobs needs a number from 1: 0",
+    )?;
+    Ok(())
+}
+
+#[test]
+fn requests(rt: HostRuntime) -> Result<(), Fail> {
+    let words = ["smap-maps", "-h"];
+    assert!(rt; matches!(maps_words(rt.alloc(), words.as_slice()), Ok(Asked::Help)));
+    assert!(rt; HELP.starts_with("Usage: smap-maps check [--base URL]"));
+    assert_eq!(rt; VERSION, "smap 0.2.0\n");
+    Ok(())
+}
