@@ -30,6 +30,13 @@ runs_example() {
     in_root sh -c 'cd /try/example && sh ./command >written && diff wanted written'
 }
 
+# The archive by the line of README, for a user whose home folder is new.
+unpacks_in_root() {
+    as_root cp "$dist/$archive.tar.gz" "$root/try" && install_line 'mkdir -p ~/.local &&' >"$work/line" &&
+        in_root sh -c "export HOME=/try/home; mkdir /try/home && cd /try && $(cat "$work/line") &&
+            PATH=/try/home/.local/bin:\$PATH && cd example && sh ./command >written && diff wanted written"
+}
+
 says_number() {
     for program in smap smap-trace smap-maps smap-view; do
         [ "$(in_root "$program" --version)" = "smap $version" ] || return 1
@@ -45,20 +52,21 @@ completes_in_root() {
 }
 
 removes_program() {
-    apt purge smap && contents | diff "$work/before" - &&
+    apt purge --autoremove smap && contents | diff "$work/before" - &&
         [ -z "$(in_root dpkg-query -W 'smap*' 2>/dev/null)" ]
 }
 
-# Where the processor lacks an instruction of x86-64-v2, the package isn't installed and says why. The root
-# has no /proc of its own, so a file can stand there.
+# Debian's package that wants the instructions is installed first, and on a processor without them it isn't:
+# then smap isn't unpacked. The program that looks at the processor is made to say so.
 says_processor_is_old() {
-    sed 's/^\(flags.*\) sse4_2/\1/' /proc/cpuinfo >"$work/cpuinfo"
-    as_root cp "$work/cpuinfo" "$root/proc/cpuinfo"
-    apt install "/try/smap_${version}_amd64.deb" >"$work/said" 2>&1
-    status=$?
-    as_root rm "$root/proc/cpuinfo"
+    apt install isa-support || return 1
+    for file in "$root"/usr/libexec/*/isa-support/test-*; do
+        printf '#!/bin/sh\nexit 1\n' | as_root tee "$file" >"$work/tester" || return 1
+    done
+    ! apt install "/try/smap_${version}_amd64.deb" >"$work/said" 2>&1 || return 1
     cat "$work/said"
-    [ "$status" -ne 0 ] && grep -x 'smap needs .* x86-64-v2: sse4_2 is missing' "$work/said" && apt purge smap
+    grep "^This machine doesn't support" "$work/said" && [ ! -e "$root/usr/bin/smap" ] &&
+        apt purge --autoremove isa-support
 }
 
 installs_all() {
@@ -117,7 +125,7 @@ upgrades() {
 
 removes_all() {
     # shellcheck disable=SC2086
-    apt purge $names && contents | diff "$work/before" - &&
+    apt purge --autoremove $names && contents | diff "$work/before" - &&
         [ -z "$(in_root dpkg-query -W 'smap*' 'libsmap*' 'python3-smap' 'node-smap' 2>/dev/null)" ] &&
         ! in_root ldconfig -p | grep smap
 }
@@ -143,6 +151,7 @@ test_debian() {
     else
         leave_out 'libsmap-dev, python3-smap and node-smap, installed' "apt-get: $(first_error)"
     fi
+    try 'what the container file runs installs smap' builds_container
 }
 
 test_program() {
@@ -152,8 +161,9 @@ test_program() {
     try 'smap runs the first example of README' runs_example
     try 'smap and the scripts say their number' says_number
     try 'man finds its page' has_page
-    try 'a command is completed in bash' completes_in_root
+    [ -z "$python" ] || try 'a command is completed in bash' completes_in_root
     try 'smap is purged, and nothing stays' removes_program
+    try 'the archive, unpacked by the line of README, runs its first example there' unpacks_in_root
 }
 
 test_all() {

@@ -22,38 +22,49 @@ counts_node() {
     done
 }
 
-# Makes them once more from a copy of the sources in another folder, at another time, with other settings.
+# Makes them once more out of the source package, in another folder, at another time, with other settings.
 makes_the_same() {
-    mkdir "$work/a copy" || return 1
-    cp -r VERSION CHANGELOG.md completion docs packaging scripts "$work/a copy" || return 1
-    mkdir "$work/a copy/capi" || return 1
-    cp -r capi/smap.h capi/libsmap.versions capi/cpp capi/rust capi/python capi/node capi/examples \
-        "$work/a copy/capi" || return 1
-    cp "$SMAP" "$work/a copy/program" && cp -r "$lib" "$work/a copy/library" || return 1
+    dpkg-source --no-check -x "$dist/smap_$version.dsc" "$work/a copy" && rm -r "$work/a copy/debian" || return 1
+    mkdir "$work/a room" && cp "$SMAP" "$work/a room/program" && cp -r "$lib" "$work/a room/library" || return 1
     (
         umask 077
-        cd / && TZ=Asia/Kolkata LC_ALL=C.UTF-8 TMPDIR="$work/a copy" SMAP="$work/a copy/program" \
-            SMAP_CAPI="$work/a copy/library" "$work/a copy/scripts/build-packages" "$work/again"
+        cd / && TZ=Asia/Kolkata LC_ALL=C.UTF-8 TMPDIR="$work/a room" SMAP="$work/a room/program" \
+            SMAP_CAPI="$work/a room/library" "$work/a copy/scripts/build-packages" "$work/again"
     ) || return 1
     diff -r "$dist" "$work/again"
 }
 
-# The Debian packages, the archive, the wheel and the package for npm, and the sum of each.
+# Debian's own tool makes the Debian packages of it.
+source_makes_the_same() {
+    mkdir "$work/source" && dpkg-source --no-check -x "$dist/smap_$version.dsc" "$work/source/smap" || return 1
+    profiles=
+    [ -e "$node_deb" ] || profiles=pkg.smap.nonode
+    (
+        cd "$work/source/smap" && SMAP_CAPI=$lib DEB_BUILD_PROFILES=$profiles &&
+            export SMAP SMAP_CAPI DEB_BUILD_PROFILES && dpkg-buildpackage --build=binary -d --unsigned-changes
+    ) || return 1
+    for package in "$dist"/*.deb; do
+        cmp "$package" "$work/source/${package##*/}" || return 1
+    done
+}
+
+# The Debian packages with two of symbols, and their source in two files, the archive, the wheel and the package
+# for npm, and the sum of each.
 sums() {
     # shellcheck disable=SC2086
     set -- $debs
     [ ! -e "$npm_tgz" ] || set -- "$@" "$npm_tgz"
-    wanted=$(($# + 2))
+    wanted=$(($# + 6))
     (
         cd "$dist" && sha256sum -c SHA256SUMS &&
             [ "$(find . -type f | wc -l) $(grep -c '' SHA256SUMS)" = "$((wanted + 1)) $wanted" ]
     )
 }
 
-# Unpacks everything into folders of $work/unpacked.
+# Unpacks everything but the source into folders of $work/unpacked.
 unpacks() {
     mkdir "$work/unpacked" || return 1
-    for package in $debs; do
+    for package in "$dist"/*.deb; do
         name=${package##*/}
         dpkg-deb -R "$package" "$work/unpacked/${name%%_*}" || return 1
     done
@@ -64,29 +75,33 @@ unpacks() {
 }
 
 # Looks in each file, once it is decompressed, for this folder, the home, the kit's folder and the one for
-# temporary files.
+# temporary files, which the page OUTPUT.md has in a list.
 names_no_folder() {
     printf '%s/\n' "$top" "${HOME%/}" "${TMPDIR:-/tmp}" "$(dirname "$(rt doc 2>/dev/null)")" |
         grep '[a-z]' >"$work/folders"
     find "$work/unpacked" -name '*.gz' -exec gzip -d {} +
-    ! grep -r -a -F -f "$work/folders" -l "$work/unpacked"
+    ! grep -r -a -F -f "$work/folders" -l --exclude=OUTPUT.md "$work/unpacked"
 }
 
-# Everything in the Debian packages and the package for npm belongs to root, and is of the day of the release.
+# Everything in the Debian packages, their source and the package for npm belongs to root, and is of the day of
+# the release.
 belongs_to_root() {
-    for package in $debs; do
+    for package in "$dist"/*.deb; do
         dpkg-deb -c "$package"
     done >"$work/contents" || return 1
+    tar -tvJf "$dist/smap_$version.tar.xz" | sed 's| 0/0 | root/root |' >>"$work/contents"
     [ ! -e "$npm_tgz" ] || tar -tvzf "$npm_tgz" | sed 's| 0/0 | root/root |' >>"$work/contents"
     day=$(sed -n "s/^## \[$version\] - //p" CHANGELOG.md)
     [ -s "$work/contents" ] && ! grep -v " root/root .* $day " "$work/contents"
 }
 
-# Every Debian package in a folder names this maintainer, and so does its changelog.
+# Every Debian package in a folder and their source name this maintainer, and so do the changelogs.
 says_maintainer() {
+    grep -x "Maintainer: $2" "$1/smap_$version.dsc" || return 1
     for package in "$1"/*.deb; do
         name=$(dpkg-deb -f "$package" Package)
         [ "$(dpkg-deb -f "$package" Maintainer)" = "$2" ] || return 1
+        case $name in *-dbgsym) continue ;; esac
         dpkg-deb --fsys-tarfile "$package" | tar -xO "./usr/share/doc/$name/changelog.gz" | gzip -d |
             grep -a -F " -- $2  " || return 1
     done
@@ -99,9 +114,9 @@ names_maintainer() (
     SMAP=/bin/true
     SMAP_CAPI=$lib
     export SMAP SMAP_CAPI
-    DEBEMAIL=ada@example.org DEBFULLNAME='Ada R&D/Lovelace' scripts/build-packages "$work/ada" &&
+    DEBEMAIL=ada@example.org DEBFULLNAME='Ada R&D/Lovelace' scripts/build-packages "$work/ada" &
+    DEBEMAIL='Zoë <zoe@example.org>' scripts/build-packages "$work/zoe" && wait "$!" &&
         says_maintainer "$work/ada" 'Ada R&D/Lovelace <ada@example.org>' &&
-        DEBEMAIL='Zoë <zoe@example.org>' scripts/build-packages "$work/zoe" &&
         says_maintainer "$work/zoe" 'Zoë <zoe@example.org>'
 )
 
@@ -119,6 +134,7 @@ numbers() {
         [ "$(dpkg-deb -f "$package" Version)" = "$version" ] || return 1
         [ "$(dpkg-deb -f "$package" Installed-Size)" -gt 0 ] || return 1
     done
+    grep -x "Version: $version" "$dist/smap_$version.dsc" || return 1
     [ ! -e "$npm_tgz" ] ||
         grep -x "  \"version\": \"$version\"," "$work/unpacked/npm/package/package.json" || return 1
     grep -x "Version: $version" "$work/unpacked/libsmap-dev/usr/lib/x86_64-linux-gnu/pkgconfig/smap.pc" &&
@@ -157,6 +173,34 @@ has_symbols() {
         grep -x " smap_open@SMAP_0\.1 $(first_with_versions)" "$file"
 }
 
+# Each Debian package has the pages of docs/ that its files name.
+has_pages() {
+    for package in $debs; do
+        name=${package##*/}
+        name=${name%%_*}
+        docs=$work/unpacked/$name/usr/share/doc/$name
+        find "$work/unpacked/$name/usr" -path "$docs" -prune -o -type f -exec zgrep -I -o -h '[A-Z]*\.md' {} + |
+            sort -u >"$work/pages"
+        while IFS= read -r page; do
+            [ -e "$docs/$page" ] || [ -e "$docs/$page.gz" ] || {
+                echo "$name: $page"
+                return 1
+            }
+        done <"$work/pages"
+    done
+}
+
+# The symbols that were stripped from a file are in the package beside its own, under the number of its build.
+keeps_symbols() {
+    id=$(readelf -n "$work/unpacked/$1/$2" | sed -n 's/^ *Build ID: //p')
+    file=$work/unpacked/$1-dbgsym/usr/lib/debug/.build-id/${id%"${id#??}"}/${id#??}.debug
+    ! nm "$work/unpacked/$1/$2" 2>/dev/null | grep ' T ' && nm "$file" | grep -x "[0-9a-f]* T $3"
+}
+
+keeps_all_symbols() {
+    keeps_symbols smap usr/bin/smap main && keeps_symbols libsmap0 usr/lib/x86_64-linux-gnu/libsmap.so.0 smap_open
+}
+
 # By it Debian's tools find what a program wants of the library.
 finds_dependency() {
     wants=$work/wants
@@ -173,15 +217,17 @@ refuses_other_names() {
         cc -shared -Wl,-soname,libsmap.so.0 -o "$work/unversioned/libsmap.so.0" \
             -Wl,--whole-archive "$work/unversioned/libsmap.a" -Wl,--no-whole-archive || return 1
     ! SMAP=$SMAP SMAP_CAPI=$work/unversioned scripts/build-packages "$work/none" 2>"$work/said" || return 1
-    grep '^build-packages: the names of libsmap.so.0 are not' "$work/said" && [ -z "$(ls "$work/none")" ]
+    grep '^dpkg-gensymbols: .*: some new symbols appeared' "$work/said" && [ -z "$(ls "$work/none")" ]
 }
 
-# No license has been chosen, so there is no file that has one. Nothing else may be an error.
+# No license has been chosen, so there is no file that has one; and the packages of symbols have names alone, since
+# the kit writes nothing else for debuggers. Nothing else may be an error or a warning.
 lintian_is_content() {
-    # shellcheck disable=SC2086
-    lintian --allow-root --no-tag-display-limit -L '>=error' $debs >"$work/lintian" 2>"$work/lintian.err"
+    lintian --allow-root --no-tag-display-limit -L '>=warning' "$dist"/*.deb "$dist"/*.dsc >"$work/lintian" \
+        2>"$work/lintian.err"
     cat "$work/lintian.err"
-    grep '^E: ' "$work/lintian" | grep -v ' no-copyright-file$' && return 1
+    grep '^[EW]: ' "$work/lintian" | grep -v -e ' no-copyright-file$' -e ' no-debian-copyright-in-source$' \
+        -e '-dbgsym: debug-file-with-no-debug-symbols ' && return 1
     # shellcheck disable=SC2086
     set -- $debs
     [ "$(grep -c '^E: .* no-copyright-file$' "$work/lintian")" -eq $# ]
@@ -191,7 +237,8 @@ test_release() {
     try 'the packages are made' makes || return 1
     wheel=$(echo "$dist"/smap-*.whl)
     counts_node
-    try 'the packages are made again, with the same bytes' makes_the_same
+    try 'the packages are made again out of their source, with the same bytes' makes_the_same
+    try 'and so are the Debian packages by dpkg-buildpackage' source_makes_the_same
     try 'the sums are right' sums
     try 'all that is packed can be unpacked' unpacks
     try 'nothing packed names a folder of this machine' names_no_folder
@@ -201,13 +248,16 @@ test_release() {
     try 'what is no maintainer is refused' refuses_maintainer
     try 'the wheel names the C library that it wants' wheel_names_c_library
     try 'README names the C library that is wanted' readme_names_c_library
+    try 'the Debian packages have the pages that their files name' has_pages
     try 'the Debian package of the library has its symbols' has_symbols
+    try 'there are packages with the symbols that were stripped' keeps_all_symbols
     if has cc 'what a program wants of the library'; then
         try 'Debian'\''s tools find what a program wants of the library' finds_dependency
         try 'a library with other names is not packed' refuses_other_names
     fi
     if has lintian 'lintian'; then
-        try 'lintian has no error but the missing license' lintian_is_content &&
+        try 'lintian has nothing to say but that there is no license, and of symbols' lintian_is_content &&
             echo 'lintian: no-copyright-file in each package, since no license has been chosen'
     fi
+    return 0
 }
