@@ -12,6 +12,7 @@ import pathlib
 import sys
 from collections.abc import Callable, Iterator
 
+import pexpect
 from shells import SECONDS, Shell
 
 COMMAND = "touch PWNED"
@@ -117,8 +118,8 @@ def is_left(shell: str, name: str, fill: Callable[[pathlib.Path, str], str], typ
 def entered(shell: Shell, given: pathlib.Path, seconds: float) -> list[str]:
     """The arguments of the program, once the line is entered."""
     given.unlink(missing_ok=True)
-    shell.type("\r")
-    shell.read_to(b"\x06", seconds)
+    shell.send("\r")
+    shell.expect_exact(b"\x06", timeout=seconds)
     return [word.removeprefix("./") for word in given.read_text().split("\0")[:-1]]
 
 
@@ -126,14 +127,14 @@ def fault(place: pathlib.Path, typed: str, wanted: list[str], command: list[str]
     """What is wrong after a line is typed in a folder."""
     os.chdir(place)
     with Shell(command) as shell:
-        shell.type(typed)
+        shell.send(typed)
         line = shell.line()
         if seconds < SECONDS and line.split() == typed.replace("\t", "").split():
             return ""
         try:
             words = entered(shell, place.parent / "given", seconds)
-        except (TimeoutError, EOFError) as error:
-            return f"{line!r} runs nothing: {error}"
+        except (pexpect.TIMEOUT, pexpect.EOF):
+            return f"{line!r} runs nothing: {shell.before!r}"
     return "" if words == wanted else f"{line!r} has the arguments {words}"
 
 

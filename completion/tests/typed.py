@@ -9,5 +9,5 @@ import sys
 from shells import Shell
 
 with Shell(sys.argv[2:]) as shell:
-    shell.type(sys.argv[1])
+    shell.send(sys.argv[1])
     print(shell.line())

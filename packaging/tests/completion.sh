@@ -39,7 +39,7 @@ completes() {
     shift
     tab=$(printf '\t')
     while IFS='|' read -r typed wanted; do
-        stands=$(TERM=dumb python3 -B completion/tests/typed.py "$typed$tab" "$@" </dev/null) || return 1
+        stands=$(TERM=dumb "$python" -B completion/tests/typed.py "$typed$tab" "$@" </dev/null) || return 1
         stands=$(printf '%s' "$stands" | sed "s/[ =']*$//")
         [ "$stands" = "$wanted" ] || {
             printf '%s: %s\n' "$typed" "$stands"
@@ -109,12 +109,23 @@ completes_in_fish() {
 completes_names() {
     shell=$1
     shift
-    mkdir -p "$work/names" && python3 -B completion/tests/names.py "$work/names/$shell" "$@"
+    mkdir -p "$work/names" && "$python" -B completion/tests/names.py "$work/names/$shell" "$@"
+}
+
+# Sets python to the one that has pexpect: that of the PATH, or Debian's.
+has_pexpect() {
+    for python in python3 /usr/bin/python3; do
+        "$python" -c 'import pexpect' 2>/dev/null && return
+    done
+    python=
+    leave_out "$1" 'no python3-pexpect here'
+    false
 }
 
 test_completion() {
     put_lines "$work/completed"
     lines >"$work/lines"
+    has_pexpect 'the completions' || return
     if has bash 'completion in bash'; then
         start_bash "$work/bashrc" "$work/completed" "$usr/share/bash-completion/completions"
         try 'bash completes commands' completes "$work/lines" bash --noprofile --rcfile "$work/bashrc" -i
