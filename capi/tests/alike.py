@@ -236,4 +236,5 @@ class AlikeTest(unittest.TestCase):
         self.assertEqual((again.opened, again.translate(frames("HTTP://h/u.js"))), ({}, TOLD))
 
 
-unittest.main()
+if __name__ == "__main__":
+    unittest.main()

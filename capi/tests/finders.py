@@ -27,6 +27,10 @@ class FoldersTest(FilesCase):
         for script in ["http://h/m/", "http://h/m/lazy", "http://h/m/no.js", "http://h/out.js", "out.js", ""]:
             self.assertIsNone(self.found(key, script), script)
 
+    def test_it_shows_its_places(self):
+        found = repr(smap.Folders({"http://h/": self.dist, "u": "u.map"}, map_bytes=7))
+        self.assertEqual(found, f"Folders({{'u': 'u.map', 'http://h/': {str(self.dist)!r}}}, map_bytes=7)")
+
     def test_names_are_percent_encoded_in_one_way(self):
         for name in ["a b", "ä", "%41", "[id]", "q?x#y", "it's", "a\\b"]:
             self.put("dist/" + name)
@@ -233,4 +237,5 @@ class FoldersTest(FilesCase):
         self.assertEqual(self.found("http://h/", "http://h/a.js%09b.js"), "http://h/a.js%09b.js.map")
 
 
-unittest.main()
+if __name__ == "__main__":
+    unittest.main()

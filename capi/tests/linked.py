@@ -449,4 +449,5 @@ class AlikeTest(FilesCase):
         self.assertEqual(store.counts, smap.StoreCounts(lines=1, broken=1))
 
 
-unittest.main()
+if __name__ == "__main__":
+    unittest.main()

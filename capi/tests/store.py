@@ -485,4 +485,5 @@ class LookupTest(unittest.TestCase):
         self.assertEqual(store.counts, smap.StoreCounts(lines=7, translated=1, missing=2, broken=1))
 
 
-unittest.main()
+if __name__ == "__main__":
+    unittest.main()

@@ -2,7 +2,7 @@
 
     import smap
 
-    with smap.Map.open(open("out.js.map", "rb").read(), "http://h/m/out.js.map") as m:
+    with smap.Map.from_file("out.js.map", "http://h/m/out.js.map") as m:
         found = m.lookup(0, 7)
         print(found.url, found.source_line, found.source_column, found.name)
         print(m.translate(log, "http://h/m/out.js"))
@@ -18,8 +18,8 @@ count from 0, but in traces from 1. A map may be used by one thread at a time; `
 one of its own. A store may be used by all threads at once.
 """
 
-from ._library import Counts, Error, Refused, TraceCounts, version
-from .finders import Folders, Found, OutsideFolder, Repeated
+from ._library import Counts, Error, RefusedError, TraceCounts, version
+from .finders import Folders, Found, OutsideFolderError, RepeatedError
 from .frames import code_point
 from .links import alike, data_url, file_path, file_url, normal_form, resolve, script_link, script_name
 from .links import script_url
@@ -28,7 +28,14 @@ from .maps import Map, Mapping, Source, respell
 from .store import Store
 from .traces import Frame, Scripts, frame, named_scripts, translate
 
-__all__ = ["Counts", "Error", "Folders", "Found", "Frame", "Map", "Mapping", "OutsideFolder", "Refused"]
-__all__ += ["Repeated", "Scripts", "Source", "Store", "StoreCounts", "TraceCounts", "alike", "code_point"]
-__all__ += ["data_url", "file_path", "file_url", "frame", "named_scripts", "normal_form", "resolve"]
-__all__ += ["respell", "script_link", "script_name", "script_url", "translate", "version"]
+__all__ = ["Counts", "Error", "Folders", "Found", "Frame", "Map", "Mapping", "OutsideFolder"]
+__all__ += ["OutsideFolderError", "Refused", "RefusedError", "Repeated", "RepeatedError", "Scripts", "Source"]
+__all__ += ["Store", "StoreCounts", "TraceCounts", "alike", "code_point", "data_url", "file_path", "file_url"]
+__all__ += ["frame", "named_scripts", "normal_form", "resolve", "respell", "script_link", "script_name"]
+__all__ += ["script_url", "translate", "version"]
+
+# The module and the library are those of one release.
+__version__ = version()
+
+# The errors' names before 0.3.0.
+Refused, Repeated, OutsideFolder = RefusedError, RepeatedError, OutsideFolderError

@@ -62,13 +62,21 @@ class FrameStruct(ctypes.Structure):
     _fields_ = [("url_from", c_size_t), ("url_len", c_size_t), ("line", c_uint32), ("column", c_uint32)]
 
 
-class TraceCounts(ctypes.Structure):
+class Numbers(ctypes.Structure):
+    """Numbers by name."""
+
+    def __repr__(self) -> str:
+        numbers = (f"{field[0]}={getattr(self, field[0])}" for field in self._fields_)
+        return f"{type(self).__name__}({', '.join(numbers)})"
+
+
+class TraceCounts(Numbers):
     """How many lines a trace has, and how many of them were translated and dropped."""
 
     _fields_ = [("lines", c_uint64), ("translated", c_uint64), ("dropped", c_uint64)]
 
 
-class Counts(ctypes.Structure):
+class Counts(Numbers):
     """How much a map holds: distinct sources, sources and names as listed, mappings, and generated lines."""
 
     _fields_ = [
@@ -83,6 +91,8 @@ class Counts(ctypes.Structure):
 class Error(Exception):
     """A call that isn't done; `code` is one of the library's."""
 
+    __module__ = "smap"
+
     def __init__(self, code: int, text: str = ""):
         super().__init__(text or code_name(code))
         self.code = code
@@ -91,7 +101,7 @@ class Error(Exception):
         return type(self), (self.code, str(self))
 
 
-class Refused(Error):
+class RefusedError(Error):
     """A map or a mappings text with a fault.
 
     `kind` is one of smap.h's SMAP_FAULT_.., and `kind_name` what docs/OUTPUT.md calls it, such as
@@ -99,6 +109,8 @@ class Refused(Error):
     where in the mappings text it is, or are None; `number` is that of the source, or that in the segment,
     where the kind has one.
     """
+
+    __module__ = "smap"
 
     def __init__(self, fault: Fault):
         super().__init__(REFUSED, fault.text.decode())
@@ -110,22 +122,43 @@ class Refused(Error):
         self.segment: Optional[int] = fault.segment if fault.has_place else None
         self.number: int = fault.number
 
-    def __reduce__(self) -> Tuple[Type[Refused], Tuple[Fault]]:
+    def __reduce__(self) -> Tuple[Type[RefusedError], Tuple[Fault]]:
         return type(self), (self._fault,)
 
 
-def load() -> ctypes.CDLL:
-    """The library: the module's comment says where it is looked for."""
+def library_file() -> str:
+    """The library's file, or its name for the system: the module's comment says where it is looked for."""
+    named = os.environ.get("SMAP_LIBRARY")
+    if named:
+        return named
     beside = Path(__file__).resolve().parent
     # scripts/install puts this folder into PREFIX/share/smap, and the library into PREFIX/lib
     installed = beside.parent.parent.parent / "lib"
-    named = os.environ.get("SMAP_LIBRARY")
-    if named:
-        return ctypes.CDLL(named)
     for place in (beside / "libsmap.so.0", beside / "libsmap.so", installed / "libsmap.so.0"):
         if place.exists():
-            return ctypes.CDLL(str(place))
-    return ctypes.CDLL("libsmap.so.0")
+            return str(place)
+    return "libsmap.so.0"
+
+
+# What to do about a library that can't be loaded.
+HAVE_ANOTHER = "Set SMAP_LIBRARY to the file of libsmap.so.0, or to nothing."
+HAVE_ONE = (
+    "Install the wheel of smap or Debian's libsmap0, or name the file of libsmap.so.0 in SMAP_LIBRARY. "
+    "It is built for Linux on x86-64 with glibc."
+)
+HAVE_THE_SAME = "It is of another release than the module: install both of the same."
+
+
+def load() -> ctypes.CDLL:
+    """The library. Raises ImportError, which says what to do."""
+    file = library_file()
+    try:
+        return declare(ctypes.CDLL(file))
+    except OSError as error:
+        reason, advice = str(error), HAVE_ANOTHER if os.environ.get("SMAP_LIBRARY") else HAVE_ONE
+    except AttributeError as error:
+        reason, advice = str(error), HAVE_THE_SAME
+    raise ImportError(f"smap can't load its library: {reason}. {advice}", name="smap", path=file)
 
 
 # The functions that the module calls: their names, what they return, and their parameters.
@@ -185,7 +218,7 @@ def declare(lib: ctypes.CDLL) -> ctypes.CDLL:
     return lib
 
 
-lib = declare(load())
+lib = load()
 
 
 def code_name(code: int) -> str:
@@ -207,13 +240,29 @@ def fault_name(kind: int) -> str:
 def check(code: int, fault: Optional[Fault] = None) -> None:
     """Raises what a code other than OK stands for."""
     if code == REFUSED and fault is not None:
-        raise Refused(fault)
+        raise RefusedError(fault)
     if code == MEMORY:
         raise MemoryError
     if code == RANGE:
         raise IndexError("number out of range")
     if code != OK:
         raise Error(code)
+
+
+def as_data(name: str, value: bytes) -> bytes:
+    """Bytes for the library. Raises TypeError where they are a str, or nothing of that kind."""
+    if isinstance(value, bytes):
+        return value
+    if isinstance(value, (bytearray, memoryview)):
+        return bytes(value)
+    raise TypeError(f"{name} is bytes, not {type(value).__name__}")
+
+
+def as_url(name: str, value: str) -> bytes:
+    """A URL for the library. Raises TypeError where it is no str."""
+    if isinstance(value, str):
+        return value.encode()
+    raise TypeError(f"{name} is a URL in a str, not {type(value).__name__}")
 
 
 def index_of(value: int) -> int:

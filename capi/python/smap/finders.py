@@ -15,7 +15,7 @@ from ._library import NOT_URL, REFUSED, Error
 from .files import MOST_BYTES, link_in, read_file, too_large
 from .links import as_bytes, data_url, file_path, file_url, normal_form, resolve, script_name, script_url
 
-__all__ = ["Finder", "Folders", "Found", "OutsideFolder", "Repeated", "base_by_default"]
+__all__ = ["Finder", "Folders", "Found", "OutsideFolderError", "RepeatedError", "base_by_default"]
 
 # The names of scripts end in one of these. Those of style sheets have other comments.
 IS_STYLE_SHEET = {".js": False, ".mjs": False, ".cjs": False, ".css": True}
@@ -27,6 +27,9 @@ SOME_FOLDER = b"/the folder of the script/"
 # How many bytes the URL of a file has at most, however it is spelled, and how many of them an error shows.
 LONGEST_URL = 65_536
 MOST_SHOWN = 200
+
+# What is said of a folder without the URL of its scripts.
+NO_PLACES = 'folders are given with the URLs of their scripts, as {"https://shop.example/": "dist/"}'
 
 PathLike = Union[str, "os.PathLike[str]"]
 
@@ -42,8 +45,10 @@ class Found(NamedTuple):
 Finder = Callable[[str], Union[Found, bytes, None]]
 
 
-class Repeated(Error):
+class RepeatedError(Error):
     """A script for which several folders have a map. None of them is taken, since one would be wrong."""
+
+    __module__ = "smap"
 
     def __init__(self, files: List[str]) -> None:
         super().__init__(REFUSED, "script repeated: " + " and ".join(files))
@@ -53,11 +58,13 @@ class Repeated(Error):
         return type(self), (self.files,)
 
 
-class OutsideFolder(Error):
+class OutsideFolderError(Error):
     """A script that names what is no file of its folder as its map.
 
     `file` is the script, and `url` what it names, or the beginning of that.
     """
+
+    __module__ = "smap"
 
     def __init__(self, file: str, url: str) -> None:
         super().__init__(REFUSED, f"{file} names a map that is no file of its folder: {url}")
@@ -160,9 +167,9 @@ class Link:
             return None
         return None if path is None else script_name(SOME_FOLDER, path)
 
-    def _outside(self) -> OutsideFolder:
+    def _outside(self) -> OutsideFolderError:
         shown = self.url[:MOST_SHOWN].decode("utf-8", "replace")
-        return OutsideFolder(self.script, shown + "..." * (len(self.url) > MOST_SHOWN))
+        return OutsideFolderError(self.script, shown + "..." * (len(self.url) > MOST_SHOWN))
 
 
 @contextmanager
@@ -170,7 +177,7 @@ def _named_by(file: str) -> Iterator[None]:
     """Where the library has a fault, says what it is a fault of."""
     try:
         yield
-    except OutsideFolder:
+    except OutsideFolderError:
         raise
     except Error as fault:
         raise Error(fault.code, f"the map that {file} names: {fault}") from None
@@ -183,16 +190,18 @@ class Folders:
     URL is the key with NAME behind it, percent-encoded unless the key is a path. Where there is none, the
     script NAME (.js, .mjs, .cjs, .css) may name its map in its last comment: one in the folder or below it,
     by a relative URL, or in a data: URL. Links to files are followed, links to folders aren't, and what a
-    script names is read nowhere else than in the folder (`OutsideFolder`). Any other key is a script itself,
-    and its value the file of its map, or the script's, if that names a map in its own folder.
+    script names is read nowhere else than in the folder (`OutsideFolderError`). Any other key is a script
+    itself, and its value the file of its map, or the script's, if that names a map in its own folder.
 
     Raises NotADirectoryError if there is no such folder, and ValueError if a folder's key lacks its `/`.
-    A script for which several folders have a map is `Repeated`; one that is a key is looked for in no folder.
-    A map that has more than `map_bytes` bytes, or is no regular file, isn't read, but an OSError. Of a script
-    no more is read than its end, a third more than `map_bytes` and 64 KiB at most.
+    A script for which several folders have a map is a `RepeatedError`; one that is a key is looked for in no
+    folder. A map that has more than `map_bytes` bytes, or is no regular file, isn't read, but an OSError. Of
+    a script no more is read than its end, a third more than `map_bytes` and 64 KiB at most.
     """
 
     def __init__(self, places: AnyMapping[str, PathLike], map_bytes: int = MOST_BYTES) -> None:
+        if not isinstance(places, AnyMapping):
+            raise TypeError(f"{NO_PLACES}, not {places!r}")
         if map_bytes < 0:
             raise ValueError("map_bytes is below 0")
         self._map_bytes = map_bytes
@@ -221,7 +230,7 @@ class Folders:
         below = [(folder, name) for folder, name in named if name is not None]
         files = [file for folder, name in below for file in folder.maps(name)]
         if len(files) > 1:
-            raise Repeated(files)
+            raise RepeatedError(files)
         try:
             if files:
                 return self._read(files[0], base_by_default(script))
@@ -243,7 +252,7 @@ class Folders:
         there = [(folder.place, name) for folder, name in below for _ in folder.scripts(name)]
         links = [link for place, name in there for link in self._links(place, name)]
         if len(links) > 1:
-            raise Repeated([link.script for link in links])
+            raise RepeatedError([link.script for link in links])
         return self._linked(script, links[0]) if links else None
 
     def _in_file(self, script: str, file: str) -> Found:
@@ -319,9 +328,14 @@ class Folders:
         """Has the folders listed again when they are needed next."""
         self._listed = None
 
+    def _places(self) -> Dict[str, str]:
+        return {**self._files, **{folder.key: folder.place for folder in self._folders}}
+
+    def __repr__(self) -> str:
+        return f"Folders({self._places()!r}, map_bytes={self._map_bytes})"
+
     def __reduce__(self) -> Tuple[type, Tuple[Dict[str, str], int]]:
-        folders = {folder.key: folder.place for folder in self._folders}
-        return type(self), ({**self._files, **folders}, self._map_bytes)
+        return type(self), (self._places(), self._map_bytes)
 
 
 def _form(name: str, with_query: bool = False) -> Optional[bytes]:

@@ -17,13 +17,15 @@ __all__ += ["script_link", "script_name", "script_url"]
 
 
 def as_bytes(text: Union[str, bytes]) -> bytes:
-    """A text as the library takes it."""
+    """A text as the library takes it. Raises TypeError where it is neither a str nor bytes."""
     if isinstance(text, str):
         try:
             return text.encode("utf-8", "surrogateescape")
         except UnicodeEncodeError:
             raise Error(NOT_UTF8) from None
-    return text
+    if isinstance(text, bytes):
+        return text
+    raise TypeError(f"a text is a str or bytes, not {type(text).__name__}")
 
 
 def _like(found: bytes, text: AnyStr) -> AnyStr:

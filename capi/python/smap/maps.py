@@ -2,12 +2,15 @@
 
 from __future__ import annotations
 
+import os
 from ctypes import byref, c_bool, c_size_t, c_uint32, create_string_buffer
 from dataclasses import dataclass
-from typing import AnyStr, Callable, Iterator, List, Optional, Tuple
+from typing import AnyStr, Callable, Iterator, List, Optional, Tuple, Union
 
-from ._library import NONE, Counts, Fault, Handle, Limits, MappingStruct, Owner, are_position, bound_of, check
-from ._library import how_bits, index_of, lib, limit_of, taken, written
+from ._library import NONE, Counts, Fault, Handle, Limits, MappingStruct, Owner, are_position, as_data, as_url
+from ._library import bound_of, check, how_bits, index_of, lib, limit_of, taken, written
+from .files import read_file
+from .links import file_url
 from .traces import translate
 
 __all__ = ["Map", "Mapping", "Source", "respell"]
@@ -38,8 +41,8 @@ class Mapping:
 
 
 def respell(text: bytes) -> bytes:
-    """A mappings text, sorted and as short as possible. Raises Refused."""
-    out, fault = Handle(), Fault()
+    """A mappings text, sorted and as short as possible. Raises RefusedError."""
+    text, out, fault = as_data("a mappings text", text), Handle(), Fault()
     check(lib.smap_respell(text, len(text), byref(out), byref(fault)), fault)
     return taken(out)
 
@@ -62,11 +65,14 @@ class Map(Owner):
 
         `items` bounds how many sources and how many names it may list, `lines` how many generated lines it
         may have; 0 stands for 16777216. `url_bytes` bounds how many bytes the URLs of its sources may take
-        together, which can be gigabytes for a map of half a megabyte; None is no bound. Raises Refused, Error
-        where `base` is no URL, a limit is too large or the URLs take more (its code is 8, SMAP_URL_BYTES of
-        smap.h), and ValueError where a limit is below 0.
+        together, which can be gigabytes for a map of half a megabyte; None is no bound. Raises RefusedError;
+        Error where `base` is no URL, a limit is too large or the URLs take more (its code is 8,
+        SMAP_URL_BYTES of smap.h); ValueError where a limit is below 0; and TypeError where `data` is a str.
         """
-        made, fault, url = cls(), Fault(), base.encode()
+        if isinstance(data, str):
+            raise TypeError("a map is bytes, not str: read its file in mode 'rb', or call Map.from_file")
+        data, url = as_data("a map", data), as_url("the base of a map", base)
+        made, fault = cls(), Fault()
         limits = Limits(limit_of("items", items), limit_of("lines", lines))
         words = byref(made._handle), data, len(data), url, len(url), byref(limits)
         if url_bytes is None:
@@ -75,6 +81,25 @@ class Map(Owner):
             code = lib.smap_open_within(*words, bound_of("url_bytes", url_bytes), byref(fault))
         check(code, fault)
         return made
+
+    @classmethod
+    def from_file(
+        cls,
+        path: Union[str, "os.PathLike[str]"],
+        base: Optional[str] = None,
+        items: int = 0,
+        lines: int = 0,
+        url_bytes: Optional[int] = None,
+    ) -> Map:
+        """Reads a map from a regular file, of at most 268,435,456 bytes.
+
+        Its URL is `base`, by default the `file:` URL of the path. The other words, and what is raised, are
+        those of `open`; and OSError.
+        """
+        file = os.fsdecode(path)
+        if base is None:
+            base = file_url(os.path.abspath(file)) or ""
+        return cls.open(read_file(file), base, items, lines, url_bytes)
 
     def close(self) -> None:
         """Frees the map. Closing it twice does nothing."""
@@ -224,7 +249,8 @@ class Map(Owner):
         self, line: bytes, url: str, hide: bool = False, *, anywhere: bool = False, ignore_query: bool = False
     ) -> Optional[bytes]:
         """What to write for a line of a trace, this being the map of `url`; None where it is dropped."""
-        script, n, became, room = url.encode(), c_size_t(), c_uint32(), len(line) + 512
+        line, script = as_data("a line", line), as_url("the name of a script", url)
+        n, became, room = c_size_t(), c_uint32(), len(line) + 512
         how = how_bits(hide, anywhere, ignore_query)
         while True:
             out = create_string_buffer(room)

@@ -7,7 +7,8 @@ from ctypes import byref
 from dataclasses import dataclass
 from typing import TYPE_CHECKING, AnyStr, Dict, Iterable, Optional, Tuple
 
-from ._library import OK, FrameStruct, Handle, Owner, TraceCounts, check, how_bits, lib, taken
+from ._library import OK, FrameStruct, Handle, Owner, TraceCounts, as_data, as_url, check, how_bits, lib
+from ._library import taken
 
 if TYPE_CHECKING:
     from .maps import Map
@@ -26,7 +27,7 @@ class Frame:
 
 def frame(line: bytes) -> Optional[Frame]:
     """The frame that a line is, taken without its line feed, if it is one."""
-    parts = FrameStruct()
+    line, parts = as_data("a line", line), FrameStruct()
     if lib.smap_frame(line, len(line), byref(parts)) != OK:
         return None
     return Frame(line[parts.url_from : parts.url_from + parts.url_len], parts.line, parts.column)
@@ -38,7 +39,7 @@ def named_scripts(trace: bytes) -> Dict[bytes, int]:
 
     The library finds the frame of each line; of equal lines only one is asked about.
     """
-    return named_by(trace.split(b"\n"))
+    return named_by(as_data("a trace", trace).split(b"\n"))
 
 
 def named_by(lines: Iterable[bytes]) -> Dict[bytes, int]:
@@ -66,7 +67,7 @@ class Scripts(Owner):
 
     def add(self, url: str, script: Map) -> None:
         """Adds a script. One of the same URL gets this map in place of its own."""
-        name = url.encode()
+        name = as_url("the name of a script", url)
         check(lib.smap_add_script(byref(self._handle), name, len(name), byref(script._handle)))
 
     def close(self) -> None:
@@ -91,7 +92,7 @@ class Scripts(Owner):
 
         The words are those of `smap.translate`.
         """
-        out, counts = Handle(), TraceCounts()
+        trace, out, counts = as_data("a trace", trace), Handle(), TraceCounts()
         if not self._handle.is_open:
             return trace, TraceCounts(trace.count(b"\n") + (trace[-1:] not in (b"", b"\n")), 0, 0)
         how = how_bits(hide, anywhere, ignore_query)
