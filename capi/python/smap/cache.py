@@ -4,7 +4,7 @@ from __future__ import annotations
 
 import threading
 from collections import OrderedDict
-from dataclasses import dataclass
+from dataclasses import dataclass, field
 from typing import Callable, Dict, Iterable, Optional, Tuple
 
 from ._library import Error
@@ -39,15 +39,16 @@ class Bounds:
 
 @dataclass(frozen=True)
 class Kept:
-    """An open map, the memory that it takes, and the script whose map it is."""
+    """An open map, the memory that it takes, the script whose map it is, and what no other map has."""
 
     map: Map
     size: int
     script: str
+    mark: object = field(default_factory=object)
 
     def share(self) -> Kept:
         """A handle of its own of the same map."""
-        return Kept(self.map.share(), self.size, self.script)
+        return Kept(self.map.share(), self.size, self.script, self.mark)
 
 
 def expected(data: bytes) -> int:

@@ -1,15 +1,18 @@
-"""Frames as objects, in the form of error reporters: Sentry's stack interface, which others take over."""
+"""Frames as objects, in the shapes of error reporters: Sentry, Rollbar and Bugsnag."""
 
 from __future__ import annotations
 
 import re
+import sys
 from collections.abc import Mapping as AnyMapping
+from dataclasses import dataclass
 from typing import Any, Dict, List, Optional, Tuple
 from urllib.parse import urlsplit
 
 from .maps import Map
+from .noted import Recent
 
-__all__ = ["code_point", "places_by_script", "translate_all"]
+__all__ = ["SHAPES", "Known", "Originals", "code_point", "places_by_script", "translate_all"]
 
 # A line ends as in ECMAScript.
 ENDS = re.compile("\r\n|[\n\r\u2028\u2029]")
@@ -17,11 +20,15 @@ ENDS = re.compile("\r\n|[\n\r\u2028\u2029]")
 # The greatest line and column of a frame, which count from 1.
 GREATEST = 2_147_483_648
 
+# How many bytes of positions, and of lines, are known at most; and what Python's objects for one take, about.
+MOST_KNOWN = 1 << 25
+BESIDE = 1_000
+
 # A script, and a position in it, which counts from 1.
 Place = Tuple[str, int, int]
 
-# What shows lines of the script, and is replaced or removed where a frame is translated.
-CONTEXT = ("pre_context", "context_line", "post_context")
+# Lines before a line, the line itself, and lines behind it.
+Around = Tuple[List[str], str, List[str]]
 
 
 def code_point(line: str, column: int) -> int:
@@ -38,75 +45,186 @@ def code_point(line: str, column: int) -> int:
     return len(line.encode("utf-16-le", "surrogatepass")[: 2 * column].decode("utf-16-le", "ignore"))
 
 
-def place_of(frame: object) -> Optional[Place]:
-    """The script and the position that a frame names; None where it names none, or what can't be one."""
-    if not isinstance(frame, AnyMapping):
-        return None
-    script, line, column = frame.get("abs_path"), frame.get("lineno"), frame.get("colno")
-    if not isinstance(script, str) or not script:
-        return None
-    if type(line) is not int or type(column) is not int:  # a bool is an int, and no position
-        return None
-    return (script, line, column) if 1 <= line <= GREATEST and 1 <= column <= GREATEST else None
+@dataclass(frozen=True)
+class Original:
+    """A position in a source, which counts from 1, and the lines around it: None where they aren't known.
+
+    `path` is the path in the URL of the source, without slashes before it.
+    """
+
+    url: str
+    path: str
+    line: int
+    column: int
+    is_ignored: bool
+    around: Optional[Around]
+
+    def is_in_app(self, before: object) -> object:
+        """Whether the source is the program's own, by what was said of the script."""
+        return False if self.is_ignored else True if before is None else before
 
 
-def places_by_script(frames: List[Any]) -> Dict[str, Dict[int, Place]]:
+class Shape:
+    """How frames are written: the members that name a script, the first that is there, and a position."""
+
+    script: Tuple[str, ...] = ("filename",)
+    line = "lineno"
+    column = "colno"
+    # the members that show lines of the script, and are replaced or removed where a frame is translated
+    shows: Tuple[str, ...] = ()
+
+    def place_of(self, frame: object) -> Optional[Place]:
+        """The script and the position that a frame names; None where it names none, or what can't be one."""
+        if not isinstance(frame, (dict, AnyMapping)):
+            return None
+        script = None
+        for name in self.script:
+            script = script or frame.get(name)
+        line, column = frame.get(self.line), frame.get(self.column)
+        if not isinstance(script, str) or not script:
+            return None
+        if type(line) is not int or type(column) is not int:  # a bool is an int, and no position
+            return None
+        return (script, line, column) if 1 <= line <= GREATEST and 1 <= column <= GREATEST else None
+
+    def told(self, frame: AnyMapping[str, Any], found: Original) -> Dict[str, Any]:
+        """The frame in its source."""
+        told = dict(frame)
+        for name in self.shows:
+            told.pop(name, None)
+        told[self.line], told[self.column] = found.line, found.column
+        self.name(told, found)
+        if found.around is not None:
+            self.show(told, found.line, found.around)
+        return told
+
+    def name(self, told: Dict[str, Any], found: Original) -> None:
+        """Puts the name of the source into a frame, and whether it is the program's own."""
+        told[self.script[0]] = found.url
+
+    def show(self, told: Dict[str, Any], number: int, around: Around) -> None:
+        """Puts the line of the source with this number into a frame, and the lines around it."""
+
+
+class Sentry(Shape):
+    script = ("abs_path", "filename")
+    shows = ("pre_context", "context_line", "post_context")
+
+    def name(self, told: Dict[str, Any], found: Original) -> None:
+        told["abs_path"], told["filename"] = found.url, found.path
+        told["in_app"] = found.is_in_app(told.get("in_app"))
+
+    def show(self, told: Dict[str, Any], number: int, around: Around) -> None:
+        before, told["context_line"], behind = around
+        told["pre_context"], told["post_context"] = before[:], behind[:]
+
+
+class Rollbar(Shape):
+    shows = ("code", "context")
+
+    def show(self, told: Dict[str, Any], number: int, around: Around) -> None:
+        before, told["code"], behind = around
+        told["context"] = {"pre": before[:], "post": behind[:]}
+
+
+class Bugsnag(Shape):
+    script = ("file",)
+    line = "lineNumber"
+    column = "columnNumber"
+    shows = ("code",)
+
+    def name(self, told: Dict[str, Any], found: Original) -> None:
+        told["file"] = found.url
+        told["inProject"] = found.is_in_app(told.get("inProject"))
+
+    def show(self, told: Dict[str, Any], number: int, around: Around) -> None:
+        before, line, behind = around
+        lines = enumerate([*before, line, *behind], number - len(before))
+        told["code"] = {str(at): text for at, text in lines}
+
+
+SHAPES: Dict[str, Shape] = {"sentry": Sentry(), "rollbar": Rollbar(), "bugsnag": Bugsnag()}
+
+
+def places_by_script(frames: List[Any], shape: Shape) -> Dict[str, Dict[int, Place]]:
     """For each script the numbers of its frames in the list, with the places that they name."""
     found: Dict[str, Dict[int, Place]] = {}
-    for number, place in enumerate(map(place_of, frames)):
+    for number, place in enumerate(map(shape.place_of, frames)):
         if place is not None:
             found.setdefault(place[0], {})[number] = place
     return found
 
 
-def translate_all(frames: List[Any], places: Dict[int, Place], opened: Map, context: int) -> int:
+def translate_all(frames: List[Any], places: Dict[int, Place], shape: Shape, originals: Originals) -> int:
     """Replaces frames of one script in the list by those in the sources; returns how many."""
-    sources, done = Sources(opened), 0
-    for number, place in places.items():
-        told = translated(frames[number], place, opened, sources, context)
-        if told is not None:
-            frames[number] = told
+    done = 0
+    for number, (_, line, column) in places.items():
+        found = originals.at(line, column)
+        if found is not None:
+            frames[number] = shape.told(frames[number], found)
             done += 1
     return done
 
 
-class Sources:
-    """The lines of a map's sources, each cut once."""
+class Known:
+    """What was found lately, of all maps: positions in sources, and the lines of these."""
 
-    def __init__(self, opened: Map) -> None:
-        self._map = opened
-        self._lines: Dict[int, Optional[List[str]]] = {}
+    def __init__(self) -> None:
+        self.positions: Recent[Optional[Original]] = Recent(MOST_KNOWN)
+        self.lines: Recent[Optional[List[str]]] = Recent(MOST_KNOWN)
 
-    def lines(self, source: int) -> Optional[List[str]]:
+
+class Originals:
+    """What positions of a script are in its sources, with so many lines around them.
+
+    `mark` tells its map from all others.
+    """
+
+    def __init__(self, opened: Map, mark: object, context: int, known: Known) -> None:
+        self._map, self._mark = opened, mark
+        self._context = context
+        self._known = known
+
+    def at(self, line: int, column: int) -> Optional[Original]:
+        """A position, which counts from 1, in its source; None where that isn't known, or has no URL."""
+        key = self._mark, line, column, self._context
+        return self._known.positions.find(key, lambda: self._found(line, column), size_of)
+
+    def _found(self, line: int, column: int) -> Optional[Original]:
+        found = self._map.find(line - 1, column - 1)
+        if found is None or found.source is None:
+            return None
+        url = self._map.url(found.source)
+        if url is None:
+            return None
+        path = urlsplit(url).path.lstrip("/") or url
+        around = self._around(found.source, found.source_line)
+        return Original(url, path, found.source_line + 1, found.source_column + 1, found.is_ignored, around)
+
+    def _around(self, source: int, number: int) -> Optional[Around]:
+        lines = self._lines_of(source)
+        if lines is None or number >= len(lines):
+            return None
+        first, end = max(0, number - self._context), number + 1 + self._context
+        return lines[first:number], lines[number], lines[number + 1 : end]
+
+    def _lines_of(self, source: int) -> Optional[List[str]]:
         """The lines of a source; None where the map doesn't have its content."""
-        if source not in self._lines:
-            content = self._map.content(source)
-            self._lines[source] = None if content is None else ENDS.split(content)
-        return self._lines[source]
+        return self._known.lines.find((self._mark, source), lambda: self._cut(source), size_of_lines)
+
+    def _cut(self, source: int) -> Optional[List[str]]:
+        content = self._map.content(source)
+        return None if content is None else ENDS.split(content)
 
 
-def translated(
-    frame: AnyMapping[str, Any], place: Place, opened: Map, sources: Sources, context: int
-) -> Optional[Dict[str, Any]]:
-    """The frame in its source; None where its position has no source with a URL."""
-    found = opened.lookup(place[1] - 1, place[2] - 1)
-    if found is None or found.source is None or found.url is None:
-        return None
-    told = {name: value for name, value in frame.items() if name not in CONTEXT}
-    told["abs_path"] = found.url
-    told["filename"] = urlsplit(found.url).path.lstrip("/") or found.url
-    told["lineno"], told["colno"] = found.source_line + 1, found.source_column + 1
-    if found.is_ignored:
-        told["in_app"] = False
-    elif told.get("in_app") is None:
-        told["in_app"] = True
-    told.update(_context(sources.lines(found.source), found.source_line, context))
-    return told
+def size_of_lines(lines: Optional[List[str]]) -> int:
+    """How much memory some lines take, about."""
+    return BESIDE + sum(map(sys.getsizeof, lines or []))
 
 
-def _context(lines: Optional[List[str]], number: int, many: int) -> Dict[str, Any]:
-    """The line with a number, from 0, and so many before and behind it."""
-    if lines is None or number >= len(lines):
-        return {}
-    before, behind = lines[max(0, number - many) : number], lines[number + 1 : number + 1 + many]
-    return dict(zip(CONTEXT, (before, lines[number], behind)))
+def size_of(found: Optional[Original]) -> int:
+    """The same of a position with its lines."""
+    if found is None:
+        return BESIDE
+    before, line, behind = found.around or ([], "", [])
+    return BESIDE + 2 * sys.getsizeof(found.url) + size_of_lines([*before, line, *behind])

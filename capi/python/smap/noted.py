@@ -1,11 +1,12 @@
-"""What is noted of scripts: by their names, which a log makes up, and so in bounded memory."""
+"""What is noted in bounded memory: of scripts by their names, which a log makes up, and of places in maps."""
 
 from __future__ import annotations
 
+import threading
 from collections import OrderedDict
-from typing import Dict, Generic, Optional, TypeVar
+from typing import Callable, Dict, Generic, Hashable, Optional, TypeVar
 
-__all__ = ["Noted"]
+__all__ = ["Noted", "Recent"]
 
 # How many names are known, and how many characters they have together.
 MOST_NAMES = 10_000
@@ -54,3 +55,32 @@ class Noted(Generic[Value]):
 
     def as_dict(self) -> Dict[str, Value]:
         return dict(self._values)
+
+
+class Recent(Generic[Value]):
+    """Values that were found lately, of so many bytes at most. Without room for one more all are forgotten.
+
+    All threads may use it at once.
+    """
+
+    def __init__(self, most: int) -> None:
+        self._most = most
+        self._lock = threading.Lock()
+        self._values: Dict[Hashable, Value] = {}
+        self._size = 0
+
+    def find(self, key: Hashable, make: Callable[[], Value], size_of: Callable[[Value], int]) -> Value:
+        """The value of a key, which is made if it isn't known. One that is too large by itself isn't kept."""
+        try:
+            return self._values[key]
+        except KeyError:
+            value = make()
+        size = size_of(value)
+        if size <= self._most:
+            with self._lock:
+                if self._size + size > self._most:
+                    self._values.clear()
+                    self._size = 0
+                self._values[key] = value
+                self._size += size
+        return value

@@ -10,7 +10,7 @@ from ._library import TraceCounts
 from .cache import Bounds, Cache, Kept, beside
 from .files import MOST_BYTES
 from .finders import Finder, Folders, PathLike
-from .frames import places_by_script, translate_all
+from .frames import SHAPES, Known, Originals, places_by_script, translate_all
 from .logs import StoreCounts, Way, lines_that_stay, middle, spellings, whole_lines
 from .maps import Map, Mapping
 from .noted import Noted
@@ -95,6 +95,8 @@ class Store:
     it was opened until it makes room, or until `forget`, whatever becomes of its file. What a store knows by
     names, it knows of 10,000 scripts at most, so that its memory doesn't grow with what logs name.
 
+    Positions in sources that frames had lately, and lines of sources, are kept in 64 MiB at most besides.
+
     A finder's OSError and smap.Error make the map broken; all other exceptions come out of the call.
     All threads may use a store at once. A pickled store has its finder and its bounds, and no maps.
     """
@@ -107,12 +109,13 @@ class Store:
         url_bytes: int = MOST_URL_BYTES,
     ) -> None:
         self._bounds = Bounds(cache_bytes, map_bytes, url_bytes)
-        if isinstance(finder, AnyMapping):
+        if isinstance(finder, AnyMapping) or not callable(finder):
             finder = Folders(finder, map_bytes)
         self._finder: Finder = finder
         self._cache = Cache(finder, self._bounds)
         self._lock = self._cache.lock
         self._missing: Noted[int] = Noted()
+        self._known = Known()
         self._counts = StoreCounts()
 
     # ---- what the store knows
@@ -142,7 +145,7 @@ class Store:
 
     @property
     def broken(self) -> Dict[str, Exception]:
-        """The fault of each script whose map is broken: Refused, Error, Repeated, OutsideFolder or OSError.
+        """The fault of each script whose map is broken: an Error, such as RefusedError, or an OSError.
 
         The last 10,000 are known by name, and others looked for again.
         """
@@ -372,18 +375,22 @@ class Store:
         return found
 
     def frames(
-        self, frames: Iterable[Any], context: int = 5, *, ignore_query: bool = False
+        self, frames: Iterable[Any], context: int = 5, *, ignore_query: bool = False, shape: str = "sentry"
     ) -> List[Any]:
         """Frames as error reporters send them, in their sources: new dictionaries, in the same order.
 
-        A frame has `abs_path`, the URL of its script, and `lineno` and `colno`, which count from 1. It gets
-        those of its source, and
+        A frame has `abs_path`, the URL of its script, or else `filename`, and `lineno` and `colno`, which
+        count from 1. It gets those of its source, and
 
         - `filename`: the path in the URL of the source, without slashes before it;
         - `in_app`: False in an ignored source; otherwise as it was, or True;
         - `pre_context`, `context_line` and `post_context`: its line, and up to `context` lines before and
           behind it, where the map has the content of the source. They are removed where it hasn't, since they
           show the script. `colno` counts UTF-16 code units: `smap.code_point` gives the place in a str.
+
+        These are Sentry's names. With `shape="rollbar"` the script and the source are in `filename`, and the
+        lines in `code` and `context`; with `shape="bugsnag"` all is in `file`, `lineNumber`, `columnNumber`,
+        `inProject` and `code`.
 
         All else stays, `function` too. So do, as a whole, frames that have no such position (other types,
         values below 1 or above 2147483648), no map, no mapping there, or a source without a URL.
@@ -392,15 +399,18 @@ class Store:
         """
         if context < 0:
             raise ValueError("context is below 0")
-        told = list(frames)
+        if shape not in SHAPES:
+            raise ValueError(f"no shape {shape!r}, but {', '.join(SHAPES)}")
+        told, way = list(frames), SHAPES[shape]
         done, left = 0, StoreCounts()
-        for script, places in places_by_script(told).items():
+        for script, places in places_by_script(told, way).items():
             spelled = spellings(script) if ignore_query else [script]
             opened = next(filter(None, map(self._cache.open, spelled)), None)
             if opened is None:
                 left += self._left(script, len(places), any(map(self._cache.is_broken, spelled)))
                 continue
             with opened.map:
-                done += translate_all(told, places, opened.map, context)
+                originals = Originals(opened.map, opened.mark, context, self._known)
+                done += translate_all(told, places, way, originals)
         self._count(left + StoreCounts(lines=len(told), translated=done))
         return told
