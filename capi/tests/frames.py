@@ -1,12 +1,9 @@
-"""Tests of the frames of the Python module, and of the example that translates events."""
+"""Tests of the frames of the Python module."""
 
 import copy
 import json
-import os
-import resource
-import subprocess
 import sys
-import tempfile
+import tracemalloc
 import unittest
 from pathlib import Path
 
@@ -14,7 +11,6 @@ TESTS = Path(__file__).resolve().parent
 sys.path.insert(0, str(TESTS.parent / "python"))
 import smap  # noqa: E402
 
-EVENTS = TESTS.parent / "examples" / "events.py"
 U, V = "http://h/m/u.js", "http://h/m/v.js"
 
 # One mapping a column: 0 to src/a.ts 2:1, 1 to src/a.ts 0:0, 2 to lib.js 0:0, which is ignored and has no
@@ -100,6 +96,60 @@ class FramesTest(unittest.TestCase):
         self.assertEqual(told, [first, none, first, second, none, second])
         self.assertEqual(small.opened, {U: 1, V: 1})
 
+    def test_a_script_may_be_named_by_its_file(self):
+        (told,) = self.store.frames([{"filename": U, "lineno": 1, "colno": 1}])
+        self.assertEqual((told["abs_path"], told["filename"]), ("http://h/m/src/a.ts", "m/src/a.ts"))
+        sent = [frame(1, filename=V, script="http://h/m/none.js"), frame(1, filename=V, script=7)]
+        self.assertEqual(self.store.frames(sent), sent)
+        for script in (None, ""):
+            (told,) = self.store.frames([frame(1, filename=V, script=script)])
+            self.assertEqual(told["lineno"], 3)
+
+    def test_frames_have_other_shapes(self):
+        sent = {"filename": U, "lineno": 1, "colno": 1, "method": "f", "code": "x", "context": {"pre": ["y"]}}
+        told = {**sent, "filename": "http://h/m/src/a.ts", "lineno": 3, "colno": 2}
+        told.update(code="\U0001d4b3 + x", context={"pre": ["two"], "post": ["four"]})
+        self.assertEqual(self.store.frames([sent], 1, shape="rollbar"), [told])
+        sent = {"file": U, "lineNumber": 1, "columnNumber": 1, "method": "f", "code": {"1": "x"}}
+        told = {**sent, "file": "http://h/m/src/a.ts", "lineNumber": 3, "columnNumber": 2, "inProject": True}
+        told["code"] = {"2": "two", "3": "\U0001d4b3 + x", "4": "four"}
+        self.assertEqual(self.store.frames([sent], 1, shape="bugsnag"), [told])
+        sent["columnNumber"] = 3
+        told = {"file": "http://h/m/lib.js", "lineNumber": 1, "columnNumber": 1, "method": "f"}
+        self.assertEqual(self.store.frames([sent], shape="bugsnag"), [{**told, "inProject": False}])
+        for shape, sent in [
+            ("bugsnag", {"filename": U, "lineno": 1, "colno": 1}),
+            ("sentry", {"file": U, "lineNumber": 1, "columnNumber": 1}),
+            ("rollbar", {"abs_path": U, "lineno": 1, "colno": 1}),
+        ]:
+            self.assertEqual(self.store.frames([sent], shape=shape), [sent])
+        with self.assertRaisesRegex(ValueError, "no shape 'x', but sentry, rollbar, bugsnag"):
+            self.store.frames([], shape="x")
+
+    def test_what_is_known_is_that_of_the_map_as_it_is_open(self):
+        texts = [json.dumps({**MAP, "sourcesContent": ["one\ntwo\n" + word]}).encode() for word in ("x", "y")]
+        store = smap.Store(lambda script: texts[0])
+        (told,) = store.frames([frame(1)])
+        told["pre_context"].append("z")
+        again = store.frames([frame(1), frame(1)])
+        self.assertEqual([at["pre_context"] for at in again], [["one", "two"]] * 2)
+        del texts[0]
+        self.assertEqual(store.frames([frame(1)])[0]["context_line"], "x")
+        store.forget()
+        self.assertEqual(store.frames([frame(1)])[0]["context_line"], "y")
+
+    def test_what_is_known_takes_bounded_memory(self):
+        lines = "".join(f"{number:0100}\n" for number in range(20_000))
+        text = json.dumps({**MAP, "sources": ["a"], "sourcesContent": [lines], "ignoreList": [], "names": []})
+        maps = {f"http://h/{number}.js": text for number in range(40)}
+        store = smap.Store(lambda script: maps[script].replace(MAP["mappings"], "AAAA").encode())
+        tracemalloc.start()
+        self.addCleanup(tracemalloc.stop)
+        for _ in range(2):
+            for script in maps:
+                self.assertEqual(store.frames([frame(1, script=script)])[0]["context_line"], f"{0:0100}")
+        self.assertLess(tracemalloc.get_traced_memory()[1], 100_000_000)
+
     def test_a_query_is_ignored_where_that_is_asked_for(self):
         sent = [frame(1, script=U + "?v=3#x"), frame(1, script=U + "#x")]
         self.assertEqual(self.store.frames(sent), sent)
@@ -133,76 +183,5 @@ class FramesTest(unittest.TestCase):
         self.assertEqual([smap.code_point("ab", column) for column in (0, 1, 2, 3)], [0, 1, 2, 2])
 
 
-class EventsTest(unittest.TestCase):
-    def events(self, *lines, url="http://h/m/"):
-        """What the example writes, says and ends with."""
-        with tempfile.TemporaryDirectory() as folder:
-            Path(folder, "u.js.map").write_text(json.dumps(MAP))
-            Path(folder, "broken.js.map").write_text("{}")
-            Path(folder, "\x1b]0;x\x07\x9b\u202e.map").write_text("{}")
-            words = [sys.executable, "-B", str(EVENTS), f"{url}={folder}"]
-            done = subprocess.run(words, input=b"\n".join(lines), capture_output=True, check=False)
-        return done.stdout.split(b"\n"), done.stderr.decode(), done.returncode
-
-    def test_stacks_are_translated_wherever_they_are(self):
-        stack = {"frames": [frame(2), None]}
-        sent = {"threads": {"values": [{"id": 1, "stacktrace": stack}]}, "n": 1.5, "\u00e4": "\ud800"}
-        (line,), said, status = self.events(json.dumps(sent).encode())
-        told = json.loads(line)
-        thread = told["threads"]["values"][0]
-        self.assertEqual(thread["raw_stacktrace"], stack)
-        self.assertEqual(thread["stacktrace"]["frames"][0]["abs_path"], "http://h/m/src/a.ts")
-        self.assertIsNone(thread["stacktrace"]["frames"][1])
-        self.assertEqual((told["n"], told["\u00e4"], list(told)), (1.5, "\ud800", list(sent)))
-        self.assertEqual((status, said.count("\n")), (0, 1))
-
-    def test_an_event_in_which_nothing_is_translated_stays_byte_for_byte(self):
-        lines = [b'{ "n": 1.50, "stacktrace": {"frames": [] } }', b'{"stacktrace":[]}', b"{}", b"{}"]
-        self.assertEqual(self.events(*lines)[::2], (lines, 0))
-
-    def test_what_is_no_event_stays_and_is_told_of(self):
-        rows = [
-            (b"no json", "Expecting value"),
-            (b"", "Expecting value"),
-            (b"[1]", "not an object"),
-            (b'{"a":NaN}', "NaN is not JSON"),
-            (b'{"a":1,"a":2}', "two members of one name"),
-            (b'{"a":1e400}', "a number too large for a double"),
-            (b'{"a":"\xff"}', "invalid start byte"),
-            (b"[" * 100_000, ""),
-            (b'{"a":', "Expecting value"),
-        ]
-        good = json.dumps({"stacktrace": {"frames": [frame(2)]}}).encode()
-        lines = [line for line, _ in rows]
-        told, said, status = self.events(*lines, good)
-        self.assertEqual((told[:-1], status), (lines, 1))
-        self.assertIn(b"src/a.ts", told[-1])
-        for number, (line, reason) in enumerate(rows, 1):
-            self.assertRegex(said, f"(?m)^events: line {number} is left as it is: .*{reason}")
-
-    def test_a_url_of_many_marks_takes_little_time_and_memory(self):
-        def bounded():
-            resource.setrlimit(resource.RLIMIT_AS, (1 << 30, 1 << 30))
-            resource.setrlimit(resource.RLIMIT_CPU, (20, 20))
-
-        line = json.dumps({"stacktrace": {"frames": [frame(2, script=U + "?" * 80_000)]}}).encode()
-        with tempfile.TemporaryDirectory() as folder:
-            Path(folder, "u.js.map").write_text(json.dumps(MAP))
-            words = [sys.executable, "-B", str(EVENTS), f"http://h/m/={folder}"]
-            done = subprocess.run(words, input=line, capture_output=True, check=False, preexec_fn=bounded)
-        self.assertEqual((done.returncode, b"src/a.ts" in done.stdout), (0, True), done.stderr[-1000:])
-
-    def test_a_broken_map_is_told_of(self):
-        line = json.dumps({"stacktrace": {"frames": [frame(2, script="http://h/m/broken.js")]}}).encode()
-        told, said, status = self.events(line)
-        self.assertEqual((told, status), ([line], 1))
-        self.assertIn("events: http://h/m/broken.js: version\n", said)
-
-    def test_a_terminal_gets_no_commands(self):
-        sent = {"stacktrace": {"frames": [frame(2, script="/app/\x1b]0;x\x07\x9b\u202e")]}}
-        _, said, status = self.events(json.dumps(sent).encode(), url="/app/")
-        self.assertIn("events: /app/\\x1b]0;x\\x07\\x9b\\u202e: version\n", said)
-        self.assertEqual(status, 1)
-
-
-unittest.main()
+if __name__ == "__main__":
+    unittest.main()
