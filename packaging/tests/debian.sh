@@ -82,7 +82,9 @@ runs_c_program() {
 }
 
 runs_python_program() {
-    in_root sh -c 'cd /try/py && python3 program.py >written && diff program.py.out written'
+    in_root sh -c 'cd /try/py && python3 program.py >written && diff program.py.out written' &&
+        [ "$(in_root smap-events --version)" = "smap-events $version" ] &&
+        [ "$(in_root man -w smap-events)" = /usr/share/man/man1/smap-events.1.gz ]
 }
 
 # The first program of the manual of the package for Node, and a stack with smap/register. Debian's Node looks

@@ -36,6 +36,66 @@ wheel_runs_program() {
     (cd "$work/python" && "$venv/bin/python" program.py >written && diff program.py.out written)
 }
 
+# The example of its man page, which is there too.
+wheel_runs_events() {
+    page=$venv/share/man/man1/smap-events.1
+    cmp docs/man/smap-events.1 "$page" && mkdir "$work/events" || return 1
+    sed -n '/^\.Sh EXAMPLES/,/^\.Ed/p' "$page" | sed -e '1,/^\.Bd/d' -e '/^\.Ed/d' >"$work/events/example"
+    (
+        cd "$work/events" && sed -n 's/^\$ //p' example >commands && grep -v '^\$ ' example >wanted &&
+            PATH="$venv/bin:$PATH" sh ./commands >written 2>&1 && diff wanted written
+    )
+}
+
+# Without the programs there is nothing to run, and a sentence says which wheel has them.
+says_no_program() {
+    (cd / && PATH=/nowhere "$venv/bin/python" -m smap --version) 2>"$work/said"
+    [ "$?" -eq 127 ] && grep 'install the wheel smap-programs$' "$work/said"
+}
+
+installs_programs() {
+    "$venv/bin/python" -m pip install --no-index --disable-pip-version-check "$programs"
+}
+
+# They run the first example of README, also by `python -m smap`, end with the program's status, and take its
+# arguments as they are.
+programs_run() {
+    put_example "$work/programs-example" || return 1
+    for program in smap smap-trace smap-maps; do
+        cmp "docs/man/$program.1" "$venv/share/man/man1/$program.1" || return 1
+        [ "$(PATH=/nowhere "$venv/bin/$program" --version)" = "smap $version" ] || return 1
+    done
+    (
+        cd "$work/programs-example" && PATH="$venv/bin:$PATH" sh ./command >written && diff wanted written &&
+            [ "$(PATH=/nowhere "$venv/bin/python" -m smap --version)" = "smap $version" ] || exit 1
+        printf x | "$venv/bin/smap" check 'http://h/a b'
+        [ "$?" -eq 1 ] || exit 1
+        "$venv/bin/smap-trace" "$(printf 'a=\377')" </dev/null 2>/dev/null
+        [ "$?" -eq 2 ]
+    )
+}
+
+removes_programs() {
+    "$venv/bin/python" -m pip uninstall --disable-pip-version-check -y smap-programs &&
+        [ -z "$(find "$venv" -name '*smap_programs*' -o -name 'smap-trace*' -o -name 'smap-maps*')" ]
+}
+
+# Of the sdist a wheel is made that has no library, and loads the one that is named.
+sdist_makes_wheel() {
+    mkdir "$work/sdist" && tar -xzf "$sdist" -C "$work/sdist" || return 1
+    for python in python3 /usr/bin/python3; do
+        ! "$python" -c 'import build, hatchling' 2>/dev/null || break
+    done
+    "$python" -m build --no-isolation --skip-dependency-check --wheel --outdir "$work/sdist" \
+        "$work/sdist/smap-$version" || return 1
+    pure=$work/sdist/smap-$version-py3-none-any.whl
+    "$venv/bin/python" -m pip install --no-index --disable-pip-version-check "$pure" && (
+        cd / && [ "$(SMAP_LIBRARY="$lib/libsmap.so.0" "$venv/bin/python" -c 'import smap; print(smap.__version__)')" = \
+            "$version" ] && ! "$venv/bin/python" -c 'import smap' 2>"$work/said" &&
+            grep "ImportError: smap can't load its library: " "$work/said"
+    )
+}
+
 # A type checker reads the module's types: it accepts a program that uses them well, and not one that doesn't.
 has_types() (
     cat >"$work/well.py" <<'END'
@@ -100,19 +160,31 @@ test_npm() {
     try 'the package for npm is removed, and nothing stays' removes_npm
 }
 
+test_python() {
+    if ! python3 -c 'import ensurepip, venv' 2>/dev/null; then
+        leave_out 'the wheels, installed' 'python3 has no venv here'
+        return
+    fi
+    try 'a virtual environment is made' python3 -m venv "$venv" &&
+        try 'the wheel is installed by the line of README' installs_wheel || return
+    try 'the wheel runs the Python program of its manual' wheel_runs_program
+    try 'the wheel runs the example of smap-events' wheel_runs_events
+    has mypy 'the types of the Python module' && try 'the wheel has types' has_types
+    try 'python -m smap without the programs says so' says_no_program
+    if try 'the wheel of the programs is installed' installs_programs; then
+        try 'the wheel of the programs runs the first example of README' programs_run
+        try 'the wheel of the programs is removed, and nothing stays' removes_programs
+    fi
+    try 'the wheel is removed, and nothing stays' removes_wheel
+    try 'the sdist makes a wheel over the library of the system' sdist_makes_wheel
+}
+
 test_prefix() {
     try 'the archive, unpacked by the line of README, runs its first example' unpacks_anywhere
     if has cc 'a C program with the archive' && has pkg-config 'a C program with the archive'; then
         try 'the archive compiles the C program of its manual' archive_compiles
     fi
-    if ! python3 -c 'import ensurepip, venv' 2>/dev/null; then
-        leave_out 'the wheel' 'python3 has no venv here'
-    elif try 'a virtual environment is made' python3 -m venv "$venv" &&
-        try 'the wheel is installed by the line of README' installs_wheel; then
-        try 'the wheel runs the Python program of its manual' wheel_runs_program
-        has mypy 'the types of the Python module' && try 'the wheel has types' has_types
-        try 'the wheel is removed, and nothing stays' removes_wheel
-    fi
+    [ -z "$wheel" ] || test_python
     # It was made here, so that npm and node are here.
     [ ! -e "$npm_tgz" ] || test_npm
 }

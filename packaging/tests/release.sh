@@ -22,6 +22,15 @@ counts_node() {
     done
 }
 
+# The packages for Python are made where the tools for them are.
+counts_python() {
+    wheel=$(find "$dist" -name 'smap-*.whl')
+    programs=$(find "$dist" -name 'smap_programs-*.whl')
+    sdist=$(find "$dist" -name "smap-$version.tar.gz")
+    [ -n "$wheel" ] ||
+        leave_out 'the wheels' "$(sed -n 's/^build-packages: the wheels are left out: //p' "$work/log" | sed 1q)"
+}
+
 # Makes them once more out of the source package, in another folder, at another time, with other settings.
 makes_the_same() {
     dpkg-source --no-check -x "$dist/smap_$version.dsc" "$work/a copy" && rm -r "$work/a copy/debian" || return 1
@@ -48,13 +57,14 @@ source_makes_the_same() {
     done
 }
 
-# The Debian packages with two of symbols, and their source in two files, the archive, the wheel and the package
+# The Debian packages with two of symbols, and their source in two files, the archive, those for Python and
 # for npm, and the sum of each.
 sums() {
     # shellcheck disable=SC2086
     set -- $debs
     [ ! -e "$npm_tgz" ] || set -- "$@" "$npm_tgz"
-    wanted=$(($# + 6))
+    [ -z "$wheel" ] || set -- "$@" "$wheel" "$programs" "$sdist"
+    wanted=$(($# + 5))
     (
         cd "$dist" && sha256sum -c SHA256SUMS &&
             [ "$(find . -type f | wc -l) $(grep -c '' SHA256SUMS)" = "$((wanted + 1)) $wanted" ]
@@ -68,9 +78,12 @@ unpacks() {
         name=${package##*/}
         dpkg-deb -R "$package" "$work/unpacked/${name%%_*}" || return 1
     done
-    mkdir "$work/unpacked/archive" "$work/unpacked/wheel" &&
-        tar -xzf "$dist/$archive.tar.gz" -C "$work/unpacked/archive" &&
-        python3 -m zipfile -e "$wheel" "$work/unpacked/wheel" || return 1
+    mkdir "$work/unpacked/archive" && tar -xzf "$dist/$archive.tar.gz" -C "$work/unpacked/archive" || return 1
+    if [ -n "$wheel" ]; then
+        mkdir "$work/unpacked/sdist" && tar -xzf "$sdist" -C "$work/unpacked/sdist" &&
+            python3 -m zipfile -e "$wheel" "$work/unpacked/wheel" &&
+            python3 -m zipfile -e "$programs" "$work/unpacked/programs" || return 1
+    fi
     [ ! -e "$npm_tgz" ] || { mkdir "$work/unpacked/npm" && tar -xzf "$npm_tgz" -C "$work/unpacked/npm"; }
 }
 
@@ -138,8 +151,15 @@ numbers() {
     [ ! -e "$npm_tgz" ] ||
         grep -x "  \"version\": \"$version\"," "$work/unpacked/npm/package/package.json" || return 1
     grep -x "Version: $version" "$work/unpacked/libsmap-dev/usr/lib/x86_64-linux-gnu/pkgconfig/smap.pc" &&
-        grep -x "Version: $version" "$work/unpacked/archive/$archive/lib/pkgconfig/smap.pc" &&
-        grep -x "Version: $version" "$work/unpacked/wheel/smap-$version.dist-info/METADATA"
+        grep -x "Version: $version" "$work/unpacked/archive/$archive/lib/pkgconfig/smap.pc" || return 1
+    module=usr/lib/python3/dist-packages/smap-$version.dist-info
+    set -- "$work/unpacked/python3-smap/$module/METADATA"
+    [ -z "$wheel" ] || set -- "$@" "$work/unpacked/wheel/smap-$version.dist-info/METADATA" \
+        "$work/unpacked/programs/smap_programs-$version.dist-info/METADATA" \
+        "$work/unpacked/sdist/smap-$version/PKG-INFO"
+    for file in "$@"; do
+        grep -x "Version: $version" "$file" || return 1
+    done
 }
 
 # The greatest version of the C library that a symbol of these files wants: N of 2.N.
@@ -147,15 +167,18 @@ greatest_glibc() {
     objdump -T "$@" | sed -n 's/.*GLIBC_2\.\([0-9]*\).*/\1/p' | sort -n | tail -n 1 | grep .
 }
 
-wheel_names_c_library() {
+wheels_name_c_library() {
     greatest=$(greatest_glibc "$work/unpacked/wheel/smap/libsmap.so.0") &&
-        [ "$wheel" = "$dist/smap-$version-py3-none-manylinux_2_${greatest}_x86_64.whl" ]
+        [ "$wheel" = "$dist/smap-$version-py3-none-manylinux_2_${greatest}_x86_64.whl" ] &&
+        greatest=$(greatest_glibc "$work/unpacked/programs/smap_programs/smap") &&
+        [ "$programs" = "$dist/smap_programs-$version-py3-none-manylinux_2_${greatest}_x86_64.whl" ]
 }
 
 # README says what the program and the library want together.
 readme_names_c_library() {
-    greatest=$(greatest_glibc "$work/unpacked/smap/usr/bin/smap" "$work/unpacked/wheel/smap/libsmap.so.0") &&
-        grep -F "glibc 2.$greatest or later" README.md && grep -F "${wheel##*/}" README.md
+    set -- "$work/unpacked/smap/usr/bin/smap" "$work/unpacked/libsmap0/usr/lib/x86_64-linux-gnu/libsmap.so.0"
+    greatest=$(greatest_glibc "$@") && grep -F "glibc 2.$greatest or later" README.md || return 1
+    [ -z "$wheel" ] || grep -F "${wheel##*/}" README.md
 }
 
 # The first release whose library has versions of names, without which no program starts that wants them: this
@@ -235,7 +258,7 @@ lintian_is_content() {
 
 test_release() {
     try 'the packages are made' makes || return 1
-    wheel=$(echo "$dist"/smap-*.whl)
+    counts_python
     counts_node
     try 'the packages are made again out of their source, with the same bytes' makes_the_same
     try 'and so are the Debian packages by dpkg-buildpackage' source_makes_the_same
@@ -246,7 +269,7 @@ test_release() {
     try 'all that is made has the number of VERSION' numbers
     try 'the Debian packages name their maintainer' names_maintainer
     try 'what is no maintainer is refused' refuses_maintainer
-    try 'the wheel names the C library that it wants' wheel_names_c_library
+    [ -z "$wheel" ] || try 'the wheels name the C library that they want' wheels_name_c_library
     try 'README names the C library that is wanted' readme_names_c_library
     try 'the Debian packages have the pages that their files name' has_pages
     try 'the Debian package of the library has its symbols' has_symbols

@@ -1,0 +1,23 @@
+"""What the wheel has besides the Python module: the program and its man pages."""
+
+import os
+
+from hatchling.builders.hooks.plugin.interface import BuildHookInterface
+
+PAGES = ("smap.1", "smap-trace.1", "smap-maps.1")
+
+
+class ProgramHook(BuildHookInterface):
+    """Puts the program that SMAP_WHEEL_PROGRAM names into the wheel, and pages of SMAP_WHEEL_PAGES, a folder.
+
+    The wheel is for the platform SMAP_WHEEL_PLATFORM, such as manylinux_2_34_x86_64.
+    """
+
+    def initialize(self, version, build_data):
+        included = build_data["force_include"]
+        included[os.environ["SMAP_WHEEL_PROGRAM"]] = "smap_programs/smap"
+        shared = f"smap_programs-{self.metadata.version}.data/data/share/man/man1"
+        for page in PAGES:
+            included[os.path.join(os.environ["SMAP_WHEEL_PAGES"], page)] = f"{shared}/{page}"
+        build_data["pure_python"] = False
+        build_data["tag"] = f"py3-none-{os.environ['SMAP_WHEEL_PLATFORM']}"
