@@ -114,7 +114,7 @@ def main():
     parser.add_argument("--events", type=int, default=20_000)
     given = parser.parse_args()
     environment = {**os.environ, "SMAP_LIBRARY": os.path.abspath(given.library)}
-    environment["PYTHONPATH"] = str(PROGRAM.parent)
+    environment.update(PYTHONPATH=str(PROGRAM.parent), PYTHONDONTWRITEBYTECODE="1")
     dice = random.Random(1)
     scripts = ["a.js", "b.js"]
     columns = [dice.randrange(1, 5 * MAPPINGS) for _ in range(POSITIONS)]

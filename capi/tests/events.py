@@ -457,6 +457,27 @@ class LinesTest(EventsCase):
             self.assertIn(b"events: 3, translated: 3,", program.stderr.read())
 
 
+    def test_a_map_that_comes_later_is_found_and_one_that_is_open_stays(self):
+        frame = {"filename": "https://s.example/late.js", "lineno": 1, "colno": 1}
+        event = {"stacktrace": {"frames": [frame, {**frame, "filename": SCRIPT}]}, "n": 0}
+        with self.started() as program:
+            for number in range(4):
+                if number == 1:
+                    (self.dist / "late.js.map").write_text(json.dumps(MAP))
+                if number == 3:
+                    (self.dist / "late.js.map").unlink()
+                program.stdin.write(json.dumps({**event, "n": number}).encode() + b"\n")
+                program.stdin.flush()
+                told = json.loads(program.stdout.readline())
+                lines = [frame["lineno"] for frame in told["stacktrace"]["frames"]]
+                self.assertEqual((lines, told["n"]), ([1 if number == 0 else 3, 3], number))
+            program.stdin.close()
+            said = program.stderr.read().decode()
+            self.assertEqual((program.wait(), program.stdout.read()), (0, b""))
+        self.assertIn("events: 4, translated: 4,", said)
+        self.assertIn("frames translated: 7, without a map: 1,", said)
+
+
 class SaidTest(EventsCase):
     def test_a_broken_map_is_told_of(self):
         line = json.dumps({"stack": "@https://s.example/broken.js:1:1"}).encode()
