@@ -224,6 +224,24 @@ class ShapesTest(EventsCase):
         self.assertEqual([frame["lineno"] for frame in stack["frames"]], [3, 1, 3])
         self.assertEqual((stack["registers"], stack["frames"][1]), ({}, frames[1]))
 
+    def test_an_envelope_of_sentry_says_how_long_its_items_are(self):
+        event = json.dumps(SENTRY).encode()
+        head = b'{"event_id":"9fac2ceed9344f2bbfdd1fdacb0ed9b1","sent_at":"2026-11-26T00:00:00Z"}'
+        of_event = b'{"type":"event", "length" : %d,"content_type":"application/json"}'
+        other = [b'{"type":"attachment","length":9,"filename":"a.txt"}', b"no event\xff"]
+        told, _, status = self.events(head, of_event % len(event), event, *other, b"")
+        self.assertEqual((status, told[0], told[3:]), (1, head, [*other, b""]))
+        self.assertEqual(told[1], of_event % len(told[2]))
+        self.assertEqual(json.loads(told[2]), self.told(SENTRY))
+        for lines in [
+            (of_event % len(event),), (of_event % len(event), b"{}"), (of_event % 3, b"{}", event),
+            (of_event % 9, of_event % 8, b"{}"), (of_event % len(of_event % 8), of_event % 8, b"{}"),
+            (b'{"type":"event","length":"9"}', b"{}"),
+        ]:
+            self.assertEqual(self.events(*lines)[0][:2], list(lines)[:2], lines)
+        told, _, _ = self.events(of_event % (len(event) + 1), event)
+        self.assertEqual(told[0], of_event % (len(event) + 1))
+
     def test_bugsnag(self):
         event = copied(BUGSNAG)
         told = self.told(event)

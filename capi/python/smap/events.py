@@ -47,6 +47,10 @@ HOLDERS = ("trace", "trace_chain", "attributes")
 MOST_READ = 8
 OF_A_VALUE = 20
 
+# The members of the header of an item in an envelope of Sentry, which says how long the line behind it is.
+ITEM_HEADER = {"type", "length", "content_type", "filename", "attachment_type", "item_count", "platform"}
+LENGTH = re.compile(rb'("length"\s*:\s*)(\d+)')
+
 # How many bytes of stacks are known at most; and what Python's objects for one take, about.
 MOST_KNOWN = 1 << 25
 BESIDE = 1_000
@@ -278,6 +282,19 @@ def pieces(source: int, longest: int = LONGEST) -> Iterator[List[Piece]]:
         yield [Piece(rest, is_start, is_start)]
 
 
+def length(line: bytes) -> int:
+    """How long a line is, without its line feed."""
+    return len(line) - line.endswith(b"\n")
+
+
+def resized(header: bytes, line: bytes, told: bytes) -> bytes:
+    """The header of an item with the length of what is written, if it has that of what was read."""
+    match = LENGTH.search(header)
+    if told == line or match is None or int(match[2]) != length(line):
+        return header
+    return header[: match.start(2)] + str(length(told)).encode() + header[match.end(2) :]
+
+
 def shown(text: object) -> str:
     """A text for a terminal, which would take some characters as commands."""
     return "".join(char if char.isprintable() else ascii(char)[1:-1] for char in str(text))
@@ -293,11 +310,24 @@ class Events:
     def __init__(self, store: Store, keep: bool = True, context: Optional[int] = None) -> None:
         self._store = store
         self._stacks, self._keep = Stacks(store, keep, context), keep
+        # the header of an item, until the line behind it is read
+        self._header = b""
         self._lines = self._translated = 0
         self.others = 0
 
     def told(self, piece: Piece) -> bytes:
-        """What to write for a line, or a piece of one."""
+        """What to write for a line, or a piece of one, and what waited for it."""
+        header = self.rest()
+        told = self._told(piece)
+        # a line that waits itself is as it was
+        return (header if self._header else resized(header, piece.text, told)) + told
+
+    def rest(self) -> bytes:
+        """What waits for another line."""
+        header, self._header = self._header, b""
+        return header
+
+    def _told(self, piece: Piece) -> bytes:
         self._lines += piece.is_start
         if not piece.is_whole:
             if piece.is_start:
@@ -316,8 +346,12 @@ class Events:
     def _event(self, line: bytes) -> bytes:
         """An event with its stacks translated. All else of it stays as it is written."""
         text = line.decode("utf-8")
-        if not isinstance(read_all(text), dict):
+        found = read_all(text)
+        if not isinstance(found, dict):
             raise ValueError("not an object")
+        if {"type", "length"} <= found.keys() <= ITEM_HEADER:
+            self._header = line
+            return b""
         event = Event(text)
         kept = event.kept()
         told: List[str] = []
@@ -373,8 +407,11 @@ def write_all(target: int, data: bytes) -> None:
 
 def translate(events: Events, source: int, target: int) -> None:
     """Translates an open file, and writes each block of lines as soon as it is read."""
-    for block in pieces(source):
-        write_all(target, b"".join(map(events.told, block)))
+    try:
+        for block in pieces(source):
+            write_all(target, b"".join(map(events.told, block)))
+    finally:
+        write_all(target, events.rest())
 
 
 def natural(text: str) -> int:
