@@ -13,6 +13,7 @@ import tempfile
 import threading
 import unittest
 from pathlib import Path, PurePosixPath, PureWindowsPath
+from unittest import mock
 from urllib.parse import quote, urljoin, urlsplit
 from urllib.request import url2pathname, urlopen
 
@@ -391,11 +392,15 @@ class LoadTest(unittest.TestCase):
         return package
 
     def test_none_is_there(self):
-        if ctypes.util.find_library("smap"):
-            self.skipTest("libsmap is installed here")
-        at, said = self.said(self.copied())
-        self.assertEqual(at, "smap libsmap.so.0")
-        self.assertRegex(said, "^smap can't load its library: libsmap.so.0: .*No such .* Install the wheel")
+        environment = {name: value for name, value in os.environ.items() if name != "SMAP_LIBRARY"}
+        fault = OSError("libsmap.so.0: cannot open shared object file: No such file or directory")
+        with mock.patch.dict(os.environ, environment, clear=True), mock.patch.object(
+            Path, "exists", return_value=False
+        ), mock.patch.object(ctypes, "CDLL", side_effect=fault):
+            wanted = "^smap can't load its library: libsmap.so.0: .*No such .* Install the wheel"
+            with self.assertRaisesRegex(ImportError, wanted) as raised:
+                library.load()
+        self.assertEqual((raised.exception.name, raised.exception.path), ("smap", "libsmap.so.0"))
 
     def test_another_one_is_named(self):
         at, said = self.said(PACKAGE, SMAP_LIBRARY="/nowhere/libsmap.so")
