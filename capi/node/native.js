@@ -1,20 +1,11 @@
 'use strict';
-// Loads the addon: the one that build.sh made, or the one that a package has for its platform.
+// Loads the addon: the one that build.sh made, or the one in the package for this platform.
 const fs = require('node:fs');
 const path = require('node:path');
+const { failure, fileOf } = require('./platform.js');
 
-const platform = `${process.platform}-${process.arch}`;
-const file = ['out', path.join('prebuilds', platform)]
-  .map(folder => path.join(__dirname, folder, 'smap.node'))
-  .find(name => fs.existsSync(name));
-
-function failure(why, cause) {
-  const error = new Error(`smap runs on Linux on x86-64 with glibc, and ${why}`, cause && { cause });
-  error.code = 'SMAP_NOT_BUILT';
-  return error;
-}
-
-if (!file) throw failure(`there is no addon of it for ${platform}: capi/node/build.sh builds one`);
+const built = path.join(__dirname, 'out', 'smap.node');
+const file = fs.existsSync(built) ? built : fileOf('smap.node');
 try {
   module.exports = require(file);
 } catch (error) {

@@ -20,7 +20,7 @@ const text: string = map.canonical({ relative: true });
 const log: string = map.translate('x', 'http://h/', { hideIgnored: true, anywhere: true });
 const later: Promise<SourceMap> = SourceMap.open({ version: 3 }, 'http://h/');
 const shared: number = map.share();
-map[Symbol.dispose]();
+map.close();
 const scripts = new Scripts({ a: map }).add(new URL('http://h/'), SourceMap.take(shared));
 const { lines }: { lines: number } = scripts.translateAndCount(log);
 const told: string = translate(text, new Map([['a', map]]));
@@ -47,6 +47,8 @@ install(options);
 console.log(later, lines, parts, short, columns, handle, segment, original.name, consumer.sources);
 console.log(inline, file, below, alike);
 
+// @ts-expect-error: a program that lacks Symbol.dispose doesn't get it from here
+map[Symbol.dispose]();
 // @ts-expect-error: a column is missing
 map.lookup(0);
 // @ts-expect-error: no such option

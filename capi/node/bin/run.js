@@ -1,0 +1,45 @@
+'use strict';
+// Runs a program of the package for this platform: what each command beside this file does.
+const { spawn } = require('node:child_process');
+const os = require('node:os');
+const { fileOf } = require('../platform.js');
+
+// The status with which a shell says that it can't find a command.
+const NOT_FOUND = 127;
+const SIGNALS = ['SIGHUP', 'SIGINT', 'SIGQUIT', 'SIGTERM'];
+
+function fail(name, error) {
+  process.stderr.write(`${name}: ${error.message}\n`);
+  process.exitCode = NOT_FOUND;
+}
+
+// The process ends as the program did.
+function endAs(status, signal) {
+  process.exitCode = signal ? 128 + os.constants.signals[signal] : status;
+  if (signal) process.kill(process.pid, signal);
+}
+
+function start(file, name) {
+  const child = spawn(file, process.argv.slice(2), { argv0: name, stdio: 'inherit' });
+  const pass = signal => child.kill(signal);
+  for (const signal of SIGNALS) process.on(signal, pass);
+  child.on('error', error => fail(name, error));
+  child.on('exit', (status, signal) => {
+    for (const one of SIGNALS) process.off(one, pass);
+    endAs(status, signal);
+  });
+}
+
+/**
+ * Runs a program with the arguments and the streams of this process. smap-view is a script; the others are one
+ * program, which looks at the name that it is called by.
+ */
+function run(name) {
+  try {
+    start(fileOf(`bin/${name === 'smap-view' ? name : 'smap'}`), name);
+  } catch (error) {
+    fail(name, error);
+  }
+}
+
+module.exports = { run };

@@ -1,0 +1,251 @@
+'use strict';
+// Stack traces of this process at their positions in the sources: the interface of source-map-support.
+const fs = require('node:fs');
+const Module = require('node:module');
+const { inspect } = require('node:util');
+const { isMainThread } = require('node:worker_threads');
+const maps = require('./maps-of-scripts.js');
+
+let isFresh = false;       // whether what is known is forgotten before each trace
+let isFormatting = false;
+let earlier = null;        // what made the text of stacks before
+let isCatching = false;
+
+function mapSourcePosition(position) {
+  return maps.originalOf(position) ?? position;
+}
+
+// ---- frames
+
+// The place of a call to eval, in `eval at f (/a/out.js:1:2)` or inside another of these.
+function mapEvalOrigin(origin) {
+  let match = /^eval at ([^(]+) \((.+):(\d+):(\d+)\)$/.exec(origin);
+  if (match && !match[2].startsWith('eval at ')) {
+    const at = mapSourcePosition({ source: match[2], line: +match[3], column: match[4] - 1 });
+    return `eval at ${match[1]} (${at.source}:${at.line}:${at.column + 1})`;
+  }
+  match = /^eval at ([^(]+) \((.+)\)$/.exec(origin);
+  return match ? `eval at ${match[1]} (${mapEvalOrigin(match[2])})` : origin;
+}
+
+// What stands for `from` in the text of a frame, and the position; or null if that stays.
+function placeOf(frame) {
+  if (frame.isNative()) return null;
+  const file = frame.getFileName() || frame.getScriptNameOrSourceURL();
+  if (file) {
+    const line = frame.getLineNumber();
+    const column = frame.getColumnNumber();
+    if (file.startsWith('node:') || line === null || column === null) return null;
+    const at = maps.originalOf({ source: file, line, column: column - 1 });
+    return at && { from: `${file}:${line}:${column}`, to: `${at.source}:${at.line}:${at.column + 1}`, at };
+  }
+  const origin = frame.isEval() && frame.getEvalOrigin();
+  if (!origin) return null;
+  const to = mapEvalOrigin(origin);
+  return to === origin ? null : { from: origin, to, at: null };
+}
+
+// The same, or null where that fails: a trace must not.
+function safePlaceOf(frame) {
+  try {
+    return placeOf(frame);
+  } catch (error) {
+    maps.debug('%s: %s', String(frame), error.message);
+    return null;
+  }
+}
+
+const originalOf = frame => safePlaceOf(frame)?.at ?? null;
+
+// Only the place is replaced in the text that V8 makes.
+function textOf(frame) {
+  const text = String(frame);
+  const place = safePlaceOf(frame);
+  const i = place ? text.lastIndexOf(place.from) : -1;
+  return i < 0 ? text : text.slice(0, i) + place.to + text.slice(i + place.from.length);
+}
+
+function wrapCallSite(frame) {
+  const place = placeOf(frame);
+  if (!place) return frame;
+  const own = {};
+  for (const name of Object.getOwnPropertyNames(Object.getPrototypeOf(frame))) {
+    if (typeof frame[name] === 'function') own[name] = (...words) => frame[name](...words);
+  }
+  own.toString = () => textOf(frame);
+  if (place.at) {
+    own.getFileName = own.getScriptNameOrSourceURL = () => place.at.source;
+    own.getLineNumber = () => place.at.line;
+    own.getColumnNumber = () => place.at.column + 1;
+  } else {
+    own.getEvalOrigin = () => place.to;
+  }
+  return own;
+}
+
+// The first lines of a stack, as V8 makes them; Node's own errors tell their code.
+function headOf(error) {
+  try {
+    const { name, code, message } = error;
+    const own = `${name} [${code}]: ${message}`;
+    const isNodes = typeof code === 'string' && /^ERR_/.test(code) &&
+      error.toString !== Error.prototype.toString && String(error) === own;
+    return isNodes ? own : Error.prototype.toString.call(error);
+  } catch {
+    return '<error>';
+  }
+}
+
+// For each error whose stack was made here, the position of its first frame, if that has one in a source.
+const firsts = new WeakMap();
+
+function prepareStackTrace(error, frames) {
+  if (isFresh) maps.forget();
+  if (frames.length > 0) firsts.set(error, originalOf(frames[0]));
+  if (earlier) return amended(earlier.call(this, error, frames), error, frames);
+  return [headOf(error), ...frames.map(textOf)].join('\n    at ');
+}
+
+// ---- beside another package that was here first, such as a transpiler's
+
+// Where the frames begin in the text of a stack: behind the message, which may say anything.
+function behindMessage(text, error) {
+  try {
+    const message = String(error.message ?? '');
+    const i = text.indexOf(message);
+    return i < 0 ? 0 : i + message.length;
+  } catch {
+    return 0;
+  }
+}
+
+// Where a place stands in a text, from an index on, and isn't a part of a longer one; or -1.
+function indexOfPlace(text, place, from) {
+  const isWhole = i =>
+    /^[\s("'`<[{,=]?$/.test(text.charAt(i - 1)) && !/^\d/.test(text.charAt(i + place.length));
+  let i = text.indexOf(place, from);
+  while (i >= 0 && !isWhole(i)) i = text.indexOf(place, i + 1);
+  return i;
+}
+
+// What the other package made of a stack. It may know maps that can't be found otherwise, so only places that
+// it left as V8 has them are replaced.
+function amended(text, error, frames) {
+  if (typeof text !== 'string') return text;
+  let from = behindMessage(text, error);
+  let out = text.slice(0, from);
+  const gone = new Set();
+  for (const frame of frames) {
+    const place = safePlaceOf(frame);
+    if (!place || gone.has(place.from)) continue;
+    const i = indexOfPlace(text, place.from, from);
+    if (i < 0) {
+      gone.add(place.from);
+      continue;
+    }
+    out += text.slice(from, i) + place.to;
+    from = i + place.from.length;
+  }
+  return out + text.slice(from);
+}
+
+// ---- errors that nobody catches
+
+const AT = '    at ';
+const POSITION = /:(\d+):(\d+)\)?$/;
+
+// The first frame of an error whose stack is a text, as that of one that comes from a worker.
+function firstIn(stack) {
+  for (const line of stack.split('\n').slice(1)) {
+    const match = line.startsWith(AT) ? POSITION.exec(line) : null;
+    if (!match) continue;
+    const place = line.slice(AT.length, match.index).replace(/^async /, '');
+    // `f (/a/out.js:1:2)`, or a place alone.
+    const from = match[0].endsWith(')') ? place.indexOf(' (') : -1;
+    return { source: from < 0 ? place : place.slice(from + 2), line: +match[1], column: match[2] - 1 };
+  }
+  return null;
+}
+
+function getErrorSource(error) {
+  const { stack } = error;
+  const at = firsts.has(error) ? firsts.get(error) : firstIn(stack);
+  const code = at && maps.lineOf(at.source, at.line);
+  if (!code) return null;
+  return `${at.source}:${at.line}\n${code}\n${' '.repeat(Math.min(at.column, code.length))}^`;
+}
+
+// All of it, also into a pipe that is full for a while.
+function writeError(text) {
+  let bytes = Buffer.from(text);
+  while (bytes.length > 0) {
+    try {
+      bytes = bytes.subarray(fs.writeSync(2, bytes));
+    } catch (error) {
+      if (error.code !== 'EAGAIN') return;
+    }
+  }
+}
+
+// As Node prints it, but for the line of the source. Where that isn't known, Node prints the error itself.
+function printAndExit(error) {
+  const source = getErrorSource(error);
+  if (!source) return false;
+  const colors = Boolean(process.stderr.isTTY && process.stderr.hasColors());
+  writeError(`${source}\n\n${inspect(error, { colors })}\n\nNode.js ${process.version}\n`);
+  return process.exit(1);
+}
+
+function catchUncaught() {
+  const { emit } = process;
+  process.emit = function (type, error) {
+    if (type === 'uncaughtException' && typeof error?.stack === 'string' && this.listenerCount(type) === 0) {
+      printAndExit(error);
+    }
+    return emit.apply(this, arguments);
+  };
+}
+
+// ---- installing
+
+const ENVIRONMENTS = ['node', 'auto', 'browser'];
+
+function install(options = {}) {
+  if (options.environment && !ENVIRONMENTS.includes(options.environment)) {
+    throw new Error(`environment ${options.environment} is none of ${ENVIRONMENTS.join(', ')}`);
+  }
+  if (options.retrieveFile) maps.hookFiles(options.retrieveFile, options.overrideRetrieveFile);
+  if (options.retrieveSourceMap) maps.hookMaps(options.retrieveSourceMap, options.overrideRetrieveSourceMap);
+  if (options.hookRequire ?? isTranspiling()) hookRequire();
+  if (options.emptyCacheBetweenOperations) isFresh = true;
+  if (!isFormatting) {
+    isFormatting = true;
+    if (typeof Error.prepareStackTrace === 'function') earlier = Error.prepareStackTrace;
+    Error.prepareStackTrace = prepareStackTrace;
+  }
+  if (!isCatching && isMainThread && (options.handleUncaughtExceptions ?? true)) {
+    isCatching = true;
+    catchUncaught();
+  }
+}
+
+// Node's own handlers of `require`. Those of TypeScript leave positions as they are.
+const USUAL = ['.js', '.json', '.node', '.ts', '.cts', '.mts'];
+const isTranspiling = () => Object.keys(Module._extensions).some(name => !USUAL.includes(name));
+
+// What is compiled may differ from the file: a transpiler that hooks into require puts its map into the text.
+function hookRequire() {
+  const { prototype } = Module;
+  const compile = prototype._compile;
+  if (compile.isHooked) return;
+  prototype._compile = function (text, name, ...more) {
+    maps.putFile(name, text);
+    return compile.call(this, text, name, ...more);
+  };
+  prototype._compile.isHooked = true;
+}
+
+const { retrieveSourceMap, unhook: resetRetrieveHandlers } = maps;
+module.exports = {
+  install, wrapCallSite, mapSourcePosition, retrieveSourceMap, getErrorSource, resetRetrieveHandlers,
+};

@@ -1,0 +1,15 @@
+// Maps and scripts can be declared by `using` where the libraries have Symbol.dispose.
+import { SourceMap, Scripts } from 'smap';
+
+// As lib.esnext.disposable.d.ts of TypeScript 5.2 has it.
+declare global {
+  interface SymbolConstructor {
+    readonly dispose: unique symbol;
+  }
+  interface Disposable {
+    [Symbol.dispose](): void;
+  }
+}
+
+const all: Disposable[] = [new SourceMap('{}', 'http://h/'), new Scripts()];
+for (const one of all) one[Symbol.dispose]();

@@ -1,0 +1,19 @@
+// What an ECMAScript module has of the types: names, and no default export, as when it runs.
+import { SourceMap, version } from 'smap';
+import { TraceMap } from 'smap/trace-mapping';
+import { SourceMapConsumer } from 'smap/source-map';
+import { install } from 'smap/support';
+import 'smap/register';
+
+const bytes: Buffer = new SourceMap('{}', 'http://h/').canonical({ buffer: true });
+console.log(bytes, version, TraceMap, SourceMapConsumer, install);
+
+// @ts-expect-error: no default export
+import smap from 'smap';
+// @ts-expect-error: no default export
+import traceMapping from 'smap/trace-mapping';
+// @ts-expect-error: no default export
+import sourceMap from 'smap/source-map';
+// @ts-expect-error: no default export
+import support from 'smap/support';
+console.log(smap, traceMapping, sourceMap, support);
