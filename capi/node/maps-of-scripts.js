@@ -5,6 +5,7 @@ const fs = require('node:fs');
 const path = require('node:path');
 const { debuglog } = require('node:util');
 const { SourceMap, SmapError, scriptLink, resolveLink, inlineMap, fileUrl, filePath } = require('./index.js');
+const { nodesMap } = require('./compiled.js');
 const { isOfPackage } = require('./packages.js');
 
 const debug = debuglog('smap');
@@ -95,7 +96,9 @@ function retrieve(script) {
     const got = call(script);
     if (got) return got;
   }
-  return mapHooks.only ? null : namedMap(script);
+  if (mapHooks.only) return null;
+  const map = files.has(script) ? null : nodesMap(script);
+  return map ? { url: script, map } : namedMap(script);
 }
 
 /** The text of a script's map and its URL or path; null if there is none, or the script names it wrongly. */

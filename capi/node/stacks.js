@@ -1,9 +1,9 @@
 'use strict';
 // Stack traces of this process at their positions in the sources: the interface of source-map-support.
 const fs = require('node:fs');
-const Module = require('node:module');
 const { inspect } = require('node:util');
 const { isMainThread } = require('node:worker_threads');
+const { isTranspiling, hookRequire } = require('./compiled.js');
 const maps = require('./maps-of-scripts.js');
 
 let isFresh = false;       // whether what is known is forgotten before each trace
@@ -108,6 +108,9 @@ function prepareStackTrace(error, frames) {
 
 // ---- beside another package that was here first, such as a transpiler's
 
+const AT = '    at ';
+const isFrame = line => line.startsWith(AT);
+
 // Where the frames begin in the text of a stack: behind the message, which may say anything.
 function behindMessage(text, error) {
   try {
@@ -132,8 +135,19 @@ function indexOfPlace(text, place, from) {
 // it left as V8 has them are replaced.
 function amended(text, error, frames) {
   if (typeof text !== 'string') return text;
-  let from = behindMessage(text, error);
-  let out = text.slice(0, from);
+  const head = text.slice(0, behindMessage(text, error));
+  const lines = text.slice(head.length).split('\n');
+  const first = lines.findIndex(isFrame);
+  const hasLineEach = lines.length - first === frames.length && lines.slice(first).every(isFrame);
+  if (!hasLineEach) return head + withPlaces(lines.join('\n'), frames);
+  // A place that it made for one frame may be that of another frame in the script.
+  return head + lines.map((line, i) => (i < first ? line : withPlaces(line, [frames[i - first]]))).join('\n');
+}
+
+// A text with the places of frames replaced, one behind the other.
+function withPlaces(text, frames) {
+  let from = 0;
+  let out = '';
   const gone = new Set();
   for (const frame of frames) {
     const place = safePlaceOf(frame);
@@ -151,13 +165,12 @@ function amended(text, error, frames) {
 
 // ---- errors that nobody catches
 
-const AT = '    at ';
 const POSITION = /:(\d+):(\d+)\)?$/;
 
 // The first frame of an error whose stack is a text, as that of one that comes from a worker.
 function firstIn(stack) {
   for (const line of stack.split('\n').slice(1)) {
-    const match = line.startsWith(AT) ? POSITION.exec(line) : null;
+    const match = isFrame(line) ? POSITION.exec(line) : null;
     if (!match) continue;
     const place = line.slice(AT.length, match.index).replace(/^async /, '');
     // `f (/a/out.js:1:2)`, or a place alone.
@@ -216,7 +229,7 @@ function install(options = {}) {
   }
   if (options.retrieveFile) maps.hookFiles(options.retrieveFile, options.overrideRetrieveFile);
   if (options.retrieveSourceMap) maps.hookMaps(options.retrieveSourceMap, options.overrideRetrieveSourceMap);
-  if (options.hookRequire ?? isTranspiling()) hookRequire();
+  if (options.hookRequire ?? isTranspiling()) hookRequire(maps.putFile);
   if (options.emptyCacheBetweenOperations) isFresh = true;
   if (!isFormatting) {
     isFormatting = true;
@@ -227,22 +240,6 @@ function install(options = {}) {
     isCatching = true;
     catchUncaught();
   }
-}
-
-// Node's own handlers of `require`. Those of TypeScript leave positions as they are.
-const USUAL = ['.js', '.json', '.node', '.ts', '.cts', '.mts'];
-const isTranspiling = () => Object.keys(Module._extensions).some(name => !USUAL.includes(name));
-
-// What is compiled may differ from the file: a transpiler that hooks into require puts its map into the text.
-function hookRequire() {
-  const { prototype } = Module;
-  const compile = prototype._compile;
-  if (compile.isHooked) return;
-  prototype._compile = function (text, name, ...more) {
-    maps.putFile(name, text);
-    return compile.call(this, text, name, ...more);
-  };
-  prototype._compile.isHooked = true;
 }
 
 const { retrieveSourceMap, unhook: resetRetrieveHandlers } = maps;

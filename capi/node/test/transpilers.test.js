@@ -1,7 +1,7 @@
 'use strict';
 // smap/register beside packages that compile what `require` reads, and beside formatters of stacks, before
-// and behind it: positions are those of the sources. ts-node and @babel/register are tried where they are
-// installed, and programs in place of such packages, which hook in and format as those do.
+// and behind it: positions are those of the sources. ts-node, @babel/register and esbuild are tried where they
+// are installed, and programs in place of such packages, which hook in and format as those do.
 const assert = require('node:assert');
 const fs = require('node:fs');
 const os = require('node:os');
@@ -125,13 +125,34 @@ const babel = found('@babel/preset-env') && found('@babel/register');
 bothWays('ts-node', typed, { 'typed.ts': TYPED }, needs('ts-node', typed));
 bothWays('@babel/register', babel, { 'new.jsx': NEW, 'new.js': NEW }, needs('@babel/register', babel));
 
-// ---- what stands for them
-
 const standIn = name => path.join(__dirname, 'transpilers', `${name}.js`);
+
+// Its hook is written here, and esbuild itself is the program.
+const esbuild = spawnSync('esbuild', ['--version']).status === 0 && found('pirates');
+const withEsbuild = { 'typed.ts': TYPED, 'new.js': NEW, 'new.jsx': NEW };
+bothWays('a hook like esbuild-register', standIn('esbuild'), withEsbuild, needs('esbuild', esbuild));
+
+// ---- what stands for them
 
 bothWays('a package like ts-node', standIn('eager'), { 'eager.ts': MOVED });
 bothWays('a package like @babel/register', standIn('lazy'), { 'lazy.js': MOVED, 'lazy.jsx': MOVED });
+bothWays('a package like ts-node, of .tsx too', standIn('wide'), { 'wide.ts': MOVED, 'wide.tsx': MOVED });
 bothWays('a package that has its maps for itself', standIn('apart'), { 'apart.ts': MOVED });
+
+// In the script the call is where the source has the error: three lines below, and seven columns behind.
+const CROSSED = `try {         f(); } catch (error) { console.log(error.stack); }
+
+
+function f() { throw new Error('crossed'); }
+`;
+
+test('a place in the script that is one of another frame in the source', () => {
+  write('crossed.tsx', CROSSED);
+  const { out } = run([standIn('wide'), REGISTER], 'crossed.tsx');
+  const [, f, main] = out.split('\n');
+  assert.equal(f, `    at f (${inFolder('crossed.tsx')}:4:22)`);
+  assert.ok(main.includes(`${inFolder('crossed.tsx')}:1:15`), main);
+});
 
 test('a package that leaves stacks alone, before smap/register', () => {
   isTold([standIn('bare'), REGISTER], 'bare.jsx', MOVED);
