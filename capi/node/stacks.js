@@ -1,10 +1,11 @@
 'use strict';
 // Stack traces of this process at their positions in the sources: the interface of source-map-support.
 const fs = require('node:fs');
-const { inspect } = require('node:util');
+const { inspect, types } = require('node:util');
 const { isMainThread } = require('node:worker_threads');
 const { isTranspiling, hookRequire } = require('./compiled.js');
 const maps = require('./maps-of-scripts.js');
+const { tellSource } = require('./uncaught.js');
 
 let isFresh = false;       // whether what is known is forgotten before each trace
 let isFormatting = false;
@@ -209,12 +210,15 @@ function printAndExit(error) {
   return process.exit(1);
 }
 
+function tell(error) {
+  if (typeof error?.stack === 'string') printAndExit(error);
+  if (!types.isNativeError(error)) tellSource();
+}
+
 function catchUncaught() {
   const { emit } = process;
   process.emit = function (type, error) {
-    if (type === 'uncaughtException' && typeof error?.stack === 'string' && this.listenerCount(type) === 0) {
-      printAndExit(error);
-    }
+    if (type === 'uncaughtException' && this.listenerCount(type) === 0) tell(error);
     return emit.apply(this, arguments);
   };
 }
