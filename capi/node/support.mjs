@@ -1,5 +1,5 @@
-import support from './support.js';
+import { createRequire } from 'node:module';
 
 export const {
   install, wrapCallSite, mapSourcePosition, retrieveSourceMap, getErrorSource, resetRetrieveHandlers,
-} = support;
+} = createRequire(import.meta.url)('./support.js');
