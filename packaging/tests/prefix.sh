@@ -1,6 +1,6 @@
 # shellcheck shell=sh
 # What scripts/run-packages tests of what any user can install: the archive, unpacked into any folder, the
-# wheel in a virtual environment, and the package for npm in a project.
+# wheel in a virtual environment, and the packages for npm in a project.
 
 usr="$work/any where/.local"
 
@@ -122,25 +122,29 @@ removes_wheel() {
         [ -z "$(find "$venv" -name '*smap*')" ]
 }
 
+project=$work/project
+
 # Runs a command in the project, for which npm has a cache and a home of its own, and no network.
 with_npm() (
-    cd "$work/project" && npm_config_offline=true npm_config_audit=false npm_config_fund=false &&
+    cd "$project" && npm_config_offline=true npm_config_audit=false npm_config_fund=false &&
         export npm_config_offline npm_config_audit npm_config_fund &&
         HOME=$work/npm-home npm_config_cache=$work/npm "$@"
 )
 
+# npm finds the package for the platform beside the one that the line of README names.
 installs_npm() {
-    mkdir "$work/project" "$work/npm-home" && cp "$npm_tgz" "$work/project" &&
-        echo '{"private":true}' >"$work/project/package.json" && install_line 'npm install' >"$work/line" && with_npm sh "$work/line" &&
-        [ "$(cd "$work/project" && node -p "require('smap').version")" = "$version" ]
+    mkdir "$project" "$work/npm-home" && cp "$npm_tgz" "$npm_platform_tgz" "$project" &&
+        echo '{"private":true}' >"$project/package.json" && install_line 'npm install' >"$work/line" &&
+        with_npm sh "$work/line" &&
+        [ "$(cd "$project" && node -p "require('smap').version")" = "$version" ]
 }
 
 # The programs of its manual, as they stand in what was installed, and a stack with smap/register.
 npm_runs_programs() {
-    put_node_programs "$work/project/programs" || return 1
-    cmp "$work/project/node_modules/smap/README.md" capi/node/README.md || return 1
+    put_node_programs "$project/programs" || return 1
+    cmp "$project/node_modules/smap/README.md" capi/node/README.md || return 1
     (
-        cd "$work/project/programs" || return 1
+        cd "$project/programs" || return 1
         for program in *.?js; do
             node "$program" >written 2>&1
             diff "$program.out" written || return 1
@@ -150,13 +154,62 @@ npm_runs_programs() {
     )
 }
 
+# The commands, as npm puts them on the PATH of its scripts: the first example of README, the numbers, a page
+# of smap-view, and a status.
+npm_has_commands() {
+    put_example "$project/example" || return 1
+    (
+        unset SMAP
+        PATH=$project/node_modules/.bin:$PATH
+        export PATH
+        cd "$project/example" && sh ./command >written && diff wanted written || return 1
+        for program in smap smap-trace smap-maps smap-view; do
+            [ "$($program --version)" = "smap $version" ] || return 1
+        done
+        smap-view dist/cart.js.map >page.html && grep -q '</html>' page.html || return 1
+        echo '{"version":4}' | smap check http://h/x.map
+        [ "$?" -eq 1 ]
+    )
+}
+
+# All that its manual links to was installed, and nothing that only this repository can use.
+npm_has_what_it_names() {
+    [ -z "$(python3 -B rows/pages.py links "$project/node_modules/smap/README.md" 2>&1)" ] &&
+        ! find "$project/node_modules/smap" \( -name '*.c' -o -name '*.h' -o -name '*.sh' -o -name test \) | grep .
+}
+
+# A project that was installed here, on a machine with another system: from its lock file, and from the start.
+npm_leaves_platform_out() {
+    set -- --os=darwin --cpu=arm64
+    with_npm npm ci "$@" && ! [ -e "$project/node_modules/smap-linux-x64" ] || return 1
+    echo 'Object.defineProperty(process, "platform", { value: "darwin" })' >"$project/mac.cjs"
+    (cd "$project/programs" && node --require ../mac.cjs --require smap/register thrown.js 2>written
+        grep -x 'smap/register: smap runs on .*, and this is darwin-x64: .*' written &&
+            grep -F "at f ($PWD/a.ts:3:7)" written) || return 1
+    (cd "$project" && rm -rf node_modules package-lock.json && echo '{"private":true}' >package.json) &&
+        with_npm npm install "$@" "./${npm_tgz##*/}" && ! [ -e "$project/node_modules/smap-linux-x64" ] &&
+        with_npm npm ci && [ "$(cd "$project" && node -p "require('smap').version")" = "$version" ]
+}
+
 removes_npm() {
-    with_npm npm uninstall smap && [ -z "$(find "$work/project/node_modules" -name '*smap*' 2>/dev/null)" ]
+    with_npm npm uninstall smap && [ -z "$(find "$project/node_modules" -name '*smap*' 2>/dev/null)" ]
+}
+
+# Whether npm can be told that it is on another system.
+npm_takes_system() {
+    [ "$(npm config get os --os=darwin 2>/dev/null)" = darwin ]
 }
 
 test_npm() {
     try 'the package for npm is installed by the line of README' installs_npm || return
     try 'the package for npm runs the programs of its manual, and smap/register' npm_runs_programs
+    try 'the package for npm has the commands' npm_has_commands
+    try 'the package for npm has what its manual links to, and nothing of no use' npm_has_what_it_names
+    if npm_takes_system; then
+        try 'the package for npm is installed on another system, without the addon' npm_leaves_platform_out
+    else
+        leave_out 'the package for npm on another system' 'npm here has no --os'
+    fi
     try 'the package for npm is removed, and nothing stays' removes_npm
 }
 

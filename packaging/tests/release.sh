@@ -11,10 +11,11 @@ makes() {
     SMAP=$SMAP SMAP_CAPI=$lib scripts/build-packages "$dist"
 }
 
-# The packages for Node are made where Node's headers are, and the one for npm where npm is.
+# The packages for Node are made where Node's headers are, and those for npm where npm is.
 counts_node() {
     node_deb=$dist/node-smap_${version}_amd64.deb
     npm_tgz=$dist/smap-$version.tgz
+    npm_platform_tgz=$dist/smap-linux-x64-$version.tgz
     [ ! -e "$node_deb" ] || debs="$debs $node_deb"
     why=$(sed -n 's/^build-packages: .* is left out: //p' "$work/log" | sed 1q)
     for file in "$node_deb" "$npm_tgz"; do
@@ -62,7 +63,7 @@ source_makes_the_same() {
 sums() {
     # shellcheck disable=SC2086
     set -- $debs
-    [ ! -e "$npm_tgz" ] || set -- "$@" "$npm_tgz"
+    [ ! -e "$npm_tgz" ] || set -- "$@" "$npm_tgz" "$npm_platform_tgz"
     [ -z "$wheel" ] || set -- "$@" "$wheel" "$programs" "$sdist"
     wanted=$(($# + 5))
     (
@@ -84,7 +85,10 @@ unpacks() {
             python3 -m zipfile -e "$wheel" "$work/unpacked/wheel" &&
             python3 -m zipfile -e "$programs" "$work/unpacked/programs" || return 1
     fi
-    [ ! -e "$npm_tgz" ] || { mkdir "$work/unpacked/npm" && tar -xzf "$npm_tgz" -C "$work/unpacked/npm"; }
+    [ -e "$npm_tgz" ] || return 0
+    mkdir "$work/unpacked/npm" "$work/unpacked/npm-platform" &&
+        tar -xzf "$npm_tgz" -C "$work/unpacked/npm" &&
+        tar -xzf "$npm_platform_tgz" -C "$work/unpacked/npm-platform"
 }
 
 # Looks in each file, once it is decompressed, for this folder, the home, the kit's folder and the one for
@@ -96,14 +100,16 @@ names_no_folder() {
     ! grep -r -a -F -f "$work/folders" -l --exclude=OUTPUT.md "$work/unpacked"
 }
 
-# Everything in the Debian packages, their source and the package for npm belongs to root, and is of the day of
+# Everything in the Debian packages, their source and the packages for npm belongs to root, and is of the day of
 # the release.
 belongs_to_root() {
     for package in "$dist"/*.deb; do
         dpkg-deb -c "$package"
     done >"$work/contents" || return 1
     tar -tvJf "$dist/smap_$version.tar.xz" | sed 's| 0/0 | root/root |' >>"$work/contents"
-    [ ! -e "$npm_tgz" ] || tar -tvzf "$npm_tgz" | sed 's| 0/0 | root/root |' >>"$work/contents"
+    [ ! -e "$npm_tgz" ] || for file in "$npm_tgz" "$npm_platform_tgz"; do
+        tar -tvzf "$file" | sed 's| 0/0 | root/root |' >>"$work/contents"
+    done
     day=$(sed -n "s/^## \[$version\] - //p" CHANGELOG.md)
     [ -s "$work/contents" ] && ! grep -v " root/root .* $day " "$work/contents"
 }
@@ -148,8 +154,9 @@ numbers() {
         [ "$(dpkg-deb -f "$package" Installed-Size)" -gt 0 ] || return 1
     done
     grep -x "Version: $version" "$dist/smap_$version.dsc" || return 1
-    [ ! -e "$npm_tgz" ] ||
-        grep -x "  \"version\": \"$version\"," "$work/unpacked/npm/package/package.json" || return 1
+    [ ! -e "$npm_tgz" ] || for folder in npm npm-platform; do
+        grep -x "  \"version\": \"$version\"," "$work/unpacked/$folder/package/package.json" || return 1
+    done
     grep -x "Version: $version" "$work/unpacked/libsmap-dev/usr/lib/x86_64-linux-gnu/pkgconfig/smap.pc" &&
         grep -x "Version: $version" "$work/unpacked/archive/$archive/lib/pkgconfig/smap.pc" || return 1
     module=usr/lib/python3/dist-packages/smap-$version.dist-info
