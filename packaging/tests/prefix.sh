@@ -175,7 +175,7 @@ npm_has_commands() {
 # All that its manual links to was installed, and nothing that only this repository can use.
 npm_has_what_it_names() {
     [ -z "$(python3 -B rows/pages.py links "$project/node_modules/smap/README.md" 2>&1)" ] &&
-        ! find "$project/node_modules/smap" \( -name '*.c' -o -name '*.h' -o -name '*.sh' -o -name test \) | grep .
+        ! find "$project/node_modules/smap" -name '*.[ch]' -o -name '*.sh' -o -name test | grep .
 }
 
 # A project that was installed here, on a machine with another system: from its lock file, and from the start.

@@ -2,7 +2,7 @@
 // Runs a program of the package for this platform: what each command beside this file does.
 const { spawn } = require('node:child_process');
 const os = require('node:os');
-const { fileOf } = require('../platform.js');
+const { failure, fileOf } = require('../platform.js');
 
 // The status with which a shell says that it can't find a command.
 const NOT_FOUND = 127;
@@ -19,11 +19,12 @@ function endAs(status, signal) {
   if (signal) process.kill(process.pid, signal);
 }
 
+// A signal that comes while the program is started is passed on once it is there.
 function start(file, name) {
-  const child = spawn(file, process.argv.slice(2), { argv0: name, stdio: 'inherit' });
   const pass = signal => child.kill(signal);
   for (const signal of SIGNALS) process.on(signal, pass);
-  child.on('error', error => fail(name, error));
+  const child = spawn(file, process.argv.slice(2), { argv0: name, stdio: 'inherit' });
+  child.on('error', ({ message }) => fail(name, failure(`its program can't be run here: ${message}`)));
   child.on('exit', (status, signal) => {
     for (const one of SIGNALS) process.off(one, pass);
     endAs(status, signal);
@@ -31,8 +32,8 @@ function start(file, name) {
 }
 
 /**
- * Runs a program with the arguments and the streams of this process. smap-view is a script; the others are one
- * program, which looks at the name that it is called by.
+ * Runs a program with the arguments and the streams of this process. smap-view is a script. The others are
+ * one program, which looks at the name that it is called by.
  */
 function run(name) {
   try {

@@ -1,5 +1,5 @@
 'use strict';
-// The commands of the package run a program of the package for the platform, for which scripts stand here: they
+// The commands of the package run a program of the package for the platform, for which scripts stand here. They
 // pass on words, streams, statuses and signals.
 const assert = require('node:assert');
 const fs = require('node:fs');
@@ -72,6 +72,6 @@ test('a program that a signal ended', () => {
 test('a program that cannot be run', () => {
   putProgram('smap', '', 0o644);
   const { stderr, status } = run('smap-trace', []);
-  assert.match(stderr, /^smap-trace: .*EACCES/);
+  assert.match(stderr, /^smap-trace: smap runs on Linux .*, and its program can't be run here: .*EACCES/);
   assert.equal(status, 127);
 });
