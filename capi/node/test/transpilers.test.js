@@ -18,7 +18,7 @@ const inFolder = name => path.join(folder, name);
 const write = (name, text) => fs.writeFileSync(inFolder(name), text);
 
 function run(preloads, name) {
-  const words = preloads.flatMap(file => ['--require', file]);
+  const words = preloads.flatMap(file => [file.endsWith('.mjs') ? '--import' : '--require', file]);
   const { NODE_OPTIONS, ...env } = process.env;
   const options = { encoding: 'utf8', cwd: folder, env };
   const { stdout, stderr, status } = spawnSync(process.execPath, [...words, inFolder(name)], options);
@@ -74,13 +74,15 @@ console.log(f().stack);
 
 const UNCAUGHT = '\nthrow new Error("nobody catches it");\n';
 
+// A frame ends with its place.
+const isIn = (text, place) => text.includes(`${place})`) || text.includes(`${place}\n`);
+
 function isTold(preloads, name, text) {
   write(name, text);
   const { out, err, status } = run(preloads, name);
   const wants = placesIn(name, text);
   assert.deepEqual([err, status], ['', 0], out);
-  const isThere = place => out.includes(`${place})`) || out.includes(`${place}\n`);
-  for (const place of wants) assert.ok(isThere(place), `${place} in:\n${out}`);
+  for (const place of wants) assert.ok(isIn(out, place), `${place} in:\n${out}`);
   const count = out.split(`${inFolder(name)}:`).length - 1;
   assert.ok(count >= wants.length, out);
 }
@@ -92,7 +94,7 @@ function isToldUncaught(preloads, name) {
   const [place] = placesIn(name, UNCAUGHT);
   assert.equal(status, 1, err);
   assert.match(err, /nobody catches it/);
-  assert.ok(err.includes(`(${place})`), `${place} in:\n${err}`);
+  assert.ok(isIn(err, place), `${place} in:\n${err}`);
 }
 
 // Each way around.
@@ -138,6 +140,10 @@ bothWays('a package like ts-node', standIn('eager'), { 'eager.ts': MOVED });
 bothWays('a package like @babel/register', standIn('lazy'), { 'lazy.js': MOVED, 'lazy.jsx': MOVED });
 bothWays('a package like ts-node, of .tsx too', standIn('wide'), { 'wide.ts': MOVED, 'wide.tsx': MOVED });
 bothWays('a package that has its maps for itself', standIn('apart'), { 'apart.ts': MOVED });
+
+bothWays('a loader of modules like that of tsx', path.join(__dirname, 'transpilers', 'loader.mjs'), {
+  'loaded.ts': MOVED,
+});
 
 // In the script the call is where the source has the error: three lines below, and seven columns behind.
 const CROSSED = `try {         f(); } catch (error) { console.log(error.stack); }
