@@ -23,7 +23,7 @@ function hookRequire(put) {
  * turned on, as esbuild's do. What Node runs without one is left to the rules that hold everywhere.
  */
 function nodesMap(script) {
-  if (/\.[cm]?js$/.test(script) && !isTranspiling()) return null;
+  if (/\.[cm]?js([?#]|$)/.test(script) && !isTranspiling()) return null;
   return Module.findSourceMap(script)?.payload ?? null;
 }
 
