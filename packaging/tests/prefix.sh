@@ -166,7 +166,7 @@ npm_has_commands() {
         for program in smap smap-trace smap-maps smap-view; do
             [ "$($program --version)" = "smap $version" ] || return 1
         done
-        smap-view dist/cart.js.map >page.html && grep -q '</html>' page.html || return 1
+        smap-view dist/cart.js.map >page.html && grep -q src/cart.ts page.html || return 1
         echo '{"version":4}' | smap check http://h/x.map
         [ "$?" -eq 1 ]
     )
