@@ -4,39 +4,44 @@
 // one of the script. So each script with a map gets one there that asks the library. Whatever goes wrong on the
 // way, Node prints the line of the script.
 const Module = require('node:module');
-const { pathToFileURL } = require('node:url');
+const { fileURLToPath } = require('node:url');
 const maps = require('./maps-of-scripts.js');
 
-// Stands before a script's name, where a map has the name of its script.
+// Stands before a script's URL, where a map has the name of its script.
 const MARK = 'smap:';
 
-// The scripts that V8 has with a comment that names a map.
+// The URLs of the scripts that V8 has with a comment that names a map.
 function scriptsWithMaps() {
   const { Session } = require('node:inspector');
   const session = new Session();
-  const names = new Set();
+  const urls = new Set();
   session.on('Debugger.scriptParsed', ({ params }) => {
-    if (params.sourceMapURL) names.add(params.url);
+    if (params.sourceMapURL) urls.add(params.url);
   });
   session.connect();
   session.post('Debugger.enable');
   session.disconnect();
-  return names;
+  return urls;
 }
 
 // Gives Node a map for a script: that of a text which is evaluated and says that it is this script. A name with
 // a line feed would be code there.
-function putMap(script) {
-  const url = script.startsWith('/') ? pathToFileURL(script).href : script;
+function putMap(url) {
   if (!/^file:\S+$/.test(url)) return;
-  const map = JSON.stringify({ version: 3, file: MARK + script, sources: [], mappings: '' });
+  const map = JSON.stringify({ version: 3, file: MARK + url, sources: [], mappings: '' });
   const link = `data:application/json;base64,${Buffer.from(map).toString('base64')}`;
   (0, eval)(`//# sourceURL=${url}\n//# sourceMappingURL=${link}`);
 }
 
+// A script is known by its path, or a module by its URL.
+function originalOf(url, line, column) {
+  const by = source => maps.originalOf({ source, line: line + 1, column });
+  return by(fileURLToPath(url)) ?? by(url);
+}
+
 // What Node asks of a map for the line that it prints: the place, and the text of the source up to there.
-function answer(map, script, line, column) {
-  const at = maps.originalOf({ source: script, line: line + 1, column });
+function answer(map, url, line, column) {
+  const at = originalOf(url, line, column);
   const code = at && maps.lineOf(at.source, at.line);
   if (!code) return {};
   const text = '\n'.repeat(at.line - 1) + code;

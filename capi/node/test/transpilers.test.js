@@ -165,6 +165,13 @@ test('a package that leaves stacks alone, before smap/register', () => {
   isToldUncaught([standIn('bare'), REGISTER], 'uncaught-bare.jsx');
 });
 
+test('a thrown value that is no error, and that nobody catches', () => {
+  write('text.jsx', "\nconst f = () => { throw 'a text'; };\nsetTimeout(f, 1);\n");
+  const { err, status } = run([standIn('bare'), REGISTER], 'text.jsx');
+  assert.ok(err.includes(`${inFolder('text.jsx')}:2\nconst f = () => { throw 'a text'; };\n`), err);
+  assert.equal(status, 1);
+});
+
 test('hookRequire finds the maps of one that comes later', () => {
   const support = JSON.stringify(require.resolve('smap/support'));
   write('hook.js', `require(${support}).install({ hookRequire: true });`);
