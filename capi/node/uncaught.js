@@ -1,8 +1,8 @@
 'use strict';
 // Values that are thrown, are no errors, and are caught by nobody. They have no stack: Node alone knows where
 // they were thrown, and prints the line of the script; or that of the source, if it reads source maps and has
-// one of the script. So each script with a map gets one there that asks the library. Whatever goes wrong on the
-// way, Node prints the line of the script.
+// one of the script. So each script with a map gets one there that asks the library. Whatever goes wrong on
+// the way, Node prints the line of the script.
 const Module = require('node:module');
 const { fileURLToPath } = require('node:url');
 const maps = require('./maps-of-scripts.js');
@@ -24,8 +24,8 @@ function scriptsWithMaps() {
   return urls;
 }
 
-// Gives Node a map for a script: that of a text which is evaluated and says that it is this script. A name with
-// a line feed would be code there.
+// Gives Node a map for a script: that of a text which is evaluated and says that it is this script. A name
+// with a line feed would be code there.
 function putMap(url) {
   if (!/^file:\S+$/.test(url)) return;
   const map = JSON.stringify({ version: 3, file: MARK + url, sources: [], mappings: '' });
