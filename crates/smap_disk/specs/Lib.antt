@@ -1,4 +1,6 @@
 pub mod BesideView
+pub mod Fixed
+pub mod Held
 pub mod Paths
 pub mod Printing
 pub mod Walking

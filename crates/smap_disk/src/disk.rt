@@ -1,4 +1,6 @@
 //! What a program asks of a file system. Paths are text, in UTF-8.
+ghost use Rattle.std.specs.Prelude.{List, Option, ℕ, IfOk};
+ghost use Rattle.smap_disk.specs.Held.{GivesHeld};
 
 use std::alloc::Global;
 use std::io::{self, Read, Write};
@@ -51,6 +53,9 @@ pub trait Disk {
 
     type Writer: Write + Drop;
 
+    // what its files hold, by their names, where it says so
+    ghost held: { Self → Option (List ℕ → Option (List ℕ)) };
+
     /// What can't be looked at is missing.
     fn kind(&self, path: &str) -> Kind;
 
@@ -59,7 +64,8 @@ pub trait Disk {
     /// # Errors
     ///
     /// The system's.
-    fn open(&self, path: &str) -> io::Result<Self::Reader>;
+    fn open(&self, path: &str) -> io::Result<Self::Reader>
+        ensures { IfOk result (λ r. GivesHeld (held self.now) path.now (Self.Reader.remaining r)) };
 
     /// In bytes.
     ///

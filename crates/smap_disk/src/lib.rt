@@ -4,11 +4,13 @@
 //! ([`create_beside`]). A writer can be asked why it failed ([`Watched`]), an error for its text ([`reason`]),
 //! and names become safe to print ([`printable`]).
 //!
-//! Contracts say nothing of what a file holds: the disk isn't the program's alone.
+//! Contracts say nothing of what a file of the machine holds, since that isn't the program's alone: only a disk
+//! whose files don't change ([`FixedDisk`]) tells it.
 #![tactic(auto)]
 
 mod beside;
 mod disk;
+mod fixed;
 mod found;
 mod held;
 mod memory;
@@ -24,6 +26,7 @@ mod watched;
 
 pub use beside::{Beside, create_beside};
 pub use disk::{Disk, Entry, EntryKind, Kind, Listing};
+pub use fixed::{FixedDisk, FixedFile};
 pub use found::{Walk, WalkFault};
 pub use memory::{MemoryDisk, MemoryReader, MemoryWriter};
 pub use printing::printable;

@@ -127,9 +127,13 @@ impl MemoryDisk {
 }
 
 impl Disk for MemoryDisk {
+    ghost use Rattle.std.specs.Prelude.{None};
+
     type Reader = MemoryReader;
 
     type Writer = MemoryWriter;
+
+    ghost held = { λ d. None };
 
     fn kind(&self, path: &str) -> Kind {
         match self.table.try_borrow() {

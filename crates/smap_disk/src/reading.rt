@@ -1,5 +1,6 @@
 //! Files that are read whole.
-ghost use Rattle.std.specs.Prelude.{◌≤◌, IfOk, vec_len};
+ghost use Rattle.std.specs.Prelude.{◌≡◌, ◌≤◌, IfOk, IfSome, take, vec_len};
+ghost use Rattle.smap_disk.specs.Held.{IsHeld};
 
 use crate::disk::Disk;
 use std::alloc::Global;
@@ -34,7 +35,9 @@ fn check_size<D: Disk>(disk: &D, path: &str, most: u64) -> Result<(), FileFault>
 }
 
 /// What a reader has, but no more than this.
-fn read_up_to<R: Read + Drop>(alloc: Global, reader: R, most: u64) -> io::Result<Vec<u8>> {
+fn read_up_to<R: Read + Drop>(alloc: Global, reader: R, most: u64) -> io::Result<Vec<u8>>
+    ensures { IfOk result (λ bytes. IfSome (R.remaining reader) (λ left. bytes.items ≡ take most left)) }
+{
     let mut bytes = Vec::new(alloc);
     reader.take(most).read_to_end(&mut bytes)?;
     Ok(bytes)
@@ -52,7 +55,8 @@ pub fn read_file<D: Disk>(
     path: &str,
     most: u64,
 ) -> Result<Vec<u8>, FileFault>
-    ensures { IfOk result (λ bytes. vec_len bytes ≤ most) }
+    ensures bound { IfOk result (λ bytes. vec_len bytes ≤ most) }
+    ensures held { IfOk result (λ bytes. IsHeld (D.held disk.now) path.now bytes.items) }
 {
     check_size(disk, path, most)?;
     let bytes = match disk.open(path) {

@@ -68,9 +68,13 @@ fn add_entry<R: Files>(
 }
 
 impl<R: Files + AllocGlobal + Clone + Drop> Disk for System<'_, R> {
+    ghost use Rattle.std.specs.Prelude.{None};
+
     type Reader = R::File;
 
     type Writer = R::File;
+
+    ghost held = { λ d. None };
 
     fn kind(&self, path: &str) -> Kind {
         match fs::metadata(self.rt, path) {

@@ -1,5 +1,7 @@
 //! The machine of a run: its file system, and standard error.
-ghost use Rattle.std.specs.Prelude.{◌≡◌};
+ghost use Rattle.std.specs.Prelude.{◌≡◌, OnOk};
+ghost use Rattle.std.specs.Io.KnownBytes.{Appends};
+ghost use Rattle.smap_disk.specs.Watched.{inner_of};
 ghost use Rattle.smap_host.specs.Status.{status_of};
 
 use crate::stop::Stop;
@@ -110,7 +112,9 @@ impl<E: Eprint + AllocGlobal, D: Disk> Host<'_, E, D> {
     }
 
     /// Writes to the output, and flushes it.
-    pub fn write<W: Write>(&self, text: &[u8], writer: &mut Watched<W>) -> Result<(), Stop> {
+    pub fn write<W: Write>(&self, text: &[u8], writer: &mut Watched<W>) -> Result<(), Stop>
+        ensures { OnOk result (Appends (W.contents (inner_of writer.old)) (W.contents (inner_of writer.new)) text.now) }
+    {
         let written = match writer.write_all(text) {
             Ok(()) => writer.flush(),
             Err(error) => Err(error),

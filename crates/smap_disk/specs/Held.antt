@@ -1,0 +1,21 @@
+-- What files hold, where a disk says so: that of the machine says nothing, since it isn't the program's alone.
+use Rattle.std.specs.Prelude.{◌≡◌, ℕ, List, ⊤, Option, Some, None}
+
+-- What files hold, by their names: nothing is said, or what each holds.
+abbrev pub Held : Type 0
+Held = Option (List ℕ → Option (List ℕ))
+
+-- The file with this name holds these bytes, where it is said what files hold.
+abbrev pub IsHeld : Held → List ℕ → List ℕ → Type 0
+IsHeld None name bytes = ⊤
+IsHeld (Some held) name bytes = held name ≡ Some bytes
+
+-- A reader knows what it has left.
+abbrev pub IsKnown : Option (List ℕ) → Type 0
+IsKnown None = ⊥
+IsKnown (Some bytes) = ⊤
+
+-- A reader has all that the file with this name holds, where it is said what files hold.
+abbrev pub GivesHeld : Held → List ℕ → Option (List ℕ) → Type 0
+GivesHeld None name left = ⊤
+GivesHeld (Some held) name left = (held name ≡ left) × IsKnown left
