@@ -1,4 +1,8 @@
 //! The maps that were opened for the names of a log.
+ghost use Rattle.std.specs.Prelude.{◌≡◌, [], IfOk, IfSome};
+ghost use Rattle.std.specs.List.{All};
+ghost use Rattle.smap_finder.specs.ChosenView.{IsOneOf, maps_of};
+
 use indexmap::IndexMap;
 use smap_record::SourceMap;
 use std::alloc::{AllocError, Global};
@@ -40,7 +44,9 @@ pub struct Chosen {
 }
 
 impl Chosen {
-    pub fn new(alloc: Global) -> Chosen {
+    pub fn new(alloc: Global) -> Chosen
+        ensures { maps_of result ≡ [] }
+    {
         Chosen {
             maps: Vec::new(alloc),
             names: IndexMap::new(alloc),
@@ -65,20 +71,31 @@ impl Chosen {
         self.maps.len().saturating_sub(self.repeated)
     }
 
+    /// The map with this number.
+    fn map_at(&self, number: usize) -> Option<&SourceMap>
+        ensures { IfSome result (λ m. IsOneOf (maps_of self.now) m.now) }
+    {
+        self.maps.get(number)
+    }
+
     /// The map of a name.
-    pub fn map_of(&self, name: &[u8]) -> Option<&SourceMap> {
+    pub fn map_of(&self, name: &[u8]) -> Option<&SourceMap>
+        ensures { IfSome result (λ m. IsOneOf (maps_of self.now) m.now) }
+    {
         let Ok(name) = std::str::from_utf8(name) else {
             return None;
         };
         let number = *self.names.get(name)?;
-        self.maps.get(number)
+        self.map_at(number)
     }
 
     /// The scripts with their maps.
-    pub fn scripts(&self, alloc: Global) -> Result<Vec<(&str, &SourceMap)>, AllocError> {
+    pub fn scripts(&self, alloc: Global) -> Result<Vec<(&str, &SourceMap)>, AllocError>
+        ensures { IfOk result (λ list. All (λ s. IsOneOf (maps_of self.now) s.1.now) list.items) }
+    {
         let mut scripts = Vec::with_capacity(alloc, self.names.len())?;
         for (name, number) in self.names.iter() {
-            if let Some(map) = self.maps.get(*number) {
+            if let Some(map) = self.map_at(*number) {
                 scripts.push((name.as_str(), map))?;
             }
         }
@@ -87,7 +104,9 @@ impl Chosen {
 
     /// Forgets the names that have maps, once there are many; the maps stay open, and names that come again find
     /// them.
-    pub fn forget_many(&mut self, alloc: Global) {
+    pub fn forget_many(&mut self, alloc: Global)
+        ensures { maps_of self.new ≡ maps_of self.old }
+    {
         if self.names.len() >= MOST_NAMES {
             self.names = IndexMap::new(alloc);
         }
@@ -97,7 +116,9 @@ impl Chosen {
         self.missing.contains_key(name) || self.map_of(name).is_some()
     }
 
-    pub(crate) fn note_missing(&mut self, alloc: Global, name: &[u8]) -> Result<(), AllocError> {
+    pub(crate) fn note_missing(&mut self, alloc: Global, name: &[u8]) -> Result<(), AllocError>
+        ensures { maps_of self.new ≡ maps_of self.old }
+    {
         if self.missing.len() >= MOST_NAMES {
             self.missing = IndexMap::new(alloc);
         }

@@ -1,4 +1,9 @@
 //! The map that a script names.
+ghost use Rattle.std.specs.Prelude.{◌≡◌, IfOk, IfSome};
+ghost use Rattle.smap_finder.specs.Given as spec;
+ghost use Rattle.smap_finder.specs.Given.{IsFollowed, IsFollowedBy, IsTaken};
+ghost use Rattle.smap_finder.specs.RootView.{folder_of};
+
 use crate::wanted::Root;
 use smap_disk::{Disk, Kind};
 use smap_host::{Host, Stop, shown};
@@ -41,7 +46,9 @@ fn own_folder<'a>(url: &'a [u8], file: &'a str) -> (&'a [u8], &'a str) {
 }
 
 /// The name of a file below a folder with this path.
-fn name_below<'a>(path: &str, file: &'a [u8]) -> &'a [u8] {
+fn name_below<'a>(path: &str, file: &'a [u8]) -> &'a [u8]
+    ensures { result.now ≡ spec.name_below path.now file.now }
+{
     let rest = match file.strip_prefix(path.as_bytes()) {
         Some(rest) => rest,
         None => file,
@@ -67,45 +74,62 @@ fn stays<D: Disk>(alloc: Global, disk: &D, folder: &str, file: &str) -> bool {
     }
 }
 
-fn wrong(alloc: Global, what: &str, name: &[u8]) -> Result<Followed, AllocError> {
+/// What a script names that is wrong, as in a sentence after "it".
+fn wrong(alloc: Global, what: &str, name: &[u8]) -> Result<String, AllocError> {
     let name = shown(alloc, name)?;
     let name = name.as_str();
-    let text = format!(in alloc; "{what}: {name}")?;
-    Ok(Followed::Wrong(text))
+    format!(in alloc; "{what}: {name}")
 }
 
-/// The map in a file that a script names.
+/// The file with this name in a folder, next to which this file stands.
+fn beside(alloc: Global, folder: &str, file: &[u8], name: Vec<u8>) -> Result<Vec<u8>, AllocError>
+    ensures { IfOk result (λ found. found.items ≡ spec.beside folder.now file.now name.items) }
+{
+    if folder.is_empty() && !file.starts_with(b"/") {
+        return Ok(name);
+    }
+    let mut found = Vec::from_slice(alloc, folder.as_bytes())?;
+    found.push(b'/')?;
+    found.extend_from_slice(&name)?;
+    Ok(found)
+}
+
+/// The map in a file that a script names, in a folder with this URL and this path.
 fn follow_file<D: Disk>(
     alloc: Global,
     disk: &D,
     script: &Place,
-    root: (&[u8], &str),
+    folder_url: &[u8],
+    folder: &str,
     url: &[u8],
-) -> Result<Followed, AllocError> {
-    let (folder_url, folder) = root;
+) -> Result<Followed, AllocError>
+    ensures { IfOk result (IsFollowedBy (record { url = folder_url.now; path = folder.now })
+        script.now.file.items url.now) }
+{
     let name = name_below(folder, &script.file);
     let found = match linked_name(alloc, folder_url, name, url) {
         Ok(found) => found,
         Err(LinkedFault::Memory) => return Err(AllocError),
-        Err(LinkedFault::NotUrl) => return wrong(alloc, "names what is no URL", url),
-        Err(LinkedFault::Leaves) => return wrong(alloc, "names what is no file of its folder", url),
+        Err(LinkedFault::NotUrl) => return Ok(Followed::Wrong(wrong(
+            alloc,
+            "names what is no URL",
+            url,
+        )?)),
+        Err(LinkedFault::Leaves) => return Ok(Followed::Wrong(wrong(
+            alloc,
+            "names what is no file of its folder",
+            url,
+        )?)),
     };
-    let file = if folder.is_empty() && !script.file.starts_with(b"/") {
-        found
-    } else {
-        let mut file = Vec::from_slice(alloc, folder.as_bytes())?;
-        file.push(b'/')?;
-        file.extend_from_slice(&found)?;
-        file
-    };
+    let file = beside(alloc, folder, &script.file, found)?;
     let Ok(text) = std::str::from_utf8(&file) else {
-        return wrong(alloc, "names a map that can't be read", &file);
+        return Ok(Followed::Wrong(wrong(alloc, "names a map that can't be read", &file)?));
     };
     if disk.kind(text) == Kind::Missing {
-        return wrong(alloc, "names a map that can't be read", &file);
+        return Ok(Followed::Wrong(wrong(alloc, "names a map that can't be read", &file)?));
     }
     if !stays(alloc, disk, folder, text) {
-        return wrong(alloc, "names what is no file of its folder", &file);
+        return Ok(Followed::Wrong(wrong(alloc, "names what is no file of its folder", &file)?));
     }
     let base = match resolved(alloc, &script.script, url) {
         Ok(base) => base.into_bytes(),
@@ -118,19 +142,30 @@ fn follow_file<D: Disk>(
     }))
 }
 
-/// The map that the text of a script names: in a `data:` URL, or as a file of the folder that the script was
-/// found in, or else of its own.
-pub(crate) fn follow<E: Eprint + AllocGlobal, D: Disk>(
+/// The bytes that a `data:` URL holds, if it is one.
+fn inline_in(alloc: Global, url: &[u8]) -> Result<Option<Vec<u8>>, InlineFault>
+    ensures { IfOk result (λ found. IfSome found (λ bytes. spec.IsInline url.now bytes.items)) }
+{
+    inline_map(alloc, url)
+}
+
+/// The map that the text of a script names: in a `data:` URL, or as a file of the folder with this URL and this
+/// path.
+fn follow_in<E: Eprint + AllocGlobal, D: Disk>(
     host: &Host<'_, E, D>,
     script: &Place,
-    root: Option<&Root>,
+    folder_url: &[u8],
+    folder: &str,
     text: &[u8],
-) -> Result<Followed, Stop> {
+) -> Result<Followed, Stop>
+    ensures { IfOk result (IsFollowed (record { url = folder_url.now; path = folder.now })
+        script.now.file.items text.now) }
+{
     let alloc = host.alloc();
     let Some(url) = link_in(&script.file, text) else {
         return Ok(Followed::Nothing);
     };
-    match inline_map(alloc, url) {
+    match inline_in(alloc, url) {
         Ok(Some(bytes)) => return Ok(Followed::Inline(bytes)),
         Ok(None) => {}
         Err(InlineFault::Memory) => return Err(Stop::Memory),
@@ -142,15 +177,29 @@ pub(crate) fn follow<E: Eprint + AllocGlobal, D: Disk>(
     if url.is_empty() || url.len() > LONGEST {
         return Ok(Followed::Nothing);
     }
+    let followed = follow_file(alloc, host.disk, script, folder_url, folder, url)?;
+    Ok(followed)
+}
+
+/// The map that the text of a script names: in a `data:` URL, or as a file of the folder that the script was
+/// found in, or else of its own.
+#[tactic(auto, using(crate::proofs::FollowingLemmas::taken, crate::proofs::FollowingLemmas::taken_in))]
+pub(crate) fn follow<E: Eprint + AllocGlobal, D: Disk>(
+    host: &Host<'_, E, D>,
+    script: &Place,
+    root: Option<&Root>,
+    text: &[u8],
+) -> Result<Followed, Stop>
+    ensures { IfOk result (IsTaken (folder_of root.entry) script.now.file.items text.now) }
+{
+    if let Some(root) = root {
+        return follow_in(host, script, &root.url, root.path.as_str(), text);
+    }
     let Ok(file) = std::str::from_utf8(&script.file) else {
         return Ok(Followed::Nothing);
     };
-    let place = match root {
-        Some(root) => (root.url.as_slice(), root.path.as_str()),
-        None => own_folder(&script.script, file),
-    };
-    let followed = follow_file(alloc, host.disk, script, place, url)?;
-    Ok(followed)
+    let (url, folder) = own_folder(&script.script, file);
+    follow_in(host, script, url, folder, text)
 }
 
 /// The URL of a map that stands in its script.

@@ -1,6 +1,9 @@
 //! The files of maps, read.
-ghost use Rattle.std.specs.Prelude.{◌≡◌, ◌++◌, ◌∷◌, [], OnErr, OnOk, map};
+ghost use Rattle.std.specs.Prelude.{◌≡◌, ◌++◌, ◌∷◌, [], IfOk, OnErr, OnOk, map};
+ghost use Rattle.smap_finder.specs.Given.{IsLoaded, IsRead};
 ghost use Rattle.smap_pick.specs.Memory.{names_in};
+ghost use Rattle.smap_pick.specs.Opening.{IsMadeOf};
+ghost use Rattle.smap_pick.specs.PlaceView.{place_in};
 
 use crate::folders::LIMIT;
 use crate::wanted::may_name_map;
@@ -55,11 +58,9 @@ fn start_of(bytes: &[u8]) -> Start {
 }
 
 /// The map that these bytes are, or what is wrong with them.
-pub(crate) fn loaded_from(
-    alloc: Global,
-    bytes: Vec<u8>,
-    base: &[u8],
-) -> Result<Loaded, AllocError> {
+pub(crate) fn loaded_from(alloc: Global, bytes: Vec<u8>, base: &[u8]) -> Result<Loaded, AllocError>
+    ensures { IfOk result (IsRead base.now bytes.items) }
+{
     let start = start_of(&bytes);
     let Ok(base) = std::str::from_utf8(base) else {
         return Ok(Loaded::Broken(MapFault::NotUtf8));
@@ -96,7 +97,9 @@ fn load<D: Disk>(
     disk: &D,
     scripts: bool,
     place: &Place,
-) -> Result<Loaded, AllocError> {
+) -> Result<Loaded, AllocError>
+    ensures { IfOk result (IsMadeOf IsLoaded (D.held disk.now) (place_in place.now)) }
+{
     let Ok(file) = std::str::from_utf8(&place.file) else {
         return Ok(Loaded::Broken(MapFault::Unread));
     };
@@ -112,7 +115,9 @@ fn load<D: Disk>(
 }
 
 impl<'a, D> FileStore<'a, D> {
-    pub(crate) fn new(alloc: Global, disk: &'a D) -> FileStore<'a, D> {
+    pub(crate) fn new(alloc: Global, disk: &'a D) -> FileStore<'a, D>
+        ensures { result.disk.now ≡ disk.now }
+    {
         FileStore {
             disk,
             opened: Vec::new(alloc),
@@ -122,7 +127,8 @@ impl<'a, D> FileStore<'a, D> {
 
     /// Takes each file for a map from now on, or scripts for scripts.
     pub(crate) fn take_scripts(&mut self, scripts: bool)
-        ensures { self.new.opened ≡ self.old.opened }
+        ensures opened { self.new.opened ≡ self.old.opened }
+        ensures disk { self.new.disk ≡ self.old.disk }
     {
         self.scripts = scripts;
     }
@@ -132,6 +138,7 @@ impl<'a, D> FileStore<'a, D> {
         ensures ok { OnOk result (names_in self.new.opened.items
             ≡ names_in self.old.opened.items ++ file.now ∷ []) }
         ensures err { OnErr result (self.new.opened.items ≡ self.old.opened.items) }
+        ensures disk { self.new.disk ≡ self.old.disk }
     {
         let text = Vec::from_slice(alloc, file)?;
         match self.opened.push(text) {
@@ -142,7 +149,7 @@ impl<'a, D> FileStore<'a, D> {
 }
 
 impl<D: Disk> Store for FileStore<'_, D> {
-    ghost use Rattle.std.specs.Prelude.{⊤, None};
+    ghost use Rattle.smap_finder.specs.Given.{IsLoaded};
     ghost use Rattle.smap_pick.specs.Memory.{names_in};
 
     type Map = Loaded;
@@ -151,9 +158,9 @@ impl<D: Disk> Store for FileStore<'_, D> {
 
     ghost opened = { λ s. names_in s.opened.items };
 
-    ghost held = { λ s. None };
+    ghost held = { λ s. D.held s.disk.now };
 
-    ghost made_of = { λ held place it. ⊤ };
+    ghost made_of = { λ held place it. IsLoaded held place it };
 
     fn open(&mut self, alloc: Global, place: &Place) -> Result<Loaded, OpenFault<NoFault>> {
         let Ok(()) = self.note(alloc, place.file.as_slice()) else {

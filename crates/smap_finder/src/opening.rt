@@ -1,14 +1,24 @@
 //! The maps of the scripts that a log names, opened as the log first names them.
+ghost use Rattle.std.specs.Prelude.{◌≡◌, IfOk, IfSome, List, None, OnOk, Some, map, ℕ};
+ghost use Rattle.std.specs.List.{All};
+ghost use Rattle.smap_disk.specs.Held.{IsHeld};
+ghost use Rattle.smap_finder.specs.Given.{IsLoaded, IsRead};
+ghost use Rattle.smap_finder.specs.ChosenView.{IsNamedBy, held_of, maps_of};
+ghost use Rattle.smap_finder.specs.Opened.{IsBroken, IsOpened, IsReached};
+ghost use Rattle.smap_finder.specs.RootView.{folder_of};
+ghost use Rattle.smap_pick.specs.Opening.{IsMadeOf, picked_place};
+ghost use Rattle.smap_pick.specs.PlaceView.{place_in, places_in};
+
 use crate::chosen::{Chosen, How};
 use crate::following::{Followed, follow, inline_base};
 use crate::loading::{FileStore, Loaded, MapFault, loaded_from};
 use crate::picking::{key_of_found, name_of_file, own_name, picks_of, unopened};
 use crate::telling::{say_fault, say_of, say_used, tell_pick};
-use crate::wanted::{Origin, Root, Wanted, slices};
+use crate::wanted::{Origin, Root, Wanted};
 use smap_disk::Disk;
 use smap_host::{Host, Stop, shown};
 use smap_link::{ChoiceFault, ScriptTable};
-use smap_pick::{Found, Pick, Place, open_picks, table_of, usual_place};
+use smap_pick::{Found, Pick, Place, table_of, usual_place};
 use smap_record::SourceMap;
 use std::alloc::{AllocError, Global};
 
@@ -25,7 +35,11 @@ pub struct Opener<'a, D> {
 
 impl<'a, D> Opener<'a, D> {
     /// Over maps of which no two have the same script.
-    pub fn new(alloc: Global, disk: &'a D, wanted: &Wanted<'_>) -> Result<Opener<'a, D>, Stop> {
+    pub fn new(alloc: Global, disk: &'a D, wanted: &Wanted<'_>) -> Result<Opener<'a, D>, Stop>
+    where
+        D: Disk,
+        ensures { IfOk result (λ o. held_of D.held o ≡ D.held disk.now) }
+    {
         match table_of(alloc, wanted.places.as_slice()) {
             Ok(table) => Ok(Opener {
                 table,
@@ -47,49 +61,134 @@ pub(crate) struct Subject<'a> {
     pub(crate) has_base: bool,
 }
 
+/// The map of this place, found in the folder with this number, if it was in one.
+fn given_subject<'a>(
+    alloc: Global,
+    wanted: &'a Wanted<'_>,
+    place: &Place,
+    origin: Origin,
+) -> Result<Subject<'a>, AllocError>
+    ensures { IfOk result (λ s. place_in s.place ≡ place_in place.now) }
+{
+    let (root, has_base) = match origin {
+        Origin::Alone { has_base } => (None, has_base),
+        Origin::Below(number) => (wanted.roots.get(number), false),
+    };
+    Ok(Subject {
+        place: copied(alloc, place)?,
+        root,
+        has_base,
+    })
+}
+
 /// What a pick found.
 fn subject_of<'a>(
     alloc: Global,
     wanted: &'a Wanted<'_>,
     pick: &Pick<'_>,
-) -> Result<Option<Subject<'a>>, AllocError> {
+) -> Result<Option<Subject<'a>>, AllocError>
+    ensures { IfOk result (λ found. IfSome found (λ s. picked_place (places_in wanted.now.places.items)
+        (map (λ f. f.items) wanted.now.files.items) pick.now ≡ Some (place_in s.place))) }
+{
     match pick.found {
-        Found::Given(i) => {
-            let (Some(place), Some(origin)) = (wanted.places.get(i), wanted.origins.get(i)) else {
-                return Ok(None);
-            };
-            let (root, has_base) = match *origin {
-                Origin::Alone { has_base } => (None, has_base),
-                Origin::Below(number) => (wanted.roots.get(number), false),
-            };
-            let place = copied(alloc, place)?;
-            Ok(Some(Subject {
-                place,
-                root,
-                has_base,
-            }))
-        }
-        Found::ByEnd(i) => {
-            let (Some(file), Some(number)) = (wanted.files.get(i), wanted.file_roots.get(i)) else {
-                return Ok(None);
-            };
-            let place = usual_place(alloc, pick.name, file)?;
-            Ok(Some(Subject {
-                place,
+        Found::Given(i) => match (wanted.places.get(i), wanted.origins.get(i)) {
+            (Some(place), Some(origin)) => {
+                Ok(Some(given_subject(alloc, wanted, place, *origin)?))
+            }
+            _ => Ok(None),
+        },
+        Found::ByEnd(i) => match (wanted.files.get(i), wanted.file_roots.get(i)) {
+            (Some(file), Some(number)) => Ok(Some(Subject {
+                place: usual_place(alloc, pick.name, file)?,
                 root: wanted.roots.get(*number),
                 has_base: false,
-            }))
-        }
+            })),
+            _ => Ok(None),
+        },
         Found::Unclear(_, _) | Found::Missing => Ok(None),
     }
 }
 
-pub(crate) fn copied(alloc: Global, place: &Place) -> Result<Place, AllocError> {
+pub(crate) fn copied(alloc: Global, place: &Place) -> Result<Place, AllocError>
+    ensures { IfOk result (λ p. place_in p ≡ place_in place.now) }
+{
     Ok(Place {
         script: Vec::from_slice(alloc, &place.script)?,
         file: Vec::from_slice(alloc, &place.file)?,
         base: Vec::from_slice(alloc, &place.base)?,
     })
+}
+
+/// The map that stands in its script.
+fn inline_loaded<E: Eprint + AllocGlobal, D: Disk>(
+    host: &Host<'_, E, D>,
+    how: How,
+    subject: &Subject<'_>,
+    bytes: Vec<u8>,
+) -> Result<Option<(Place, Loaded)>, Stop>
+    ensures { IfOk result (λ found. IfSome found (λ f. (base : List ℕ) × IsRead base bytes.items f.1)) }
+{
+    let alloc = host.alloc();
+    say_used(host, how, subject, "inline map")?;
+    let mut own = copied(alloc, &subject.place)?;
+    if !subject.has_base {
+        own.base = inline_base(alloc, &subject.place.script)?;
+    }
+    let loaded = loaded_from(alloc, bytes, &own.base)?;
+    Ok(Some((own, loaded)))
+}
+
+/// What has the name of a script and names no map: the map itself, unless it is from a folder.
+fn itself_loaded<E: Eprint + AllocGlobal, D: Disk>(
+    host: &Host<'_, E, D>,
+    how: How,
+    subject: &Subject<'_>,
+    text: Vec<u8>,
+) -> Result<Option<(Place, Loaded)>, Stop>
+    ensures { IfOk result (λ found. IfSome found (λ f. IsRead subject.now.place.base.items text.items f.1)) }
+{
+    let alloc = host.alloc();
+    if subject.root.is_some() {
+        return left_out(host, how, subject, "names no map");
+    }
+    let loaded = loaded_from(alloc, text, &subject.place.base)?;
+    Ok(Some((copied(alloc, &subject.place)?, loaded)))
+}
+
+/// The map in a file that a script names.
+fn beside_loaded<E: Eprint + AllocGlobal, D: Disk>(
+    host: &Host<'_, E, D>,
+    store: &mut FileStore<'_, D>,
+    how: How,
+    subject: &Subject<'_>,
+    found: Place,
+) -> Result<Option<(Place, Loaded)>, Stop>
+    ensures found { IfOk result (λ f. IfSome f (λ it. (it.0.file.items ≡ found.file.items)
+        × IsMadeOf IsLoaded (D.held store.old.disk.now) (place_in it.0) it.1)) }
+    ensures held { D.held store.new.disk.now ≡ D.held store.old.disk.now }
+{
+    let alloc = host.alloc();
+    let file = shown(alloc, &found.file)?;
+    let file = file.as_str();
+    let which = format!(in alloc; "map, {file},")?;
+    say_used(host, how, subject, which.as_str())?;
+    open_found(alloc, store, subject, found)
+}
+
+/// What names a map that can't be had: it is left out if it is from a folder, and else refused.
+fn wrong_loaded<E: Eprint + AllocGlobal, D: Disk>(
+    host: &Host<'_, E, D>,
+    how: How,
+    subject: &Subject<'_>,
+    what: String,
+) -> Result<Option<(Place, Loaded)>, Stop>
+    ensures { IfOk result (λ found. IfSome found (λ f. IsBroken f.1)) }
+{
+    if subject.root.is_some() {
+        return left_out(host, how, subject, what.as_str());
+    }
+    let broken = Loaded::Broken(MapFault::Link(what));
+    Ok(Some((copied(host.alloc(), &subject.place)?, broken)))
 }
 
 /// The map that a script names, with what is said of that.
@@ -99,41 +198,20 @@ fn map_of_script<E: Eprint + AllocGlobal, D: Disk>(
     how: How,
     subject: &Subject<'_>,
     text: Vec<u8>,
-) -> Result<Option<(Place, Loaded)>, Stop> {
-    let alloc = host.alloc();
-    let place = &subject.place;
-    match follow(host, place, subject.root, &text)? {
+) -> Result<Option<(Place, Loaded)>, Stop>
+    requires { IsHeld (D.held store.old.disk.now) subject.now.place.file.items text.items }
+    ensures reached { IfOk result (λ found. IfSome found (λ f. IsReached (D.held store.old.disk.now)
+        (folder_of subject.now.root) (place_in subject.now.place) f.1)) }
+    ensures held { D.held store.new.disk.now ≡ D.held store.old.disk.now }
+{
+    match follow(host, &subject.place, subject.root, &text)? {
         Followed::Inline(bytes) => {
             drop(text);
-            say_used(host, how, subject, "inline map")?;
-            let mut own = copied(alloc, place)?;
-            if !subject.has_base {
-                own.base = inline_base(alloc, &place.script)?;
-            }
-            let loaded = loaded_from(alloc, bytes, &own.base)?;
-            Ok(Some((own, loaded)))
+            inline_loaded(host, how, subject, bytes)
         }
-        Followed::File(found) => {
-            let file = shown(alloc, &found.file)?;
-            let file = file.as_str();
-            let which = format!(in alloc; "map, {file},")?;
-            say_used(host, how, subject, which.as_str())?;
-            open_found(alloc, store, subject, found)
-        }
-        Followed::Nothing => {
-            if subject.root.is_some() {
-                return left_out(host, how, subject, "names no map");
-            }
-            let loaded = loaded_from(alloc, text, &place.base)?;
-            Ok(Some((copied(alloc, place)?, loaded)))
-        }
-        Followed::Wrong(what) => {
-            if subject.root.is_some() {
-                return left_out(host, how, subject, what.as_str());
-            }
-            let broken = Loaded::Broken(MapFault::Link(what));
-            Ok(Some((copied(alloc, place)?, broken)))
-        }
+        Followed::File(found) => beside_loaded(host, store, how, subject, found),
+        Followed::Nothing => itself_loaded(host, how, subject, text),
+        Followed::Wrong(what) => wrong_loaded(host, how, subject, what),
     }
 }
 
@@ -143,7 +221,11 @@ fn open_found<D: Disk>(
     store: &mut FileStore<'_, D>,
     subject: &Subject<'_>,
     found: Place,
-) -> Result<Option<(Place, Loaded)>, Stop> {
+) -> Result<Option<(Place, Loaded)>, Stop>
+    ensures found { IfOk result (λ f. IfSome f (λ it. (it.0.file.items ≡ found.file.items)
+        × IsMadeOf IsLoaded (D.held store.old.disk.now) (place_in it.0) it.1)) }
+    ensures held { D.held store.new.disk.now ≡ D.held store.old.disk.now }
+{
     let mut found = found;
     if subject.has_base {
         found.base = Vec::from_slice(alloc, &subject.place.base)?;
@@ -163,13 +245,35 @@ fn left_out<E: Eprint + AllocGlobal, D: Disk>(
     how: How,
     subject: &Subject<'_>,
     what: &str,
-) -> Result<Option<(Place, Loaded)>, Stop> {
+) -> Result<Option<(Place, Loaded)>, Stop>
+    ensures { IfOk result (λ found. found ≡ None) }
+{
     let alloc = host.alloc();
     if how.verbose {
         let said = format!(in alloc; ": left out, since it {what}")?;
         say_of(host, &subject.place, said.as_str())?;
     }
     Ok(None)
+}
+
+/// The map that was loaded from a place, or says what is wrong with it.
+fn map_in<E: Eprint + AllocGlobal, D: Disk>(
+    host: &Host<'_, E, D>,
+    place: &Place,
+    loaded: Loaded,
+    worst: &mut u8,
+) -> Result<Option<SourceMap>, Stop>
+    ensures { IfOk result (λ found. IfSome found (λ m. loaded ≡ Loaded.Map m)) }
+{
+    match loaded {
+        Loaded::Map(map) => Ok(Some(map)),
+        Loaded::Broken(fault) => {
+            let status = say_fault(host, place, &fault)?;
+            *worst = (*worst).max(status);
+            Ok(None)
+        }
+        Loaded::Script(_) => Ok(None),
+    }
 }
 
 /// Takes what a file holds for a map, follows a script to its map, or says what is wrong.
@@ -180,48 +284,58 @@ fn settle_loaded<E: Eprint + AllocGlobal, D: Disk>(
     subject: &Subject<'_>,
     loaded: Loaded,
     worst: &mut u8,
-) -> Result<Option<SourceMap>, Stop> {
-    let alloc = host.alloc();
-    let (place, loaded) = match loaded {
-        Loaded::Script(text) => match map_of_script(host, store, how, subject, text)? {
-            Some(found) => found,
-            None => return Ok(None),
-        },
-        loaded => (copied(alloc, &subject.place)?, loaded),
-    };
+) -> Result<Option<SourceMap>, Stop>
+    requires { IsMadeOf IsLoaded (D.held store.old.disk.now) (place_in subject.now.place) loaded }
+    ensures opened { IfOk result (λ found. IfSome found (IsOpened (D.held store.old.disk.now)
+        (folder_of subject.now.root) (place_in subject.now.place))) }
+    ensures held { D.held store.new.disk.now ≡ D.held store.old.disk.now }
+{
     match loaded {
-        Loaded::Map(map) => Ok(Some(map)),
-        Loaded::Broken(fault) => {
-            let status = say_fault(host, &place, &fault)?;
-            *worst = (*worst).max(status);
-            Ok(None)
-        }
-        Loaded::Script(_) => Ok(None),
+        Loaded::Script(text) => match map_of_script(host, store, how, subject, text)? {
+            Some((place, loaded)) => map_in(host, &place, loaded, worst),
+            None => Ok(None),
+        },
+        loaded => map_in(host, &subject.place, loaded, worst),
     }
 }
 
-/// Opens the map of a pick.
+/// The map of a pick, opened.
+fn opened_map<E: Eprint + AllocGlobal, D: Disk>(
+    host: &Host<'_, E, D>,
+    store: &mut FileStore<'_, D>,
+    how: How,
+    wanted: &Wanted<'_>,
+    pick: &Pick<'_>,
+    worst: &mut u8,
+) -> Result<Option<SourceMap>, Stop>
+    ensures named { IfOk result (λ found. IfSome found (IsNamedBy (D.held store.old.disk.now) wanted.now)) }
+    ensures held { D.held store.new.disk.now ≡ D.held store.old.disk.now }
+{
+    let alloc = host.alloc();
+    let Some(subject) = subject_of(alloc, wanted, pick)? else {
+        return Ok(None);
+    };
+    match smap_pick::Store::open(store, alloc, &subject.place) {
+        Ok(loaded) => settle_loaded(host, store, how, &subject, loaded, worst),
+        Err(_) => Err(Stop::Memory),
+    }
+}
+
+/// Opens the map of a pick, and answers its number.
 fn open_one<E: Eprint + AllocGlobal, D: Disk>(
     host: &Host<'_, E, D>,
     opener: &mut Opener<'_, D>,
     how: How,
     wanted: &Wanted<'_>,
-    pick: Pick<'_>,
+    pick: &Pick<'_>,
     chosen: &mut Chosen,
-) -> Result<Option<usize>, Stop> {
-    let alloc = host.alloc();
-    let files = slices(alloc, wanted.files.as_slice())?;
-    let picks = [pick];
-    let places = wanted.places.as_slice();
-    let store = &mut opener.store;
-    let Ok(mut loaded) = open_picks(alloc, store, places, files.as_slice(), picks.as_slice()) else {
-        return Err(Stop::Memory);
-    };
-    let (Some(loaded), Some(subject)) = (loaded.pop(), subject_of(alloc, wanted, &pick)?) else {
-        return Ok(None);
-    };
+) -> Result<Option<usize>, Stop>
+    requires { All (IsNamedBy (held_of D.held opener.old) wanted.now) (maps_of chosen.old) }
+    ensures named { All (IsNamedBy (held_of D.held opener.old) wanted.now) (maps_of chosen.new) }
+    ensures disk { held_of D.held opener.new ≡ held_of D.held opener.old }
+{
     let worst = &mut chosen.worst;
-    let Some(map) = settle_loaded(host, &mut opener.store, how, &subject, loaded, worst)? else {
+    let Some(map) = opened_map(host, &mut opener.store, how, wanted, pick, worst)? else {
         return Ok(None);
     };
     let number = chosen.maps.len();
@@ -229,38 +343,70 @@ fn open_one<E: Eprint + AllocGlobal, D: Disk>(
     Ok(Some(number))
 }
 
-/// Whether a pick's file was opened for another name.
-fn is_further(pick: &Pick<'_>, chosen: &Chosen) -> bool {
-    match pick.found {
-        Found::ByEnd(i) => chosen.files.contains_key(&i),
-        _ => false,
-    }
+/// Whether a pick's file is opened.
+#[derive(Clone, Copy, Debug, PartialEq, Eq)]
+enum Turn {
+    First,
+    /// It was opened for another name.
+    Again,
+    Never,
 }
 
 /// Whether a pick is opened: a file that was opened for other names is so a few times more. Once it is not,
 /// that is said.
-fn may_open<E: Eprint + AllocGlobal, D: Disk>(
+fn turn_of<E: Eprint + AllocGlobal, D: Disk>(
     host: &Host<'_, E, D>,
     pick: &Pick<'_>,
     chosen: &mut Chosen,
-) -> Result<bool, Stop> {
+) -> Result<Turn, Stop>
+    ensures { maps_of chosen.new ≡ maps_of chosen.old }
+{
     let Found::ByEnd(i) = pick.found else {
-        return Ok(true);
+        return Ok(Turn::First);
     };
     if chosen.files.insert(i, ())?.is_none() {
-        return Ok(true);
+        return Ok(Turn::First);
     }
-    if chosen.again < MOST_AGAIN {
-        chosen.again = chosen.again.saturating_add(1);
-        return Ok(true);
+    if chosen.again > MOST_AGAIN {
+        return Ok(Turn::Never);
     }
-    if chosen.again == MOST_AGAIN {
-        chosen.again = chosen.again.saturating_add(1);
-        host.say(
-            "many names in the log end as one file: those that are left as they are want URL/=FOLDER/",
-        );
+    chosen.again = chosen.again.saturating_add(1);
+    if chosen.again <= MOST_AGAIN {
+        return Ok(Turn::Again);
     }
-    Ok(false)
+    host.say(
+        "many names in the log end as one file: those that are left as they are want URL/=FOLDER/",
+    );
+    Ok(Turn::Never)
+}
+
+/// Opens the map of a pick, and notes its number.
+fn open_noted<E: Eprint + AllocGlobal, D: Disk>(
+    host: &Host<'_, E, D>,
+    opener: &mut Opener<'_, D>,
+    how: How,
+    wanted: &Wanted<'_>,
+    pick: &Pick<'_>,
+    is_again: bool,
+    chosen: &mut Chosen,
+) -> Result<(), Stop>
+    requires { All (IsNamedBy (held_of D.held opener.old) wanted.now) (maps_of chosen.old) }
+    ensures named { All (IsNamedBy (held_of D.held opener.old) wanted.now) (maps_of chosen.new) }
+    ensures disk { held_of D.held opener.new ≡ held_of D.held opener.old }
+{
+    let alloc = host.alloc();
+    let own = own_name(alloc, wanted, pick)?;
+    let opened = Pick {
+        name: own.as_ref().map_or(pick.name, |name| name.as_slice()),
+        found: pick.found,
+    };
+    let number = open_one(host, opener, how, wanted, &opened, chosen)?;
+    if is_again && number.is_some() {
+        chosen.repeated = chosen.repeated.saturating_add(1);
+    }
+    let key = key_of_found(alloc, pick)?;
+    chosen.opened.insert(key, number)?;
+    Ok(())
 }
 
 /// Opens the maps of these picks.
@@ -271,26 +417,16 @@ fn open_all<E: Eprint + AllocGlobal, D: Disk>(
     wanted: &Wanted<'_>,
     picks: &[Pick<'_>],
     chosen: &mut Chosen,
-) -> Result<(), Stop> {
-    let alloc = host.alloc();
+) -> Result<(), Stop>
+    requires { All (IsNamedBy (held_of D.held opener.old) wanted.now) (maps_of chosen.old) }
+    ensures named { All (IsNamedBy (held_of D.held opener.old) wanted.now) (maps_of chosen.new) }
+    ensures disk { held_of D.held opener.new ≡ held_of D.held opener.old }
+{
     for pick in picks {
-        let own = own_name(alloc, wanted, pick)?;
-        let name = match &own {
-            Some(name) => name.as_slice(),
-            None => pick.name,
-        };
-        let opened = Pick {
-            name,
-            found: pick.found,
-        };
-        let is_further = is_further(pick, chosen);
-        if may_open(host, pick, chosen)? {
-            let number = open_one(host, opener, how, wanted, opened, chosen)?;
-            if is_further && number.is_some() {
-                chosen.repeated = chosen.repeated.saturating_add(1);
-            }
-            let key = key_of_found(alloc, pick)?;
-            chosen.opened.insert(key, number)?;
+        let turn = turn_of(host, pick, chosen)?;
+        if turn != Turn::Never {
+            let is_again = turn == Turn::Again;
+            open_noted(host, opener, how, wanted, pick, is_again, chosen)?;
         }
     }
     Ok(())
@@ -303,7 +439,9 @@ fn link<E: Eprint + AllocGlobal, D: Disk>(
     wanted: &Wanted<'_>,
     pick: &Pick<'_>,
     chosen: &mut Chosen,
-) -> Result<(), Stop> {
+) -> Result<(), Stop>
+    ensures { maps_of chosen.new ≡ maps_of chosen.old }
+{
     let alloc = host.alloc();
     tell_pick(host, how, wanted, pick, chosen)?;
     let key = key_of_found(alloc, pick)?;
@@ -320,6 +458,54 @@ fn link<E: Eprint + AllocGlobal, D: Disk>(
     Ok(())
 }
 
+/// Those of these names that aren't known yet.
+fn unknown<'a>(
+    alloc: Global,
+    names: &[&'a [u8]],
+    chosen: &Chosen,
+) -> Result<Vec<&'a [u8]>, AllocError> {
+    let mut unknown = Vec::new(alloc);
+    for name in names {
+        if !chosen.is_known(name) {
+            unknown.push(*name)?;
+        }
+    }
+    Ok(unknown)
+}
+
+/// Opens the maps of these picks that aren't open yet.
+fn open_unopened<E: Eprint + AllocGlobal, D: Disk>(
+    host: &Host<'_, E, D>,
+    opener: &mut Opener<'_, D>,
+    how: How,
+    wanted: &Wanted<'_>,
+    picks: &[Pick<'_>],
+    chosen: &mut Chosen,
+) -> Result<(), Stop>
+    requires { All (IsNamedBy (held_of D.held opener.old) wanted.now) (maps_of chosen.old) }
+    ensures named { All (IsNamedBy (held_of D.held opener.old) wanted.now) (maps_of chosen.new) }
+    ensures disk { held_of D.held opener.new ≡ held_of D.held opener.old }
+{
+    let wanting = unopened(host.alloc(), chosen, picks)?;
+    open_all(host, opener, how, wanted, wanting.as_slice(), chosen)
+}
+
+/// Gives these names their maps, or notes that they have none.
+fn link_all<E: Eprint + AllocGlobal, D: Disk>(
+    host: &Host<'_, E, D>,
+    how: How,
+    wanted: &Wanted<'_>,
+    picks: &[Pick<'_>],
+    chosen: &mut Chosen,
+) -> Result<(), Stop>
+    ensures { maps_of chosen.new ≡ maps_of chosen.old }
+{
+    for pick in picks {
+        link(host, how, wanted, pick, chosen)?;
+    }
+    Ok(())
+}
+
 /// Opens the maps of these names of a log that aren't known yet: those that frames have, or other texts with a
 /// position behind them. Each map that is refused is named; then the run ends, unless broken maps are skipped.
 pub fn open_for<E: Eprint + AllocGlobal, D: Disk>(
@@ -330,23 +516,18 @@ pub fn open_for<E: Eprint + AllocGlobal, D: Disk>(
     in_frames: bool,
     names: &[&[u8]],
     chosen: &mut Chosen,
-) -> Result<(), Stop> {
-    let alloc = host.alloc();
-    let mut fresh = Vec::new(alloc);
-    for name in names {
-        if !chosen.is_known(name) {
-            fresh.push(*name)?;
-        }
-    }
+) -> Result<(), Stop>
+    requires { All (IsNamedBy (held_of D.held opener.old) wanted.now) (maps_of chosen.old) }
+    ensures named { All (IsNamedBy (held_of D.held opener.old) wanted.now) (maps_of chosen.new) }
+    ensures disk { held_of D.held opener.new ≡ held_of D.held opener.old }
+{
+    let fresh = unknown(host.alloc(), names, chosen)?;
     if fresh.is_empty() {
         return Ok(());
     }
     let picks = picks_of(host, &mut opener.table, wanted, in_frames, fresh.as_slice())?;
-    let wanting = unopened(alloc, chosen, picks.as_slice())?;
-    open_all(host, opener, how, wanted, wanting.as_slice(), chosen)?;
-    for pick in &picks {
-        link(host, how, wanted, pick, chosen)?;
-    }
+    open_unopened(host, opener, how, wanted, picks.as_slice(), chosen)?;
+    link_all(host, how, wanted, picks.as_slice(), chosen)?;
     judge(how, chosen)
 }
 
@@ -365,8 +546,26 @@ pub fn check_all<E: Eprint + AllocGlobal, D: Disk>(
     how: How,
     wanted: &Wanted<'_>,
     chosen: &mut Chosen,
-) -> Result<(), Stop> {
-    let alloc = host.alloc();
+) -> Result<(), Stop>
+    ensures maps { maps_of chosen.new ≡ maps_of chosen.old }
+    ensures disk { held_of D.held opener.new ≡ held_of D.held opener.old }
+{
+    check_places(host, opener, how, wanted, chosen)?;
+    check_files(host, opener, how, wanted, chosen)?;
+    judge(how, chosen)
+}
+
+/// Reads the maps of scripts with names.
+fn check_places<E: Eprint + AllocGlobal, D: Disk>(
+    host: &Host<'_, E, D>,
+    opener: &mut Opener<'_, D>,
+    how: How,
+    wanted: &Wanted<'_>,
+    chosen: &mut Chosen,
+) -> Result<(), Stop>
+    ensures maps { maps_of chosen.new ≡ maps_of chosen.old }
+    ensures disk { held_of D.held opener.new ≡ held_of D.held opener.old }
+{
     for (i, place) in wanted.places.iter().enumerate() {
         let pick = Pick {
             name: place.script.as_slice(),
@@ -374,17 +573,32 @@ pub fn check_all<E: Eprint + AllocGlobal, D: Disk>(
         };
         check_one(host, opener, how, wanted, &pick, chosen)?;
     }
+    Ok(())
+}
+
+/// Reads the maps in folders that are given alone.
+fn check_files<E: Eprint + AllocGlobal, D: Disk>(
+    host: &Host<'_, E, D>,
+    opener: &mut Opener<'_, D>,
+    how: How,
+    wanted: &Wanted<'_>,
+    chosen: &mut Chosen,
+) -> Result<(), Stop>
+    ensures maps { maps_of chosen.new ≡ maps_of chosen.old }
+    ensures disk { held_of D.held opener.new ≡ held_of D.held opener.old }
+{
     for (i, file) in wanted.files.iter().enumerate() {
-        let name = name_of_file(alloc, file)?;
+        let name = name_of_file(host.alloc(), file)?;
         let pick = Pick {
             name: name.as_slice(),
             found: Found::ByEnd(i),
         };
         check_one(host, opener, how, wanted, &pick, chosen)?;
     }
-    judge(how, chosen)
+    Ok(())
 }
 
+/// Reads the map of a pick. One that is refused is noted to have none.
 fn check_one<E: Eprint + AllocGlobal, D: Disk>(
     host: &Host<'_, E, D>,
     opener: &mut Opener<'_, D>,
@@ -392,23 +606,16 @@ fn check_one<E: Eprint + AllocGlobal, D: Disk>(
     wanted: &Wanted<'_>,
     pick: &Pick<'_>,
     chosen: &mut Chosen,
-) -> Result<(), Stop> {
-    let alloc = host.alloc();
-    let Some(subject) = subject_of(alloc, wanted, pick)? else {
-        return Ok(());
-    };
-    let loaded = match smap_pick::Store::open(&mut opener.store, alloc, &subject.place) {
-        Ok(loaded) => loaded,
-        Err(_) => return Err(Stop::Memory),
-    };
-    let before = chosen.worst;
-    let store = &mut opener.store;
-    chosen.worst = 0;
-    let found = settle_loaded(host, store, how, &subject, loaded, &mut chosen.worst)?;
-    if found.is_none() && chosen.worst > 0 {
-        let key = key_of_found(alloc, pick)?;
+) -> Result<(), Stop>
+    ensures maps { maps_of chosen.new ≡ maps_of chosen.old }
+    ensures disk { held_of D.held opener.new ≡ held_of D.held opener.old }
+{
+    let mut worst = 0;
+    let found = opened_map(host, &mut opener.store, how, wanted, pick, &mut worst)?;
+    if found.is_none() && worst > 0 {
+        let key = key_of_found(host.alloc(), pick)?;
         chosen.opened.insert(key, None)?;
     }
-    chosen.worst = chosen.worst.max(before);
+    chosen.worst = chosen.worst.max(worst);
     Ok(())
 }

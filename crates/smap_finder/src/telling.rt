@@ -1,4 +1,7 @@
 //! What is said of maps: why one is refused, which one a name is taken for.
+ghost use Rattle.std.specs.Prelude.{◌≡◌};
+ghost use Rattle.smap_finder.specs.ChosenView.{maps_of};
+
 use crate::chosen::{Chosen, How};
 use crate::loading::{MapFault, Start};
 use crate::opening::Subject;
@@ -119,7 +122,9 @@ pub(crate) fn tell_pick<E: Eprint + AllocGlobal, D: Disk>(
     wanted: &Wanted<'_>,
     pick: &Pick<'_>,
     chosen: &mut Chosen,
-) -> Result<(), Stop> {
+) -> Result<(), Stop>
+    ensures { maps_of chosen.new ≡ maps_of chosen.old }
+{
     match pick.found {
         Found::Given(i) if how.verbose => match wanted.places.get(i) {
             Some(place) if place.script.as_slice() != pick.name => {
@@ -143,7 +148,9 @@ fn tell_alike<E: Eprint + AllocGlobal, D: Disk>(
     place: &Place,
     name: &[u8],
     chosen: &mut Chosen,
-) -> Result<(), Stop> {
+) -> Result<(), Stop>
+    ensures { maps_of chosen.new ≡ maps_of chosen.old }
+{
     let alloc = host.alloc();
     if chosen.told.len() >= MOST_TOLD {
         return Ok(());

@@ -1,0 +1,4 @@
+pub mod ChosenView
+pub mod Given
+pub mod Opened
+pub mod RootView
