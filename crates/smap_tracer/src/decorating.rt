@@ -1,7 +1,9 @@
 //! Lines translated with what `--source-prefix` and `--context` ask for. Each position is translated by
 //! itself, as the translation of the whole line has it, so that its URL is known.
+ghost use Rattle.std.specs.Prelude.{◌≡◌};
 ghost use Rattle.smap_trace.specs.Translation.{AreDistinct};
 ghost use Rattle.smap_trace.specs.Views.{scripts_in};
+ghost use Rattle.smap_tracer.specs.Written.{is_plain_style};
 
 use crate::scripts::Scripts;
 use smap_finder::Chosen;
@@ -23,7 +25,9 @@ pub(crate) struct Style<'a> {
 
 impl Style<'_> {
     /// Whether lines are written as they are translated.
-    pub(crate) fn is_plain(&self) -> bool {
+    pub(crate) fn is_plain(&self) -> bool
+        ensures { result ≡ is_plain_style self.now.prefixes.now self.now.context }
+    {
         self.prefixes.is_empty() && self.context.is_none()
     }
 }

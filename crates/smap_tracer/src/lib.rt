@@ -8,6 +8,7 @@ mod hints;
 mod listing;
 mod logs;
 mod naming;
+mod output;
 mod program;
 mod scripts;
 #[cfg(test)]

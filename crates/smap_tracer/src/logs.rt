@@ -1,4 +1,6 @@
 //! Logs, read block by block: whole lines as soon as they are there.
+ghost use Rattle.std.specs.Prelude.{◌≡◌};
+
 use smap_disk::Disk;
 use smap_host::{Host, Stop};
 use smap_lines::Block;
@@ -101,7 +103,9 @@ pub(crate) struct Heeded<R> {
 }
 
 impl<R> Heeded<R> {
-    pub(crate) fn new(reader: R) -> Heeded<R> {
+    pub(crate) fn new(reader: R) -> Heeded<R>
+        ensures { result.reader ≡ reader }
+    {
         Heeded {
             reader,
             fault: None,

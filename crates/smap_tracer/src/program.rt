@@ -1,11 +1,12 @@
 //! A run of `smap-trace`.
 use crate::decorating::Style;
 use crate::listing::{Listed, hint_at_list, list_log, list_text};
+use crate::output::Output;
 use crate::tracing::{
     Job, State, new_state, open_names, say_nothing, trace_files, trace_input, trace_stream,
     trace_streams,
 };
-use smap_disk::{Disk, Kind, Watched, create_beside};
+use smap_disk::{Disk, Kind, create_beside};
 use smap_finder::{How, Opener, Wanted, check_all, settle, tell_count, wanted_by};
 use smap_host::{Host, Stop};
 use smap_trace::Finding;
@@ -46,13 +47,13 @@ fn are_files<D: Disk>(disk: &D, paths: &[&str]) -> bool {
 }
 
 /// Translates the logs.
-fn trace_logs<E: Eprint + AllocGlobal, D: Disk, I: Read, W: Write>(
+fn trace_logs<E: Eprint + AllocGlobal, D: Disk, I: Read, W: Write + Drop>(
     host: &Host<'_, E, D>,
     job: &Job<'_>,
     opener: &mut Opener<'_, D>,
     input: Input<I>,
     state: &mut State,
-    writer: &mut Watched<W>,
+    output: &mut Output<W>,
 ) -> Result<(), Stop>
 where
     I: Drop,
@@ -61,15 +62,15 @@ where
     let logs = job.wanted.logs.as_slice();
     if logs.is_empty() {
         return if kind == InputKind::File {
-            trace_input(host, job, opener, STDIN, reader, state, writer)
+            trace_input(host, job, opener, STDIN, reader, state, output)
         } else {
-            trace_stream(host, job, opener, reader, state, writer)
+            trace_stream(host, job, opener, reader, state, output)
         };
     }
     if are_files(host.disk, logs) {
-        trace_files(host, job, opener, logs, state, writer)
+        trace_files(host, job, opener, logs, state, output)
     } else {
-        trace_streams(host, job, opener, logs, state, writer)
+        trace_streams(host, job, opener, logs, state, output)
     }
 }
 
@@ -96,26 +97,26 @@ where
 }
 
 /// Writes the list.
-fn write_list<E: Eprint + AllocGlobal, D: Disk, W: Write>(
+fn write_list<E: Eprint + AllocGlobal, D: Disk, W: Write + Drop>(
     host: &Host<'_, E, D>,
     job: &Job<'_>,
     listed: &Listed,
     state: &State,
-    writer: &mut Watched<W>,
+    output: &mut Output<W>,
 ) -> Result<(), Stop> {
     let text = list_text(host.alloc(), &listed.names, &state.chosen)?;
-    host.write(text.as_bytes(), writer)?;
+    output.write(host, text.as_bytes())?;
     hint_at_list(host, listed, &state.chosen, &job.wanted, job.anywhere)
 }
 
 /// Lists the scripts that the logs name.
-fn list<E: Eprint + AllocGlobal, D: Disk, I: Read, W: Write>(
+fn list<E: Eprint + AllocGlobal, D: Disk, I: Read, W: Write + Drop>(
     host: &Host<'_, E, D>,
     job: &Job<'_>,
     opener: &mut Opener<'_, D>,
     input: I,
     state: &mut State,
-    writer: &mut Watched<W>,
+    output: &mut Output<W>,
 ) -> Result<(), Stop>
 where
     I: Drop,
@@ -124,17 +125,17 @@ where
     list_logs(host, job, input, &mut listed)?;
     open_names(host, opener, job, &listed.names, &mut state.chosen)?;
     tell_count(host, job.how, &job.wanted, &state.chosen)?;
-    write_list(host, job, &listed, state, writer)
+    write_list(host, job, &listed, state, output)
 }
 
 /// Does what is asked for with what opens the maps.
-fn run_over<E: Eprint + AllocGlobal, D: Disk, I: Read, W: Write>(
+fn run_over<E: Eprint + AllocGlobal, D: Disk, I: Read, W: Write + Drop>(
     host: &Host<'_, E, D>,
     job: &Job<'_>,
     opener: &mut Opener<'_, D>,
     input: Input<I>,
     state: &mut State,
-    writer: &mut Watched<W>,
+    output: &mut Output<W>,
 ) -> Result<(), Stop>
 where
     I: Drop,
@@ -143,25 +144,25 @@ where
         check_all(host, opener, job.how, &job.wanted, &mut state.chosen)?;
     }
     if job.list {
-        return list(host, job, opener, input.reader, state, writer);
+        return list(host, job, opener, input.reader, state, output);
     }
-    trace_logs(host, job, opener, input, state, writer)?;
+    trace_logs(host, job, opener, input, state, output)?;
     say_nothing(host, job, state)
 }
 
 /// Does what is asked for, once the arguments are read.
-fn run_with<E: Eprint + AllocGlobal, D: Disk, I: Read, W: Write>(
+fn run_with<E: Eprint + AllocGlobal, D: Disk, I: Read, W: Write + Drop>(
     host: &Host<'_, E, D>,
     job: &Job<'_>,
     input: Input<I>,
-    writer: &mut Watched<W>,
+    output: &mut Output<W>,
 ) -> Result<(), Stop>
 where
     I: Drop,
 {
     let mut opener = Opener::new(host.alloc(), host.disk, &job.wanted)?;
     let mut state = new_state(host.alloc());
-    run_over(host, job, &mut opener, input, &mut state, writer)
+    run_over(host, job, &mut opener, input, &mut state, output)
 }
 
 /// Refuses a log that can't be had, and says what is waited for.
@@ -214,9 +215,9 @@ where
         Ok(made) => made,
         Err(error) => return Err(host.fail_writing(&error)),
     };
-    let mut writer = Watched::new(writer);
-    let answer = run_with(host, job, input, &mut writer);
-    drop(writer);
+    let mut output = Output::new(writer);
+    let answer = run_with(host, job, input, &mut output);
+    drop(output);
     match answer {
         Ok(()) => match beside.finish(host.disk) {
             Ok(()) => Ok(()),
@@ -275,11 +276,11 @@ fn job_of<'a>(
 }
 
 /// Translates or lists.
-fn trace<E: Eprint + AllocGlobal, D: Disk, I: Read, W: Write>(
+fn trace<E: Eprint + AllocGlobal, D: Disk, I: Read, W: Write + Drop>(
     host: &Host<'_, E, D>,
     asked: &TraceWords<'_>,
     input: Input<I>,
-    writer: &mut Watched<W>,
+    output: &mut Output<W>,
 ) -> Result<(), Stop>
 where
     I: Drop,
@@ -289,7 +290,7 @@ where
     let job = job_of(asked, wanted, &prefixes);
     match asked.output {
         Some(file) => run_to_file(host, &job, input, file),
-        None => run_with(host, &job, input, writer),
+        None => run_with(host, &job, input, output),
     }
 }
 
@@ -316,19 +317,19 @@ fn refuse<E: Eprint + AllocGlobal, D: Disk>(host: &Host<'_, E, D>, fault: &WordF
 }
 
 /// What the words ask for.
-fn answer<E: Eprint + AllocGlobal, D: Disk, I: Read, W: Write>(
+fn answer<E: Eprint + AllocGlobal, D: Disk, I: Read, W: Write + Drop>(
     host: &Host<'_, E, D>,
     words: &[&str],
     input: Input<I>,
-    writer: &mut Watched<W>,
+    output: &mut Output<W>,
 ) -> Result<(), Stop>
 where
     I: Drop,
 {
     match trace_words(host.alloc(), words) {
-        Ok(Asked::Help) => host.write(HELP.as_bytes(), writer),
-        Ok(Asked::Version) => host.write(VERSION.as_bytes(), writer),
-        Ok(Asked::Trace(asked)) => trace(host, &asked, input, writer),
+        Ok(Asked::Help) => output.write(host, HELP.as_bytes()),
+        Ok(Asked::Version) => output.write(host, VERSION.as_bytes()),
+        Ok(Asked::Trace(asked)) => trace(host, &asked, input, output),
         Err(fault) => Err(refuse(host, &fault)),
     }
 }
@@ -337,7 +338,7 @@ where
 /// status: 0 where it is done, 1 where a map is refused, 2 where the command line is wrong or names what
 /// can't be read, 3 where a file or the log can't be read or the output can't be written, 4 where memory ran
 /// out, 141 where nobody reads the output any more.
-pub fn run<E: Eprint + AllocGlobal, D: Disk, I: Read, W: Write>(
+pub fn run<E: Eprint + AllocGlobal, D: Disk, I: Read, W: Write + Drop>(
     rt: &E,
     disk: &D,
     words: &[&str],
@@ -346,15 +347,14 @@ pub fn run<E: Eprint + AllocGlobal, D: Disk, I: Read, W: Write>(
 ) -> u8
 where
     I: Drop,
-    W: Drop,
 {
     let host = Host {
         rt,
         disk,
         name: "smap-trace",
     };
-    let mut writer = Watched::new(output);
-    match answer(&host, words, input, &mut writer) {
+    let mut output = Output::new(output);
+    match answer(&host, words, input, &mut output) {
         Ok(()) => 0,
         Err(stop) => host.end(stop),
     }

@@ -1,10 +1,17 @@
 //! Logs translated: files, whose names are all looked for first, and streams, as they come.
+ghost use Rattle.std.specs.Prelude.{◌≡◌, IfOk, OnOk, Some, map};
+ghost use Rattle.std.specs.Io.Take.{take_remaining};
+ghost use Rattle.smap_finder.specs.ChosenView.{held_of};
+ghost use Rattle.smap_tracer.specs.OutputView.{contents_of};
+ghost use Rattle.smap_tracer.specs.Written.{AreNamed, AreTraced, IsFront, IsTracedIn, IsTracedLog};
+
 use crate::decorating::Style;
 use crate::hints::{hint_at_nothing, hint_at_start};
 use crate::logs::Log;
 use crate::naming::{Names, names_in};
+use crate::output::Output;
 use crate::translating::{Tally, begin_log, translate_lines, translate_log};
-use smap_disk::{Disk, Watched};
+use smap_disk::Disk;
 use smap_finder::{Chosen, How, Opener, Wanted, open_for, tell_count};
 use smap_host::{Host, Stop};
 use std::alloc::Global;
@@ -53,7 +60,12 @@ pub(crate) fn open_names<E: Eprint + AllocGlobal, D: Disk>(
     job: &Job<'_>,
     names: &Names,
     chosen: &mut Chosen,
-) -> Result<(), Stop> {
+) -> Result<(), Stop>
+    requires named { AreNamed (D.held host.now.disk.now) job.now.wanted chosen.old }
+    requires held { held_of D.held opener.old ≡ D.held host.now.disk.now }
+    ensures named { AreNamed (D.held host.now.disk.now) job.now.wanted chosen.new }
+    ensures held { held_of D.held opener.new ≡ D.held host.now.disk.now }
+{
     let alloc = host.alloc();
     let (how, wanted) = (job.how, &job.wanted);
     let frames = names.of_frames(alloc)?;
@@ -68,7 +80,9 @@ fn note_start<E: Eprint + AllocGlobal, D: Disk>(
     job: &Job<'_>,
     lines: &[u8],
     state: &mut State,
-) {
+)
+    ensures { state.new.chosen ≡ state.old.chosen }
+{
     if !state.has_begun {
         state.has_begun = true;
         state.is_hinted = hint_at_start(host, lines, job.how.verbose);
@@ -93,6 +107,7 @@ fn name_log<E: Eprint + AllocGlobal, D: Disk, R: Read>(
 ) -> Result<(), Stop>
 where
     R: Drop,
+    ensures { state.new.chosen ≡ state.old.chosen }
 {
     let mut log = Log::new(host.alloc(), reader)?;
     for _ in 0..u64::MAX {
@@ -113,7 +128,12 @@ fn open_lines<E: Eprint + AllocGlobal, D: Disk>(
     opener: &mut Opener<'_, D>,
     lines: &[u8],
     state: &mut State,
-) -> Result<(), Stop> {
+) -> Result<(), Stop>
+    requires named { AreNamed (D.held host.now.disk.now) job.now.wanted state.old.chosen }
+    requires held { held_of D.held opener.old ≡ D.held host.now.disk.now }
+    ensures named { AreNamed (D.held host.now.disk.now) job.now.wanted state.new.chosen }
+    ensures held { held_of D.held opener.new ≡ D.held host.now.disk.now }
+{
     let alloc = host.alloc();
     let names = names_in(alloc, lines, job.anywhere)?;
     state.names.add_counts(alloc, &names, MOST_COUNTED)?;
@@ -122,28 +142,35 @@ fn open_lines<E: Eprint + AllocGlobal, D: Disk>(
 }
 
 /// Translates lines of a log that is read once.
-fn follow_lines<E: Eprint + AllocGlobal, D: Disk, W: Write>(
+fn follow_lines<E: Eprint + AllocGlobal, D: Disk, W: Write + Drop>(
     host: &Host<'_, E, D>,
     job: &Job<'_>,
     opener: &mut Opener<'_, D>,
     lines: &[u8],
     state: &mut State,
-    writer: &mut Watched<W>,
-) -> Result<(), Stop> {
+    output: &mut Output<W>,
+) -> Result<(), Stop>
+    requires named { AreNamed (D.held host.now.disk.now) job.now.wanted state.old.chosen }
+    requires held { held_of D.held opener.old ≡ D.held host.now.disk.now }
+    ensures named { AreNamed (D.held host.now.disk.now) job.now.wanted state.new.chosen }
+    ensures held { held_of D.held opener.new ≡ D.held host.now.disk.now }
+    ensures traced { OnOk result (IsTracedIn (D.held host.now.disk.now) job.now.wanted job.now.style (Some lines.now)
+        (contents_of W.contents output.old) (contents_of W.contents output.new)) }
+{
     note_start(host, job, lines, state);
     open_lines(host, job, opener, lines, state)?;
     let tally = &mut state.tally;
-    translate_lines(host, lines, &state.chosen, &job.style, writer, tally)
+    translate_lines(host, lines, &state.chosen, &job.style, output, tally)
 }
 
 /// Translates a log that is read once: maps are opened as its frames first name their scripts.
-fn follow_log<E: Eprint + AllocGlobal, D: Disk, R: Read, W: Write>(
+fn follow_log<E: Eprint + AllocGlobal, D: Disk, R: Read, W: Write + Drop>(
     host: &Host<'_, E, D>,
     job: &Job<'_>,
     opener: &mut Opener<'_, D>,
     reader: R,
     state: &mut State,
-    writer: &mut Watched<W>,
+    output: &mut Output<W>,
 ) -> Result<(), Stop>
 where
     R: Drop,
@@ -153,7 +180,7 @@ where
         if !log.advance(host)? {
             break;
         }
-        follow_lines(host, job, opener, log.lines(), state, writer)?;
+        follow_lines(host, job, opener, log.lines(), state, output)?;
     }
     Ok(())
 }
@@ -163,7 +190,10 @@ fn opened_log<E: Eprint + AllocGlobal, D: Disk>(
     host: &Host<'_, E, D>,
     path: &str,
     size: u64,
-) -> Result<Take<D::Reader>, Stop> {
+) -> Result<Take<D::Reader>, Stop>
+    ensures { IfOk result (λ log. IsFront (D.held host.now.disk.now) path.now size
+        (take_remaining D.Reader.remaining log)) }
+{
     match host.disk.open(path) {
         Ok(reader) => Ok(reader.take(size)),
         Err(error) => Err(host.fail_for("cannot read the log", &error)),
@@ -176,7 +206,9 @@ fn name_logs<E: Eprint + AllocGlobal, D: Disk>(
     job: &Job<'_>,
     paths: &[&str],
     state: &mut State,
-) -> Result<Vec<u64>, Stop> {
+) -> Result<Vec<u64>, Stop>
+    ensures { state.new.chosen ≡ state.old.chosen }
+{
     let mut sizes = Vec::new(host.alloc());
     for path in paths {
         let size = match host.disk.size(path) {
@@ -191,18 +223,23 @@ fn name_logs<E: Eprint + AllocGlobal, D: Disk>(
 }
 
 /// Translates a log that is a file, as far as its names were looked for.
-fn translate_file<E: Eprint + AllocGlobal, D: Disk, W: Write>(
+fn translate_file<E: Eprint + AllocGlobal, D: Disk, W: Write + Drop>(
     host: &Host<'_, E, D>,
     job: &Job<'_>,
     path: &str,
     size: u64,
     state: &mut State,
-    writer: &mut Watched<W>,
-) -> Result<(), Stop> {
+    output: &mut Output<W>,
+) -> Result<(), Stop>
+    requires { AreNamed (D.held host.now.disk.now) job.now.wanted state.old.chosen }
+    ensures chosen { state.new.chosen ≡ state.old.chosen }
+    ensures traced { OnOk result (IsTracedLog (D.held host.now.disk.now) job.now.wanted job.now.style path.now size
+        (contents_of W.contents output.old) (contents_of W.contents output.new)) }
+{
     let tally = &mut state.tally;
-    begin_log(host, writer, tally)?;
+    begin_log(host, output, tally)?;
     let log = opened_log(host, path, size)?;
-    translate_log(host, log, &state.chosen, &job.style, writer, tally)
+    translate_log(host, log, &state.chosen, &job.style, output, tally)
 }
 
 /// Opens the maps of all names of logs that are files, and answers how far each was read.
@@ -212,39 +249,66 @@ fn open_files<E: Eprint + AllocGlobal, D: Disk>(
     opener: &mut Opener<'_, D>,
     paths: &[&str],
     state: &mut State,
-) -> Result<Vec<u64>, Stop> {
+) -> Result<Vec<u64>, Stop>
+    requires named { AreNamed (D.held host.now.disk.now) job.now.wanted state.old.chosen }
+    requires held { held_of D.held opener.old ≡ D.held host.now.disk.now }
+    ensures named { AreNamed (D.held host.now.disk.now) job.now.wanted state.new.chosen }
+    ensures held { held_of D.held opener.new ≡ D.held host.now.disk.now }
+{
     let sizes = name_logs(host, job, paths, state)?;
     open_names(host, opener, job, &state.names, &mut state.chosen)?;
     tell_count(host, job.how, &job.wanted, &state.chosen)?;
     Ok(sizes)
 }
 
+/// Translates logs that are files, each as far as this.
+fn translate_files<E: Eprint + AllocGlobal, D: Disk, W: Write + Drop>(
+    host: &Host<'_, E, D>,
+    job: &Job<'_>,
+    paths: &[&str],
+    sizes: &[u64],
+    state: &mut State,
+    output: &mut Output<W>,
+) -> Result<(), Stop>
+    requires { AreNamed (D.held host.now.disk.now) job.now.wanted state.old.chosen }
+    ensures chosen { state.new.chosen ≡ state.old.chosen }
+    ensures traced { OnOk result (AreTraced (D.held host.now.disk.now) job.now.wanted job.now.style
+        (map (λ p. p.now) paths.now) (contents_of W.contents output.old) (contents_of W.contents output.new)) }
+{
+    for i in 0..paths.len() {
+        let size = sizes.get(i).copied().unwrap_or(0);
+        translate_file(host, job, paths[i], size, state, output)?;
+    }
+    Ok(())
+}
+
 /// Translates logs that are files: all names first, then the maps of these, then the logs.
-pub(crate) fn trace_files<E: Eprint + AllocGlobal, D: Disk, W: Write>(
+pub(crate) fn trace_files<E: Eprint + AllocGlobal, D: Disk, W: Write + Drop>(
     host: &Host<'_, E, D>,
     job: &Job<'_>,
     opener: &mut Opener<'_, D>,
     paths: &[&str],
     state: &mut State,
-    writer: &mut Watched<W>,
-) -> Result<(), Stop> {
+    output: &mut Output<W>,
+) -> Result<(), Stop>
+    requires named { AreNamed (D.held host.now.disk.now) job.now.wanted state.old.chosen }
+    requires held { held_of D.held opener.old ≡ D.held host.now.disk.now }
+    ensures { OnOk result (AreTraced (D.held host.now.disk.now) job.now.wanted job.now.style
+        (map (λ p. p.now) paths.now) (contents_of W.contents output.old) (contents_of W.contents output.new)) }
+{
     let sizes = open_files(host, job, opener, paths, state)?;
-    for (i, path) in paths.iter().enumerate() {
-        let size = sizes.get(i).copied().unwrap_or(0);
-        translate_file(host, job, path, size, state, writer)?;
-    }
-    Ok(())
+    translate_files(host, job, paths, &sizes, state, output)
 }
 
 /// The same of standard input, which is a file with this name as well. It is read on from where it is.
-pub(crate) fn trace_input<E: Eprint + AllocGlobal, D: Disk, I: Read, W: Write>(
+pub(crate) fn trace_input<E: Eprint + AllocGlobal, D: Disk, I: Read, W: Write + Drop>(
     host: &Host<'_, E, D>,
     job: &Job<'_>,
     opener: &mut Opener<'_, D>,
     path: &str,
     input: I,
     state: &mut State,
-    writer: &mut Watched<W>,
+    output: &mut Output<W>,
 ) -> Result<(), Stop>
 where
     I: Drop,
@@ -258,55 +322,55 @@ where
         input.take(size),
         &state.chosen,
         &job.style,
-        writer,
+        output,
         tally,
     )
 }
 
 /// Translates a log with this name that is read once.
-fn follow_path<E: Eprint + AllocGlobal, D: Disk, W: Write>(
+fn follow_path<E: Eprint + AllocGlobal, D: Disk, W: Write + Drop>(
     host: &Host<'_, E, D>,
     job: &Job<'_>,
     opener: &mut Opener<'_, D>,
     path: &str,
     state: &mut State,
-    writer: &mut Watched<W>,
+    output: &mut Output<W>,
 ) -> Result<(), Stop> {
-    begin_log(host, writer, &mut state.tally)?;
+    begin_log(host, output, &mut state.tally)?;
     match host.disk.open(path) {
-        Ok(log) => follow_log(host, job, opener, log, state, writer),
+        Ok(log) => follow_log(host, job, opener, log, state, output),
         Err(error) => Err(host.fail_for("cannot read the log", &error)),
     }
 }
 
 /// Translates logs of which one can be read only once.
-pub(crate) fn trace_streams<E: Eprint + AllocGlobal, D: Disk, W: Write>(
+pub(crate) fn trace_streams<E: Eprint + AllocGlobal, D: Disk, W: Write + Drop>(
     host: &Host<'_, E, D>,
     job: &Job<'_>,
     opener: &mut Opener<'_, D>,
     paths: &[&str],
     state: &mut State,
-    writer: &mut Watched<W>,
+    output: &mut Output<W>,
 ) -> Result<(), Stop> {
     for path in paths {
-        follow_path(host, job, opener, path, state, writer)?;
+        follow_path(host, job, opener, path, state, output)?;
     }
     tell_count(host, job.how, &job.wanted, &state.chosen)
 }
 
 /// Translates standard input as it comes.
-pub(crate) fn trace_stream<E: Eprint + AllocGlobal, D: Disk, I: Read, W: Write>(
+pub(crate) fn trace_stream<E: Eprint + AllocGlobal, D: Disk, I: Read, W: Write + Drop>(
     host: &Host<'_, E, D>,
     job: &Job<'_>,
     opener: &mut Opener<'_, D>,
     input: I,
     state: &mut State,
-    writer: &mut Watched<W>,
+    output: &mut Output<W>,
 ) -> Result<(), Stop>
 where
     I: Drop,
 {
-    follow_log(host, job, opener, input, state, writer)?;
+    follow_log(host, job, opener, input, state, output)?;
     tell_count(host, job.how, &job.wanted, &state.chosen)
 }
 

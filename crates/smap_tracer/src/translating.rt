@@ -1,13 +1,19 @@
 //! Lines of a log, translated and written.
+ghost use Rattle.std.specs.Prelude.{OnOk, Some};
+ghost use Rattle.smap_finder.specs.ChosenView.{maps_of};
+ghost use Rattle.smap_trace.specs.Translation.{fate_by};
+ghost use Rattle.smap_trace.specs.Views.{scripts_in};
+ghost use Rattle.smap_tracer.specs.OutputView.{contents_of};
+ghost use Rattle.smap_tracer.specs.Written.{IsBegun, IsTranslated, IsTranslatedIn};
+
 use crate::decorating::{Style, decorate};
 use crate::logs::{Heeded, Log};
+use crate::output::Output;
 use crate::scripts::{Scripts, scripts_of};
-use smap_disk::{Disk, Watched};
+use smap_disk::Disk;
 use smap_finder::Chosen;
 use smap_host::{Host, Stop};
-use smap_io::Device;
-use smap_trace::{Counts, TraceError, translate_by};
-use std::alloc::Global;
+use smap_trace::{Counts, TraceError};
 use std::io::{Read, Write};
 
 /// What became of a log's lines.
@@ -42,7 +48,7 @@ fn fail_translating<E: Eprint + AllocGlobal, D: Disk, R, W>(
     host: &Host<'_, E, D>,
     error: TraceError,
     reader: &Heeded<R>,
-    writer: &Watched<W>,
+    output: &Output<W>,
 ) -> Stop {
     match error {
         TraceError::Memory => Stop::Memory,
@@ -50,7 +56,7 @@ fn fail_translating<E: Eprint + AllocGlobal, D: Disk, R, W>(
             Some(error) => host.fail_for("cannot read the log", &error),
             None => host.fail(3, "cannot read the log"),
         },
-        TraceError::Write => match writer.fault() {
+        TraceError::Write => match output.fault() {
             Some(error) => host.fail_writing(&error),
             None => host.fail(3, "cannot write"),
         },
@@ -58,107 +64,92 @@ fn fail_translating<E: Eprint + AllocGlobal, D: Disk, R, W>(
 }
 
 /// Translates all that a reader has.
-pub(crate) fn translate_all<E: Eprint + AllocGlobal, D: Disk, R: Read, W: Write>(
+pub(crate) fn translate_all<E: Eprint + AllocGlobal, D: Disk, R: Read + Drop, W: Write + Drop>(
     host: &Host<'_, E, D>,
     reader: R,
     scripts: &Scripts<'_>,
     style: &Style<'_>,
-    writer: &mut Watched<W>,
+    output: &mut Output<W>,
     tally: &mut Tally,
 ) -> Result<(), Stop>
-where
-    R: Drop,
+    ensures { OnOk result (IsTranslated (fate_by style.now.finding (scripts_in scripts.now.list.items) style.now.hide)
+        (R.remaining reader) (contents_of W.contents output.old) (contents_of W.contents output.new)) }
 {
-    let mut heeded = Heeded::new(reader);
-    let answer = translate_with(host.alloc(), &mut heeded, scripts, style, writer);
+    let (reader, answer) = output.translate(host.alloc(), Heeded::new(reader), scripts, style);
     match answer {
         Ok(counts) => {
             tally.add(counts);
-            tally.ends_within_line = heeded.ends_within_line();
+            tally.ends_within_line = reader.ends_within_line();
             Ok(())
         }
-        Err(error) => Err(fail_translating(host, error, &heeded, writer)),
+        Err(error) => Err(fail_translating(host, error, &reader, output)),
     }
 }
 
-/// Translates a log as it is read.
-fn translate_with<R: Read, W: Write>(
-    alloc: Global,
-    reader: &mut R,
-    scripts: &Scripts<'_>,
-    style: &Style<'_>,
-    writer: &mut W,
-) -> Result<Counts, TraceError> {
-    let mut reader = Device::new(reader);
-    let mut writer = Device::new(writer);
-    let list = &scripts.list;
-    translate_by(
-        alloc,
-        &mut reader,
-        list,
-        style.finding,
-        style.hide,
-        &mut writer,
-    )
-}
-
 /// Translates lines, and shows their sources if that is wanted.
-pub(crate) fn translate_lines<E: Eprint + AllocGlobal, D: Disk, W: Write>(
+pub(crate) fn translate_lines<E: Eprint + AllocGlobal, D: Disk, W: Write + Drop>(
     host: &Host<'_, E, D>,
     lines: &[u8],
     chosen: &Chosen,
     style: &Style<'_>,
-    writer: &mut Watched<W>,
+    output: &mut Output<W>,
     tally: &mut Tally,
-) -> Result<(), Stop> {
+) -> Result<(), Stop>
+    ensures { OnOk result (IsTranslatedIn (maps_of chosen.now) style.now (Some lines.now)
+        (contents_of W.contents output.old) (contents_of W.contents output.new)) }
+{
     let alloc = host.alloc();
     let scripts = scripts_of(alloc, chosen)?;
     if style.is_plain() {
-        return translate_all(host, lines, &scripts, style, writer, tally);
+        return translate_all(host, lines, &scripts, style, output, tally);
     }
     let mut out = Vec::new(alloc);
     let counts = decorate(alloc, lines, &scripts, chosen, style, &mut out)?;
-    host.write(&out, writer)?;
+    output.write(host, &out)?;
     tally.add(counts);
     tally.ends_within_line = !lines.ends_with(b"\n");
     Ok(())
 }
 
 /// Ends the line in which the log before ended.
-pub(crate) fn begin_log<E: Eprint + AllocGlobal, D: Disk, W: Write>(
+pub(crate) fn begin_log<E: Eprint + AllocGlobal, D: Disk, W: Write + Drop>(
     host: &Host<'_, E, D>,
-    writer: &mut Watched<W>,
+    output: &mut Output<W>,
     tally: &mut Tally,
-) -> Result<(), Stop> {
+) -> Result<(), Stop>
+    ensures { OnOk result (IsBegun (contents_of W.contents output.old) (contents_of W.contents output.new)) }
+{
     if tally.ends_within_line {
-        host.write(b"\n", writer)?;
+        output.write(host, b"\n")?;
         tally.ends_within_line = false;
     }
     Ok(())
 }
 
 /// Translates a log whose maps are open.
-pub(crate) fn translate_log<E: Eprint + AllocGlobal, D: Disk, R: Read, W: Write>(
+pub(crate) fn translate_log<E: Eprint + AllocGlobal, D: Disk, R: Read, W: Write + Drop>(
     host: &Host<'_, E, D>,
     reader: R,
     chosen: &Chosen,
     style: &Style<'_>,
-    writer: &mut Watched<W>,
+    output: &mut Output<W>,
     tally: &mut Tally,
 ) -> Result<(), Stop>
 where
     R: Drop,
+    ensures { OnOk result (IsTranslatedIn (maps_of chosen.now) style.now (R.remaining reader)
+        (contents_of W.contents output.old) (contents_of W.contents output.new)) }
 {
     if style.is_plain() {
         let scripts = scripts_of(host.alloc(), chosen)?;
-        return translate_all(host, reader, &scripts, style, writer, tally);
+        return translate_all(host, reader, &scripts, style, output, tally);
     }
     let mut log = Log::new(host.alloc(), reader)?;
     for _ in 0..u64::MAX {
         if !log.advance(host)? {
             break;
         }
-        translate_lines(host, log.lines(), chosen, style, writer, tally)?;
+        translate_lines(host, log.lines(), chosen, style, output, tally)?;
     }
     Ok(())
 }

@@ -1,0 +1,89 @@
+-- What is written of a log.
+use Rattle.std.specs.Prelude.{◌≡◌, ◌⊎◌, ℕ, ◌==◌, ◌&&◌, Bool, not, true, List, [], ◌∷◌, length, take, ⊤}
+use Rattle.std.specs.Prelude.{Option, Some, None}
+use Rattle.std.specs.List.{All}
+use Rattle.std.specs.Option.{is_some}
+use Rattle.std.specs.Io.KnownBytes.{Appends}
+use Rattle.smap_disk.specs.Held.{Held}
+use Rattle.smap_finder.specs.ChosenView.{IsNamedBy, IsOneOf, maps_of}
+use Rattle.smap_finder.specs.declared.chosen.Chosen.{Chosen}
+use Rattle.smap_finder.specs.declared.wanted.Wanted.{Wanted}
+use Rattle.smap_record.specs.Record.{ReadMap, record_of}
+use Rattle.smap_trace.specs.Translation.{Fate, Script, fate_by, translation_by}
+use Rattle.smap_trace.specs.declared.finding.Finding.{Finding}
+use Rattle.smap_tracer.specs.declared.decorating.Style.{Style}
+
+-- Lines are written as they are translated: no beginnings of URLs are replaced, and no sources are shown.
+abbrev pub is_plain_style : {A B : Type 0} → List A → Option B → Bool
+is_plain_style prefixes context = (length prefixes == 0) && not (is_some context)
+
+-- The text is all that a reader has, where that is known.
+abbrev pub IsAll : Option (List ℕ) → List ℕ → Type 0
+IsAll None text = ⊤
+IsAll (Some left) text = left ≡ text
+
+-- The translation of all that a reader had was written behind what the output held.
+pub record IsTranslated (fates : List ℕ → Fate) (left before after : Option (List ℕ)) : Type 0 where
+  pub text : List ℕ
+  pub all : IsAll left text
+  pub written : Appends before after (translation_by fates text)
+
+-- The map of a script is one of these.
+abbrev pub HasMapOf : List ReadMap → Script → Type 0
+HasMapOf maps script = (m : ReadMap) × IsOneOf maps m × (script.1 ≡ record_of m)
+
+-- The same, by scripts whose maps are among these.
+pub record IsTranslatedBy (maps : List ReadMap) (finding : Finding) (hide : Bool)
+    (left before after : Option (List ℕ)) : Type 0 where
+  pub scripts : List Script
+  pub have_maps : All (HasMapOf maps) scripts
+  pub translated : IsTranslated (fate_by finding scripts hide) left before after
+
+-- The same in a plain style; of another nothing is said.
+abbrev pub IsTranslatedIn : List ReadMap → Style → Option (List ℕ) → Option (List ℕ) → Option (List ℕ) → Type 0
+IsTranslatedIn maps style left before after = is_plain_style style.prefixes.now style.context ≡ true
+    → IsTranslatedBy maps style.finding style.hide left before after
+
+-- All maps that are open are ones that the arguments name.
+abbrev pub AreNamed : Held → Wanted → Chosen → Type 0
+AreNamed held wanted chosen = All (IsNamedBy held wanted) (maps_of chosen)
+
+-- The map of a script is one that the arguments name.
+abbrev pub HasNamedMap : Held → Wanted → Script → Type 0
+HasNamedMap held wanted script = (m : ReadMap) × IsNamedBy held wanted m × (script.1 ≡ record_of m)
+
+-- The translation of all that a reader had was written, by scripts whose maps the arguments name.
+pub record IsTraced (held : Held) (wanted : Wanted) (style : Style) (left before after : Option (List ℕ))
+    : Type 0 where
+  pub scripts : List Script
+  pub have_maps : All (HasNamedMap held wanted) scripts
+  pub translated : IsTranslated (fate_by style.finding scripts style.hide) left before after
+
+-- The same in a plain style; of another nothing is said.
+abbrev pub IsTracedIn : Held → Wanted → Style → Option (List ℕ) → Option (List ℕ) → Option (List ℕ) → Type 0
+IsTracedIn held wanted style left before after =
+    is_plain_style style.prefixes.now style.context ≡ true → IsTraced held wanted style left before after
+
+-- What a log of which so much is read has left, where it is said what files hold.
+abbrev pub IsFront : Held → List ℕ → ℕ → Option (List ℕ) → Type 0
+IsFront None path size left = ⊤
+IsFront (Some held) path size left = (bytes : List ℕ) × (held path ≡ Some bytes) × (left ≡ Some (take size bytes))
+
+-- Between two logs stands a line feed, if the first has none at its end.
+abbrev pub IsBegun : Option (List ℕ) → Option (List ℕ) → Type 0
+IsBegun before after = Appends before after [] ⊎ Appends before after (10 ∷ [])
+
+-- So much of a log was translated and written, perhaps behind a line feed.
+pub record IsTracedLog (held : Held) (wanted : Wanted) (style : Style) (path : List ℕ) (size : ℕ)
+    (before after : Option (List ℕ)) : Type 0 where
+  pub begun : Option (List ℕ)
+  pub left : Option (List ℕ)
+  pub is_begun : IsBegun before begun
+  pub is_front : IsFront held path size left
+  pub traced : IsTracedIn held wanted style left begun after
+
+-- The logs with these names were translated and written so, one after another.
+abbrev pub AreTraced : Held → Wanted → Style → List (List ℕ) → Option (List ℕ) → Option (List ℕ) → Type 0
+AreTraced held wanted style [] before after = after ≡ before
+AreTraced held wanted style (path ∷ paths) before after = (size : ℕ) × (middle : Option (List ℕ))
+    × IsTracedLog held wanted style path size before middle × AreTraced held wanted style paths middle after
