@@ -1,4 +1,8 @@
 //! A run of `smap-trace`.
+ghost use Rattle.std.specs.Prelude.{◌≡◌};
+ghost use Rattle.smap_finder.specs.ChosenView.{held_of};
+ghost use Rattle.smap_tracer.specs.Written.{AreNamed};
+
 use crate::decorating::Style;
 use crate::listing::{Listed, hint_at_list, list_log, list_text};
 use crate::output::Output;
@@ -57,6 +61,8 @@ fn trace_logs<E: Eprint + AllocGlobal, D: Disk, I: Read, W: Write + Drop>(
 ) -> Result<(), Stop>
 where
     I: Drop,
+    requires named { AreNamed (D.held host.now.disk.now) job.now.wanted state.old.chosen }
+    requires held { held_of D.held opener.old ≡ D.held host.now.disk.now }
 {
     let Input { reader, kind } = input;
     let logs = job.wanted.logs.as_slice();
@@ -120,6 +126,8 @@ fn list<E: Eprint + AllocGlobal, D: Disk, I: Read, W: Write + Drop>(
 ) -> Result<(), Stop>
 where
     I: Drop,
+    requires named { AreNamed (D.held host.now.disk.now) job.now.wanted state.old.chosen }
+    requires held { held_of D.held opener.old ≡ D.held host.now.disk.now }
 {
     let mut listed = Listed::new(host.alloc());
     list_logs(host, job, input, &mut listed)?;
@@ -139,6 +147,8 @@ fn run_over<E: Eprint + AllocGlobal, D: Disk, I: Read, W: Write + Drop>(
 ) -> Result<(), Stop>
 where
     I: Drop,
+    requires named { AreNamed (D.held host.now.disk.now) job.now.wanted state.old.chosen }
+    requires held { held_of D.held opener.old ≡ D.held host.now.disk.now }
 {
     if job.check_all {
         check_all(host, opener, job.how, &job.wanted, &mut state.chosen)?;

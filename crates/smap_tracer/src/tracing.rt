@@ -1,7 +1,7 @@
 //! Logs translated: files, whose names are all looked for first, and streams, as they come.
-ghost use Rattle.std.specs.Prelude.{◌≡◌, IfOk, OnOk, Some, map};
+ghost use Rattle.std.specs.Prelude.{◌≡◌, [], IfOk, OnOk, Some, map};
 ghost use Rattle.std.specs.Io.Take.{take_remaining};
-ghost use Rattle.smap_finder.specs.ChosenView.{held_of};
+ghost use Rattle.smap_finder.specs.ChosenView.{held_of, maps_of};
 ghost use Rattle.smap_tracer.specs.OutputView.{contents_of};
 ghost use Rattle.smap_tracer.specs.Written.{AreNamed, AreTraced, IsFront, IsTracedIn, IsTracedLog};
 
@@ -43,7 +43,9 @@ pub(crate) struct State {
     is_hinted: bool,
 }
 
-pub(crate) fn new_state(alloc: Global) -> State {
+pub(crate) fn new_state(alloc: Global) -> State
+    ensures { maps_of result.chosen ≡ [] }
+{
     State {
         chosen: Chosen::new(alloc),
         names: Names::new(alloc),
@@ -174,6 +176,10 @@ fn follow_log<E: Eprint + AllocGlobal, D: Disk, R: Read, W: Write + Drop>(
 ) -> Result<(), Stop>
 where
     R: Drop,
+    requires named { AreNamed (D.held host.now.disk.now) job.now.wanted state.old.chosen }
+    requires held { held_of D.held opener.old ≡ D.held host.now.disk.now }
+    ensures named { AreNamed (D.held host.now.disk.now) job.now.wanted state.new.chosen }
+    ensures held { held_of D.held opener.new ≡ D.held host.now.disk.now }
 {
     let mut log = Log::new(host.alloc(), reader)?;
     for _ in 0..u64::MAX {
@@ -312,6 +318,8 @@ pub(crate) fn trace_input<E: Eprint + AllocGlobal, D: Disk, I: Read, W: Write + 
 ) -> Result<(), Stop>
 where
     I: Drop,
+    requires named { AreNamed (D.held host.now.disk.now) job.now.wanted state.old.chosen }
+    requires held { held_of D.held opener.old ≡ D.held host.now.disk.now }
 {
     let paths = [path];
     let sizes = open_files(host, job, opener, paths.as_slice(), state)?;
@@ -335,7 +343,12 @@ fn follow_path<E: Eprint + AllocGlobal, D: Disk, W: Write + Drop>(
     path: &str,
     state: &mut State,
     output: &mut Output<W>,
-) -> Result<(), Stop> {
+) -> Result<(), Stop>
+    requires named { AreNamed (D.held host.now.disk.now) job.now.wanted state.old.chosen }
+    requires held { held_of D.held opener.old ≡ D.held host.now.disk.now }
+    ensures named { AreNamed (D.held host.now.disk.now) job.now.wanted state.new.chosen }
+    ensures held { held_of D.held opener.new ≡ D.held host.now.disk.now }
+{
     begin_log(host, output, &mut state.tally)?;
     match host.disk.open(path) {
         Ok(log) => follow_log(host, job, opener, log, state, output),
@@ -351,7 +364,10 @@ pub(crate) fn trace_streams<E: Eprint + AllocGlobal, D: Disk, W: Write + Drop>(
     paths: &[&str],
     state: &mut State,
     output: &mut Output<W>,
-) -> Result<(), Stop> {
+) -> Result<(), Stop>
+    requires named { AreNamed (D.held host.now.disk.now) job.now.wanted state.old.chosen }
+    requires held { held_of D.held opener.old ≡ D.held host.now.disk.now }
+{
     for path in paths {
         follow_path(host, job, opener, path, state, output)?;
     }
@@ -369,6 +385,8 @@ pub(crate) fn trace_stream<E: Eprint + AllocGlobal, D: Disk, I: Read, W: Write +
 ) -> Result<(), Stop>
 where
     I: Drop,
+    requires named { AreNamed (D.held host.now.disk.now) job.now.wanted state.old.chosen }
+    requires held { held_of D.held opener.old ≡ D.held host.now.disk.now }
 {
     follow_log(host, job, opener, input, state, output)?;
     tell_count(host, job.how, &job.wanted, &state.chosen)
