@@ -1,6 +1,6 @@
 -- A range that was found, as what is promised of it.
 use Rattle.std.proofs.Common.{refl, length-drop, ◌≡◌, ◌≤◌, ℕ, ◌-◌, List, length, drop, Option, Some, None}
-use Rattle.std.proofs.Common.{arith, subst}
+use Rattle.std.proofs.Common.{arith, is_some, subst, true}
 use Rattle.std.specs.Prelude.{IfOk, IfSome, Result, Ok, Err}
 use Rattle.serde_json.specs.Data.{Data}
 use Rattle.smap_mappings.specs.declared.error.SegmentPlace.{SegmentPlace}
@@ -39,6 +39,15 @@ pub of_result : {E : Type 0} (text : List ℕ) (tree : Data) (fault : Fault)
 of_result text tree fault (Ok None) reads is = tt
 of_result text tree fault (Ok (Some r)) reads is = of_tree text tree fault r reads is
 of_result text tree fault (Err e) reads is = tt
+
+-- nothing is promised of a range where the text has a tree
+pub told_of_tree : {E : Type 0} (text : List ℕ) (tree : Data) (result : Result (Option TextRange) E)
+    → tree_of text ≡ Some tree → IfOk result (λ o. tree_of text ≡ None → is_some o ≡ true)
+told_of_tree text tree (Ok o) reads = λ none. absurd (some_or_none text tree reads none)
+  where
+    some_or_none : (text : List ℕ) (tree : Data) → tree_of text ≡ Some tree → tree_of text ≡ None → ⊥
+    some_or_none text tree reads none = cc
+told_of_tree text tree (Err e) reads = tt
 
 -- a range of a text that has no tree
 pub of_none : (text : List ℕ) (fault : Fault) (r : TextRange) → tree_of text ≡ None

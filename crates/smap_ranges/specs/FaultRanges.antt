@@ -36,3 +36,7 @@ pub record IsFaultRange (bytes : List ℕ) (fault : Fault) (r : TextRange) : Typ
   pub inner : TextRange
   pub is_shifted : r ≡ shifted (length bytes - length json) inner
   pub is : IsJsonRange json fault inner
+
+-- There is a JSON text in the bytes of a map, and it has no tree.
+abbrev pub IsNoJson : List ℕ → Type 0
+IsNoJson bytes = (json : List ℕ) × (json_text bytes ≡ Some json) × (tree_of json ≡ None)

@@ -1,10 +1,11 @@
 //! The range of a fault.
-ghost use Rattle.std.specs.Prelude.{◌≡◌, ◌≤◌, Some, IfOk, IfSome, length};
+ghost use Rattle.std.specs.Prelude.{◌≡◌, ◌≤◌, Some, None, IfOk, IfSome, length, is_some, true};
 ghost use Rattle.serde_json.specs.Data.{depth};
 ghost use Rattle.serde_json.specs.Read.{read, max_depth};
 ghost use Rattle.serde_json.specs.View.{view};
+ghost use Rattle.smap_record.specs.Reading.{tree_of};
 ghost use Rattle.smap_ranges.specs.Faults.{path_of};
-ghost use Rattle.smap_ranges.specs.FaultRanges.{IsPlaced, IsJsonRange, IsFaultRange};
+ghost use Rattle.smap_ranges.specs.FaultRanges.{IsPlaced, IsJsonRange, IsFaultRange, IsNoJson};
 
 use crate::fault_path::fault_path;
 use crate::json_error::error_range;
@@ -35,7 +36,8 @@ fn range_in(
 
 /// The range of a fault in a JSON text, or the one where it isn't JSON.
 fn json_range(alloc: Global, text: &[u8], fault: &Fault) -> Result<Option<TextRange>, AllocError>
-    ensures { IfOk result (λ o. IfSome o (IsJsonRange text.now fault.now)) }
+    ensures is { IfOk result (λ o. IfSome o (IsJsonRange text.now fault.now)) }
+    ensures told { IfOk result (λ o. tree_of text.now ≡ None → is_some o ≡ true) }
 {
     match Value::from_slice(alloc, text) {
         Ok(tree) => range_in(alloc, text, &tree, fault),
@@ -58,13 +60,15 @@ fn json_range(alloc: Global, text: &[u8], fault: &Fault) -> Result<Option<TextRa
 /// its `offset`. Of a member that isn't there it is that of the object without it, and so it is where too
 /// many sources or names are listed. Of a text that isn't JSON it is the empty range where reading stopped.
 /// None where there is no line feed after `)]}'`, or where the text has no such place, as it may where the
-/// fault isn't one of this text.
+/// fault isn't one of this text. A text that isn't JSON always has one, which is proved; that one that is JSON
+/// has one for its own fault is tested.
 ///
 /// # Errors
 ///
 /// `AllocError`.
 pub fn range_of(alloc: Global, text: &[u8], fault: &Fault) -> Result<Option<TextRange>, AllocError>
-    ensures { IfOk result (λ o. IfSome o (IsFaultRange text.now fault.now)) }
+    ensures is { IfOk result (λ o. IfSome o (IsFaultRange text.now fault.now)) }
+    ensures told { IfOk result (λ o. IsNoJson text.now → is_some o ≡ true) }
 {
     let Some(start) = json_start(text) else {
         return Ok(None);
