@@ -7,6 +7,9 @@ use crate::paths::is_machine_path;
 use serde_json::Value;
 use std::alloc::{AllocError, Global};
 
+/// How deep index maps nest: a map with more levels is refused.
+const MOST_LEVELS: u8 = 8;
+
 /// What a map says beside its mappings.
 #[derive(Drop)]
 pub struct Members {
@@ -89,6 +92,30 @@ impl Paths {
     }
 }
 
+/// The sections of a map.
+fn sections_of(tree: &Value) -> &[Value] {
+    match tree.get("sections").and_then(Value::as_array) {
+        Some(sections) => sections.as_slice(),
+        None => &[],
+    }
+}
+
+impl Paths {
+    /// Notes what the maps of sections say, and those of their sections, so many levels deep.
+    fn note_sections(&mut self, alloc: Global, levels: u8, tree: &Value) -> Result<(), AllocError> {
+        if levels == 0 {
+            return Ok(());
+        }
+        for section in sections_of(tree) {
+            if let Some(map) = section.get("map") {
+                self.note(alloc, map)?;
+                self.note_sections(alloc, levels - 1, map)?;
+            }
+        }
+        Ok(())
+    }
+}
+
 /// The paths of a map and of its sections.
 fn paths_of(alloc: Global, tree: &Value) -> Result<Paths, AllocError> {
     let mut paths = Paths {
@@ -97,19 +124,11 @@ fn paths_of(alloc: Global, tree: &Value) -> Result<Paths, AllocError> {
         machine_paths: 0,
     };
     paths.note(alloc, tree)?;
-    let Some(sections) = tree.get("sections").and_then(Value::as_array) else {
-        return Ok(paths);
-    };
-    for section in sections {
-        if let Some(map) = section.get("map") {
-            paths.note(alloc, map)?;
-        }
-    }
+    paths.note_sections(alloc, MOST_LEVELS, tree)?;
     Ok(paths)
 }
 
-/// What a map says beside its mappings. Of an index map, its sections are looked at too, but none in
-/// sections.
+/// What a map says beside its mappings. Of an index map, its sections are looked at too, at every level.
 ///
 /// # Errors
 ///
