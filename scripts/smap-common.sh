@@ -213,27 +213,6 @@ fault_of() {
     esac
 }
 
-# Splits the error of a refused map, `fault`: sets `section` to the path of its section, `segment` to its line
-# and segment, both empty where it has none, and `message` to the rest.
-take_place() {
-    section='' segment=''
-    message=$fault
-    case $message in
-    'section '[0-9]*': '*)
-        section=${message#section }
-        section=${section%%:*}
-        message=${message#"section $section: "}
-        ;;
-    esac
-    case $message in
-    'line '[0-9]*' segment '[0-9]*': '*)
-        segment=${message%%:*}
-        message=${message#"$segment: "}
-        segment=${segment#line }
-        ;;
-    esac
-}
-
 # Sets `hint` to what a refused file is, in parentheses, where its first bytes show it.
 hint_at_map() {
     hint=

@@ -133,33 +133,40 @@ REFUSED = """
 
 
 def refusals(browser, folder):
+    """Of a refused map the page shows the error, and marks its place in the text: here each text is what is
+    before the place, what is there, and what is behind it."""
     deep = ('{"version":3,"sections":[{"offset":{"line":0,"column":0},"map":{"version":3,"sources":["a.js"],'
             '"mappings":"AAAA"}},{"offset":{"line":1,"column":0},"map":{"version":3,"sections":[{"offset":'
-            '{"line":0,"column":0},"map":{"version":3,"sources":["b.js"],"mappings":";AAAA,CCCC"}}]}}]}')
-    for text, error, name, mark in (
-            ('{"version":3,"sources":["a.js"],"mappings":"AAAA,CCAA"}',
-             "line 0 segment 1: source index", "mappings", "CCAA"),
-            ('{"version":3,"sources":["a.js"],"mappings":";;A,,AAAA"}',
-             "line 2 segment 1: empty segment", "mappings", "\u2038"),
-            ('{"version":3,"sources":["a.js"],"mappings":";\\u0041,B"}',
-             "line 1 segment 1: number 1: negative zero", "mappings", "B"),
-            (deep, "section 1.0: line 1 segment 1: source index",
-             "sections[1].map.sections[0].map.mappings", "CCCC"),
-            (")]}'\n" + '{"version":3,"names":1,"names":[1],"mappings":""}', "names", "names", "[1]"),
-            ('{"version":3,"sources":["x","http://a b/"],"mappings":""}',
-             "source 1 is no URL", "sources[1]", '"http://a b/"'),
-            ('{"version":3,"sections":[{"offset":{"line":-1,"column":0},"map":{}}]}', "section 0: offset",
-             "sections[0].offset", '{"line":-1,"column":0}'),
-            ('{"version":3,"x_google_ignoreList":[7],"mappings":""}',
-             "ignoreList", "x_google_ignoreList", "[7]"),
-            ('{"version":"</script><b>","mappings":""}', "version", "version", '"</script><b>"'),
-            ("<html>", "not json", None, None)):
-        (folder / "bad.map").write_text(text)
+            '{"line":0,"column":0},"map":{"version":3,"sources":["b.js"],"mappings":";AAAA,')
+    for before, there, behind, error in (
+            ('{"version":3,"sources":["a.js"],"mappings":"AAAA,', "CCAA", '"}',
+             "line 0 segment 1: source index"),
+            ('{"version":3,"sources":["a.js"],"mappings":";;A,', "", ',AAAA"}',
+             "line 2 segment 1: empty segment"),
+            ('{"version":3,"sources":["a.js"],"mappings":";\\u0041,', "B", '"}',
+             "line 1 segment 1: number 1: negative zero"),
+            (deep, "CCCC", '"}}]}}]}', "section 1.0: line 1 segment 1: source index"),
+            (")]}'\n" + '{"version":3,"names":1,"names":', "[1]", ',"mappings":""}', "names"),
+            ('{"version":3,"sources":["x",', '"http://a b/"', '],"mappings":""}', "source 1 is no URL"),
+            ('{"version":3,"sections":[{"offset":', '{"line":-1,"column":0}', ',"map":{}}]}',
+             "section 0: offset"),
+            ('{"version":3,"x_google_ignoreList":', "[7]", ',"mappings":""}', "ignoreList"),
+            ('{"version":', '"</script><b>"', ',"mappings":""}', "version"),
+            ('{"version":3,\r\n"file":"\U0001f642\u00e9\u6f22","names":', "7", ',"mappings":""}', "names"),
+            ('{"version":3,\n"mappings":"', "", "", "not json"),
+            ("", "", "<html>", "not json")):
+        (folder / "bad.map").write_bytes((before + there + behind).encode())
         url = make_page(folder, "bad.map", "bad.map", status=1)
         browser.open(url)
         shown_error, where, place, marks = browser.run(REFUSED)
         equal(shown_error, f"Refused: {error}")
-        equal(place, None if mark is None else place)
-        equal(marks, [] if mark is None else [mark])
-        assert mark is None or where.startswith(f"It is in {name}, at character "), where
+        # an empty place is marked by a caret
+        equal(marks, [there or "\u2038"])
+        lines = re.split("\r\n|\r|\n", before)
+        column = pages.units(lines[-1]) + 1
+        equal(where.split(" of the map.")[0], f"It is at line {len(lines)}, column {column}")
+        assert place.endswith((there or "\u2038") + behind), place
+    (folder / "bad.map").write_bytes(b'{"version":2,"file":"\xff"}')
+    browser.open(make_page(folder, "bad.map", "bad.map", status=1))
+    equal(browser.run(REFUSED), ["Refused: not json", "", None, []])
     equal(browser.run("return document.getElementById('main').hidden"), True)

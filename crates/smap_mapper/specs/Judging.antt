@@ -1,22 +1,41 @@
 -- What is said of a map that was read.
-use Rattle.std.specs.Prelude.{◌≡◌, Ok, Err}
+use Rattle.std.specs.Prelude.{◌≡◌, ℕ, List, Ok, Err, IfSome}
 use Rattle.smap_record.specs.Faults.{Checked}
 use Rattle.smap_record.specs.Record.{ReadMap}
+use Rattle.smap_record.specs.declared.fault.Fault.{Fault}
 use Rattle.smap_record.specs.declared.fault.ReadError.{ReadError}
 use Rattle.smap_record.specs.declared.fault.ReadError.TheVariants as error
+use Rattle.smap_places.specs.Points.{point_at}
+use Rattle.smap_ranges.specs.FaultRanges.{IsFaultRange}
 use Rattle.smap_mapper.specs.declared.outcome.Failure.TheVariants.{Memory}
+use Rattle.smap_mapper.specs.declared.outcome.Refusal.{Refusal}
+use Rattle.smap_mapper.specs.declared.outcome.TextPlace.{TextPlace}
 use Rattle.smap_mapper.specs.declared.outcome.Verdict.{Verdict}
 use Rattle.smap_mapper.specs.declared.outcome.Verdict.TheVariants as verdict
 
+-- This is a place of the fault in the text of a map: the line and the column are those where its range begins.
+abbrev pub IsPlaceOf : List ℕ → Fault → TextPlace → Type 0
+IsPlaceOf bytes fault place =
+    IsFaultRange bytes fault place.range × (place.point ≡ point_at bytes place.range.start)
+
+-- The place that is told of a refused map is one of its fault.
+abbrev pub IsPlaced : List ℕ → Refusal → Type 0
+IsPlaced bytes why = IfSome why.place (IsPlaceOf bytes why.fault)
+
 -- The fault that is told is the map's first one, and it is accepted where it has none. That memory ran out says
 -- nothing about the map.
-abbrev pub IsJudged : Checked ReadMap → Verdict → Type 0
-IsJudged expected verdict.Accepted = (m : ReadMap) × (expected ≡ Ok m)
-IsJudged expected (verdict.Refused fault start) = expected ≡ Err fault
-IsJudged expected (verdict.Failed Memory) = Unit {0}
-IsJudged expected v = ⊥
+abbrev pub IsJudged : Checked ReadMap → List ℕ → Verdict → Type 0
+IsJudged expected bytes verdict.Accepted = (m : ReadMap) × (expected ≡ Ok m)
+IsJudged expected bytes (verdict.Refused why) = (expected ≡ Err why.fault) × IsPlaced bytes why
+IsJudged expected bytes (verdict.Failed Memory) = Unit {0}
+IsJudged expected bytes v = ⊥
 
-abbrev pub IsJudgedFor : ReadError → Verdict → Type 0
-IsJudgedFor (error.Refused why) (verdict.Refused fault start) = fault ≡ why
-IsJudgedFor error.Memory (verdict.Failed Memory) = Unit {0}
-IsJudgedFor e v = ⊥
+abbrev pub IsRefusedFor : List ℕ → Fault → Verdict → Type 0
+IsRefusedFor bytes fault (verdict.Refused why) = (why.fault ≡ fault) × IsPlaced bytes why
+IsRefusedFor bytes fault (verdict.Failed Memory) = Unit {0}
+IsRefusedFor bytes fault v = ⊥
+
+abbrev pub IsJudgedFor : List ℕ → ReadError → Verdict → Type 0
+IsJudgedFor bytes (error.Refused fault) v = IsRefusedFor bytes fault v
+IsJudgedFor bytes error.Memory (verdict.Failed Memory) = Unit {0}
+IsJudgedFor bytes error.Memory v = ⊥

@@ -13,7 +13,7 @@ name verdict.Unchanged = codes "unchanged"
 name verdict.Changed = codes "changed"
 name verdict.Kept = codes "kept"
 name verdict.Rewritten = codes "rewritten"
-name (verdict.Refused fault start) = codes "refused"
+name (verdict.Refused why) = codes "refused"
 name verdict.NotUrl = codes "refused"
 name (verdict.Failed why) = codes "failed"
 
@@ -28,7 +28,7 @@ status verdict.Unchanged = 0
 status verdict.Changed = 1
 status verdict.Kept = 1
 status verdict.Rewritten = 0
-status (verdict.Refused fault start) = 1
+status (verdict.Refused why) = 1
 status verdict.NotUrl = 1
 status (verdict.Failed why) = failure_status why
 

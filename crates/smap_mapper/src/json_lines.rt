@@ -1,34 +1,20 @@
-//! The line of JSON for a map. `docs/OUTPUT.md`, "smap-maps", has its members.
+//! The line of JSON for a map. `docs/OUTPUT.md`, "smap-maps", has its members; what is text there is written by
+//! `serde_json`.
+ghost use Rattle.std.specs.Prelude.{◌≡◌, IfOk, map, option_map, string_bytes};
+ghost use Rattle.serde_json.specs.Data.{array, string};
+ghost use Rattle.serde_json.specs.View.{items_of, view};
+ghost use Rattle.smap_mapper.specs.JsonLines as spec;
 
-use crate::outcome::{Failure, Outcome, Verdict};
-use serde::Serialize;
-use smap_record::Fault;
+use crate::outcome::{Failure, Outcome, TextPlace, Verdict};
+use serde_json::Value;
+use smap_mappings::SegmentPlace;
+use smap_record::{Fault, Path};
 use std::alloc::{AllocError, Global};
 
-/// Where a fault is.
-#[derive(Drop, Serialize)]
-struct PlaceLine<'a> {
-    #[serde(skip_serializing_if = "Option::is_none")]
-    section: Option<&'a str>,
-    #[serde(skip_serializing_if = "Option::is_none")]
-    line: Option<u32>,
-    #[serde(skip_serializing_if = "Option::is_none")]
-    segment: Option<u32>,
-}
-
-/// The line for a map.
-#[derive(Drop, Serialize)]
-struct MapLine<'a> {
-    path: &'a str,
-    status: &'static str,
-    fault: Option<&'a str>,
-    place: Option<PlaceLine<'a>>,
-    #[serde(skip_serializing_if = "Option::is_none")]
-    drops: Option<&'a Vec<String>>,
-}
-
 /// What a failure is called.
-pub(crate) fn failure_text(failure: Failure) -> &'static str {
+pub(crate) fn failure_text(failure: Failure) -> &'static str
+    ensures { result.now ≡ spec.failure_words failure }
+{
     match failure {
         Failure::Unread => "cannot read it",
         Failure::TooLong => "input too long",
@@ -39,20 +25,21 @@ pub(crate) fn failure_text(failure: Failure) -> &'static str {
     }
 }
 
-/// The section of a fault, as its message has it, if it is in one.
-fn section_of(alloc: Global, fault: &Fault) -> Result<Option<String>, AllocError> {
-    if fault.section.numbers().is_empty() {
-        return Ok(None);
-    }
-    let section = &fault.section;
-    Ok(Some(format!(in alloc; "{section}")?))
+/// A text as JSON.
+fn json_text(alloc: Global, text: &str) -> Result<String, AllocError>
+    ensures { IfOk result (λ t. string_bytes t ≡ spec.json_text text.now) }
+{
+    let value = Value::String(String::from_str(alloc, text)?);
+    value.to_string(alloc)
 }
 
 /// What is wrong with a map, without its place.
-fn fault_text(alloc: Global, verdict: &Verdict) -> Result<Option<String>, AllocError> {
+fn fault_words(alloc: Global, verdict: &Verdict) -> Result<Option<String>, AllocError>
+    ensures { IfOk result (λ o. option_map string_bytes o ≡ spec.fault_words verdict.now) }
+{
     match verdict {
-        Verdict::Refused(fault, _) => {
-            let kind = &fault.kind;
+        Verdict::Refused(why) => {
+            let kind = why.fault.kind;
             Ok(Some(format!(in alloc; "{kind}")?))
         }
         Verdict::NotUrl => Ok(Some(String::from_str(alloc, "base is no URL")?)),
@@ -61,63 +48,117 @@ fn fault_text(alloc: Global, verdict: &Verdict) -> Result<Option<String>, AllocE
     }
 }
 
-/// The place of a fault, if it has one.
-fn place_of<'a>(verdict: &Verdict, section: Option<&'a str>) -> Option<PlaceLine<'a>> {
-    let Verdict::Refused(fault, _) = verdict else {
-        return None;
-    };
-    match fault.place {
-        Some(place) => Some(PlaceLine {
-            section,
-            line: Some(place.line),
-            segment: Some(place.segment),
-        }),
-        None if section.is_some() => Some(PlaceLine {
-            section,
-            line: None,
-            segment: None,
-        }),
-        None => None,
+fn fault_text(alloc: Global, verdict: &Verdict) -> Result<String, AllocError>
+    ensures { IfOk result (λ t. string_bytes t ≡ spec.fault_text verdict.now) }
+{
+    match fault_words(alloc, verdict)? {
+        Some(words) => json_text(alloc, words.as_str()),
+        None => String::from_str(alloc, "null"),
     }
 }
 
-/// The section in which a map is refused.
-fn section_in(alloc: Global, verdict: &Verdict) -> Result<Option<String>, AllocError> {
+/// The section that a fault is in.
+fn section_text(alloc: Global, section: &Path) -> Result<String, AllocError>
+    ensures { IfOk result (λ t. string_bytes t ≡ spec.section_text section.now) }
+{
+    let path = format!(in alloc; "{section}")?;
+    let path = json_text(alloc, path.as_str())?;
+    format!(in alloc; "\"section\":{path}")
+}
+
+/// The segment that a fault is in.
+fn segment_text(alloc: Global, place: SegmentPlace) -> Result<String, AllocError>
+    ensures { IfOk result (λ t. string_bytes t ≡ spec.segment_text place) }
+{
+    let SegmentPlace { line, segment } = place;
+    format!(in alloc; "\"line\":{line},\"segment\":{segment}")
+}
+
+/// Where a fault outside of sections is.
+fn outside(alloc: Global, place: Option<SegmentPlace>) -> Result<String, AllocError>
+    ensures { IfOk result (λ t. string_bytes t ≡ spec.outside place) }
+{
+    let Some(place) = place else {
+        return String::from_str(alloc, "null");
+    };
+    let segment = segment_text(alloc, place)?;
+    format!(in alloc; "{{{segment}}}")
+}
+
+/// Where a fault in a section is.
+fn within(alloc: Global, section: &Path, place: Option<SegmentPlace>) -> Result<String, AllocError>
+    ensures { IfOk result (λ t. string_bytes t ≡ spec.within section.now place) }
+{
+    let section = section_text(alloc, section)?;
+    let Some(place) = place else {
+        return format!(in alloc; "{{{section}}}");
+    };
+    let segment = segment_text(alloc, place)?;
+    format!(in alloc; "{{{section},{segment}}}")
+}
+
+/// The section and the segment that a fault is in, if it is in one of them.
+fn place_text(alloc: Global, fault: &Fault) -> Result<String, AllocError>
+    ensures { IfOk result (λ t. string_bytes t ≡ spec.place_text fault.now.section fault.now.place) }
+{
+    if fault.section.numbers().is_empty() {
+        outside(alloc, fault.place)
+    } else {
+        within(alloc, &fault.section, fault.place)
+    }
+}
+
+fn place_of(alloc: Global, verdict: &Verdict) -> Result<String, AllocError>
+    ensures { IfOk result (λ t. string_bytes t ≡ spec.place_of verdict.now) }
+{
     match verdict {
-        Verdict::Refused(fault, _) => section_of(alloc, fault),
-        _ => Ok(None),
+        Verdict::Refused(why) => place_text(alloc, &why.fault),
+        _ => String::from_str(alloc, "null"),
     }
 }
 
-fn as_text(text: &Option<String>) -> Option<&str> {
-    match text {
-        Some(text) => Some(text.as_str()),
-        None => None,
-    }
-}
-
-/// The line of an outcome, whose fault and section are in words.
-fn line_text<'x>(
-    alloc: Global,
-    file: &'x str,
-    outcome: &'x Outcome,
-    fault: Option<&'x str>,
-    section: Option<&'x str>,
-    rewrites: bool,
-) -> Result<String, AllocError> {
-    let place = place_of(&outcome.verdict, section);
-    let drops = if rewrites { Some(&outcome.drops) } else { None };
-    let line = MapLine {
-        path: file,
-        status: outcome.verdict.name(),
-        fault,
-        place,
-        drops,
+/// Where in the text of a map a fault is.
+fn text_place(alloc: Global, place: Option<TextPlace>) -> Result<String, AllocError>
+    ensures { IfOk result (λ t. string_bytes t ≡ spec.text_place place) }
+{
+    let Some(place) = place else {
+        return String::from_str(alloc, ",\"line\":null,\"column\":null,\"range\":null");
     };
-    match serde_json::to_string(alloc, &line) {
-        Ok(text) => Ok(text),
-        Err(_) => Err(AllocError),
+    let (line, column) = (place.point.line, place.point.column);
+    let (start, end) = (place.range.start, place.range.end);
+    format!(in alloc; ",\"line\":{line},\"column\":{column},\"range\":[{start},{end}]")
+}
+
+fn text_place_of(alloc: Global, verdict: &Verdict) -> Result<String, AllocError>
+    ensures { IfOk result (λ t. string_bytes t ≡ spec.text_place_of verdict.now) }
+{
+    match verdict {
+        Verdict::Refused(why) => text_place(alloc, why.place),
+        _ => text_place(alloc, None),
     }
+}
+
+/// Some texts as an array of JSON.
+fn array_of(alloc: Global, texts: &[String]) -> Result<Value, AllocError>
+    ensures { IfOk result (λ v. view v ≡ array (items_of (map string (map string_bytes texts.now)))) }
+{
+    let mut values = Vec::with_capacity(alloc, texts.len())?;
+    for text in texts {
+        values.push(Value::String(text.clone()?))?;
+    }
+    Ok(Value::Array(values))
+}
+
+/// What a rewrite drops, if the command can rewrite.
+#[tactic(auto, using(crate::proofs::WholeLemmas::strings_whole))]
+fn drops_text(alloc: Global, drops: &[String], rewrites: bool) -> Result<String, AllocError>
+    ensures { IfOk result (λ t. string_bytes t ≡ spec.drops_text rewrites (map string_bytes drops.now)) }
+{
+    if !rewrites {
+        return Ok(String::new(alloc));
+    }
+    let drops = array_of(alloc, drops)?.to_string(alloc)?;
+    format!(in alloc; ",\"drops\":{drops}")
 }
 
 /// The line of JSON for a map, without its line feed; with what is dropped, if the command can rewrite.
@@ -126,15 +167,16 @@ pub(crate) fn json_line(
     file: &str,
     outcome: &Outcome,
     rewrites: bool,
-) -> Result<String, AllocError> {
-    let section = section_in(alloc, &outcome.verdict)?;
+) -> Result<String, AllocError>
+    ensures { IfOk result (λ t. string_bytes t ≡ spec.json_line file.now outcome.now rewrites) }
+{
+    let path = json_text(alloc, file)?;
+    let status = outcome.verdict.name();
     let fault = fault_text(alloc, &outcome.verdict)?;
-    line_text(
-        alloc,
-        file,
-        outcome,
-        as_text(&fault),
-        as_text(&section),
-        rewrites,
+    let place = place_of(alloc, &outcome.verdict)?;
+    let text_place = text_place_of(alloc, &outcome.verdict)?;
+    let drops = drops_text(alloc, &outcome.drops, rewrites)?;
+    format!(in alloc;
+        "{{\"path\":{path},\"status\":\"{status}\",\"fault\":{fault},\"place\":{place}{text_place}{drops}}}"
     )
 }

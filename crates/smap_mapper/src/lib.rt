@@ -11,6 +11,7 @@ mod json_lines;
 mod linting;
 mod looking;
 mod outcome;
+mod placing;
 mod program;
 mod progress;
 mod repairing;

@@ -2,11 +2,12 @@
 ghost use Rattle.smap_record.specs.Reading.{reading};
 ghost use Rattle.smap_record.specs.Record.{usual};
 ghost use Rattle.smap_record.specs.Results.{Returns};
-ghost use Rattle.smap_mapper.specs.Judging.{IsJudged, IsJudgedFor};
+ghost use Rattle.smap_mapper.specs.Judging.{IsJudged};
 
 use crate::deciding::{Deed, decided};
 use crate::forms::{Form, formed};
-use crate::outcome::{Failure, Outcome, Start, Verdict};
+use crate::outcome::{Failure, Outcome, Verdict};
+use crate::placing::unread;
 use crate::replacing::replace;
 use crate::targets::Target;
 use serde_json::Value;
@@ -29,16 +30,6 @@ pub(crate) fn plain(alloc: Global, verdict: Verdict) -> Outcome {
     }
 }
 
-pub(crate) fn start_of(bytes: &[u8]) -> Start {
-    if bytes.starts_with(b"\xef\xbb\xbf") {
-        Start::Mark
-    } else if bytes.starts_with(b"\x1f\x8b") {
-        Start::Gzip
-    } else {
-        Start::Other
-    }
-}
-
 /// A file's bytes.
 pub(crate) fn bytes_of<D: Disk>(alloc: Global, disk: &D, path: &str) -> Result<Vec<u8>, Verdict> {
     match read_file(alloc, disk, path, LIMIT) {
@@ -46,16 +37,6 @@ pub(crate) fn bytes_of<D: Disk>(alloc: Global, disk: &D, path: &str) -> Result<V
         Err(FileFault::TooLong) => Err(Verdict::Failed(Failure::TooLong)),
         Err(FileFault::Read(_)) => Err(Verdict::Failed(Failure::Unread)),
         Err(FileFault::Memory) => Err(Verdict::Failed(Failure::Memory)),
-    }
-}
-
-/// What a map that isn't read is.
-fn verdict_of(error: ReadError, start: Start) -> Verdict
-    ensures { IsJudgedFor error result }
-{
-    match error {
-        ReadError::Refused(fault) => Verdict::Refused(fault, start),
-        ReadError::Memory => Verdict::Failed(Failure::Memory),
     }
 }
 
@@ -71,30 +52,29 @@ pub(crate) fn base_of(alloc: Global, url: &[u8]) -> Result<Base, Verdict> {
 }
 
 /// The map that these bytes are.
-fn map_of(alloc: Global, base: &Base, bytes: Vec<u8>) -> Result<SourceMap, ReadError>
-    ensures { Returns (λ m. m) result (reading base.now usual bytes.items) }
+fn map_of(alloc: Global, base: &Base, bytes: &[u8]) -> Result<SourceMap, ReadError>
+    ensures { Returns (λ m. m) result (reading base.now usual bytes.now) }
 {
-    SourceMap::from_vec(alloc, bytes, base, Limits::usual())
+    SourceMap::from_slice(alloc, bytes, base, Limits::usual())
 }
 
 /// What a map is that these bytes should be.
-fn judged(alloc: Global, base: &Base, bytes: Vec<u8>) -> Verdict
-    ensures { IsJudged (reading base.now usual bytes.items) result }
+fn judged(alloc: Global, base: &Base, bytes: &[u8]) -> Verdict
+    ensures { IsJudged (reading base.now usual bytes.now) bytes.now result }
 {
-    let start = start_of(&bytes);
     match map_of(alloc, base, bytes) {
         Ok(map) => {
             drop(map);
             Verdict::Accepted
         }
-        Err(error) => verdict_of(error, start),
+        Err(error) => unread(alloc, bytes, error),
     }
 }
 
 fn checked<D: Disk>(alloc: Global, disk: &D, target: &Target) -> Result<Verdict, Verdict> {
     let bytes = bytes_of(alloc, disk, target.file.as_str())?;
     let base = base_of(alloc, &target.url)?;
-    Ok(judged(alloc, &base, bytes))
+    Ok(judged(alloc, &base, &bytes))
 }
 
 /// Checks a map.
@@ -189,7 +169,7 @@ fn compared<D: Disk>(
     let base = base_of(alloc, &target.url)?;
     let text = match formed(alloc, form, &base, &bytes) {
         Ok(text) => text,
-        Err(error) => return Err(verdict_of(error, start_of(&bytes))),
+        Err(error) => return Err(unread(alloc, &bytes, error)),
     };
     if text.as_slice() == bytes.as_slice() {
         return Ok(plain(alloc, Verdict::Unchanged));

@@ -2,6 +2,7 @@
 ghost use Rattle.std.specs.Prelude.{◌≡◌};
 ghost use Rattle.smap_mapper.specs.Outcomes as spec;
 
+use smap_ranges::{Point, TextRange};
 use smap_record::Fault;
 
 /// What a file shows at its beginning that is no map.
@@ -31,6 +32,23 @@ pub(crate) enum Failure {
     Memory,
 }
 
+/// A place in the text of a map.
+#[derive(Clone, Copy, Debug, PartialEq, Eq)]
+pub(crate) struct TextPlace {
+    pub(crate) range: TextRange,
+    /// The line and the column of its first byte, or of what is behind an empty range.
+    pub(crate) point: Point,
+}
+
+/// Why a map is refused.
+#[derive(Debug, Drop)]
+pub(crate) struct Refusal {
+    pub(crate) fault: Fault,
+    pub(crate) start: Start,
+    /// Where in its text, if the fault has a place there.
+    pub(crate) place: Option<TextPlace>,
+}
+
 /// What became of a map.
 #[derive(Debug, Drop)]
 pub(crate) enum Verdict {
@@ -43,7 +61,7 @@ pub(crate) enum Verdict {
     /// It would lose members, and wasn't rewritten.
     Kept,
     Rewritten,
-    Refused(Fault, Start),
+    Refused(Refusal),
     /// Its own URL is none.
     NotUrl,
     Failed(Failure),
@@ -60,7 +78,7 @@ impl Verdict {
             Verdict::Changed => "changed",
             Verdict::Kept => "kept",
             Verdict::Rewritten => "rewritten",
-            Verdict::Refused(_, _) | Verdict::NotUrl => "refused",
+            Verdict::Refused(_) | Verdict::NotUrl => "refused",
             Verdict::Failed(_) => "failed",
         }
     }
@@ -71,7 +89,7 @@ impl Verdict {
     {
         match self {
             Verdict::Accepted | Verdict::Unchanged | Verdict::Rewritten => 0,
-            Verdict::Changed | Verdict::Kept | Verdict::Refused(_, _) | Verdict::NotUrl => 1,
+            Verdict::Changed | Verdict::Kept | Verdict::Refused(_) | Verdict::NotUrl => 1,
             Verdict::Failed(Failure::Memory) => 4,
             Verdict::Failed(_) => 3,
         }

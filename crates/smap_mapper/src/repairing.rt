@@ -1,8 +1,9 @@
 //! One map that is refused: repaired, and rewritten if that is wanted.
 
 use crate::deciding::Deed;
-use crate::looking::{base_of, bytes_of, change, plain, start_of};
+use crate::looking::{base_of, bytes_of, change, plain};
 use crate::outcome::{Failure, Outcome, Verdict};
+use crate::placing::refused_for;
 use crate::targets::Target;
 use smap_disk::Disk;
 use smap_record::{Base, Fault, Limits};
@@ -36,7 +37,7 @@ fn left_text(
 fn refused(alloc: Global, bytes: &[u8], fault: Fault, left: &Option<Fault>) -> Outcome {
     match left_text(alloc, &fault, left) {
         Ok(changes) => Outcome {
-            verdict: Verdict::Refused(fault, start_of(bytes)),
+            verdict: refused_for(alloc, bytes, fault),
             drops: Vec::new(alloc),
             changes,
         },

@@ -1,7 +1,9 @@
 //! What is said of a map, and written.
+ghost use Rattle.std.specs.Prelude.{◌≡◌, IfOk, string_bytes};
+ghost use Rattle.smap_mapper.specs.Remarks as spec;
 
 use crate::json_lines::{failure_text, json_line};
-use crate::outcome::{Outcome, Start, Verdict};
+use crate::outcome::{Outcome, Refusal, Start, TextPlace, Verdict};
 use smap_disk::{Disk, Watched, printable};
 use smap_drops::shown_name;
 use smap_host::{Host, Stop};
@@ -53,20 +55,46 @@ fn names_text(alloc: Global, names: &[String]) -> Result<String, AllocError> {
     Ok(text)
 }
 
+/// What is said of a refused map, with the fault that repairs would leave, if that is told.
+fn refusal_text(alloc: Global, why: &Refusal, left: Option<&String>) -> Result<String, AllocError> {
+    let fault = &why.fault;
+    match left {
+        Some(left) => {
+            let left = left.as_str();
+            format!(in alloc; "{fault}; once that is repaired: {left}")
+        }
+        None => {
+            let hint = hint(fault, why.start);
+            format!(in alloc; "{fault}{hint}")
+        }
+    }
+}
+
+/// The name of a file with a place in it.
+fn name_with(alloc: Global, file: &str, place: Option<TextPlace>) -> Result<String, AllocError>
+    ensures { IfOk result (λ t. string_bytes t ≡ spec.name_with file.now place) }
+{
+    let Some(place) = place else {
+        return String::from_str(alloc, file);
+    };
+    let (line, column) = (place.point.line, place.point.column);
+    format!(in alloc; "{file}:{line}:{column}")
+}
+
+/// The name under which something is said of a map.
+fn said_name(alloc: Global, file: &str, verdict: &Verdict) -> Result<String, AllocError>
+    ensures { IfOk result (λ t. string_bytes t ≡ spec.said_name file.now verdict.now) }
+{
+    match verdict {
+        Verdict::Refused(why) => name_with(alloc, file, why.place),
+        _ => String::from_str(alloc, file),
+    }
+}
+
 /// What is said of a map on standard error, if there is something to be said.
 fn remark(alloc: Global, outcome: &Outcome) -> Result<Option<String>, AllocError> {
     match &outcome.verdict {
-        Verdict::Refused(fault, start) => {
-            let hint = hint(fault, *start);
-            match outcome.changes.first() {
-                Some(left) => {
-                    let left = left.as_str();
-                    let text = format!(in alloc; "{fault}; once that is repaired: {left}")?;
-                    Ok(Some(text))
-                }
-                None => Ok(Some(format!(in alloc; "{fault}{hint}")?)),
-            }
-        }
+        Verdict::Refused(why) => Ok(Some(refusal_text(alloc, why, outcome.changes.first())?)),
         Verdict::NotUrl => Ok(Some(String::from_str(alloc, "base is no URL")?)),
         Verdict::Failed(failure) => { Ok(Some(String::from_str(alloc, failure_text(*failure))?)) }
         Verdict::Kept => {
@@ -104,7 +132,8 @@ fn report_in_text<E: Eprint + AllocGlobal, D: Disk, W: Write>(
 ) -> Result<(), Stop> {
     let alloc = host.alloc();
     if let Some(text) = remark(alloc, outcome)? {
-        host.say_of(file, text.as_str());
+        let name = said_name(alloc, file, &outcome.verdict)?;
+        host.say_of(name.as_str(), text.as_str());
     }
     if !is_named(&outcome.verdict) {
         return Ok(());

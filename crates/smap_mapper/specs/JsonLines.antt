@@ -1,0 +1,92 @@
+-- The line of JSON for a map. Its members come in the order of `docs/OUTPUT.md`.
+use Rattle.std.specs.Prelude.{ℕ, ◌==◌, Bool, List, [], ◌++◌, codes, cond, decimal, length, map, Option, Some, None}
+use Rattle.std.specs.Prelude.{string_bytes}
+use Rattle.std.specs.Option.{option_map_or}
+use Rattle.serde_json.specs.Data.{array, string}
+use Rattle.serde_json.specs.View.{items_of}
+use Rattle.serde_json.specs.Written.{compact_text}
+use Rattle.smap_mappings.specs.declared.error.SegmentPlace.{SegmentPlace}
+use Rattle.smap_record.specs.Words.{kind_words, path_words}
+use Rattle.smap_mapper.specs.declared.outcome.Failure.{Failure}
+use Rattle.smap_mapper.specs.declared.outcome.Failure.TheVariants as failure
+use Rattle.smap_mapper.specs.declared.outcome.Outcome.{Outcome}
+use Rattle.smap_mapper.specs.declared.outcome.TextPlace.{TextPlace}
+use Rattle.smap_mapper.specs.declared.outcome.Verdict.{Verdict}
+use Rattle.smap_mapper.specs.declared.outcome.Verdict.TheVariants as verdict
+use Rattle.smap_mapper.specs.Outcomes.{name}
+
+-- what a failure is called
+abbrev pub failure_words : Failure → List ℕ
+failure_words failure.Unread = codes "cannot read it"
+failure_words failure.TooLong = codes "input too long"
+failure_words failure.Unwritable = codes "cannot write it"
+failure_words failure.Folder = codes "cannot write in its folder"
+failure_words failure.NotWritten = codes "write failed"
+failure_words failure.Memory = codes "out of memory"
+
+-- a text as JSON, as `serde_json` writes it
+abbrev pub json_text : List ℕ → List ℕ
+json_text text = compact_text (string text)
+
+-- what is wrong with a map, without its place
+abbrev pub fault_words : Verdict → Option (List ℕ)
+fault_words (verdict.Refused why) = Some (kind_words why.fault.kind)
+fault_words verdict.NotUrl = Some (codes "base is no URL")
+fault_words (verdict.Failed why) = Some (failure_words why)
+fault_words verdict.Accepted = None
+fault_words verdict.Unchanged = None
+fault_words verdict.Changed = None
+fault_words verdict.Kept = None
+fault_words verdict.Rewritten = None
+
+abbrev pub fault_text : Verdict → List ℕ
+fault_text v = option_map_or json_text (fault_words v) (codes "null")
+
+-- the section that a fault is in, and the segment
+abbrev pub section_text : List ℕ → List ℕ
+section_text section = codes "\"section\":" ++ json_text (path_words section)
+
+abbrev pub segment_text : SegmentPlace → List ℕ
+segment_text place =
+    codes "\"line\":" ++ (decimal place.line ++ (codes ",\"segment\":" ++ decimal place.segment))
+
+-- where a fault is: an object with what there is of a section and a segment, null where there is neither
+abbrev pub outside : Option SegmentPlace → List ℕ
+outside None = codes "null"
+outside (Some place) = codes "{" ++ (segment_text place ++ codes "}")
+
+abbrev pub within : List ℕ → Option SegmentPlace → List ℕ
+within section None = codes "{" ++ (section_text section ++ codes "}")
+within section (Some place) =
+    codes "{" ++ (section_text section ++ (codes "," ++ (segment_text place ++ codes "}")))
+
+abbrev pub place_text : List ℕ → Option SegmentPlace → List ℕ
+place_text section place = cond (length section == 0) (outside place) (within section place)
+
+abbrev pub place_of : Verdict → List ℕ
+place_of (verdict.Refused why) = place_text why.fault.section why.fault.place
+place_of v = codes "null"
+
+-- where it is in the text of the map: the line and the column, from 1, and the range of bytes
+abbrev pub point_text : TextPlace → List ℕ
+point_text place = codes ",\"line\":" ++ (decimal place.point.line ++ (codes ",\"column\":"
+    ++ (decimal place.point.column ++ (codes ",\"range\":[" ++ (decimal place.range.start ++ (codes ","
+    ++ (decimal place.range.end ++ codes "]")))))))
+
+abbrev pub text_place : Option TextPlace → List ℕ
+text_place place = option_map_or point_text place (codes ",\"line\":null,\"column\":null,\"range\":null")
+
+abbrev pub text_place_of : Verdict → List ℕ
+text_place_of (verdict.Refused why) = text_place why.place
+text_place_of v = text_place None
+
+-- what a rewrite drops, where the command can rewrite
+abbrev pub drops_text : Bool → List (List ℕ) → List ℕ
+drops_text rewrites drops = cond rewrites
+    (codes ",\"drops\":" ++ compact_text (array (items_of (map string drops)))) []
+
+abbrev pub json_line : List ℕ → Outcome → Bool → List ℕ
+json_line path outcome rewrites = codes "{\"path\":" ++ (json_text path ++ (codes ",\"status\":\""
+    ++ (name outcome.verdict ++ (codes "\",\"fault\":" ++ (fault_text outcome.verdict
+    ++ (codes ",\"place\":" ++ (place_of outcome.verdict ++ (text_place_of outcome.verdict
+    ++ (drops_text rewrites (map string_bytes outcome.drops.items) ++ codes "}")))))))))

@@ -1,0 +1,55 @@
+//! Where in its text a map is refused.
+ghost use Rattle.std.specs.Prelude.{IfOk, IfSome};
+ghost use Rattle.smap_mapper.specs.Judging.{IsJudgedFor, IsPlaceOf, IsRefusedFor};
+
+use crate::outcome::{Failure, Refusal, Start, TextPlace, Verdict};
+use smap_ranges::{point_of, range_of};
+use smap_record::{Fault, ReadError};
+use std::alloc::{AllocError, Global};
+
+fn start_of(bytes: &[u8]) -> Start {
+    if bytes.starts_with(b"\xef\xbb\xbf") {
+        Start::Mark
+    } else if bytes.starts_with(b"\x1f\x8b") {
+        Start::Gzip
+    } else {
+        Start::Other
+    }
+}
+
+/// Where in the text of a map its fault is.
+fn place_in(alloc: Global, bytes: &[u8], fault: &Fault) -> Result<Option<TextPlace>, AllocError>
+    ensures { IfOk result (λ o. IfSome o (IsPlaceOf bytes.now fault.now)) }
+{
+    match range_of(alloc, bytes, fault)? {
+        Some(range) => Ok(Some(TextPlace {
+            range,
+            point: point_of(bytes, range.start),
+        })),
+        None => Ok(None),
+    }
+}
+
+/// What a map with these bytes is that is refused for this fault.
+pub(crate) fn refused_for(alloc: Global, bytes: &[u8], fault: Fault) -> Verdict
+    ensures { IsRefusedFor bytes.now fault result }
+{
+    match place_in(alloc, bytes, &fault) {
+        Ok(place) => Verdict::Refused(Refusal {
+            fault,
+            start: start_of(bytes),
+            place,
+        }),
+        Err(_) => Verdict::Failed(Failure::Memory),
+    }
+}
+
+/// What a map with these bytes is that isn't read.
+pub(crate) fn unread(alloc: Global, bytes: &[u8], error: ReadError) -> Verdict
+    ensures { IsJudgedFor bytes.now error result }
+{
+    match error {
+        ReadError::Refused(fault) => refused_for(alloc, bytes, fault),
+        ReadError::Memory => Verdict::Failed(Failure::Memory),
+    }
+}
