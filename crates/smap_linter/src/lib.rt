@@ -15,6 +15,7 @@ mod scripts;
 mod sources;
 #[cfg(test)]
 mod tests;
+mod wording;
 
 pub use asked::LintAsked;
 pub use program::lint;

@@ -1,6 +1,7 @@
 //! What a map says beside its mappings, and what it lists in vain.
 use crate::book::Book;
 use crate::pairs::Pair;
+use crate::wording::{counted, example, one_or_more, some_of};
 use serde_json::Value;
 use smap_host::shown;
 use smap_lint::{
@@ -45,6 +46,23 @@ fn lint_ids(
     book.add(Check::DebugId, pair.file, message)
 }
 
+/// Notes that so many sources are named by paths of a machine.
+fn add_machine_paths(
+    alloc: Global,
+    book: &mut Book,
+    pair: &Pair<'_>,
+    count: usize,
+    first: &str,
+) -> Result<(), AllocError> {
+    let sources = counted(alloc, count, "source")?;
+    let paths = one_or_more(count, "a path", "paths");
+    let example = example(alloc, count, first)?;
+    let message = format!(in alloc;
+        "names {sources} by {paths} of the machine that built it{example}"
+    )?;
+    book.add(Check::MachinePath, pair.file, message)
+}
+
 fn lint_paths(
     alloc: Global,
     book: &mut Book,
@@ -57,11 +75,7 @@ fn lint_paths(
         book.add(Check::AbsoluteRoot, pair.file, message)?;
     }
     if let Some(first) = &paths.machine_path {
-        let (first, count) = (first.as_str(), paths.machine_paths);
-        let message = format!(in alloc;
-            "sources by paths of the machine that built it: {count}, as {first}"
-        )?;
-        book.add(Check::MachinePath, pair.file, message)?;
+        add_machine_paths(alloc, book, pair, paths.machine_paths, first.as_str())?;
     }
     Ok(())
 }
@@ -101,6 +115,39 @@ fn lint_name(
     book.add(Check::OtherFile, pair.file, message)
 }
 
+/// Notes sources that are listed more than once.
+fn lint_sources_listed(
+    alloc: Global,
+    book: &mut Book,
+    pair: &Pair<'_>,
+    map: &SourceMap,
+) -> Result<(), AllocError> {
+    let (count, total) = (repeated_count(map), map.listed_count());
+    if count == 0 {
+        return Ok(());
+    }
+    let sources = some_of(alloc, count, total, "source")?;
+    let message = format!(in alloc; "repeats {sources}")?;
+    book.add(Check::RepeatedSource, pair.file, message)
+}
+
+/// Notes names that nothing uses.
+fn lint_names_listed(
+    alloc: Global,
+    book: &mut Book,
+    pair: &Pair<'_>,
+    map: &SourceMap,
+) -> Result<(), AllocError> {
+    let (count, total) = (unused_count(alloc, map)?, map.name_count());
+    if count == 0 {
+        return Ok(());
+    }
+    let names = some_of(alloc, count, total, "name")?;
+    let has = one_or_more(count, "has", "have");
+    let message = format!(in alloc; "{names} {has} no mapping")?;
+    book.add(Check::UnusedName, pair.file, message)
+}
+
 /// Lints what a map lists.
 pub(crate) fn lint_lists(
     alloc: Global,
@@ -109,15 +156,6 @@ pub(crate) fn lint_lists(
     map: &SourceMap,
 ) -> Result<(), AllocError> {
     lint_name(alloc, book, pair, map)?;
-    let (repeated, listed) = (repeated_count(map), map.listed_count());
-    if repeated > 0 {
-        let message = format!(in alloc; "{repeated} of {listed} sources are listed before")?;
-        book.add(Check::RepeatedSource, pair.file, message)?;
-    }
-    let (unused, listed) = (unused_count(alloc, map)?, map.name_count());
-    if unused > 0 {
-        let message = format!(in alloc; "{unused} of {listed} names have no mapping")?;
-        book.add(Check::UnusedName, pair.file, message)?;
-    }
-    Ok(())
+    lint_sources_listed(alloc, book, pair, map)?;
+    lint_names_listed(alloc, book, pair, map)
 }

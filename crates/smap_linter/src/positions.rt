@@ -1,6 +1,7 @@
 //! Positions of a map that its script or its sources don't have.
 use crate::book::Book;
 use crate::pairs::Pair;
+use crate::wording::{counted, one_or_more, some_of};
 use smap_lint::{
     Check, content_widths, count_originals_past_end, count_past_end, first_original_past_end,
     first_past_end, has_separator, line_widths, mapped_units, unit_count,
@@ -21,13 +22,13 @@ fn add_generated(
     };
     let (count, total) = (count_past_end(map, widths), map.token_count());
     let (line, column) = (u64::from(first.line) + 1, u64::from(first.column) + 1);
-    let lines = widths.len();
-    let what = format!(in alloc;
-        "{count} of {total} mappings are past the end of the script or its lines"
-    )?;
-    let what = what.as_str();
+    let mappings = some_of(alloc, count, total, "mapping")?;
+    let are = one_or_more(count, "is", "are");
+    let what = format!(in alloc; "{mappings} {are} past the end of the script or its lines")?;
+    let at = one_or_more(count, "at", "the first at");
+    let lines = counted(alloc, widths.len(), "line")?;
     let message = format!(in alloc;
-        "{what}, the first at line {line}, column {column} (the script has {lines} lines)"
+        "{what}, {at} line {line}, column {column} (the script has {lines})"
     )?;
     book.add(Check::GeneratedPastEnd, pair.file, message)
 }
@@ -50,7 +51,7 @@ fn add_few(
         return Ok(());
     }
     let message = format!(in alloc;
-        "{share} percent of the script have an original, below {least}"
+        "{share} percent of the script has an original, below {least}"
     )?;
     book.add(Check::FewMapped, pair.file, message)
 }
@@ -97,12 +98,12 @@ pub(crate) fn lint_originals(
     };
     let (line, column) = (u64::from(original.line) + 1, u64::from(original.column) + 1);
     let source = original.source.url.unwrap_or("a source without a URL");
+    let mappings = some_of(alloc, count, total, "mapping")?;
+    let lead = one_or_more(count, "leads", "lead");
     let what = format!(in alloc;
-        "{count} of {total} mappings lead past the end of a source's content or its lines"
+        "{mappings} {lead} past the end of a source's content or its lines"
     )?;
-    let what = what.as_str();
-    let message = format!(in alloc;
-        "{what}, the first to line {line}, column {column} of {source}"
-    )?;
+    let to = one_or_more(count, "to", "the first to");
+    let message = format!(in alloc; "{what}, {to} line {line}, column {column} of {source}")?;
     book.add(Check::OriginalPastEnd, pair.file, message)
 }

@@ -2,6 +2,7 @@
 use crate::book::Book;
 use crate::folder::{Folder, LIMIT};
 use crate::pairs::Pair;
+use crate::wording::{example, one_or_more, some_of};
 use smap_disk::{Disk, FileFault, Kind, read_file};
 use smap_host::Host;
 use smap_link::{PathFault, file_path, script_url};
@@ -116,9 +117,10 @@ fn add_missing(
     if count == 0 {
         return Ok(());
     }
-    let message = format!(in alloc;
-        "{count} of {total} sources have neither content nor file, as {first}"
-    )?;
+    let sources = some_of(alloc, count, total, "source")?;
+    let example = example(alloc, count, first)?;
+    let has = one_or_more(count, "has", "have");
+    let message = format!(in alloc; "{sources} {has} neither content nor file{example}")?;
     book.add(Check::MissingSource, pair.file, message)
 }
 
@@ -133,9 +135,10 @@ fn add_stale(
     if count == 0 {
         return Ok(());
     }
-    let message = format!(in alloc;
-        "{count} of {total} sources have another content than their files, as {first}"
-    )?;
+    let sources = some_of(alloc, count, total, "source")?;
+    let example = example(alloc, count, first)?;
+    let files = one_or_more(count, "its file", "their files");
+    let message = format!(in alloc; "the content of {sources} differs from {files}{example}")?;
     book.add(Check::StaleContent, pair.file, message)
 }
 
