@@ -8,7 +8,8 @@ use Rattle.clap.specs.declared.error.kind.ErrorKind.TheVariants as error
 use Rattle.smap_maps_words.specs.Line.{maps}
 use Rattle.smap_maps_words.specs.Options.{option_fault}
 use Rattle.smap_maps_words.specs.Rows.{is_set, values_of}
-use Rattle.smap_maps_words.specs.Values.{HasJobs, IsFormatOf, IsJobs, IsPercent, IsPercentOf, format_named}
+use Rattle.smap_report.specs.Formats.{format_named}
+use Rattle.smap_maps_words.specs.Values.{HasJobs, IsFormatOf, IsJobs, IsPercent, IsPercentOf}
 use Rattle.smap_maps_words.specs.Values.{rule_meant, wanted_view}
 use Rattle.smap_maps_words.specs.declared.fault.WordFault.{WordFault}
 use Rattle.smap_maps_words.specs.declared.fault.WordFault.TheVariants as fault

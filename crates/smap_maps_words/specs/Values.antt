@@ -5,12 +5,13 @@ use Rattle.std.specs.List.{after_first, before_first, position_or_len}
 use Rattle.std.specs.Str.{bytes_eq}
 use Rattle.std.specs.Str.Parse.{IsNumeral, digits_value, without_leading_plus}
 use Rattle.clap.specs.Words.{Text}
+use Rattle.smap_report.specs.Findings.{level_named}
+use Rattle.smap_report.specs.Formats.{format_named}
+use Rattle.smap_report.specs.declared.findings.Level.{Level}
+use Rattle.smap_report.specs.declared.formats.Format.{Format}
+use Rattle.smap_report.specs.declared.formats.Format.TheVariants as format
 use Rattle.smap_maps_words.specs.declared.fault.WordFault.{WordFault}
 use Rattle.smap_maps_words.specs.declared.fault.WordFault.TheVariants as faults
-use Rattle.smap_maps_words.specs.declared.levels.Format.{Format}
-use Rattle.smap_maps_words.specs.declared.levels.Format.TheVariants as format
-use Rattle.smap_maps_words.specs.declared.levels.Level.{Level}
-use Rattle.smap_maps_words.specs.declared.levels.Level.TheVariants as level
 use Rattle.smap_maps_words.specs.declared.levels.RuleLevel.{RuleLevel}
 
 -- ---- numbers
@@ -42,15 +43,6 @@ IsPercentOf given n = ⊥
 
 -- ---- formats
 
-abbrev pub format_named : Text → Option Format
-format_named name =
-    if bytes_eq name (codes "text") then Some format.Text else
-    (if bytes_eq name (codes "gnu") then Some format.Gnu else
-    (if bytes_eq name (codes "github") then Some format.Github else
-    (if bytes_eq name (codes "sarif") then Some format.Sarif else
-    (if bytes_eq name (codes "junit") then Some format.Junit else
-    (if bytes_eq name (codes "json") then Some format.Json else None)))))
-
 -- Text, where nothing is said.
 abbrev pub IsFormatOf : Option Text → Format → Type 0
 IsFormatOf None f = f ≡ format.Text
@@ -58,12 +50,9 @@ IsFormatOf (Some name) f = format_named name ≡ Some f
 
 -- ---- levels of rules: NAME=LEVEL, with something for NAME
 
-abbrev pub level_named : Text → Option Level
-level_named name =
-    if bytes_eq name (codes "off") then Some level.Off else
-    (if bytes_eq name (codes "note") then Some level.Note else
-    (if bytes_eq name (codes "warning") then Some level.Warning else
-    (if bytes_eq name (codes "error") then Some level.Error else None)))
+-- the level that a word sets, or that it sets the rule off
+abbrev pub level_set : Text → Option (Option Level)
+level_set word = if bytes_eq word (codes "off") then Some None else option_map Some (level_named word)
 
 abbrev pub is_equals : ℕ → Bool
 is_equals b = b == 61
@@ -75,16 +64,16 @@ has_equals word = nat_lt (position_or_len is_equals word) (length word)
 abbrev pub is_named : Text → Bool
 is_named word = has_equals word && not (length (before_first is_equals word) == 0)
 
-abbrev pub rule_meant : Text → Option (Text × Level)
+abbrev pub rule_meant : Text → Option (Text × Option Level)
 rule_meant word =
     if is_named word then
-    option_map (λ (l : Level). (before_first is_equals word, l)) (level_named (after_first is_equals word))
+    option_map (λ (l : Option Level). (before_first is_equals word, l)) (level_set (after_first is_equals word))
     else None
 
-abbrev pub rule_view : RuleLevel → Text × Level
+abbrev pub rule_view : RuleLevel → Text × Option Level
 rule_view r = (r.rule.now, r.level)
 
-abbrev pub wanted_view : RuleLevel → Option (Text × Level)
+abbrev pub wanted_view : RuleLevel → Option (Text × Option Level)
 wanted_view r = Some (rule_view r)
 
 abbrev pub IsRuleFaultOf : Text → WordFault → Type 0

@@ -1,29 +1,11 @@
-//! What `lint` is told: how its findings are written, and how much each rule counts.
-
-/// How findings are written.
-#[derive(Clone, Copy, Debug, PartialEq, Eq)]
-pub enum Format {
-    Text,
-    Gnu,
-    Github,
-    Sarif,
-    Junit,
-    Json,
-}
-
-/// How much a rule counts.
-#[derive(Clone, Copy, Debug, PartialEq, Eq)]
-pub enum Level {
-    Off,
-    Note,
-    Warning,
-    Error,
-}
+//! How much each rule of `lint` counts.
+use smap_report::Level;
 
 /// How much one rule counts.
 #[derive(Clone, Copy, Debug, PartialEq, Eq)]
 pub struct RuleLevel<'a> {
     /// What stands before the first `=` of the word; never empty. Whether there is such a rule isn't looked at.
     pub rule: &'a str,
-    pub level: Level,
+    /// The level of what it finds; none where it is off.
+    pub level: Option<Level>,
 }

@@ -3,6 +3,7 @@
 use crate::fault::WordFault;
 use crate::kinds::{Kind, Opt, OptionFault};
 use clap::Error;
+use smap_report::{FORMAT_WORDS, LEVEL_WORDS};
 use std::alloc::{AllocError, Global};
 
 /// What `clap` says, without its usage and its tips.
@@ -90,11 +91,9 @@ pub fn message(alloc: Global, fault: &WordFault<'_>) -> Result<String, AllocErro
         WordFault::Options(kind, fault) => options_text(alloc, *kind, *fault),
         WordFault::Jobs("") => String::from_str(alloc, "--jobs needs a number from 1"),
         WordFault::Jobs(word) => format!(in alloc; "--jobs needs a number from 1: {word}"),
-        WordFault::Format(word) => {
-            format!(in alloc; "--format is text, gnu, github, sarif, junit or json: {word}")
-        }
+        WordFault::Format(word) => { format!(in alloc; "--format is {FORMAT_WORDS}: {word}") }
         WordFault::Rule(word) => {
-            format!(in alloc; "--rule is NAME=off, =note, =warning or =error: {word}")
+            format!(in alloc; "--rule is NAME=LEVEL, and LEVEL is off, {LEVEL_WORDS}: {word}")
         }
         WordFault::Percent(word) => {
             format!(in alloc; "--min-mapped needs a number from 0 to 100: {word}")

@@ -7,11 +7,12 @@ ghost use Rattle.smap_maps_words.specs.Request.{kind_named, kind_asked, rewrite_
 use crate::command::{is_set, maps_command, text_in, texts_in};
 use crate::fault::WordFault;
 use crate::kinds::Kind;
-use crate::levels::{Format, RuleLevel};
+use crate::levels::RuleLevel;
 use crate::options::check_options;
 use crate::values::{check_jobs, format_in, percent_in, rules_in};
 use clap::error::ErrorKind;
 use clap::{ArgMatches, Error};
+use smap_report::Format;
 use std::alloc::Global;
 
 /// What becomes of a map that would change.

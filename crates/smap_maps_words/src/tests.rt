@@ -1,6 +1,7 @@
 use crate::{
-    Asked, Format, HELP, Level, MapsWords, Rewrite, RuleLevel, Task, VERSION, maps_words, message,
+    Asked, Format, HELP, MapsWords, Rewrite, RuleLevel, Task, VERSION, maps_words, message,
 };
+use smap_report::{FORMAT_WORDS, LEVEL_WORDS};
 use std::alloc::Global;
 use std::process::Abort;
 use std::test::Fail;
@@ -65,7 +66,7 @@ fn linting(rt: HostRuntime) -> Result<(), Fail> {
     assert_eq!(rt; *min_mapped, Some(90));
     let rule = RuleLevel {
         rule: "no-content",
-        level: Level::Off,
+        level: None,
     };
     assert_eq!(rt; rules.as_slice(), [rule].as_slice());
     Ok(())
@@ -99,6 +100,7 @@ fn requests(rt: HostRuntime) -> Result<(), Fail> {
     let words = ["smap-maps", "-h"];
     assert!(rt; matches!(maps_words(rt.alloc(), words.as_slice()), Ok(Asked::Help)));
     assert!(rt; HELP.starts_with("Usage: smap-maps check [--base URL]"));
+    assert!(rt; HELP.contains(FORMAT_WORDS) && HELP.contains(LEVEL_WORDS));
     assert_eq!(rt; VERSION, "smap 0.2.0\n");
     Ok(())
 }

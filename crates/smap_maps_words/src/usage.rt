@@ -37,8 +37,8 @@ Checks, tidies, flattens, lints or repairs source maps: files, and each *.map in
   -h, --help  Print help
 
 Status: 0 done: no map would change, or --write has rewritten those that would; 1 a map is refused, would
-change or lose a member, or lint finds an error; 2 the command line is wrong; 3 a file can't be read or written; 4 out of memory; 141
-nobody reads the output any more.
+change or lose a member, or lint finds an error; 2 the command line is wrong; 3 a file can't be read or
+written; 4 out of memory; 141 nobody reads the output any more.
 ";
 
 /// The number of the release.

@@ -7,8 +7,9 @@ ghost use Rattle.smap_maps_words.specs.Request.{IsValueFault, IsRuleFault, forma
 
 use crate::command::text_in;
 use crate::fault::WordFault;
-use crate::levels::{Format, Level, RuleLevel};
+use crate::levels::RuleLevel;
 use clap::ArgMatches;
+use smap_report::{Format, Level, format_named, level_named};
 use std::alloc::Global;
 
 /// The count that this is.
@@ -49,21 +50,6 @@ pub(crate) fn percent_in<'a>(matches: &ArgMatches<'a>) -> Result<Option<u32>, Wo
     }
 }
 
-/// The format with this name.
-fn format_named(name: &str) -> Option<Format>
-    ensures { result ≡ spec.format_named name.now }
-{
-    match name {
-        "text" => Some(Format::Text),
-        "gnu" => Some(Format::Gnu),
-        "github" => Some(Format::Github),
-        "sarif" => Some(Format::Sarif),
-        "junit" => Some(Format::Junit),
-        "json" => Some(Format::Json),
-        _ => None,
-    }
-}
-
 /// How findings are written: as text, if nothing is said.
 pub(crate) fn format_in<'a>(matches: &ArgMatches<'a>) -> Result<Format, WordFault<'a>>
     ensures value { IfOk result (spec.IsFormatOf (format_of (rows_of (found_of matches.now)))) }
@@ -78,16 +64,16 @@ pub(crate) fn format_in<'a>(matches: &ArgMatches<'a>) -> Result<Format, WordFaul
     }
 }
 
-/// The level with this name.
-fn level_named(name: &str) -> Option<Level>
-    ensures { result ≡ spec.level_named name.now }
+/// The level that this word sets; none where it sets a rule off.
+fn level_set(word: &str) -> Option<Option<Level>>
+    ensures { result ≡ spec.level_set word.now }
 {
-    match name {
-        "off" => Some(Level::Off),
-        "note" => Some(Level::Note),
-        "warning" => Some(Level::Warning),
-        "error" => Some(Level::Error),
-        _ => None,
+    if word == "off" {
+        return Some(None);
+    }
+    match level_named(word) {
+        Some(level) => Some(Some(level)),
+        None => None,
     }
 }
 
@@ -99,7 +85,7 @@ fn rule_in(word: &str) -> Option<RuleLevel<'_>>
     if rule.is_empty() {
         return None;
     }
-    let level = level_named(name)?;
+    let level = level_set(name)?;
     Some(RuleLevel { rule, level })
 }
 

@@ -1,5 +1,5 @@
 -- What findings say, in words.
-use Rattle.std.specs.Prelude.{ℕ, Bool, true, false, List, codes}
+use Rattle.std.specs.Prelude.{ℕ, Bool, true, false, List, bytes_eq, codes, Option, Some, None, if◌then◌else◌}
 use Rattle.std.specs.List.{list_any, slice_get}
 use Rattle.std.specs.Option.{option_map_or}
 use Rattle.smap_report.specs.declared.findings.Finding.{Finding}
@@ -11,6 +11,13 @@ abbrev pub level_word : Level → List ℕ
 level_word Note = codes "note"
 level_word Warning = codes "warning"
 level_word Error = codes "error"
+
+-- the level that a word names
+abbrev pub level_named : List ℕ → Option Level
+level_named word =
+    if bytes_eq word (level_word Note) then Some Note else
+    (if bytes_eq word (level_word Warning) then Some Warning else
+    (if bytes_eq word (level_word Error) then Some Error else None))
 
 abbrev pub is_error : Level → Bool
 is_error Note = false

@@ -65,6 +65,24 @@ pub(crate) fn level_word(level: Level) -> &'static str
     }
 }
 
+/// The words that name the levels, as a message lists them.
+pub const LEVEL_WORDS: &str = "note, warning or error";
+
+/// The level that a word names.
+pub fn level_named(word: &str) -> Option<Level>
+    ensures { result ≡ spec.level_named word.now }
+{
+    if word == level_word(Level::Note) {
+        Some(Level::Note)
+    } else if word == level_word(Level::Warning) {
+        Some(Level::Warning)
+    } else if word == level_word(Level::Error) {
+        Some(Level::Error)
+    } else {
+        None
+    }
+}
+
 /// The name of the rule with this number, or `unknown` where the list has none.
 pub(crate) fn rule_name(rules: &[Rule], number: usize) -> &'static str
     ensures { result.now ≡ spec.rule_name rules.now number }

@@ -20,7 +20,7 @@ pub enum Format {
 }
 
 /// The words that name the forms, as a message lists them.
-pub const FORMAT_WORDS: &str = "text, gnu, github, sarif, junit, json";
+pub const FORMAT_WORDS: &str = "text, gnu, github, sarif, junit or json";
 
 /// The form that a word names.
 pub fn format_named(word: &str) -> Option<Format>

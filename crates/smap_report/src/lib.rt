@@ -15,6 +15,6 @@ mod tests;
 mod text;
 mod words;
 
-pub use findings::{Finding, Level, Point, Report, Rule, has_error};
+pub use findings::{Finding, LEVEL_WORDS, Level, Point, Report, Rule, has_error, level_named};
 pub use formats::{FORMAT_WORDS, Format, format_named};
 pub use reports::report_text;

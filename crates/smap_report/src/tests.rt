@@ -1,7 +1,8 @@
 //! Lines as the documents of others have them.
 
 use crate::{
-    FORMAT_WORDS, Finding, Format, Level, Point, Report, Rule, format_named, has_error, report_text,
+    FORMAT_WORDS, Finding, Format, LEVEL_WORDS, Level, Point, Report, Rule, format_named,
+    has_error, level_named, report_text,
 };
 use std::alloc::{AllocError, Global};
 use std::test::Fail;
@@ -81,9 +82,16 @@ fn escapes_of_the_toolkit(rt: HostRuntime) -> Result<(), Fail> {
 }
 
 #[test]
-fn each_listed_word_names_a_form(rt: HostRuntime) {
-    for word in FORMAT_WORDS.split(", ") {
-        assert!(rt; format_named(word).is_some());
+fn each_listed_word_names_a_form_or_a_level(rt: HostRuntime) {
+    for words in FORMAT_WORDS.split(" or ") {
+        for word in words.split(", ") {
+            assert!(rt; format_named(word).is_some());
+        }
+    }
+    for words in LEVEL_WORDS.split(" or ") {
+        for word in words.split(", ") {
+            assert!(rt; level_named(word).is_some());
+        }
     }
     assert!(rt; !has_error(&[]));
 }
