@@ -1,0 +1,74 @@
+use crate::{Asked, HELP, SizesForm, VERSION, ViewWords, message, view_words};
+use std::alloc::Global;
+use std::process::Abort;
+use std::test::Fail;
+
+/// The values of words that are right.
+fn asked<'a>(alloc: Global, words: &'a [&'a str]) -> Result<ViewWords<'a>, Fail> {
+    match view_words(alloc, words) {
+        Ok(Asked::View(asked)) => Ok(asked),
+        Ok(_) => Err(Fail::from("help or the version")),
+        Err(fault) => Err(Fail::from(message(alloc, &fault)?.as_str())),
+    }
+}
+
+#[test]
+fn options(rt: HostRuntime) -> Result<(), Fail> {
+    let words = [
+        "smap-view",
+        "--base=http://h/m/",
+        "-o",
+        "page.html",
+        "--sizes",
+        "tsv",
+        "--budget=b.json",
+        "--",
+        "-x.map",
+        "x.js",
+    ];
+    let asked = asked(rt.alloc(), words.as_slice())?;
+    assert_eq!(rt; asked.base, Some("http://h/m/"));
+    assert_eq!(rt; asked.output, Some("page.html"));
+    assert_eq!(rt; asked.sizes, Some(SizesForm::Tsv));
+    assert_eq!(rt; asked.budget, Some("b.json"));
+    assert_eq!(rt; asked.file, "-x.map");
+    assert_eq!(rt; asked.script, Some("x.js"));
+    Ok(())
+}
+
+/// Words behind the name of the program, and what is said of them.
+fn says(rt: &(impl Abort + AllocGlobal), words: [&str; 4], text: &str) -> Result<(), Fail> {
+    let said = match view_words(rt.alloc(), words.as_slice()) {
+        Ok(_) => String::from_str(rt.alloc(), "nothing")?,
+        Err(fault) => message(rt.alloc(), &fault)?,
+    };
+    assert_eq!(rt; said.as_str(), text);
+    Ok(())
+}
+
+#[test]
+fn faults(rt: HostRuntime) -> Result<(), Fail> {
+    says(
+        &rt,
+        ["", "a", "b", "c"],
+        "more than a map and its script: c",
+    )?;
+    says(&rt, ["", "a", "b", "--base"], "--base needs a URL")?;
+    says(&rt, ["", "a", "b", "-o"], "-o needs a file")?;
+    says(&rt, ["", "a", "b", "--what"], "no such option: --what")?;
+    says(
+        &rt,
+        ["", "a", "--sizes", "csv"],
+        "--sizes is table, tsv or json: csv",
+    )?;
+    Ok(())
+}
+
+#[test]
+fn requests(rt: HostRuntime) -> Result<(), Fail> {
+    let words = ["smap-view", "-h"];
+    assert!(rt; matches!(view_words(rt.alloc(), words.as_slice()), Ok(Asked::Help)));
+    assert!(rt; HELP.starts_with("Usage: smap-view [--base URL]"));
+    assert_eq!(rt; VERSION, "smap 0.2.0\n");
+    Ok(())
+}

@@ -1,0 +1,41 @@
+//! The texts of `--help` and `--version`.
+
+/// What `--help` prints. It is printed on standard error where no argument is given.
+pub const HELP: &str = "\
+Usage: smap-view [--base URL] [-o FILE] MAP|SCRIPT|FOLDER [SCRIPT] >page.html
+       smap-view [--base URL] --sizes FORMAT [--budget FILE] MAP|SCRIPT|FOLDER [SCRIPT]
+
+Writes an HTML page to look at a source map: the script beside its sources with each mapping coloured, and how
+many bytes of the script come from which source. The page holds all that it shows, and requests nothing.
+
+  MAP         The source map
+  SCRIPT      The script, or another text that MAP belongs to. By default a file beside MAP: the one that is
+              called as the map's `file`, or as MAP without .map. Given alone, a script (*.js, *.mjs, *.cjs or
+              *.css) is followed to its map: the one that it names or holds, or the one called SCRIPT.map
+  FOLDER      All scripts in it and below that have a map, in one page with a list of them
+
+  --base URL  The map's URL is URL/ and its name, instead of the file: URL of the file; that of a map in a
+              folder is URL/ and its path below the folder
+  -o FILE     Write the page to FILE, which appears once it is whole
+  --sizes FORMAT
+              Write no page, but the bytes and mappings of each source: table, tsv or json
+  --budget FILE
+              Fail where sources have more bytes than FILE allows, a JSON object such as
+              {\"node_modules/\": 50000}: the most bytes of all sources whose URL holds a name; that of the
+              whole script for an empty name. Without --sizes nothing else is written
+  -V, --version
+              Print the version
+  -h, --help  Print help
+
+If the map is refused, the page has the error and the part of the map where it is.
+
+Status: 0 done; 1 a map is refused, or there are more bytes than the budget allows; 2 the command line is
+wrong, or there is no script or no map; 3 a file can't be read, or the output can't be written; 4 out of
+memory; 141 nobody reads the output any more.
+";
+
+/// The number of the release.
+pub const NUMBER: &str = "0.2.0";
+
+/// What `--version` prints.
+pub const VERSION: &str = "smap 0.2.0\n";
