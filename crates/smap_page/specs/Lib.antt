@@ -1,0 +1,3 @@
+pub mod Embedding
+pub mod Numbers
+pub mod Steps
