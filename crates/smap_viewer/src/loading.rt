@@ -1,0 +1,238 @@
+//! A map and its script, read.
+use crate::bases::{file_url_of, folder_url};
+use crate::files::{parted, read_named, text_of};
+use crate::links::{Home, Link, link_of};
+use crate::refusals::{hint, place_of};
+use crate::scripts::script_of;
+use serde_json::Value;
+use smap_disk::Disk;
+use smap_host::{Host, Stop};
+use smap_link::{FileKind, file_kind};
+use smap_record::{Base, BaseFault, Fault, Limits, ReadError, SourceMap};
+
+/// What is to be looked at.
+#[derive(Clone, Copy)]
+pub(crate) enum Item<'a> {
+    /// A map, and its script if that is named.
+    Map {
+        path: &'a str,
+        script: Option<&'a str>,
+    },
+    /// A script, in this folder or below it.
+    Script {
+        folder: &'a str,
+        name: &'a str,
+    },
+}
+
+/// What there is to show of a map.
+#[derive(Drop)]
+pub(crate) enum Content {
+    /// The map and its script.
+    Map(SourceMap, String),
+    /// The fault, and its place or null.
+    Refused(String, Value),
+}
+
+/// A map that was read, and what it and its script are called.
+#[derive(Drop)]
+pub(crate) struct Loaded {
+    /// The name of the map's file.
+    pub(crate) map: String,
+    pub(crate) url: String,
+    /// The name of the script's file; empty where the map is refused.
+    pub(crate) script: String,
+    pub(crate) content: Content,
+}
+
+/// The bytes of a map, and where they come from.
+#[derive(Drop)]
+struct Found {
+    /// The path of the file that holds it, as messages have it.
+    path: String,
+    name: String,
+    url: String,
+    bytes: Vec<u8>,
+}
+
+/// A script that was read before its map.
+#[derive(Drop)]
+struct Script {
+    path: String,
+    bytes: Vec<u8>,
+}
+
+/// Says why a map is refused.
+fn refuse_map<E: Eprint + AllocGlobal, D: Disk>(
+    host: &Host<'_, E, D>,
+    found: Found,
+    fault: &Fault,
+) -> Result<Loaded, Stop> {
+    let alloc = host.alloc();
+    let error = format!(in alloc; "{fault}")?;
+    let (path, text, hint) = (
+        found.path.as_str(),
+        error.as_str(),
+        hint(&found.bytes, fault),
+    );
+    let said = format!(in alloc; "{path}: {text}{hint}")?;
+    host.say(said.as_str());
+    let place = place_of(alloc, &found.bytes, fault)?;
+    Ok(Loaded {
+        map: found.name,
+        url: found.url,
+        script: String::new(alloc),
+        content: Content::Refused(error, place),
+    })
+}
+
+fn base_of<E: Eprint + AllocGlobal, D: Disk>(
+    host: &Host<'_, E, D>,
+    found: &Found,
+) -> Result<Base, Stop> {
+    match Base::new(host.alloc(), found.url.as_str()) {
+        Ok(base) => Ok(base),
+        Err(BaseFault::Memory) => Err(Stop::Memory),
+        Err(BaseFault::NotUrl) => Err(host.fail_with(1, found.path.as_str(), "base is no URL")),
+    }
+}
+
+/// The script: the one that was read before, or that is named, or beside the map.
+fn script_for<E: Eprint + AllocGlobal, D: Disk>(
+    host: &Host<'_, E, D>,
+    map_path: &str,
+    map: &SourceMap,
+    script: Option<Script>,
+    named: Option<&str>,
+) -> Result<Script, Stop> {
+    let alloc = host.alloc();
+    if let Some(script) = script {
+        return Ok(script);
+    }
+    let path = match named {
+        Some(path) => String::from_str(alloc, path)?,
+        None => script_of(host, map_path, map)?,
+    };
+    let bytes = read_named(host, path.as_str())?;
+    Ok(Script { path, bytes })
+}
+
+/// Reads a map that was found, and its script.
+fn load_found<E: Eprint + AllocGlobal, D: Disk>(
+    host: &Host<'_, E, D>,
+    found: Found,
+    script: Option<Script>,
+    named: Option<&str>,
+) -> Result<Loaded, Stop> {
+    let alloc = host.alloc();
+    let base = base_of(host, &found)?;
+    let map = match SourceMap::from_slice(alloc, &found.bytes, &base, Limits::usual()) {
+        Ok(map) => map,
+        Err(ReadError::Memory) => return Err(Stop::Memory),
+        Err(ReadError::Refused(fault)) => return refuse_map(host, found, &fault),
+    };
+    let Script { path, bytes } = script_for(host, found.path.as_str(), &map, script, named)?;
+    let name = String::from_str(alloc, parted(path.as_str()).1)?;
+    let text = text_of(host, path.as_str(), bytes)?;
+    Ok(Loaded {
+        map: found.name,
+        url: found.url,
+        script: name,
+        content: Content::Map(map, text),
+    })
+}
+
+/// The map in a file.
+fn found_in<E: Eprint + AllocGlobal, D: Disk>(
+    host: &Host<'_, E, D>,
+    folder: &str,
+    folder_url: &[u8],
+    name: &str,
+) -> Result<Found, Stop> {
+    let alloc = host.alloc();
+    let path = format!(in alloc; "{folder}{name}")?;
+    let bytes = read_named(host, path.as_str())?;
+    let url = file_url_of(host, folder_url, name)?;
+    let name = String::from_str(alloc, parted(name).1)?;
+    Ok(Found {
+        path,
+        name,
+        url,
+        bytes,
+    })
+}
+
+/// Says that a script has no map.
+fn fail_alone<E: Eprint + AllocGlobal, D: Disk>(
+    host: &Host<'_, E, D>,
+    path: &str,
+    what: &str,
+) -> Stop {
+    match format!(in host.alloc();
+        "{path}: {what}, and none lies beside it: smap-view MAP SCRIPT names both"
+    ) {
+        Ok(text) => host.fail(2, text.as_str()),
+        Err(_) => Stop::Memory,
+    }
+}
+
+/// Reads the script with this name and its map.
+fn load_script<E: Eprint + AllocGlobal, D: Disk>(
+    host: &Host<'_, E, D>,
+    folder: &str,
+    base: Option<&str>,
+    name: &str,
+) -> Result<Loaded, Stop> {
+    let alloc = host.alloc();
+    let path = format!(in alloc; "{folder}{name}")?;
+    let bytes = read_named(host, path.as_str())?;
+    let url = folder_url(host, base, folder)?;
+    let home = Home {
+        folder,
+        url: &url,
+        name,
+    };
+    let found = match link_of(alloc, host.disk, home, &bytes)? {
+        Link::File(map) => found_in(host, folder, &url, map.as_str())?,
+        Link::Inline(map) => Found {
+            path: String::from_str(alloc, path.as_str())?,
+            name: String::from_str(alloc, parted(name).1)?,
+            url: file_url_of(host, &url, name)?,
+            bytes: map,
+        },
+        Link::Nothing => return Err(fail_alone(host, path.as_str(), "it names no map")),
+        Link::Broken => {
+            let what = "the map that it names isn't here";
+            return Err(fail_alone(host, path.as_str(), what));
+        }
+    };
+    load_found(host, found, Some(Script { path, bytes }), None)
+}
+
+/// Reads what is to be looked at.
+pub(crate) fn load<E: Eprint + AllocGlobal, D: Disk>(
+    host: &Host<'_, E, D>,
+    base: Option<&str>,
+    item: Item<'_>,
+) -> Result<Loaded, Stop> {
+    match item {
+        Item::Script { folder, name } => load_script(host, folder, base, name),
+        Item::Map { path, script } => {
+            let (folder, name) = parted(path);
+            let url = folder_url(host, base, folder)?;
+            let found = found_in(host, folder, &url, name)?;
+            load_found(host, found, None, script)
+        }
+    }
+}
+
+/// What a single file is: a script that is followed to its map, unless a script is named with it.
+pub(crate) fn item_of<'a>(path: &'a str, script: Option<&'a str>) -> Item<'a> {
+    match (file_kind(path.as_bytes()), script) {
+        (FileKind::Script | FileKind::StyleSheet, None) => {
+            let (folder, name) = parted(path);
+            Item::Script { folder, name }
+        }
+        _ => Item::Map { path, script },
+    }
+}

@@ -1,0 +1,262 @@
+//! A run of `smap-view`.
+use crate::bases::base_given;
+use crate::budget::Budget;
+use crate::folders::{scripts_in, with_slash};
+use crate::loading::{Content, Item, Loaded, item_of, load};
+use crate::page::{data_of, write_data};
+use crate::sizing::sizes_text;
+use crate::status::Verdict;
+use crate::template::{parts, read_template};
+use smap_disk::{Disk, Kind, Watched, create_beside};
+use smap_host::{Host, Stop};
+use smap_page::measured;
+use smap_view_words::{Asked, HELP, SizesForm, VERSION, ViewWords, WordFault, message, view_words};
+use std::io::Write;
+
+/// What a run does.
+#[derive(Clone, Copy)]
+struct Job<'a> {
+    /// The URL of the folder, with a slash at its end, if one is given.
+    base: Option<&'a str>,
+    items: &'a [Item<'a>],
+}
+
+/// Writes the page into its template, and answers whether a map was refused.
+fn write_page<E: Eprint + AllocGlobal, D: Disk, W: Write>(
+    host: &Host<'_, E, D>,
+    job: &Job<'_>,
+    template: &str,
+    writer: &mut Watched<W>,
+) -> Result<bool, Stop> {
+    let (head, tail) = parts(template);
+    let mut refused = false;
+    for (done, item) in job.items.iter().enumerate() {
+        let loaded = load(host, job.base, *item)?;
+        refused |= matches!(loaded.content, Content::Refused(..));
+        let data = data_of(host.alloc(), loaded)?;
+        // what can fail in the first one has failed by now, and then nothing is written
+        if done == 0 {
+            host.write(head.as_bytes(), writer)?;
+        }
+        write_data(host, done.saturating_add(1), &data, writer)?;
+    }
+    host.write(tail.as_bytes(), writer)?;
+    Ok(refused)
+}
+
+/// Writes the page to the file that `-o` names, beside it until all is written.
+fn write_file<E: Eprint + AllocGlobal, D: Disk>(
+    host: &Host<'_, E, D>,
+    job: &Job<'_>,
+    template: &str,
+    file: &str,
+) -> Result<bool, Stop> {
+    if host.disk.kind(file) == Kind::Special {
+        let text = "-o: expected the name of a file, which no pipe or device is";
+        return Err(host.fail(2, text));
+    }
+    let (beside, writer) = match create_beside(host.alloc(), host.disk, file) {
+        Ok(made) => made,
+        Err(error) => return Err(host.fail_writing(&error)),
+    };
+    let mut writer = Watched::new(writer);
+    let answer = write_page(host, job, template, &mut writer);
+    drop(writer);
+    match answer {
+        Ok(refused) => match beside.finish(host.disk) {
+            Ok(()) => Ok(refused),
+            Err(error) => Err(host.fail_writing(&error)),
+        },
+        Err(stop) => {
+            beside.abandon(host.disk);
+            Err(stop)
+        }
+    }
+}
+
+/// Writes the sizes of a script, if they are asked for, and counts them.
+fn measure<E: Eprint + AllocGlobal, D: Disk, W: Write>(
+    host: &Host<'_, E, D>,
+    form: Option<SizesForm>,
+    budget: &mut Budget,
+    loaded: &Loaded,
+    writer: &mut Watched<W>,
+) -> Result<(), Stop> {
+    let alloc = host.alloc();
+    let Content::Map(map, text) = &loaded.content else {
+        return Ok(());
+    };
+    let sizes = measured(alloc, map, text)?;
+    budget.count(map, &sizes, text.len() as u64);
+    let Some(form) = form else {
+        return Ok(());
+    };
+    let text = sizes_text(alloc, form, loaded, &sizes)?;
+    host.write(text.as_bytes(), writer)
+}
+
+/// Writes the sizes of all scripts, and compares them with the budget.
+fn write_sizes<E: Eprint + AllocGlobal, D: Disk, W: Write>(
+    host: &Host<'_, E, D>,
+    job: &Job<'_>,
+    asked: &ViewWords<'_>,
+    writer: &mut Watched<W>,
+) -> Result<Verdict, Stop> {
+    let mut budget = match asked.budget {
+        Some(path) => Budget::read(host, path)?,
+        None => Budget::none(host.alloc()),
+    };
+    let mut verdict = Verdict::new();
+    for item in job.items {
+        let loaded = load(host, job.base, *item)?;
+        verdict.refused |= matches!(loaded.content, Content::Refused(..));
+        measure(host, asked.sizes, &mut budget, &loaded, writer)?;
+    }
+    verdict.over_budget = budget.tell(host)?;
+    Ok(verdict)
+}
+
+/// Whether sizes are asked for, and no page.
+fn is_about_sizes(asked: &ViewWords<'_>) -> bool {
+    asked.sizes.is_some() || asked.budget.is_some()
+}
+
+/// Writes what is asked for of these.
+fn show<'x, E: Eprint + AllocGlobal, D: Disk, W: Write>(
+    host: &Host<'_, E, D>,
+    program: &str,
+    asked: &ViewWords<'_>,
+    base: Option<&'x str>,
+    items: &'x [Item<'x>],
+    writer: &mut Watched<W>,
+) -> Result<Verdict, Stop> {
+    let job = Job { base, items };
+    if is_about_sizes(asked) {
+        return write_sizes(host, &job, asked, writer);
+    }
+    let template = read_template(host, program)?;
+    let refused = match asked.output {
+        Some(file) => write_file(host, &job, template.as_str(), file)?,
+        None => write_page(host, &job, template.as_str(), writer)?,
+    };
+    Ok(Verdict {
+        refused,
+        over_budget: false,
+    })
+}
+
+/// Shows the scripts of a folder that have a map.
+fn show_folder<E: Eprint + AllocGlobal, D: Disk, W: Write>(
+    host: &Host<'_, E, D>,
+    program: &str,
+    asked: &ViewWords<'_>,
+    base: Option<&str>,
+    writer: &mut Watched<W>,
+) -> Result<Verdict, Stop> {
+    let alloc = host.alloc();
+    if let Some(script) = asked.script {
+        let text = format!(in alloc; "a folder takes no script: {script}")?;
+        return Err(host.fail(2, text.as_str()));
+    }
+    let folder = with_slash(alloc, asked.file)?;
+    let names = scripts_in(host, base, asked.file, folder.as_str())?;
+    let mut items = Vec::with_capacity(alloc, names.len())?;
+    for name in &names {
+        items.push(Item::Script {
+            folder: folder.as_str(),
+            name: name.as_str(),
+        })?;
+    }
+    show(host, program, asked, base, &items, writer)
+}
+
+/// Does what the values of the command line say.
+fn view<E: Eprint + AllocGlobal, D: Disk, W: Write>(
+    host: &Host<'_, E, D>,
+    program: &str,
+    asked: &ViewWords<'_>,
+    on_terminal: bool,
+    writer: &mut Watched<W>,
+) -> Result<Verdict, Stop> {
+    if on_terminal && asked.output.is_none() && !is_about_sizes(asked) {
+        let text =
+            "the page would go to the terminal: smap-view MAP >page.html writes it to a file";
+        return Err(host.fail(2, text));
+    }
+    let base = match asked.base {
+        Some(base) => Some(base_given(host, base)?),
+        None => None,
+    };
+    let base = match &base {
+        Some(base) => Some(base.as_str()),
+        None => None,
+    };
+    if host.disk.kind(asked.file) == Kind::Folder {
+        return show_folder(host, program, asked, base, writer);
+    }
+    let items = [item_of(asked.file, asked.script)];
+    show(host, program, asked, base, items.as_slice(), writer)
+}
+
+/// Says what is wrong with the words.
+fn refuse<E: Eprint + AllocGlobal, D: Disk>(host: &Host<'_, E, D>, fault: &WordFault<'_>) -> Stop {
+    let rt = host.rt;
+    match fault {
+        WordFault::Memory => Stop::Memory,
+        WordFault::Nothing => {
+            let _ = eprint!(rt; "{HELP}");
+            Stop::Said(2)
+        }
+        _ => match message(host.alloc(), fault) {
+            Ok(text) => host.fail(2, text.as_str()),
+            Err(_) => Stop::Memory,
+        },
+    }
+}
+
+/// What the words ask for.
+fn answer<E: Eprint + AllocGlobal, D: Disk, W: Write>(
+    host: &Host<'_, E, D>,
+    words: &[&str],
+    on_terminal: bool,
+    writer: &mut Watched<W>,
+) -> Result<Verdict, Stop> {
+    let program = match words {
+        [program, ..] => *program,
+        [] => "",
+    };
+    match view_words(host.alloc(), words) {
+        Ok(Asked::Help) => host.write(HELP.as_bytes(), writer)?,
+        Ok(Asked::Version) => host.write(VERSION.as_bytes(), writer)?,
+        Ok(Asked::View(asked)) => return view(host, program, &asked, on_terminal, writer),
+        Err(fault) => return Err(refuse(host, &fault)),
+    }
+    Ok(Verdict::new())
+}
+
+/// Runs `smap-view`. The first word is the name of the program, by which its template is found where it has a
+/// folder. `on_terminal` says whether the output is a terminal, to which no page is written. Answers the exit
+/// status: 0 where it is done, 1 where a map is refused or sources have more bytes than the budget allows, 2 where
+/// the command line is wrong, or a map or a script isn't there, 3 where a file can't be read or written, 4 where
+/// memory ran out, 141 where nobody reads the output any more.
+pub fn run<E: Eprint + AllocGlobal, D: Disk, W: Write>(
+    rt: &E,
+    disk: &D,
+    words: &[&str],
+    on_terminal: bool,
+    output: W,
+) -> u8
+where
+    W: Drop,
+{
+    let host = Host {
+        rt,
+        disk,
+        name: "smap-view",
+    };
+    let mut writer = Watched::new(output);
+    match answer(&host, words, on_terminal, &mut writer) {
+        Ok(verdict) => verdict.status(),
+        Err(stop) => host.end(stop),
+    }
+}
