@@ -13,7 +13,7 @@ smap respell: --help
 smap scripts: --help
 smap translate: --hide-ignored --anywhere --ignore-query --help
 smap-trace: --anywhere --ignore-query --hide-ignored --skip-broken --check-all --list --context --source-prefix --verbose --version --help
-smap-view: --base --version --help
+smap-view: --base --sizes --budget --version --help
 smap-maps: --version --help
 smap-maps check: --base --jobs --json --version --help
 smap-maps tidy: --base --jobs --json --absolute --relative --write --drop --diff --version --help
@@ -178,6 +178,14 @@ _smap() {
         return
         ;;
     smap-maps:--base | smap-maps:--jobs | smap-view:--base) return ;;
+    smap-view:--sizes)
+        _smap_choose 'table tsv json' "$word"
+        return
+        ;;
+    smap-view:--budget | smap-view:-o)
+        _smap_files "$word" '' any
+        return
+        ;;
     smap-maps:--rule | smap-maps:--min-mapped) return ;;
     smap-trace:--context | smap-trace:--source-prefix) return ;;
     esac

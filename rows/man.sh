@@ -27,6 +27,7 @@ run_example() {
     ln -s "$SMAP" bin/smap
     ln -s smap bin/smap-trace
     ln -s smap bin/smap-maps
+    ln -s smap bin/smap-view
     PATH=$work/bin:$PATH sh ./commands >written 2>&1
     diff wanted written
     grep -c '' commands

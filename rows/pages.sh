@@ -11,6 +11,7 @@ run_blocks() {
     ln -sf "$SMAP" bin/smap
     ln -sf smap bin/smap-trace
     ln -sf smap bin/smap-maps
+    ln -sf smap bin/smap-view
     for heading in "$@"; do
         grep -q "^$heading-[0-9]*$" names || echo "no block below $heading"
     done

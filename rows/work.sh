@@ -38,9 +38,10 @@ as_nobody() {
         return
     fi
     mkdir -p programs
-    cp "$SMAP" "$rows"/../scripts/smap-* programs
+    cp "$SMAP" "$rows"/../scripts/smap-view.html programs
     ln -sf smap programs/smap-trace
     ln -sf smap programs/smap-maps
+    ln -sf smap programs/smap-view
     chmod -R a+rX programs
     if command -v setpriv >/dev/null; then
         SMAP=$work/programs/smap PATH=$work/programs:$PATH \

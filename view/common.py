@@ -17,9 +17,12 @@ def equal(got, wanted):
 
 
 def view(folder, *words, status=0):
-    """Runs smap-view, and gives its page and what it said."""
-    done = subprocess.run([f"{TOP}/scripts/smap-view", *words], cwd=folder, env={**os.environ, "SMAP": SMAP},
-                          stdin=subprocess.DEVNULL, capture_output=True, timeout=600)
+    """Runs smap-view, which is the program by another name, and gives its page and what it said."""
+    program = folder / "smap-view"
+    if not program.is_symlink():
+        program.symlink_to(SMAP)
+    done = subprocess.run([program, *words], cwd=folder, stdin=subprocess.DEVNULL, capture_output=True,
+                          timeout=600)
     equal((done.returncode, done.stderr.decode() if not status else ""), (status, ""))
     return done.stdout.decode(), done.stderr.decode()
 

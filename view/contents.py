@@ -11,7 +11,7 @@ import time
 
 import browsers
 import pages
-from common import SMAP, TOP, equal, follow, make_page, view
+from common import SMAP, TOP, equal, follow, make_page, status, view
 
 
 # ---- the page as a text
@@ -19,8 +19,37 @@ from common import SMAP, TOP, equal, follow, make_page, view
 
 def data_of(page):
     """The data of a page, and the elements that they are in."""
-    found = re.findall(r'<script type="application/json" id="(\w+)">(.*)</script>', page)
+    found = re.findall(r'<script type="application/json" id="([\w-]+)">(.*)</script>', page)
     return {name: json.loads(text) for name, text in found}, [text for _, text in found]
+
+
+def numbers_in(text):
+    """The numbers of a page's mappings, as docs/OUTPUT.md has them."""
+    value, scale = 0, 1
+    for character in text:
+        digit = ord(character) - 61
+        value += digit % 16384 * scale
+        scale *= 16384
+        if digit < 16384:
+            yield value
+            value, scale = 0, 1
+
+
+def mappings_in(text):
+    """The mappings: line, column and, where they have them, source, row, offset and name."""
+    numbers, found = numbers_in(text), []
+    line = column = 0
+    last = [0, 0, 0, 0]
+    for number in numbers:
+        if number % 4 == 3:
+            line, column = line + number // 4, 0
+            number = next(numbers)
+        column += number // 4
+        for field in range((0, 3, 4)[number % 4]):
+            step = next(numbers)
+            last[field] += -(step + 1) // 2 if step % 2 else step // 2
+        found.append((line, column, *last[:(0, 3, 4)[number % 4]]))
+    return found
 
 
 def holds_its_parts(folder, made, page):
@@ -30,11 +59,18 @@ def holds_its_parts(folder, made, page):
     with open(folder / "small.js.map", "rb") as file:
         tidied = subprocess.run([SMAP, "tidy", "http://h/m/small.js.map"], stdin=file, capture_output=True,
                                 check=True).stdout
-    equal(data["map"], json.loads(tidied))
+    canonical = json.loads(tidied)
+    for member in "sources", "sourcesContent", "ignoreList":
+        equal((member, data["map"][member]), (member, canonical[member]))
+    equal(data["map"]["names"], pages.NAMES)
+    equal(mappings_in(data["map"]["mappings"]), made["made"])
+    equal(data["map"]["bytes"], made["sizes"])
+    owners = [mapping[2] if len(mapping) > 2 else len(pages.SOURCES) for mapping in made["made"]]
+    equal(data["map"]["counts"], [owners.count(owner) for owner in range(len(pages.SOURCES) + 1)])
     assert not any("<" in text for text in texts)
     template = (TOP / "scripts/smap-view.html").stat().st_size
     parts = template + len(tidied) + len(made["text"].encode())
-    assert parts < len(page.encode()) < parts * 1.1, "the page is larger than its parts"
+    assert len(page.encode()) < parts, "the page is larger than its parts"
 
 
 def names_its_hashes():
@@ -137,36 +173,117 @@ def refusals(browser, folder):
     before the place, what is there, and what is behind it."""
     deep = ('{"version":3,"sections":[{"offset":{"line":0,"column":0},"map":{"version":3,"sources":["a.js"],'
             '"mappings":"AAAA"}},{"offset":{"line":1,"column":0},"map":{"version":3,"sections":[{"offset":'
-            '{"line":0,"column":0},"map":{"version":3,"sources":["b.js"],"mappings":";AAAA,')
-    for before, there, behind, error in (
-            ('{"version":3,"sources":["a.js"],"mappings":"AAAA,', "CCAA", '"}',
-             "line 0 segment 1: source index"),
-            ('{"version":3,"sources":["a.js"],"mappings":";;A,', "", ',AAAA"}',
-             "line 2 segment 1: empty segment"),
-            ('{"version":3,"sources":["a.js"],"mappings":";\\u0041,', "B", '"}',
-             "line 1 segment 1: number 1: negative zero"),
-            (deep, "CCCC", '"}}]}}]}', "section 1.0: line 1 segment 1: source index"),
-            (")]}'\n" + '{"version":3,"names":1,"names":', "[1]", ',"mappings":""}', "names"),
-            ('{"version":3,"sources":["x",', '"http://a b/"', '],"mappings":""}', "source 1 is no URL"),
-            ('{"version":3,"sections":[{"offset":', '{"line":-1,"column":0}', ',"map":{}}]}',
-             "section 0: offset"),
-            ('{"version":3,"x_google_ignoreList":', "[7]", ',"mappings":""}', "ignoreList"),
-            ('{"version":', '"</script><b>"', ',"mappings":""}', "version"),
-            ('{"version":3,\r\n"file":"\U0001f642\u00e9\u6f22","names":', "7", ',"mappings":""}', "names"),
-            ('{"version":3,\n"mappings":"', "", "", "not json"),
-            ("", "", "<html>", "not json")):
-        (folder / "bad.map").write_bytes((before + there + behind).encode())
+            '{"line":0,"column":0},"map":{"version":3,"sources":["b.js"],"mappings":";AAAA,CCCC"}}]}}]}')
+    # the text before the place of the error, where that isn't all before what is marked
+    for text, error, mark, before in (
+            ('{"version":3,"sources":["a.js"],"mappings":"AAAA,CCAA"}',
+             "line 0 segment 1: source index", "CCAA", None),
+            ('{"version":3,"sources":["a.js"],"mappings":";;A,,AAAA"}', "line 2 segment 1: empty segment",
+             "\u2038", '{"version":3,"sources":["a.js"],"mappings":";;A,'),
+            ('{"version":3,"sources":["a.js"],"mappings":";\\u0041,B"}',
+             "line 1 segment 1: number 1: negative zero", "B", None),
+            (deep, "section 1.0: line 1 segment 1: source index", "CCCC", None),
+            (")]}'\n" + '{"version":3,"names":1,"names":[1],"mappings":""}', "names", "[1]", None),
+            ('{"version":3,"sources":["x","http://a b/"],"mappings":""}',
+             "source 1 is no URL", '"http://a b/"', None),
+            ('{"version":3,"sections":[{"offset":{"line":-1,"column":0},"map":{}}]}', "section 0: offset",
+             '{"line":-1,"column":0}', None),
+            ('{"version":3,"x_google_ignoreList":[7],"mappings":""}', "ignoreList", "[7]", None),
+            ('{"version":"</script><b>","mappings":""}', "version", '"</script><b>"', None),
+            ("<html>", "not json", "\u2038", "")):
+        (folder / "bad.map").write_text(text)
         url = make_page(folder, "bad.map", "bad.map", status=1)
         browser.open(url)
         shown_error, where, place, marks = browser.run(REFUSED)
         equal(shown_error, f"Refused: {error}")
-        # an empty place is marked by a caret
-        equal(marks, [there or "\u2038"])
-        lines = re.split("\r\n|\r|\n", before)
-        column = pages.units(lines[-1]) + 1
-        equal(where.split(" of the map.")[0], f"It is at line {len(lines)}, column {column}")
-        assert place.endswith((there or "\u2038") + behind), place
-    (folder / "bad.map").write_bytes(b'{"version":2,"file":"\xff"}')
-    browser.open(make_page(folder, "bad.map", "bad.map", status=1))
-    equal(browser.run(REFUSED), ["Refused: not json", "", None, []])
+        equal(marks, [mark])
+        if before is None:
+            before = text[:text.rindex(mark)]
+            equal(place, text)
+        line, column = before.count("\n") + 1, len(before.rpartition("\n")[2]) + 1
+        assert where.startswith(f"It is at line {line}, column {column} of the map."), where
+        equal("segment" in error, where.endswith(" Lines and segments of mappings count from 0."))
     equal(browser.run("return document.getElementById('main').hidden"), True)
+
+
+def long_refusal(browser, folder):
+    """Of a long map the page has what is around the error, and no more."""
+    names = ",".join(f'"name{number}"' for number in range(20000))
+    (folder / "long.map").write_text(f'{{"version":3,"names":[{names}],"mappings":"AAAA",'
+                                     f'"sources":7,"file":"{"x" * 9000}"}}')
+    url = make_page(folder, "long.map", "long.map", status=1)
+    template = (TOP / "scripts/smap-view.html").stat().st_size
+    assert (folder / "long.map.html").stat().st_size < template + 5000
+    browser.open(url)
+    _, _, place, marks = browser.run(REFUSED)
+    equal(marks, ["7"])
+    assert place.startswith("\u2026") and place.endswith("\u2026") and len(place) < 3100, place
+
+
+# ---- a page of several scripts
+
+
+def several(browser, folder):
+    """A folder of a build is one page with a list of its scripts; a script is followed to its map."""
+    build = folder / "build"
+    (build / "lib").mkdir(parents=True)
+    scripts = {"a.js": "a()\n//# sourceMappingURL=maps/a.map\n", "lib/b.js": "bb()", "c.js": "none"}
+    for place, text in scripts.items():
+        (build / place).write_text(text)
+    (build / "maps").mkdir()
+    for place, source in ("maps/a.map", "../src/a.ts"), ("lib/b.js.map", "b.ts"):
+        (build / place).write_text(json.dumps(
+            {"version": 3, "sources": [source], "sourcesContent": [f"{source}!"], "mappings": "AAAA"}))
+    url = make_page(folder, "build", "--base", "http://h/m", "build")
+    browser.open(url)
+    equal(browser.run("return [...document.getElementById('bundles').options].map(one => one.textContent)"),
+          ["a.js", "b.js"])
+    equal(browser.run("return document.getElementById('name').textContent"), "a.js")
+    browser.open(f"{url}#2/generated=1:2")
+    browser.wait("return document.getElementById('name').textContent === 'b.js'")
+    equal(status(browser), "1:1 to 1:5 comes from 1:1 of http://h/m/lib/b.ts")
+    browser.run("""
+        const list = document.getElementById('bundles');
+        list.value = '0';
+        list.dispatchEvent(new Event('change'));""")
+    browser.wait("return document.getElementById('name').textContent === 'a.js'")
+    equal(follow(browser, "#generated=1:1"), "1:1 to 1:4 comes from 1:1 of http://h/m/src/a.ts")
+    browser.open(make_page(folder, "a.js", "--base", "http://h/m", "build/a.js"))
+    equal(follow(browser, "#generated=1:1"), "1:1 to 1:4 comes from 1:1 of http://h/m/src/a.ts")
+
+
+# ---- what isn't there
+
+
+def no_content(browser, folder):
+    """A source without contents has a line that says so, and no text."""
+    (folder / "bare.js").write_text("f()")
+    (folder / "bare.js.map").write_text('{"version":3,"sources":["a.js"],"mappings":"AAAA"}')
+    browser.open(make_page(folder, "bare.js.map", "bare.js.map"))
+    note, rows = browser.run("""
+        const note = document.getElementById('no-content');
+        return [note.checkVisibility() && note.textContent,
+                [...document.querySelectorAll('#source .row')].filter(one => one.checkVisibility()).length];""")
+    equal((note, rows), ("The map has no content for this source.", 0))
+
+
+def without_scripts(browser, url):
+    """Where scripts are off the page says that, and not that it has no map."""
+    browser.devtools("Emulation.setScriptExecutionDisabled", value=True)
+    try:
+        browser.open("about:blank")
+        browser.open(url)
+        tree = browser.devtools("DOM.getDocument", depth=-1)["root"]
+    finally:
+        browser.devtools("Emulation.setScriptExecutionDisabled", value=False)
+    texts = []
+
+    def walk(node):
+        if node["nodeName"] not in ("SCRIPT", "STYLE"):
+            texts.append(node.get("nodeValue", "") if node["nodeName"] == "#text" else "")
+            for child in node.get("children", []):
+                walk(child)
+
+    walk(tree)
+    said = " ".join(texts)
+    assert "by JavaScript, which is off" in said and "no map" not in said, said

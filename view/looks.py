@@ -64,6 +64,51 @@ def table_sorts(browser, url):
             equal(values, sorted(values, reverse=direction == "descending"))
 
 
+def labels_end(browser, url):
+    """A label of an area that has no room ends with an ellipsis."""
+    browser.size(700, 400)
+    browser.open("about:blank")
+    browser.open(f"{url}#bytes")
+    cut = browser.run("""
+        const texts = [];
+        for (const area of document.querySelectorAll('#tree > *')) {
+            const walk = document.createTreeWalker(area, NodeFilter.SHOW_TEXT), node = walk.nextNode();
+            if (!node) continue;
+            const range = document.createRange(), box = node.parentElement;
+            range.selectNodeContents(node);
+            const { textOverflow, whiteSpace, overflow } = getComputedStyle(box);
+            const { width, height } = range.getBoundingClientRect();
+            if (width > area.clientWidth || height > 20) texts.push([node.data, textOverflow, whiteSpace, overflow]);
+        }
+        return texts;""")
+    browser.size(1280, 800)
+    assert cut, "each label has room"
+    for text, *style in cut:
+        equal((text, *style), (text, "ellipsis", "nowrap", "hidden"))
+
+
+def zooms(browser, url):
+    """A folder of the areas is shown alone after a click or by keys, and the names above it go back."""
+    browser.open("about:blank")
+    browser.open(f"{url}#bytes")
+    leaves = """
+        return [...document.querySelectorAll('#tree > button')].map(one => one.title.replace(/: .*/, ''));"""
+    parts = ["http://h/m/src/parts/list.js", "http://h/m/src/parts/item.js"]
+    whole = browser.run(leaves)
+    browser.run("""
+        [...document.querySelectorAll('#tree > .folder')].find(one => one.title.startsWith('/parts')).click();""")
+    equal(browser.run(leaves), parts)
+    equal(browser.run("return [...document.querySelectorAll('#path button')].map(one => one.textContent)"),
+          ["all", "http://h", "/m", "/src", "/parts"])
+    browser.run("document.querySelectorAll('#path button')[0].click()")
+    equal(browser.run(leaves), whole)
+    browser.run("document.querySelector('#tree > button').focus()")
+    browser.press("+", "+", "+", "+")
+    equal(browser.run(leaves), parts)
+    browser.press("-")
+    equal(sorted(browser.run(leaves)), sorted([*parts, "http://h/m/src/app.js", "http://h/m/src/util/dates.js"]))
+
+
 # ---- what it looks like
 
 CONTRASTS = """
@@ -128,6 +173,30 @@ def fits(browser, url):
                     const { width, height } = document.getElementById(arguments[0]).getBoundingClientRect();
                     return [width, height];""", part)
                 assert box[0] >= min(300, width / 2 - 30) and box[1] >= 150, (width, part, box)
+    browser.size(1280, 800)
+
+
+def fits_phone(browser, url, folder):
+    """On a phone an error has all its words, and a field all of what stands in it while it is empty."""
+    browser.size(390, 700)
+    browser.open("about:blank")
+    browser.open(url)
+    for text, width, room in browser.run("""
+            const pen = document.createElement('canvas').getContext('2d');
+            return [...document.querySelectorAll('.bar input')].filter(one => one.checkVisibility()).map(one => {
+                const { font, paddingLeft, paddingRight } = getComputedStyle(one);
+                pen.font = font;
+                const room = one.clientWidth - parseFloat(paddingLeft) - parseFloat(paddingRight);
+                return [one.placeholder, pen.measureText(one.placeholder).width, room];
+            });"""):
+        assert width <= room, f"{text} is cut: {width} of {room}"
+    (folder / "cut.map").write_text('{"version":3,"sections":[{"offset":{"line":0,"column":0},"map":{'
+                                    '"version":3,"sources":["a.js"],"mappings":"AAAA,BAAA"}}]}')
+    browser.open(make_page(folder, "cut.map", "cut.map", status=1))
+    whole, seen, lines = browser.run("""
+        const error = document.getElementById('error');
+        return [error.scrollWidth, error.clientWidth, error.textContent];""")
+    assert whole <= seen, f"{lines} is cut: {whole} of {seen}"
     browser.size(1280, 800)
 
 

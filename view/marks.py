@@ -154,3 +154,93 @@ def source_clicks(browser, url):
     equal(browser.run("return document.getElementById('tip').textContent"), SECOND)
     browser.point(2, 2)
     equal(browser.run(hovered), [None, None])
+
+
+# ---- without the focus, and the address
+
+
+def keys_at_once(browser, url):
+    """Keys work before anything has the focus, and the address follows them."""
+    browser.open("about:blank")
+    browser.open(url)
+    for key, wanted, link in (RIGHT, FIRST, "#generated=1:1"), (RIGHT, SECOND, "#generated=1:4"):
+        browser.press(key)
+        equal(status(browser), wanted)
+        if wanted == FIRST:
+            equal(browser.run("return location.hash"), link)
+        browser.wait("return location.hash === arguments[0]", link)
+
+
+def scrolls_nowhere(browser, url):
+    """A pane whose lines fit doesn't scroll sideways."""
+    browser.open(url)
+    widths = browser.run("""
+        return [...document.querySelectorAll('.pane')].map(one => [one.scrollWidth, one.clientWidth]);""")
+    equal([whole for whole, _ in widths], [seen for _, seen in widths])
+
+
+# ---- what is found
+
+FOUND = """
+    return [...document.querySelectorAll(`#${arguments[0]} .found`)].map(one => one.textContent).join('|');"""
+
+
+def finds(browser, url):
+    """A search counts its places in the whole text, and goes from one to the next and back."""
+    browser.open(url)
+    count = "return document.querySelector(`#${arguments[0]}-find output`).textContent"
+    marked = "return document.getElementById('status').textContent.split(' ')[0]"
+    browser.press("/")
+    equal(browser.run("return document.activeElement.parentElement.id"), "generated-find")
+    browser.press("f")
+    equal((browser.run(count, "generated"), browser.run(FOUND, "generated")), ("3", "f|f|f"))
+    for keys, place, at in (((ENTER,), "1 of 3", "1:1"), ((ENTER,), "2 of 3", "1:1"), ((ENTER,), "3 of 3", "2:2"),
+                            ((ENTER,), "1 of 3", "1:1")):
+        browser.press(*keys)
+        equal((browser.run(count, "generated"), browser.run(marked)), (place, at))
+    tab_to(browser, "generated")
+    for key, place in ("n", "2 of 3"), ("N", "1 of 3"), ("N", "3 of 3"):
+        browser.press(key)
+        equal(browser.run(count, "generated"), place)
+    browser.run("""
+        const field = document.querySelector('#source-find input');
+        field.focus();
+        field.value = '';""")
+    browser.press(*"O;")
+    equal((browser.run(count, "source"), browser.run(FOUND, "source")), ("1", "o;"))
+    browser.press(ENTER)
+    equal(status(browser), FIRST)
+    browser.press("x")
+    equal((browser.run(count, "source"), browser.run(FOUND, "source")), ("0", ""))
+
+
+def ties(browser, url):
+    """A line goes from the mark in the script to that in the source, and none where one of them isn't seen."""
+    browser.open(f"{url}#generated=1:5")
+    path = "return document.querySelector('#tie path').getAttribute('d')"
+    browser.wait(path)
+    line, marks = browser.run("""
+        const boxes = ['generated', 'source'].map(id => document.querySelector(`#${id} .mark`))
+            .map(mark => mark.getBoundingClientRect());
+        return [document.querySelector('#tie path').getAttribute('d').match(/[\\d.]+/g).map(Number),
+                boxes.map(box => [box.left, box.right, (box.top + box.bottom) / 2])];""")
+    equal([round(one) for one in line[:2]], [round(one) for one in marks[0][1:]])
+    equal([round(one) for one in line[-2:]], [round(marks[1][0]), round(marks[1][2])])
+    follow(browser, "#generated=2:1")
+    browser.wait("return document.querySelector('#tie path').getAttribute('d') === ''")
+
+
+def filters(browser, url):
+    """The list of sources is cut to those whose names hold a text; a mark in another one lists all again."""
+    browser.open(url)
+    listed = "return [...document.getElementById('sources').options].map(one => one.textContent)"
+    equal(browser.run(listed), [A_JS, B_JS])
+    browser.run("document.getElementById('filter').focus()")
+    browser.press(*"B.js")
+    equal(browser.run(listed), [B_JS])
+    browser.press(ENTER)
+    equal(browser.run(MARKED)["shown"], B_JS)
+    browser.press("?")
+    equal(browser.run(listed), ["no source has this name"])
+    equal(follow(browser, "#generated=1:1"), FIRST)
+    equal((browser.run(listed), browser.run(MARKED)["shown"]), ([A_JS, B_JS], A_JS))

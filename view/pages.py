@@ -25,7 +25,7 @@ class Maker:
     """Puts a generated text and its mappings together, piece by piece."""
 
     def __init__(self):
-        self.text, self.mappings, self.sums = [], [], [0, 0, 0, 0, 0]
+        self.text, self.mappings, self.sums, self.made = [], [], [0, 0, 0, 0, 0], []
         self.line = self.column = self.count = 0
         self.first = True
 
@@ -34,6 +34,7 @@ class Maker:
         for no mapping."""
         if numbers != (None,):
             values = (self.column, *numbers)
+            self.made.append((self.line, *values))
             if not self.first:
                 self.mappings.append(",")
             self.mappings += [spell(value - last) for value, last in zip(values, self.sums)]
@@ -104,7 +105,7 @@ def small(folder):
     text = made.write(folder, "small.js", sources=SOURCES, ignoreList=[4, 5], names=NAMES,
                       sourcesContent=["\n".join(lines) for lines in contents[:-1]])
     assert sum(sizes) == len(text)
-    return {"name": "small.js", "text": text.decode(), "sizes": sizes, "count": made.count}
+    return {"name": "small.js", "text": text.decode(), "sizes": sizes, "count": made.count, "made": made.made}
 
 
 def large(folder, mappings=1_000_000, sources=300):

@@ -1,8 +1,8 @@
 //! The programs of this repository in one, each by the name that it is called by: `smap-trace`, `smap-maps`,
-//! or `smap` by any other. `smap` reads its arguments as a task, runs it on the standard streams and exits
+//! `smap-view`, or `smap` by any other. `smap` reads its arguments as a task, runs it on the standard streams and exits
 //! with its status; what each run reads and writes is defined in `smap_tool`. Standard input is buffered
 //! there, since a bundle's headers are read byte by byte. `smap-trace` is a run of `smap_tracer` over the
-//! file system, and `smap-maps` one of `smap_mapper`.
+//! file system, `smap-maps` one of `smap_mapper`, and `smap-view` one of `smap_viewer`.
 #![tactic(auto)]
 
 mod standard;
@@ -81,6 +81,20 @@ fn maps(rt: &HostRuntime, words: &[&str]) -> u8 {
     status
 }
 
+/// Runs `smap-view`.
+fn view(rt: &HostRuntime, words: &[&str]) -> u8 {
+    let disk = System::new(rt);
+    if is_output_closed(&disk) {
+        let _ = eprint!(rt; "smap-view: cannot write: standard output is closed\n");
+        return 3;
+    }
+    let held = placeholders(rt.alloc(), &disk);
+    let on_terminal = rt.stdout().is_terminal();
+    let status = smap_viewer::run(rt, &disk, words, on_terminal, io::writer(rt));
+    drop(held);
+    status
+}
+
 /// Runs `smap`.
 fn map(rt: &HostRuntime, words: &[&str]) -> u8 {
     match task_of(rt.alloc(), words) {
@@ -128,6 +142,7 @@ fn main(rt: HostRuntime) -> ExitCode {
     ExitCode::from(match name(words) {
         "smap-trace" => trace(&rt, words),
         "smap-maps" => maps(&rt, words),
+        "smap-view" => view(&rt, words),
         _ => map(&rt, words),
     })
 }

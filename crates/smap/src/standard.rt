@@ -1,4 +1,4 @@
-//! The standard streams as `smap-trace` and `smap-maps` have them. A descriptor that is closed is told by its
+//! The standard streams as `smap-trace`, `smap-maps` and `smap-view` have them. A descriptor that is closed is told by its
 //! name in `/proc`, before anything is opened that could take its number; where there is no `/proc`, none is
 //! taken for closed.
 use smap_disk::{Disk, Kind};
