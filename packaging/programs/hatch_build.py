@@ -1,14 +1,15 @@
-"""What the wheel has besides the Python module: the program and its man pages."""
+"""What the wheel has besides the Python module: the program, its man pages, and the template of a page."""
 
 import os
 
 from hatchling.builders.hooks.plugin.interface import BuildHookInterface
 
-PAGES = ("smap.1", "smap-trace.1", "smap-maps.1")
+PAGES = ("smap.1", "smap-trace.1", "smap-maps.1", "smap-view.1")
 
 
 class ProgramHook(BuildHookInterface):
-    """Puts the program that SMAP_WHEEL_PROGRAM names into the wheel, and pages of SMAP_WHEEL_PAGES, a folder.
+    """Puts the program that SMAP_WHEEL_PROGRAM names into the wheel, the template that SMAP_WHEEL_TEMPLATE names
+    beside it, where smap-view looks for it, and pages of SMAP_WHEEL_PAGES, a folder.
 
     The wheel is for the platform SMAP_WHEEL_PLATFORM, such as manylinux_2_34_x86_64.
     """
@@ -16,6 +17,7 @@ class ProgramHook(BuildHookInterface):
     def initialize(self, version, build_data):
         included = build_data["force_include"]
         included[os.environ["SMAP_WHEEL_PROGRAM"]] = "smap_programs/smap"
+        included[os.environ["SMAP_WHEEL_TEMPLATE"]] = "smap_programs/smap-view.html"
         shared = f"smap_programs-{self.metadata.version}.data/data/share/man/man1"
         for page in PAGES:
             included[os.path.join(os.environ["SMAP_WHEEL_PAGES"], page)] = f"{shared}/{page}"

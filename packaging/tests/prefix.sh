@@ -61,13 +61,14 @@ installs_programs() {
 # arguments as they are.
 programs_run() {
     put_example "$work/programs-example" || return 1
-    for program in smap smap-trace smap-maps; do
+    for program in smap smap-trace smap-maps smap-view; do
         cmp "docs/man/$program.1" "$venv/share/man/man1/$program.1" || return 1
         [ "$(PATH=/nowhere "$venv/bin/$program" --version)" = "smap $version" ] || return 1
     done
     (
         cd "$work/programs-example" && PATH="$venv/bin:$PATH" sh ./command >written && diff wanted written &&
             [ "$(PATH=/nowhere "$venv/bin/python" -m smap --version)" = "smap $version" ] || exit 1
+        "$venv/bin/smap-view" dist/cart.js.map >page.html && grep -q src/cart.ts page.html || exit 1
         printf x | "$venv/bin/smap" check 'http://h/a b'
         [ "$?" -eq 1 ] || exit 1
         "$venv/bin/smap-trace" "$(printf 'a=\377')" </dev/null 2>/dev/null

@@ -32,12 +32,12 @@ function start(file, name) {
 }
 
 /**
- * Runs a program with the arguments and the streams of this process. smap-view is a script. The others are
- * one program, which looks at the name that it is called by.
+ * Runs a program with the arguments and the streams of this process. All are one program, which looks at the
+ * name that it is called by.
  */
 function run(name) {
   try {
-    start(fileOf(`bin/${name === 'smap-view' ? name : 'smap'}`), name);
+    start(fileOf('bin/smap'), name);
   } catch (error) {
     fail(name, error);
   }

@@ -1,10 +1,10 @@
-"""The programs smap, smap-trace and smap-maps: one file, which looks at the name that it is called by."""
+"""The programs smap, smap-trace, smap-maps and smap-view: one file, which looks at the name it is called by."""
 
 import os
 import sys
 from pathlib import Path
 
-__all__ = ["path", "smap", "smap_maps", "smap_trace"]
+__all__ = ["path", "smap", "smap_maps", "smap_trace", "smap_view"]
 
 
 def path() -> Path:
@@ -27,3 +27,7 @@ def smap_trace() -> None:
 
 def smap_maps() -> None:
     _run("smap-maps")
+
+
+def smap_view() -> None:
+    _run("smap-view")
