@@ -64,8 +64,10 @@ pub(crate) fn script_of<E: Eprint + AllocGlobal, D: Disk>(
     map_path: &str,
     map: &SourceMap,
 ) -> Result<String, Stop> {
-    let file = map.file().unwrap_or("");
-    let named = last_part(file);
+    let named = match map.file() {
+        Some(file) => last_part(file),
+        None => "",
+    };
     if let Some(path) = candidate(host, map_path, named)? {
         return Ok(path);
     }
