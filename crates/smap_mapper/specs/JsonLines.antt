@@ -85,8 +85,15 @@ abbrev pub drops_text : Bool → List (List ℕ) → List ℕ
 drops_text rewrites drops = cond rewrites
     (codes ",\"drops\":" ++ compact_text (array (items_of (map string drops)))) []
 
+-- the map's file, what became of it, and what is wrong
+abbrev pub front : List ℕ → Verdict → List ℕ
+front path v = codes "{\"path\":" ++ (json_text path ++ (codes ",\"status\":\""
+    ++ (name v ++ (codes "\",\"fault\":" ++ fault_text v))))
+
+-- where that is, in the map and in its text
+abbrev pub places : Verdict → List ℕ
+places v = codes ",\"place\":" ++ (place_of v ++ text_place_of v)
+
 abbrev pub json_line : List ℕ → Outcome → Bool → List ℕ
-json_line path outcome rewrites = codes "{\"path\":" ++ (json_text path ++ (codes ",\"status\":\""
-    ++ (name outcome.verdict ++ (codes "\",\"fault\":" ++ (fault_text outcome.verdict
-    ++ (codes ",\"place\":" ++ (place_of outcome.verdict ++ (text_place_of outcome.verdict
-    ++ (drops_text rewrites (map string_bytes outcome.drops.items) ++ codes "}")))))))))
+json_line path outcome rewrites = front path outcome.verdict ++ (places outcome.verdict
+    ++ (drops_text rewrites (map string_bytes outcome.drops.items) ++ codes "}"))

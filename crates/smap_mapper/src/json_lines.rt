@@ -161,6 +161,25 @@ fn drops_text(alloc: Global, drops: &[String], rewrites: bool) -> Result<String,
     format!(in alloc; ",\"drops\":{drops}")
 }
 
+/// The map's file, what became of it, and what is wrong.
+fn front(alloc: Global, file: &str, verdict: &Verdict) -> Result<String, AllocError>
+    ensures { IfOk result (λ t. string_bytes t ≡ spec.front file.now verdict.now) }
+{
+    let path = json_text(alloc, file)?;
+    let status = verdict.name();
+    let fault = fault_text(alloc, verdict)?;
+    format!(in alloc; "{{\"path\":{path},\"status\":\"{status}\",\"fault\":{fault}")
+}
+
+/// Where that is, in the map and in its text.
+fn places(alloc: Global, verdict: &Verdict) -> Result<String, AllocError>
+    ensures { IfOk result (λ t. string_bytes t ≡ spec.places verdict.now) }
+{
+    let place = place_of(alloc, verdict)?;
+    let text_place = text_place_of(alloc, verdict)?;
+    format!(in alloc; ",\"place\":{place}{text_place}")
+}
+
 /// The line of JSON for a map, without its line feed; with what is dropped, if the command can rewrite.
 pub(crate) fn json_line(
     alloc: Global,
@@ -170,13 +189,8 @@ pub(crate) fn json_line(
 ) -> Result<String, AllocError>
     ensures { IfOk result (λ t. string_bytes t ≡ spec.json_line file.now outcome.now rewrites) }
 {
-    let path = json_text(alloc, file)?;
-    let status = outcome.verdict.name();
-    let fault = fault_text(alloc, &outcome.verdict)?;
-    let place = place_of(alloc, &outcome.verdict)?;
-    let text_place = text_place_of(alloc, &outcome.verdict)?;
+    let front = front(alloc, file, &outcome.verdict)?;
+    let places = places(alloc, &outcome.verdict)?;
     let drops = drops_text(alloc, &outcome.drops, rewrites)?;
-    format!(in alloc;
-        "{{\"path\":{path},\"status\":\"{status}\",\"fault\":{fault},\"place\":{place}{text_place}{drops}}}"
-    )
+    format!(in alloc; "{front}{places}{drops}}}")
 }
