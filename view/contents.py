@@ -169,8 +169,6 @@ REFUSED = """
 
 
 def refusals(browser, folder):
-    """Of a refused map the page shows the error, and marks its place in the text: here each text is what is
-    before the place, what is there, and what is behind it."""
     deep = ('{"version":3,"sections":[{"offset":{"line":0,"column":0},"map":{"version":3,"sources":["a.js"],'
             '"mappings":"AAAA"}},{"offset":{"line":1,"column":0},"map":{"version":3,"sections":[{"offset":'
             '{"line":0,"column":0},"map":{"version":3,"sources":["b.js"],"mappings":";AAAA,CCCC"}}]}}]}')
