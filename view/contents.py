@@ -224,11 +224,11 @@ def long_refusal(browser, folder):
 def several(browser, folder):
     """A folder of a build is one page with a list of its scripts; a script is followed to its map."""
     build = folder / "build"
-    (build / "lib").mkdir(parents=True)
+    (build / "lib").mkdir(parents=True, exist_ok=True)
     scripts = {"a.js": "a()\n//# sourceMappingURL=maps/a.map\n", "lib/b.js": "bb()", "c.js": "none"}
     for place, text in scripts.items():
         (build / place).write_text(text)
-    (build / "maps").mkdir()
+    (build / "maps").mkdir(exist_ok=True)
     for place, source in ("maps/a.map", "../src/a.ts"), ("lib/b.js.map", "b.ts"):
         (build / place).write_text(json.dumps(
             {"version": 3, "sources": [source], "sourcesContent": [f"{source}!"], "mappings": "AAAA"}))
