@@ -29,22 +29,16 @@ const run = (name, words, input = '') =>
 
 test('words, streams and the status are those of the program', () => {
   putProgram('smap', 'printf "<%s>" "$@"; cat; echo said >&2; exit 3');
-  for (const name of ['smap', 'smap-trace', 'smap-maps']) {
+  for (const name of ['smap', 'smap-trace', 'smap-maps', 'smap-view']) {
     const { stdout, stderr, status } = run(name, ['a b', '', '--x=*'], 'in');
     assert.deepEqual([stdout, stderr, status], ['<a b><><--x=*>in', 'said\n', 3], name);
   }
 });
 
-test('smap-view is a program of its own', () => {
-  putProgram('smap', 'exit 1');
-  putProgram('smap-view', 'echo "$1"');
-  assert.equal(run('smap-view', ['a.map']).stdout, 'a.map\n');
-});
-
 test('the program is called by the name of the command', () => {
   fs.rmSync(path.join(programs, 'smap'));
   fs.copyFileSync(process.execPath, path.join(programs, 'smap'));
-  for (const name of ['smap', 'smap-trace', 'smap-maps']) {
+  for (const name of ['smap', 'smap-trace', 'smap-maps', 'smap-view']) {
     assert.equal(run(name, ['--print', 'process.argv0']).stdout, `${name}\n`);
   }
   fs.rmSync(path.join(programs, 'smap'));
