@@ -1,5 +1,5 @@
 -- What files hold, where a disk says so: that of the machine says nothing, since it isn't the program's alone.
-use Rattle.std.specs.Prelude.{◌≡◌, ℕ, List, ⊤, Option, Some, None}
+use Rattle.std.specs.Prelude.{◌≡◌, ℕ, List, length, ⊤, Option, Some, None, option_map}
 
 -- What files hold, by their names: nothing is said, or what each holds.
 abbrev pub Held : Type 0
@@ -19,3 +19,8 @@ IsKnown (Some bytes) = ⊤
 abbrev pub GivesHeld : Held → List ℕ → Option (List ℕ) → Type 0
 GivesHeld None name left = ⊤
 GivesHeld (Some held) name left = (held name ≡ left) × IsKnown left
+
+-- So many bytes the file with this name holds, where it is said what files hold.
+abbrev pub HasSize : Held → List ℕ → ℕ → Type 0
+HasSize None name size = ⊤
+HasSize (Some held) name size = option_map length (held name) ≡ Some size

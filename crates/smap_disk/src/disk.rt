@@ -1,6 +1,6 @@
 //! What a program asks of a file system. Paths are text, in UTF-8.
 ghost use Rattle.std.specs.Prelude.{List, Option, ℕ, IfOk};
-ghost use Rattle.smap_disk.specs.Held.{GivesHeld};
+ghost use Rattle.smap_disk.specs.Held.{GivesHeld, HasSize};
 
 use std::alloc::Global;
 use std::io::{self, Read, Write};
@@ -72,7 +72,8 @@ pub trait Disk {
     /// # Errors
     ///
     /// The system's: `IsADirectory` for a folder.
-    fn size(&self, path: &str) -> io::Result<u64>;
+    fn size(&self, path: &str) -> io::Result<u64>
+        ensures { IfOk result (HasSize (held self.now) path.now) };
 
     /// The entries of a folder, in no order; a link to a folder is followed.
     ///
