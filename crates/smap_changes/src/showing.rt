@@ -1,4 +1,8 @@
 //! Values in a few words.
+ghost use Rattle.std.specs.Prelude.{◌≡◌, IfOk, length, string_bytes};
+ghost use Rattle.serde_json.specs.View.{view};
+ghost use Rattle.smap_changes.specs.Showing as spec;
+
 use serde_json::Value;
 use std::alloc::{AllocError, Global};
 
@@ -6,53 +10,100 @@ use std::alloc::{AllocError, Global};
 const MOST_SHOWN: usize = 60;
 
 /// Whether a text is shown as it is.
-pub(crate) fn is_short(text: &str) -> bool {
+pub(crate) fn is_short(text: &str) -> bool
+    ensures { result ≡ spec.is_short text.now }
+{
     text.len() <= MOST_SHOWN
 }
 
 /// A text up to its last character that ends within so many bytes.
-fn cut(text: &str) -> &str {
-    let mut end = 0;
-    for (at, c) in text.char_indices() {
-        let next = at.saturating_add(c.len_utf8());
-        if next > MOST_SHOWN {
-            break;
-        }
-        end = next;
-    }
-    text.get(..end).unwrap_or("")
+fn cut(text: &str) -> &str
+    ensures { result.now ≡ spec.cut text.now }
+{
+    let (front, _) = text.split_at(text.floor_char_boundary(MOST_SHOWN));
+    front
+}
+
+/// A text as JSON has it.
+fn json_text(alloc: Global, text: &str) -> Result<String, AllocError>
+    ensures { IfOk result (λ t. string_bytes t ≡ spec.json text.now) }
+{
+    let value = Value::String(String::from_str(alloc, text)?);
+    let json = value.to_string(alloc)?;
+    Ok(json)
 }
 
 /// A text as JSON has it, with dots in place of what is too long to be shown.
-pub(crate) fn quoted(alloc: Global, text: &str) -> Result<String, AllocError> {
-    let Ok(json) = serde_json::to_string(alloc, &cut(text)) else {
-        return Err(AllocError);
-    };
+pub(crate) fn quoted(alloc: Global, text: &str) -> Result<String, AllocError>
+    ensures { IfOk result (λ t. string_bytes t ≡ spec.quoted text.now) }
+{
     if is_short(text) {
-        return Ok(json);
+        return json_text(alloc, text);
     }
+    let json = json_text(alloc, cut(text))?;
     let json = json.as_str();
     format!(in alloc; "{json}...")
 }
 
+/// A text without its first byte and its last one, which are characters.
+fn inside(alloc: Global, text: &str) -> Result<String, AllocError>
+    ensures { IfOk result (λ t. string_bytes t ≡ spec.inside text.now) }
+{
+    let Some(text) = text.get(1..text.len().saturating_sub(1)) else {
+        return Err(AllocError);
+    };
+    String::from_str(alloc, text)
+}
+
+/// A member's name as JSON has it, without the quotation marks.
+fn bare(alloc: Global, name: &str) -> Result<String, AllocError>
+    ensures { IfOk result (λ t. string_bytes t ≡ spec.bare name.now) }
+{
+    if is_short(name) {
+        let json = json_text(alloc, name)?;
+        return inside(alloc, json.as_str());
+    }
+    let json = json_text(alloc, cut(name))?;
+    let json = inside(alloc, json.as_str())?;
+    let json = json.as_str();
+    format!(in alloc; "{json}...")
+}
+
+/// The line of a member, behind its name.
+pub(crate) fn line_of(alloc: Global, name: &str, change: &str) -> Result<String, AllocError>
+    ensures { IfOk result (λ t. string_bytes t ≡ spec.line name.now change.now) }
+{
+    let name = bare(alloc, name)?;
+    let name = name.as_str();
+    format!(in alloc; "{name}: {change}")
+}
+
 /// The word for so many entries.
-fn entries_word(count: usize) -> &'static str {
+fn entries_word(count: usize) -> &'static str
+    ensures { result.now ≡ spec.entries_word count }
+{
     if count == 1 { "entry" } else { "entries" }
 }
 
 /// The word for so many bytes.
-fn bytes_word(count: usize) -> &'static str {
+fn bytes_word(count: usize) -> &'static str
+    ensures { result.now ≡ spec.bytes_word count }
+{
     if count == 1 { "byte" } else { "bytes" }
 }
 
 /// So many entries.
-pub(crate) fn entry_count(alloc: Global, count: usize) -> Result<String, AllocError> {
+pub(crate) fn entry_count(alloc: Global, count: usize) -> Result<String, AllocError>
+    ensures { IfOk result (λ t. string_bytes t ≡ spec.entry_count count) }
+{
     let word = entries_word(count);
     format!(in alloc; "{count} {word}")
 }
 
 /// So many entries before, and so many now.
-pub(crate) fn entry_counts(alloc: Global, before: usize, now: usize) -> Result<String, AllocError> {
+pub(crate) fn entry_counts(alloc: Global, before: usize, now: usize) -> Result<String, AllocError>
+    ensures { IfOk result (λ t. string_bytes t ≡ spec.entry_counts before now) }
+{
     if before == now {
         return entry_count(alloc, now);
     }
@@ -60,17 +111,30 @@ pub(crate) fn entry_counts(alloc: Global, before: usize, now: usize) -> Result<S
     format!(in alloc; "{before} to {now} {word}")
 }
 
+/// So many bytes.
+fn byte_count(alloc: Global, count: usize) -> Result<String, AllocError>
+    ensures { IfOk result (λ t. string_bytes t ≡ spec.byte_count count) }
+{
+    let word = bytes_word(count);
+    format!(in alloc; "{count} {word}")
+}
+
 /// So many bytes before, and so many now.
-pub(crate) fn byte_counts(alloc: Global, before: usize, now: usize) -> Result<String, AllocError> {
-    let word = bytes_word(now);
+pub(crate) fn byte_counts(alloc: Global, before: usize, now: usize) -> Result<String, AllocError>
+    ensures { IfOk result (λ t. string_bytes t ≡ spec.byte_counts before now) }
+{
+    let count = byte_count(alloc, now)?;
+    let count = count.as_str();
     if before == now {
-        return format!(in alloc; "{now} {word}, other ones");
+        return format!(in alloc; "{count}, other ones");
     }
-    format!(in alloc; "{before} to {now} {word}")
+    format!(in alloc; "{before} to {count}")
 }
 
 /// How a text becomes another: both, where they are short, and else how long they are.
-pub(crate) fn text_change(alloc: Global, before: &str, now: &str) -> Result<String, AllocError> {
+pub(crate) fn text_change(alloc: Global, before: &str, now: &str) -> Result<String, AllocError>
+    ensures { IfOk result (λ t. string_bytes t ≡ spec.text_change before.now now.now) }
+{
     if !is_short(before) || !is_short(now) {
         return byte_counts(alloc, before.len(), now.len());
     }
@@ -80,19 +144,38 @@ pub(crate) fn text_change(alloc: Global, before: &str, now: &str) -> Result<Stri
     format!(in alloc; "{before} to {now}")
 }
 
-/// How large a value is, behind a comma, if it is a list or a text.
-pub(crate) fn size_of(alloc: Global, value: &Value) -> Result<String, AllocError> {
-    match value {
-        Value::Array(entries) => {
-            let count = entry_count(alloc, entries.len())?;
-            let count = count.as_str();
-            format!(in alloc; ", {count}")
-        }
-        Value::String(text) => {
-            let count = text.as_str().len();
-            let word = bytes_word(count);
-            format!(in alloc; ", {count} {word}")
-        }
-        _ => Ok(String::new(alloc)),
+/// The same behind a comma.
+fn behind_comma(alloc: Global, count: &str) -> Result<String, AllocError>
+    ensures { IfOk result (λ t. string_bytes t ≡ spec.behind_comma count.now) }
+{
+    format!(in alloc; ", {count}")
+}
+
+/// How large an array is.
+fn entries_size(alloc: Global, entries: &[Value]) -> Result<String, AllocError>
+    ensures { IfOk result (λ t. string_bytes t ≡ spec.entries_size (length entries.now)) }
+{
+    let count = entry_count(alloc, entries.len())?;
+    behind_comma(alloc, count.as_str())
+}
+
+/// How large a string is.
+fn text_size(alloc: Global, text: &str) -> Result<String, AllocError>
+    ensures { IfOk result (λ t. string_bytes t ≡ spec.text_size text.now) }
+{
+    let count = byte_count(alloc, text.len())?;
+    behind_comma(alloc, count.as_str())
+}
+
+/// How large a value is, behind a comma, if it is an array or a string.
+pub(crate) fn size_of(alloc: Global, value: &Value) -> Result<String, AllocError>
+    ensures { IfOk result (λ t. string_bytes t ≡ spec.size (view value.now)) }
+{
+    if let Some(entries) = value.as_array() {
+        return entries_size(alloc, entries);
     }
+    if let Some(text) = value.as_str() {
+        return text_size(alloc, text);
+    }
+    Ok(String::new(alloc))
 }

@@ -1,0 +1,88 @@
+-- Values in a few words.
+use Rattle.std.specs.Prelude.{ℕ, zero, suc, ◌-◌, ◌==◌, ◌&&◌, ◌||◌, Bool, cond, decimal, List, [], ◌++◌, codes, length, take}
+use Rattle.std.specs.Prelude.{nat_le, nat_lt, Option, Some, None, slice_index, slice_range}
+use Rattle.serde_json.specs.Data.{Data, string, Items}
+use Rattle.serde_json.specs.Find.{as_array, as_str}
+use Rattle.serde_json.specs.Written.{compact_text}
+use Rattle.smap_changes.specs.Lists.{items_of}
+
+-- a text of at most 60 bytes is shown whole
+abbrev pub is_short : List ℕ → Bool
+is_short text = nat_le (length text) 60
+
+-- no character of UTF-8 has bytes on both sides of this place
+abbrev pub is_boundary : List ℕ → ℕ → Bool
+is_boundary text i = nat_le i (length text)
+    && (nat_le (length text) i || (nat_lt (slice_index text i) 128 || nat_le 192 (slice_index text i)))
+
+-- the last such place that isn't behind this one
+unfoldable pub last_boundary : List ℕ → ℕ → ℕ
+last_boundary text zero = zero
+last_boundary text (suc n) = cond (is_boundary text (suc n)) (suc n) (last_boundary text n)
+
+-- as many whole characters of a text as 60 bytes hold
+abbrev pub cut : List ℕ → List ℕ
+cut text = take (last_boundary text 60) text
+
+-- a text as JSON has it
+abbrev pub json : List ℕ → List ℕ
+json text = compact_text (string text)
+
+-- and with dots in place of what is too long
+abbrev pub quoted : List ℕ → List ℕ
+quoted text = cond (is_short text) (json text) (json (cut text) ++ codes "...")
+
+-- without the first byte and the last one
+abbrev pub inside : List ℕ → List ℕ
+inside text = slice_range text 1 (length text - 1)
+
+-- a member's name as JSON has it, without the quotation marks
+abbrev pub bare : List ℕ → List ℕ
+bare name = cond (is_short name) (inside (json name)) (inside (json (cut name)) ++ codes "...")
+
+-- the line of a member
+abbrev pub line : List ℕ → List ℕ → List ℕ
+line name change = bare name ++ (codes ": " ++ change)
+
+abbrev pub entries_word : ℕ → List ℕ
+entries_word n = cond (n == 1) (codes "entry") (codes "entries")
+
+abbrev pub bytes_word : ℕ → List ℕ
+bytes_word n = cond (n == 1) (codes "byte") (codes "bytes")
+
+abbrev pub entry_count : ℕ → List ℕ
+entry_count n = decimal n ++ (codes " " ++ entries_word n)
+
+-- so many entries before, and so many now
+abbrev pub entry_counts : ℕ → ℕ → List ℕ
+entry_counts m n = cond (m == n) (entry_count n) (decimal m ++ (codes " to " ++ entry_count n))
+
+abbrev pub byte_count : ℕ → List ℕ
+byte_count n = decimal n ++ (codes " " ++ bytes_word n)
+
+-- so many bytes before, and so many now
+abbrev pub byte_counts : ℕ → ℕ → List ℕ
+byte_counts m n = cond (m == n) (byte_count n ++ codes ", other ones") (decimal m ++ (codes " to " ++ byte_count n))
+
+-- how a text becomes another: both, where they are short, and else their lengths
+abbrev pub text_change : List ℕ → List ℕ → List ℕ
+text_change before now = cond (is_short before && is_short now) (quoted before ++ (codes " to " ++ quoted now))
+    (byte_counts (length before) (length now))
+
+abbrev pub behind_comma : List ℕ → List ℕ
+behind_comma count = codes ", " ++ count
+
+abbrev pub entries_size : ℕ → List ℕ
+entries_size n = behind_comma (entry_count n)
+
+abbrev pub text_size : List ℕ → List ℕ
+text_size text = behind_comma (byte_count (length text))
+
+abbrev pub size_if : Option Items → Option (List ℕ) → List ℕ
+size_if (Some ds) o = entries_size (length (items_of ds))
+size_if None (Some s) = text_size s
+size_if None None = []
+
+-- how large an array or a string is, behind a comma
+abbrev pub size : Data → List ℕ
+size d = size_if (as_array d) (as_str d)
