@@ -29,8 +29,10 @@ def bytes_add_up(browser, made, url):
     assert max(ratios) < 1.6 * min(ratios), ratios
 
 
-def folders_nest(browser):
+def folders_nest(browser, url):
     """Each area of a folder has the bytes of those within it."""
+    browser.open("about:blank")
+    browser.open(f"{url}#bytes")
     areas = browser.run("""
         return [...document.querySelectorAll('#tree > *')].map(area => {
             const { left, top, right, bottom } = area.getBoundingClientRect();
@@ -160,13 +162,20 @@ def fits(browser, url):
     """Nothing sticks out of the page, in a wide window and on a phone; both panes have room."""
     for width, height in (1280, 800), (390, 700):
         browser.size(width, height)
-        for view_name in "", "#bytes":
+        # the key w: with lines that aren't wrapped
+        for view_name, *keys in ("",), ("", "w"), ("#bytes",):
             browser.open("about:blank")
             browser.open(f"{url}{view_name}")
+            browser.press(*keys)
             inner = browser.run("""
                 const { scrollWidth, scrollHeight } = document.documentElement;
                 return [innerWidth, scrollWidth, scrollHeight];""")
             assert inner[1] <= inner[0] and inner[2] <= height, (width, inner)
+            if not view_name:
+                right, low, edge = browser.run("""
+                    const { right, bottom } = document.getElementById('wrap').getBoundingClientRect();
+                    return [right, bottom, document.querySelector('header').getBoundingClientRect().bottom];""")
+                assert right <= width and low <= edge, (width, right, low, edge)
             parts = ["generated", "source"] if not view_name else ["tree", "sizes"]
             for part in parts:
                 box = browser.run("""
@@ -224,15 +233,19 @@ def large(browser, folder, note):
          f"{size / 1e6:.1f} MB, opened in {opened:.2f} s of processor time, {wall:.2f} s by the clock")
     assert opened < 2, opened
     assert browser.run("return document.querySelectorAll('*').length") < 6000
+
+    def follow_four():
+        for place in "4:2400001", "2:1234567", "1:1", "3:2":
+            said = follow(browser, f"#generated={place}")
+            line, column = map(int, place.split(":"))
+            mapping = (line - 1) * (made["count"] // 4) + (column - 1) // 10
+            at = mapping % made["each"]
+            number = mapping // made["each"]
+            wanted = f"from {at // 5 + 1}:{at % 5 * 8 + 1} of http://h/m/src/{number % 20}/part{number}.js"
+            assert wanted in said, (said, wanted)
+
     before = busy()
-    for place in "4:2400001", "2:1234567", "1:1", "3:2":
-        said = follow(browser, f"#generated={place}")
-        line, column = map(int, place.split(":"))
-        mapping = (line - 1) * (made["count"] // 4) + (column - 1) // 10
-        at = mapping % made["each"]
-        number = mapping // made["each"]
-        wanted = f"from {at // 5 + 1}:{at % 5 * 8 + 1} of http://h/m/src/{number % 20}/part{number}.js"
-        assert wanted in said, (said, wanted)
+    follow_four()
     for part in range(1, 11):
         browser.run("""
             const pane = document.getElementById('generated');
@@ -241,6 +254,18 @@ def large(browser, folder, note):
     jumps = busy() - before
     note(f"four links and ten jumps in it: {jumps:.2f} s of processor time")
     assert jumps < 1.5, jumps
+    before = busy()
+    browser.run("document.getElementById('wrap').click()")
+    follow_four()
+    for part in range(1, 11):
+        browser.run("""
+            const pane = document.getElementById('generated');
+            pane.scrollLeft = pane.scrollWidth * arguments[0];""", part / 10)
+        browser.run("return document.getElementById('generated').offsetHeight")
+    jumps = busy() - before
+    note(f"the same where lines aren't wrapped: {jumps:.2f} s of processor time")
+    assert jumps < 1.5, jumps
+    assert browser.run("return document.querySelectorAll('*').length") < 6000
     before = busy()
     browser.run("document.getElementById('bytes-tab').click()")
     sizes = [int(row[1].replace(",", "")) for row in browser.run(TABLE)]

@@ -5,9 +5,13 @@ from browsers import CONTROL, DOWN, END, ENTER, HOME, LEFT, RIGHT, TAB, UP
 from common import CLEAR, MARKED, POINT, as_lookup, equal, follow, lookup, make_page, places, status
 
 
-def clicks(browser, folder, made, url, count):
+def clicks(browser, folder, made, url, count, wraps=True):
     """What is marked after a click is what `smap lookup` answers."""
+    browser.open("about:blank")
     browser.open(url)
+    if not wraps:
+        browser.press("w")
+        equal(browser.run("return document.getElementById('wrap').getAttribute('aria-pressed')"), "false")
     wrong = []
     for line, column in places(made, count):
         wanted = lookup(folder, made["name"], line, column)
@@ -101,6 +105,8 @@ def keyboard_bytes(browser, url):
 
 
 def links(browser, url):
+    browser.open("about:blank")
+    browser.open(url)
     for link, wanted, marks in (
             ("#generated=1:5", SECOND, ("g ", "bar;")), ("#generated=2:1", "2:1 has no mapping", ("", "")),
             ("#generated=2", "2:1 has no mapping", ("", "")), ("#source=1:1:6", FIRST, ("ff ", "foo;")),

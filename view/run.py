@@ -13,6 +13,7 @@ import contents
 import looks
 import marks
 import pages
+import wraps
 from common import equal, make_page
 
 ONLY = sys.argv[sys.argv.index("--only") + 1] if "--only" in sys.argv else ""
@@ -46,8 +47,10 @@ def try_browser(browser, folder, made, url, simple_url, count):
     browser.size(1280, 800)
     refused = make_page(folder, "refused.map", "refused.map", status=1)
     test(f"{browser.name}: {count} clicks", marks.clicks, browser, folder, made, url, count)
+    test(f"{browser.name}: clicks in lines that aren't wrapped", marks.clicks, browser, folder, made, url,
+         count // 5, False)
     test(f"{browser.name}: bytes", looks.bytes_add_up, browser, made, url)
-    test(f"{browser.name}: folders", looks.folders_nest, browser)
+    test(f"{browser.name}: folders", looks.folders_nest, browser, url)
     test(f"{browser.name}: labels of areas", looks.labels_end, browser, url)
     test(f"{browser.name}: a folder of the areas", looks.zooms, browser, url)
     test(f"{browser.name}: the table", looks.table_sorts, browser, url)
@@ -59,6 +62,11 @@ def try_browser(browser, folder, made, url, simple_url, count):
     test(f"{browser.name}: search", marks.finds, browser, simple_url)
     test(f"{browser.name}: the list of sources", marks.filters, browser, simple_url)
     test(f"{browser.name}: the line between the panes", marks.ties, browser, simple_url)
+    test(f"{browser.name}: wrapping by a button and a key", wraps.has_button, browser, url)
+    test(f"{browser.name}: all of a line that isn't wrapped", wraps.shows_all, browser, made, url)
+    test(f"{browser.name}: marks in lines that aren't wrapped", wraps.keeps_marks, browser, made, url)
+    test(f"{browser.name}: search in lines that aren't wrapped", wraps.goes_to_found, browser, made, url)
+    test(f"{browser.name}: the longest lines, not wrapped", wraps.cuts_longest, browser, folder)
     test(f"{browser.name}: links", marks.links, browser, simple_url)
     test(f"{browser.name}: clicks in a source, and the pointer", marks.source_clicks, browser, simple_url)
     test(f"{browser.name}: contrasts", looks.contrasts, browser, url, refused)

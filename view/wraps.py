@@ -1,0 +1,154 @@
+"""Tests of lines that are longer than a pane is wide, wrapped and not."""
+
+import pages
+from browsers import ENTER
+from common import equal, follow, lines_of, make_page, status
+from marks import tab_to
+
+FRAMES = "return new Promise(done => requestAnimationFrame(() => requestAnimationFrame(() => done(true))))"
+PRESSED = "return document.getElementById('wrap').getAttribute('aria-pressed')"
+LABELS = "return [...document.querySelectorAll('#generated .number')].map(one => one.textContent)"
+
+# Whether the mark of each pane is seen, with the number of its row.
+SEEN = """
+    return ['generated', 'source'].map(id => {
+        const pane = document.getElementById(id), mark = pane.querySelector('.mark');
+        if (!mark) return null;
+        const area = pane.getBoundingClientRect(), box = mark.getBoundingClientRect();
+        const number = mark.parentElement.firstChild.getBoundingClientRect();
+        return number.left >= area.left && number.right < area.right && box.left >= number.right - 1 &&
+            box.left < area.left + pane.clientWidth && box.top >= area.top - 1 &&
+            box.bottom <= area.top + pane.clientHeight + 1;
+    });"""
+
+
+def sees_marks(browser, where):
+    browser.run(FRAMES)
+    equal((where, browser.run(SEEN)), (where, [True, True]))
+
+
+def has_button(browser, url):
+    """A button and a key turn it on and off, and the button says which."""
+    browser.open("about:blank")
+    browser.open(url)
+    rows = len(browser.run(LABELS))
+    wrapped = browser.run(LABELS)
+    assert any(label.startswith(":") for label in wrapped), wrapped
+    equal(browser.run(PRESSED), "true")
+    browser.press("w")
+    equal((browser.run(PRESSED), browser.run(LABELS)), ("false", [str(line + 1) for line in range(rows)]))
+    browser.press("W")
+    equal((browser.run(PRESSED), browser.run(LABELS)), ("true", wrapped))
+    browser.open("about:blank")
+    browser.open(url)
+    tab_to(browser, "wrap")
+    equal(browser.run("return document.activeElement.textContent"), "Wrap lines")
+    for pressed in "false", "true":
+        browser.press(ENTER)
+        equal((browser.run(PRESSED), any(label.startswith(":") for label in browser.run(LABELS))),
+              (pressed, pressed == "true"))
+    # a field takes the letter
+    browser.run("document.querySelector('#generated-find input').focus()")
+    browser.press("w")
+    equal(browser.run(PRESSED), "true")
+    browser.run("document.getElementById('bytes-tab').click()")
+    equal(browser.run("return document.getElementById('wrap').checkVisibility()"), False)
+
+
+def shows_all(browser, made, url):
+    """A line that isn't wrapped is seen whole, part by part, when its pane is scrolled sideways."""
+    browser.open("about:blank")
+    browser.open(url)
+    browser.press("w")
+    line = max(lines_of(made["text"]), key=len)
+    number = lines_of(made["text"]).index(line)
+    assert pages.units(line) > 1000
+    text = b""
+    step = browser.run("return document.getElementById('generated').clientWidth") - 100
+    for left in range(0, 100000, step):
+        browser.run("document.getElementById('generated').scrollLeft = arguments[0]", left)
+        browser.run(FRAMES)
+        column, part, at = browser.run("""
+            const pane = document.getElementById('generated');
+            const row = pane.querySelector(`.row[data-line="${arguments[0]}"]`);
+            const texts = [...row.children].slice(1).map(one => one.textContent);
+            return [Number(row.dataset.column), texts.join(''), pane.scrollLeft];""", number)
+        assert 2 * column <= len(text), f"nothing is drawn before column {column + 1}"
+        text = text[:2 * column] + part.encode("utf-16-le")
+        if at < left - 1:
+            break
+    equal(text.decode("utf-16-le"), line)
+
+
+def keeps_marks(browser, made, url):
+    """What is marked is seen, and the line between the marks ends at both, wherever lines become rows."""
+    ends = """
+        const line = document.querySelector('#tie path').getAttribute('d').match(/[\\d.]+/g)?.map(Number);
+        const [from, to] = ['generated', 'source'].map(id => document.querySelector(`#${id} .mark`))
+            .map(mark => mark.getBoundingClientRect());
+        const near = (a, b) => Math.abs(a - b) < 1;
+        return [near(line[0], from.right), near(line[1], (from.top + from.bottom) / 2),
+                near(line.at(-2), to.left), near(line.at(-1), (to.top + to.bottom) / 2)];"""
+    # places of the two long lines, by the last mapping at each, whose source has contents
+    owners = {(line, column): (*numbers, -1)[0] for line, column, *numbers in made["made"] if line in (3, 20)}
+    mapped = [place for place, owner in owners.items() if 0 <= owner < len(pages.SOURCES) - 1]
+    assert len(mapped) > 500, len(mapped)
+    for line, column in mapped[::len(mapped) // 6]:
+        place = f"{line + 1}:{column + 1}"
+        browser.open("about:blank")
+        browser.open(f"{url}#generated={place}")
+        said = status(browser)
+        for mode in "wrapped", "not wrapped", "wrapped again":
+            sees_marks(browser, (place, mode))
+            equal((place, mode, browser.run(ends)), (place, mode, [True] * 4))
+            browser.press("w")
+        equal(status(browser), said)
+        # and after a link, where lines aren't wrapped
+        follow(browser, "#generated=4:1")
+        follow(browser, f"#generated={place}")
+        sees_marks(browser, (place, "by a link"))
+
+
+def goes_to_found(browser, made, url):
+    """A search has the same places in lines that aren't wrapped, and each is scrolled to."""
+    browser.open("about:blank")
+    browser.open(url)
+    browser.press("w")
+    browser.press("/")
+    browser.press(*"render p", ENTER)
+    count = "return document.querySelector('#generated-find output').textContent"
+    total = made["text"].count("render p")
+    assert total > 5, total
+    seen = """
+        const pane = document.getElementById('generated'), area = pane.getBoundingClientRect();
+        return [...pane.querySelectorAll('.found')].map(one => one.getBoundingClientRect())
+            .some(box => box.left > area.left && box.right < area.right && box.top >= area.top &&
+                box.bottom < area.bottom);"""
+    for place in range(1, total + 1):
+        equal(browser.run(count), f"{place} of {total}")
+        browser.run(FRAMES)
+        equal((place, browser.run(seen)), (place, True))
+        browser.press(ENTER)
+
+
+def cuts_longest(browser, folder):
+    """A line of more than 100,000 columns is a row for each 100,000; only what is seen of them is drawn."""
+    made = pages.Maker()
+    for number in range(25000):
+        made.add(f"{number:09};", 0, number, 0)
+    made.end_line()
+    made.add("end", 0, 3, 1)
+    made.write(folder, "long.js", sources=["a.js"], sourcesContent=["line\n" * 25000])
+    url = make_page(folder, "long.js.map", "--base", "http://h/m", "long.js.map")
+    browser.open("about:blank")
+    browser.open(url)
+    browser.press("w")
+    equal(browser.run(LABELS), ["1", ":100001", ":200001", "2"])
+    for column in 234561, 99991, 100001, 250000, 1:
+        begin = (column - 1) // 10 * 10
+        said = follow(browser, f"#generated=1:{column}")
+        equal(said, f"1:{begin + 1} to 1:{begin + 11} comes from {begin // 10 + 1}:1 of http://h/m/a.js")
+        sees_marks(browser, column)
+        equal(browser.run("return document.querySelector('#generated .mark').textContent"),
+              f"{begin // 10:09};")
+    assert browser.run("return document.querySelectorAll('*').length") < 1000
