@@ -80,7 +80,8 @@ def labels_end(browser, url):
             range.selectNodeContents(node);
             const { textOverflow, whiteSpace, overflow } = getComputedStyle(box);
             const { width, height } = range.getBoundingClientRect();
-            if (width > area.clientWidth || height > 20) texts.push([node.data, textOverflow, whiteSpace, overflow]);
+            const isCut = width > area.clientWidth || height > 20;
+            if (isCut) texts.push([node.data, textOverflow, whiteSpace, overflow]);
         }
         return texts;""")
     browser.size(1280, 800)
@@ -108,7 +109,8 @@ def zooms(browser, url):
     browser.press("+", "+", "+", "+")
     equal(browser.run(leaves), parts)
     browser.press("-")
-    equal(sorted(browser.run(leaves)), sorted([*parts, "http://h/m/src/app.js", "http://h/m/src/util/dates.js"]))
+    equal(sorted(browser.run(leaves)),
+          sorted([*parts, "http://h/m/src/app.js", "http://h/m/src/util/dates.js"]))
 
 
 # ---- what it looks like
@@ -173,8 +175,9 @@ def fits(browser, url):
             assert inner[1] <= inner[0] and inner[2] <= height, (width, inner)
             if not view_name:
                 right, low, edge = browser.run("""
-                    const { right, bottom } = document.getElementById('wrap').getBoundingClientRect();
-                    return [right, bottom, document.querySelector('header').getBoundingClientRect().bottom];""")
+                    const [{ right, bottom }, header] = ['#wrap', 'header']
+                        .map(one => document.querySelector(one).getBoundingClientRect());
+                    return [right, bottom, header.bottom];""")
                 assert right <= width and low <= edge, (width, right, low, edge)
             parts = ["generated", "source"] if not view_name else ["tree", "sizes"]
             for part in parts:
@@ -185,8 +188,8 @@ def fits(browser, url):
     browser.size(1280, 800)
 
 
-def fits_phone(browser, url, folder):
-    """On a phone an error has all its words, and a field all of what stands in it while it is empty."""
+def fields_have_room(browser, url):
+    """On a phone an empty field shows all of what stands in it."""
     browser.size(390, 700)
     browser.open("about:blank")
     browser.open(url)
@@ -199,6 +202,12 @@ def fits_phone(browser, url, folder):
                 return [one.placeholder, pen.measureText(one.placeholder).width, room];
             });"""):
         assert width <= room, f"{text} is cut: {width} of {room}"
+    browser.size(1280, 800)
+
+
+def errors_have_room(browser, folder):
+    """On a phone the error of a refused map has all its words."""
+    browser.size(390, 700)
     (folder / "cut.map").write_text('{"version":3,"sections":[{"offset":{"line":0,"column":0},"map":{'
                                     '"version":3,"sources":["a.js"],"mappings":"AAAA,BAAA"}}]}')
     browser.open(make_page(folder, "cut.map", "cut.map", status=1))

@@ -166,15 +166,27 @@ def source_clicks(browser, url):
 
 
 def keys_at_once(browser, url):
-    """Keys work before anything has the focus, and the address follows them."""
+    """Keys work before anything has the focus."""
     browser.open("about:blank")
     browser.open(url)
-    for key, wanted, link in (RIGHT, FIRST, "#generated=1:1"), (RIGHT, SECOND, "#generated=1:4"):
-        browser.press(key)
+    equal(browser.run("return document.activeElement === document.body"), True)
+    for wanted in FIRST, SECOND:
+        browser.press(RIGHT)
         equal(status(browser), wanted)
-        if wanted == FIRST:
-            equal(browser.run("return location.hash"), link)
-        browser.wait("return location.hash === arguments[0]", link)
+
+
+def address_follows(browser, url):
+    """The address follows keys: the first at once, others soon."""
+    browser.open("about:blank")
+    browser.open(url)
+    tab_to(browser, "generated")
+    browser.press(RIGHT)
+    equal(browser.run("return location.hash"), "#generated=1:1")
+    browser.press(RIGHT)
+    browser.wait("return location.hash === '#generated=1:4'")
+    tab_to(browser, "source")
+    browser.press(HOME)
+    browser.wait("return location.hash === '#source=1:2:1'")
 
 
 def scrolls_nowhere(browser, url):

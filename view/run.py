@@ -57,6 +57,7 @@ def try_browser(browser, folder, made, url, simple_url, count):
     test(f"{browser.name}: keyboard", marks.keyboard, browser, simple_url)
     test(f"{browser.name}: keyboard and bytes", marks.keyboard_bytes, browser, simple_url)
     test(f"{browser.name}: keys at once", marks.keys_at_once, browser, simple_url)
+    test(f"{browser.name}: keys and the address", marks.address_follows, browser, simple_url)
     test(f"{browser.name}: lines that fit", marks.scrolls_nowhere, browser, simple_url)
     test(f"{browser.name}: places", marks.search, browser, simple_url)
     test(f"{browser.name}: search", marks.finds, browser, simple_url)
@@ -107,7 +108,8 @@ def main():
                 try_browser(browser, folder, made, url, simple_url, count)
                 if kind is browsers.Chromium:
                     test("Chromium: sizes of the window", looks.fits, browser, url)
-                    test("Chromium: a phone", looks.fits_phone, browser, url, folder)
+                    test("Chromium: fields on a phone", looks.fields_have_room, browser, url)
+                    test("Chromium: an error on a phone", looks.errors_have_room, browser, folder)
                     test("Chromium: without scripts", contents.without_scripts, browser, url)
                     if "--quick" in sys.argv:
                         left_out.append("a large map (--quick)")
