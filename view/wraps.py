@@ -1,5 +1,7 @@
 """Tests of lines that are longer than a pane is wide, wrapped and not."""
 
+import re
+
 import pages
 from browsers import ENTER
 from common import equal, follow, lines_of, make_page, status
@@ -98,7 +100,8 @@ def keeps_marks(browser, made, url):
         browser.open("about:blank")
         browser.open(f"{url}#generated={place}")
         said = status(browser)
-        for mode in "wrapped", "not wrapped", "wrapped again":
+        for mode, pressed in ("wrapped", "true"), ("not wrapped", "false"), ("wrapped again", "true"):
+            equal(browser.run(PRESSED), pressed)
             sees_marks(browser, (place, mode))
             equal((place, mode, browser.run(ends)), (place, mode, [True] * 4))
             browser.press("w")
@@ -114,21 +117,32 @@ def goes_to_found(browser, made, url):
     browser.open("about:blank")
     browser.open(url)
     browser.press("w")
+    equal(browser.run(PRESSED), "false")
     browser.press("/")
-    browser.press(*"render p", ENTER)
+    browser.press(*"render p")
     count = "return document.querySelector('#generated-find output').textContent"
-    total = made["text"].count("render p")
-    assert total > 5, total
+    found = [(number, pages.units(line[:each.start()])) for number, line in enumerate(lines_of(made["text"]))
+             for each in re.finditer("render p", line)]
+    assert len(found) > 5, found
+    # whether what was found begins, and is seen, at this line and column
     seen = """
-        const pane = document.getElementById('generated'), area = pane.getBoundingClientRect();
-        return [...pane.querySelectorAll('.found')].map(one => one.getBoundingClientRect())
-            .some(box => box.left > area.left && box.right < area.right && box.top >= area.top &&
-                box.bottom < area.bottom);"""
-    for place in range(1, total + 1):
-        equal(browser.run(count), f"{place} of {total}")
-        browser.run(FRAMES)
-        equal((place, browser.run(seen)), (place, True))
+        const [line, column] = arguments, pane = document.getElementById('generated');
+        const row = pane.querySelector(`.row[data-line="${line}"]`), area = pane.getBoundingClientRect();
+        let at = Number(row.dataset.column);
+        for (const span of [...row.children].slice(1)) {
+            const box = span.getBoundingClientRect();
+            if (at === column && span.classList.contains('found')) {
+                return box.left >= row.firstChild.getBoundingClientRect().right - 1 && box.left < area.right &&
+                    box.top >= area.top && box.bottom < area.bottom;
+            }
+            at += span.textContent.length;
+        }
+        return null;"""
+    for number, place in enumerate(found, 1):
         browser.press(ENTER)
+        equal(browser.run(count), f"{number} of {len(found)}")
+        browser.run(FRAMES)
+        equal((place, browser.run(seen, *place)), (place, True))
 
 
 def cuts_longest(browser, folder):
@@ -152,3 +166,12 @@ def cuts_longest(browser, folder):
         equal(browser.run("return document.querySelector('#generated .mark').textContent"),
               f"{begin // 10:09};")
     assert browser.run("return document.querySelectorAll('*').length") < 1000
+    # no line goes to a mark that is behind the numbers
+    path = "return document.querySelector('#tie path').getAttribute('d')"
+    follow(browser, "#generated=1:50001")
+    browser.wait(path)
+    browser.run("""
+        const pane = document.getElementById('generated'), mark = pane.querySelector('.mark');
+        const number = mark.parentElement.firstChild.getBoundingClientRect();
+        pane.scrollLeft += mark.getBoundingClientRect().right - number.right + 2;""")
+    browser.wait(f"{path} === ''")
