@@ -1,8 +1,10 @@
 # shellcheck shell=bash
-# Completion of smap, smap-trace, smap-maps and smap-view for bash 4 and later. The package bash-completion
-# loads this file once one of them is completed; without that package, `. smap.bash` in ~/.bashrc does.
+# Completion of smap, smap-trace, smap-maps, smap-view and smap-events for bash 4 and later. The package
+# bash-completion loads this file once one of them is completed; without that package, `. smap.bash` in ~/.bashrc
+# does.
 
-# The options of each command. rows/completion.rows compares these lines with --help.
+# The options of each command. rows/completion.rows compares these lines with --help, and
+# capi/tests/event_lines.py that of smap-events.
 _smap_options='
 smap: --version --help
 smap check: --help
@@ -14,6 +16,7 @@ smap scripts: --help
 smap translate: --hide-ignored --anywhere --ignore-query --help
 smap-trace: --anywhere --ignore-query --hide-ignored --skip-broken --check-all --list --context --source-prefix --verbose --version --help
 smap-view: --base --sizes --budget --version --help
+smap-events: --no-raw --context --version --help
 smap-maps: --version --help
 smap-maps check: --base --jobs --json --version --help
 smap-maps tidy: --base --jobs --json --absolute --relative --write --drop --diff --version --help
@@ -149,7 +152,7 @@ _smap() {
     last=$((${#words[@]} - 1))
     word=${words[last]}
     before=${words[last - 1]}
-    if [[ $program != smap-trace && $program != smap-view ]]; then
+    if [[ $program == smap || $program == smap-maps ]]; then
         for ((i = 1; i < last; i++)); do
             if [[ ${words[i]} == --base || ${words[i]} == --jobs ]]; then
                 ((i++))
@@ -187,7 +190,7 @@ _smap() {
         return
         ;;
     smap-maps:--rule | smap-maps:--min-mapped) return ;;
-    smap-trace:--context | smap-trace:--source-prefix) return ;;
+    smap-trace:--context | smap-trace:--source-prefix | smap-events:--context) return ;;
     esac
     case $program:$word in
     *:-*) _smap_choose "$(_smap_words "$program" "$command")" "$word" ;;
@@ -196,7 +199,8 @@ _smap() {
         local url=${word%=*}
         [[ -f ${url##*=} && $url == *=* ]] || _smap_files "${word##*=}" "${word%"${word##*=}"}"
         ;;
-    smap-trace:*) _smap_files "$word" '' any ;;
+    smap-events:*=*) _smap_files "${word##*=}" "${word%"${word##*=}"}" ;;
+    smap-trace:* | smap-events:*) _smap_files "$word" '' any ;;
     smap-view:*) _smap_files "$word" '' "$([[ $before != *.map ]] || echo any)" ;;
     *)
         if [[ -z $command ]]; then
@@ -208,4 +212,4 @@ _smap() {
     esac
 }
 
-complete -F _smap smap smap-trace smap-maps smap-view
+complete -F _smap smap smap-trace smap-maps smap-view smap-events

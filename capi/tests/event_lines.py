@@ -205,6 +205,16 @@ class SaidTest(EventsCase):
         done = subprocess.run(words, cwd=self.room, env=env, capture_output=True, check=False)
         self.assertEqual((done.stdout.decode(), done.stderr), (wanted, b""))
 
+    def test_the_completions_have_its_options(self):
+        wanted = set(re.findall(r"--[a-z][-a-z]*", self.run_program(["--help"]).stdout.decode()))
+        folder = TOP / "completion"
+        (of_bash,) = re.findall(r"^smap-events: (.*)$", (folder / "smap.bash").read_text(), flags=re.M)
+        self.assertEqual(set(of_bash.split()), wanted)
+        of_zsh = re.findall(r"--[a-z][-a-z]*(?=[=\[}])", (folder / "_smap-events").read_text())
+        self.assertEqual(set(of_zsh), wanted)
+        of_fish = re.findall(r"^complete .* -l ([-a-z]+)", (folder / "smap-events.fish").read_text(), flags=re.M)
+        self.assertEqual({f"--{name}" for name in of_fish}, wanted)
+
     def test_the_block_of_the_page_of_logs_runs(self):
         page = (TOP / "docs" / "LOGS.md").read_text()
         of_events = page[page.index("\n## Events\n") :]

@@ -83,6 +83,9 @@ LINES: list[tuple[Callable[[pathlib.Path, str], str], str, list[str]]] = [
     (alone, "smap-trace 'http://h/a.js=\t", ["http://h/a.js=NAME"]),
     (alone, 'smap-trace "http://h/a.js=\t', ["http://h/a.js=NAME"]),
     (alone, "smap-trace 'http://h/a.js=\t 'http://h/b.js=\t", ["http://h/a.js=NAME", "http://h/b.js=NAME"]),
+    (alone, "smap-events \t", ["NAME"]),
+    (alone, "smap-events http://h/a.js=\t", ["http://h/a.js=NAME"]),
+    (alone, "smap-events 'http://h/a.js=\t", ["http://h/a.js=NAME"]),
     (alone, "smap tidy http://h/x.map <\t", ["tidy", "http://h/x.map", "NAME"]),
     (alone, 'smap tidy http://h/x.map <"\t', ["tidy", "http://h/x.map", "NAME"]),
     (with_another, "smap-view \t2\t", ["NAME"]),
@@ -157,7 +160,7 @@ def faults(folder: pathlib.Path, shell: str, command: list[str]) -> Iterator[str
 def main() -> None:
     folder = pathlib.Path(sys.argv[1]).resolve()
     (folder / "bin").mkdir(parents=True)
-    for program in "smap", "smap-trace", "smap-maps", "smap-view":
+    for program in "smap", "smap-trace", "smap-maps", "smap-view", "smap-events":
         (folder / "bin" / program).write_text(PROGRAM)
         (folder / "bin" / program).chmod(0o755)
     os.environ["PATH"] = f"{folder}/bin:{os.environ['PATH']}"

@@ -33,6 +33,17 @@ smap-view d|smap-view dist/
 END
 }
 
+# The same of smap-events, which comes with the Python module.
+lines_of_events() {
+    cat <<'END'
+smap-events --no|smap-events --no-raw
+smap-events --context cr|smap-events --context cr
+smap-events http://h/m/=di|smap-events http://h/m/=dist/
+smap-events http://h/m/out.js?v=dist/o|smap-events http://h/m/out.js?v=dist/out.js.map
+smap-events http://h/m/=dist/ cr|smap-events http://h/m/=dist/ crash.log
+END
+}
+
 # Types each line of a file and a tab into a shell, which the further words run.
 completes() {
     file=$1
@@ -53,7 +64,7 @@ start_bash() {
     cat >"$1" <<END
 PS1=\$'\\005'
 cd $2
-for command in smap smap-trace smap-maps smap-view; do . "$3/\$command"; done
+for command in smap smap-trace smap-maps smap-view smap-events; do . "$3/\$command"; done
 bind -x '"\\C-x\\C-l": printf "\\002%s\\003" "\$READLINE_LINE"'
 END
 }
@@ -102,7 +113,7 @@ completes_in_fish() {
             printf '%s: %s\n' "$typed" "$(cat "$work/offered")"
             return 1
         }
-    done <"$work/lines"
+    done <"$work/all-lines"
 }
 
 # Completes names that strangers might choose, in the shell that the words run.
@@ -125,16 +136,18 @@ has_pexpect() {
 test_completion() {
     put_lines "$work/completed"
     lines >"$work/lines"
+    lines_of_events >"$work/lines-of-events"
+    cat "$work/lines" "$work/lines-of-events" >"$work/all-lines"
     has_pexpect 'the completions' || return
     if has bash 'completion in bash'; then
         start_bash "$work/bashrc" "$work/completed" "$usr/share/bash-completion/completions"
-        try 'bash completes commands' completes "$work/lines" bash --noprofile --rcfile "$work/bashrc" -i
+        try 'bash completes commands' completes "$work/all-lines" bash --noprofile --rcfile "$work/bashrc" -i
         start_bash "$work/names-bashrc" . "$usr/share/bash-completion/completions"
         try 'bash completes any name' completes_names bash bash --noprofile --rcfile "$work/names-bashrc" -i
     fi
     if has zsh 'completion in zsh'; then
         start_zsh "$work/zsh" "$work/completed"
-        try 'zsh completes commands' completes "$work/lines" env ZDOTDIR="$work/zsh" zsh -d -i
+        try 'zsh completes commands' completes "$work/all-lines" env ZDOTDIR="$work/zsh" zsh -d -i
         start_zsh "$work/names-zsh" .
         try 'zsh completes any name' completes_names zsh env ZDOTDIR="$work/names-zsh" zsh -d -i
     fi

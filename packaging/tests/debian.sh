@@ -48,7 +48,7 @@ has_page() {
 }
 
 completes_in_root() {
-    completes "$work/lines" packaging/tests/in-root "$root" bash --noprofile --rcfile /try/bashrc -i
+    completes "$work/$1" packaging/tests/in-root "$root" bash --noprofile --rcfile /try/bashrc -i
 }
 
 removes_program() {
@@ -163,7 +163,7 @@ test_program() {
     try 'smap runs the first example of README' runs_example
     try 'smap and the scripts say their number' says_number
     try 'man finds its page' has_page
-    [ -z "$python" ] || try 'a command is completed in bash' completes_in_root
+    [ -z "$python" ] || try 'a command is completed in bash' completes_in_root lines
     try 'smap is purged, and nothing stays' removes_program
     try 'the archive, unpacked by the line of README, runs its first example there' unpacks_in_root
 }
@@ -173,6 +173,7 @@ test_all() {
     try 'dpkg finds every file as it was packed' is_whole
     try 'the C program of the manual is compiled by pkg-config' runs_c_program
     try 'the Python program of the manual runs' runs_python_program
+    [ -z "$python" ] || try 'smap-events is completed in bash' completes_in_root lines-of-events
     [ -z "$with_node" ] || try "the first program of Node's manual runs, and smap/register" runs_node_program
     try 'the packages are upgraded' upgrades
     try 'all are purged, and nothing stays' removes_all
