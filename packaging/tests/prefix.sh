@@ -196,6 +196,37 @@ removes_npm() {
     with_npm npm uninstall smap && [ -z "$(find "$project/node_modules" -name '*smap*' 2>/dev/null)" ]
 }
 
+yarn_project=$work/yarn-project
+
+# The same with yarn, whose modules in Debian only Debian's own Node searches.
+with_yarn() (
+    cd "$yarn_project" && HOME=$work/npm-home NODE_PATH=/usr/share/nodejs yarnpkg --offline \
+        --cache-folder "$work/$1" "$2" "$3"
+)
+
+# By the words of the manual; and once more by the lock file that this made, with an empty cache.
+installs_yarn() {
+    resolution=$(grep -o '"resolutions": {[^`]*}' capi/node/README.md) &&
+        line=$(grep -o 'yarn add [^`]*' capi/node/README.md) || return 1
+    mkdir "$yarn_project" && cp "$npm_tgz" "$npm_platform_tgz" "$yarn_project" &&
+        echo "{\"private\":true,$resolution}" >"$yarn_project/package.json" &&
+        with_yarn yarn add "${line#yarn add }" && yarn_has_all && rm -r "$yarn_project/node_modules" &&
+        with_yarn yarn-again install --frozen-lockfile && yarn_has_all
+}
+
+# The commands run, and so does a program.
+yarn_has_all() {
+    modules=$yarn_project/node_modules
+    for program in smap smap-trace smap-maps smap-view; do
+        [ "$("$modules/.bin/$program" --version)" = "smap $version" ] || return 1
+    done
+    [ "$(cd "$yarn_project" && node -p "require('smap').version")" = "$version" ]
+}
+
+removes_yarn() {
+    with_yarn yarn remove smap && [ -z "$(find "$yarn_project/node_modules" -name '*smap*' 2>/dev/null)" ]
+}
+
 # Whether npm can be told that it is on another system.
 npm_takes_system() {
     [ "$(npm config get os --os=darwin 2>/dev/null)" = darwin ]
@@ -212,6 +243,10 @@ test_npm() {
         leave_out 'the package for npm on another system' 'npm here has no --os'
     fi
     try 'the package for npm is removed, and nothing stays' removes_npm
+    if has yarnpkg 'the package for npm, installed by yarn'; then
+        try 'the package for npm is installed by yarn' installs_yarn &&
+            try 'the package for npm is removed by yarn' removes_yarn
+    fi
 }
 
 test_python() {
