@@ -157,6 +157,34 @@ class ShapesTest(EventsCase):
             line = json.dumps({name: {"stack": STACK, "stacktrace": ROLLBAR_TRACE}}).encode()
             self.assertEqual(self.events(line)[::2], ([line], 0))
 
+    def test_frames_are_told_alike_however_their_list_is_read(self):
+        words = ["f", "},{", "}, {", "}]", "[{", "a{b", "lineNumber", "frames", "\\", '"', "\u00e4"]
+        frames = [
+            {"filename": SCRIPT, "function": word, "lineno": 1, "colno": column}
+            for column in (1, 20, 1)
+            for word in words
+        ]
+        # frames that aren't first are read as a whole
+        around = [{"a": 1, "frames": 0}, {"frames": 0}, {"frames": 0, "a": [{"b": "}]"}]}]
+        styles = [(",", ":"), (", ", ": "), (" , ", " : ")]
+        ways = [(stack, style) for stack in around for style in styles]
+        stacks = [[frame] for frame in frames] + [frames, frames[::-1]]
+        lines = [
+            json.dumps({"stacktrace": {**stack, "frames": one}}, separators=style).encode()
+            for one in stacks
+            for stack, style in ways
+        ]
+        told, said, status = self.events(*lines)
+        self.assertEqual(status, 0, said)
+        found = [json.loads(line)["stacktrace"] for line in told]
+        for number, one in enumerate(stacks):
+            wanted, *others = found[number * len(ways) : (number + 1) * len(ways)]
+            self.assertEqual([frame["function"] for frame in wanted["frames"]], [f["function"] for f in one])
+            self.assertNotEqual(wanted["frames"], one)
+            for (stack, _), other in zip(ways[1:], others):
+                self.assertEqual(other, {**stack, "frames": wanted["frames"]})
+        self.assertIn(f"frames translated: {len(ways) * 3 * len(frames)},", said)
+
     def test_stacks_within_stacks_take_little_time(self):
         def bounded():
             resource.setrlimit(resource.RLIMIT_CPU, (20, 20))

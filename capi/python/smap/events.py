@@ -11,7 +11,7 @@ import math
 import os
 import re
 import sys
-from typing import Any, Dict, Iterator, List, NamedTuple, Optional, Sequence, Set, Tuple
+from typing import Any, Callable, Dict, Iterator, List, NamedTuple, Optional, Sequence, Set, Tuple
 
 from . import __version__
 from .noted import Recent
@@ -51,9 +51,14 @@ OF_A_VALUE = 20
 ITEM_HEADER = {"type", "length", "content_type", "filename", "attachment_type", "item_count", "platform"}
 LENGTH = re.compile(rb'("length"\s*:\s*)(\d+)')
 
-# How many bytes of stacks are known at most; and what Python's objects for one take, about.
+# How many bytes of stacks are known at most, and of frames and lines; and what Python's objects for one take,
+# about.
 MOST_KNOWN = 1 << 25
 BESIDE = 1_000
+
+# What stands before the frames in an object whose first member they are, and what makes them Bugsnag's.
+FRAMES_FIRST = re.compile(r'\{\s*"frames"\s*:\s*')
+OF_BUGSNAG = re.compile(r'"lineNumber"\s*:')
 
 
 def raw_name(name: str) -> str:
@@ -158,6 +163,21 @@ class Told(NamedTuple):
     without: int
 
 
+class Part(NamedTuple):
+    """A frame or a line of a stack: what is written for it untranslated, and translated; whether it is, and
+    whether that makes a difference.
+    """
+
+    before: str
+    told: str
+    is_translated: bool
+    is_changed: bool
+
+
+# Makes parts together, if it can.
+Make = Callable[[List[str]], Optional[List[Part]]]
+
+
 class Stacks:
     """Translates the values of members."""
 
@@ -165,8 +185,11 @@ class Stacks:
         self._store = store
         self._keep = keep
         self._context = CONTEXT if context is None else dict.fromkeys(CONTEXT, context)
-        # stacks come again and again
+        # stacks come again and again, and so do their frames and lines in other stacks
         self._known: Recent[Told] = Recent(MOST_KNOWN)
+        self._parts: Recent[Part] = Recent(MOST_KNOWN)
+        # how many parts that were known are translated
+        self._again = 0
         self.translated = 0
 
     def told(self, name: str, text: str) -> Optional[str]:
@@ -180,11 +203,83 @@ class Stacks:
         return told.text
 
     def _translated(self, name: str, text: str) -> Told:
-        before, value = self._store.counts, read_value(text)
-        new = self._value(name, value)
+        before, self._again = self._store.counts, 0
+        told = self._by_frames(name, text)
         after = self._store.counts
         without = after.missing + after.broken - before.missing - before.broken
-        return Told(None if new == value else write_value(new), after.translated - before.translated, without)
+        return Told(told, after.translated - before.translated + self._again, without)
+
+    def _by_frames(self, name: str, text: str) -> Optional[str]:
+        """The same, frame by frame, where it is quickly seen where each of them ends, and else as a whole."""
+        first, is_rollbar = FRAMES_FIRST.match(text), name == "trace"
+        frames, end = flat_objects(text, first.end() if first else 0)
+        if not frames or name not in STACKS and not (is_rollbar and first):
+            return self._as_a_whole(name, text)
+        rest: Dict[str, Any] = {}
+        if first:
+            try:
+                rest = read_value("{" + text[end:].lstrip(" \t\r\n,"))
+            except ValueError:  # the list doesn't end there, or it is told of as a whole
+                return self._as_a_whole(name, text)
+            if "frames" in rest or "raw_frames" in rest:
+                return self._as_a_whole(name, text)
+            shape = "rollbar" if is_rollbar else "sentry"
+        else:
+            shape = "bugsnag" if OF_BUGSNAG.search(text) else "sentry"
+        parts = self._parts_of(shape, frames, self._frames_by(shape))
+        if parts is None:
+            return self._as_a_whole(name, text)
+        if not any([part.is_changed for part in parts]):
+            return None
+        told = ",".join([part.told for part in parts])
+        if not first:
+            return f"[{told}]"
+        raw = ",".join([part.before for part in parts]) if is_rollbar and self._keep else None
+        behind = "," + write_value(rest)[1:] if rest else "}"
+        return "".join(["{", f'"raw_frames":[{raw}],' if raw else "", f'"frames":[{told}]', behind])
+
+    def _as_a_whole(self, name: str, text: str) -> Optional[str]:
+        value = read_value(text)
+        new = self._value(name, value)
+        return None if new == value else write_value(new)
+
+    def _parts_of(self, kind: str, texts: List[str], make: Make) -> Optional[List[Part]]:
+        """What becomes of parts of a kind. Those that aren't known are made together; None where they can't be.
+
+        One that may be found in a map later isn't kept: which these are isn't known, if there are any.
+        """
+        known = [self._parts.get((kind, text)) for text in texts]
+        new, made = [text for text, part in zip(texts, known) if part is None], None
+        if new:
+            before, made = self._store.counts, make(new)
+            if made is None:
+                return None
+            after = self._store.counts
+            is_known = after.missing + after.broken == before.missing + before.broken
+            # a line that is translated to itself doesn't show it
+            if sum([part.is_translated for part in made]) == after.translated - before.translated:
+                for text, part in zip(new, made):
+                    if is_known or part.is_translated:
+                        size = BESIDE + 4 * len(text) + len(part.before) + len(part.told)
+                        self._parts.keep((kind, text), part, size)
+        self._again += sum([part.is_translated for part in known if part is not None])
+        rest = iter(made or ())
+        return [next(rest) if part is None else part for part in known]
+
+    def _frames_by(self, shape: str) -> Make:
+        """Makes frames of what they hold."""
+
+        def make(new: List[str]) -> Optional[List[Part]]:
+            if not all(map(is_flat, new)):
+                return None
+            frames = [read_value(f"{{{held}}}") for held in new]
+            told = self._frames(frames, shape)
+            return [
+                Part(write_value(one), write_value(other), one is not other, one != other)
+                for one, other in zip(frames, told)
+            ]
+
+        return make
 
     def _value(self, name: str, value: Any) -> Any:
         """A value with its stacks translated; itself where there are none."""
@@ -240,10 +335,37 @@ class Stacks:
 
     def _text(self, text: str) -> str:
         try:
-            data = text.encode("utf-8")
+            text.encode("utf-8")
         except UnicodeEncodeError:
             return text  # half a surrogate pair, which no URL of a script has
-        return self._store.translate(data, ignore_query=True).decode("utf-8")
+        parts = self._parts_of("line", text.split("\n"), self._lines)
+        return text if parts is None else "\n".join([part.told for part in parts])
+
+    def _lines(self, new: List[str]) -> List[Part]:
+        """What becomes of lines."""
+        data = "\n".join(new).encode("utf-8")
+        told = self._store.translate(data, ignore_query=True).decode("utf-8").split("\n")
+        return [Part(one, other, one != other, one != other) for one, other in zip(new, told)]
+
+
+def flat_objects(text: str, start: int) -> Tuple[List[str], int]:
+    """What stands between the braces of each object of a list, and where that ends. No objects are given where
+    that isn't seen at once; and only if each is flat, these are the objects.
+
+    `text` is JSON, in which a value begins there.
+    """
+    end = text.find("}]", start)
+    held = text[start + 2 : end]
+    if end < 0 or not text.startswith("[{", start) or "\\" in held:
+        return [], 0
+    return held.split("},{" if "},{" in held else "}, {"), end + 2
+
+
+def is_flat(held: str) -> bool:
+    """Whether what begins as the inside of an object, and has no backslash, ends there too: with each string that
+    begins. It holds no object then.
+    """
+    return held.count('"') % 2 == 0 and "{" not in held and "}" not in held
 
 
 def is_attribute(value: object, name: str) -> bool:

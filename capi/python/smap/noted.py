@@ -75,7 +75,15 @@ class Recent(Generic[Value]):
             return self._values[key]
         except KeyError:
             value = make()
-        size = size_of(value)
+        self.keep(key, value, size_of(value))
+        return value
+
+    def get(self, key: Hashable) -> Optional[Value]:
+        """The value of a key, if it is known."""
+        return self._values.get(key)
+
+    def keep(self, key: Hashable, value: Value, size: int) -> None:
+        """Makes a value known, which isn't."""
         if size <= self._most:
             with self._lock:
                 if self._size + size > self._most:
@@ -83,4 +91,3 @@ class Recent(Generic[Value]):
                     self._size = 0
                 self._values[key] = value
                 self._size += size
-        return value
