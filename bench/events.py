@@ -2,11 +2,11 @@
 
     python3 bench/events.py capi/out/libsmap.so [--events N]
 
-Each event has 15 frames in two scripts, whose positions are 2,000 at random; the maps have 20,000 mappings
-and the contents of 50 sources each. `bare` is without lines of the sources and without the stacks as they
-were (--no-raw --context 0), `all` with both, where no two events have the same stack; `again` is as `all`, of
-100 different stacks. `json` is what Python's json takes to read such events and to write them again, with
-nothing translated. The start of the program is left out.
+Each event has 15 frames in two scripts, whose positions are 2,000 at random, so that frames come again; the
+maps have 20,000 mappings and the contents of 50 sources each. `bare` is without lines of the sources and without
+the stacks as they were (--no-raw --context 0), `all` with both, where no two events have the same stack; `again`
+is as `all`, of 100 different stacks. `json` is what Python's json takes to read such events and to write them
+again, with nothing translated. The start of the program is left out.
 """
 
 import argparse

@@ -349,8 +349,8 @@ class Stacks:
 
 
 def flat_objects(text: str, start: int) -> Tuple[List[str], int]:
-    """What stands between the braces of each object of a list, and where that ends. No objects are given where
-    that isn't seen at once; and only if each is flat, these are the objects.
+    """What stands between the braces of each object of a list, and where that ends. Only if each is flat, these
+    are the objects; there are none where that is seen at once.
 
     `text` is JSON, in which a value begins there.
     """
@@ -362,8 +362,8 @@ def flat_objects(text: str, start: int) -> Tuple[List[str], int]:
 
 
 def is_flat(held: str) -> bool:
-    """Whether what begins as the inside of an object, and has no backslash, ends there too: with each string that
-    begins. It holds no object then.
+    """Whether what begins as the inside of an object, and has no backslash, ends outside of strings, and holds no
+    object.
     """
     return held.count('"') % 2 == 0 and "{" not in held and "}" not in held
 
