@@ -42,11 +42,11 @@ where
     R: Drop,
 {
     let alloc = host.alloc();
-    let mut log = Log::new(alloc, reader)?;
+    let mut log = Log::new(alloc, reader);
     let mut is_first = true;
     for _ in 0..u64::MAX {
         if !log.advance(host)? {
-            break;
+            return Ok(());
         }
         let lines = log.lines();
         if is_first {
@@ -56,7 +56,7 @@ where
         listed.names.add_frames(alloc, lines)?;
         listed.look(lines);
     }
-    Ok(())
+    Err(host.fail(3, "cannot read the log"))
 }
 
 /// The names with their counts, the most frequent first, then in the order of their bytes.

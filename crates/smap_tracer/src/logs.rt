@@ -1,5 +1,7 @@
 //! Logs, read block by block: whole lines as soon as they are there.
-ghost use Rattle.std.specs.Prelude.{◌≡◌};
+ghost use Rattle.std.specs.Prelude.{◌≡◌, ◌<◌, false, true, [], IfOk, OnOk, length};
+ghost use Rattle.std.specs.Io.KnownBytes.{Keeps};
+ghost use Rattle.smap_tracer.specs.Logs.{GoesOn, IsStep, handed, pending, waiting};
 
 use smap_disk::Disk;
 use smap_host::{Host, Stop};
@@ -26,22 +28,36 @@ enum Step {
     End,
 }
 
+/// Makes room for what is read at one time, if there is none.
+fn make_room(buffer: &mut Vec<u8>) -> Result<(), AllocError>
+    ensures { OnOk result (0 < length buffer.new.items) }
+{
+    if buffer.is_empty() {
+        buffer.resize(PIECE, 0u8)?;
+    }
+    Ok(())
+}
+
 impl<R: Read> Log<R> {
-    pub(crate) fn new(alloc: Global, reader: R) -> Result<Log<R>, AllocError>
+    pub(crate) fn new(alloc: Global, reader: R) -> Log<R>
     where
         R: Drop,
+        ensures reader { result.reader ≡ reader }
+        ensures block { result.block ≡ [] }
+        ensures ended { result.ended ≡ false }
     {
-        let buffer = vec![in alloc; 0u8; PIECE]?;
-        Ok(Log {
+        Log {
             reader,
-            buffer,
+            buffer: Vec::new(alloc),
             block: Block::new(alloc),
             ended: false,
-        })
+        }
     }
 
     /// The lines that were read; the last of a log may have no end.
-    pub(crate) fn lines(&self) -> &[u8] {
+    pub(crate) fn lines(&self) -> &[u8]
+        ensures { result.now ≡ handed self.now }
+    {
         if self.ended {
             self.block.all()
         } else {
@@ -53,16 +69,18 @@ impl<R: Read> Log<R> {
     fn step<E: Eprint + AllocGlobal, D: Disk>(
         &mut self,
         host: &Host<'_, E, D>,
-    ) -> Result<Step, Stop> {
+    ) -> Result<Step, Stop>
+        ensures kept { OnOk result (Keeps (waiting R.remaining self.old) (waiting R.remaining self.new)) }
+        ensures step { IfOk result (λ step. IsStep R.remaining step self.old self.new) }
+    {
+        make_room(&mut self.buffer)?;
         match self.reader.read(self.buffer.as_mut_slice()) {
             Ok(0) => {
                 self.ended = true;
                 Ok(Step::End)
             }
             Ok(count) => {
-                if let Some(bytes) = self.buffer.get(..count) {
-                    self.block.push(bytes)?;
-                }
+                self.block.push(&self.buffer[..count])?;
                 Ok(if self.block.lines().is_empty() {
                     Step::More
                 } else {
@@ -78,7 +96,11 @@ impl<R: Read> Log<R> {
     pub(crate) fn advance<E: Eprint + AllocGlobal, D: Disk>(
         &mut self,
         host: &Host<'_, E, D>,
-    ) -> Result<bool, Stop> {
+    ) -> Result<bool, Stop>
+        ensures going { IfOk result (λ more. more ≡ true → self.old.ended ≡ false) }
+        ensures lines { IfOk result (λ more. GoesOn more (pending R.remaining self.old) (pending R.remaining self.new)
+            (handed self.new)) }
+    {
         if self.ended {
             return Ok(false);
         }
@@ -90,7 +112,7 @@ impl<R: Read> Log<R> {
                 Step::More => {}
             }
         }
-        Ok(false)
+        Err(host.fail(3, "cannot read the log"))
     }
 }
 

@@ -111,16 +111,16 @@ where
     R: Drop,
     ensures { state.new.chosen ≡ state.old.chosen }
 {
-    let mut log = Log::new(host.alloc(), reader)?;
+    let mut log = Log::new(host.alloc(), reader);
     for _ in 0..u64::MAX {
         if !log.advance(host)? {
-            break;
+            return Ok(());
         }
         let lines = log.lines();
         note_start(host, job, lines, state);
         name_lines(host.alloc(), job, lines, &mut state.names)?;
     }
-    Ok(())
+    Err(host.fail(3, "cannot read the log"))
 }
 
 /// Opens the maps of the scripts that lines name.
@@ -181,14 +181,14 @@ where
     ensures named { AreNamed (D.held host.now.disk.now) job.now.wanted state.new.chosen }
     ensures held { held_of D.held opener.new ≡ D.held host.now.disk.now }
 {
-    let mut log = Log::new(host.alloc(), reader)?;
+    let mut log = Log::new(host.alloc(), reader);
     for _ in 0..u64::MAX {
         if !log.advance(host)? {
-            break;
+            return Ok(());
         }
         follow_lines(host, job, opener, log.lines(), state, output)?;
     }
-    Ok(())
+    Err(host.fail(3, "cannot read the log"))
 }
 
 /// Opens a log that is a file, as far as it went at this size.

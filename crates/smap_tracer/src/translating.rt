@@ -144,12 +144,12 @@ where
         let scripts = scripts_of(host.alloc(), chosen)?;
         return translate_all(host, reader, &scripts, style, output, tally);
     }
-    let mut log = Log::new(host.alloc(), reader)?;
+    let mut log = Log::new(host.alloc(), reader);
     for _ in 0..u64::MAX {
         if !log.advance(host)? {
-            break;
+            return Ok(());
         }
         translate_lines(host, log.lines(), chosen, style, output, tally)?;
     }
-    Ok(())
+    Err(host.fail(3, "cannot read the log"))
 }
