@@ -1,3 +1,4 @@
 pub mod LogLemmas
+pub mod PartsLemmas
 pub mod ScriptLemmas
 pub mod TracedLemmas

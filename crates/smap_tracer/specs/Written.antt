@@ -1,10 +1,12 @@
 -- What is written of a log.
-use Rattle.std.specs.Prelude.{◌≡◌, ◌⊎◌, ℕ, ◌==◌, ◌&&◌, Bool, not, true, List, [], ◌∷◌, length, take, ⊤}
-use Rattle.std.specs.Prelude.{Option, Some, None}
-use Rattle.std.specs.List.{All}
+use Rattle.std.specs.Prelude.{◌≡◌, ◌⊎◌, ℕ, ◌<◌, ◌==◌, ◌&&◌, Bool, not, true, List, [], ◌∷◌, get_or, length, slice_index, take, ⊤}
+use Rattle.std.specs.Prelude.{Option, Some, None, option_map}
+use Rattle.std.specs.List.{All, concat}
+use Rattle.std.specs.Borrow.{Bor}
 use Rattle.std.specs.Option.{is_some}
+use Rattle.std.specs.Io.{IsEmptyOrEndsWith}
 use Rattle.std.specs.Io.KnownBytes.{Appends}
-use Rattle.smap_disk.specs.Held.{Held}
+use Rattle.smap_disk.specs.Held.{GivesHeld, HasSize, Held}
 use Rattle.smap_finder.specs.ChosenView.{IsNamedBy, IsOneOf, maps_of}
 use Rattle.smap_finder.specs.declared.chosen.Chosen.{Chosen}
 use Rattle.smap_finder.specs.declared.wanted.Wanted.{Wanted}
@@ -64,26 +66,57 @@ abbrev pub IsTracedIn : Held → Wanted → Style → Option (List ℕ) → Opti
 IsTracedIn held wanted style left before after =
     is_plain_style style.prefixes.now style.context ≡ true → IsTraced held wanted style left before after
 
--- What a log of which so much is read has left, where it is said what files hold.
-abbrev pub IsFront : Held → List ℕ → ℕ → Option (List ℕ) → Type 0
-IsFront None path size left = ⊤
-IsFront (Some held) path size left = (bytes : List ℕ) × (held path ≡ Some bytes) × (left ≡ Some (take size bytes))
+-- Parts of a log were translated and written, one behind another.
+abbrev pub AreTracedParts : Held → Wanted → Style → List (List ℕ) → Option (List ℕ) → Option (List ℕ) → Type 0
+AreTracedParts held wanted style [] before after = after ≡ before
+AreTracedParts held wanted style (part ∷ parts) before after = (middle : Option (List ℕ))
+    × IsTraced held wanted style (Some part) before middle × AreTracedParts held wanted style parts middle after
+
+-- Each of these parts but the last is whole lines.
+abbrev pub AreWhole : List (List ℕ) → Type 0
+AreWhole [] = ⊤
+AreWhole (part ∷ []) = ⊤
+AreWhole (part ∷ next ∷ parts) = IsEmptyOrEndsWith part 10 × AreWhole (next ∷ parts)
+
+-- All that a reader had was translated and written, in parts.
+pub record IsTracedText (held : Held) (wanted : Wanted) (style : Style) (left before after : Option (List ℕ))
+    : Type 0 where
+  pub parts : List (List ℕ)
+  pub whole : AreWhole parts
+  pub all : IsAll left (concat parts)
+  pub traced : AreTracedParts held wanted style parts before after
+
+-- The same in a plain style; of another nothing is said.
+abbrev pub IsTracedTextIn : Held → Wanted → Style → Option (List ℕ) → Option (List ℕ) → Option (List ℕ) → Type 0
+IsTracedTextIn held wanted style left before after =
+    is_plain_style style.prefixes.now style.context ≡ true → IsTracedText held wanted style left before after
+
+-- So much of what a reader had was translated and written as the file with this name is long.
+abbrev pub IsTracedFront : Held → Wanted → Style → List ℕ → Option (List ℕ) → Option (List ℕ) → Option (List ℕ)
+    → Type 0
+IsTracedFront held wanted style path left before after =
+    (size : ℕ) × HasSize held path size × IsTracedTextIn held wanted style (option_map (take size) left) before after
 
 -- Between two logs stands a line feed, if the first has none at its end.
 abbrev pub IsBegun : Option (List ℕ) → Option (List ℕ) → Type 0
 IsBegun before after = Appends before after [] ⊎ Appends before after (10 ∷ [])
 
--- So much of a log was translated and written, perhaps behind a line feed.
-pub record IsTracedLog (held : Held) (wanted : Wanted) (style : Style) (path : List ℕ) (size : ℕ)
-    (before after : Option (List ℕ)) : Type 0 where
+-- All that the file with this name holds was translated and written, perhaps behind a line feed.
+pub record IsTracedLog (held : Held) (wanted : Wanted) (style : Style) (path : List ℕ) (before after : Option (List ℕ))
+    : Type 0 where
   pub begun : Option (List ℕ)
   pub left : Option (List ℕ)
   pub is_begun : IsBegun before begun
-  pub is_front : IsFront held path size left
-  pub traced : IsTracedIn held wanted style left begun after
+  pub gives : GivesHeld held path left
+  pub traced : IsTracedTextIn held wanted style left begun after
 
 -- The logs with these names were translated and written so, one after another.
 abbrev pub AreTraced : Held → Wanted → Style → List (List ℕ) → Option (List ℕ) → Option (List ℕ) → Type 0
 AreTraced held wanted style [] before after = after ≡ before
-AreTraced held wanted style (path ∷ paths) before after = (size : ℕ) × (middle : Option (List ℕ))
-    × IsTracedLog held wanted style path size before middle × AreTraced held wanted style paths middle after
+AreTraced held wanted style (path ∷ paths) before after = (middle : Option (List ℕ))
+    × IsTracedLog held wanted style path before middle × AreTraced held wanted style paths middle after
+
+-- So long are the files with these names.
+abbrev pub HaveSizes : Held → List (Bor (List ℕ)) → List ℕ → Type 0
+HaveSizes held paths sizes = (length sizes ≡ length paths)
+    × ((k : ℕ) (d : Bor (List ℕ)) → k < length paths → HasSize held (get_or paths k d).now (slice_index sizes k))

@@ -1,9 +1,11 @@
 //! Logs translated: files, whose names are all looked for first, and streams, as they come.
 ghost use Rattle.std.specs.Prelude.{◌≡◌, [], IfOk, OnOk, Some, map};
 ghost use Rattle.std.specs.Io.Take.{take_remaining};
+ghost use Rattle.smap_disk.specs.Held.{GivesHeld, HasSize};
 ghost use Rattle.smap_finder.specs.ChosenView.{held_of, maps_of};
 ghost use Rattle.smap_tracer.specs.OutputView.{contents_of};
-ghost use Rattle.smap_tracer.specs.Written.{AreNamed, AreTraced, IsFront, IsTracedIn, IsTracedLog};
+ghost use Rattle.smap_tracer.specs.Written.{AreNamed, AreTraced, HaveSizes, IsTracedFront, IsTracedIn, IsTracedLog};
+ghost use Rattle.smap_tracer.specs.Written.{IsTracedTextIn};
 
 use crate::decorating::Style;
 use crate::hints::{hint_at_nothing, hint_at_start};
@@ -180,10 +182,13 @@ where
     requires held { held_of D.held opener.old ≡ D.held host.now.disk.now }
     ensures named { AreNamed (D.held host.now.disk.now) job.now.wanted state.new.chosen }
     ensures held { held_of D.held opener.new ≡ D.held host.now.disk.now }
+    ensures traced { OnOk result (IsTracedTextIn (D.held host.now.disk.now) job.now.wanted job.now.style
+        (R.remaining reader) (contents_of W.contents output.old) (contents_of W.contents output.new)) }
 {
     let mut log = Log::new(host.alloc(), reader);
     for _ in 0..u64::MAX {
-        if !log.advance(host)? {
+        let more = log.advance(host)?;
+        if !more {
             return Ok(());
         }
         follow_lines(host, job, opener, log.lines(), state, output)?;
@@ -197,7 +202,8 @@ fn opened_log<E: Eprint + AllocGlobal, D: Disk>(
     path: &str,
     size: u64,
 ) -> Result<Take<D::Reader>, Stop>
-    ensures { IfOk result (λ log. IsFront (D.held host.now.disk.now) path.now size
+    requires { HasSize (D.held host.now.disk.now) path.now size }
+    ensures { IfOk result (λ log. GivesHeld (D.held host.now.disk.now) path.now
         (take_remaining D.Reader.remaining log)) }
 {
     match host.disk.open(path) {
@@ -213,7 +219,8 @@ fn name_logs<E: Eprint + AllocGlobal, D: Disk>(
     paths: &[&str],
     state: &mut State,
 ) -> Result<Vec<u64>, Stop>
-    ensures { state.new.chosen ≡ state.old.chosen }
+    ensures chosen { state.new.chosen ≡ state.old.chosen }
+    ensures sizes { IfOk result (λ sizes. HaveSizes (D.held host.now.disk.now) paths.now sizes.items) }
 {
     let mut sizes = Vec::new(host.alloc());
     for path in paths {
@@ -237,9 +244,10 @@ fn translate_file<E: Eprint + AllocGlobal, D: Disk, W: Write + Drop>(
     state: &mut State,
     output: &mut Output<W>,
 ) -> Result<(), Stop>
-    requires { AreNamed (D.held host.now.disk.now) job.now.wanted state.old.chosen }
+    requires named { AreNamed (D.held host.now.disk.now) job.now.wanted state.old.chosen }
+    requires size { HasSize (D.held host.now.disk.now) path.now size }
     ensures chosen { state.new.chosen ≡ state.old.chosen }
-    ensures traced { OnOk result (IsTracedLog (D.held host.now.disk.now) job.now.wanted job.now.style path.now size
+    ensures traced { OnOk result (IsTracedLog (D.held host.now.disk.now) job.now.wanted job.now.style path.now
         (contents_of W.contents output.old) (contents_of W.contents output.new)) }
 {
     let tally = &mut state.tally;
@@ -260,6 +268,7 @@ fn open_files<E: Eprint + AllocGlobal, D: Disk>(
     requires held { held_of D.held opener.old ≡ D.held host.now.disk.now }
     ensures named { AreNamed (D.held host.now.disk.now) job.now.wanted state.new.chosen }
     ensures held { held_of D.held opener.new ≡ D.held host.now.disk.now }
+    ensures sizes { IfOk result (λ sizes. HaveSizes (D.held host.now.disk.now) paths.now sizes.items) }
 {
     let sizes = name_logs(host, job, paths, state)?;
     open_names(host, opener, job, &state.names, &mut state.chosen)?;
@@ -267,7 +276,7 @@ fn open_files<E: Eprint + AllocGlobal, D: Disk>(
     Ok(sizes)
 }
 
-/// Translates logs that are files, each as far as this.
+/// Translates logs that are files of these sizes.
 fn translate_files<E: Eprint + AllocGlobal, D: Disk, W: Write + Drop>(
     host: &Host<'_, E, D>,
     job: &Job<'_>,
@@ -276,14 +285,14 @@ fn translate_files<E: Eprint + AllocGlobal, D: Disk, W: Write + Drop>(
     state: &mut State,
     output: &mut Output<W>,
 ) -> Result<(), Stop>
-    requires { AreNamed (D.held host.now.disk.now) job.now.wanted state.old.chosen }
+    requires named { AreNamed (D.held host.now.disk.now) job.now.wanted state.old.chosen }
+    requires sizes { HaveSizes (D.held host.now.disk.now) paths.now sizes.now }
     ensures chosen { state.new.chosen ≡ state.old.chosen }
     ensures traced { OnOk result (AreTraced (D.held host.now.disk.now) job.now.wanted job.now.style
         (map (λ p. p.now) paths.now) (contents_of W.contents output.old) (contents_of W.contents output.new)) }
 {
     for i in 0..paths.len() {
-        let size = sizes.get(i).copied().unwrap_or(0);
-        translate_file(host, job, paths[i], size, state, output)?;
+        translate_file(host, job, paths[i], sizes[i], state, output)?;
     }
     Ok(())
 }
@@ -320,10 +329,12 @@ where
     I: Drop,
     requires named { AreNamed (D.held host.now.disk.now) job.now.wanted state.old.chosen }
     requires held { held_of D.held opener.old ≡ D.held host.now.disk.now }
+    ensures { OnOk result (IsTracedFront (D.held host.now.disk.now) job.now.wanted job.now.style path.now
+        (I.remaining input) (contents_of W.contents output.old) (contents_of W.contents output.new)) }
 {
     let paths = [path];
     let sizes = open_files(host, job, opener, paths.as_slice(), state)?;
-    let size = sizes.first().copied().unwrap_or(0);
+    let size = sizes[0];
     let tally = &mut state.tally;
     translate_log(
         host,
@@ -348,6 +359,8 @@ fn follow_path<E: Eprint + AllocGlobal, D: Disk, W: Write + Drop>(
     requires held { held_of D.held opener.old ≡ D.held host.now.disk.now }
     ensures named { AreNamed (D.held host.now.disk.now) job.now.wanted state.new.chosen }
     ensures held { held_of D.held opener.new ≡ D.held host.now.disk.now }
+    ensures traced { OnOk result (IsTracedLog (D.held host.now.disk.now) job.now.wanted job.now.style path.now
+        (contents_of W.contents output.old) (contents_of W.contents output.new)) }
 {
     begin_log(host, output, &mut state.tally)?;
     match host.disk.open(path) {
@@ -367,6 +380,8 @@ pub(crate) fn trace_streams<E: Eprint + AllocGlobal, D: Disk, W: Write + Drop>(
 ) -> Result<(), Stop>
     requires named { AreNamed (D.held host.now.disk.now) job.now.wanted state.old.chosen }
     requires held { held_of D.held opener.old ≡ D.held host.now.disk.now }
+    ensures { OnOk result (AreTraced (D.held host.now.disk.now) job.now.wanted job.now.style
+        (map (λ p. p.now) paths.now) (contents_of W.contents output.old) (contents_of W.contents output.new)) }
 {
     for path in paths {
         follow_path(host, job, opener, path, state, output)?;
@@ -387,6 +402,8 @@ where
     I: Drop,
     requires named { AreNamed (D.held host.now.disk.now) job.now.wanted state.old.chosen }
     requires held { held_of D.held opener.old ≡ D.held host.now.disk.now }
+    ensures { OnOk result (IsTracedTextIn (D.held host.now.disk.now) job.now.wanted job.now.style
+        (I.remaining input) (contents_of W.contents output.old) (contents_of W.contents output.new)) }
 {
     follow_log(host, job, opener, input, state, output)?;
     tell_count(host, job.how, &job.wanted, &state.chosen)

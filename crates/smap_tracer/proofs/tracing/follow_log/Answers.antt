@@ -1,0 +1,47 @@
+use Rattle.std.proofs.Common.{◌∙◌, ap, subst, List, ℕ, Some}
+use Rattle.std.specs.Io.KnownBytes.{IsAtEnd}
+use Rattle.smap_tracer.specs.Logs.{handed, pending}
+use Rattle.smap_tracer.specs.OutputView.{contents_of}
+use Rattle.smap_tracer.specs.Written.{IsTraced}
+use Rattle.smap_tracer.proofs.LogLemmas.{handed_lines, new_log}
+use Rattle.smap_tracer.proofs.PartsLemmas.{all_parts, none_so_far, one_more_part}
+use Rattle.smap_tracer.proofs.tracing.follow_log.Goals as goal
+
+pub loop-init : goal.loop-init
+loop-init g c = record {
+  named = c.requires.named;
+  held = c.requires.held;
+  traced = λ plain. let log = c.new-log.result in
+      none_so_far (g.D.Disk.held c.args.host.now.disk.now) c.args.job.now.wanted c.args.job.now.style log.ended
+      (g.R.Read.remaining c.args.reader) (pending g.R.Read.remaining log)
+      (contents_of g.W.Write.contents c.args.output.now)
+      (new_log (g.R.Read.remaining log.reader) log.block log.ended c.new-log.ensures.block c.new-log.ensures.ended
+      ∙ ap g.R.Read.remaining c.new-log.ensures.reader);
+}
+
+pub returns-then-not-more-clause-traced : goal.returns-then-not-more-clause-traced
+returns-then-not-more-clause-traced g c plain =
+    let end : IsAtEnd (pending g.R.Read.remaining c.loop.log) = rw c.if-not-more.true at c.in_ok-more.ensures.lines in
+    all_parts (g.D.Disk.held c.args.host.now.disk.now) c.args.job.now.wanted c.args.job.now.style c.loop.log.ended
+    (g.R.Read.remaining c.args.reader) (pending g.R.Read.remaining c.loop.log)
+    (contents_of g.W.Write.contents c.args.output.now) (contents_of g.W.Write.contents c.loop.output)
+    (c.loop.invariant.traced plain) end
+
+pub loop-preserved : goal.loop-preserved
+loop-preserved g c = record {
+  named = c.in_ok-follow_lines.ensures.named;
+  held = c.in_ok-follow_lines.ensures.held;
+  traced = λ plain. let held = g.D.Disk.held c.args.host.now.disk.now in
+      let wanted = c.args.job.now.wanted in
+      let style = c.args.job.now.style in
+      let log = c.advance.new.self in
+      let before = contents_of g.W.Write.contents c.args.output.now in
+      let middle = contents_of g.W.Write.contents c.loop.output in
+      let after = contents_of g.W.Write.contents c.follow_lines.new.output in
+      one_more_part held wanted style c.loop.log.ended log.ended (g.R.Read.remaining c.args.reader)
+      (pending g.R.Read.remaining c.loop.log) (pending g.R.Read.remaining log) before middle after (handed log)
+      (c.loop.invariant.traced plain) (c.in_ok-more.ensures.going c.if-not-more.false)
+      (handed_lines log.block log.ended) (rw c.if-not-more.false at c.in_ok-more.ensures.lines)
+      (subst (λ (part : List ℕ). IsTraced held wanted style (Some part) middle after) c.lines.ensures
+      (c.in_ok-follow_lines.ensures.traced plain));
+}
