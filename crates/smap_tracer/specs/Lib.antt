@@ -1,3 +1,4 @@
 pub mod Logs
 pub mod OutputView
+pub mod Runs
 pub mod Written

@@ -1,7 +1,10 @@
 //! A run of `smap-trace`.
-ghost use Rattle.std.specs.Prelude.{◌≡◌};
+ghost use Rattle.std.specs.Prelude.{◌≡◌, false, IfOk, OnOk, length, map};
 ghost use Rattle.smap_finder.specs.ChosenView.{held_of};
+ghost use Rattle.smap_tracer.specs.OutputView.{contents_of};
+ghost use Rattle.smap_tracer.specs.Runs.{IsAnswered, IsTracedAsked, IsTracedInput, IsTracedJob};
 ghost use Rattle.smap_tracer.specs.Written.{AreNamed};
+ghost use Rattle.smap_words.specs.Request.{IsAsked};
 
 use crate::decorating::Style;
 use crate::listing::{Listed, hint_at_list, list_log, list_text};
@@ -50,6 +53,31 @@ fn are_files<D: Disk>(disk: &D, paths: &[&str]) -> bool {
     !paths.is_empty()
 }
 
+/// Translates standard input.
+fn trace_standard<E: Eprint + AllocGlobal, D: Disk, I: Read, W: Write + Drop>(
+    host: &Host<'_, E, D>,
+    job: &Job<'_>,
+    opener: &mut Opener<'_, D>,
+    input: Input<I>,
+    state: &mut State,
+    output: &mut Output<W>,
+) -> Result<(), Stop>
+where
+    I: Drop,
+    requires named { AreNamed (D.held host.now.disk.now) job.now.wanted state.old.chosen }
+    requires held { held_of D.held opener.old ≡ D.held host.now.disk.now }
+    ensures { OnOk result (IsTracedInput (D.held host.now.disk.now) job.now.wanted job.now.style
+        input.kind (I.remaining input.reader) (contents_of W.contents output.old) (contents_of W.contents output.new)) }
+{
+    let Input { reader, kind } = input;
+    match kind {
+        InputKind::File => trace_input(host, job, opener, STDIN, reader, state, output),
+        InputKind::Closed | InputKind::Terminal | InputKind::Other => {
+            trace_stream(host, job, opener, reader, state, output)
+        }
+    }
+}
+
 /// Translates the logs.
 fn trace_logs<E: Eprint + AllocGlobal, D: Disk, I: Read, W: Write + Drop>(
     host: &Host<'_, E, D>,
@@ -63,15 +91,12 @@ where
     I: Drop,
     requires named { AreNamed (D.held host.now.disk.now) job.now.wanted state.old.chosen }
     requires held { held_of D.held opener.old ≡ D.held host.now.disk.now }
+    ensures { OnOk result (IsTracedJob (D.held host.now.disk.now) job.now input.kind (I.remaining input.reader)
+        (contents_of W.contents output.old) (contents_of W.contents output.new)) }
 {
-    let Input { reader, kind } = input;
     let logs = job.wanted.logs.as_slice();
     if logs.is_empty() {
-        return if kind == InputKind::File {
-            trace_input(host, job, opener, STDIN, reader, state, output)
-        } else {
-            trace_stream(host, job, opener, reader, state, output)
-        };
+        return trace_standard(host, job, opener, input, state, output);
     }
     if are_files(host.disk, logs) {
         trace_files(host, job, opener, logs, state, output)
@@ -149,6 +174,8 @@ where
     I: Drop,
     requires named { AreNamed (D.held host.now.disk.now) job.now.wanted state.old.chosen }
     requires held { held_of D.held opener.old ≡ D.held host.now.disk.now }
+    ensures { OnOk result (job.now.list ≡ false → IsTracedJob (D.held host.now.disk.now) job.now input.kind
+        (I.remaining input.reader) (contents_of W.contents output.old) (contents_of W.contents output.new)) }
 {
     if job.check_all {
         check_all(host, opener, job.how, &job.wanted, &mut state.chosen)?;
@@ -169,6 +196,8 @@ fn run_with<E: Eprint + AllocGlobal, D: Disk, I: Read, W: Write + Drop>(
 ) -> Result<(), Stop>
 where
     I: Drop,
+    ensures { OnOk result (job.now.list ≡ false → IsTracedJob (D.held host.now.disk.now) job.now input.kind
+        (I.remaining input.reader) (contents_of W.contents output.old) (contents_of W.contents output.new)) }
 {
     let mut opener = Opener::new(host.alloc(), host.disk, &job.wanted)?;
     let mut state = new_state(host.alloc());
@@ -197,7 +226,9 @@ fn check_input<E: Eprint + AllocGlobal, D: Disk>(
 }
 
 /// The prefixes as pairs.
-fn prefixes<'a>(alloc: Global, all: &[Prefix<'a>]) -> Result<Vec<(&'a str, &'a str)>, AllocError> {
+fn prefixes<'a>(alloc: Global, all: &[Prefix<'a>]) -> Result<Vec<(&'a str, &'a str)>, AllocError>
+    ensures { IfOk result (λ pairs. length pairs.items ≡ length all.now) }
+{
     let mut prefixes = Vec::new(alloc);
     for prefix in all {
         prefixes.push((prefix.from, prefix.to))?;
@@ -263,7 +294,14 @@ fn job_of<'a>(
     asked: &TraceWords<'a>,
     wanted: Wanted<'a>,
     prefixes: &'a [(&'a str, &'a str)],
-) -> Job<'a> {
+) -> Job<'a>
+    ensures wanted { result.wanted ≡ wanted.entry }
+    ensures list { result.list ≡ asked.now.list }
+    ensures anywhere { result.style.finding.anywhere ≡ asked.now.anywhere }
+    ensures hide { result.style.hide ≡ asked.now.hide_ignored }
+    ensures context { result.style.context ≡ asked.now.context }
+    ensures prefixes { result.style.prefixes.now ≡ prefixes.now }
+{
     Job {
         anywhere: asked.anywhere,
         list: asked.list,
@@ -285,6 +323,28 @@ fn job_of<'a>(
     }
 }
 
+/// Translates or lists what is wanted.
+fn trace_wanted<E: Eprint + AllocGlobal, D: Disk, I: Read, W: Write + Drop>(
+    host: &Host<'_, E, D>,
+    asked: &TraceWords<'_>,
+    wanted: Wanted<'_>,
+    input: Input<I>,
+    output: &mut Output<W>,
+) -> Result<(), Stop>
+where
+    I: Drop,
+    ensures { OnOk result (asked.now.output ≡ None → asked.now.list ≡ false
+        → IsTracedAsked (D.held host.now.disk.now) wanted.entry asked.now input.kind (I.remaining input.reader)
+        (contents_of W.contents output.old) (contents_of W.contents output.new)) }
+{
+    let prefixes = prefixes(host.alloc(), &asked.prefixes)?;
+    let job = job_of(asked, wanted, &prefixes);
+    match asked.output {
+        Some(file) => run_to_file(host, &job, input, file),
+        None => run_with(host, &job, input, output),
+    }
+}
+
 /// Translates or lists.
 fn trace<E: Eprint + AllocGlobal, D: Disk, I: Read, W: Write + Drop>(
     host: &Host<'_, E, D>,
@@ -294,14 +354,12 @@ fn trace<E: Eprint + AllocGlobal, D: Disk, I: Read, W: Write + Drop>(
 ) -> Result<(), Stop>
 where
     I: Drop,
+    ensures { OnOk result (asked.now.output ≡ None → asked.now.list ≡ false → (wanted : Wanted)
+        × IsTracedAsked (D.held host.now.disk.now) wanted asked.now input.kind (I.remaining input.reader)
+        (contents_of W.contents output.old) (contents_of W.contents output.new)) }
 {
     let wanted = found(host, asked, input.kind)?;
-    let prefixes = prefixes(host.alloc(), &asked.prefixes)?;
-    let job = job_of(asked, wanted, &prefixes);
-    match asked.output {
-        Some(file) => run_to_file(host, &job, input, file),
-        None => run_with(host, &job, input, output),
-    }
+    trace_wanted(host, asked, wanted, input, output)
 }
 
 /// Says what is wrong with the words.
@@ -335,6 +393,9 @@ fn answer<E: Eprint + AllocGlobal, D: Disk, I: Read, W: Write + Drop>(
 ) -> Result<(), Stop>
 where
     I: Drop,
+    ensures { OnOk result ((asked : Asked) × IsAsked (map (λ w. w.now) words.now) asked
+        × IsAnswered (D.held host.now.disk.now) HELP.now VERSION.now asked input.kind (I.remaining input.reader)
+        (contents_of W.contents output.old) (contents_of W.contents output.new)) }
 {
     match trace_words(host.alloc(), words) {
         Ok(Asked::Help) => output.write(host, HELP.as_bytes()),

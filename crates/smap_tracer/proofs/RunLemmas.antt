@@ -1,0 +1,37 @@
+-- What a run answers to its words.
+use Rattle.std.proofs.Common.{◌≡◌, ◌∙◌, subst, false, ℕ, List, map, Option, None, Result, Ok, Err, OnOk}
+use Rattle.smap_disk.specs.Held.{Held}
+use Rattle.smap_finder.specs.declared.wanted.Wanted.{Wanted}
+use Rattle.smap_tracer.specs.Runs.{IsAnswered, IsStyleOf, IsTracedAsked, IsTracedJob, IsTracedRun}
+use Rattle.smap_tracer.specs.declared.program.InputKind.{InputKind}
+use Rattle.smap_tracer.specs.declared.tracing.Job.{Job}
+use Rattle.smap_words.specs.Request.{IsAsked}
+use Rattle.smap_words.specs.declared.request.Asked.{Asked}
+use Rattle.smap_words.specs.declared.request.TraceWords.{TraceWords}
+
+pub traced_asked : {A E : Type 0} (held : Held) (asked : TraceWords) (wanted : Wanted) (job : Job) (kind : InputKind)
+    (left before after : Option (List ℕ)) (result : Result A E) → job.wanted ≡ wanted → IsStyleOf asked job.style
+    → job.list ≡ asked.list → OnOk result (job.list ≡ false → IsTracedJob held job kind left before after)
+    → OnOk result (asked.output ≡ None → asked.list ≡ false → IsTracedAsked held wanted asked kind left before after)
+traced_asked held asked wanted job kind left before after (Ok a) is style list traced = λ none off. record {
+  style = job.style;
+  is_style = style;
+  traced = subst (λ (w : Wanted). IsTracedRun held w job.style (map (λ p. p.now) w.logs.items) kind left before after)
+      is (traced (list ∙ off));
+}
+traced_asked held asked wanted job kind left before after (Err e) is style list traced = tt
+
+pub wanted_traced : {A E : Type 0} (held : Held) (asked : TraceWords) (wanted : Wanted) (kind : InputKind)
+    (left before after : Option (List ℕ)) (result : Result A E)
+    → OnOk result (asked.output ≡ None → asked.list ≡ false → IsTracedAsked held wanted asked kind left before after)
+    → OnOk result (asked.output ≡ None → asked.list ≡ false
+    → (w : Wanted) × IsTracedAsked held w asked kind left before after)
+wanted_traced held asked wanted kind left before after (Ok a) traced = λ none off. (wanted, traced none off)
+wanted_traced held asked wanted kind left before after (Err e) traced = tt
+
+pub answered : {A E : Type 0} (held : Held) (help version : List ℕ) (words : List (List ℕ)) (asked : Asked)
+    (kind : InputKind) (left before after : Option (List ℕ)) (result : Result A E) → IsAsked words asked
+    → OnOk result (IsAnswered held help version asked kind left before after)
+    → OnOk result ((a : Asked) × IsAsked words a × IsAnswered held help version a kind left before after)
+answered held help version words asked kind left before after (Ok a) is done = (asked, is, done)
+answered held help version words asked kind left before after (Err e) is done = tt
