@@ -5,7 +5,7 @@ use Rattle.base64.specs.declared.engine.general_purpose.GeneralPurpose.{GeneralP
 use Rattle.smap_link.specs.Inline.{IsForgiving, inline_map}
 use Rattle.smap_link.specs.Kinds.{link_in}
 use Rattle.smap_link.specs.declared.inline.InlineFault.{InlineFault}
-use Rattle.smap_finder.specs.Given.{Folder, Holds, IsInline, IsFolder, IsFollowed, IsFollowedBy, IsTaken}
+use Rattle.smap_finder.specs.Given.{Folder, Holds, IsInline, IsFollowed, IsFollowedBy, IsTaken}
 use Rattle.smap_finder.specs.declared.following.Followed.{Followed}
 use Rattle.smap_finder.specs.declared.following.Followed.TheVariants as followed
 

@@ -1,2 +1,4 @@
+pub mod ChoiceLemmas
 pub mod FollowingLemmas
+pub mod MapLemmas
 pub mod ReachedLemmas

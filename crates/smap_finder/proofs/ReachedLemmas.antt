@@ -1,5 +1,5 @@
 -- What was reached by what a file holds and what that names.
-use Rattle.std.proofs.Common.{◌≡◌, inl, inr, List, ℕ, Option, Some, None, Result, Ok, Err, IfOk, IfSome}
+use Rattle.std.proofs.Common.{inl, inr, List, ℕ, Option, Some, None, Result, Ok, Err, IfOk, IfSome}
 use Rattle.smap_disk.specs.Held.{Held, IsHeld}
 use Rattle.smap_pick.specs.Opening.{IsMadeOf}
 use Rattle.smap_pick.specs.Places.{MapPlace}

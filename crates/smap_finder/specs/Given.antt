@@ -1,12 +1,11 @@
 -- What a file gives for a map: itself, or the map that it names where it is a script or a style sheet
 -- (ECMA-426, "Linking generated code to source maps").
-use Rattle.std.specs.Prelude.{◌≡◌, ◌⊎◌, ℕ, ◌==◌, ◌&&◌, Bool, not, nat_eq, List, ◌++◌, codes, cond, drop, length, ⊤}
+use Rattle.std.specs.Prelude.{◌≡◌, ℕ, ◌==◌, ◌&&◌, not, nat_eq, List, ◌++◌, codes, cond, drop, length, ⊤}
 use Rattle.std.specs.Prelude.{Option, Some, None, Ok, Err, IsErr}
 use Rattle.std.specs.List.{starts_with}
 use Rattle.base64.specs.declared.engine.general_purpose.GeneralPurpose.{GeneralPurpose}
 use Rattle.url.specs.Parser.{parse_url}
 use Rattle.url.specs.Parts.{Parts}
-use Rattle.smap_disk.specs.Held.{Held, IsHeld}
 use Rattle.smap_link.specs.Inline.{IsForgiving, inline_map}
 use Rattle.smap_link.specs.Kinds.{link_in}
 use Rattle.smap_pick.specs.Linked.{linked}

@@ -1,3 +1,4 @@
+pub mod Choice
 pub mod ChosenView
 pub mod Given
 pub mod Opened

@@ -1,9 +1,7 @@
 -- The maps that were opened.
 use Rattle.std.specs.Prelude.{◌≡◌, ◌⊎◌, ℕ, List, ⊤, Option, Some, None}
 use Rattle.smap_disk.specs.Held.{Held}
-use Rattle.smap_pick.specs.Opening.{picked_place}
 use Rattle.smap_pick.specs.Places.{MapPlace}
-use Rattle.smap_pick.specs.declared.finding.Pick.{Pick}
 use Rattle.smap_record.specs.Record.{ReadMap}
 use Rattle.smap_finder.specs.declared.loading.Loaded.{Loaded}
 use Rattle.smap_finder.specs.declared.loading.Loaded.TheVariants as loaded
@@ -54,11 +52,3 @@ abbrev pub IsBroken : Loaded → Type 0
 IsBroken (loaded.Map m) = ⊥
 IsBroken (loaded.Script text) = ⊥
 IsBroken (loaded.Broken e) = ⊤
-
--- Of the maps that the arguments name this is one: that of a place, or that in a file of a folder.
-pub record IsNamed (held : Held) (places : List MapPlace) (files : List (List ℕ)) (m : ReadMap) : Type 0 where
-  pub pick : Pick
-  pub root : Option Folder
-  pub place : MapPlace
-  pub picked : picked_place places files pick ≡ Some place
-  pub opened : IsOpened held root place m

@@ -1,9 +1,14 @@
 //! The maps that were opened for the names of a log.
-ghost use Rattle.std.specs.Prelude.{◌≡◌, [], IfOk, IfSome};
+ghost use Rattle.std.specs.Prelude.{◌≡◌, [], IfOk, IfSome, true};
 ghost use Rattle.std.specs.List.{All};
-ghost use Rattle.smap_finder.specs.ChosenView.{IsOneOf, maps_of};
+ghost use Rattle.smap_disk.specs.Held.{Held};
+ghost use Rattle.smap_finder.specs.Choice.{IsPicked};
+ghost use Rattle.smap_finder.specs.ChosenView.{AreChosen, Has, Serves, maps_of};
+ghost use Rattle.smap_finder.specs.declared.wanted.Wanted.{Wanted};
 
 use indexmap::IndexMap;
+use smap_link::bare;
+use smap_pick::Found;
 use smap_record::SourceMap;
 use std::alloc::{AllocError, Global};
 
@@ -19,11 +24,42 @@ pub struct How {
     pub verbose: bool,
 }
 
+/// A map that was opened.
+#[derive(Drop)]
+pub(crate) struct OpenedMap {
+    /// The name of the log for which it was opened.
+    pub(crate) name: Vec<u8>,
+    /// What that name has.
+    pub(crate) found: Found,
+    pub(crate) map: SourceMap,
+}
+
+/// A name of the log that has a map.
+#[derive(Drop)]
+pub(crate) struct MappedName {
+    pub(crate) name: String,
+    pub(crate) found: Found,
+    /// The number of its map.
+    pub(crate) number: usize,
+}
+
+/// Whether a map that was opened for one name serves another.
+fn serves(opened: &[u8], opened_for: Found, name: &[u8], found: Found) -> bool
+    ensures { result ≡ true → Serves opened.now opened_for name.now found }
+{
+    match (opened_for, found) {
+        (Found::Given(i), Found::Given(j)) => i == j,
+        (Found::ByEnd(i), Found::ByEnd(j)) => i == j && bare(opened) == bare(name),
+        _ => false,
+    }
+}
+
 /// The maps that were opened, and the names of the log that have them.
 #[derive(Drop)]
 pub struct Chosen {
-    pub(crate) maps: Vec<SourceMap>,
-    /// The number of the map of each name.
+    pub(crate) maps: Vec<OpenedMap>,
+    pub(crate) mapped: Vec<MappedName>,
+    /// The places of the names in that list.
     pub(crate) names: IndexMap<String, usize>,
     /// What was opened already: the number of its map, if it has one.
     pub(crate) opened: IndexMap<Vec<u8>, Option<usize>>,
@@ -45,10 +81,11 @@ pub struct Chosen {
 
 impl Chosen {
     pub fn new(alloc: Global) -> Chosen
-        ensures { maps_of result ≡ [] }
+        ensures { maps_of result ≡ ([], []) }
     {
         Chosen {
             maps: Vec::new(alloc),
+            mapped: Vec::new(alloc),
             names: IndexMap::new(alloc),
             opened: IndexMap::new(alloc),
             files: IndexMap::new(alloc),
@@ -71,32 +108,47 @@ impl Chosen {
         self.maps.len().saturating_sub(self.repeated)
     }
 
-    /// The map with this number.
-    fn map_at(&self, number: usize) -> Option<&SourceMap>
-        ensures { IfSome result (λ m. IsOneOf (maps_of self.now) m.now) }
+    /// The name with this place in the list, and its map.
+    fn mapped_at(&self, at: usize) -> Option<(&str, &SourceMap)>
+        ensures { IfSome result (λ s. Has (maps_of self.now) s.0.now s.1.now) }
     {
-        self.maps.get(number)
+        let mapped = self.mapped.get(at)?;
+        let opened = self.maps.get(mapped.number)?;
+        if serves(
+            &opened.name,
+            opened.found,
+            mapped.name.as_bytes(),
+            mapped.found,
+        ) {
+            Some((mapped.name.as_str(), &opened.map))
+        } else {
+            None
+        }
     }
 
     /// The map of a name.
     pub fn map_of(&self, name: &[u8]) -> Option<&SourceMap>
-        ensures { IfSome result (λ m. IsOneOf (maps_of self.now) m.now) }
+        ensures { IfSome result (λ m. Has (maps_of self.now) name.now m.now) }
     {
-        let Ok(name) = std::str::from_utf8(name) else {
+        let Ok(text) = std::str::from_utf8(name) else {
             return None;
         };
-        let number = *self.names.get(name)?;
-        self.map_at(number)
+        let (mapped, map) = self.mapped_at(*self.names.get(text)?)?;
+        if mapped.as_bytes() == name {
+            Some(map)
+        } else {
+            None
+        }
     }
 
     /// The scripts with their maps.
     pub fn scripts(&self, alloc: Global) -> Result<Vec<(&str, &SourceMap)>, AllocError>
-        ensures { IfOk result (λ list. All (λ s. IsOneOf (maps_of self.now) s.1.now) list.items) }
+        ensures { IfOk result (λ list. All (λ s. Has (maps_of self.now) s.0.now s.1.now) list.items) }
     {
-        let mut scripts = Vec::with_capacity(alloc, self.names.len())?;
-        for (name, number) in self.names.iter() {
-            if let Some(map) = self.map_at(*number) {
-                scripts.push((name.as_str(), map))?;
+        let mut scripts = Vec::with_capacity(alloc, self.mapped.len())?;
+        for i in 0..self.mapped.len() {
+            if let Some(script) = self.mapped_at(i) {
+                scripts.push(script)?;
             }
         }
         Ok(scripts)
@@ -105,11 +157,43 @@ impl Chosen {
     /// Forgets the names that have maps, once there are many; the maps stay open, and names that come again find
     /// them.
     pub fn forget_many(&mut self, alloc: Global)
-        ensures { maps_of self.new ≡ maps_of self.old }
+        ensures { (held : Held) (wanted : Wanted) → AreChosen held wanted (maps_of self.old)
+            → AreChosen held wanted (maps_of self.new) }
     {
         if self.names.len() >= MOST_NAMES {
             self.names = IndexMap::new(alloc);
+            self.mapped = Vec::new(alloc);
         }
+    }
+
+    /// The number of the map that was opened for this key, if there is one.
+    pub(crate) fn opened_at(&self, key: &[u8]) -> Option<usize> {
+        match self.opened.get(key) {
+            Some(Some(number)) => Some(*number),
+            _ => None,
+        }
+    }
+
+    /// Notes that a name has the map with this number.
+    pub(crate) fn note_mapped(
+        &mut self,
+        alloc: Global,
+        name: &str,
+        found: Found,
+        number: usize,
+    ) -> Result<(), AllocError>
+        ensures { (held : Held) (wanted : Wanted) → IsPicked held wanted name.now found
+            → AreChosen held wanted (maps_of self.old) → AreChosen held wanted (maps_of self.new) }
+    {
+        let key = String::from_str(alloc, name)?;
+        let name = String::from_str(alloc, name)?;
+        self.names.insert(key, self.mapped.len())?;
+        self.mapped.push(MappedName {
+            name,
+            found,
+            number,
+        })?;
+        Ok(())
     }
 
     pub(crate) fn is_known(&self, name: &[u8]) -> bool {

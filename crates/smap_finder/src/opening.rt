@@ -1,20 +1,21 @@
 //! The maps of the scripts that a log names, opened as the log first names them.
-ghost use Rattle.std.specs.Prelude.{◌≡◌, IfOk, IfSome, List, None, OnOk, Some, map, ℕ};
+ghost use Rattle.std.specs.Prelude.{◌≡◌, IfOk, IfSome, List, None, Some, ℕ};
 ghost use Rattle.std.specs.List.{All};
-ghost use Rattle.smap_disk.specs.Held.{IsHeld};
+ghost use Rattle.smap_disk.specs.Held.{Held, IsHeld};
 ghost use Rattle.smap_finder.specs.Given.{IsLoaded, IsRead};
-ghost use Rattle.smap_finder.specs.ChosenView.{IsNamedBy, held_of, maps_of};
+ghost use Rattle.smap_finder.specs.Choice.{IsOpenedAs, IsPickedBy, files_of, places_of};
+ghost use Rattle.smap_finder.specs.ChosenView.{AreChosen, IsOver, maps_of};
 ghost use Rattle.smap_finder.specs.Opened.{IsBroken, IsOpened, IsReached};
 ghost use Rattle.smap_finder.specs.RootView.{folder_of};
-ghost use Rattle.smap_pick.specs.Opening.{IsMadeOf, picked_place};
-ghost use Rattle.smap_pick.specs.PlaceView.{place_in, places_in};
+ghost use Rattle.smap_pick.specs.Opening.{IsMadeOf, found_place};
+ghost use Rattle.smap_pick.specs.PlaceView.{place_in};
 
-use crate::chosen::{Chosen, How};
+use crate::chosen::{Chosen, How, OpenedMap};
 use crate::following::{Followed, follow, inline_base};
 use crate::loading::{FileStore, Loaded, MapFault, loaded_from};
-use crate::picking::{key_of_found, name_of_file, own_name, picks_of, unopened};
+use crate::picking::{key_of_found, name_of_file, opening_name, picks_of, unopened};
 use crate::telling::{say_fault, say_of, say_used, tell_pick};
-use crate::wanted::{Origin, Root, Wanted};
+use crate::wanted::{Root, Wanted, has_base, root_of};
 use smap_disk::Disk;
 use smap_host::{Host, Stop, shown};
 use smap_link::{ChoiceFault, ScriptTable};
@@ -38,7 +39,7 @@ impl<'a, D> Opener<'a, D> {
     pub fn new(alloc: Global, disk: &'a D, wanted: &Wanted<'_>) -> Result<Opener<'a, D>, Stop>
     where
         D: Disk,
-        ensures { IfOk result (λ o. held_of D.held o ≡ D.held disk.now) }
+        ensures { IfOk result (IsOver D.held (D.held disk.now) wanted.now) }
     {
         match table_of(alloc, wanted.places.as_slice()) {
             Ok(table) => Ok(Opener {
@@ -61,49 +62,23 @@ pub(crate) struct Subject<'a> {
     pub(crate) has_base: bool,
 }
 
-/// The map of this place, found in the folder with this number, if it was in one.
-fn given_subject<'a>(
+/// The place of what a pick found.
+fn place_of(
     alloc: Global,
-    wanted: &'a Wanted<'_>,
-    place: &Place,
-    origin: Origin,
-) -> Result<Subject<'a>, AllocError>
-    ensures { IfOk result (λ s. place_in s.place ≡ place_in place.now) }
-{
-    let (root, has_base) = match origin {
-        Origin::Alone { has_base } => (None, has_base),
-        Origin::Below(number) => (wanted.roots.get(number), false),
-    };
-    Ok(Subject {
-        place: copied(alloc, place)?,
-        root,
-        has_base,
-    })
-}
-
-/// What a pick found.
-fn subject_of<'a>(
-    alloc: Global,
-    wanted: &'a Wanted<'_>,
+    wanted: &Wanted<'_>,
     pick: &Pick<'_>,
-) -> Result<Option<Subject<'a>>, AllocError>
-    ensures { IfOk result (λ found. IfSome found (λ s. picked_place (places_in wanted.now.places.items)
-        (map (λ f. f.items) wanted.now.files.items) pick.now ≡ Some (place_in s.place))) }
+) -> Result<Option<Place>, AllocError>
+    ensures { IfOk result (λ found. IfSome found (λ p. found_place (places_of wanted.now) (files_of wanted.now)
+        pick.now.name.now pick.now.found ≡ Some (place_in p))) }
 {
     match pick.found {
-        Found::Given(i) => match (wanted.places.get(i), wanted.origins.get(i)) {
-            (Some(place), Some(origin)) => {
-                Ok(Some(given_subject(alloc, wanted, place, *origin)?))
-            }
-            _ => Ok(None),
+        Found::Given(i) => match wanted.places.get(i) {
+            Some(place) => Ok(Some(copied(alloc, place)?)),
+            None => Ok(None),
         },
-        Found::ByEnd(i) => match (wanted.files.get(i), wanted.file_roots.get(i)) {
-            (Some(file), Some(number)) => Ok(Some(Subject {
-                place: usual_place(alloc, pick.name, file)?,
-                root: wanted.roots.get(*number),
-                has_base: false,
-            })),
-            _ => Ok(None),
+        Found::ByEnd(i) => match wanted.files.get(i) {
+            Some(file) => Ok(Some(usual_place(alloc, pick.name, file)?)),
+            None => Ok(None),
         },
         Found::Unclear(_, _) | Found::Missing => Ok(None),
     }
@@ -308,12 +283,18 @@ fn opened_map<E: Eprint + AllocGlobal, D: Disk>(
     pick: &Pick<'_>,
     worst: &mut u8,
 ) -> Result<Option<SourceMap>, Stop>
-    ensures named { IfOk result (λ found. IfSome found (IsNamedBy (D.held store.old.disk.now) wanted.now)) }
+    ensures named { IfOk result (λ found. IfSome found (IsOpenedAs (D.held store.old.disk.now) wanted.now
+        pick.now.name.now pick.now.found)) }
     ensures held { D.held store.new.disk.now ≡ D.held store.old.disk.now }
 {
     let alloc = host.alloc();
-    let Some(subject) = subject_of(alloc, wanted, pick)? else {
+    let Some(place) = place_of(alloc, wanted, pick)? else {
         return Ok(None);
+    };
+    let subject = Subject {
+        place,
+        root: root_of(wanted, pick.found),
+        has_base: has_base(wanted, pick.found),
     };
     match smap_pick::Store::open(store, alloc, &subject.place) {
         Ok(loaded) => settle_loaded(host, store, how, &subject, loaded, worst),
@@ -324,22 +305,30 @@ fn opened_map<E: Eprint + AllocGlobal, D: Disk>(
 /// Opens the map of a pick, and answers its number.
 fn open_one<E: Eprint + AllocGlobal, D: Disk>(
     host: &Host<'_, E, D>,
-    opener: &mut Opener<'_, D>,
+    store: &mut FileStore<'_, D>,
     how: How,
     wanted: &Wanted<'_>,
     pick: &Pick<'_>,
     chosen: &mut Chosen,
 ) -> Result<Option<usize>, Stop>
-    requires { All (IsNamedBy (held_of D.held opener.old) wanted.now) (maps_of chosen.old) }
-    ensures named { All (IsNamedBy (held_of D.held opener.old) wanted.now) (maps_of chosen.new) }
-    ensures disk { held_of D.held opener.new ≡ held_of D.held opener.old }
+    requires { AreChosen (D.held store.old.disk.now) wanted.now (maps_of chosen.old) }
+    ensures named { AreChosen (D.held store.old.disk.now) wanted.now (maps_of chosen.new) }
+    ensures held { D.held store.new.disk.now ≡ D.held store.old.disk.now }
 {
+    let alloc = host.alloc();
+    let name = opening_name(alloc, wanted, pick)?;
+    let found = pick.found;
+    let under = Pick {
+        name: name.as_slice(),
+        found,
+    };
     let worst = &mut chosen.worst;
-    let Some(map) = opened_map(host, &mut opener.store, how, wanted, pick, worst)? else {
+    let Some(map) = opened_map(host, store, how, wanted, &under, worst)? else {
         return Ok(None);
     };
     let number = chosen.maps.len();
-    chosen.maps.push(map)?;
+    let name = Vec::from_slice(alloc, pick.name)?;
+    chosen.maps.push(OpenedMap { name, found, map })?;
     Ok(Some(number))
 }
 
@@ -383,24 +372,19 @@ fn turn_of<E: Eprint + AllocGlobal, D: Disk>(
 /// Opens the map of a pick, and notes its number.
 fn open_noted<E: Eprint + AllocGlobal, D: Disk>(
     host: &Host<'_, E, D>,
-    opener: &mut Opener<'_, D>,
+    store: &mut FileStore<'_, D>,
     how: How,
     wanted: &Wanted<'_>,
     pick: &Pick<'_>,
     is_again: bool,
     chosen: &mut Chosen,
 ) -> Result<(), Stop>
-    requires { All (IsNamedBy (held_of D.held opener.old) wanted.now) (maps_of chosen.old) }
-    ensures named { All (IsNamedBy (held_of D.held opener.old) wanted.now) (maps_of chosen.new) }
-    ensures disk { held_of D.held opener.new ≡ held_of D.held opener.old }
+    requires { AreChosen (D.held store.old.disk.now) wanted.now (maps_of chosen.old) }
+    ensures named { AreChosen (D.held store.old.disk.now) wanted.now (maps_of chosen.new) }
+    ensures held { D.held store.new.disk.now ≡ D.held store.old.disk.now }
 {
     let alloc = host.alloc();
-    let own = own_name(alloc, wanted, pick)?;
-    let opened = Pick {
-        name: own.as_ref().map_or(pick.name, |name| name.as_slice()),
-        found: pick.found,
-    };
-    let number = open_one(host, opener, how, wanted, &opened, chosen)?;
+    let number = open_one(host, store, how, wanted, pick, chosen)?;
     if is_again && number.is_some() {
         chosen.repeated = chosen.repeated.saturating_add(1);
     }
@@ -412,21 +396,21 @@ fn open_noted<E: Eprint + AllocGlobal, D: Disk>(
 /// Opens the maps of these picks.
 fn open_all<E: Eprint + AllocGlobal, D: Disk>(
     host: &Host<'_, E, D>,
-    opener: &mut Opener<'_, D>,
+    store: &mut FileStore<'_, D>,
     how: How,
     wanted: &Wanted<'_>,
     picks: &[Pick<'_>],
     chosen: &mut Chosen,
 ) -> Result<(), Stop>
-    requires { All (IsNamedBy (held_of D.held opener.old) wanted.now) (maps_of chosen.old) }
-    ensures named { All (IsNamedBy (held_of D.held opener.old) wanted.now) (maps_of chosen.new) }
-    ensures disk { held_of D.held opener.new ≡ held_of D.held opener.old }
+    requires { AreChosen (D.held store.old.disk.now) wanted.now (maps_of chosen.old) }
+    ensures named { AreChosen (D.held store.old.disk.now) wanted.now (maps_of chosen.new) }
+    ensures held { D.held store.new.disk.now ≡ D.held store.old.disk.now }
 {
     for pick in picks {
         let turn = turn_of(host, pick, chosen)?;
         if turn != Turn::Never {
             let is_again = turn == Turn::Again;
-            open_noted(host, opener, how, wanted, pick, is_again, chosen)?;
+            open_noted(host, store, how, wanted, pick, is_again, chosen)?;
         }
     }
     Ok(())
@@ -440,21 +424,19 @@ fn link<E: Eprint + AllocGlobal, D: Disk>(
     pick: &Pick<'_>,
     chosen: &mut Chosen,
 ) -> Result<(), Stop>
-    ensures { maps_of chosen.new ≡ maps_of chosen.old }
+    requires chosen { AreChosen (D.held host.now.disk.now) wanted.now (maps_of chosen.old) }
+    requires picked { IsPickedBy (D.held host.now.disk.now) wanted.now pick.now }
+    ensures { AreChosen (D.held host.now.disk.now) wanted.now (maps_of chosen.new) }
 {
     let alloc = host.alloc();
     tell_pick(host, how, wanted, pick, chosen)?;
     let key = key_of_found(alloc, pick)?;
-    let number = match chosen.opened.get(key.as_slice()) {
-        Some(Some(number)) => Some(*number),
-        _ => None,
+    let number = chosen.opened_at(&key);
+    let (Some(number), Ok(name)) = (number, std::str::from_utf8(pick.name)) else {
+        chosen.note_missing(alloc, pick.name)?;
+        return Ok(());
     };
-    match (number, std::str::from_utf8(pick.name)) {
-        (Some(number), Ok(name)) => {
-            chosen.names.insert(String::from_str(alloc, name)?, number)?;
-        }
-        _ => chosen.note_missing(alloc, pick.name)?,
-    }
+    chosen.note_mapped(alloc, name, pick.found, number)?;
     Ok(())
 }
 
@@ -476,18 +458,18 @@ fn unknown<'a>(
 /// Opens the maps of these picks that aren't open yet.
 fn open_unopened<E: Eprint + AllocGlobal, D: Disk>(
     host: &Host<'_, E, D>,
-    opener: &mut Opener<'_, D>,
+    store: &mut FileStore<'_, D>,
     how: How,
     wanted: &Wanted<'_>,
     picks: &[Pick<'_>],
     chosen: &mut Chosen,
 ) -> Result<(), Stop>
-    requires { All (IsNamedBy (held_of D.held opener.old) wanted.now) (maps_of chosen.old) }
-    ensures named { All (IsNamedBy (held_of D.held opener.old) wanted.now) (maps_of chosen.new) }
-    ensures disk { held_of D.held opener.new ≡ held_of D.held opener.old }
+    requires { AreChosen (D.held store.old.disk.now) wanted.now (maps_of chosen.old) }
+    ensures named { AreChosen (D.held store.old.disk.now) wanted.now (maps_of chosen.new) }
+    ensures held { D.held store.new.disk.now ≡ D.held store.old.disk.now }
 {
     let wanting = unopened(host.alloc(), chosen, picks)?;
-    open_all(host, opener, how, wanted, wanting.as_slice(), chosen)
+    open_all(host, store, how, wanted, wanting.as_slice(), chosen)
 }
 
 /// Gives these names their maps, or notes that they have none.
@@ -498,7 +480,9 @@ fn link_all<E: Eprint + AllocGlobal, D: Disk>(
     picks: &[Pick<'_>],
     chosen: &mut Chosen,
 ) -> Result<(), Stop>
-    ensures { maps_of chosen.new ≡ maps_of chosen.old }
+    requires chosen { AreChosen (D.held host.now.disk.now) wanted.now (maps_of chosen.old) }
+    requires picked { All (IsPickedBy (D.held host.now.disk.now) wanted.now) picks.now }
+    ensures { AreChosen (D.held host.now.disk.now) wanted.now (maps_of chosen.new) }
 {
     for pick in picks {
         link(host, how, wanted, pick, chosen)?;
@@ -517,16 +501,24 @@ pub fn open_for<E: Eprint + AllocGlobal, D: Disk>(
     names: &[&[u8]],
     chosen: &mut Chosen,
 ) -> Result<(), Stop>
-    requires { All (IsNamedBy (held_of D.held opener.old) wanted.now) (maps_of chosen.old) }
-    ensures named { All (IsNamedBy (held_of D.held opener.old) wanted.now) (maps_of chosen.new) }
-    ensures disk { held_of D.held opener.new ≡ held_of D.held opener.old }
+    requires named { AreChosen (D.held host.now.disk.now) wanted.now (maps_of chosen.old) }
+    requires over { IsOver D.held (D.held host.now.disk.now) wanted.now opener.old }
+    ensures named { AreChosen (D.held host.now.disk.now) wanted.now (maps_of chosen.new) }
+    ensures over { IsOver D.held (D.held host.now.disk.now) wanted.now opener.new }
 {
     let fresh = unknown(host.alloc(), names, chosen)?;
     if fresh.is_empty() {
         return Ok(());
     }
     let picks = picks_of(host, &mut opener.table, wanted, in_frames, fresh.as_slice())?;
-    open_unopened(host, opener, how, wanted, picks.as_slice(), chosen)?;
+    open_unopened(
+        host,
+        &mut opener.store,
+        how,
+        wanted,
+        picks.as_slice(),
+        chosen,
+    )?;
     link_all(host, how, wanted, picks.as_slice(), chosen)?;
     judge(how, chosen)
 }
@@ -548,30 +540,30 @@ pub fn check_all<E: Eprint + AllocGlobal, D: Disk>(
     chosen: &mut Chosen,
 ) -> Result<(), Stop>
     ensures maps { maps_of chosen.new ≡ maps_of chosen.old }
-    ensures disk { held_of D.held opener.new ≡ held_of D.held opener.old }
+    ensures over { (held : Held) → IsOver D.held held wanted.now opener.old → IsOver D.held held wanted.now opener.new }
 {
-    check_places(host, opener, how, wanted, chosen)?;
-    check_files(host, opener, how, wanted, chosen)?;
+    check_places(host, &mut opener.store, how, wanted, chosen)?;
+    check_files(host, &mut opener.store, how, wanted, chosen)?;
     judge(how, chosen)
 }
 
 /// Reads the maps of scripts with names.
 fn check_places<E: Eprint + AllocGlobal, D: Disk>(
     host: &Host<'_, E, D>,
-    opener: &mut Opener<'_, D>,
+    store: &mut FileStore<'_, D>,
     how: How,
     wanted: &Wanted<'_>,
     chosen: &mut Chosen,
 ) -> Result<(), Stop>
     ensures maps { maps_of chosen.new ≡ maps_of chosen.old }
-    ensures disk { held_of D.held opener.new ≡ held_of D.held opener.old }
+    ensures held { D.held store.new.disk.now ≡ D.held store.old.disk.now }
 {
     for (i, place) in wanted.places.iter().enumerate() {
         let pick = Pick {
             name: place.script.as_slice(),
             found: Found::Given(i),
         };
-        check_one(host, opener, how, wanted, &pick, chosen)?;
+        check_one(host, store, how, wanted, &pick, chosen)?;
     }
     Ok(())
 }
@@ -579,13 +571,13 @@ fn check_places<E: Eprint + AllocGlobal, D: Disk>(
 /// Reads the maps in folders that are given alone.
 fn check_files<E: Eprint + AllocGlobal, D: Disk>(
     host: &Host<'_, E, D>,
-    opener: &mut Opener<'_, D>,
+    store: &mut FileStore<'_, D>,
     how: How,
     wanted: &Wanted<'_>,
     chosen: &mut Chosen,
 ) -> Result<(), Stop>
     ensures maps { maps_of chosen.new ≡ maps_of chosen.old }
-    ensures disk { held_of D.held opener.new ≡ held_of D.held opener.old }
+    ensures held { D.held store.new.disk.now ≡ D.held store.old.disk.now }
 {
     for (i, file) in wanted.files.iter().enumerate() {
         let name = name_of_file(host.alloc(), file)?;
@@ -593,7 +585,7 @@ fn check_files<E: Eprint + AllocGlobal, D: Disk>(
             name: name.as_slice(),
             found: Found::ByEnd(i),
         };
-        check_one(host, opener, how, wanted, &pick, chosen)?;
+        check_one(host, store, how, wanted, &pick, chosen)?;
     }
     Ok(())
 }
@@ -601,17 +593,17 @@ fn check_files<E: Eprint + AllocGlobal, D: Disk>(
 /// Reads the map of a pick. One that is refused is noted to have none.
 fn check_one<E: Eprint + AllocGlobal, D: Disk>(
     host: &Host<'_, E, D>,
-    opener: &mut Opener<'_, D>,
+    store: &mut FileStore<'_, D>,
     how: How,
     wanted: &Wanted<'_>,
     pick: &Pick<'_>,
     chosen: &mut Chosen,
 ) -> Result<(), Stop>
     ensures maps { maps_of chosen.new ≡ maps_of chosen.old }
-    ensures disk { held_of D.held opener.new ≡ held_of D.held opener.old }
+    ensures held { D.held store.new.disk.now ≡ D.held store.old.disk.now }
 {
     let mut worst = 0;
-    let found = opened_map(host, &mut opener.store, how, wanted, pick, &mut worst)?;
+    let found = opened_map(host, store, how, wanted, pick, &mut worst)?;
     if found.is_none() && worst > 0 {
         let key = key_of_found(host.alloc(), pick)?;
         chosen.opened.insert(key, None)?;

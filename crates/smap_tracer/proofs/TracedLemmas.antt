@@ -1,11 +1,11 @@
 -- Scripts whose maps are open have maps that the arguments name.
-use Rattle.std.proofs.Common.{◌≡◌, ◌∙◌, ap, sym, ℕ, ◌+◌, ◌<◌, List, [], ◌∷◌, ◌++◌, length, map, take, Bor, Option, Some, option_map, Result, Ok, Err, OnOk, get_or, subst, refl}
-use Rattle.std.specs.List.{All, slice_get}
+use Rattle.std.proofs.Common.{◌≡◌, ◌∙◌, ap, sym, ℕ, ◌+◌, ◌<◌, List, [], ◌∷◌, ◌++◌, length, map, take, Bor, Option, option_map, Result, Ok, Err, OnOk, get_or, subst, refl}
+use Rattle.std.specs.List.{All}
 use Rattle.std.proofs.lemmas.List.{map-append, take_more}
 use Rattle.std.proofs.lemmas.List.Elements.{All-map}
-use Rattle.std.proofs.lemmas.Option.{get_or_from_slice_get, slice_get_within}
 use Rattle.smap_disk.specs.Held.{GivesHeld, HasSize, Held}
-use Rattle.smap_finder.specs.ChosenView.{IsNamedBy, IsOneOf, maps_of}
+use Rattle.smap_finder.proofs.MapLemmas.{has_map}
+use Rattle.smap_finder.specs.ChosenView.{Choices, Has, maps_of}
 use Rattle.smap_finder.specs.declared.chosen.Chosen.{Chosen}
 use Rattle.smap_finder.specs.declared.wanted.Wanted.{Wanted}
 use Rattle.smap_record.specs.Record.{ReadMap}
@@ -15,14 +15,10 @@ use Rattle.smap_tracer.specs.declared.decorating.Style.{Style}
 use Rattle.smap_tracer.proofs.PartsLemmas.{one_log, one_part}
 use Rattle.smap_tracer.specs.Written.{AreNamed, AreTraced, HasMapOf, HasNamedMap, IsBegun, IsTracedFront, IsTracedIn, IsTracedLog, IsTracedTextIn, IsTranslatedIn}
 
-one_of : (P : ReadMap → Type 0) (maps : List ReadMap) (m : ReadMap) (i : ℕ) → All P maps → slice_get maps i ≡ Some m
-    → P m
-one_of P maps m i all is = subst P (get_or_from_slice_get maps i m m is) (all i m (slice_get_within maps i m is))
-
 named_map : (held : Held) (wanted : Wanted) (chosen : Chosen) (script : Script) → AreNamed held wanted chosen
     → HasMapOf (maps_of chosen) script → HasNamedMap held wanted script
 named_map held wanted chosen script all has =
-    (has.0, one_of (IsNamedBy held wanted) (maps_of chosen) has.0 has.1.0 all has.1.1, has.2)
+    (has.0, has_map held wanted (maps_of chosen) script.0 has.0 all has.1, has.2)
 
 pub traced : (held : Held) (wanted : Wanted) (chosen : Chosen) (style : Style)
     (left before after : Option (List ℕ)) → AreNamed held wanted chosen
@@ -33,8 +29,8 @@ traced held wanted chosen style left before after all is = λ plain. let by = is
   translated = by.translated;
 }
 
-pub have_maps : (maps : List ReadMap) (xs : List (Bor (List ℕ) × Bor ReadMap))
-    → All (λ (x : Bor (List ℕ) × Bor ReadMap). IsOneOf maps x.1.now) xs → All (HasMapOf maps) (scripts_in xs)
+pub have_maps : (maps : Choices) (xs : List (Bor (List ℕ) × Bor ReadMap))
+    → All (λ (x : Bor (List ℕ) × Bor ReadMap). Has maps x.0.now x.1.now) xs → All (HasMapOf maps) (scripts_in xs)
 have_maps maps xs all = All-map (HasMapOf maps) script_in xs
     (λ k d lt. ((get_or xs k d).1.now, all k d lt, refl))
 

@@ -7,7 +7,8 @@ use Rattle.std.specs.Option.{is_some}
 use Rattle.std.specs.Io.{IsEmptyOrEndsWith}
 use Rattle.std.specs.Io.KnownBytes.{Appends}
 use Rattle.smap_disk.specs.Held.{GivesHeld, HasSize, Held}
-use Rattle.smap_finder.specs.ChosenView.{IsNamedBy, IsOneOf, maps_of}
+use Rattle.smap_finder.specs.Choice.{IsMapOf}
+use Rattle.smap_finder.specs.ChosenView.{AreChosen, Choices, Has, maps_of}
 use Rattle.smap_finder.specs.declared.chosen.Chosen.{Chosen}
 use Rattle.smap_finder.specs.declared.wanted.Wanted.{Wanted}
 use Rattle.smap_record.specs.Record.{ReadMap, record_of}
@@ -30,29 +31,29 @@ pub record IsTranslated (fates : List ℕ → Fate) (left before after : Option 
   pub all : IsAll left text
   pub written : Appends before after (translation_by fates text)
 
--- The map of a script is one of these.
-abbrev pub HasMapOf : List ReadMap → Script → Type 0
-HasMapOf maps script = (m : ReadMap) × IsOneOf maps m × (script.1 ≡ record_of m)
+-- A script is a name of the log, with the map that is open for it.
+abbrev pub HasMapOf : Choices → Script → Type 0
+HasMapOf maps script = (m : ReadMap) × Has maps script.0 m × (script.1 ≡ record_of m)
 
--- The same, by scripts whose maps are among these.
-pub record IsTranslatedBy (maps : List ReadMap) (finding : Finding) (hide : Bool)
+-- The same, by scripts with these maps.
+pub record IsTranslatedBy (maps : Choices) (finding : Finding) (hide : Bool)
     (left before after : Option (List ℕ)) : Type 0 where
   pub scripts : List Script
   pub have_maps : All (HasMapOf maps) scripts
   pub translated : IsTranslated (fate_by finding scripts hide) left before after
 
 -- The same in a plain style; of another nothing is said.
-abbrev pub IsTranslatedIn : List ReadMap → Style → Option (List ℕ) → Option (List ℕ) → Option (List ℕ) → Type 0
+abbrev pub IsTranslatedIn : Choices → Style → Option (List ℕ) → Option (List ℕ) → Option (List ℕ) → Type 0
 IsTranslatedIn maps style left before after = is_plain_style style.prefixes.now style.context ≡ true
     → IsTranslatedBy maps style.finding style.hide left before after
 
--- All maps that are open are ones that the arguments name.
+-- Each name of the log has, of the maps that the arguments name, the one that it has by the definition.
 abbrev pub AreNamed : Held → Wanted → Chosen → Type 0
-AreNamed held wanted chosen = All (IsNamedBy held wanted) (maps_of chosen)
+AreNamed held wanted chosen = AreChosen held wanted (maps_of chosen)
 
--- The map of a script is one that the arguments name.
+-- The same of a script.
 abbrev pub HasNamedMap : Held → Wanted → Script → Type 0
-HasNamedMap held wanted script = (m : ReadMap) × IsNamedBy held wanted m × (script.1 ≡ record_of m)
+HasNamedMap held wanted script = (m : ReadMap) × IsMapOf held wanted script.0 m × (script.1 ≡ record_of m)
 
 -- The translation of all that a reader had was written, by scripts whose maps the arguments name.
 pub record IsTraced (held : Held) (wanted : Wanted) (style : Style) (left before after : Option (List ℕ))

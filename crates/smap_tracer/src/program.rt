@@ -1,6 +1,6 @@
 //! A run of `smap-trace`.
 ghost use Rattle.std.specs.Prelude.{◌≡◌, false, IfOk, OnOk, length, map};
-ghost use Rattle.smap_finder.specs.ChosenView.{held_of};
+ghost use Rattle.smap_finder.specs.ChosenView.{IsOver};
 ghost use Rattle.smap_tracer.specs.OutputView.{contents_of};
 ghost use Rattle.smap_tracer.specs.Runs.{IsAnswered, IsTracedAsked, IsTracedInput, IsTracedJob};
 ghost use Rattle.smap_tracer.specs.Written.{AreNamed};
@@ -65,7 +65,7 @@ fn trace_standard<E: Eprint + AllocGlobal, D: Disk, I: Read, W: Write + Drop>(
 where
     I: Drop,
     requires named { AreNamed (D.held host.now.disk.now) job.now.wanted state.old.chosen }
-    requires held { held_of D.held opener.old ≡ D.held host.now.disk.now }
+    requires over { IsOver D.held (D.held host.now.disk.now) job.now.wanted opener.old }
     ensures { OnOk result (IsTracedInput (D.held host.now.disk.now) job.now.wanted job.now.style
         input.kind (I.remaining input.reader) (contents_of W.contents output.old) (contents_of W.contents output.new)) }
 {
@@ -90,7 +90,7 @@ fn trace_logs<E: Eprint + AllocGlobal, D: Disk, I: Read, W: Write + Drop>(
 where
     I: Drop,
     requires named { AreNamed (D.held host.now.disk.now) job.now.wanted state.old.chosen }
-    requires held { held_of D.held opener.old ≡ D.held host.now.disk.now }
+    requires over { IsOver D.held (D.held host.now.disk.now) job.now.wanted opener.old }
     ensures { OnOk result (IsTracedJob (D.held host.now.disk.now) job.now input.kind (I.remaining input.reader)
         (contents_of W.contents output.old) (contents_of W.contents output.new)) }
 {
@@ -152,7 +152,7 @@ fn list<E: Eprint + AllocGlobal, D: Disk, I: Read, W: Write + Drop>(
 where
     I: Drop,
     requires named { AreNamed (D.held host.now.disk.now) job.now.wanted state.old.chosen }
-    requires held { held_of D.held opener.old ≡ D.held host.now.disk.now }
+    requires over { IsOver D.held (D.held host.now.disk.now) job.now.wanted opener.old }
 {
     let mut listed = Listed::new(host.alloc());
     list_logs(host, job, input, &mut listed)?;
@@ -173,7 +173,7 @@ fn run_over<E: Eprint + AllocGlobal, D: Disk, I: Read, W: Write + Drop>(
 where
     I: Drop,
     requires named { AreNamed (D.held host.now.disk.now) job.now.wanted state.old.chosen }
-    requires held { held_of D.held opener.old ≡ D.held host.now.disk.now }
+    requires over { IsOver D.held (D.held host.now.disk.now) job.now.wanted opener.old }
     ensures { OnOk result (job.now.list ≡ false → IsTracedJob (D.held host.now.disk.now) job.now input.kind
         (I.remaining input.reader) (contents_of W.contents output.old) (contents_of W.contents output.new)) }
 {

@@ -2,7 +2,7 @@
 ghost use Rattle.std.specs.Prelude.{◌≡◌, [], IfOk, OnOk, Some, map};
 ghost use Rattle.std.specs.Io.Take.{take_remaining};
 ghost use Rattle.smap_disk.specs.Held.{GivesHeld, HasSize};
-ghost use Rattle.smap_finder.specs.ChosenView.{held_of, maps_of};
+ghost use Rattle.smap_finder.specs.ChosenView.{IsOver, maps_of};
 ghost use Rattle.smap_tracer.specs.OutputView.{contents_of};
 ghost use Rattle.smap_tracer.specs.Written.{AreNamed, AreTraced, HaveSizes, IsTracedFront, IsTracedIn, IsTracedLog};
 ghost use Rattle.smap_tracer.specs.Written.{IsTracedTextIn};
@@ -46,7 +46,7 @@ pub(crate) struct State {
 }
 
 pub(crate) fn new_state(alloc: Global) -> State
-    ensures { maps_of result.chosen ≡ [] }
+    ensures { maps_of result.chosen ≡ ([], []) }
 {
     State {
         chosen: Chosen::new(alloc),
@@ -66,9 +66,9 @@ pub(crate) fn open_names<E: Eprint + AllocGlobal, D: Disk>(
     chosen: &mut Chosen,
 ) -> Result<(), Stop>
     requires named { AreNamed (D.held host.now.disk.now) job.now.wanted chosen.old }
-    requires held { held_of D.held opener.old ≡ D.held host.now.disk.now }
+    requires over { IsOver D.held (D.held host.now.disk.now) job.now.wanted opener.old }
     ensures named { AreNamed (D.held host.now.disk.now) job.now.wanted chosen.new }
-    ensures held { held_of D.held opener.new ≡ D.held host.now.disk.now }
+    ensures over { IsOver D.held (D.held host.now.disk.now) job.now.wanted opener.new }
 {
     let alloc = host.alloc();
     let (how, wanted) = (job.how, &job.wanted);
@@ -134,9 +134,9 @@ fn open_lines<E: Eprint + AllocGlobal, D: Disk>(
     state: &mut State,
 ) -> Result<(), Stop>
     requires named { AreNamed (D.held host.now.disk.now) job.now.wanted state.old.chosen }
-    requires held { held_of D.held opener.old ≡ D.held host.now.disk.now }
+    requires over { IsOver D.held (D.held host.now.disk.now) job.now.wanted opener.old }
     ensures named { AreNamed (D.held host.now.disk.now) job.now.wanted state.new.chosen }
-    ensures held { held_of D.held opener.new ≡ D.held host.now.disk.now }
+    ensures over { IsOver D.held (D.held host.now.disk.now) job.now.wanted opener.new }
 {
     let alloc = host.alloc();
     let names = names_in(alloc, lines, job.anywhere)?;
@@ -155,9 +155,9 @@ fn follow_lines<E: Eprint + AllocGlobal, D: Disk, W: Write + Drop>(
     output: &mut Output<W>,
 ) -> Result<(), Stop>
     requires named { AreNamed (D.held host.now.disk.now) job.now.wanted state.old.chosen }
-    requires held { held_of D.held opener.old ≡ D.held host.now.disk.now }
+    requires over { IsOver D.held (D.held host.now.disk.now) job.now.wanted opener.old }
     ensures named { AreNamed (D.held host.now.disk.now) job.now.wanted state.new.chosen }
-    ensures held { held_of D.held opener.new ≡ D.held host.now.disk.now }
+    ensures over { IsOver D.held (D.held host.now.disk.now) job.now.wanted opener.new }
     ensures traced { OnOk result (IsTracedIn (D.held host.now.disk.now) job.now.wanted job.now.style (Some lines.now)
         (contents_of W.contents output.old) (contents_of W.contents output.new)) }
 {
@@ -179,9 +179,9 @@ fn follow_log<E: Eprint + AllocGlobal, D: Disk, R: Read, W: Write + Drop>(
 where
     R: Drop,
     requires named { AreNamed (D.held host.now.disk.now) job.now.wanted state.old.chosen }
-    requires held { held_of D.held opener.old ≡ D.held host.now.disk.now }
+    requires over { IsOver D.held (D.held host.now.disk.now) job.now.wanted opener.old }
     ensures named { AreNamed (D.held host.now.disk.now) job.now.wanted state.new.chosen }
-    ensures held { held_of D.held opener.new ≡ D.held host.now.disk.now }
+    ensures over { IsOver D.held (D.held host.now.disk.now) job.now.wanted opener.new }
     ensures traced { OnOk result (IsTracedTextIn (D.held host.now.disk.now) job.now.wanted job.now.style
         (R.remaining reader) (contents_of W.contents output.old) (contents_of W.contents output.new)) }
 {
@@ -265,9 +265,9 @@ fn open_files<E: Eprint + AllocGlobal, D: Disk>(
     state: &mut State,
 ) -> Result<Vec<u64>, Stop>
     requires named { AreNamed (D.held host.now.disk.now) job.now.wanted state.old.chosen }
-    requires held { held_of D.held opener.old ≡ D.held host.now.disk.now }
+    requires over { IsOver D.held (D.held host.now.disk.now) job.now.wanted opener.old }
     ensures named { AreNamed (D.held host.now.disk.now) job.now.wanted state.new.chosen }
-    ensures held { held_of D.held opener.new ≡ D.held host.now.disk.now }
+    ensures over { IsOver D.held (D.held host.now.disk.now) job.now.wanted opener.new }
     ensures sizes { IfOk result (λ sizes. HaveSizes (D.held host.now.disk.now) paths.now sizes.items) }
 {
     let sizes = name_logs(host, job, paths, state)?;
@@ -307,7 +307,7 @@ pub(crate) fn trace_files<E: Eprint + AllocGlobal, D: Disk, W: Write + Drop>(
     output: &mut Output<W>,
 ) -> Result<(), Stop>
     requires named { AreNamed (D.held host.now.disk.now) job.now.wanted state.old.chosen }
-    requires held { held_of D.held opener.old ≡ D.held host.now.disk.now }
+    requires over { IsOver D.held (D.held host.now.disk.now) job.now.wanted opener.old }
     ensures { OnOk result (AreTraced (D.held host.now.disk.now) job.now.wanted job.now.style
         (map (λ p. p.now) paths.now) (contents_of W.contents output.old) (contents_of W.contents output.new)) }
 {
@@ -328,7 +328,7 @@ pub(crate) fn trace_input<E: Eprint + AllocGlobal, D: Disk, I: Read, W: Write + 
 where
     I: Drop,
     requires named { AreNamed (D.held host.now.disk.now) job.now.wanted state.old.chosen }
-    requires held { held_of D.held opener.old ≡ D.held host.now.disk.now }
+    requires over { IsOver D.held (D.held host.now.disk.now) job.now.wanted opener.old }
     ensures { OnOk result (IsTracedFront (D.held host.now.disk.now) job.now.wanted job.now.style path.now
         (I.remaining input) (contents_of W.contents output.old) (contents_of W.contents output.new)) }
 {
@@ -356,9 +356,9 @@ fn follow_path<E: Eprint + AllocGlobal, D: Disk, W: Write + Drop>(
     output: &mut Output<W>,
 ) -> Result<(), Stop>
     requires named { AreNamed (D.held host.now.disk.now) job.now.wanted state.old.chosen }
-    requires held { held_of D.held opener.old ≡ D.held host.now.disk.now }
+    requires over { IsOver D.held (D.held host.now.disk.now) job.now.wanted opener.old }
     ensures named { AreNamed (D.held host.now.disk.now) job.now.wanted state.new.chosen }
-    ensures held { held_of D.held opener.new ≡ D.held host.now.disk.now }
+    ensures over { IsOver D.held (D.held host.now.disk.now) job.now.wanted opener.new }
     ensures traced { OnOk result (IsTracedLog (D.held host.now.disk.now) job.now.wanted job.now.style path.now
         (contents_of W.contents output.old) (contents_of W.contents output.new)) }
 {
@@ -379,7 +379,7 @@ pub(crate) fn trace_streams<E: Eprint + AllocGlobal, D: Disk, W: Write + Drop>(
     output: &mut Output<W>,
 ) -> Result<(), Stop>
     requires named { AreNamed (D.held host.now.disk.now) job.now.wanted state.old.chosen }
-    requires held { held_of D.held opener.old ≡ D.held host.now.disk.now }
+    requires over { IsOver D.held (D.held host.now.disk.now) job.now.wanted opener.old }
     ensures { OnOk result (AreTraced (D.held host.now.disk.now) job.now.wanted job.now.style
         (map (λ p. p.now) paths.now) (contents_of W.contents output.old) (contents_of W.contents output.new)) }
 {
@@ -401,7 +401,7 @@ pub(crate) fn trace_stream<E: Eprint + AllocGlobal, D: Disk, I: Read, W: Write +
 where
     I: Drop,
     requires named { AreNamed (D.held host.now.disk.now) job.now.wanted state.old.chosen }
-    requires held { held_of D.held opener.old ≡ D.held host.now.disk.now }
+    requires over { IsOver D.held (D.held host.now.disk.now) job.now.wanted opener.old }
     ensures { OnOk result (IsTracedTextIn (D.held host.now.disk.now) job.now.wanted job.now.style
         (I.remaining input) (contents_of W.contents output.old) (contents_of W.contents output.new)) }
 {

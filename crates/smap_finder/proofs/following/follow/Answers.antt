@@ -1,4 +1,3 @@
-use Rattle.std.proofs.Common.{[]}
 use Rattle.smap_finder.proofs.FollowingLemmas.{taken_aside}
 use Rattle.smap_finder.proofs.following.follow.Goals as goal
 

@@ -10,7 +10,7 @@ use Rattle.smap_tracer.proofs.tracing.follow_log.Goals as goal
 pub loop-init : goal.loop-init
 loop-init g c = record {
   named = c.requires.named;
-  held = c.requires.held;
+  over = c.requires.over;
   traced = λ plain. let log = c.new-log.result in
       none_so_far (g.D.Disk.held c.args.host.now.disk.now) c.args.job.now.wanted c.args.job.now.style log.ended
       (g.R.Read.remaining c.args.reader) (pending g.R.Read.remaining log)
@@ -30,7 +30,7 @@ returns-then-not-more-clause-traced g c plain =
 pub loop-preserved : goal.loop-preserved
 loop-preserved g c = record {
   named = c.in_ok-follow_lines.ensures.named;
-  held = c.in_ok-follow_lines.ensures.held;
+  over = c.in_ok-follow_lines.ensures.over;
   traced = λ plain. let held = g.D.Disk.held c.args.host.now.disk.now in
       let wanted = c.args.job.now.wanted in
       let style = c.args.job.now.style in

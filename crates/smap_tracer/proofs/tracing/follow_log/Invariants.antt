@@ -1,5 +1,5 @@
 use Rattle.std.proofs.Common.{◌≡◌, true}
-use Rattle.smap_finder.specs.ChosenView.{held_of}
+use Rattle.smap_finder.specs.ChosenView.{IsOver}
 use Rattle.smap_tracer.proofs.PartsLemmas.{SoFar}
 use Rattle.smap_tracer.specs.Logs.{pending}
 use Rattle.smap_tracer.specs.OutputView.{contents_of}
@@ -9,7 +9,7 @@ use Rattle.smap_tracer.proofs.tracing.follow_log.Given as goal
 abbrev pub invariant-loop : goal.invariant-loop
 invariant-loop g l = record {
   named : AreNamed (g.D.Disk.held l.host.disk.now) l.job.wanted l.state.chosen;
-  held : held_of g.D.Disk.held l.opener ≡ g.D.Disk.held l.host.disk.now;
+  over : IsOver g.D.Disk.held (g.D.Disk.held l.host.disk.now) l.job.wanted l.opener;
   traced : is_plain_style l.job.style.prefixes.now l.job.style.context ≡ true
       → SoFar (g.D.Disk.held l.host.disk.now) l.job.wanted l.job.style l.log.ended
       (g.R.Read.remaining l.fn.reader) (pending g.R.Read.remaining l.log) (contents_of g.W.Write.contents l.initial.output)

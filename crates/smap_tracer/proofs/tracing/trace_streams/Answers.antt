@@ -5,7 +5,7 @@ use Rattle.smap_tracer.proofs.tracing.trace_streams.Goals as goal
 pub loop-path-preserved : goal.loop-path-preserved
 loop-path-preserved g c = record {
   named = c.in_ok-follow_path.ensures.named;
-  held = c.in_ok-follow_path.ensures.held;
+  over = c.in_ok-follow_path.ensures.over;
   traced = one_more_path _ _ _ c.args.paths.now c.loop-path.path-index _ (omega (arith, c.loop-path-test.true)) _ _ _
       c.loop-path.invariant.traced c.in_ok-follow_path.ensures.traced;
 }

@@ -1,5 +1,5 @@
-use Rattle.std.proofs.Common.{◌≡◌, map, take}
-use Rattle.smap_finder.specs.ChosenView.{held_of}
+use Rattle.std.proofs.Common.{map, take}
+use Rattle.smap_finder.specs.ChosenView.{IsOver}
 use Rattle.smap_tracer.specs.OutputView.{contents_of}
 use Rattle.smap_tracer.specs.Written.{AreNamed, AreTraced}
 use Rattle.smap_tracer.proofs.tracing.trace_streams.Given as goal
@@ -7,7 +7,7 @@ use Rattle.smap_tracer.proofs.tracing.trace_streams.Given as goal
 abbrev pub invariant-loop-path : goal.invariant-loop-path
 invariant-loop-path g l = record {
   named : AreNamed (g.D.Disk.held l.host.disk.now) l.job.wanted l.state.chosen;
-  held : held_of g.D.Disk.held l.opener ≡ g.D.Disk.held l.host.disk.now;
+  over : IsOver g.D.Disk.held (g.D.Disk.held l.host.disk.now) l.job.wanted l.opener;
   traced : AreTraced (g.D.Disk.held l.host.disk.now) l.job.wanted l.job.style
       (map (λ p. p.now) (take l.path-index l.paths)) (contents_of g.W.Write.contents l.initial.output)
       (contents_of g.W.Write.contents l.output);

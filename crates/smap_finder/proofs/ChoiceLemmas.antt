@@ -1,0 +1,65 @@
+-- Names of a log, and what they have.
+use Rattle.std.proofs.Common.{◌≡◌, ◌∙◌, ◌<◌, ap, sym, ℕ, Bor, List, [], length, Option, Some, None, get_or, map, subst, option_map, true}
+use Rattle.std.specs.Global.{Vec}
+use Rattle.std.specs.List.{All, slice_get}
+use Rattle.std.proofs.lemmas.Option.{get_or_from_slice_get, slice_get-get_or, slice_get-map, slice_get_within}
+use Rattle.smap_disk.specs.Held.{Held, IsHeld}
+use Rattle.smap_finder.specs.Choice.{ArePicksIn, IsFoundIn, NamesMap, files_of, places_of}
+use Rattle.smap_finder.specs.Given.{Folder, IsTaken, Names}
+use Rattle.smap_finder.specs.declared.following.Followed.TheVariants as followed
+use Rattle.smap_finder.specs.declared.wanted.Wanted.{Wanted}
+use Rattle.smap_pick.specs.Finding.{IsPick}
+use Rattle.smap_pick.specs.Places.{scripts_of}
+use Rattle.smap_pick.specs.declared.finding.Pick.{Pick}
+use Rattle.smap_pick.specs.declared.places.Place.{Place}
+
+pub one_of : {X : Type 0} (P : X → Type 0) (xs : List X) (x : X) (i : ℕ) → All P xs → slice_get xs i ≡ Some x → P x
+one_of P xs x i all is = subst P (get_or_from_slice_get xs i x x is) (all i x (slice_get_within xs i x is))
+
+pub file_at : (w : Wanted) (i : ℕ) (v : Vec ℕ) → slice_get w.files.items i ≡ Some v
+    → slice_get (files_of w) i ≡ Some v.items
+file_at w i v is = slice_get-map (λ (f : Vec ℕ). f.items) w.files.items i
+    ∙ ap (option_map (λ (f : Vec ℕ). f.items)) is
+
+-- a script whose text was followed to this file names it
+pub names_map : (held : Held) (root : Option Folder) (script text file : List ℕ) (place : Place)
+    → IsHeld held script text → IsTaken root script text (followed.File place) → place.file.items ≡ file
+    → NamesMap held root script file
+names_map None root script text file place is taken same = tt
+names_map (Some held) root script text file place is taken same = record {
+  folder = taken.folder;
+  is_folder = taken.is_folder;
+  text = text;
+  held_is = is;
+  names = subst (Names taken.folder script text) same taken.followed_is;
+}
+
+abbrev names_in : List (Bor (List ℕ)) → List (List ℕ)
+names_in names = map (λ (n : Bor (List ℕ)). n.now) names
+
+name_at : (names : List (Bor (List ℕ))) (picks : List Pick) (i : ℕ) (pick : Pick) (d : Bor (List ℕ))
+    → map (λ (p : Pick). p.name.now) picks ≡ names_in names → slice_get picks i ≡ Some pick → i < length names
+    → pick.name.now ≡ (get_or names i d).now
+name_at names picks i pick d named is lt =
+    sym (get_or_from_slice_get (names_in names) i pick.name.now []
+    (subst (λ (l : List (List ℕ)). slice_get l i ≡ Some pick.name.now) named
+    (slice_get-map (λ (p : Pick). p.name.now) picks i ∙ ap (option_map (λ (p : Pick). p.name.now)) is)))
+    ∙ get_or_from_slice_get (names_in names) i (get_or names i d).now []
+    (slice_get-map (λ (n : Bor (List ℕ)). n.now) names i
+    ∙ ap (option_map (λ (n : Bor (List ℕ)). n.now)) (slice_get-get_or names i d lt))
+
+-- what the name with this number has
+pub pick_at : (w : Wanted) (files : List (List ℕ)) (names : List (Bor (List ℕ))) (picks : List Pick) (i : ℕ)
+    (pick : Pick) (d : Bor (List ℕ)) → ArePicksIn w files (map (λ (n : Bor (List ℕ)). n.now) names) picks
+    → slice_get picks i ≡ Some pick → i < length names → IsFoundIn w files (get_or names i d).now pick.found
+pick_at w files names picks i pick d are is lt =
+    subst (λ (n : List ℕ). IsFoundIn w files n pick.found) (name_at names picks i pick d are.named is lt)
+    (one_of (IsPick true (scripts_of (places_of w)) files) picks pick i are.each is)
+
+-- what each of these names has, among the files that the arguments name
+pub found_in : (w : Wanted) (files : List (Bor (List ℕ))) (names : List (List ℕ)) (picks : List Pick)
+    → names_in files ≡ files_of w → ArePicksIn w (names_in files) names picks
+    → All (λ (p : Pick). IsFoundIn w (files_of w) p.name.now p.found) picks
+found_in w files names picks same are = λ k d lt.
+    subst (λ (fs : List (List ℕ)). IsFoundIn w fs (get_or picks k d).name.now (get_or picks k d).found) same
+    (are.each k d lt)
