@@ -2,7 +2,7 @@
 
     python3 bench/capi.py crates/smap/out/smap LIB
 
-LIB is the folder that scripts/build-capi made. Prints a table: opens of a map a second, lookups a second at
+LIB is the folder that tools/build-capi made. Prints a table: opens of a map a second, lookups a second at
 positions that rise and at positions far from each other, lines of a log translated a second. The program's
 figures are those of whole runs: one open and one lookup, or all maps and lines of a bundle. Time is processor
 time. Let nothing else run meanwhile.

@@ -10,7 +10,7 @@ Each input is long or deep in one respect, and its answer is made beside it, wit
 processor time and the peak memory at the largest size, and the exponent of growth from an eighth of it: time
 goes with the bytes that are read and written to that power. The last line says how many answers were wrong.
 With --into the table is put between the two lines of that file that hold `figures of hostile.py`. A command
-that the program doesn't have is left out. With --library, which takes the folder that scripts/build-capi made,
+that the program doesn't have is left out. With --library, which takes the folder that tools/build-capi made,
 the C library also opens inputs, without and with a bound on the bytes of their URLs, by the Python module.
 
 With --once each input is run at its largest size alone, and the run has to keep to what docs/PERFORMANCE.md

@@ -3,7 +3,7 @@
     python3 bench/scale.py crates/smap/out/smap LIB
     python3 bench/scale.py crates/smap/out/smap LIB --into docs/SCALE.md
 
-LIB is the folder that scripts/build-capi made. Prints two tables, and with --into puts them between the two
+LIB is the folder that tools/build-capi made. Prints two tables, and with --into puts them between the two
 lines of that file that hold `figures of scale.py`. The first is of one process by the number of maps that the
 log names, in processor time; the second of several by their number, in time as it passes. All lines of the
 logs are frames, at random positions. What needs a tool that isn't at hand (parallel, dask.distributed) is a

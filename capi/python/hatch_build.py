@@ -18,7 +18,7 @@ class LibraryHook(BuildHookInterface):
 
     def initialize(self, version, build_data):
         root, included = Path(self.root), build_data["force_include"]
-        page = next(filter(Path.exists, [root / PAGE, root.parent.parent / "docs" / "man" / PAGE]))
+        page = next(filter(Path.exists, [root / PAGE, root.parent.parent / "packaging" / "man" / PAGE]))
         if self.target_name == "sdist":
             included[str(page)] = PAGE
             return

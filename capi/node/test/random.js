@@ -5,7 +5,7 @@
 // given one or else from one that nobody chose. The calls are made in another process: if that crashes or
 // hangs, its seed is told. `random.js --only SEED` makes the calls of one seed, and names each.
 //
-// Under the sanitizers scripts/run-node links bounds.c, which has the library's reads and writes checked too.
+// Under the sanitizers tests/node/run links bounds.c, which has the library's reads and writes checked too.
 const { spawn } = require('node:child_process');
 const { randomInt } = require('node:crypto');
 const fs = require('node:fs');

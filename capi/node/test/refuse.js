@@ -1,6 +1,6 @@
 'use strict';
 // Each request for memory refused in turn, and what maps hold beside what the collector is told; over the
-// test build of build.sh: see scripts/run-node.
+// test build of build.sh: see tests/node/run.
 const assert = require('node:assert');
 const {
   SourceMap, Scripts, translate, frame, respell,

@@ -16,7 +16,7 @@ def program() -> Optional[str]:
     wheel = importlib.util.find_spec("smap_programs")
     if wheel is not None and wheel.origin:
         folders.append(Path(wheel.origin).parent)
-    # scripts/install puts this folder into PREFIX/share/smap, and the program into PREFIX/bin
+    # tools/install puts this folder into PREFIX/share/smap, and the program into PREFIX/bin
     folders.append(Path(__file__).resolve().parent.parent.parent.parent / "bin")
     for folder in folders:
         found = shutil.which("smap", path=str(folder))

@@ -132,7 +132,7 @@ def library_file() -> str:
     if named:
         return named
     beside = Path(__file__).resolve().parent
-    # scripts/install puts this folder into PREFIX/share/smap, and the library into PREFIX/lib
+    # tools/install puts this folder into PREFIX/share/smap, and the library into PREFIX/lib
     installed = beside.parent.parent.parent / "lib"
     for place in (beside / "libsmap.so.0", beside / "libsmap.so", installed / "libsmap.so.0"):
         if place.exists():

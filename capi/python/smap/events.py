@@ -1,6 +1,7 @@
 """The program smap-events: translates the stacks of events, as error reporters and loggers write them.
 
-Its man page, docs/man/smap-events.1, says which stacks these are, and what becomes of them. `main` runs it.
+Its man page, packaging/man/smap-events.1, says which stacks these are, and what becomes of them. `main` runs
+it.
 """
 
 from __future__ import annotations

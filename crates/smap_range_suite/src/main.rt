@@ -1,5 +1,5 @@
 //! A program for tests: for each map on its standard input it prints where in the map's text its fault is.
-//! `scripts/run-ranges` compares that with what a scanner of its own finds.
+//! `tests/ranges/run` compares that with what a scanner of its own finds.
 //!
 //! A map is a line with its length in bytes, and the map. The limits are small, so that short maps exceed
 //! them: 20 sources or names, and 100 lines.

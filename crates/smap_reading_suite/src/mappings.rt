@@ -1,5 +1,5 @@
 //! Mappings strings: counting their segments, decoding them at once and in pieces, and encoding. Those that
-//! need no bounds are in the tables of `rows/`.
+//! need no bounds are in the tables of `tests/rows/`.
 mod counting;
 mod decoding;
 mod encodable;

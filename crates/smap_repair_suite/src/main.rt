@@ -1,5 +1,5 @@
-//! A program for tests, which `rows/repair.py` runs over maps on its standard input, whose URL is its second
-//! argument. By its first argument it repairs a map, or lists its mappings.
+//! A program for tests, which `tests/repairs/run` runs over maps on its standard input, whose URL is its
+//! second argument. By its first argument it repairs a map, or lists its mappings.
 //!
 //! `repair` writes the text that is read then to standard output, and to standard error a line for each
 //! repair, or why the map stays refused. `mappings` writes a line for each mapping: its position, and where

@@ -1,5 +1,5 @@
 //! Arguments, and the tasks that they are. A command line is written with one space between its words. The
-//! arguments that the program refuses are in the tables of `rows/`.
+//! arguments that the program refuses are in the tables of `tests/rows/`.
 use crate::asserted::{equal, holds};
 use smap_tool::{Task, WordsFault, task_of};
 use smap_trace::Finding;

@@ -7,7 +7,7 @@ use smap_host::{Host, Stop};
 const NAME: &str = "smap-view.html";
 
 /// Where it is, from the folder of the program: beside it, where it is installed, and in the repository.
-const PLACES: [&str; 3] = ["", "../share/smap/", "../../../scripts/"];
+const PLACES: [&str; 3] = ["", "../share/smap/", "../../smap_viewer/"];
 
 /// What the data take the place of.
 const HOLE: &str = concat!(
@@ -56,7 +56,7 @@ pub(crate) fn read_template<E: Eprint + AllocGlobal, D: Disk>(
         Some(text) => Ok(text),
         None => Err(host.fail(
             2,
-            "cannot find smap-view.html, which belongs beside this program: scripts/install installs both",
+            "cannot find smap-view.html, which belongs beside this program: tools/install installs both",
         )),
     }
 }

@@ -1,5 +1,5 @@
 //! The canonical form and the flat form, by the calls that put reading and writing together, and records that
-//! are compared. The bytes of many more maps are in the tables of `rows/`.
+//! are compared. The bytes of many more maps are in the tables of `tests/rows/`.
 use crate::asserted::{equal, holds};
 use crate::reading::{base, read, read_bytes};
 use smap_canon::round_trips::{flattened, have_equal_bytes, tidied};

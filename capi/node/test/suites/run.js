@@ -4,7 +4,7 @@
 //     node run.js NAME FOLDER
 //
 // NAME is `source-map`, `remapping` or `source-map-support`, and FOLDER has its sources, as
-// scripts/peer-suites puts them there. What differs on purpose is listed in differences.json with its reason:
+// tools/peer-suites puts them there. What differs on purpose is listed in differences.json with its reason:
 // such a test has to fail with the error that stands there, and any other one to pass. Only tests that ask
 // the layer are counted. Before, all of them are run over the package itself, and have to pass. The last line
 // is 'N passed, M failed'. The status is 3, and the line a reason, if the tests aren't those that the list is

@@ -1,5 +1,5 @@
 //! Bases, and URLs without a relative form. The URLs of bases are those of Node's `new URL(text)`. The URLs
-//! of sources, and relative forms, are in the tables of `rows/`.
+//! of sources, and relative forms, are in the tables of `tests/rows/`.
 use super::{ample, base_of};
 use crate::asserted::holds;
 use smap_testing::parts;

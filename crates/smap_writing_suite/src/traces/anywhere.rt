@@ -1,4 +1,4 @@
-//! A trace in which positions are found anywhere. Many more lines are in the tables of `rows/`.
+//! A trace in which positions are found anywhere. Many more lines are in the tables of `tests/rows/`.
 use crate::asserted::equal;
 use crate::reading::read;
 use smap_io::Device;

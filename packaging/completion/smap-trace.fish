@@ -1,0 +1,38 @@
+# Completion of smap-trace for fish. tests/rows/completion.rows compares its options with --help.
+
+complete -c smap-trace -s h -l help -d 'Print help'
+complete -c smap-trace -s V -l version -d 'Print the version'
+complete -c smap-trace -l anywhere -d 'Find positions anywhere in a line'
+complete -c smap-trace -l ignore-query -d 'Ignore a query behind the URL of a script'
+complete -c smap-trace -l hide-ignored -d 'Leave out frames in ignored sources'
+complete -c smap-trace -l skip-broken -d 'Leave out maps that are refused'
+complete -c smap-trace -l check-all -d 'Check the maps of all scripts'
+complete -c smap-trace -s v -l verbose -d 'Say which maps are opened'
+complete -c smap-trace -l list -d 'List the scripts that the log names'
+complete -c smap-trace -x -l context -d 'Show so many lines of the source around each position'
+complete -c smap-trace -x -l source-prefix -d 'Write TO for FROM at the start of a source\'s URL'
+complete -c smap-trace -r -F -s o -d 'Write to a file, which changes only when all is written'
+complete -c smap-trace -n '__smap_trace_has_url' -f -a '(__smap_trace_maps)'
+
+# Whether the word that is completed has a =. Without one it is a folder or a log, which fish completes itself.
+function __smap_trace_has_url
+    string match -q -r '^[^-].*=' -- (commandline -ct | string collect)
+end
+
+# Leaves the URL alone, and completes the file or the folder after its =: maps and folders or, if there are
+# none, any file. After URL=FILE= comes another URL. Names with control characters are left out, since a name
+# is a line, up to a tab.
+function __smap_trace_maps
+    # the word is as it was typed, and a quote may be open
+    set -l typed (commandline -ct | string collect)
+    set -l word (string unescape -- $typed; or string unescape -- $typed\'; or string unescape -- $typed\")
+    set -l path (string replace -r '.*=' '' -- $word)
+    set -l head (string replace -r '[^=]*$' '' -- $word)
+    set -l before (string replace -r '.*=' '' -- (string replace -r '=$' '' -- $head))
+    string match -q '*=*=' -- $head; and test -f "$before"; and return
+    set -l found $path*.map $path*/
+    set -q found[1]; or set found $path*
+    for name in $found
+        string match -q -r '[[:cntrl:]]' -- $name; or printf '%s\n' $head$name
+    end
+end

@@ -1,0 +1,215 @@
+# shellcheck shell=bash
+# Completion of smap, smap-trace, smap-maps, smap-view and smap-events for bash 4 and later. The package
+# bash-completion loads this file once one of them is completed; without that package, `. smap.bash` in ~/.bashrc
+# does.
+
+# The options of each command. tests/rows/completion.rows compares these lines with --help, and
+# tests/library/event_lines.py that of smap-events.
+_smap_options='
+smap: --version --help
+smap check: --help
+smap tidy: --relative --help
+smap flatten: --help
+smap lookup: --help
+smap respell: --help
+smap scripts: --help
+smap translate: --hide-ignored --anywhere --ignore-query --help
+smap-trace: --anywhere --ignore-query --hide-ignored --skip-broken --check-all --list --context --source-prefix --verbose --version --help
+smap-view: --base --sizes --budget --version --help
+smap-events: --no-raw --context --version --help
+smap-maps: --version --help
+smap-maps check: --base --jobs --json --version --help
+smap-maps tidy: --base --jobs --json --absolute --relative --write --drop --diff --version --help
+smap-maps flatten: --base --jobs --json --write --drop --diff --version --help
+smap-maps lint: --base --jobs --format --rule --min-mapped --version --help
+smap-maps repair: --base --jobs --write --version --help
+'
+
+# Writes what a program takes next: the options of one of its commands, or with one argument its commands.
+_smap_words() {
+    local line
+    while IFS= read -r line; do
+        case $# in
+        1) [[ $line == "$1 "*:* ]] && line=${line%%:*} && echo "${line##* }" ;;
+        *) [[ $line == "$1${2:+ $2}: "* ]] && echo "${line#*: }" ;;
+        esac
+    done <<<"$_smap_options"
+}
+
+# Splits the line before the cursor into `words`, without their quotes, and sets `quote` to the quote that is
+# open at its end. In bash's own COMP_WORDS a URL is split at each of its : and =. What bash replaces is the
+# end of the line, $1; `kept` is set to what is before that in the last word.
+_smap_split() {
+    local LC_ALL=C line=${COMP_LINE:0:COMP_POINT} word='' in_word='' i c from
+    from=$((${#line} - ${#1}))
+    words=()
+    quote=''
+    kept=''
+    for ((i = 0; i < ${#line}; i++)); do
+        ((i != from)) || kept=$word
+        c=${line:i:1}
+        if [[ -n $quote && $c == "$quote" ]]; then
+            quote=''
+        elif [[ $quote == \' ]]; then
+            word+=$c
+        elif [[ $c == \\ && ($quote == '' || ${line:i+1:1} == [\\\"\$\`]) ]]; then
+            word+=${line:i+1:1}
+            ((i++))
+            in_word=yes
+        elif [[ -n $quote ]]; then
+            word+=$c
+        elif [[ $c == [\'\"] ]]; then
+            quote=$c
+            in_word=yes
+        elif [[ $c == [[:space:]\<\>] ]]; then
+            [[ -z $in_word ]] || words+=("$word")
+            [[ $c == [[:space:]] ]] || words+=("$c")
+            word=''
+            in_word=''
+        else
+            word+=$c
+            in_word=yes
+        fi
+    done
+    ((i != from)) || kept=$word
+    words+=("$word")
+}
+
+# Completes $2 to one of the words $1. (A process substitution would want /proc, which a container may lack.)
+_smap_choose() {
+    local found
+    found=$(compgen -W "$1" -- "$2") && mapfile -t COMPREPLY <<<"$found"
+}
+
+# Sets `files` to the names that begin with $1, except those with control characters. compgen -f would take
+# what is a quote or a backslash in a name for one of the line.
+_smap_find() {
+    local saved name
+    saved=$(shopt -p nullglob dotglob failglob)
+    [[ $- != *f* ]] || saved+='; set -f'
+    shopt -s nullglob dotglob
+    shopt -u failglob
+    set +f
+    files=()
+    for name in "$1"*; do
+        [[ $name == *[[:cntrl:]]* ]] || files+=("$name")
+    done
+    eval "$saved"
+}
+
+# Sets `name` to what stands for it in the line, within the quote that is open. In "" history expansion takes
+# a ! even behind a backslash, so that stands between other quotes. bash itself leaves a $ or a ` as it is in
+# what several names begin with, so it isn't asked.
+_smap_quote() {
+    local c
+    case $quote in
+    \') set -- ;;
+    \") set -- \\ \" \$ \` ;;
+    *) set -- \\ \" \$ \` \! \' ' ' '~' '#' '&' '*' '(' ')' '|' '[' ']' '{' '}' ';' '<' '>' '?' '^' ',' ;;
+    esac
+    for c; do
+        name=${name//"$c"/"\\$c"}
+    done
+    case $quote in
+    \') name=${name//\'/\'\\\'\'} ;;
+    \") name=${name//\!/\"\'!\'\"} ;;
+    esac
+    # one that comes first takes the place of the open one
+    [[ -z $quote || $name != "$quote"* ]] || name=$quote$name
+}
+
+# Completes the name of a file that begins with $1: maps and folders or, if there are none or $3 is `any`, any
+# file. $2 is what stands before it in its word.
+_smap_files() {
+    local name files maps=() head=$2 tilde=''
+    # the home folder, unless a quote or a backslash is before the ~
+    [[ -n $quote$head || $piece != \~/* ]] || tilde=\~
+    _smap_find "${tilde:+$HOME}${1#"$tilde"}"
+    for name in "${files[@]}"; do
+        [[ $name != *.map && ! -d $name ]] || maps+=("$name")
+    done
+    [[ ${#maps[@]} -eq 0 || $3 == any ]] || files=("${maps[@]}")
+    for name in "${files[@]}"; do
+        if [[ -d $name ]]; then
+            name+=/
+            compopt -o nospace
+        fi
+        [[ -z $tilde ]] || name=${name#"$HOME"}
+        [[ -n $head || $name != -* ]] || name=./$name
+        name=$head$name
+        name=${name#"$kept"}
+        _smap_quote
+        COMPREPLY+=("$tilde$name")
+    done
+    # what is listed ends with the names alone
+    compopt -o filenames -o noquote 2>/dev/null
+}
+
+_smap() {
+    local program=${1##*/} piece=$2 words quote kept word before command='' last i
+    COMPREPLY=()
+    _smap_split "$piece"
+    last=$((${#words[@]} - 1))
+    word=${words[last]}
+    before=${words[last - 1]}
+    if [[ $program == smap || $program == smap-maps ]]; then
+        for ((i = 1; i < last; i++)); do
+            if [[ ${words[i]} == --base || ${words[i]} == --jobs ]]; then
+                ((i++))
+            elif [[ ${words[i]} == [\<\>] ]]; then
+                break
+            elif [[ ${words[i]} != -* ]]; then
+                command=${words[i]}
+                break
+            fi
+        done
+    fi
+    case $program:$before in
+    *:'<')
+        case $program:$command in
+        smap:check | smap:tidy | smap:flatten | smap:lookup) _smap_files "$word" '' ;;
+        *) _smap_files "$word" '' any ;;
+        esac
+        return
+        ;;
+    *:'>' | smap-trace:-o)
+        _smap_files "$word" '' any
+        return
+        ;;
+    smap-maps:--format)
+        _smap_choose 'text gnu github sarif junit json' "$word"
+        return
+        ;;
+    smap-maps:--base | smap-maps:--jobs | smap-view:--base) return ;;
+    smap-view:--sizes)
+        _smap_choose 'table tsv json' "$word"
+        return
+        ;;
+    smap-view:--budget | smap-view:-o)
+        _smap_files "$word" '' any
+        return
+        ;;
+    smap-maps:--rule | smap-maps:--min-mapped) return ;;
+    smap-trace:--context | smap-trace:--source-prefix | smap-events:--context) return ;;
+    esac
+    case $program:$word in
+    *:-*) _smap_choose "$(_smap_words "$program" "$command")" "$word" ;;
+    smap-trace:*=*)
+        # After URL=FILE= comes another URL.
+        local url=${word%=*}
+        [[ -f ${url##*=} && $url == *=* ]] || _smap_files "${word##*=}" "${word%"${word##*=}"}"
+        ;;
+    smap-events:*=*) _smap_files "${word##*=}" "${word%"${word##*=}"}" ;;
+    smap-trace:* | smap-events:*) _smap_files "$word" '' any ;;
+    smap-view:*) _smap_files "$word" '' "$([[ $before != *.map ]] || echo any)" ;;
+    *)
+        if [[ -z $command ]]; then
+            _smap_choose "$(_smap_words "$program")" "$word"
+        elif [[ $program == smap-maps ]]; then
+            _smap_files "$word" ''
+        fi
+        ;;
+    esac
+}
+
+complete -F _smap smap smap-trace smap-maps smap-view smap-events

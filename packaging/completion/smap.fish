@@ -1,0 +1,18 @@
+# Completion of smap for fish. tests/rows/completion.rows compares its options with --help.
+
+complete -c smap -f
+complete -c smap -s h -l help -d 'Print help'
+complete -c smap -n __fish_use_subcommand -l version -d 'Print the version'
+
+complete -c smap -n __fish_use_subcommand -a check -d 'Validate a map'
+complete -c smap -n __fish_use_subcommand -a tidy -d 'Write a map in canonical form'
+complete -c smap -n __fish_use_subcommand -a flatten -d 'Convert an index map to a flat map'
+complete -c smap -n __fish_use_subcommand -a lookup -d 'Find the original position of a generated one'
+complete -c smap -n __fish_use_subcommand -a respell -d 'Re-encode a bare mappings string'
+complete -c smap -n __fish_use_subcommand -a translate -d 'Translate a stack trace'
+complete -c smap -n __fish_use_subcommand -a scripts -d 'Count the scripts that a stack trace names'
+
+complete -c smap -n '__fish_seen_subcommand_from tidy' -l relative -d 'Write source URLs relative to BASE'
+complete -c smap -n '__fish_seen_subcommand_from translate' -l hide-ignored -d 'Leave out frames in ignored sources'
+complete -c smap -n '__fish_seen_subcommand_from translate' -l anywhere -d 'Find positions anywhere in a line'
+complete -c smap -n '__fish_seen_subcommand_from translate' -l ignore-query -d 'Ignore a query behind the URL of a script'

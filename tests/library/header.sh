@@ -1,0 +1,159 @@
+# shellcheck shell=sh
+# What tests/library/run tests of the header: against the library's symbols and their versions, against the
+# definitions, and with what makes bindings out of it.
+
+header_alone() {
+    echo '#include "smap.h"' >"$work/header.c"
+    "$@" -Wall -Wextra -pedantic -Werror -I"$lib" -fsyntax-only "$work/header.c"
+}
+
+# The header as a compiler sees it, with these words for it.
+preprocessed() {
+    echo '#include "smap.h"' | cc -E -P -I"$lib" "$@" -
+}
+
+# The functions that the header declares for bindings: those that the library has under their own names.
+declared() {
+    preprocessed -DSMAP_NO_INLINE | sed -n 's/^[a-z].* \(smap_[a-z0-9_]*\)(.*/\1/p' | sort
+}
+
+# The second names of those that are inline functions in C.
+declared_strict() {
+    preprocessed | sed -n 's/^\(uint32_t\|size_t\) \(smap_[a-z0-9_]*_strict\)(.*/\2/p' | sort
+}
+
+# The functions that the header declares are those of the archive, and those of the shared object.
+symbols_agree() {
+    { declared && declared_strict; } | sort >"$work/declared"
+    nm -g --defined-only "$lib/libsmap.a" | sed -n 's/^[0-9a-f]* . //p' | sort >"$work/archive"
+    nm -D --defined-only "$lib/libsmap.so" | sed -n 's/^[0-9a-f]* [^A] \(.*\)@@.*/\1/p' | sort >"$work/shared"
+    [ -s "$work/declared" ] && diff "$work/declared" "$work/archive" && diff "$work/declared" "$work/shared"
+}
+
+# Each inline function calls the library's own function under its second name, which is at the same place.
+strict_are_the_same() {
+    declared_strict >"$work/strict"
+    sed -n 's/^SMAP_INLINE [a-z0-9_]* \(smap_[a-z0-9_]*\)(.*/\1_strict/p' "$lib/smap.h" | sort |
+        diff "$work/strict" - || return 1
+    nm -g --defined-only "$lib/libsmap.a" | sed 's/_strict$//' | sort | uniq -d >"$work/twice"
+    sed 's/.* \(.*\)/\1_strict/' "$work/twice" | sort | diff "$work/strict" - && [ -s "$work/strict" ]
+}
+
+# No name of the library is a macro: what stands for it would be another function in each language.
+renames_nothing() {
+    preprocessed -dM >"$work/macros" && grep -q '^#define SMAP_VERSION ' "$work/macros" &&
+        ! grep '^#define smap_' "$work/macros"
+}
+
+# `NAME VERSION` for each name of the shared object, and of the list of versions; and the names of version
+# 0.1.0, by the header of then.
+versions_agree() {
+    objdump -T "$lib/libsmap.so.0" | sed -n 's/.* \(SMAP_[0-9.]*\) *\(smap_[a-z0-9_]*\)$/\2 \1/p' |
+        sort >"$work/had"
+    awk '/^SMAP_/ { version = $1 } /^    smap_/ { sub(/;/, ""); print $1, version }' \
+        capi/libsmap.versions | sort | diff "$work/had" - || return 1
+    declared_then | sed 's/$/ SMAP_0.1/' >"$work/then"
+    grep ' SMAP_0\.1$' "$work/had" | diff "$work/then" - && [ -s "$work/then" ]
+}
+
+# The functions of the header of version 0.1.0.
+declared_then() {
+    sed -n 's/^[a-z][a-z0-9_]* \(smap_[a-z_]*\)(.*/\1/p' "$tests/0.1.0/smap.h" | sort
+}
+
+# `NAME 7` for each code, each bit or each kind of a fault, of the header; and of the definitions.
+numbered() {
+    sed -n "s/^    $1\([A-Z0-9_]*\) = \([0-9]*\).*/\1 \2/p" "$lib/smap.h"
+}
+
+defined() {
+    sed -n 's/^\([A-Z0-9_]*\) = \([0-9]*\)$/\1 \2/p' "crates/smap_c/specs/$1.antt"
+}
+
+numbers_agree() {
+    numbered SMAP_ | grep -v '^FAULT_' >"$work/codes"
+    numbered SMAP_FAULT_ >"$work/kinds"
+    { defined Codes && defined Traces; } | diff "$work/codes" - &&
+        defined FaultCodes | diff "$work/kinds" - &&
+        [ -s "$work/codes" ] && [ -s "$work/kinds" ]
+}
+
+# `smap_map.is_open` for each field of each struct, in order: of the header, and of the test of fields.
+fields_of_header() {
+    sed 's|/\*.*||; s/\[[^]]*\]//g' "$lib/smap.h" | awk '
+        /^typedef struct / { name = $3; next }
+        /^}/ { name = "" }
+        name != "" && /;/ {
+            sub(/;.*/, "")
+            count = split($0, words, /[ ,*]+/)
+            for (i = 1; i <= count; i++)
+                if (words[i] != "" && !(words[i] ~ /^(bool|char|size_t|void|uint(32|64)_t)$/))
+                    print name "." words[i]
+        }'
+}
+
+fields_agree() {
+    fields_of_header >"$work/fields"
+    sed -n 's/^    FIELD(\([a-z_]*\), \([a-z_]*\), .*/\1.\2/p' "$tests/fields.c" | diff "$work/fields" - &&
+        [ -s "$work/fields" ]
+}
+
+soname() {
+    objdump -p "$lib/libsmap.so" | grep -q 'SONAME *libsmap.so.0'
+}
+
+# ---- what makes bindings out of the header
+
+# bindgen declares each function that the library has, by its name.
+bindgen_sees() {
+    sh capi/rust/bindgen.sh "$lib/smap.h" >"$work/bindings.rs" &&
+        sed -n 's/^ *pub fn \(smap_[a-z0-9_]*\).*/\1/p' "$work/bindings.rs" | sort >"$work/bound" &&
+        declared | diff "$work/bound" - && [ -s "$work/bound" ]
+}
+
+# So does what it once wrote for the crate smap-sys; by the same bindgen it is the same text.
+crate_declares() {
+    sed -n 's/^ *pub fn \(smap_[a-z0-9_]*\).*/\1/p' capi/rust/smap-sys/src/bindings.rs | sort >"$work/bound"
+    declared | diff "$work/bound" - && [ -s "$work/bound" ]
+}
+
+bindgen_writes_the_same() {
+    diff "$work/bindings.rs" capi/rust/smap-sys/src/bindings.rs
+}
+
+# Which bindgen wrote a file.
+writer_of() {
+    sed -n 's/.* generated by rust-bindgen \([0-9.]*\) .*/\1/p' "$1"
+}
+
+test_header() {
+    try 'the header is C99' header_alone cc -std=c99
+    has c++ 'the header as C++11' && try 'the header is C++11' header_alone c++ -std=c++11 -x c++
+    try 'no macro of the header renames a function' renames_nothing
+    if has nm 'the symbols of the library'; then
+        try 'the header declares what the library defines' symbols_agree
+        try 'inline functions call those of the library' strict_are_the_same
+    fi
+    try 'the header has the numbers of the definitions' numbers_agree
+    try 'fields.c names the fields of the header' fields_agree
+    if has objdump 'the name of the shared object, the versions of its names'; then
+        try 'the shared object has its name' soname
+        try 'the names of the shared object have their versions' versions_agree
+    fi
+}
+
+test_bindings() {
+    try 'the crate smap-sys declares the functions of the header' crate_declares
+    if has bindgen 'what bindgen reads in the header' &&
+        try 'bindgen sees each function of the header by its name' bindgen_sees; then
+        written_by=$(writer_of capi/rust/smap-sys/src/bindings.rs)
+        if [ "$(writer_of "$work/bindings.rs")" = "$written_by" ]; then
+            try 'bindings.rs is what bindgen writes' bindgen_writes_the_same
+        else
+            leave_out 'bindings.rs beside what bindgen writes' "it is of bindgen $written_by"
+        fi
+    fi
+    if find_python 'cffi, pycparser' 'what pycparser and cffi read in the header'; then
+        try 'pycparser and cffi see each function of the header' "$python" -B "$tests/header.py" "$lib"
+    fi
+}

@@ -1,0 +1,163 @@
+//! What the tables of tests/rows/ don't ask of the Rust wrapper.
+#[path = "../../capi/rust/smap.rs"]
+mod smap;
+
+use smap::{Counts, Error, Limits, Line, ListedMapping, Map, Mapping, Scripts, TraceCounts, TraceOptions};
+
+const BASE: &str = "http://h/m/out.js.map";
+const TEXT: &[u8] = br#"{"version":3,"file":"out.js","sources":["a.js","b.js","a.js",null],
+    "sourcesContent":["x",null,"x"],"ignoreList":[1],"names":["f","g","f"],"mappings":"AAUEA,IAEA;ACAAE,E"}"#;
+
+/// The map of fields.c, whose numbers all differ within a struct.
+const DIFFERENT: &[u8] = br#"{"version":3,"sources":["a.js","b.js","a.js","c.js","d.js","a.js"],
+    "ignoreList":[3],"names":["n0","n1","n2","n3","n4","n5","n6"],
+    "mappings":";;;;;;oGIwM4SK,w+BDkD9B;;O,iCFtOzP,kDEWYC"}"#;
+
+/// A mapping of that map: line and column, the source's number and index, its line and column, and the name's
+/// index; and whether it is ignored.
+type Row = (u32, u32, Option<(usize, u32)>, u32, u32, Option<u32>, bool);
+
+const ROWS: [Row; 5] = [
+    (6, 100, Some((3, 4)), 200, 300, Some(5), false),
+    (6, 1100, Some((2, 3)), 250, 270, None, true),
+    (8, 7, None, 0, 0, None, false),
+    (8, 40, Some((1, 1)), 20, 21, None, false),
+    (8, 90, Some((2, 3)), 31, 33, Some(6), true),
+];
+
+fn fields() -> Result<(), Error> {
+    let map = Map::open_within(DIFFERENT, BASE, Limits { items: 7, lines: 9 })?;
+    for (i, row) in ROWS.into_iter().enumerate() {
+        let (line, column, source, source_line, source_column, name, is_ignored) = row;
+        let listed_source = source.map(|it| it.1);
+        let (source, has_name) = (source.map(|it| it.0), name.is_some());
+        let place = Mapping { line, column, source, source_line, source_column, has_name, is_ignored };
+        assert_eq!((map.mapping(i), map.lookup(line, column + 1)), (Some(place), Some(place)));
+        assert_eq!(map.index_at(line, column + 1), Some(i));
+        let listed = ListedMapping { line, column, source: listed_source, source_line, source_column, name };
+        assert_eq!(map.listed_mapping(i), Some(listed));
+    }
+    let counts = Counts { sources: 4, listed_sources: 6, names: 7, mappings: 5, lines: 9 };
+    assert_eq!(map.counts(), counts);
+    assert!(Map::open_within(DIFFERENT, BASE, Limits { items: 9, lines: 7 }).is_err());
+    let mut scripts = Scripts::new();
+    scripts.add("u", &map)?;
+    let trace = b"Error\n@u:7:101\n@u:7:102\n@u:7:1101\n@u:7:103\n@u:7:1102\nend\n";
+    assert_eq!(scripts.translate(trace, true)?.1, TraceCounts { lines: 7, translated: 3, dropped: 2 });
+    let frame = smap::frame(b"    at f (http://h/m/out.js:70:900)").unwrap();
+    assert_eq!((frame.url, frame.line, frame.column), (&b"http://h/m/out.js"[..], 70, 900));
+    Ok(())
+}
+
+/// A bad character as the third number of the seventh segment of line 5, in section 1.2.
+fn fields_of_a_fault() {
+    let at = r#"{"offset":{"line":0,"column":0},"map":"#;
+    let (open, none) = (r#"{"version":3,"sections":["#, format!(r#"{at}{{"version":3,"mappings":""}}}},"#));
+    let bad = r#"{"version":3,"mappings":";;;;;A,A,A,A,A,A,AA!A"}"#;
+    let text = format!("{open}{none}{at}{open}{none}{none}{at}{bad}}}]}}}}]}}");
+    let Err(Error::Refused(fault)) = Map::open(text.as_bytes(), BASE) else {
+        panic!("not refused");
+    };
+    assert_eq!((fault.kind, fault.place, fault.number), (24, Some((5, 6)), 3));
+    assert_eq!(fault.name(), "Character");
+    assert_eq!(fault.section, [1, 2]);
+    assert_eq!(fault.words, "section 1.2: line 5 segment 6: number 3: bad character");
+}
+
+fn sources_and_lists(map: &Map) {
+    assert_eq!((map.file().as_deref(), map.content(0).as_deref()), (Some("out.js"), Some("x")));
+    assert_eq!((map.is_ignored(0), map.is_ignored(1), map.is_ignored(3)), (Some(false), Some(true), None));
+    assert_eq!((map.url(1).as_deref(), map.url(2), map.url(3)), (Some("http://h/m/b.js"), None, None));
+    assert_eq!((map.listed_source(2), map.listed_source(3), map.listed_source(4)), (Some(0), Some(2), None));
+    assert_eq!((map.listed_name(2).as_deref(), map.listed_name(3)), (Some("f"), None));
+    // a string of up to 24 bytes has a block of 24: the base; "out.js", two URLs, a content and three names
+    let strings = (648 + 24) + 7 * 24;
+    // nine sources, four listed ones and four names fit without growing; four mappings
+    let lists = 784 + 4 * 8 + 4 * 24 + 4 * 32;
+    // four sources as written, of which three have a text, and no root; a table of two lines
+    assert_eq!(map.held(), strings + lists + (4 * 40 + 3 * 24 + 32) + 3 * 8);
+    assert_eq!((map.written_source(2).as_deref(), map.written_source(3)), (Some("a.js"), None));
+    assert_eq!((map.written_root(2), map.written_source(4)), (None, None));
+    let columns: Vec<u32> = map.mappings().map(|m| m.column).collect();
+    assert_eq!(columns, [0, 4, 0, 2]);
+    let third = ListedMapping {
+        line: 1,
+        column: 0,
+        source: Some(1),
+        source_line: 12,
+        source_column: 2,
+        name: Some(2),
+    };
+    assert_eq!((map.listed_mapping(2), map.listed_mapping(4)), (Some(third), None));
+    assert_eq!(map.listed_mapping(3).and_then(|m| m.source), None);
+}
+
+fn traces(map: &Map) -> Result<(), Error> {
+    let line = b"    at f (http://h/m/out.js:1:2)";
+    let frame = smap::frame(line).unwrap();
+    assert_eq!((frame.url, frame.line, frame.column), (&b"http://h/m/out.js"[..], 1, 2));
+    assert!(smap::frame(b"Error").is_none());
+    assert_eq!(map.translate_line("u", b"@u:2:1", true)?, Line::Dropped);
+    let (mut scripts, trace) = (Scripts::new(), b"@u:1:2\n@u:2:1\nx");
+    let none = TraceCounts { lines: 3, ..TraceCounts::default() };
+    assert_eq!(scripts.translate(trace, true)?, (trace.to_vec(), none));
+    scripts.add("u", map)?;
+    let counts = TraceCounts { lines: 3, translated: 1, dropped: 1 };
+    assert_eq!(scripts.translate(trace, true)?, (b"@http://h/m/a.js:11:3\nx".to_vec(), counts));
+    Ok(())
+}
+
+/// Each option by itself, and together; and a `bool`, which stands for whether to hide.
+fn options(map: &Map) -> Result<(), Error> {
+    let anywhere = TraceOptions { anywhere: true, ..TraceOptions::default() };
+    let ignore_query = TraceOptions { ignore_query: true, ..TraceOptions::default() };
+    let hide = TraceOptions { hide: true, ..TraceOptions::default() };
+    let (stamped, asked) = (b"9:00 at f (u:1:2) {", b"@u?v=3:1:2");
+    let told = Line::Translated(b"9:00 at f (http://h/m/a.js:11:3) {".to_vec());
+    assert_eq!(map.translate_line("u", stamped, false)?, Line::Kept(stamped.to_vec()));
+    assert_eq!(map.translate_line("u", stamped, ignore_query)?, Line::Kept(stamped.to_vec()));
+    assert_eq!(map.translate_line("u", stamped, anywhere)?, told);
+    assert_eq!(map.translate_line("u", asked, anywhere)?, Line::Kept(asked.to_vec()));
+    let told = Line::Translated(b"@http://h/m/a.js:11:3".to_vec());
+    assert_eq!(map.translate_line("u", asked, ignore_query)?, told);
+    assert_eq!(map.translate_line("u", b"@u:2:1", hide)?, Line::Dropped);
+    let mut scripts = Scripts::new();
+    scripts.add("u", map)?;
+    let all = TraceOptions { hide: true, anywhere: true, ignore_query: true };
+    let counts = TraceCounts { lines: 2, translated: 1, dropped: 1 };
+    let told = b"9:00 http://h/m/b.js:13:3 {\n".to_vec();
+    assert_eq!(scripts.translate(b"@u:2:1\n9:00 u?v=3:2:1 {\n", all)?, (told, counts));
+    Ok(())
+}
+
+fn errors(map: &Map) -> Result<(), Error> {
+    let Err(Error::Refused(fault)) = Map::open(br#"{"version":3,"mappings":"A,,"}"#, BASE) else {
+        panic!("not refused");
+    };
+    assert_eq!((fault.kind, fault.place), (22, Some((0, 1))));
+    assert_eq!(fault.words, "line 0 segment 1: empty segment");
+    assert_eq!(Map::open(TEXT, "none").err().unwrap().to_string(), "not a URL");
+    let within = |bytes| Map::open_within_url_bytes(TEXT, BASE, Limits::default(), bytes);
+    assert!(within(45)?.same(map));
+    let beyond = within(44).err().unwrap();
+    assert!(matches!(beyond, Error::UrlBytes));
+    assert_eq!((beyond.code(), beyond.to_string().as_str()), (8, "too many bytes of URLs"));
+    assert!(map.same(&map.share()?) && map.same(map));
+    assert!(!map.same(&Map::open(br#"{"version":3,"mappings":""}"#, BASE)?));
+    Ok(())
+}
+
+fn main() -> Result<(), Error> {
+    let map = Map::open(TEXT, BASE)?;
+    sources_and_lists(&map);
+    traces(&map)?;
+    options(&map)?;
+    errors(&map)?;
+    fields()?;
+    fields_of_a_fault();
+    let other = map.share()?;
+    let found = std::thread::spawn(move || other.lookup(0, 5)).join().unwrap();
+    assert_eq!(found, map.lookup(0, 5));
+    assert_eq!(smap::version(), (0, 2, 0));
+    Ok(())
+}

@@ -1,0 +1,56 @@
+# shellcheck shell=sh disable=SC2154
+# What the rows about pages use, read by `.` after work.sh.
+
+# Runs the blocks of sh of a page as they are pasted, one after the other, in the folder $work/room, but for those
+# below the headings that are named besides. Writes the name and the status of each, and then, if the page shows
+# what the block writes, how that differs, or else what it writes; line feeds at the end don't count.
+run_blocks() {
+    python3 -B "$rows/pages.py" blocks "$rows/$1" blocks >names || return
+    shift
+    mkdir -p bin room
+    ln -sf "$SMAP" bin/smap
+    ln -sf smap bin/smap-trace
+    ln -sf smap bin/smap-maps
+    ln -sf smap bin/smap-view
+    for heading in "$@"; do
+        grep -q "^$heading-[0-9]*$" names || echo "no block below $heading"
+    done
+    while IFS= read -r name; do
+        case " $* " in *" ${name%-*} "*) continue ;; esac
+        written=$(cd room && PATH=$work/bin:$PATH sh "../blocks/$name.sh" 2>&1)
+        echo "$name $?"
+        if [ -e "blocks/$name.out" ]; then
+            printf '%s\n' "$written" | diff "blocks/$name.out" -
+        elif [ -n "$written" ]; then
+            printf '%s\n' "$written"
+        fi
+    done <names
+}
+
+# Puts a stand-in for `rt run -- ARGUMENT...` in the folder of the program on the PATH.
+stand_in_for_rt() {
+    mkdir -p bin
+    cat >bin/rt <<'END'
+#!/bin/sh
+[ "${PWD##*/crates/}" = smap ] && [ "$1 $2" = 'run --' ] && shift 2 && exec "$SMAP" "$@"
+END
+    chmod +x bin/rt
+}
+
+# Puts what tools/install installs into the folder $work/room, with stand-ins for what takes long: `rt`, and
+# the scripts that build the library and the packages.
+stand_in_for_repository() {
+    stand_in_for_rt
+    mkdir -p room/crates/smap room/crates/smap_viewer room/capi room/packaging
+    cp -R "$rows/../../tools" "$rows/../../docs" room
+    cp "$rows/../../crates/smap_viewer/smap-view.html" room/crates/smap_viewer
+    cp -R "$rows/../../packaging/completion" "$rows/../../packaging/man" room/packaging
+    for name in cpp python rust examples; do
+        cp -R "$rows/../../capi/$name" room/capi
+    done
+    cat >room/tools/build-capi <<'END'
+#!/bin/sh
+mkdir -p capi/out && cd capi/out && touch libsmap.a libsmap.so.0 smap.h smap.pc
+END
+    printf '#!/bin/sh\nmkdir -p dist\n' >room/tools/build-packages
+}
