@@ -207,7 +207,7 @@ class SaidTest(EventsCase):
 
     def test_the_completions_have_its_options(self):
         wanted = set(re.findall(r"--[a-z][-a-z]*", self.run_program(["--help"]).stdout.decode()))
-        folder = TOP / "completion"
+        folder = TOP / "packaging" / "completion"
         (of_bash,) = re.findall(r"^smap-events: (.*)$", (folder / "smap.bash").read_text(), flags=re.M)
         self.assertEqual(set(of_bash.split()), wanted)
         of_zsh = re.findall(r"--[a-z][-a-z]*(?=[=\[}])", (folder / "_smap-events").read_text())

@@ -135,12 +135,17 @@ has_pexpect() {
     false
 }
 
-test_completion() {
-    put_lines "$work/completed"
+# The lines that are completed, and the Python that types them.
+prepares_completion() {
     lines >"$work/lines"
     lines_of_events >"$work/lines-of-events"
+    has_pexpect "$1"
+}
+
+test_completion() {
+    prepares_completion 'the completions' || return
+    put_lines "$work/completed"
     cat "$work/lines" "$work/lines-of-events" >"$work/all-lines"
-    has_pexpect 'the completions' || return
     if has bash 'completion in bash'; then
         start_bash "$work/bashrc" "$work/completed" "$usr/share/bash-completion/completions"
         try 'bash completes commands' completes "$work/all-lines" bash --noprofile --rcfile "$work/bashrc" -i

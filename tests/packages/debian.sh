@@ -143,6 +143,7 @@ test_debian() {
     [ ! -e "$node_deb" ] || { has node 'node-smap, installed' && with_node=yes; }
     [ -n "$with_node" ] || debs=${debs% "$node_deb"}
     try 'the root is prepared' prepares_root || return
+    prepares_completion 'the completions of the Debian packages' || :
     test_program
     names='smap libsmap0 libsmap-dev python3-smap'
     wanted='gcc libc6-dev pkg-config python3'

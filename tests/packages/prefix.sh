@@ -84,10 +84,10 @@ removes_programs() {
 # Of the sdist a wheel is made that has no library, and loads the one that is named.
 sdist_makes_wheel() {
     mkdir "$work/sdist" && tar -xzf "$sdist" -C "$work/sdist" || return 1
-    for python in python3 /usr/bin/python3; do
-        ! "$python" -c 'import build, hatchling' 2>/dev/null || break
+    for builder in python3 /usr/bin/python3; do
+        ! "$builder" -c 'import build, hatchling' 2>/dev/null || break
     done
-    "$python" -m build --no-isolation --skip-dependency-check --wheel --outdir "$work/sdist" \
+    "$builder" -m build --no-isolation --skip-dependency-check --wheel --outdir "$work/sdist" \
         "$work/sdist/smap-$version" || return 1
     pure=$work/sdist/smap-$version-py3-none-any.whl
     "$venv/bin/python" -m pip install --no-index --disable-pip-version-check "$pure" && (
