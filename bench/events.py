@@ -5,8 +5,9 @@
 Each event has 15 frames in two scripts, whose positions are 2,000 at random, so that frames come again; the
 maps have 20,000 mappings and the contents of 50 sources each. `bare` is without lines of the sources and without
 the stacks as they were (--no-raw --context 0), `all` with both, where no two events have the same stack; `again`
-is as `all`, of 100 different stacks. `json` is what Python's json takes to read such events and to write them
-again, with nothing translated. The start of the program is left out.
+is as `all`, of 100 different stacks, and `new` of frames at any of 100,000 positions, few of which come again.
+`json` is what Python's json takes to read such events and to write them again, with nothing translated. The start
+of the program is left out.
 """
 
 import argparse
@@ -75,7 +76,7 @@ def rollbar(places):
 
 
 def text(places):
-    return "TypeError: x is undefined\n" + "".join(f"    at f ({url}:1:{column})\n" for url, column in places)
+    return "\n".join(["TypeError: x is undefined", *(f"    at f ({url}:1:{column})" for url, column in places)])
 
 
 def ecs(places):
@@ -125,16 +126,22 @@ def main():
             (dist / f"{name}.map").write_text(json.dumps(map_of(dice, name)))
         words = [sys.executable, str(PROGRAM), f"{FOLDER}={dist}/"]
         empty, file = Path(room, "empty"), Path(room, "events")
-        print("shape     bytes     json     bare      all    again  events a second of a processor")
+        print("shape     bytes     json     bare      all    again      new  events a second of a processor")
         for shape in (sentry, bugsnag, rollbar, ecs, otlp):
-            lines = []
-            for _ in range(given.events):
-                places = [(FOLDER + dice.choice(scripts), dice.choice(columns)) for _ in range(FRAMES)]
-                lines.append(json.dumps(shape(places), separators=(",", ":")).encode() + b"\n")
+
+            def events_of(positions):
+                found = []
+                for _ in range(given.events):
+                    places = [(FOLDER + dice.choice(scripts), dice.choice(positions)) for _ in range(FRAMES)]
+                    found.append(json.dumps(shape(places), separators=(",", ":")).encode() + b"\n")
+                return found
+
+            lines, new = events_of(columns), events_of(range(1, 5 * MAPPINGS + 1))
             empty.write_bytes(lines[0])
             figures = [of_json(lines)]
             again = (lines[:STACKS] * (given.events // STACKS + 1))[: given.events]
-            for options, events in [(["--no-raw", "--context", "0"], lines), ([], lines), ([], again)]:
+            bare = ["--no-raw", "--context", "0"]
+            for options, events in [(bare, lines), ([], lines), ([], again), ([], new)]:
                 file.write_bytes(b"".join(events))
                 start = seconds([*words, *options, str(empty)], environment)
                 figures.append(seconds([*words, *options, str(file)], environment) - start)

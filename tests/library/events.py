@@ -1,11 +1,16 @@
 """Tests of the program smap-events: the shapes of its events."""
 
+import itertools
 import json
 import resource
+import sys
 import unittest
 
-from events_case import BUGSNAG, ECS, EventsCase, LIBRARY, OTLP, ROLLBAR, ROLLBAR_TRACE, SCRIPT, SENTRY
-from events_case import SOURCE, STACK, TOLD, copied
+from events_case import BUGSNAG, ECS, EventsCase, LIBRARY, OTLP, PROGRAM, ROLLBAR, ROLLBAR_TRACE, SCRIPT
+from events_case import SENTRY, SOURCE, STACK, TOLD, copied
+
+sys.path.insert(0, str(PROGRAM.parent))
+from smap.noted import Worth  # noqa: E402
 
 
 class ShapesTest(EventsCase):
@@ -184,6 +189,39 @@ class ShapesTest(EventsCase):
             for (stack, _), other in zip(ways[1:], others):
                 self.assertEqual(other, {**stack, "frames": wanted["frames"]})
         self.assertIn(f"frames translated: {len(ways) * 3 * len(frames)},", said)
+
+    def test_frames_are_told_alike_whether_known_ones_are_looked_for_or_not(self):
+        def events(columns):
+            for _ in range(300):
+                for name in ("stacktrace", "trace", "stack"):
+                    places = [(SCRIPT, next(columns)) for _ in range(15)]
+                    frames = [{"filename": script, "lineno": 1, "colno": at} for script, at in places]
+                    text = "\n".join(f"@{script}:1:{at}" for script, at in places)
+                    yield json.dumps({name: text if name == "stack" else {"frames": frames}}).encode()
+
+        # first those of which none comes again, and first those of which all do
+        lines = [*events(itertools.count(1)), *events(itertools.cycle(range(1, 40)))]
+        told, said, _ = self.events(*lines)
+        told_last, said_last, _ = self.events(*lines[::-1])
+        self.assertTrue((told, said) == (told_last[::-1], said_last), said + said_last)
+        self.assertFalse(set(lines) & set(told))
+
+    def test_known_frames_are_looked_for_while_enough_are_found(self):
+        worth = Worth()
+
+        def rounds(found):
+            looked = 0
+            for _ in range(5_000):
+                if worth.is_given():
+                    worth.note(16, found)
+                    looked += 1
+            return looked
+
+        self.assertEqual(rounds(4), 5_000)
+        self.assertLess(rounds(3), 600)
+        # it is seen that they come again
+        self.assertLess(rounds(4), 5_000)
+        self.assertEqual(rounds(4), 5_000)
 
     def test_stacks_within_stacks_take_little_time(self):
         def bounded():

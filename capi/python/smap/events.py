@@ -15,7 +15,7 @@ import sys
 from typing import Any, Callable, Dict, Iterator, List, NamedTuple, Optional, Sequence, Set, Tuple
 
 from . import __version__
-from .noted import Recent
+from .noted import Recent, Worth
 from .store import Store
 
 __all__ = ["main"]
@@ -165,8 +165,8 @@ class Told(NamedTuple):
 
 
 class Part(NamedTuple):
-    """A frame or a line of a stack: what is written for it untranslated, and translated; whether it is, and
-    whether that makes a difference.
+    """A frame or a line of a stack: what is written for it untranslated, if that is kept, and translated; whether
+    it is, and whether that makes a difference.
     """
 
     before: str
@@ -189,8 +189,9 @@ class Stacks:
         # stacks come again and again, and so do their frames and lines in other stacks
         self._known: Recent[Told] = Recent(MOST_KNOWN)
         self._parts: Recent[Part] = Recent(MOST_KNOWN)
-        # how many parts that were known are translated
-        self._again = 0
+        # whether to look for them there in this stack, and how many that were known are translated
+        self._worth = Worth()
+        self._is_looking, self._again = True, 0
         self.translated = 0
 
     def told(self, name: str, text: str) -> Optional[str]:
@@ -205,7 +206,8 @@ class Stacks:
 
     def _translated(self, name: str, text: str) -> Told:
         before, self._again = self._store.counts, 0
-        told = self._by_frames(name, text)
+        self._is_looking = self._worth.is_given()
+        told = self._by_frames(name, text) if self._is_looking else self._as_a_whole(name, text)
         after = self._store.counts
         without = after.missing + after.broken - before.missing - before.broken
         return Told(told, after.translated - before.translated + self._again, without)
@@ -251,6 +253,7 @@ class Stacks:
         """
         known = [self._parts.get((kind, text)) for text in texts]
         new, made = [text for text, part in zip(texts, known) if part is None], None
+        self._worth.note(len(texts), len(texts) - len(new))
         if new:
             before, made = self._store.counts, make(new)
             if made is None:
@@ -269,14 +272,15 @@ class Stacks:
 
     def _frames_by(self, shape: str) -> Make:
         """Makes frames of what they hold."""
+        is_kept = shape == "rollbar" and self._keep
 
         def make(new: List[str]) -> Optional[List[Part]]:
             if not all(map(is_flat, new)):
                 return None
-            frames = [read_value(f"{{{held}}}") for held in new]
+            frames = read_value("[{%s}]" % "},{".join(new))
             told = self._frames(frames, shape)
             return [
-                Part(write_value(one), write_value(other), one is not other, one != other)
+                Part(write_value(one) if is_kept else "", write_value(other), one is not other, one != other)
                 for one, other in zip(frames, told)
             ]
 
@@ -339,13 +343,18 @@ class Stacks:
             text.encode("utf-8")
         except UnicodeEncodeError:
             return text  # half a surrogate pair, which no URL of a script has
+        if not self._is_looking:
+            return self._translate(text)
         parts = self._parts_of("line", text.split("\n"), self._lines)
         return text if parts is None else "\n".join([part.told for part in parts])
 
+    def _translate(self, text: str) -> str:
+        # the last line is translated with the others only if it has an end
+        return self._store.translate((text + "\n").encode("utf-8"), ignore_query=True).decode("utf-8")[:-1]
+
     def _lines(self, new: List[str]) -> List[Part]:
         """What becomes of lines."""
-        data = "\n".join(new).encode("utf-8")
-        told = self._store.translate(data, ignore_query=True).decode("utf-8").split("\n")
+        told = self._translate("\n".join(new)).split("\n")
         return [Part(one, other, one != other, one != other) for one, other in zip(new, told)]
 
 

@@ -6,11 +6,17 @@ import threading
 from collections import OrderedDict
 from typing import Callable, Dict, Generic, Hashable, Optional, TypeVar
 
-__all__ = ["Noted", "Recent"]
+__all__ = ["Noted", "Recent", "Worth"]
 
 # How many names are known, and how many characters they have together.
 MOST_NAMES = 10_000
 MOST_CHARACTERS = 4_000_000
+
+# Over how many values it is seen whether to look for them saves time: to look for one that isn't known, and to
+# keep it, takes about a third of what a known one saves. How many times as long it is left be if it doesn't.
+LOOKED_FOR = 1 << 12
+ONE_IN = 4
+LEFT_BE = 31
 
 Value = TypeVar("Value")
 
@@ -91,3 +97,28 @@ class Recent(Generic[Value]):
                     self._size = 0
                 self._values[key] = value
                 self._size += size
+
+
+class Worth:
+    """Whether values are looked for among those that are known: as long as one in ONE_IN is found, and else from
+    time to time, for those that come may be others by then.
+    """
+
+    def __init__(self) -> None:
+        self._rounds = self._looked_for = self._found = self._left = 0
+
+    def is_given(self) -> bool:
+        """Whether to look in this round."""
+        if self._left:
+            self._left -= 1
+            return False
+        self._rounds += 1
+        return True
+
+    def note(self, looked_for: int, found: int) -> None:
+        """Notes what became of a round."""
+        self._looked_for += looked_for
+        self._found += found
+        if self._looked_for >= LOOKED_FOR:
+            self._left = LEFT_BE * self._rounds if self._found * ONE_IN < self._looked_for else 0
+            self._rounds = self._looked_for = self._found = 0
