@@ -273,4 +273,6 @@ class SaidTest(EventsCase):
 
 
 if __name__ == "__main__":
+    # A shell starts what runs in the background with interrupts ignored, and so would the programs be.
+    signal.signal(signal.SIGINT, signal.default_int_handler)
     unittest.main()
