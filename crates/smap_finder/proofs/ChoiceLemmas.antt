@@ -7,7 +7,7 @@ use Rattle.smap_disk.specs.Held.{Held, IsHeld}
 use Rattle.smap_finder.specs.Choice.{ArePicksIn, IsFoundIn, NamesMap, files_of, places_of}
 use Rattle.smap_finder.specs.Given.{Folder, IsTaken, Names}
 use Rattle.smap_finder.specs.declared.following.Followed.TheVariants as followed
-use Rattle.smap_finder.specs.declared.wanted.Wanted.{Wanted}
+use Rattle.smap_arguments.specs.declared.wanted.Wanted.{Wanted}
 use Rattle.smap_pick.specs.Finding.{IsPick}
 use Rattle.smap_pick.specs.Places.{scripts_of}
 use Rattle.smap_pick.specs.declared.finding.Pick.{Pick}

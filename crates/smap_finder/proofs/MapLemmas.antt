@@ -7,7 +7,7 @@ use Rattle.smap_record.specs.Record.{ReadMap}
 use Rattle.smap_finder.proofs.ChoiceLemmas.{one_of}
 use Rattle.smap_finder.specs.Choice.{IsChoice, IsMapOf, IsOpenedFor, IsPicked}
 use Rattle.smap_finder.specs.ChosenView.{AreChosen, Choices, Has, IsFor, IsNamed, Serves}
-use Rattle.smap_finder.specs.declared.wanted.Wanted.{Wanted}
+use Rattle.smap_arguments.specs.declared.wanted.Wanted.{Wanted}
 
 given_choice : (held : Held) (w : Wanted) (name : List ℕ) (i : ℕ) → IsPicked held w name (Given i)
     → IsChoice held w name (Given i)

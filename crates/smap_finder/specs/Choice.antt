@@ -19,9 +19,9 @@ use Rattle.smap_record.specs.Record.{ReadMap}
 use Rattle.smap_finder.specs.Given.{Folder, IsFolder, Names}
 use Rattle.smap_finder.specs.Opened.{IsOpened}
 use Rattle.smap_finder.specs.RootView.{folder_in}
-use Rattle.smap_finder.specs.declared.wanted.Origin.{Origin}
-use Rattle.smap_finder.specs.declared.wanted.Origin.TheVariants as origin
-use Rattle.smap_finder.specs.declared.wanted.Wanted.{Wanted}
+use Rattle.smap_arguments.specs.declared.wanted.Origin.{Origin}
+use Rattle.smap_arguments.specs.declared.wanted.Origin.TheVariants as origin
+use Rattle.smap_arguments.specs.declared.wanted.Wanted.{Wanted}
 
 -- ---- what the arguments name
 

@@ -13,7 +13,7 @@ use Rattle.smap_finder.specs.declared.chosen.Chosen.{Chosen}
 use Rattle.smap_finder.specs.declared.chosen.MappedName.{MappedName}
 use Rattle.smap_finder.specs.declared.chosen.OpenedMap.{OpenedMap}
 use Rattle.smap_finder.specs.declared.opening.Opener.{Opener}
-use Rattle.smap_finder.specs.declared.wanted.Wanted.{Wanted}
+use Rattle.smap_arguments.specs.declared.wanted.Wanted.{Wanted}
 
 -- The names that have maps, and the maps that are open.
 abbrev pub Choices : Type 0

@@ -2,7 +2,7 @@
 use Rattle.std.specs.Borrow.{Bor}
 use Rattle.std.specs.Prelude.{Option, option_map, string_bytes}
 use Rattle.smap_finder.specs.Given.{Folder}
-use Rattle.smap_finder.specs.declared.wanted.Root.{Root}
+use Rattle.smap_arguments.specs.declared.wanted.Root.{Root}
 
 abbrev pub folder_in : Root → Folder
 folder_in r = record { url = r.url.items; path = string_bytes r.path }

@@ -4,7 +4,7 @@ ghost use Rattle.std.specs.List.{All};
 ghost use Rattle.smap_disk.specs.Held.{Held};
 ghost use Rattle.smap_finder.specs.Choice.{IsPicked};
 ghost use Rattle.smap_finder.specs.ChosenView.{AreChosen, Has, Serves, maps_of};
-ghost use Rattle.smap_finder.specs.declared.wanted.Wanted.{Wanted};
+ghost use Rattle.smap_arguments.specs.declared.wanted.Wanted.{Wanted};
 
 use indexmap::IndexMap;
 use smap_link::bare;

@@ -4,7 +4,7 @@ ghost use Rattle.smap_finder.specs.Given as spec;
 ghost use Rattle.smap_finder.specs.Given.{IsFollowed, IsFollowedBy, IsTaken};
 ghost use Rattle.smap_finder.specs.RootView.{folder_of};
 
-use crate::wanted::Root;
+use smap_arguments::Root;
 use smap_disk::{Disk, Kind};
 use smap_host::{Host, Stop, shown};
 use smap_link::{InlineFault, bare, inline_map, link_in, own_url, resolved};

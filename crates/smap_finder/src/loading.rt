@@ -5,8 +5,7 @@ ghost use Rattle.smap_pick.specs.Memory.{names_in};
 ghost use Rattle.smap_pick.specs.Opening.{IsMadeOf};
 ghost use Rattle.smap_pick.specs.PlaceView.{place_in};
 
-use crate::folders::LIMIT;
-use crate::wanted::may_name_map;
+use smap_arguments::{LIMIT, may_name_map};
 use smap_disk::{Disk, FileFault, Kind, read_file};
 use smap_pick::{OpenFault, Place, Store};
 use smap_record::{Base, BaseFault, Fault, Limits, ReadError, SourceMap};

@@ -5,14 +5,14 @@ ghost use Rattle.smap_link.specs.Table.{IsTable};
 ghost use Rattle.smap_pick.specs.Places.{scripts_of};
 ghost use Rattle.smap_finder.specs.Choice as spec;
 ghost use Rattle.smap_finder.specs.Choice.{IsFoundIn, IsHalfUnclear, IsPicked, IsPickedBy, Links, files_of, places_of};
-ghost use Rattle.smap_finder.specs.declared.wanted.Wanted.{Wanted};
+ghost use Rattle.smap_arguments.specs.declared.wanted.Wanted.{Wanted};
 ghost use Rattle.smap_disk.specs.Held.{Held};
 
 use crate::chosen::Chosen;
-use crate::folders::LIMIT;
 use crate::following::{Followed, follow};
-use crate::wanted::{Wanted, root_of, slices};
+use crate::roots::{root_of, slices};
 use indexmap::IndexMap;
+use smap_arguments::{LIMIT, Wanted};
 use smap_disk::{Disk, read_file};
 use smap_host::{Host, Stop};
 use smap_link::{ScriptTable, bare, is_path, own_url};

@@ -5,7 +5,7 @@ ghost use Rattle.smap_finder.specs.ChosenView.{maps_of};
 use crate::chosen::{Chosen, How};
 use crate::loading::{MapFault, Start};
 use crate::opening::Subject;
-use crate::wanted::Wanted;
+use smap_arguments::Wanted;
 use smap_disk::Disk;
 use smap_host::{Host, Stop, shown};
 use smap_link::{FileKind, bare, file_kind};

@@ -10,7 +10,7 @@ use Rattle.std.proofs.lemmas.List.{get_or_default}
 use Rattle.std.proofs.lemmas.List.Folds.{concat-append}
 use Rattle.std.proofs.Math.Seq.{take-length}
 use Rattle.smap_disk.specs.Held.{GivesHeld, HasSize, Held}
-use Rattle.smap_finder.specs.declared.wanted.Wanted.{Wanted}
+use Rattle.smap_arguments.specs.declared.wanted.Wanted.{Wanted}
 use Rattle.smap_tracer.specs.declared.decorating.Style.{Style}
 use Rattle.smap_tracer.specs.Written.{AreTracedParts, AreWhole, HaveSizes, IsAll, IsBegun, IsTraced, IsTracedLog, IsTracedText, IsTracedTextIn}
 

@@ -1,7 +1,7 @@
 -- What a run answers to its words.
 use Rattle.std.proofs.Common.{◌≡◌, ◌∙◌, subst, false, ℕ, List, map, Option, None, Result, Ok, Err, OnOk}
 use Rattle.smap_disk.specs.Held.{Held}
-use Rattle.smap_finder.specs.declared.wanted.Wanted.{Wanted}
+use Rattle.smap_arguments.specs.declared.wanted.Wanted.{Wanted}
 use Rattle.smap_tracer.specs.Runs.{IsAnswered, IsStyleOf, IsTracedAsked, IsTracedJob, IsTracedRun}
 use Rattle.smap_tracer.specs.declared.program.InputKind.{InputKind}
 use Rattle.smap_tracer.specs.declared.tracing.Job.{Job}

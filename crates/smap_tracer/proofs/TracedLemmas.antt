@@ -7,7 +7,7 @@ use Rattle.smap_disk.specs.Held.{GivesHeld, HasSize, Held}
 use Rattle.smap_finder.proofs.MapLemmas.{has_map}
 use Rattle.smap_finder.specs.ChosenView.{Choices, Has, maps_of}
 use Rattle.smap_finder.specs.declared.chosen.Chosen.{Chosen}
-use Rattle.smap_finder.specs.declared.wanted.Wanted.{Wanted}
+use Rattle.smap_arguments.specs.declared.wanted.Wanted.{Wanted}
 use Rattle.smap_record.specs.Record.{ReadMap}
 use Rattle.smap_trace.specs.Translation.{Script}
 use Rattle.smap_trace.specs.Views.{script_in, scripts_in}

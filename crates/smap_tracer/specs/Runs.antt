@@ -2,7 +2,7 @@
 use Rattle.std.specs.Prelude.{◌≡◌, ℕ, false, List, [], ◌∷◌, length, map, Option, None}
 use Rattle.std.specs.Io.KnownBytes.{Appends}
 use Rattle.smap_disk.specs.Held.{Held}
-use Rattle.smap_finder.specs.declared.wanted.Wanted.{Wanted}
+use Rattle.smap_arguments.specs.declared.wanted.Wanted.{Wanted}
 use Rattle.smap_tracer.specs.Written.{AreTraced, IsTracedFront, IsTracedTextIn}
 use Rattle.smap_tracer.specs.declared.program.TheConstants.{STDIN}
 use Rattle.smap_tracer.specs.declared.decorating.Style.{Style}

@@ -10,7 +10,7 @@ use Rattle.smap_disk.specs.Held.{GivesHeld, HasSize, Held}
 use Rattle.smap_finder.specs.Choice.{IsMapOf}
 use Rattle.smap_finder.specs.ChosenView.{AreChosen, Choices, Has, maps_of}
 use Rattle.smap_finder.specs.declared.chosen.Chosen.{Chosen}
-use Rattle.smap_finder.specs.declared.wanted.Wanted.{Wanted}
+use Rattle.smap_arguments.specs.declared.wanted.Wanted.{Wanted}
 use Rattle.smap_record.specs.Record.{ReadMap, record_of}
 use Rattle.smap_trace.specs.Translation.{Fate, Script, fate_by, translation_by}
 use Rattle.smap_trace.specs.declared.finding.Finding.{Finding}

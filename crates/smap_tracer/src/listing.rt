@@ -2,8 +2,9 @@
 use crate::hints::hint_at_start;
 use crate::logs::Log;
 use crate::naming::Names;
+use smap_arguments::Wanted;
 use smap_disk::{Disk, printable};
-use smap_finder::{Chosen, Wanted};
+use smap_finder::Chosen;
 use smap_host::{Host, Stop, shown};
 use smap_lines::Looked;
 use std::alloc::{AllocError, Global};

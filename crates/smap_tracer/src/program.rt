@@ -13,8 +13,9 @@ use crate::tracing::{
     Job, State, new_state, open_names, say_nothing, trace_files, trace_input, trace_stream,
     trace_streams,
 };
+use smap_arguments::{Wanted, settle, wanted_by};
 use smap_disk::{Disk, Kind, create_beside};
-use smap_finder::{How, Opener, Wanted, check_all, settle, tell_count, wanted_by};
+use smap_finder::{How, Opener, check_all, tell_count};
 use smap_host::{Host, Stop};
 use smap_trace::Finding;
 use smap_words::{

@@ -8,7 +8,7 @@ use smap_pick::{Place, below, usual_place};
 use std::alloc::{AllocError, Global};
 
 /// The most bytes that a map or a script may have.
-pub(crate) const LIMIT: u64 = 268_435_456;
+pub const LIMIT: u64 = 268_435_456;
 
 const ENDINGS: [&str; 5] = [".map", ".js", ".mjs", ".cjs", ".css"];
 
