@@ -1,10 +1,14 @@
 -- Names of a log, and what they have.
-use Rattle.std.proofs.Common.{◌≡◌, ◌∙◌, ◌<◌, ap, sym, ℕ, Bor, List, [], length, Option, Some, None, get_or, map, subst, option_map, true}
+use Rattle.std.proofs.Common.{arith, ◌≡◌, ◌∙◌, ◌<◌, ◌≤◌, ◌+◌, ◌++◌, ◌∷◌, ap, refl, sym, inl, ℕ, Bor, List, [], length, take}
+use Rattle.std.proofs.Common.{Option, Some, None, get_or, map, subst, option_map, true, false}
+use Rattle.std.proofs.lemmas.List.{get_or-map, length-map, map_push, take_all, take_more}
+use Rattle.std.proofs.lemmas.List.Elements.{All-push}
 use Rattle.std.specs.Global.{Vec}
 use Rattle.std.specs.List.{All, slice_get}
 use Rattle.std.proofs.lemmas.Option.{get_or_from_slice_get, slice_get-get_or, slice_get-map, slice_get_within}
 use Rattle.smap_disk.specs.Held.{Held, IsHeld}
-use Rattle.smap_finder.specs.Choice.{ArePicksIn, IsFoundIn, NamesMap, files_of, places_of}
+use Rattle.smap_finder.specs.Choice.{AreChoices, ArePicksIn, ArePicksOf, IsFoundIn, NamesMap, files_of, is_half_unclear}
+use Rattle.smap_finder.specs.Choice.{places_of}
 use Rattle.smap_finder.specs.Given.{Folder, IsTaken, Names}
 use Rattle.smap_finder.specs.declared.following.Followed.TheVariants as followed
 use Rattle.smap_arguments.specs.declared.wanted.Wanted.{Wanted}
@@ -56,10 +60,44 @@ pick_at w files names picks i pick d are is lt =
     subst (λ (n : List ℕ). IsFoundIn w files n pick.found) (name_at names picks i pick d are.named is lt)
     (one_of (IsPick true (scripts_of (places_of w)) files) picks pick i are.each is)
 
--- what each of these names has, among the files that the arguments name
-pub found_in : (w : Wanted) (files : List (Bor (List ℕ))) (names : List (List ℕ)) (picks : List Pick)
-    → names_in files ≡ files_of w → ArePicksIn w (names_in files) names picks
-    → All (λ (p : Pick). IsFoundIn w (files_of w) p.name.now p.found) picks
-found_in w files names picks same are = λ k d lt.
-    subst (λ (fs : List (List ℕ)). IsFoundIn w fs (get_or picks k d).name.now (get_or picks k d).found) same
-    (are.each k d lt)
+pub same_length : (names : List (Bor (List ℕ))) (picks : List Pick)
+    → map (λ (p : Pick). p.name.now) picks ≡ names_in names → length picks ≡ length names
+same_length names picks e = sym (length-map picks (λ (p : Pick). p.name.now)) ∙ ap length e
+    ∙ length-map names (λ (n : Bor (List ℕ)). n.now)
+
+-- the same of the pick at a place
+pub found_at : (w : Wanted) (files : List (List ℕ)) (names : List (Bor (List ℕ))) (picks : List Pick) (i : ℕ)
+    (p : Pick) (d : Bor (List ℕ)) → ArePicksIn w files (map (λ (n : Bor (List ℕ)). n.now) names) picks
+    → i < length names → IsFoundIn w files (get_or names i d).now (get_or picks i p).found
+found_at w files names picks i p d are lt = pick_at w files names picks i (get_or picks i p) d are
+    (slice_get-get_or picks i p (omega (arith, same_length names picks are.named, lt))) lt
+
+-- one pick more
+pub one_more : {X : Type 0} (Is : Pick → Type 0) (f : X → List ℕ) (xs : List X) (i : ℕ) (picks : List Pick) (p : Pick)
+    (d : X) → ArePicksOf Is (take i (map f xs)) picks → i < length xs → p.name.now ≡ f (get_or xs i d) → Is p
+    → ArePicksOf Is (take (i + 1) (map f xs)) (picks ++ p ∷ [])
+one_more Is f xs i picks p d are lt same is =
+    let long = length-map xs f in
+    record {
+      named = rw (
+        map_push (λ (q : Pick). q.name.now) picks p,
+        are.named,
+        same,
+        take_more (map f xs) i (f d) (omega arith),
+        get_or-map f xs i d (f d) lt,
+      ) refl;
+      each = All-push Is picks p are.each is;
+    }
+
+pub all_of : {X : Type 0} (Is : Pick → Type 0) (f : X → List ℕ) (xs : List X) (i : ℕ) (picks : List Pick)
+    → ArePicksOf Is (take i (map f xs)) picks → length xs ≤ i → ArePicksOf Is (map f xs) picks
+all_of Is f xs i picks are le = let long = length-map xs f in rw (take_all i (map f xs) (omega arith)) at are
+
+-- a find that is not half unclear
+pub clear_choice : (held : Held) (w : Wanted) (names : List (List ℕ)) (picks : List Pick)
+    → ArePicksIn w (files_of w) names picks → All (λ (p : Pick). is_half_unclear w p.found ≡ false) picks
+    → AreChoices held w names picks
+clear_choice held w names picks are clear = record {
+  named = are.named;
+  each = λ k d lt. inl (record { is_found = are.each k d lt; is_clear = clear k d lt });
+}

@@ -1,4 +1,6 @@
 pub mod ChoiceLemmas
+pub mod ChosenLemmas
 pub mod FollowingLemmas
+pub mod GrowthLemmas
 pub mod MapLemmas
 pub mod ReachedLemmas

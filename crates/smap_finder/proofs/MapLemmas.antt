@@ -1,62 +1,85 @@
 -- The map that is kept for a name of a log is the one that the name has.
-use Rattle.std.proofs.Common.{inl, inr, sym, ℕ, List, string_bytes, subst, refl}
+use Rattle.std.proofs.Common.{◌≡◌, sym, ℕ, Bool, true, false, cond, List, subst, refl}
 use Rattle.smap_disk.specs.Held.{Held}
 use Rattle.smap_pick.specs.declared.finding.Found.{Found}
 use Rattle.smap_pick.specs.declared.finding.Found.TheVariants.{Given, ByEnd, Unclear, Missing}
 use Rattle.smap_record.specs.Record.{ReadMap}
 use Rattle.smap_finder.proofs.ChoiceLemmas.{one_of}
-use Rattle.smap_finder.specs.Choice.{IsChoice, IsMapOf, IsOpenedFor, IsPicked}
-use Rattle.smap_finder.specs.ChosenView.{AreChosen, Choices, Has, IsFor, IsNamed, Serves}
+use Rattle.smap_finder.specs.Choice.{IsChoice, IsMapOf, IsOpenedFor, IsPicked, may_end_alike, within_ends}
+use Rattle.smap_finder.specs.ChosenView.{AreChosen, Choices, Has, IsFor, IsNamed, IsTried, Serves}
 use Rattle.smap_arguments.specs.declared.wanted.Wanted.{Wanted}
 
-given_choice : (held : Held) (w : Wanted) (name : List ℕ) (i : ℕ) → IsPicked held w name (Given i)
-    → IsChoice held w name (Given i)
-given_choice held w name i (inl e) = absurd cc
-given_choice held w name i (inr is) = is
+none_given : (t : Bool) (found : Found) (i : ℕ) → Given i ≡ cond t found Missing → found ≡ Given i
+none_given true found i e = sym e
+none_given false found i e = absurd cc
 
-end_choice : (held : Held) (w : Wanted) (name : List ℕ) (i : ℕ) → IsPicked held w name (ByEnd i)
-    → IsChoice held w name (ByEnd i)
-end_choice held w name i (inl e) = absurd cc
-end_choice held w name i (inr is) = is
+none_ended : (t : Bool) (found : Found) (i : ℕ) → ByEnd i ≡ cond t found Missing → found ≡ ByEnd i
+none_ended true found i e = sym e
+none_ended false found i e = absurd cc
+
+within_given : (name : List ℕ) (in_frames : Bool) (choice : Found) (i : ℕ)
+    → Given i ≡ within_ends name in_frames choice → choice ≡ Given i
+within_given name in_frames (Given j) i e = sym e
+within_given name in_frames (ByEnd j) i e = none_given (may_end_alike name in_frames) (ByEnd j) i e
+within_given name in_frames (Unclear j k) i e = none_given (may_end_alike name in_frames) (Unclear j k) i e
+within_given name in_frames Missing i e = sym e
+
+within_ended : (name : List ℕ) (in_frames : Bool) (choice : Found) (i : ℕ)
+    → ByEnd i ≡ within_ends name in_frames choice → choice ≡ ByEnd i
+within_ended name in_frames (Given j) i e = sym e
+within_ended name in_frames (ByEnd j) i e = none_ended (may_end_alike name in_frames) (ByEnd j) i e
+within_ended name in_frames (Unclear j k) i e = none_ended (may_end_alike name in_frames) (Unclear j k) i e
+within_ended name in_frames Missing i e = sym e
+
+given_choice : (held : Held) (w : Wanted) (in_frames : Bool) (name : List ℕ) (i : ℕ)
+    → IsPicked held w in_frames name (Given i) → IsChoice held w name (Given i)
+given_choice held w in_frames name i p =
+    subst (IsChoice held w name) (within_given name in_frames p.choice i p.found_is) p.is_choice
+
+end_choice : (held : Held) (w : Wanted) (in_frames : Bool) (name : List ℕ) (i : ℕ)
+    → IsPicked held w in_frames name (ByEnd i) → IsChoice held w name (ByEnd i)
+end_choice held w in_frames name i p =
+    subst (IsChoice held w name) (within_ended name in_frames p.choice i p.found_is) p.is_choice
 
 -- one that was opened for a name serves another
-served_map : (held : Held) (w : Wanted) (opened : List ℕ) (opened_for : Found) (name : List ℕ) (found : Found)
-    (m : ReadMap) → Serves opened opened_for name found → IsPicked held w name found
+served_map : (held : Held) (w : Wanted) (in_frames : Bool) (opened : List ℕ) (opened_for : Found) (name : List ℕ) (found : Found)
+    (m : ReadMap) → Serves opened opened_for name found → IsPicked held w in_frames name found
     → IsOpenedFor held w opened opened_for m → IsMapOf held w name m
-served_map held w opened (Given i) name (Given j) m s p o =
+served_map held w in_frames opened (Given i) name (Given j) m s p o =
     let own = subst (λ (k : ℕ). IsOpenedFor held w opened (Given k) m) s o in record {
       found = Given j;
-      is_choice = given_choice held w name j p;
+      is_choice = given_choice held w in_frames name j p;
       other = name;
       alike = refl;
       opened = record { place = own.place; is_place = own.is_place; opened = own.opened };
     }
-served_map held w opened (ByEnd i) name (ByEnd j) m s p o = record {
+served_map held w in_frames opened (ByEnd i) name (ByEnd j) m s p o = record {
   found = ByEnd j;
-  is_choice = end_choice held w name j p;
+  is_choice = end_choice held w in_frames name j p;
   other = opened;
   alike = s.1;
   opened = subst (λ (k : ℕ). IsOpenedFor held w opened (ByEnd k) m) s.0 o;
 }
-served_map held w opened (Given i) name (ByEnd j) m s p o = elim s [ ]
-served_map held w opened (Given i) name (Unclear j _) m s p o = elim s [ ]
-served_map held w opened (Given i) name Missing m s p o = elim s [ ]
-served_map held w opened (ByEnd i) name (Given j) m s p o = elim s [ ]
-served_map held w opened (ByEnd i) name (Unclear j _) m s p o = elim s [ ]
-served_map held w opened (ByEnd i) name Missing m s p o = elim s [ ]
-served_map held w opened (Unclear i _) name (Given j) m s p o = elim s [ ]
-served_map held w opened (Unclear i _) name (ByEnd j) m s p o = elim s [ ]
-served_map held w opened (Unclear i _) name (Unclear j _) m s p o = elim s [ ]
-served_map held w opened (Unclear i _) name Missing m s p o = elim s [ ]
-served_map held w opened Missing name (Given j) m s p o = elim s [ ]
-served_map held w opened Missing name (ByEnd j) m s p o = elim s [ ]
-served_map held w opened Missing name (Unclear j _) m s p o = elim s [ ]
-served_map held w opened Missing name Missing m s p o = elim s [ ]
+served_map held w in_frames opened (Given i) name (ByEnd j) m s p o = elim s [ ]
+served_map held w in_frames opened (Given i) name (Unclear j _) m s p o = elim s [ ]
+served_map held w in_frames opened (Given i) name Missing m s p o = elim s [ ]
+served_map held w in_frames opened (ByEnd i) name (Given j) m s p o = elim s [ ]
+served_map held w in_frames opened (ByEnd i) name (Unclear j _) m s p o = elim s [ ]
+served_map held w in_frames opened (ByEnd i) name Missing m s p o = elim s [ ]
+served_map held w in_frames opened (Unclear i _) name (Given j) m s p o = elim s [ ]
+served_map held w in_frames opened (Unclear i _) name (ByEnd j) m s p o = elim s [ ]
+served_map held w in_frames opened (Unclear i _) name (Unclear j _) m s p o = elim s [ ]
+served_map held w in_frames opened (Unclear i _) name Missing m s p o = elim s [ ]
+served_map held w in_frames opened Missing name (Given j) m s p o = elim s [ ]
+served_map held w in_frames opened Missing name (ByEnd j) m s p o = elim s [ ]
+served_map held w in_frames opened Missing name (Unclear j _) m s p o = elim s [ ]
+served_map held w in_frames opened Missing name Missing m s p o = elim s [ ]
 
 pub has_map : (held : Held) (w : Wanted) (c : Choices) (name : List ℕ) (m : ReadMap) → AreChosen held w c
     → Has c name m → IsMapOf held w name m
 has_map held w c name m chosen has =
-    let mapped = one_of (IsNamed held w) c.0 has.mapped has.at chosen.names has.mapped_is in
-    let opened = one_of (IsFor held w) c.1 has.opened has.number chosen.maps has.opened_is in
-    rw (sym has.name_is) at (rw (sym has.map_is) at (served_map held w has.opened.name.items has.opened.found
-    (string_bytes has.mapped.name) has.mapped.found has.opened.map has.served mapped opened))
+    let named = one_of (IsNamed held w) c.mapped has.mapped has.at chosen.names has.mapped_is in
+    let tried = one_of (IsFor held w c.worst) c.openings has.opening has.mapped.number chosen.openings has.served.0 in
+    let o = has.opening in
+    served_map held w named.0 o.name.items o.found name has.mapped.found m has.served.1
+    (subst (λ (n : List ℕ). IsPicked held w named.0 n has.mapped.found) (sym has.name_is) named.1) (subst (IsTried held w c.worst o.name.items o.found) has.map_is tried)

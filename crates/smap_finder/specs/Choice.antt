@@ -3,7 +3,7 @@ use Rattle.std.specs.Prelude.{◌≡◌, ◌⊎◌, ◌+◌, ℕ, Bool, true, fa
 use Rattle.std.specs.Prelude.{nat_eq, nat_lt, List, ◌++◌, codes, cond, drop, length, map, min, take, ⊤}
 use Rattle.std.specs.Prelude.{Option, Some, None, option_and_then, option_map}
 use Rattle.std.specs.Char.{is_ascii_alphanumeric}
-use Rattle.std.specs.List.{list_any, prefix_len, slice_get, starts_with}
+use Rattle.std.specs.List.{All, list_any, prefix_len, slice_get, starts_with}
 use Rattle.smap_disk.specs.Held.{Held}
 use Rattle.smap_link.specs.Alike.{own_url}
 use Rattle.smap_link.specs.Paths.{bare}
@@ -113,16 +113,26 @@ pub record IsSettled (held : Held) (w : Wanted) (name : List ℕ) (found : Found
   pub unclear : IsHalfUnclear w name
   pub settled : IsFoundIn w (map_files_of w) name found ⊎ IsThrough held w name found
 
--- What a name of a log has.
+-- What is found for the name, where it isn't so.
+pub record IsClear (w : Wanted) (name : List ℕ) (found : Found) : Type 0 where
+  pub is_found : IsFoundIn w (files_of w) name found
+  pub is_clear : is_half_unclear w found ≡ false
+
+-- What is found for a name of a log.
 abbrev pub IsChoice : Held → Wanted → List ℕ → Found → Type 0
-IsChoice held w name found = IsFoundIn w (files_of w) name found ⊎ IsSettled held w name found
+IsChoice held w name found = IsClear w name found ⊎ IsSettled held w name found
 
--- Or it is left as it is.
-abbrev pub IsPicked : Held → Wanted → List ℕ → Found → Type 0
-IsPicked held w name found = (found ≡ Missing) ⊎ IsChoice held w name found
+abbrev pub IsChoiceOf : Held → Wanted → Pick → Type 0
+IsChoiceOf held w pick = IsChoice held w pick.name.now pick.found
 
-abbrev pub IsPickedBy : Held → Wanted → Pick → Type 0
-IsPickedBy held w pick = IsPicked held w pick.name.now pick.found
+-- Picks of this kind, one for each of these names, in their order.
+pub record ArePicksOf (Is : Pick → Type 0) (names : List (List ℕ)) (picks : List Pick) : Type 0 where
+  pub named : map (λ p. p.name.now) picks ≡ names
+  pub each : All Is picks
+
+-- What is found for each of these names.
+abbrev pub AreChoices : Held → Wanted → List (List ℕ) → List Pick → Type 0
+AreChoices held w names picks = ArePicksOf (IsChoiceOf held w) names picks
 
 -- ---- the map of what a name has
 
@@ -136,6 +146,31 @@ has_scheme name = not (scheme_size name == 0) && starts_with nat_eq (drop (schem
 -- a URL that names a place, or an absolute path
 abbrev pub is_absolute : List ℕ → Bool
 is_absolute name = is_path name || has_scheme name
+
+-- A name may belong to a file by its end: a URL that names a place, a path; of a frame also a name without a
+-- colon, since `node:internal/x.js` names none.
+abbrev pub may_end_alike : List ℕ → Bool → Bool
+may_end_alike name in_frames = is_absolute name || (in_frames && not (list_any (λ b. nat_eq b 58) name))
+
+-- Found, but not by its end for a name that may not belong to a file by it.
+abbrev pub within_ends : List ℕ → Bool → Found → Found
+within_ends name in_frames (Given i) = Given i
+within_ends name in_frames (ByEnd i) = cond (may_end_alike name in_frames) (ByEnd i) Missing
+within_ends name in_frames (Unclear i j) = cond (may_end_alike name in_frames) (Unclear i j) Missing
+within_ends name in_frames Missing = Missing
+
+-- What a name of a log has.
+pub record IsPicked (held : Held) (w : Wanted) (in_frames : Bool) (name : List ℕ) (found : Found) : Type 0 where
+  pub choice : Found
+  pub is_choice : IsChoice held w name choice
+  pub found_is : found ≡ within_ends name in_frames choice
+
+abbrev pub IsPickedBy : Held → Wanted → Bool → Pick → Type 0
+IsPickedBy held w in_frames pick = IsPicked held w in_frames pick.name.now pick.found
+
+-- What each of these names has.
+abbrev pub ArePicked : Held → Wanted → Bool → List (List ℕ) → List Pick → Type 0
+ArePicked held w in_frames names picks = ArePicksOf (IsPickedBy held w in_frames) names picks
 
 -- The URL of a file that is given without one.
 abbrev pub name_of_file : List ℕ → List ℕ
@@ -163,6 +198,14 @@ pub record IsOpenedAs (held : Held) (w : Wanted) (name : List ℕ) (found : Foun
 -- The map of what a name of a log has.
 abbrev pub IsOpenedFor : Held → Wanted → List ℕ → Found → ReadMap → Type 0
 IsOpenedFor held w name found m = IsOpenedAs held w (opening_name w name found) found m
+
+-- None was opened by this name for this, and so much is the worst since.
+abbrev pub IsUnopened : Held → Wanted → List ℕ → Found → ℕ → Type 0
+IsUnopened held w name found worst = ⊤
+
+-- What this name has gives no map.
+abbrev pub IsWithout : Held → Wanted → ℕ → List ℕ → Found → Type 0
+IsWithout held w worst name found = IsUnopened held w (opening_name w name found) found worst
 
 -- The map of a name of a log: what the name has, opened for it, or for a name that differs from it in its query
 -- or its fragment alone.

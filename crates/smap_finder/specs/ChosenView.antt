@@ -1,26 +1,43 @@
 -- What contracts say of the maps that were opened for a log.
-use Rattle.std.specs.Prelude.{◌≡◌, ℕ, List, Some, string_bytes}
+use Rattle.std.specs.Prelude.{◌≡◌, ◌⊎◌, ◌<◌, ◌≤◌, ℕ, Bool, List, [], Option, None, Some, string_bytes, true, ⊤}
+use Rattle.std.specs.Global.{Vec}
+use Rattle.std.specs.Str.{IsUtf8}
 use Rattle.std.specs.List.{All, slice_get}
 use Rattle.smap_disk.specs.Held.{Held}
 use Rattle.smap_link.specs.Paths.{bare}
 use Rattle.smap_link.specs.Table.{IsTable}
 use Rattle.smap_pick.specs.Places.{scripts_of}
 use Rattle.smap_pick.specs.declared.finding.Found.{Found}
-use Rattle.smap_pick.specs.declared.finding.Found.TheVariants.{Given, ByEnd}
+use Rattle.smap_pick.specs.declared.finding.Found.TheVariants.{Given, ByEnd, Unclear, Missing}
 use Rattle.smap_record.specs.Record.{ReadMap}
-use Rattle.smap_finder.specs.Choice.{IsOpenedFor, IsPicked, places_of}
+use Rattle.smap_finder.specs.Choice.{IsOpenedFor, IsPicked, IsWithout, places_of}
+use Rattle.smap_finder.specs.declared.giving.TheConstants.{MOST_AGAIN}
 use Rattle.smap_finder.specs.declared.chosen.Chosen.{Chosen}
 use Rattle.smap_finder.specs.declared.chosen.MappedName.{MappedName}
-use Rattle.smap_finder.specs.declared.chosen.OpenedMap.{OpenedMap}
+use Rattle.smap_finder.specs.declared.chosen.Opening.{Opening}
 use Rattle.smap_finder.specs.declared.opening.Opener.{Opener}
 use Rattle.smap_arguments.specs.declared.wanted.Wanted.{Wanted}
 
--- The names that have maps, and the maps that are open.
-abbrev pub Choices : Type 0
-Choices = List MappedName × List OpenedMap
+-- What was chosen: the names that have maps, what was looked for, the names that have none, how often a file was
+-- opened for a further name, and the greatest status of a map that was refused.
+pub record Choices : Type 0 where
+  pub mapped : List MappedName
+  pub openings : List Opening
+  pub left : List (Vec ℕ × Bool)
+  pub again : ℕ
+  pub worst : ℕ
 
-abbrev pub maps_of : Chosen → Choices
-maps_of c = (c.mapped.items, c.maps.items)
+abbrev pub choices_of : Chosen → Choices
+choices_of c = record {
+  mapped = c.mapped.items;
+  openings = c.openings.items;
+  left = c.left.entries;
+  again = c.again;
+  worst = c.worst;
+}
+
+abbrev pub no_choices : Choices
+no_choices = record { mapped = []; openings = []; left = []; again = 0; worst = 0 }
 
 -- what the files of its disk hold
 abbrev pub held_of : {D : Type 0} → (D → Held) → Opener D → Held
@@ -31,34 +48,119 @@ pub record IsOver {D : Type 0} (of : D → Held) (held : Held) (w : Wanted) (o :
   pub held_is : held_of of o ≡ held
   pub table_is : IsTable o.table (scripts_of (places_of w))
 
--- A map that was opened for one name serves another: the same was found for both, and, of a file in a folder
+-- What was looked for for one name serves another: the same was found for both, and, of a file in a folder
 -- without a URL, they differ in their queries and fragments alone.
 abbrev pub Serves : List ℕ → Found → List ℕ → Found → Type 0
 Serves opened (Given i) name (Given j) = i ≡ j
 Serves opened (ByEnd i) name (ByEnd j) = (i ≡ j) × (bare opened ≡ bare name)
 Serves _ _ _ _ = ⊥
 
+-- A map was found by a name.
+abbrev pub IsFind : Found → Type 0
+IsFind (Given i) = ⊤
+IsFind (ByEnd i) = ⊤
+IsFind (Unclear i j) = ⊥
+IsFind Missing = ⊥
+
+-- What has this number was looked for, and serves this.
+abbrev pub IsServedBy : Choices → ℕ → List ℕ → Found → Opening → Type 0
+IsServedBy c number name found opening =
+    (slice_get c.openings number ≡ Some opening) × Serves opening.name.items opening.found name found
+
 -- This name has this map.
 pub record Has (c : Choices) (name : List ℕ) (m : ReadMap) : Type 0 where
   pub at : ℕ
   pub mapped : MappedName
-  pub mapped_is : slice_get c.0 at ≡ Some mapped
-  pub number : ℕ
-  pub opened : OpenedMap
-  pub opened_is : slice_get c.1 number ≡ Some opened
-  pub served : Serves opened.name.items opened.found (string_bytes mapped.name) mapped.found
+  pub mapped_is : slice_get c.mapped at ≡ Some mapped
   pub name_is : name ≡ string_bytes mapped.name
-  pub map_is : m ≡ opened.map
+  pub opening : Opening
+  pub served : IsServedBy c mapped.number name mapped.found opening
+  pub map_is : opening.map ≡ Some m
+
+abbrev pub HasMap : Choices → List ℕ → Type 0
+HasMap c name = (m : ReadMap) × Has c name m
+
+-- ---- names without a map
+
+-- Files of folders without a URL were opened for further names as often as they are.
+abbrev pub IsCrowded : Choices → Type 0
+IsCrowded c = MOST_AGAIN < c.again
+
+-- What it has was looked for, for it or for a name that it serves, and gives no map.
+pub record GivesNone (held : Held) (w : Wanted) (worst : ℕ) (name : List ℕ) (found : Found) : Type 0 where
+  pub opened : List ℕ
+  pub opened_for : Found
+  pub served : Serves opened opened_for name found
+  pub without : IsWithout held w worst opened opened_for
+
+-- What was found for a name gives no map.
+abbrev pub HasNone : Held → Wanted → Choices → List ℕ → Found → Type 0
+HasNone held w c name (Given i) = GivesNone held w c.worst name (Given i)
+HasNone held w c name (ByEnd i) = IsCrowded c ⊎ GivesNone held w c.worst name (ByEnd i)
+HasNone held w c name (Unclear i j) = ⊤
+HasNone held w c name Missing = ⊤
+
+-- What was found is not opened: nothing was, or its file was opened for other names too often.
+abbrev pub IsLeftOut : Choices → Found → Type 0
+IsLeftOut c (Given i) = ⊥
+IsLeftOut c (ByEnd i) = IsCrowded c
+IsLeftOut c (Unclear i j) = ⊤
+IsLeftOut c Missing = ⊤
+
+-- This is the number of what was looked for for a name, or none is.
+abbrev pub IsNumberOf : Choices → List ℕ → Found → Option ℕ → Type 0
+IsNumberOf c name found (Some number) = (o : Opening) × IsServedBy c number name found o
+IsNumberOf c name found None = IsLeftOut c found
+
+-- A name is left without a map: it is no text, or what it has gives none.
+abbrev pub IsLeft : Held → Wanted → Bool → Choices → List ℕ → Type 0
+IsLeft held w in_frames c name = (IsUtf8 name → ⊥)
+    ⊎ ((found : Found) × IsPicked held w in_frames name found × HasNone held w c name found)
+
+-- A name has its map, or is left without one.
+abbrev pub IsSettledIn : Held → Wanted → Bool → Choices → List ℕ → Type 0
+IsSettledIn held w in_frames c name = HasMap c name ⊎ IsLeft held w in_frames c name
+
+-- ---- all of them
 
 -- The name has what it is noted to have.
 abbrev pub IsNamed : Held → Wanted → MappedName → Type 0
-IsNamed held w n = IsPicked held w (string_bytes n.name) n.found
+IsNamed held w n = (in_frames : Bool) × IsPicked held w in_frames (string_bytes n.name) n.found
 
--- The map is that of what it was opened for.
-abbrev pub IsFor : Held → Wanted → OpenedMap → Type 0
-IsFor held w o = IsOpenedFor held w o.name.items o.found o.map
+-- What became of looking for what a name has.
+abbrev pub IsTried : Held → Wanted → ℕ → List ℕ → Found → Option ReadMap → Type 0
+IsTried held w worst name found (Some m) = IsOpenedFor held w name found m
+IsTried held w worst name found None = IsWithout held w worst name found
+
+abbrev pub IsFor : Held → Wanted → ℕ → Opening → Type 0
+IsFor held w worst o = IsTried held w worst o.name.items o.found o.map
+
+abbrev pub IsLeftName : Held → Wanted → Choices → Vec ℕ × Bool → Type 0
+IsLeftName held w c left = IsLeft held w left.1 c left.0.items
 
 -- All of them are those that the arguments name.
 pub record AreChosen (held : Held) (w : Wanted) (c : Choices) : Type 0 where
-  pub names : All (IsNamed held w) c.0
-  pub maps : All (IsFor held w) c.1
+  pub names : All (IsNamed held w) c.mapped
+  pub openings : All (IsFor held w c.worst) c.openings
+  pub left : All (IsLeftName held w c) c.left
+
+-- The same, once more files were opened again and worse maps refused.
+abbrev pub further : Choices → ℕ → ℕ → Choices
+further c again worst = record {
+  mapped = c.mapped;
+  openings = c.openings;
+  left = c.left;
+  again = again;
+  worst = worst;
+}
+
+-- What was chosen stays, and more may be.
+pub record Grows (old new : Choices) : Type 0 where
+  pub mapped : (i : ℕ) (n : MappedName) → slice_get old.mapped i ≡ Some n → slice_get new.mapped i ≡ Some n
+  pub openings : (i : ℕ) (o : Opening) → slice_get old.openings i ≡ Some o → slice_get new.openings i ≡ Some o
+  pub again : old.again ≤ new.again
+  pub worst : old.worst ≤ new.worst
+
+-- No map was refused, unless broken maps are skipped.
+abbrev pub IsJudged : Bool → Choices → Type 0
+IsJudged skip c = (skip ≡ true) ⊎ (c.worst ≡ 0)

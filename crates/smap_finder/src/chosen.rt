@@ -1,9 +1,13 @@
 //! The maps that were opened for the names of a log.
-ghost use Rattle.std.specs.Prelude.{◌≡◌, [], IfOk, IfSome, true};
-ghost use Rattle.std.specs.List.{All};
+ghost use Rattle.std.specs.Prelude.{◌≡◌, Bool, IfOk, IfSome, List, OnOk, Some, map, option_map, true, ℕ};
+ghost use Rattle.std.specs.Global.{Vec};
+ghost use Rattle.std.specs.List.{All, Contains, slice_get};
 ghost use Rattle.smap_disk.specs.Held.{Held};
 ghost use Rattle.smap_finder.specs.Choice.{IsPicked};
-ghost use Rattle.smap_finder.specs.ChosenView.{AreChosen, Has, Serves, maps_of};
+ghost use Rattle.smap_finder.specs.ChosenView.{AreChosen, Grows, Has, HasMap, IsLeft, IsServedBy, IsSettledIn};
+ghost use Rattle.smap_finder.specs.ChosenView.{IsTried, Serves, choices_of, no_choices};
+ghost use Rattle.smap_finder.specs.declared.chosen.Opening.{Opening};
+ghost use Rattle.smap_record.specs.Record.{ReadMap};
 ghost use Rattle.smap_arguments.specs.declared.wanted.Wanted.{Wanted};
 
 use indexmap::IndexMap;
@@ -24,14 +28,15 @@ pub struct How {
     pub verbose: bool,
 }
 
-/// A map that was opened.
+/// What was looked for: the map of what a name has.
 #[derive(Drop)]
-pub(crate) struct OpenedMap {
+pub(crate) struct Opening {
     /// The name of the log for which it was opened.
     pub(crate) name: Vec<u8>,
     /// What that name has.
     pub(crate) found: Found,
-    pub(crate) map: SourceMap,
+    /// None where there is none, or it is refused.
+    pub(crate) map: Option<SourceMap>,
 }
 
 /// A name of the log that has a map.
@@ -39,13 +44,14 @@ pub(crate) struct OpenedMap {
 pub(crate) struct MappedName {
     pub(crate) name: String,
     pub(crate) found: Found,
-    /// The number of its map.
+    /// The number of what was looked for.
     pub(crate) number: usize,
 }
 
-/// Whether a map that was opened for one name serves another.
+/// Whether what was looked for for one name serves another.
 fn serves(opened: &[u8], opened_for: Found, name: &[u8], found: Found) -> bool
-    ensures { result ≡ true → Serves opened.now opened_for name.now found }
+    ensures serves { result ≡ true → Serves opened.now opened_for name.now found }
+    ensures all { Serves opened.now opened_for name.now found → result ≡ true }
 {
     match (opened_for, found) {
         (Found::Given(i), Found::Given(j)) => i == j,
@@ -54,23 +60,33 @@ fn serves(opened: &[u8], opened_for: Found, name: &[u8], found: Found) -> bool
     }
 }
 
+/// Whether these are the same.
+fn is_name(key: &[u8], name: &[u8]) -> bool
+    ensures { result ≡ true → key.now ≡ name.now }
+{
+    if key == name {
+        return true;
+    }
+    false
+}
+
 /// The maps that were opened, and the names of the log that have them.
 #[derive(Drop)]
 pub struct Chosen {
-    pub(crate) maps: Vec<OpenedMap>,
+    pub(crate) openings: Vec<Opening>,
+    /// Where in that list a find stands, by what stands for it.
+    pub(crate) numbers: IndexMap<Vec<u8>, usize>,
     pub(crate) mapped: Vec<MappedName>,
     /// The places of the names in that list.
     pub(crate) names: IndexMap<String, usize>,
-    /// What was opened already: the number of its map, if it has one.
-    pub(crate) opened: IndexMap<Vec<u8>, Option<usize>>,
+    /// Names that have no map, and whether they were looked for as those of frames.
+    pub(crate) left: IndexMap<Vec<u8>, bool>,
     /// The files of folders without a URL that were opened.
     pub(crate) files: IndexMap<usize, ()>,
     /// How often one of them was opened for a further name.
     pub(crate) again: usize,
-    /// How many of the maps are those of a file that was opened for another name.
-    pub(crate) repeated: usize,
-    /// Names that have no map.
-    pub(crate) missing: IndexMap<Vec<u8>, ()>,
+    /// How many files gave maps.
+    pub(crate) count: usize,
     /// Names that were told to be taken for others.
     pub(crate) told: IndexMap<Vec<u8>, ()>,
     /// The greatest status of a map that was refused.
@@ -81,17 +97,17 @@ pub struct Chosen {
 
 impl Chosen {
     pub fn new(alloc: Global) -> Chosen
-        ensures { maps_of result ≡ ([], []) }
+        ensures { choices_of result ≡ no_choices }
     {
         Chosen {
-            maps: Vec::new(alloc),
+            openings: Vec::new(alloc),
+            numbers: IndexMap::new(alloc),
             mapped: Vec::new(alloc),
             names: IndexMap::new(alloc),
-            opened: IndexMap::new(alloc),
+            left: IndexMap::new(alloc),
             files: IndexMap::new(alloc),
             again: 0,
-            repeated: 0,
-            missing: IndexMap::new(alloc),
+            count: 0,
             told: IndexMap::new(alloc),
             worst: 0,
             is_unclear: false,
@@ -105,30 +121,34 @@ impl Chosen {
 
     /// How many files gave maps.
     pub fn opened_count(&self) -> usize {
-        self.maps.len().saturating_sub(self.repeated)
+        self.count
     }
 
     /// The name with this place in the list, and its map.
     fn mapped_at(&self, at: usize) -> Option<(&str, &SourceMap)>
-        ensures { IfSome result (λ s. Has (maps_of self.now) s.0.now s.1.now) }
+        ensures has { IfSome result (λ s. Has (choices_of self.now) s.0.now s.1.now) }
+        ensures all { (name : List ℕ) (m : ReadMap) (h : Has (choices_of self.now) name m) → h.at ≡ at
+            → option_map (λ s. s.0.now) result ≡ Some name }
     {
-        let mapped = self.mapped.get(at)?;
-        let opened = self.maps.get(mapped.number)?;
-        if serves(
-            &opened.name,
-            opened.found,
-            mapped.name.as_bytes(),
-            mapped.found,
-        ) {
-            Some((mapped.name.as_str(), &opened.map))
-        } else {
-            None
+        let Some(mapped) = self.mapped.get(at) else {
+            return None;
+        };
+        let Some(opening) = self.openings.get(mapped.number) else {
+            return None;
+        };
+        let name = mapped.name.as_str();
+        if !serves(&opening.name, opening.found, name.as_bytes(), mapped.found) {
+            return None;
+        }
+        match &opening.map {
+            Some(map) => Some((name, map)),
+            None => None,
         }
     }
 
     /// The map of a name.
     pub fn map_of(&self, name: &[u8]) -> Option<&SourceMap>
-        ensures { IfSome result (λ m. Has (maps_of self.now) name.now m.now) }
+        ensures { IfSome result (λ m. Has (choices_of self.now) name.now m.now) }
     {
         let Ok(text) = std::str::from_utf8(name) else {
             return None;
@@ -143,13 +163,16 @@ impl Chosen {
 
     /// The scripts with their maps.
     pub fn scripts(&self, alloc: Global) -> Result<Vec<(&str, &SourceMap)>, AllocError>
-        ensures { IfOk result (λ list. All (λ s. Has (maps_of self.now) s.0.now s.1.now) list.items) }
+        ensures have_maps { IfOk result (λ list. All (λ s. Has (choices_of self.now) s.0.now s.1.now) list.items) }
+        ensures all { IfOk result (λ list. (name : List ℕ) → HasMap (choices_of self.now) name
+            → Contains (map (λ s. s.0.now) list.items) name) }
     {
         let mut scripts = Vec::with_capacity(alloc, self.mapped.len())?;
         for i in 0..self.mapped.len() {
-            if let Some(script) = self.mapped_at(i) {
-                scripts.push(script)?;
-            }
+            let Some(script) = self.mapped_at(i) else {
+                continue;
+            };
+            scripts.push(script)?;
         }
         Ok(scripts)
     }
@@ -157,8 +180,8 @@ impl Chosen {
     /// Forgets the names that have maps, once there are many; the maps stay open, and names that come again find
     /// them.
     pub fn forget_many(&mut self, alloc: Global)
-        ensures { (held : Held) (wanted : Wanted) → AreChosen held wanted (maps_of self.old)
-            → AreChosen held wanted (maps_of self.new) }
+        ensures { (held : Held) (wanted : Wanted) → AreChosen held wanted (choices_of self.old)
+            → AreChosen held wanted (choices_of self.new) }
     {
         if self.names.len() >= MOST_NAMES {
             self.names = IndexMap::new(alloc);
@@ -166,12 +189,48 @@ impl Chosen {
         }
     }
 
-    /// The number of the map that was opened for this key, if there is one.
-    pub(crate) fn opened_at(&self, key: &[u8]) -> Option<usize> {
-        match self.opened.get(key) {
-            Some(Some(number)) => Some(*number),
-            _ => None,
+    /// The number of what was looked for under this key, if it serves this.
+    pub(crate) fn number_of(&self, key: &[u8], name: &[u8], found: Found) -> Option<usize>
+        ensures { IfSome result (λ n. (o : Opening) × IsServedBy (choices_of self.now) n name.now found o) }
+    {
+        let number = *self.numbers.get(key)?;
+        let opening = self.openings.get(number)?;
+        if serves(&opening.name, opening.found, name, found) {
+            Some(number)
+        } else {
+            None
         }
+    }
+
+    /// The map that has this number, if there is one.
+    pub(crate) fn map_at(&self, number: usize) -> Option<&SourceMap>
+        ensures { (o : Opening) → slice_get (choices_of self.now).openings number ≡ Some o
+            → option_map (λ m. m.now) result ≡ o.map }
+    {
+        let opening = self.openings.get(number)?;
+        opening.map.as_ref()
+    }
+
+    /// Notes what became of looking for what a name has, and answers its number.
+    pub(crate) fn note_opening(
+        &mut self,
+        alloc: Global,
+        key: Vec<u8>,
+        name: &[u8],
+        found: Found,
+        map: Option<SourceMap>,
+    ) -> Result<usize, AllocError>
+        ensures chosen { (held : Held) (wanted : Wanted) → IsTried held wanted self.old.worst name.now found map
+            → AreChosen held wanted (choices_of self.old) → AreChosen held wanted (choices_of self.new) }
+        ensures number { IfOk result (λ n. (o : Opening) × (slice_get (choices_of self.new).openings n ≡ Some o)
+            × (o.name.items ≡ name.now) × (o.found ≡ found)) }
+        ensures grows { Grows (choices_of self.old) (choices_of self.new) }
+    {
+        let number = self.openings.len();
+        let name = Vec::from_slice(alloc, name)?;
+        self.numbers.insert(key, number)?;
+        self.openings.push(Opening { name, found, map })?;
+        Ok(number)
     }
 
     /// Notes that a name has the map with this number.
@@ -182,8 +241,12 @@ impl Chosen {
         found: Found,
         number: usize,
     ) -> Result<(), AllocError>
-        ensures { (held : Held) (wanted : Wanted) → IsPicked held wanted name.now found
-            → AreChosen held wanted (maps_of self.old) → AreChosen held wanted (maps_of self.new) }
+        ensures chosen { (held : Held) (wanted : Wanted) (in_frames : Bool)
+            → IsPicked held wanted in_frames name.now found → AreChosen held wanted (choices_of self.old)
+            → AreChosen held wanted (choices_of self.new) }
+        ensures has { OnOk result ((o : Opening) (m : ReadMap) → IsServedBy (choices_of self.old) number name.now found o
+            → o.map ≡ Some m → Has (choices_of self.new) name.now m) }
+        ensures grows { Grows (choices_of self.old) (choices_of self.new) }
     {
         let key = String::from_str(alloc, name)?;
         let name = String::from_str(alloc, name)?;
@@ -196,17 +259,57 @@ impl Chosen {
         Ok(())
     }
 
-    pub(crate) fn is_known(&self, name: &[u8]) -> bool {
-        self.missing.contains_key(name) || self.map_of(name).is_some()
+    /// Whether a name is noted to have no map.
+    fn is_left(&self, name: &[u8], in_frames: bool) -> bool
+        ensures { result ≡ true → (i : ℕ) × (k : Vec ℕ) × (slice_get (choices_of self.now).left i ≡ Some (k, in_frames))
+            × (k.items ≡ name.now) }
+    {
+        let Some((_, key, as_frame)) = self.left.get_full(name) else {
+            return false;
+        };
+        if *as_frame != in_frames {
+            return false;
+        }
+        is_name(key, name)
     }
 
-    pub(crate) fn note_missing(&mut self, alloc: Global, name: &[u8]) -> Result<(), AllocError>
-        ensures { maps_of self.new ≡ maps_of self.old }
+    pub(crate) fn is_known(&self, name: &[u8], in_frames: bool) -> bool
+        ensures { (held : Held) (wanted : Wanted) → AreChosen held wanted (choices_of self.now) → result ≡ true
+            → IsSettledIn held wanted in_frames (choices_of self.now) name.now }
     {
-        if self.missing.len() >= MOST_NAMES {
-            self.missing = IndexMap::new(alloc);
+        self.is_left(name, in_frames) || self.map_of(name).is_some()
+    }
+
+    /// Forgets the names that have no map, once there are many.
+    fn forget_left(&mut self, alloc: Global)
+        ensures chosen { (held : Held) (wanted : Wanted) → AreChosen held wanted (choices_of self.old)
+            → AreChosen held wanted (choices_of self.new) }
+        ensures left { (held : Held) (wanted : Wanted) (in_frames : Bool) (name : List ℕ)
+            → IsLeft held wanted in_frames (choices_of self.old) name
+            → IsLeft held wanted in_frames (choices_of self.new) name }
+        ensures grows { Grows (choices_of self.old) (choices_of self.new) }
+    {
+        if self.left.len() >= MOST_NAMES {
+            self.left = IndexMap::new(alloc);
         }
-        self.missing.insert(Vec::from_slice(alloc, name)?, ())?;
+    }
+
+    /// Notes that a name has no map.
+    pub(crate) fn note_left(
+        &mut self,
+        alloc: Global,
+        name: &[u8],
+        in_frames: bool,
+    ) -> Result<(), AllocError>
+        ensures chosen { (held : Held) (wanted : Wanted) → IsLeft held wanted in_frames (choices_of self.old) name.now
+            → AreChosen held wanted (choices_of self.old) → AreChosen held wanted (choices_of self.new) }
+        ensures left { (held : Held) (wanted : Wanted) → IsLeft held wanted in_frames (choices_of self.old) name.now
+            → IsLeft held wanted in_frames (choices_of self.new) name.now }
+        ensures grows { Grows (choices_of self.old) (choices_of self.new) }
+    {
+        let name = Vec::from_slice(alloc, name)?;
+        self.forget_left(alloc);
+        self.left.insert(name, in_frames)?;
         Ok(())
     }
 }

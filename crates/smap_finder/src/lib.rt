@@ -5,14 +5,18 @@
 //! error, with the status of that (`smap_host`).
 #![tactic(auto)]
 
+mod checking;
 mod chosen;
 mod following;
+mod giving;
 mod loading;
 mod opening;
 mod picking;
 mod roots;
 mod telling;
 
+pub use checking::check_all;
 pub use chosen::{Chosen, How};
-pub use opening::{Opener, check_all, open_for};
+pub use giving::open_for;
+pub use opening::Opener;
 pub use telling::tell_count;

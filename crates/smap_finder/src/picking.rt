@@ -1,17 +1,16 @@
 //! Which file each name of a log has.
-ghost use Rattle.std.specs.Prelude.{◌≡◌, IfOk, map, option_map, true};
+ghost use Rattle.std.specs.Prelude.{◌≡◌, IfOk, List, false, map, option_map, true, ℕ};
 ghost use Rattle.std.specs.List.{All};
 ghost use Rattle.smap_link.specs.Table.{IsTable};
 ghost use Rattle.smap_pick.specs.Places.{scripts_of};
 ghost use Rattle.smap_finder.specs.Choice as spec;
-ghost use Rattle.smap_finder.specs.Choice.{IsFoundIn, IsHalfUnclear, IsPicked, IsPickedBy, Links, files_of, places_of};
+ghost use Rattle.smap_finder.specs.Choice.{AreChoices, ArePicked, ArePicksIn, IsChoice, IsChoiceOf, IsFoundIn};
+ghost use Rattle.smap_finder.specs.Choice.{IsHalfUnclear, Links, files_of, places_of};
 ghost use Rattle.smap_arguments.specs.declared.wanted.Wanted.{Wanted};
 ghost use Rattle.smap_disk.specs.Held.{Held};
 
-use crate::chosen::Chosen;
 use crate::following::{Followed, follow};
 use crate::roots::{root_of, slices};
-use indexmap::IndexMap;
 use smap_arguments::{LIMIT, Wanted};
 use smap_disk::{Disk, read_file};
 use smap_host::{Host, Stop};
@@ -31,25 +30,6 @@ pub(crate) fn key_of_found(alloc: Global, pick: &Pick<'_>) -> Result<Vec<u8>, Al
         }
         Found::Unclear(_, _) | Found::Missing => Ok(Vec::new(alloc)),
     }
-}
-
-/// Those picks whose maps aren't open yet, each map once.
-pub(crate) fn unopened<'a>(
-    alloc: Global,
-    chosen: &Chosen,
-    picks: &[Pick<'a>],
-) -> Result<Vec<Pick<'a>>, AllocError> {
-    let mut keys = IndexMap::new(alloc);
-    let mut unopened = Vec::new(alloc);
-    for pick in picks {
-        let key = key_of_found(alloc, pick)?;
-        if !key.is_empty() && !chosen.opened.contains_key(key.as_slice()) {
-            if keys.insert(key, ())?.is_none() {
-                unopened.push(*pick)?;
-            }
-        }
-    }
-    Ok(unopened)
 }
 
 /// How long the scheme is that a name begins with.
@@ -105,21 +85,19 @@ fn own_name(alloc: Global, name: &[u8], file: Option<&Vec<u8>>) -> Result<Vec<u8
 
 /// Whether a name may belong to a file by its end. `node:internal/x.js` names none. Of a name that is neither a
 /// URL nor a path only a frame shows where it begins.
-fn may_end_alike(name: &[u8], in_frames: bool) -> bool {
+fn may_end_alike(name: &[u8], in_frames: bool) -> bool
+    ensures { result ≡ spec.may_end_alike name.now in_frames }
+{
     is_absolute(name) || in_frames && !name.contains(&b':')
 }
 
-/// A pick, but none by its end for a name that may not belong to a file by it.
-fn within_ends(pick: Pick<'_>, in_frames: bool) -> Pick<'_>
-    ensures { (held : Held) (wanted : Wanted) → IsPicked held wanted pick.entry.name.now pick.entry.found
-        → IsPicked held wanted result.name.now result.found }
+/// What was found for a name, but none by its end for a name that may not belong to a file by it.
+fn within_ends(name: &[u8], in_frames: bool, found: Found) -> Found
+    ensures { result ≡ spec.within_ends name.now in_frames found }
 {
-    match pick.found {
-        Found::ByEnd(_) | Found::Unclear(_, _) if !may_end_alike(pick.name, in_frames) => Pick {
-            name: pick.name,
-            found: Found::Missing,
-        },
-        _ => pick,
+    match found {
+        Found::ByEnd(_) | Found::Unclear(_, _) if !may_end_alike(name, in_frames) => Found::Missing,
+        _ => found,
     }
 }
 
@@ -140,23 +118,16 @@ fn is_half_unclear(wanted: &Wanted<'_>, found: Found) -> bool
     }
 }
 
-/// The names of which a script may be meant as well as a map.
-fn half_unclear<'a>(
-    alloc: Global,
-    wanted: &Wanted<'_>,
-    picks: &[Pick<'a>],
-) -> Result<Vec<&'a [u8]>, AllocError>
-    requires { All (λ p. IsFoundIn wanted.now (files_of wanted.now) p.name.now p.found) picks.now }
-    ensures { IfOk result (λ names. All (λ n. IsHalfUnclear wanted.now n.now) names.items) }
+/// Whether there is such a name among these.
+fn has_half_unclear(wanted: &Wanted<'_>, picks: &[Pick<'_>]) -> bool
+    ensures { result ≡ false → All (λ p. spec.is_half_unclear wanted.now p.found ≡ false) picks.now }
 {
-    let mut names = Vec::new(alloc);
     for i in 0..picks.len() {
-        if !is_half_unclear(wanted, picks[i].found) {
-            continue;
+        if is_half_unclear(wanted, picks[i].found) {
+            return true;
         }
-        names.push(picks[i].name)?;
     }
-    Ok(names)
+    false
 }
 
 /// Whether a place is in this file.
@@ -197,111 +168,115 @@ fn names_this<E: Eprint + AllocGlobal, D: Disk>(
 }
 
 /// The script that was found if it names the map that was, and else the map.
-fn script_or_map<'a, E: Eprint + AllocGlobal, D: Disk>(
+fn script_or_map<E: Eprint + AllocGlobal, D: Disk>(
     host: &Host<'_, E, D>,
     wanted: &Wanted<'_>,
-    name: &'a [u8],
+    name: &[u8],
     script: Found,
     map: Found,
-) -> Result<Pick<'a>, Stop>
+) -> Result<Found, Stop>
     requires unclear { IsHalfUnclear wanted.now name.now }
     requires script { IsFoundIn wanted.now (spec.script_files_of wanted.now) name.now script }
     requires map { IsFoundIn wanted.now (spec.map_files_of wanted.now) name.now map }
-    ensures { IfOk result (IsPickedBy (D.held host.now.disk.now) wanted.now) }
+    ensures { IfOk result (IsChoice (D.held host.now.disk.now) wanted.now name.now) }
 {
     if let (Found::ByEnd(i), Found::ByEnd(of_map)) = (script, map) {
         if let Some(number) = map_count(wanted).checked_add(i) {
             if names_this(host, wanted, name, number, of_map)? {
-                let found = Found::ByEnd(number);
-                return Ok(Pick { name, found });
+                return Ok(Found::ByEnd(number));
             }
         }
     }
-    Ok(Pick { name, found: map })
+    Ok(map)
 }
 
-/// What names have that a script and a map end alike with: the map, through the script if that names it.
-fn settled<'a, E: Eprint + AllocGlobal, D: Disk>(
+/// What is found for a name, of which this is found among all files, among the scripts, and among the maps.
+fn settled_found<E: Eprint + AllocGlobal, D: Disk>(
     host: &Host<'_, E, D>,
-    table: &mut ScriptTable,
     wanted: &Wanted<'_>,
-    names: &[&'a [u8]],
-) -> Result<Vec<Pick<'a>>, Stop>
-    requires table { IsTable table.old (scripts_of (places_of wanted.now)) }
-    requires unclear { All (λ n. IsHalfUnclear wanted.now n.now) names.now }
-    ensures picked { IfOk result (λ all. All (IsPickedBy (D.held host.now.disk.now) wanted.now) all.items) }
-    ensures table { IsTable table.new (scripts_of (places_of wanted.now)) }
+    name: &[u8],
+    found: Found,
+    script: Found,
+    map: Found,
+) -> Result<Found, Stop>
+    requires found { IsFoundIn wanted.now (files_of wanted.now) name.now found }
+    requires script { IsFoundIn wanted.now (spec.script_files_of wanted.now) name.now script }
+    requires map { IsFoundIn wanted.now (spec.map_files_of wanted.now) name.now map }
+    ensures { IfOk result (IsChoice (D.held host.now.disk.now) wanted.now name.now) }
 {
-    let alloc = host.alloc();
-    let files = slices(alloc, wanted.files.as_slice())?;
-    let (maps, scripts) = files.split_at(map_count(wanted));
-    let by_script = pick_all(alloc, table, scripts, true, names)?;
-    let by_map = pick_all(alloc, table, maps, true, names)?;
-    settle_each(host, wanted, names, &by_script, &by_map)
+    if is_half_unclear(wanted, found) {
+        return script_or_map(host, wanted, name, script, map);
+    }
+    Ok(found)
 }
 
-/// The same, where this is what the names have of the scripts, and of the maps.
+/// The same of each name.
 fn settle_each<'a, E: Eprint + AllocGlobal, D: Disk>(
     host: &Host<'_, E, D>,
     wanted: &Wanted<'_>,
     names: &[&'a [u8]],
+    picks: &[Pick<'a>],
     by_script: &[Pick<'a>],
     by_map: &[Pick<'a>],
 ) -> Result<Vec<Pick<'a>>, Stop>
-    requires unclear { All (λ n. IsHalfUnclear wanted.now n.now) names.now }
-    requires scripts { spec.ArePicksIn wanted.now (spec.script_files_of wanted.now) (map (λ n. n.now) names.now)
+    requires picks { ArePicksIn wanted.now (files_of wanted.now) (map (λ n. n.now) names.now) picks.now }
+    requires scripts { ArePicksIn wanted.now (spec.script_files_of wanted.now) (map (λ n. n.now) names.now)
         by_script.now }
-    requires maps { spec.ArePicksIn wanted.now (spec.map_files_of wanted.now) (map (λ n. n.now) names.now) by_map.now }
-    ensures { IfOk result (λ all. All (IsPickedBy (D.held host.now.disk.now) wanted.now) all.items) }
+    requires maps { ArePicksIn wanted.now (spec.map_files_of wanted.now) (map (λ n. n.now) names.now) by_map.now }
+    ensures { IfOk result (λ all. AreChoices (D.held host.now.disk.now) wanted.now (map (λ n. n.now) names.now)
+        all.items) }
 {
     let mut settled = Vec::with_capacity(host.alloc(), names.len())?;
     for i in 0..names.len() {
-        let (Some(script), Some(map)) = (by_script.get(i), by_map.get(i)) else {
-            continue;
-        };
-        settled.push(script_or_map(host, wanted, names[i], script.found, map.found)?)?;
+        let name = names[i];
+        let (script, map) = (by_script[i].found, by_map[i].found);
+        let found = settled_found(host, wanted, name, picks[i].found, script, map)?;
+        settled.push(Pick { name, found })?;
     }
     Ok(settled)
 }
 
-/// This pick, or, where it isn't clear, the next of those that were settled.
-fn clear<'a>(
+/// What each name has, of which these are found among all files: where a script and a map end alike with it, the
+/// map, through the script if that names it.
+fn settled<'a, E: Eprint + AllocGlobal, D: Disk>(
+    host: &Host<'_, E, D>,
+    table: &mut ScriptTable,
     wanted: &Wanted<'_>,
-    pick: Pick<'a>,
-    settled: &[Pick<'a>],
-    next: &mut usize,
-) -> Pick<'a>
-    ensures { (held : Held) → All (IsPickedBy held wanted.now) settled.now → IsPickedBy held wanted.now pick.entry
-        → IsPickedBy held wanted.now result }
+    files: &[&[u8]],
+    names: &[&'a [u8]],
+    picks: Vec<Pick<'a>>,
+) -> Result<Vec<Pick<'a>>, Stop>
+    requires table { IsTable table.old (scripts_of (places_of wanted.now)) }
+    requires files { map (λ f. f.now) files.now ≡ files_of wanted.now }
+    requires picks { ArePicksIn wanted.now (files_of wanted.now) (map (λ n. n.now) names.now) picks.items }
+    ensures picked { IfOk result (λ all. AreChoices (D.held host.now.disk.now) wanted.now
+        (map (λ n. n.now) names.now) all.items) }
+    ensures table { IsTable table.new (scripts_of (places_of wanted.now)) }
 {
-    if !is_half_unclear(wanted, pick.found) {
-        return pick;
+    if !has_half_unclear(wanted, &picks) {
+        return Ok(picks);
     }
-    let at = *next;
-    *next = at.saturating_add(1);
-    match settled.get(at) {
-        Some(settled) => *settled,
-        None => pick,
-    }
+    let alloc = host.alloc();
+    let (maps, scripts) = files.split_at(map_count(wanted));
+    let by_script = pick_all(alloc, table, scripts, true, names)?;
+    let by_map = pick_all(alloc, table, maps, true, names)?;
+    settle_each(host, wanted, names, &picks, &by_script, &by_map)
 }
 
-/// These picks, with those that were settled in place of those that weren't clear.
-fn merged<'a>(
+/// These picks, but none by its end for a name that may not belong to a file by it.
+fn all_within<'a>(
     alloc: Global,
-    wanted: &Wanted<'_>,
     in_frames: bool,
     picks: &[Pick<'a>],
-    settled: &[Pick<'a>],
 ) -> Result<Vec<Pick<'a>>, AllocError>
-    ensures { (held : Held) → All (IsPickedBy held wanted.now) picks.now
-        → All (IsPickedBy held wanted.now) settled.now
-        → IfOk result (λ all. All (IsPickedBy held wanted.now) all.items) }
+    ensures { (held : Held) (wanted : Wanted) → All (IsChoiceOf held wanted) picks.now
+        → IfOk result (λ all. ArePicked held wanted in_frames (map (λ p. p.name.now) picks.now) all.items) }
 {
     let mut all = Vec::with_capacity(alloc, picks.len())?;
-    let mut next = 0usize;
     for i in 0..picks.len() {
-        let pick = clear(wanted, picks[i], settled, &mut next);
-        all.push(within_ends(pick, in_frames))?;
+        let name = picks[i].name;
+        let found = within_ends(name, in_frames, picks[i].found);
+        all.push(Pick { name, found })?;
     }
     Ok(all)
 }
@@ -315,15 +290,15 @@ pub(crate) fn picks_of<'a, E: Eprint + AllocGlobal, D: Disk>(
     names: &[&'a [u8]],
 ) -> Result<Vec<Pick<'a>>, Stop>
     requires { IsTable table.old (scripts_of (places_of wanted.now)) }
-    ensures picked { IfOk result (λ all. All (IsPickedBy (D.held host.now.disk.now) wanted.now) all.items) }
+    ensures picked { IfOk result (λ all. ArePicked (D.held host.now.disk.now) wanted.now in_frames
+        (map (λ n. n.now) names.now) all.items) }
     ensures table { IsTable table.new (scripts_of (places_of wanted.now)) }
 {
     let alloc = host.alloc();
     let files = slices(alloc, wanted.files.as_slice())?;
-    let picks = pick_all(alloc, table, files.as_slice(), true, names)?;
-    let unclear = half_unclear(alloc, wanted, picks.as_slice())?;
-    let settled = settled(host, table, wanted, unclear.as_slice())?;
-    Ok(merged(alloc, wanted, in_frames, &picks, &settled)?)
+    let picks = pick_all(alloc, table, &files, true, names)?;
+    let picks = settled(host, table, wanted, &files, names, picks)?;
+    Ok(all_within(alloc, in_frames, &picks)?)
 }
 
 /// The URL by which a file that has none is checked.

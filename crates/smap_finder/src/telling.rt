@@ -1,6 +1,6 @@
 //! What is said of maps: why one is refused, which one a name is taken for.
 ghost use Rattle.std.specs.Prelude.{◌≡◌};
-ghost use Rattle.smap_finder.specs.ChosenView.{maps_of};
+ghost use Rattle.smap_finder.specs.ChosenView.{choices_of};
 
 use crate::chosen::{Chosen, How};
 use crate::loading::{MapFault, Start};
@@ -123,7 +123,7 @@ pub(crate) fn tell_pick<E: Eprint + AllocGlobal, D: Disk>(
     pick: &Pick<'_>,
     chosen: &mut Chosen,
 ) -> Result<(), Stop>
-    ensures { maps_of chosen.new ≡ maps_of chosen.old }
+    ensures { choices_of chosen.new ≡ choices_of chosen.old }
 {
     match pick.found {
         Found::Given(i) if how.verbose => match wanted.places.get(i) {
@@ -149,7 +149,7 @@ fn tell_alike<E: Eprint + AllocGlobal, D: Disk>(
     name: &[u8],
     chosen: &mut Chosen,
 ) -> Result<(), Stop>
-    ensures { maps_of chosen.new ≡ maps_of chosen.old }
+    ensures { choices_of chosen.new ≡ choices_of chosen.old }
 {
     let alloc = host.alloc();
     if chosen.told.len() >= MOST_TOLD {

@@ -9,7 +9,7 @@ returns-then-branch g c =
     let sum : c.in-Some.number ≡ map_count_of w + c.in-ByEnd-ByEnd.i = search rules in
     let links : Links (g.D.Disk.held c.args.host.now.disk.now) w c.in-Some.number c.in-ByEnd-ByEnd.of_map =
     c.in_ok-names_this.ensures c.if-branch.true in
-    inr (inr (record {
+    inr (record {
       unclear = c.requires.unclear;
       settled = inr (record {
         script = c.in-ByEnd-ByEnd.i;
@@ -19,4 +19,4 @@ returns-then-branch g c =
         found_is = ap ByEnd sum;
         links = rw sum at links;
       });
-    }))
+    })

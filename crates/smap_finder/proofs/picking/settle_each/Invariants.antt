@@ -1,6 +1,7 @@
-use Rattle.std.specs.List.{All}
-use Rattle.smap_finder.specs.Choice.{IsPickedBy}
+use Rattle.std.proofs.Common.{map, take}
+use Rattle.smap_finder.specs.Choice.{AreChoices}
 use Rattle.smap_finder.proofs.picking.settle_each.Given as goal
 
 abbrev pub invariant-loop-i : goal.invariant-loop-i
-invariant-loop-i g l = All (IsPickedBy (g.D.Disk.held l.host.disk.now) l.wanted) l.settled.items
+invariant-loop-i g l = AreChoices (g.D.Disk.held l.host.disk.now) l.wanted (take l.i (map (λ n. n.now) l.names))
+    l.settled.items

@@ -1,0 +1,62 @@
+-- What was chosen, as lists.
+use Rattle.std.proofs.Common.{◌≡◌, ◌++◌, ◌∷◌, ◌+◌, ◌<◌, [], refl, suc, zero, ℕ, Bool, true, List, length}
+use Rattle.std.proofs.Common.{Some, string_bytes, inl, inr, not, false, arith, map}
+use Rattle.std.specs.Bool.{beq}
+use Rattle.std.specs.List.{All, Contains, slice_get}
+use Rattle.std.proofs.lemmas.Bool.{cases_lt, cond_both}
+use Rattle.std.proofs.lemmas.List.{map-append}
+use Rattle.std.proofs.lemmas.List.Elements.{All-cons, All-head, All-nil, All-tail, Contains-append_left, Contains-push}
+use Rattle.indexmap.specs.IndexMap.{insert_entry}
+use Rattle.smap_finder.specs.ChosenView.{Choices, Has, Serves}
+use Rattle.smap_finder.specs.declared.chosen.MappedName.{MappedName}
+use Rattle.smap_finder.specs.declared.chosen.Opening.{Opening}
+use Rattle.smap_record.specs.Record.{ReadMap}
+
+pub same_bool : (a b : Bool) → not (beq a b) ≡ false → a ≡ b
+same_bool a b e = grind arith
+
+-- what stands at one place
+pub same_at : {X : Type 0} (xs : List X) (i j : ℕ) (x y : X) → slice_get xs i ≡ Some x → slice_get xs j ≡ Some y
+    → j ≡ i → x ≡ y
+same_at xs i j x y a b e = let there = rw e at b in cc
+
+pub kept_at : {X : Type 0} (xs ys : List X) (i : ℕ) (x : X) → slice_get xs i ≡ Some x → slice_get (xs ++ ys) i ≡ Some x
+kept_at [] ys i x e = absurd cc
+kept_at (y ∷ xs) ys zero x e = e
+kept_at (y ∷ xs) ys (suc i) x e = kept_at xs ys i x e
+
+pub pushed_at : {X : Type 0} (xs : List X) (x : X) → slice_get (xs ++ x ∷ []) (length xs) ≡ Some x
+pushed_at [] x = refl
+pushed_at (y ∷ xs) x = pushed_at xs x
+
+-- of all entries, once one is inserted
+pub all_inserted : {K V : Type 0} (P : K × V → Type 0) (eq : K → K → Bool) (es : List (K × V)) (k : K) (v : V)
+    → All P es → ((e : K × V) → eq k e.0 ≡ true → P (e.0, v)) → P (k, v) → All P (insert_entry eq es k v)
+all_inserted P eq [] k v all same p = All-cons P (k, v) [] p (All-nil P)
+all_inserted P eq (e ∷ es) k v all same p =
+    cond_both (eq k e.0) ((e.0, v) ∷ es) (e ∷ insert_entry eq es k v) (All P)
+    (λ is. All-cons P (e.0, v) es (same e is) (All-tail P e es all))
+    (λ _. All-cons P e (insert_entry eq es k v) (All-head P e es all)
+    (all_inserted P eq es k v (All-tail P e es all) same p))
+
+pub serves_same : (o p : Opening) (n k : MappedName) (name : List ℕ) → o ≡ p → n ≡ k → name ≡ string_bytes k.name
+    → Serves p.name.items p.found name k.found → Serves o.name.items o.found (string_bytes n.name) n.found
+serves_same o p n k name eo en is s = rw (eo, en) (rw is at s)
+
+-- the names up to this one are listed
+pub next_listed : (c : Choices) (i : ℕ) (names : List (List ℕ))
+    → ((name : List ℕ) (m : ReadMap) (h : Has c name m) → h.at < i → Contains names name)
+    → ((name : List ℕ) (m : ReadMap) (h : Has c name m) → h.at ≡ i → Contains names name)
+    → (name : List ℕ) (m : ReadMap) (h : Has c name m) → h.at < i + 1 → Contains names name
+next_listed c i names old new name m h lt = elim (cases_lt h.at i)
+    [ inl less ↦ old name m h less | inr more ↦ new name m h (omega arith) ]
+
+-- one more is listed
+pub listed_last : {X : Type 0} (f : X → List ℕ) (xs : List X) (x : X) (name : List ℕ) → Some (f x) ≡ Some name
+    → Contains (map f (xs ++ x ∷ [])) name
+listed_last f xs x name is = let same : f x ≡ name = cc in
+    rw (map-append f xs (x ∷ []), same) (Contains-push (map f xs) name)
+
+pub listed_before : {X : Type 0} (f : X → List ℕ) (xs ys : List X) (name : List ℕ) → Contains (map f xs) name
+    → Contains (map f (xs ++ ys)) name
+listed_before f xs ys name h = rw (map-append f xs ys) (Contains-append_left (map f xs) (map f ys) name h)

@@ -1,0 +1,162 @@
+-- What was chosen stays while more is.
+use Rattle.std.proofs.Common.{◌≡◌, ◌⊎◌, ◌≤◌, arith, inl, inr, refl, subst, ℕ, Bool, List, Bor, get_or}
+use Rattle.std.proofs.Common.{Option, None, Some, Result, Ok, Err, MatchResult, OnOk, option_map, sym}
+use Rattle.std.specs.List.{All, Contains}
+use Rattle.std.proofs.lemmas.List.Elements.{All-contains}
+use Rattle.smap_arguments.specs.declared.wanted.Wanted.{Wanted}
+use Rattle.smap_disk.specs.Held.{Held}
+use Rattle.smap_pick.specs.declared.finding.Found.{Found}
+use Rattle.smap_pick.specs.declared.finding.Found.TheVariants.{Given, ByEnd, Unclear, Missing}
+use Rattle.smap_pick.specs.declared.finding.Pick.{Pick}
+use Rattle.smap_record.specs.Record.{ReadMap}
+use Rattle.smap_finder.proofs.ChoiceLemmas.{one_of}
+use Rattle.smap_finder.specs.Choice.{IsUnopened, opening_name}
+use Rattle.smap_finder.specs.ChosenView.{AreChosen, Choices, GivesNone, Grows, HasMap, HasNone, IsFor, IsLeft, IsLeftOut}
+use Rattle.smap_finder.specs.ChosenView.{IsFind, IsServedBy, IsSettledIn, IsTried, Serves, further}
+use Rattle.smap_finder.specs.declared.chosen.Opening.{Opening}
+
+pub unopened_worse : (held : Held) (w : Wanted) (name : List ℕ) (found : Found) (worst worse : ℕ)
+    → worst ≤ worse → IsUnopened held w name found worst → IsUnopened held w name found worse
+unopened_worse held w name found worst worse le is = tt
+
+pub tried_worse : (held : Held) (w : Wanted) (worst worse : ℕ) (name : List ℕ) (found : Found) (map : Option ReadMap)
+    → worst ≤ worse → IsTried held w worst name found map → IsTried held w worse name found map
+tried_worse held w worst worse name found (Some m) le is = is
+tried_worse held w worst worse name found None le is =
+    unopened_worse held w (opening_name w name found) found worst worse le is
+
+gives_worse : (held : Held) (w : Wanted) (worst worse : ℕ) (name : List ℕ) (found : Found) → worst ≤ worse
+    → GivesNone held w worst name found → GivesNone held w worse name found
+gives_worse held w worst worse name found le g = record {
+  opened = g.opened;
+  opened_for = g.opened_for;
+  served = g.served;
+  without = unopened_worse held w (opening_name w g.opened g.opened_for) g.opened_for worst worse le g.without;
+}
+
+none_worse : (held : Held) (w : Wanted) (c d : Choices) (name : List ℕ) (found : Found) → c.again ≤ d.again
+    → c.worst ≤ d.worst → HasNone held w c name found → HasNone held w d name found
+none_worse held w c d name (Given i) a le h = gives_worse held w c.worst d.worst name (Given i) le h
+none_worse held w c d name (ByEnd i) a le (inl crowded) = inl (omega (arith, crowded, a))
+none_worse held w c d name (ByEnd i) a le (inr gives) = inr (gives_worse held w c.worst d.worst name (ByEnd i) le gives)
+none_worse held w c d name (Unclear i j) a le h = h
+none_worse held w c d name Missing a le h = h
+
+pub left_worse : (held : Held) (w : Wanted) (in_frames : Bool) (c d : Choices) (name : List ℕ) → c.again ≤ d.again
+    → c.worst ≤ d.worst → IsLeft held w in_frames c name → IsLeft held w in_frames d name
+left_worse held w in_frames c d name a le (inl no_text) = inl no_text
+left_worse held w in_frames c d name a le (inr (found, picked, none)) =
+    inr (found, picked, none_worse held w c d name found a le none)
+
+pub chosen_further : (held : Held) (w : Wanted) (c : Choices) (again worst : ℕ) → c.again ≤ again → c.worst ≤ worst
+    → AreChosen held w c → AreChosen held w (further c again worst)
+chosen_further held w c again worst a le chosen = record {
+  names = chosen.names;
+  openings = λ k d lt. let o : Opening = get_or c.openings k d in
+      tried_worse held w c.worst worst o.name.items o.found o.map le (chosen.openings k d lt);
+  left = λ k d lt. left_worse held w (get_or c.left k d).1 c (further c again worst) (get_or c.left k d).0.items a le
+      (chosen.left k d lt);
+}
+
+pub serves_self : (name : List ℕ) (found : Found) → IsFind found → Serves name found name found
+serves_self name (Given i) f = refl
+serves_self name (ByEnd i) f = (refl, refl)
+serves_self name (Unclear i j) f = f
+serves_self name Missing f = f
+
+pub grows_self : (c : Choices) → Grows c c
+grows_self c = record {
+  mapped = λ i n is. is;
+  openings = λ i o is. is;
+  again = omega arith;
+  worst = omega arith;
+}
+
+pub grows_on : (a b c : Choices) → Grows a b → Grows b c → Grows a c
+grows_on a b c p q = record {
+  mapped = λ i n is. q.mapped i n (p.mapped i n is);
+  openings = λ i o is. q.openings i o (p.openings i o is);
+  again = omega (arith, p.again, q.again);
+  worst = omega (arith, p.worst, q.worst);
+}
+
+pub has_grown : (c d : Choices) (name : List ℕ) → Grows c d → HasMap c name → HasMap d name
+has_grown c d name g (m, has) = (
+  m,
+  record {
+    at = has.at;
+    mapped = has.mapped;
+    mapped_is = g.mapped has.at has.mapped has.mapped_is;
+    name_is = has.name_is;
+    opening = has.opening;
+    served = (g.openings has.mapped.number has.opening has.served.0, has.served.1);
+    map_is = has.map_is;
+  },
+)
+
+pub settled_grown : (held : Held) (w : Wanted) (in_frames : Bool) (c d : Choices) (name : List ℕ) → Grows c d
+    → IsSettledIn held w in_frames c name → IsSettledIn held w in_frames d name
+settled_grown held w in_frames c d name g (inl has) = inl (has_grown c d name g has)
+settled_grown held w in_frames c d name g (inr left) = inr (left_worse held w in_frames c d name g.again g.worst left)
+
+-- names that were settled before, and those that are now
+pub all_settled : (held : Held) (w : Wanted) (in_frames : Bool) (c d : Choices) (names : List (Bor (List ℕ)))
+    (fresh : List (List ℕ)) → Grows c d
+    → All (λ (n : Bor (List ℕ)). IsSettledIn held w in_frames c n.now ⊎ Contains fresh n.now) names
+    → All (IsSettledIn held w in_frames d) fresh → All (λ (n : Bor (List ℕ)). IsSettledIn held w in_frames d n.now) names
+all_settled held w in_frames c d names fresh g all new = λ k n lt. elim (all k n lt) [
+  | inl known ↦ settled_grown held w in_frames c d _ g known
+  | inr among ↦ All-contains (IsSettledIn held w in_frames d) fresh _ new among
+]
+
+pub on_ok : {A E : Type 0} {P Q : Type 0} (r : Result A E) → (P → Q) → OnOk r P → OnOk r Q
+on_ok (Ok a) f p = f p
+on_ok (Err e) f p = tt
+
+pub always_ok : {A E : Type 0} {Q : Type 0} (r : Result A E) → Q → OnOk r Q
+always_ok (Ok a) q = q
+always_ok (Err e) q = tt
+
+-- what was found is not opened
+pub none_out : (held : Held) (w : Wanted) (c : Choices) (name : List ℕ) (found : Found) → IsLeftOut c found
+    → HasNone held w c name found
+none_out held w c name (Given i) out = elim out [ ]
+none_out held w c name (ByEnd i) out = inl out
+none_out held w c name (Unclear i j) out = tt
+none_out held w c name Missing out = tt
+
+none_given : (held : Held) (w : Wanted) (c : Choices) (name : List ℕ) (found : Found)
+    → GivesNone held w c.worst name found → HasNone held w c name found
+none_given held w c name (Given i) gives = gives
+none_given held w c name (ByEnd i) gives = inr gives
+none_given held w c name (Unclear i j) gives = tt
+none_given held w c name Missing gives = tt
+
+-- what was looked for gave no map
+pub none_opened : (held : Held) (w : Wanted) (c : Choices) (name : List ℕ) (found : Found) (number : ℕ) (o : Opening)
+    → AreChosen held w c → IsServedBy c number name found o → o.map ≡ None → HasNone held w c name found
+none_opened held w c name found number o chosen served none =
+    let tried = one_of (IsFor held w c.worst) c.openings o number chosen.openings served.0 in
+    none_given held w c name found (record {
+      opened = o.name.items;
+      opened_for = o.found;
+      served = served.1;
+      without = subst (IsTried held w c.worst o.name.items o.found) none tried;
+    })
+
+-- names that were settled still are
+pub all_grown : (held : Held) (w : Wanted) (in_frames : Bool) (c d : Choices) (picks : List Pick) → Grows c d
+    → All (λ (p : Pick). IsSettledIn held w in_frames c p.name.now) picks
+    → All (λ (p : Pick). IsSettledIn held w in_frames d p.name.now) picks
+all_grown held w in_frames c d picks g all = λ k p lt. settled_grown held w in_frames c d _ g (all k p lt)
+
+-- what isn't text
+pub no_text : {A E : Type 0} (P : A → Type 0) (Q : E → Type 0) (IsText : Type 0) (r : Result A E)
+    → MatchResult r P (λ e. (IsText → ⊥) × Q e) → ((a : A) → r ≡ Ok a → ⊥) → IsText → ⊥
+no_text P Q IsText (Ok a) m never = absurd (never a refl)
+no_text P Q IsText (Err e) m never = m.0
+
+pub none_at : {M : Type 0} (r : Option (Bor M)) (m : Option M) → option_map (λ (b : Bor M). b.now) r ≡ m
+    → ((b : Bor M) → r ≡ Some b → ⊥) → m ≡ None
+none_at None m e never = sym e
+none_at (Some b) m e never = absurd (never b refl)

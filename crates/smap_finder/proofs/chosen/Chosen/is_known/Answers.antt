@@ -1,0 +1,11 @@
+use Rattle.std.proofs.Common.{inr, subst}
+use Rattle.smap_finder.specs.ChosenView.{IsLeft, IsLeftName, choices_of}
+use Rattle.smap_finder.proofs.ChoiceLemmas.{one_of}
+use Rattle.smap_finder.proofs.chosen.Chosen.is_known.Goals as goal
+
+pub returns-then-is_left : goal.returns-then-is_left
+returns-then-is_left c = λ held wanted chosen is.
+    let l = c.is_left.ensures is in
+    inr (subst (IsLeft held wanted c.args.in_frames (choices_of c.args.self.now)) l.3
+    (one_of (IsLeftName held wanted (choices_of c.args.self.now)) c.args.self.now.left.entries
+    (l.1, c.args.in_frames) l.0 chosen.left l.2))

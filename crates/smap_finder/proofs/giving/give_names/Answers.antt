@@ -1,0 +1,22 @@
+use Rattle.std.proofs.Common.{OnOk, List, subst}
+use Rattle.std.specs.List.{All}
+use Rattle.std.proofs.lemmas.List.Elements.{All-map}
+use Rattle.smap_disk.specs.Held.{Held}
+use Rattle.smap_finder.specs.ChosenView.{IsSettledIn, choices_of}
+use Rattle.smap_finder.proofs.GrowthLemmas.{on_ok}
+use Rattle.smap_pick.specs.declared.finding.Pick.{Pick}
+use Rattle.smap_finder.proofs.giving.give_names.Goals as goal
+
+pub returns-clause-settled : goal.returns-clause-settled
+returns-clause-settled g c =
+    let w = c.args.wanted.now in
+    let frames = c.args.in_frames in
+    let after = choices_of c.give_all.new.chosen in
+    let Is = IsSettledIn (g.D.Disk.held c.args.host.now.disk.now) w frames after in
+    let name_of = λ (p : Pick). p.name.now in
+    let settled : OnOk c.give_all.result (All (λ (p : Pick). Is p.name.now) c.in_ok-picks.picks.items) =
+    subst (λ (l : List Pick). OnOk c.give_all.result (All (λ (p : Pick). Is p.name.now) l)) c.deref.ensures.value
+    (subst (λ (h : Held). OnOk c.give_all.result (All (λ (p : Pick). IsSettledIn h w frames after p.name.now)
+    c.deref.result.now)) c.requires.over.held_is c.give_all.ensures.settled) in
+    on_ok c.give_all.result (λ all. subst (All Is) c.in_ok-picks.ensures.picked.named
+    (All-map Is name_of c.in_ok-picks.picks.items all)) settled

@@ -1,0 +1,331 @@
+//! The maps of the scripts that a log names, opened as the log first names them.
+ghost use Rattle.std.specs.Prelude.{◌≡◌, ◌<◌, ◌≤◌, ◌⊎◌, Bool, IfOk, IfSome, List, OnOk, false, map, true, ℕ};
+ghost use Rattle.std.specs.List.{All, Contains};
+ghost use Rattle.smap_disk.specs.Held.{Held};
+ghost use Rattle.smap_finder.specs.Choice.{ArePicked, IsPickedBy};
+ghost use Rattle.smap_finder.specs.ChosenView.{AreChosen, Choices, Grows, IsFind, IsJudged, IsNumberOf, IsOver};
+ghost use Rattle.smap_finder.specs.ChosenView.{IsLeftOut, IsServedBy, IsSettledIn, IsTried, choices_of};
+ghost use Rattle.smap_finder.specs.declared.chosen.Opening.{Opening};
+ghost use Rattle.smap_pick.specs.declared.finding.Found.{Found};
+
+use crate::chosen::{Chosen, How};
+use crate::loading::FileStore;
+use crate::opening::{Opener, opened_map};
+use crate::picking::{key_of_found, opening_name, picks_of};
+use crate::telling::tell_pick;
+use smap_arguments::Wanted;
+use smap_disk::Disk;
+use smap_host::{Host, Stop};
+use smap_pick::{Found, Pick};
+use smap_record::SourceMap;
+use std::alloc::{AllocError, Global};
+
+/// So often a file of a folder without a URL is opened at most for a further name, whose sources have other
+/// URLs: a log may have any number of names that end alike.
+const MOST_AGAIN: usize = 16;
+
+/// Whether a pick's file is opened.
+#[derive(Clone, Copy, Debug, PartialEq, Eq)]
+enum Turn {
+    First,
+    /// It was opened for another name.
+    Again,
+    Never,
+}
+
+/// Whether a pick is opened: a file that was opened for other names is so a few times more. Once it is not,
+/// that is said.
+fn turn_of<E: Eprint + AllocGlobal, D: Disk>(
+    host: &Host<'_, E, D>,
+    found: Found,
+    chosen: &mut Chosen,
+) -> Result<Turn, Stop>
+    ensures never { IfOk result (λ turn. turn ≡ Turn.Never → IsLeftOut (choices_of chosen.new) found) }
+    ensures chosen { (held : Held) (wanted : Wanted) → AreChosen held wanted (choices_of chosen.old)
+        → AreChosen held wanted (choices_of chosen.new) }
+    ensures grows { Grows (choices_of chosen.old) (choices_of chosen.new) }
+{
+    let Found::ByEnd(i) = found else {
+        return Ok(Turn::First);
+    };
+    if chosen.files.insert(i, ())?.is_none() {
+        return Ok(Turn::First);
+    }
+    if chosen.again > MOST_AGAIN {
+        return Ok(Turn::Never);
+    }
+    chosen.again = chosen.again.saturating_add(1);
+    if chosen.again <= MOST_AGAIN {
+        return Ok(Turn::Again);
+    }
+    host.say(
+        "many names in the log end as one file: those that are left as they are want URL/=FOLDER/",
+    );
+    Ok(Turn::Never)
+}
+
+/// Whether a map was found by a name.
+fn is_find(found: Found) -> bool
+    ensures find { result ≡ true → IsFind found }
+    ensures out { (c : Choices) → result ≡ false → IsLeftOut c found }
+{
+    match found {
+        Found::Given(_) | Found::ByEnd(_) => true,
+        Found::Unclear(_, _) | Found::Missing => false,
+    }
+}
+
+/// The map of what a name has, opened under the name that it has then.
+pub(crate) fn opened_under<E: Eprint + AllocGlobal, D: Disk>(
+    host: &Host<'_, E, D>,
+    store: &mut FileStore<'_, D>,
+    how: How,
+    wanted: &Wanted<'_>,
+    pick: &Pick<'_>,
+    worst: &mut u8,
+) -> Result<Option<SourceMap>, Stop>
+    ensures tried { IfOk result (IsTried (D.held store.old.disk.now) wanted.now worst.new pick.now.name.now
+        pick.now.found) }
+    ensures held { D.held store.new.disk.now ≡ D.held store.old.disk.now }
+    ensures worst { worst.old ≤ worst.new }
+{
+    let name = opening_name(host.alloc(), wanted, pick)?;
+    let under = Pick {
+        name: name.as_slice(),
+        found: pick.found,
+    };
+    opened_map(host, store, how, wanted, &under, worst)
+}
+
+/// Opens the map of a pick, and notes what became of it under this key.
+fn open_one<E: Eprint + AllocGlobal, D: Disk>(
+    host: &Host<'_, E, D>,
+    store: &mut FileStore<'_, D>,
+    how: How,
+    wanted: &Wanted<'_>,
+    pick: &Pick<'_>,
+    key: Vec<u8>,
+    chosen: &mut Chosen,
+) -> Result<usize, Stop>
+    requires chosen { AreChosen (D.held store.old.disk.now) wanted.now (choices_of chosen.old) }
+    requires find { IsFind pick.now.found }
+    ensures served { IfOk result (λ n. (o : Opening) × IsServedBy (choices_of chosen.new) n pick.now.name.now
+        pick.now.found o) }
+    ensures chosen { AreChosen (D.held store.old.disk.now) wanted.now (choices_of chosen.new) }
+    ensures grows { Grows (choices_of chosen.old) (choices_of chosen.new) }
+    ensures held { D.held store.new.disk.now ≡ D.held store.old.disk.now }
+{
+    let map = opened_under(host, store, how, wanted, pick, &mut chosen.worst)?;
+    let number = chosen.note_opening(host.alloc(), key, pick.name, pick.found, map)?;
+    Ok(number)
+}
+
+/// The number of what is looked for for a pick, which is opened if it isn't yet; none where it is opened for no
+/// further name.
+fn number_for<E: Eprint + AllocGlobal, D: Disk>(
+    host: &Host<'_, E, D>,
+    store: &mut FileStore<'_, D>,
+    how: How,
+    wanted: &Wanted<'_>,
+    pick: &Pick<'_>,
+    chosen: &mut Chosen,
+) -> Result<Option<usize>, Stop>
+    requires { AreChosen (D.held store.old.disk.now) wanted.now (choices_of chosen.old) }
+    ensures number { IfOk result (IsNumberOf (choices_of chosen.new) pick.now.name.now pick.now.found) }
+    ensures chosen { AreChosen (D.held store.old.disk.now) wanted.now (choices_of chosen.new) }
+    ensures grows { Grows (choices_of chosen.old) (choices_of chosen.new) }
+    ensures held { D.held store.new.disk.now ≡ D.held store.old.disk.now }
+{
+    if !is_find(pick.found) {
+        return Ok(None);
+    }
+    let key = key_of_found(host.alloc(), pick)?;
+    if let Some(number) = chosen.number_of(&key, pick.name, pick.found) {
+        return Ok(Some(number));
+    }
+    let turn = turn_of(host, pick.found, chosen)?;
+    if turn == Turn::Never {
+        return Ok(None);
+    }
+    let number = open_one(host, store, how, wanted, pick, key, chosen)?;
+    if turn == Turn::First && chosen.map_at(number).is_some() {
+        chosen.count = chosen.count.saturating_add(1);
+    }
+    Ok(Some(number))
+}
+
+/// Gives a name the map with this number, or notes that it has none.
+fn link_to(
+    alloc: Global,
+    in_frames: bool,
+    pick: &Pick<'_>,
+    number: usize,
+    chosen: &mut Chosen,
+) -> Result<(), AllocError>
+    ensures chosen { (held : Held) (wanted : Wanted) → AreChosen held wanted (choices_of chosen.old)
+        → IsPickedBy held wanted in_frames pick.now
+        → (o : Opening) × IsServedBy (choices_of chosen.old) number pick.now.name.now pick.now.found o
+        → AreChosen held wanted (choices_of chosen.new)
+        × OnOk result (IsSettledIn held wanted in_frames (choices_of chosen.new) pick.now.name.now) }
+    ensures grows { Grows (choices_of chosen.old) (choices_of chosen.new) }
+{
+    let Ok(name) = std::str::from_utf8(pick.name) else {
+        return chosen.note_left(alloc, pick.name, in_frames);
+    };
+    let Some(_) = chosen.map_at(number) else {
+        return chosen.note_left(alloc, pick.name, in_frames);
+    };
+    chosen.note_mapped(alloc, name, pick.found, number)
+}
+
+/// The same where there is such a number.
+fn link(
+    alloc: Global,
+    in_frames: bool,
+    pick: &Pick<'_>,
+    number: Option<usize>,
+    chosen: &mut Chosen,
+) -> Result<(), AllocError>
+    ensures chosen { (held : Held) (wanted : Wanted) → AreChosen held wanted (choices_of chosen.old)
+        → IsPickedBy held wanted in_frames pick.now
+        → IsNumberOf (choices_of chosen.old) pick.now.name.now pick.now.found number
+        → AreChosen held wanted (choices_of chosen.new)
+        × OnOk result (IsSettledIn held wanted in_frames (choices_of chosen.new) pick.now.name.now) }
+    ensures grows { Grows (choices_of chosen.old) (choices_of chosen.new) }
+{
+    match number {
+        Some(number) => link_to(alloc, in_frames, pick, number, chosen),
+        None => chosen.note_left(alloc, pick.name, in_frames),
+    }
+}
+
+/// Gives a name its map, which is opened if it isn't yet, or notes that it has none.
+fn give<E: Eprint + AllocGlobal, D: Disk>(
+    host: &Host<'_, E, D>,
+    store: &mut FileStore<'_, D>,
+    how: How,
+    wanted: &Wanted<'_>,
+    in_frames: bool,
+    pick: &Pick<'_>,
+    chosen: &mut Chosen,
+) -> Result<(), Stop>
+    requires chosen { AreChosen (D.held store.old.disk.now) wanted.now (choices_of chosen.old) }
+    requires picked { IsPickedBy (D.held store.old.disk.now) wanted.now in_frames pick.now }
+    ensures settled { OnOk result (IsSettledIn (D.held store.old.disk.now) wanted.now in_frames
+        (choices_of chosen.new) pick.now.name.now) }
+    ensures chosen { AreChosen (D.held store.old.disk.now) wanted.now (choices_of chosen.new) }
+    ensures grows { Grows (choices_of chosen.old) (choices_of chosen.new) }
+    ensures held { D.held store.new.disk.now ≡ D.held store.old.disk.now }
+{
+    let number = number_for(host, store, how, wanted, pick, chosen)?;
+    tell_pick(host, how, wanted, pick, chosen)?;
+    link(host.alloc(), in_frames, pick, number, chosen)?;
+    Ok(())
+}
+
+/// Gives each of these names its map, or notes that it has none.
+fn give_all<E: Eprint + AllocGlobal, D: Disk>(
+    host: &Host<'_, E, D>,
+    store: &mut FileStore<'_, D>,
+    how: How,
+    wanted: &Wanted<'_>,
+    in_frames: bool,
+    picks: &[Pick<'_>],
+    chosen: &mut Chosen,
+) -> Result<(), Stop>
+    requires chosen { AreChosen (D.held store.old.disk.now) wanted.now (choices_of chosen.old) }
+    requires picked { All (IsPickedBy (D.held store.old.disk.now) wanted.now in_frames) picks.now }
+    ensures settled { OnOk result (All (λ p. IsSettledIn (D.held store.old.disk.now) wanted.now in_frames
+        (choices_of chosen.new) p.name.now) picks.now) }
+    ensures chosen { AreChosen (D.held store.old.disk.now) wanted.now (choices_of chosen.new) }
+    ensures grows { Grows (choices_of chosen.old) (choices_of chosen.new) }
+    ensures held { D.held store.new.disk.now ≡ D.held store.old.disk.now }
+{
+    for i in 0..picks.len() {
+        give(host, store, how, wanted, in_frames, &picks[i], chosen)?;
+    }
+    Ok(())
+}
+
+/// Gives each of these names its map, once it is found which that is.
+fn give_names<E: Eprint + AllocGlobal, D: Disk>(
+    host: &Host<'_, E, D>,
+    opener: &mut Opener<'_, D>,
+    how: How,
+    wanted: &Wanted<'_>,
+    in_frames: bool,
+    names: &[&[u8]],
+    chosen: &mut Chosen,
+) -> Result<(), Stop>
+    requires chosen { AreChosen (D.held host.now.disk.now) wanted.now (choices_of chosen.old) }
+    requires over { IsOver D.held (D.held host.now.disk.now) wanted.now opener.old }
+    ensures settled { OnOk result (All (IsSettledIn (D.held host.now.disk.now) wanted.now in_frames
+        (choices_of chosen.new)) (map (λ n. n.now) names.now)) }
+    ensures chosen { AreChosen (D.held host.now.disk.now) wanted.now (choices_of chosen.new) }
+    ensures grows { Grows (choices_of chosen.old) (choices_of chosen.new) }
+    ensures over { IsOver D.held (D.held host.now.disk.now) wanted.now opener.new }
+{
+    if names.is_empty() {
+        return Ok(());
+    }
+    let picks = picks_of(host, &mut opener.table, wanted, in_frames, names)?;
+    let store = &mut opener.store;
+    give_all(host, store, how, wanted, in_frames, &picks, chosen)
+}
+
+/// Those of these names that aren't known yet.
+fn unknown<'a>(
+    alloc: Global,
+    in_frames: bool,
+    names: &[&'a [u8]],
+    chosen: &Chosen,
+) -> Result<Vec<&'a [u8]>, AllocError>
+    ensures { (held : Held) (wanted : Wanted) → AreChosen held wanted (choices_of chosen.now)
+        → IfOk result (λ fresh. All (λ n. IsSettledIn held wanted in_frames (choices_of chosen.now) n.now
+        ⊎ Contains (map (λ f. f.now) fresh.items) n.now) names.now) }
+{
+    let mut unknown = Vec::new(alloc);
+    for i in 0..names.len() {
+        if chosen.is_known(names[i], in_frames) {
+            continue;
+        }
+        unknown.push(names[i])?;
+    }
+    Ok(unknown)
+}
+
+/// Ends the run where a map is refused, unless broken maps are skipped.
+pub(crate) fn judge(how: How, chosen: &Chosen) -> Result<(), Stop>
+    ensures { OnOk result (IsJudged how.skip (choices_of chosen.now)) }
+{
+    if chosen.worst > 0 && !how.skip {
+        return Err(Stop::Said(chosen.worst));
+    }
+    Ok(())
+}
+
+/// Gives each of these names of a log its map, or finds that it has none: names that frames have, or other texts
+/// with a position behind them. Maps are opened that aren't yet. Each map that is refused is named; then the run
+/// ends, unless broken maps are skipped.
+pub fn open_for<E: Eprint + AllocGlobal, D: Disk>(
+    host: &Host<'_, E, D>,
+    opener: &mut Opener<'_, D>,
+    how: How,
+    wanted: &Wanted<'_>,
+    in_frames: bool,
+    names: &[&[u8]],
+    chosen: &mut Chosen,
+) -> Result<(), Stop>
+    requires named { AreChosen (D.held host.now.disk.now) wanted.now (choices_of chosen.old) }
+    requires over { IsOver D.held (D.held host.now.disk.now) wanted.now opener.old }
+    ensures settled { OnOk result (All (λ n. IsSettledIn (D.held host.now.disk.now) wanted.now in_frames
+        (choices_of chosen.new) n.now) names.now) }
+    ensures judged { OnOk result (IsJudged how.skip (choices_of chosen.new)) }
+    ensures named { AreChosen (D.held host.now.disk.now) wanted.now (choices_of chosen.new) }
+    ensures grows { Grows (choices_of chosen.old) (choices_of chosen.new) }
+    ensures over { IsOver D.held (D.held host.now.disk.now) wanted.now opener.new }
+{
+    let fresh = unknown(host.alloc(), in_frames, names, chosen)?;
+    give_names(host, opener, how, wanted, in_frames, &fresh, chosen)?;
+    judge(how, chosen)
+}
