@@ -9,11 +9,11 @@ use Rattle.std.proofs.lemmas.Option.{get_or_from_slice_get, slice_get-get_or, sl
 use Rattle.smap_disk.specs.Held.{Held, IsHeld}
 use Rattle.smap_finder.specs.Choice.{AreChoices, ArePicksIn, ArePicksOf, IsFoundIn, NamesMap, files_of, is_half_unclear}
 use Rattle.smap_finder.specs.Choice.{places_of}
-use Rattle.smap_finder.specs.Given.{Folder, IsTaken, Names}
+use Rattle.smap_finder.specs.Given.{Folder, IsFollowed, Names, folder_for}
 use Rattle.smap_finder.specs.declared.following.Followed.TheVariants as followed
 use Rattle.smap_arguments.specs.declared.wanted.Wanted.{Wanted}
 use Rattle.smap_pick.specs.Finding.{IsPick}
-use Rattle.smap_pick.specs.Places.{scripts_of}
+use Rattle.smap_pick.specs.Places.{MapPlace, scripts_of}
 use Rattle.smap_pick.specs.declared.finding.Pick.{Pick}
 use Rattle.smap_pick.specs.declared.places.Place.{Place}
 
@@ -26,16 +26,14 @@ file_at w i v is = slice_get-map (λ (f : Vec ℕ). f.items) w.files.items i
     ∙ ap (option_map (λ (f : Vec ℕ). f.items)) is
 
 -- a script whose text was followed to this file names it
-pub names_map : (held : Held) (root : Option Folder) (script text file : List ℕ) (place : Place)
-    → IsHeld held script text → IsTaken root script text (followed.File place) → place.file.items ≡ file
-    → NamesMap held root script file
-names_map None root script text file place is taken same = tt
-names_map (Some held) root script text file place is taken same = record {
-  folder = taken.folder;
-  is_folder = taken.is_folder;
+pub names_map : (held : Held) (root : Option Folder) (script : MapPlace) (text file : List ℕ) (place : Place)
+    → IsHeld held script.file text → IsFollowed (folder_for root script) script text (followed.File place)
+    → place.file.items ≡ file → NamesMap held root script file
+names_map None root script text file place is followed same = tt
+names_map (Some held) root script text file place is followed same = record {
   text = text;
   held_is = is;
-  names = subst (Names taken.folder script text) same taken.followed_is;
+  names = subst (Names (folder_for root script) script.file text) same followed.0;
 }
 
 abbrev names_in : List (Bor (List ℕ)) → List (List ℕ)

@@ -1,6 +1,6 @@
 -- What was chosen stays while more is.
 use Rattle.std.proofs.Common.{◌≡◌, ◌⊎◌, ◌≤◌, arith, inl, inr, refl, subst, ℕ, Bool, List, Bor, get_or}
-use Rattle.std.proofs.Common.{Option, None, Some, Result, Ok, Err, MatchResult, OnOk, option_map, sym}
+use Rattle.std.proofs.Common.{Option, None, Some, Result, Ok, Err, IfNone, IfOk, IfSome, MatchResult, OnOk, option_map, sym}
 use Rattle.std.specs.List.{All, Contains}
 use Rattle.std.proofs.lemmas.List.Elements.{All-contains}
 use Rattle.smap_arguments.specs.declared.wanted.Wanted.{Wanted}
@@ -10,14 +10,38 @@ use Rattle.smap_pick.specs.declared.finding.Found.TheVariants.{Given, ByEnd, Unc
 use Rattle.smap_pick.specs.declared.finding.Pick.{Pick}
 use Rattle.smap_record.specs.Record.{ReadMap}
 use Rattle.smap_finder.proofs.ChoiceLemmas.{one_of}
-use Rattle.smap_finder.specs.Choice.{IsUnopened, opening_name}
-use Rattle.smap_finder.specs.ChosenView.{AreChosen, Choices, GivesNone, Grows, HasMap, HasNone, IsFor, IsLeft, IsLeftOut}
+use Rattle.smap_finder.specs.Choice.{IsOpenedAs, IsUnopened, has_base, opening_name, root_of}
+use Rattle.smap_finder.specs.Given.{Folder}
+use Rattle.smap_finder.specs.Opened.{GivesNone}
+use Rattle.smap_pick.specs.Places.{MapPlace}
+use Rattle.smap_finder.specs.ChosenView.{AreChosen, Choices, IsWithoutMap, Grows, HasMap, HasNone, IsFor, IsLeft, IsNotOpened}
 use Rattle.smap_finder.specs.ChosenView.{IsFind, IsServedBy, IsSettledIn, IsTried, Serves, further}
 use Rattle.smap_finder.specs.declared.chosen.Opening.{Opening}
 
+refused_worse : (held : Held) (root : Option Folder) (has_base : Bool) (place : MapPlace) (worst worse : ℕ)
+    → worst ≤ worse → GivesNone held root has_base place worst → GivesNone held root has_base place worse
+refused_worse held root has_base place worst worse le (inl out) = inl out
+refused_worse held root has_base place worst worse le (inr refused) =
+    let bad = refused.is_bad in
+    inr (record { is_bad = omega (arith, le, bad); why = refused.why; reached = refused.reached })
+
 pub unopened_worse : (held : Held) (w : Wanted) (name : List ℕ) (found : Found) (worst worse : ℕ)
     → worst ≤ worse → IsUnopened held w name found worst → IsUnopened held w name found worse
-unopened_worse held w name found worst worse le is = tt
+unopened_worse held w name found worst worse le (inl none) = inl none
+unopened_worse held w name found worst worse le (inr (place, is, gives)) =
+    inr (place, is, refused_worse held (root_of w found) (has_base w found) place worst worse le gives)
+
+-- what became of opening the map of what a name has
+pub tried_as : {E : Type 0} (held : Held) (w : Wanted) (worst : ℕ) (name under : List ℕ) (found : Found)
+    (r : Result (Option ReadMap) E) → under ≡ opening_name w name found
+    → IfOk r (λ o. IfSome o (IsOpenedAs held w under found))
+    → IfOk r (λ o. IfNone o (IsUnopened held w under found worst))
+    → IfOk r (IsTried held w worst name found)
+tried_as held w worst name under found (Ok (Some m)) same opened none =
+    subst (λ (n : List ℕ). IsOpenedAs held w n found m) same opened
+tried_as held w worst name under found (Ok None) same opened none =
+    subst (λ (n : List ℕ). IsUnopened held w n found worst) same none
+tried_as held w worst name under found (Err e) same opened none = tt
 
 pub tried_worse : (held : Held) (w : Wanted) (worst worse : ℕ) (name : List ℕ) (found : Found) (map : Option ReadMap)
     → worst ≤ worse → IsTried held w worst name found map → IsTried held w worse name found map
@@ -26,7 +50,7 @@ tried_worse held w worst worse name found None le is =
     unopened_worse held w (opening_name w name found) found worst worse le is
 
 gives_worse : (held : Held) (w : Wanted) (worst worse : ℕ) (name : List ℕ) (found : Found) → worst ≤ worse
-    → GivesNone held w worst name found → GivesNone held w worse name found
+    → IsWithoutMap held w worst name found → IsWithoutMap held w worse name found
 gives_worse held w worst worse name found le g = record {
   opened = g.opened;
   opened_for = g.opened_for;
@@ -118,7 +142,7 @@ always_ok (Ok a) q = q
 always_ok (Err e) q = tt
 
 -- what was found is not opened
-pub none_out : (held : Held) (w : Wanted) (c : Choices) (name : List ℕ) (found : Found) → IsLeftOut c found
+pub none_out : (held : Held) (w : Wanted) (c : Choices) (name : List ℕ) (found : Found) → IsNotOpened c found
     → HasNone held w c name found
 none_out held w c name (Given i) out = elim out [ ]
 none_out held w c name (ByEnd i) out = inl out
@@ -126,7 +150,7 @@ none_out held w c name (Unclear i j) out = tt
 none_out held w c name Missing out = tt
 
 none_given : (held : Held) (w : Wanted) (c : Choices) (name : List ℕ) (found : Found)
-    → GivesNone held w c.worst name found → HasNone held w c name found
+    → IsWithoutMap held w c.worst name found → HasNone held w c name found
 none_given held w c name (Given i) gives = gives
 none_given held w c name (ByEnd i) gives = inr gives
 none_given held w c name (Unclear i j) gives = tt

@@ -11,13 +11,13 @@ use Rattle.smap_link.specs.Urls.{is_path}
 use Rattle.smap_pick.specs.Finding.{ArePicks, IsFound}
 use Rattle.smap_pick.specs.Opening.{found_place}
 use Rattle.smap_pick.specs.PlaceView.{places_in}
-use Rattle.smap_pick.specs.Places.{MapPlace, scripts_of}
+use Rattle.smap_pick.specs.Places.{MapPlace, scripts_of, usual_place}
 use Rattle.smap_pick.specs.declared.finding.Found.{Found}
 use Rattle.smap_pick.specs.declared.finding.Found.TheVariants.{Given, ByEnd, Unclear, Missing}
 use Rattle.smap_pick.specs.declared.finding.Pick.{Pick}
 use Rattle.smap_record.specs.Record.{ReadMap}
-use Rattle.smap_finder.specs.Given.{Folder, IsFolder, Names}
-use Rattle.smap_finder.specs.Opened.{IsOpened}
+use Rattle.smap_finder.specs.Given.{Folder, Names, folder_for}
+use Rattle.smap_finder.specs.Opened.{GivesNone, IsOpened}
 use Rattle.smap_finder.specs.RootView.{folder_in}
 use Rattle.smap_arguments.specs.declared.wanted.Origin.{Origin}
 use Rattle.smap_arguments.specs.declared.wanted.Origin.TheVariants as origin
@@ -55,6 +55,18 @@ root_of w (ByEnd i) = option_and_then (root_at w) (slice_get w.file_roots.items 
 root_of w (Unclear i j) = None
 root_of w Missing = None
 
+abbrev pub gives_base : Option Origin → Bool
+gives_base None = false
+gives_base (Some (origin.Alone has_base)) = has_base
+gives_base (Some (origin.Below n)) = false
+
+-- The map's own URL was given with its argument.
+abbrev pub has_base : Wanted → Found → Bool
+has_base w (Given i) = gives_base (slice_get w.origins.items i)
+has_base w (ByEnd i) = false
+has_base w (Unclear i j) = false
+has_base w Missing = false
+
 -- ---- what a name has
 
 -- The map of the script that is meant, or the file that ends alike; of some names of files.
@@ -66,25 +78,24 @@ abbrev pub ArePicksIn : Wanted → List (List ℕ) → List (List ℕ) → List 
 ArePicksIn w files names picks = ArePicks true (scripts_of (places_of w)) files names picks
 
 -- The text of a script names the file of a map, seen from this folder.
-pub record NamesFile (held : List ℕ → Option (List ℕ)) (root : Option Folder) (script file : List ℕ) : Type 0 where
-  pub folder : Folder
-  pub is_folder : IsFolder root folder
+pub record NamesFile (held : List ℕ → Option (List ℕ)) (root : Option Folder) (script : MapPlace) (file : List ℕ)
+    : Type 0 where
   pub text : List ℕ
-  pub held_is : held script ≡ Some text
-  pub names : Names folder script text file
+  pub held_is : held script.file ≡ Some text
+  pub names : Names (folder_for root script) script.file text file
 
 -- The same, where it is said what files hold.
-abbrev pub NamesMap : Held → Option Folder → List ℕ → List ℕ → Type 0
+abbrev pub NamesMap : Held → Option Folder → MapPlace → List ℕ → Type 0
 NamesMap None root script file = ⊤
 NamesMap (Some held) root script file = NamesFile held root script file
 
--- The script with this number among the files names the map with that.
-pub record Links (held : Held) (w : Wanted) (script file : ℕ) : Type 0 where
+-- The script with this number among the files, which is to have this name, names the map with that.
+pub record Links (held : Held) (w : Wanted) (name : List ℕ) (script file : ℕ) : Type 0 where
   pub script_name : List ℕ
   pub script_is : slice_get (files_of w) script ≡ Some script_name
   pub file_name : List ℕ
   pub file_is : slice_get (files_of w) file ≡ Some file_name
-  pub names : NamesMap held (root_of w (ByEnd script)) script_name file_name
+  pub names : NamesMap held (root_of w (ByEnd script)) (usual_place name script_name) file_name
 
 -- A script ends alike with the name, and names the map that does so.
 pub record IsThrough (held : Held) (w : Wanted) (name : List ℕ) (found : Found) : Type 0 where
@@ -93,7 +104,7 @@ pub record IsThrough (held : Held) (w : Wanted) (name : List ℕ) (found : Found
   pub by_script : IsFoundIn w (script_files_of w) name (ByEnd script)
   pub by_map : IsFoundIn w (map_files_of w) name (ByEnd file)
   pub found_is : found ≡ ByEnd (map_count_of w + script)
-  pub links : Links held w (map_count_of w + script) file
+  pub links : Links held w name (map_count_of w + script) file
 
 -- A map ends alike, and another file does.
 abbrev pub is_half_unclear : Wanted → Found → Bool
@@ -193,15 +204,17 @@ opening_name w name Missing = name
 pub record IsOpenedAs (held : Held) (w : Wanted) (name : List ℕ) (found : Found) (m : ReadMap) : Type 0 where
   pub place : MapPlace
   pub is_place : found_place (places_of w) (files_of w) name found ≡ Some place
-  pub opened : IsOpened held (root_of w found) place m
+  pub opened : IsOpened held (root_of w found) (has_base w found) place m
+
+-- None was opened by this name for this, and so much is the worst since: it has no place, or that gives none.
+abbrev pub IsUnopened : Held → Wanted → List ℕ → Found → ℕ → Type 0
+IsUnopened held w name found worst = (found_place (places_of w) (files_of w) name found ≡ None)
+    ⊎ ((place : MapPlace) × (found_place (places_of w) (files_of w) name found ≡ Some place)
+    × GivesNone held (root_of w found) (has_base w found) place worst)
 
 -- The map of what a name of a log has.
 abbrev pub IsOpenedFor : Held → Wanted → List ℕ → Found → ReadMap → Type 0
 IsOpenedFor held w name found m = IsOpenedAs held w (opening_name w name found) found m
-
--- None was opened by this name for this, and so much is the worst since.
-abbrev pub IsUnopened : Held → Wanted → List ℕ → Found → ℕ → Type 0
-IsUnopened held w name found worst = ⊤
 
 -- What this name has gives no map.
 abbrev pub IsWithout : Held → Wanted → ℕ → List ℕ → Found → Type 0

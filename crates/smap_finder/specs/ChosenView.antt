@@ -87,7 +87,7 @@ abbrev pub IsCrowded : Choices → Type 0
 IsCrowded c = MOST_AGAIN < c.again
 
 -- What it has was looked for, for it or for a name that it serves, and gives no map.
-pub record GivesNone (held : Held) (w : Wanted) (worst : ℕ) (name : List ℕ) (found : Found) : Type 0 where
+pub record IsWithoutMap (held : Held) (w : Wanted) (worst : ℕ) (name : List ℕ) (found : Found) : Type 0 where
   pub opened : List ℕ
   pub opened_for : Found
   pub served : Serves opened opened_for name found
@@ -95,22 +95,22 @@ pub record GivesNone (held : Held) (w : Wanted) (worst : ℕ) (name : List ℕ) 
 
 -- What was found for a name gives no map.
 abbrev pub HasNone : Held → Wanted → Choices → List ℕ → Found → Type 0
-HasNone held w c name (Given i) = GivesNone held w c.worst name (Given i)
-HasNone held w c name (ByEnd i) = IsCrowded c ⊎ GivesNone held w c.worst name (ByEnd i)
+HasNone held w c name (Given i) = IsWithoutMap held w c.worst name (Given i)
+HasNone held w c name (ByEnd i) = IsCrowded c ⊎ IsWithoutMap held w c.worst name (ByEnd i)
 HasNone held w c name (Unclear i j) = ⊤
 HasNone held w c name Missing = ⊤
 
 -- What was found is not opened: nothing was, or its file was opened for other names too often.
-abbrev pub IsLeftOut : Choices → Found → Type 0
-IsLeftOut c (Given i) = ⊥
-IsLeftOut c (ByEnd i) = IsCrowded c
-IsLeftOut c (Unclear i j) = ⊤
-IsLeftOut c Missing = ⊤
+abbrev pub IsNotOpened : Choices → Found → Type 0
+IsNotOpened c (Given i) = ⊥
+IsNotOpened c (ByEnd i) = IsCrowded c
+IsNotOpened c (Unclear i j) = ⊤
+IsNotOpened c Missing = ⊤
 
 -- This is the number of what was looked for for a name, or none is.
 abbrev pub IsNumberOf : Choices → List ℕ → Found → Option ℕ → Type 0
 IsNumberOf c name found (Some number) = (o : Opening) × IsServedBy c number name found o
-IsNumberOf c name found None = IsLeftOut c found
+IsNumberOf c name found None = IsNotOpened c found
 
 -- A name is left without a map: it is no text, or what it has gives none.
 abbrev pub IsLeft : Held → Wanted → Bool → Choices → List ℕ → Type 0

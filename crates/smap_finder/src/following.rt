@@ -1,13 +1,16 @@
 //! The map that a script names.
-ghost use Rattle.std.specs.Prelude.{◌≡◌, IfOk, IfSome};
+ghost use Rattle.std.specs.Prelude.{◌≡◌, ◌⊎◌, ◌≤◌, IfErr, IfOk, MatchOption, false, length};
+ghost use Rattle.smap_link.specs.Alike.{own_url as own_url_of};
+ghost use Rattle.smap_link.specs.Inline.{is_data};
+ghost use Rattle.smap_pick.specs.PlaceView.{place_in};
 ghost use Rattle.smap_finder.specs.Given as spec;
-ghost use Rattle.smap_finder.specs.Given.{IsFollowed, IsFollowedBy, IsTaken};
+ghost use Rattle.smap_finder.specs.Given.{IsFollowed, IsFollowedBy};
 ghost use Rattle.smap_finder.specs.RootView.{folder_of};
 
 use smap_arguments::Root;
 use smap_disk::{Disk, Kind};
 use smap_host::{Host, Stop, shown};
-use smap_link::{InlineFault, bare, inline_map, link_in, own_url, resolved};
+use smap_link::{InlineFault, LinkFault, bare, inline_map, link_in, own_url, resolved};
 use smap_pick::{LinkedFault, Place, below, linked_name};
 use std::alloc::{AllocError, Global};
 
@@ -27,22 +30,36 @@ pub(crate) enum Followed {
     Wrong(String),
 }
 
-/// The folder of a script that is named by itself: its URL, and its path.
-fn own_folder<'a>(url: &'a [u8], file: &'a str) -> (&'a [u8], &'a str) {
-    let url = bare(url);
-    let size = match url.iter().rposition(|b| *b == b'/' || *b == b'\\') {
-        Some(i) => i.saturating_add(1),
-        None => 0,
-    };
-    let url = match url.get(..size) {
-        Some(folder) if size > 0 => folder,
-        _ => b"/".as_slice(),
-    };
-    let folder = match file.rsplit_once('/') {
+/// How many bytes are behind the last slash or backslash of a URL.
+fn last_size(url: &[u8]) -> usize
+    ensures value { result ≡ spec.last_size url.now }
+    ensures within { result ≤ length url.now }
+{
+    url.iter()
+        .rev()
+        .take_while(|b| !(**b == b'/' || **b == b'\\'))
+        .count()
+}
+
+/// The URL of the folder of what has this one.
+fn folder_url<'a>(url: &'a [u8]) -> &'a [u8]
+    ensures { result.now ≡ spec.folder_url url.now }
+{
+    let size = url.len() - last_size(url);
+    if size == 0 {
+        return b"/".as_slice();
+    }
+    &url[..size]
+}
+
+/// The path of the folder of a file.
+fn folder_path<'a>(file: &'a str) -> &'a str
+    ensures { result.now ≡ spec.folder_path file.now }
+{
+    match file.rsplit_once('/') {
         Some((folder, _)) => folder,
         None => "",
-    };
-    (url, folder)
+    }
 }
 
 /// The name of a file below a folder with this path.
@@ -94,6 +111,37 @@ fn beside(alloc: Global, folder: &str, file: &[u8], name: Vec<u8>) -> Result<Vec
     Ok(found)
 }
 
+/// What is wrong with a file of a folder that a script names, if it can't be had.
+fn wrong_file<D: Disk>(
+    alloc: Global,
+    disk: &D,
+    folder: &str,
+    file: &[u8],
+) -> Result<Option<String>, AllocError> {
+    let Ok(text) = std::str::from_utf8(file) else {
+        return Ok(Some(wrong(alloc, "names a map that can't be read", file)?));
+    };
+    if disk.kind(text) == Kind::Missing {
+        return Ok(Some(wrong(alloc, "names a map that can't be read", file)?));
+    }
+    if !stays(alloc, disk, folder, text) {
+        return Ok(Some(wrong(alloc, "names what is no file of its folder", file)?));
+    }
+    Ok(None)
+}
+
+/// The own URL of the map that a script names by this one: that, seen from the script's, or else that of the
+/// place.
+fn linked_base(alloc: Global, script: &Place, url: &[u8]) -> Result<Vec<u8>, AllocError>
+    ensures { IfOk result (λ base. base.items ≡ spec.linked_base (place_in script.now) url.now) }
+{
+    match resolved(alloc, &script.script, url) {
+        Ok(base) => Ok(base.into_bytes()),
+        Err(LinkFault::Memory) => Err(AllocError),
+        Err(_) => Vec::from_slice(alloc, &script.base),
+    }
+}
+
 /// The map in a file that a script names, in a folder with this URL and this path.
 fn follow_file<D: Disk>(
     alloc: Global,
@@ -104,8 +152,11 @@ fn follow_file<D: Disk>(
     url: &[u8],
 ) -> Result<Followed, AllocError>
     ensures { IfOk result (IsFollowedBy (record { url = folder_url.now; path = folder.now })
-        script.now.file.items url.now) }
+        (place_in script.now) url.now) }
 {
+    if url.is_empty() || url.len() > LONGEST {
+        return Ok(Followed::Nothing);
+    }
     let name = name_below(folder, &script.file);
     let found = match linked_name(alloc, folder_url, name, url) {
         Ok(found) => found,
@@ -122,29 +173,21 @@ fn follow_file<D: Disk>(
         )?)),
     };
     let file = beside(alloc, folder, &script.file, found)?;
-    let Ok(text) = std::str::from_utf8(&file) else {
-        return Ok(Followed::Wrong(wrong(alloc, "names a map that can't be read", &file)?));
-    };
-    if disk.kind(text) == Kind::Missing {
-        return Ok(Followed::Wrong(wrong(alloc, "names a map that can't be read", &file)?));
+    if let Some(what) = wrong_file(alloc, disk, folder, &file)? {
+        return Ok(Followed::Wrong(what));
     }
-    if !stays(alloc, disk, folder, text) {
-        return Ok(Followed::Wrong(wrong(alloc, "names what is no file of its folder", &file)?));
-    }
-    let base = match resolved(alloc, &script.script, url) {
-        Ok(base) => base.into_bytes(),
-        Err(_) => Vec::from_slice(alloc, &script.base)?,
-    };
     Ok(Followed::File(Place {
         script: Vec::from_slice(alloc, &script.script)?,
         file,
-        base,
+        base: linked_base(alloc, script, url)?,
     }))
 }
 
 /// The bytes that a `data:` URL holds, if it is one.
 fn inline_in(alloc: Global, url: &[u8]) -> Result<Option<Vec<u8>>, InlineFault>
-    ensures { IfOk result (λ found. IfSome found (λ bytes. spec.IsInline url.now bytes.items)) }
+    ensures found { IfOk result (λ found. MatchOption found (is_data url.now ≡ false)
+        (λ bytes. spec.IsInline url.now bytes.items)) }
+    ensures fault { IfErr result (λ e. (e ≡ InlineFault.Memory) ⊎ spec.IsBadInline url.now) }
 {
     inline_map(alloc, url)
 }
@@ -159,50 +202,64 @@ fn follow_in<E: Eprint + AllocGlobal, D: Disk>(
     text: &[u8],
 ) -> Result<Followed, Stop>
     ensures { IfOk result (IsFollowed (record { url = folder_url.now; path = folder.now })
-        script.now.file.items text.now) }
+        (place_in script.now) text.now) }
 {
     let alloc = host.alloc();
     let Some(url) = link_in(&script.file, text) else {
         return Ok(Followed::Nothing);
     };
     match inline_in(alloc, url) {
-        Ok(Some(bytes)) => return Ok(Followed::Inline(bytes)),
-        Ok(None) => {}
-        Err(InlineFault::Memory) => return Err(Stop::Memory),
-        Err(_) => {
-            let text = String::from_str(alloc, "names a data: URL that can't be decoded")?;
-            return Ok(Followed::Wrong(text));
+        Ok(Some(bytes)) => Ok(Followed::Inline(bytes)),
+        Ok(None) => {
+            let followed = follow_file(alloc, host.disk, script, folder_url, folder, url)?;
+            Ok(followed)
         }
+        Err(fault) => match fault {
+            InlineFault::Memory => Err(Stop::Memory),
+            _ => {
+                let text = String::from_str(alloc, "names a data: URL that can't be decoded")?;
+                Ok(Followed::Wrong(text))
+            }
+        },
     }
-    if url.is_empty() || url.len() > LONGEST {
+}
+
+/// The same of a script that is named by itself: a file of its own folder.
+fn follow_alone<E: Eprint + AllocGlobal, D: Disk>(
+    host: &Host<'_, E, D>,
+    script: &Place,
+    text: &[u8],
+) -> Result<Followed, Stop>
+    ensures { IfOk result (IsFollowed (spec.own_folder (place_in script.now)) (place_in script.now) text.now) }
+{
+    let Ok(file) = std::str::from_utf8(&script.file) else {
         return Ok(Followed::Nothing);
-    }
-    let followed = follow_file(alloc, host.disk, script, folder_url, folder, url)?;
-    Ok(followed)
+    };
+    let url = folder_url(bare(&script.script));
+    let folder = folder_path(file);
+    follow_in(host, script, url, folder, text)
 }
 
 /// The map that the text of a script names: in a `data:` URL, or as a file of the folder that the script was
 /// found in, or else of its own.
-#[tactic(auto, using(crate::proofs::FollowingLemmas::taken, crate::proofs::FollowingLemmas::taken_in))]
 pub(crate) fn follow<E: Eprint + AllocGlobal, D: Disk>(
     host: &Host<'_, E, D>,
     script: &Place,
     root: Option<&Root>,
     text: &[u8],
 ) -> Result<Followed, Stop>
-    ensures { IfOk result (IsTaken (folder_of root.entry) script.now.file.items text.now) }
+    ensures { IfOk result (IsFollowed (spec.folder_for (folder_of root.entry) (place_in script.now))
+        (place_in script.now) text.now) }
 {
-    if let Some(root) = root {
-        return follow_in(host, script, &root.url, root.path.as_str(), text);
+    match root {
+        Some(root) => follow_in(host, script, &root.url, root.path.as_str(), text),
+        None => follow_alone(host, script, text),
     }
-    let Ok(file) = std::str::from_utf8(&script.file) else {
-        return Ok(Followed::Nothing);
-    };
-    let (url, folder) = own_folder(&script.script, file);
-    follow_in(host, script, url, folder, text)
 }
 
 /// The URL of a map that stands in its script.
-pub(crate) fn inline_base(alloc: Global, script: &[u8]) -> Result<Vec<u8>, AllocError> {
+pub(crate) fn inline_base(alloc: Global, script: &[u8]) -> Result<Vec<u8>, AllocError>
+    ensures { IfOk result (λ url. url.items ≡ own_url_of script.now) }
+{
     own_url(alloc, script)
 }

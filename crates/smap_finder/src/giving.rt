@@ -4,7 +4,7 @@ ghost use Rattle.std.specs.List.{All, Contains};
 ghost use Rattle.smap_disk.specs.Held.{Held};
 ghost use Rattle.smap_finder.specs.Choice.{ArePicked, IsPickedBy};
 ghost use Rattle.smap_finder.specs.ChosenView.{AreChosen, Choices, Grows, IsFind, IsJudged, IsNumberOf, IsOver};
-ghost use Rattle.smap_finder.specs.ChosenView.{IsLeftOut, IsServedBy, IsSettledIn, IsTried, choices_of};
+ghost use Rattle.smap_finder.specs.ChosenView.{IsNotOpened, IsServedBy, IsSettledIn, IsTried, choices_of};
 ghost use Rattle.smap_finder.specs.declared.chosen.Opening.{Opening};
 ghost use Rattle.smap_pick.specs.declared.finding.Found.{Found};
 
@@ -40,7 +40,7 @@ fn turn_of<E: Eprint + AllocGlobal, D: Disk>(
     found: Found,
     chosen: &mut Chosen,
 ) -> Result<Turn, Stop>
-    ensures never { IfOk result (λ turn. turn ≡ Turn.Never → IsLeftOut (choices_of chosen.new) found) }
+    ensures never { IfOk result (λ turn. turn ≡ Turn.Never → IsNotOpened (choices_of chosen.new) found) }
     ensures chosen { (held : Held) (wanted : Wanted) → AreChosen held wanted (choices_of chosen.old)
         → AreChosen held wanted (choices_of chosen.new) }
     ensures grows { Grows (choices_of chosen.old) (choices_of chosen.new) }
@@ -67,7 +67,7 @@ fn turn_of<E: Eprint + AllocGlobal, D: Disk>(
 /// Whether a map was found by a name.
 fn is_find(found: Found) -> bool
     ensures find { result ≡ true → IsFind found }
-    ensures out { (c : Choices) → result ≡ false → IsLeftOut c found }
+    ensures out { (c : Choices) → result ≡ false → IsNotOpened c found }
 {
     match found {
         Found::Given(_) | Found::ByEnd(_) => true,

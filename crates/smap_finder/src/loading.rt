@@ -1,6 +1,6 @@
 //! The files of maps, read.
 ghost use Rattle.std.specs.Prelude.{◌≡◌, ◌++◌, ◌∷◌, [], IfOk, OnErr, OnOk, map};
-ghost use Rattle.smap_finder.specs.Given.{IsLoaded, IsRead};
+ghost use Rattle.smap_finder.specs.Given.{IsContent, IsLoaded, IsRead, IsUnread};
 ghost use Rattle.smap_pick.specs.Memory.{names_in};
 ghost use Rattle.smap_pick.specs.Opening.{IsMadeOf};
 ghost use Rattle.smap_pick.specs.PlaceView.{place_in};
@@ -37,13 +37,19 @@ pub(crate) enum MapFault {
     Refused(Fault, Start),
 }
 
-/// What a file holds.
+/// What a file gives for a map.
 #[derive(Drop)]
 pub(crate) enum Loaded {
     Map(SourceMap),
+    Broken(MapFault),
+}
+
+/// What a file holds.
+#[derive(Drop)]
+pub(crate) enum Content {
+    Loaded(Loaded),
     /// The text of a script, which may name its map.
     Script(Vec<u8>),
-    Broken(MapFault),
 }
 
 fn start_of(bytes: &[u8]) -> Start {
@@ -86,30 +92,45 @@ pub(crate) struct FileStore<'a, D> {
     disk: &'a D,
     /// The names of the files that were opened, in order.
     opened: Vec<Vec<u8>>,
-    /// Whether a file with the name of a script is one.
-    scripts: bool,
 }
 
-/// What a file holds, read whole.
-fn load<D: Disk>(
-    alloc: Global,
-    disk: &D,
-    scripts: bool,
-    place: &Place,
-) -> Result<Loaded, AllocError>
+/// What a file gives that isn't read.
+fn unread(fault: FileFault) -> Result<Loaded, AllocError>
+    ensures { IfOk result IsUnread }
+{
+    match fault {
+        FileFault::TooLong => Ok(Loaded::Broken(MapFault::TooLong)),
+        FileFault::Read(_) => Ok(Loaded::Broken(MapFault::Unread)),
+        FileFault::Memory => Err(AllocError),
+    }
+}
+
+/// The map that a file is, whatever its name, or what is wrong with it.
+fn load_map<D: Disk>(alloc: Global, disk: &D, place: &Place) -> Result<Loaded, AllocError>
     ensures { IfOk result (IsMadeOf IsLoaded (D.held disk.now) (place_in place.now)) }
 {
     let Ok(file) = std::str::from_utf8(&place.file) else {
         return Ok(Loaded::Broken(MapFault::Unread));
     };
     match read_file(alloc, disk, file, LIMIT) {
-        Ok(bytes) if scripts && may_name_map(&place.file) && disk.kind(file) == Kind::File => {
-            Ok(Loaded::Script(bytes))
-        }
         Ok(bytes) => loaded_from(alloc, bytes, &place.base),
-        Err(FileFault::TooLong) => Ok(Loaded::Broken(MapFault::TooLong)),
-        Err(FileFault::Read(_)) => Ok(Loaded::Broken(MapFault::Unread)),
-        Err(FileFault::Memory) => Err(AllocError),
+        Err(fault) => unread(fault),
+    }
+}
+
+/// What a file holds, read whole.
+fn load<D: Disk>(alloc: Global, disk: &D, place: &Place) -> Result<Content, AllocError>
+    ensures { IfOk result (IsMadeOf IsContent (D.held disk.now) (place_in place.now)) }
+{
+    let Ok(file) = std::str::from_utf8(&place.file) else {
+        return Ok(Content::Loaded(Loaded::Broken(MapFault::Unread)));
+    };
+    match read_file(alloc, disk, file, LIMIT) {
+        Ok(bytes) if may_name_map(&place.file) && disk.kind(file) == Kind::File => {
+            Ok(Content::Script(bytes))
+        }
+        Ok(bytes) => Ok(Content::Loaded(loaded_from(alloc, bytes, &place.base)?)),
+        Err(fault) => Ok(Content::Loaded(unread(fault)?)),
     }
 }
 
@@ -120,16 +141,7 @@ impl<'a, D> FileStore<'a, D> {
         FileStore {
             disk,
             opened: Vec::new(alloc),
-            scripts: true,
         }
-    }
-
-    /// Takes each file for a map from now on, or scripts for scripts.
-    pub(crate) fn take_scripts(&mut self, scripts: bool)
-        ensures opened { self.new.opened ≡ self.old.opened }
-        ensures disk { self.new.disk ≡ self.old.disk }
-    {
-        self.scripts = scripts;
     }
 
     /// Notes that this file is opened.
@@ -145,13 +157,24 @@ impl<'a, D> FileStore<'a, D> {
             Err(_) => Err(AllocError),
         }
     }
+
+    /// Opens the file of a map, whatever its name.
+    pub(crate) fn open_map(&mut self, alloc: Global, place: &Place) -> Result<Loaded, AllocError>
+    where
+        D: Disk,
+        ensures loaded { IfOk result (IsMadeOf IsLoaded (D.held self.old.disk.now) (place_in place.now)) }
+        ensures disk { self.new.disk ≡ self.old.disk }
+    {
+        self.note(alloc, &place.file)?;
+        load_map(alloc, self.disk, place)
+    }
 }
 
 impl<D: Disk> Store for FileStore<'_, D> {
-    ghost use Rattle.smap_finder.specs.Given.{IsLoaded};
+    ghost use Rattle.smap_finder.specs.Given.{IsContent};
     ghost use Rattle.smap_pick.specs.Memory.{names_in};
 
-    type Map = Loaded;
+    type Map = Content;
 
     type Fault = NoFault;
 
@@ -159,14 +182,14 @@ impl<D: Disk> Store for FileStore<'_, D> {
 
     ghost held = { λ s. D.held s.disk.now };
 
-    ghost made_of = { λ held place it. IsLoaded held place it };
+    ghost made_of = { λ held place it. IsContent held place it };
 
-    fn open(&mut self, alloc: Global, place: &Place) -> Result<Loaded, OpenFault<NoFault>> {
+    fn open(&mut self, alloc: Global, place: &Place) -> Result<Content, OpenFault<NoFault>> {
         let Ok(()) = self.note(alloc, place.file.as_slice()) else {
             return Err(OpenFault::Memory);
         };
-        match load(alloc, self.disk, self.scripts, place) {
-            Ok(loaded) => Ok(loaded),
+        match load(alloc, self.disk, place) {
+            Ok(content) => Ok(content),
             Err(_) => Err(OpenFault::Memory),
         }
     }

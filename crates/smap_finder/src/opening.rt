@@ -1,17 +1,18 @@
 //! The maps of the scripts that a log names, opened as the log first names them.
-ghost use Rattle.std.specs.Prelude.{◌≡◌, ◌≤◌, IfOk, IfSome, List, None, Some, ℕ};
+ghost use Rattle.std.specs.Prelude.{◌≡◌, ◌<◌, ◌≤◌, cond, IfNone, IfOk, IfSome, IsSome, MatchOption, None, option_map};
 ghost use Rattle.smap_disk.specs.Held.{Held, IsHeld};
-ghost use Rattle.smap_finder.specs.Given.{IsLoaded, IsRead};
-ghost use Rattle.smap_finder.specs.Choice.{IsOpenedAs, files_of, places_of};
+ghost use Rattle.smap_finder.specs.Given.{IsContent, IsLoaded, IsRead};
+ghost use Rattle.smap_finder.specs.Choice.{IsOpenedAs, IsUnopened, files_of, places_of};
 ghost use Rattle.smap_finder.specs.ChosenView.{IsOver};
-ghost use Rattle.smap_finder.specs.Opened.{IsBroken, IsOpened, IsReached};
+ghost use Rattle.smap_finder.specs.Opened.{GivesNone, IsLeftOut, IsLink, IsOpened, IsReached, with_base, within_base};
 ghost use Rattle.smap_finder.specs.RootView.{folder_of};
 ghost use Rattle.smap_pick.specs.Opening.{IsMadeOf, found_place};
 ghost use Rattle.smap_pick.specs.PlaceView.{place_in};
+ghost use Rattle.smap_finder.specs.declared.loading.MapFault.{MapFault};
 
 use crate::chosen::How;
 use crate::following::{Followed, follow, inline_base};
-use crate::loading::{FileStore, Loaded, MapFault, loaded_from};
+use crate::loading::{Content, FileStore, Loaded, MapFault, loaded_from};
 use crate::roots::{has_base, root_of};
 use crate::telling::{say_fault, say_of, say_used};
 use smap_arguments::{Root, Wanted};
@@ -63,8 +64,8 @@ fn place_of(
     wanted: &Wanted<'_>,
     pick: &Pick<'_>,
 ) -> Result<Option<Place>, AllocError>
-    ensures { IfOk result (λ found. IfSome found (λ p. found_place (places_of wanted.now) (files_of wanted.now)
-        pick.now.name.now pick.now.found ≡ Some (place_in p))) }
+    ensures { IfOk result (λ found. option_map place_in found ≡ found_place (places_of wanted.now)
+        (files_of wanted.now) pick.now.name.now pick.now.found) }
 {
     match pick.found {
         Found::Given(i) => match wanted.places.get(i) {
@@ -89,23 +90,33 @@ pub(crate) fn copied(alloc: Global, place: &Place) -> Result<Place, AllocError>
     })
 }
 
+/// The URL that was given with the script, or else this one.
+fn given_base(alloc: Global, subject: &Subject<'_>, base: Vec<u8>) -> Result<Vec<u8>, AllocError>
+    ensures { IfOk result (λ it. it.items ≡ cond subject.now.has_base subject.now.place.base.items base.items) }
+{
+    if subject.has_base {
+        return Vec::from_slice(alloc, &subject.place.base);
+    }
+    Ok(base)
+}
+
 /// The map that stands in its script.
 fn inline_loaded<E: Eprint + AllocGlobal, D: Disk>(
     host: &Host<'_, E, D>,
     how: How,
     subject: &Subject<'_>,
     bytes: Vec<u8>,
-) -> Result<Option<(Place, Loaded)>, Stop>
-    ensures { IfOk result (λ found. IfSome found (λ f. (base : List ℕ) × IsRead base bytes.items f.1)) }
+) -> Result<(Place, Loaded), Stop>
+    ensures { IfOk result (λ f. IsRead (within_base subject.now.has_base (place_in subject.now.place))
+        bytes.items f.1) }
 {
     let alloc = host.alloc();
     say_used(host, how, subject, "inline map")?;
+    let base = inline_base(alloc, &subject.place.script)?;
     let mut own = copied(alloc, &subject.place)?;
-    if !subject.has_base {
-        own.base = inline_base(alloc, &subject.place.script)?;
-    }
+    own.base = given_base(alloc, subject, base)?;
     let loaded = loaded_from(alloc, bytes, &own.base)?;
-    Ok(Some((own, loaded)))
+    Ok((own, loaded))
 }
 
 /// What has the name of a script and names no map: the map itself, unless it is from a folder.
@@ -115,7 +126,8 @@ fn itself_loaded<E: Eprint + AllocGlobal, D: Disk>(
     subject: &Subject<'_>,
     text: Vec<u8>,
 ) -> Result<Option<(Place, Loaded)>, Stop>
-    ensures { IfOk result (λ found. IfSome found (λ f. IsRead subject.now.place.base.items text.items f.1)) }
+    ensures { IfOk result (λ found. MatchOption found (IsSome (folder_of subject.now.root))
+        (λ f. IsRead subject.now.place.base.items text.items f.1)) }
 {
     let alloc = host.alloc();
     if subject.root.is_some() {
@@ -132,9 +144,9 @@ fn beside_loaded<E: Eprint + AllocGlobal, D: Disk>(
     how: How,
     subject: &Subject<'_>,
     found: Place,
-) -> Result<Option<(Place, Loaded)>, Stop>
-    ensures found { IfOk result (λ f. IfSome f (λ it. (it.0.file.items ≡ found.file.items)
-        × IsMadeOf IsLoaded (D.held store.old.disk.now) (place_in it.0) it.1)) }
+) -> Result<(Place, Loaded), Stop>
+    ensures found { IfOk result (λ f. IsMadeOf IsLoaded (D.held store.old.disk.now)
+        (with_base subject.now.has_base subject.now.place.base.items (place_in found)) f.1) }
     ensures held { D.held store.new.disk.now ≡ D.held store.old.disk.now }
 {
     let alloc = host.alloc();
@@ -152,7 +164,8 @@ fn wrong_loaded<E: Eprint + AllocGlobal, D: Disk>(
     subject: &Subject<'_>,
     what: String,
 ) -> Result<Option<(Place, Loaded)>, Stop>
-    ensures { IfOk result (λ found. IfSome found (λ f. IsBroken f.1)) }
+    ensures { IfOk result (λ found. MatchOption found (IsSome (folder_of subject.now.root))
+        (λ f. (folder_of subject.now.root ≡ None) × IsLink f.1)) }
 {
     if subject.root.is_some() {
         return left_out(host, how, subject, what.as_str());
@@ -161,7 +174,7 @@ fn wrong_loaded<E: Eprint + AllocGlobal, D: Disk>(
     Ok(Some((copied(host.alloc(), &subject.place)?, broken)))
 }
 
-/// The map that a script names, with what is said of that.
+/// The map that a script names, with what is said of that; none if the script is left out.
 fn map_of_script<E: Eprint + AllocGlobal, D: Disk>(
     host: &Host<'_, E, D>,
     store: &mut FileStore<'_, D>,
@@ -170,16 +183,18 @@ fn map_of_script<E: Eprint + AllocGlobal, D: Disk>(
     text: Vec<u8>,
 ) -> Result<Option<(Place, Loaded)>, Stop>
     requires { IsHeld (D.held store.old.disk.now) subject.now.place.file.items text.items }
-    ensures reached { IfOk result (λ found. IfSome found (λ f. IsReached (D.held store.old.disk.now)
-        (folder_of subject.now.root) (place_in subject.now.place) f.1)) }
+    ensures reached { IfOk result (λ found. MatchOption found
+        (IsLeftOut (D.held store.old.disk.now) (folder_of subject.now.root) (place_in subject.now.place))
+        (λ f. IsReached (D.held store.old.disk.now) (folder_of subject.now.root) subject.now.has_base
+        (place_in subject.now.place) f.1)) }
     ensures held { D.held store.new.disk.now ≡ D.held store.old.disk.now }
 {
     match follow(host, &subject.place, subject.root, &text)? {
         Followed::Inline(bytes) => {
             drop(text);
-            inline_loaded(host, how, subject, bytes)
+            Ok(Some(inline_loaded(host, how, subject, bytes)?))
         }
-        Followed::File(found) => beside_loaded(host, store, how, subject, found),
+        Followed::File(found) => Ok(Some(beside_loaded(host, store, how, subject, found)?)),
         Followed::Nothing => itself_loaded(host, how, subject, text),
         Followed::Wrong(what) => wrong_loaded(host, how, subject, what),
     }
@@ -191,22 +206,18 @@ fn open_found<D: Disk>(
     store: &mut FileStore<'_, D>,
     subject: &Subject<'_>,
     found: Place,
-) -> Result<Option<(Place, Loaded)>, Stop>
-    ensures found { IfOk result (λ f. IfSome f (λ it. (it.0.file.items ≡ found.file.items)
-        × IsMadeOf IsLoaded (D.held store.old.disk.now) (place_in it.0) it.1)) }
+) -> Result<(Place, Loaded), Stop>
+    ensures found { IfOk result (λ f. IsMadeOf IsLoaded (D.held store.old.disk.now)
+        (with_base subject.now.has_base subject.now.place.base.items (place_in found)) f.1) }
     ensures held { D.held store.new.disk.now ≡ D.held store.old.disk.now }
 {
-    let mut found = found;
-    if subject.has_base {
-        found.base = Vec::from_slice(alloc, &subject.place.base)?;
-    }
-    store.take_scripts(false);
-    let opened = smap_pick::Store::open(store, alloc, &found);
-    store.take_scripts(true);
-    match opened {
-        Ok(loaded) => Ok(Some((found, loaded))),
-        Err(_) => Err(Stop::Memory),
-    }
+    let found = Place {
+        script: found.script,
+        file: found.file,
+        base: given_base(alloc, subject, found.base)?,
+    };
+    let loaded = store.open_map(alloc, &found)?;
+    Ok((found, loaded))
 }
 
 /// Leaves out a script from a folder that names no map that can be read.
@@ -233,7 +244,8 @@ fn map_in<E: Eprint + AllocGlobal, D: Disk>(
     loaded: Loaded,
     worst: &mut u8,
 ) -> Result<Option<SourceMap>, Stop>
-    ensures map { IfOk result (λ found. IfSome found (λ m. loaded ≡ Loaded.Map m)) }
+    ensures found { IfOk result (λ found. MatchOption found
+        ((why : MapFault) × ((loaded ≡ Loaded.Broken why) × (0 < worst.new))) (λ m. loaded ≡ Loaded.Map m)) }
     ensures worst { worst.old ≤ worst.new }
 {
     match loaded {
@@ -243,31 +255,33 @@ fn map_in<E: Eprint + AllocGlobal, D: Disk>(
             *worst = (*worst).max(status);
             Ok(None)
         }
-        Loaded::Script(_) => Ok(None),
     }
 }
 
 /// Takes what a file holds for a map, follows a script to its map, or says what is wrong.
-fn settle_loaded<E: Eprint + AllocGlobal, D: Disk>(
+fn settle_content<E: Eprint + AllocGlobal, D: Disk>(
     host: &Host<'_, E, D>,
     store: &mut FileStore<'_, D>,
     how: How,
     subject: &Subject<'_>,
-    loaded: Loaded,
+    content: Content,
     worst: &mut u8,
 ) -> Result<Option<SourceMap>, Stop>
-    requires { IsMadeOf IsLoaded (D.held store.old.disk.now) (place_in subject.now.place) loaded }
-    ensures opened { IfOk result (λ found. IfSome found (IsOpened (D.held store.old.disk.now)
-        (folder_of subject.now.root) (place_in subject.now.place))) }
-    ensures held { D.held store.new.disk.now ≡ D.held store.old.disk.now }
+    requires { IsMadeOf IsContent (D.held store.old.disk.now) (place_in subject.now.place) content }
+    ensures settled { IfOk result (λ found. MatchOption found
+        (GivesNone (D.held store.old.disk.now) (folder_of subject.now.root) subject.now.has_base
+        (place_in subject.now.place) worst.new)
+        (IsOpened (D.held store.old.disk.now) (folder_of subject.now.root) subject.now.has_base
+        (place_in subject.now.place))) }
     ensures worst { worst.old ≤ worst.new }
+    ensures held { D.held store.new.disk.now ≡ D.held store.old.disk.now }
 {
-    match loaded {
-        Loaded::Script(text) => match map_of_script(host, store, how, subject, text)? {
+    match content {
+        Content::Script(text) => match map_of_script(host, store, how, subject, text)? {
             Some((place, loaded)) => map_in(host, &place, loaded, worst),
             None => Ok(None),
         },
-        loaded => map_in(host, &subject.place, loaded, worst),
+        Content::Loaded(loaded) => map_in(host, &subject.place, loaded, worst),
     }
 }
 
@@ -282,8 +296,10 @@ pub(crate) fn opened_map<E: Eprint + AllocGlobal, D: Disk>(
 ) -> Result<Option<SourceMap>, Stop>
     ensures named { IfOk result (λ found. IfSome found (IsOpenedAs (D.held store.old.disk.now) wanted.now
         pick.now.name.now pick.now.found)) }
-    ensures held { D.held store.new.disk.now ≡ D.held store.old.disk.now }
+    ensures none { IfOk result (λ found. IfNone found (IsUnopened (D.held store.old.disk.now) wanted.now
+        pick.now.name.now pick.now.found worst.new)) }
     ensures worst { worst.old ≤ worst.new }
+    ensures held { D.held store.new.disk.now ≡ D.held store.old.disk.now }
 {
     let alloc = host.alloc();
     let Some(place) = place_of(alloc, wanted, pick)? else {
@@ -295,7 +311,7 @@ pub(crate) fn opened_map<E: Eprint + AllocGlobal, D: Disk>(
         has_base: has_base(wanted, pick.found),
     };
     match smap_pick::Store::open(store, alloc, &subject.place) {
-        Ok(loaded) => settle_loaded(host, store, how, &subject, loaded, worst),
+        Ok(content) => settle_content(host, store, how, &subject, content, worst),
         Err(_) => Err(Stop::Memory),
     }
 }

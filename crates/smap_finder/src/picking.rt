@@ -148,7 +148,7 @@ fn names_this<E: Eprint + AllocGlobal, D: Disk>(
     script: usize,
     map: usize,
 ) -> Result<bool, Stop>
-    ensures { IfOk result (λ b. b ≡ true → Links (D.held host.now.disk.now) wanted.now script map) }
+    ensures { IfOk result (λ b. b ≡ true → Links (D.held host.now.disk.now) wanted.now name.now script map) }
 {
     let alloc = host.alloc();
     let (Some(file), Some(map)) = (wanted.files.get(script), wanted.files.get(map)) else {

@@ -32,14 +32,14 @@ pub(crate) fn root_of<'a>(wanted: &'a Wanted<'_>, found: Found) -> Option<&'a Ro
 }
 
 /// Whether the map's own URL was given.
-pub(crate) fn has_base(wanted: &Wanted<'_>, found: Found) -> bool {
+pub(crate) fn has_base(wanted: &Wanted<'_>, found: Found) -> bool
+    ensures { result ≡ spec.has_base wanted.now found }
+{
     match found {
-        Found::Given(i) => {
-            matches!(
-                wanted.origins.get(i),
-                Some(Origin::Alone { has_base: true })
-            )
-        }
+        Found::Given(i) => match wanted.origins.get(i) {
+            Some(Origin::Alone { has_base }) => *has_base,
+            Some(Origin::Below(_)) | None => false,
+        },
         Found::ByEnd(_) | Found::Unclear(_, _) | Found::Missing => false,
     }
 }

@@ -1,5 +1,5 @@
 //! What is said of maps: why one is refused, which one a name is taken for.
-ghost use Rattle.std.specs.Prelude.{◌≡◌};
+ghost use Rattle.std.specs.Prelude.{◌≡◌, ◌<◌, IfOk};
 ghost use Rattle.smap_finder.specs.ChosenView.{choices_of};
 
 use crate::chosen::{Chosen, How};
@@ -56,7 +56,9 @@ fn kind_word(file: &[u8]) -> &'static str {
 }
 
 /// What is wrong with a map in words, and the status of that.
-fn words_of(alloc: Global, place: &Place, fault: &MapFault) -> Result<(String, u8), AllocError> {
+fn words_of(alloc: Global, place: &Place, fault: &MapFault) -> Result<(String, u8), AllocError>
+    ensures { IfOk result (λ told. 0 < told.1) }
+{
     match fault {
         MapFault::Unread => Ok((String::from_str(alloc, "cannot read it")?, 3)),
         MapFault::TooLong => Ok((String::from_str(alloc, "input too long")?, 3)),
@@ -87,7 +89,9 @@ pub(crate) fn say_fault<E: Eprint + AllocGlobal, D: Disk>(
     host: &Host<'_, E, D>,
     place: &Place,
     fault: &MapFault,
-) -> Result<u8, Stop> {
+) -> Result<u8, Stop>
+    ensures { IfOk result (λ status. 0 < status) }
+{
     let alloc = host.alloc();
     let (words, status) = words_of(alloc, place, fault)?;
     let words = words.as_str();

@@ -26,3 +26,12 @@ returns-clause-chosen g c =
 pub returns-clause-grows : goal.returns-clause-grows
 returns-clause-grows g c = grows_on _ _ _ c.number_for.ensures.grows
     (subst (λ (d : Choices). Grows d (choices_of c.link.new.chosen)) c.tell_pick.ensures c.link.ensures.grows)
+
+pub returns-clause-settled : goal.returns-clause-settled
+returns-clause-settled g c =
+    let held = g.D.Disk.held c.args.store.now.disk.now in
+    let w = c.args.wanted.now in
+    (c.in_ok-link.ensures.chosen held w
+    (subst (AreChosen held w) (sym c.tell_pick.ensures) c.in_ok-number.ensures.chosen)
+    c.requires.picked (subst (λ (d : Choices). IsNumberOf d c.args.pick.now.name.now c.args.pick.now.found
+    c.in_ok-number.number) (sym c.tell_pick.ensures) c.in_ok-number.ensures.number)).1

@@ -7,7 +7,8 @@ pub returns-then-branch : goal.returns-then-branch
 returns-then-branch g c =
     let w = c.args.wanted.now in
     let sum : c.in-Some.number ≡ map_count_of w + c.in-ByEnd-ByEnd.i = search rules in
-    let links : Links (g.D.Disk.held c.args.host.now.disk.now) w c.in-Some.number c.in-ByEnd-ByEnd.of_map =
+    let links : Links (g.D.Disk.held c.args.host.now.disk.now) w c.args.name.now c.in-Some.number
+    c.in-ByEnd-ByEnd.of_map =
     c.in_ok-names_this.ensures c.if-branch.true in
     inr (record {
       unclear = c.requires.unclear;
