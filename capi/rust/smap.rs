@@ -11,186 +11,18 @@
 //! thread, and `share` makes a second owner of the same map for one; it isn't `Sync`.
 #![allow(dead_code)]
 
+use raw::*;
 use std::cell::UnsafeCell;
-use std::ffi::c_void;
 use std::fmt;
 
-#[repr(C)]
-struct Handle {
-    is_open: bool,
-    at: *mut c_void,
-}
-
-impl Handle {
-    fn closed() -> Handle {
-        Handle { is_open: false, at: std::ptr::null_mut() }
-    }
-}
-
 /// What bounds a map; 0 stands for 16,777,216.
-#[repr(C)]
-#[derive(Clone, Copy, Debug, Default)]
-pub struct Limits {
-    pub items: u32,
-    pub lines: u32,
-}
-
-#[repr(C)]
-struct RawFault {
-    kind: u32,
-    line: u32,
-    segment: u32,
-    has_place: bool,
-    number: usize,
-    depth: usize,
-    section: [usize; 8],
-    text_len: usize,
-    text: [u8; 264],
-}
-
-#[repr(C)]
-#[derive(Default)]
-struct RawMapping {
-    line: u32,
-    column: u32,
-    has_source: bool,
-    has_name: bool,
-    is_ignored: bool,
-    source_line: u32,
-    source_column: u32,
-    source: usize,
-}
-
-#[repr(C)]
-#[derive(Default)]
-struct RawListed {
-    line: u32,
-    column: u32,
-    has_source: bool,
-    has_name: bool,
-    source_line: u32,
-    source_column: u32,
-    source: u32,
-    name: u32,
-}
-
-#[repr(C)]
-#[derive(Default)]
-struct RawFrame {
-    url_from: usize,
-    url_len: usize,
-    line: u32,
-    column: u32,
-}
+pub use raw::Limits;
 
 /// How many lines a trace has, and how many of them were translated and dropped.
-#[repr(C)]
-#[derive(Clone, Copy, Debug, Default, PartialEq, Eq)]
-pub struct TraceCounts {
-    pub lines: u64,
-    pub translated: u64,
-    pub dropped: u64,
-}
+pub use raw::TraceCounts;
 
 /// How much a map holds: distinct sources, sources and names as listed, mappings, and generated lines.
-#[repr(C)]
-#[derive(Clone, Copy, Debug, Default, PartialEq, Eq)]
-pub struct Counts {
-    pub sources: usize,
-    pub listed_sources: usize,
-    pub names: usize,
-    pub mappings: usize,
-    pub lines: u32,
-}
-
-// The parameters of the library's functions: a handle, a string that goes in, a buffer, and a length that is
-// returned.
-type Owned = *mut Handle;
-type Text = *const u8;
-type Out = *mut u8;
-type Len = *mut usize;
-
-unsafe extern "C" {
-    fn smap_version() -> u32;
-    fn smap_code_name(code: u32, out: Out, room: usize) -> usize;
-    fn smap_fault_name(kind: u32, out: Out, room: usize) -> usize;
-    fn smap_open(
-        map: Owned, text: Text, len: usize, base: Text, base_len: usize, limits: *const Limits,
-        fault: *mut RawFault,
-    ) -> u32;
-    fn smap_open_within(
-        map: Owned, text: Text, len: usize, base: Text, base_len: usize, limits: *const Limits,
-        url_bytes: usize, fault: *mut RawFault,
-    ) -> u32;
-    fn smap_close(map: Owned);
-    fn smap_share(map: Owned, other: Owned) -> u32;
-    fn smap_same(one: Owned, other: Owned, out: *mut bool) -> u32;
-    fn smap_count(map: Owned, out: *mut Counts) -> u32;
-    fn smap_held(map: Owned, out: Len) -> u32;
-    fn smap_file(map: Owned, out: Out, room: usize, len: Len) -> u32;
-    fn smap_lookup(map: Owned, line: u32, column: u32, out: *mut RawMapping) -> u32;
-    fn smap_find(map: Owned, line: u32, column: u32, out: Len) -> u32;
-    fn smap_name_at(map: Owned, line: u32, column: u32, out: Out, room: usize, len: Len) -> u32;
-    fn smap_token(map: Owned, i: usize, out: *mut RawMapping) -> u32;
-    fn smap_source_url(map: Owned, source: usize, out: Out, room: usize, len: Len) -> u32;
-    fn smap_source_content(map: Owned, source: usize, out: Out, room: usize, len: Len) -> u32;
-    fn smap_is_ignored(map: Owned, source: usize, out: *mut bool) -> u32;
-    fn smap_listed_source(map: Owned, i: usize, out: Len) -> u32;
-    fn smap_written_source(map: Owned, i: usize, out: Out, room: usize, len: Len) -> u32;
-    fn smap_written_root(map: Owned, i: usize, out: Out, room: usize, len: Len) -> u32;
-    fn smap_listed_name(map: Owned, i: usize, out: Out, room: usize, len: Len) -> u32;
-    fn smap_listed_token(map: Owned, i: usize, out: *mut RawListed) -> u32;
-    fn smap_canonical(map: Owned, out: Owned) -> u32;
-    fn smap_canonical_relative(map: Owned, out: Owned) -> u32;
-    fn smap_canonical_mappings(map: Owned, out: Owned) -> u32;
-    fn smap_flatten(map: Owned, out: Owned) -> u32;
-    fn smap_respell(text: Text, len: usize, out: Owned, fault: *mut RawFault) -> u32;
-    fn smap_script_link(
-        text: Text, len: usize, css: bool, out: Out, room: usize, url_len: Len,
-    ) -> u32;
-    fn smap_resolve(
-        script: Text, script_len: usize, url: Text, url_len: usize, out: Owned,
-    ) -> u32;
-    fn smap_data_url(url: Text, len: usize, out: Owned) -> u32;
-    fn smap_file_url(path: Text, len: usize, out: Owned) -> u32;
-    fn smap_file_path(url: Text, len: usize, out: Owned) -> u32;
-    fn smap_script_url(
-        folder: Text, folder_len: usize, name: Text, name_len: usize, out: Owned,
-    ) -> u32;
-    fn smap_script_name(
-        folder: Text, folder_len: usize, url: Text, url_len: usize, out: Owned,
-    ) -> u32;
-    fn smap_normal_form(name: Text, len: usize, with_query: bool, out: Owned) -> u32;
-    fn smap_alike(
-        one: Text, one_len: usize, other: Text, other_len: usize, out: *mut bool,
-    ) -> u32;
-    fn smap_bytes_copy(bytes: Owned, from: usize, out: Out, room: usize) -> usize;
-    fn smap_bytes_free(bytes: Owned);
-    fn smap_frame(line: Text, len: usize, out: *mut RawFrame) -> u32;
-    fn smap_translate_line(
-        map: Owned, url: Text, url_len: usize, line: Text, line_len: usize, how: u8, out: Out,
-        room: usize, len: Len, outcome: *mut u32,
-    ) -> u32;
-    fn smap_add_script(scripts: Owned, url: Text, url_len: usize, map: Owned) -> u32;
-    fn smap_close_scripts(scripts: Owned);
-    fn smap_translate(
-        scripts: Owned, trace: Text, len: usize, how: u8, out: Owned, counts: *mut TraceCounts,
-    ) -> u32;
-}
-
-const OK: u32 = 0;
-const REFUSED: u32 = 1;
-const NOT_URL: u32 = 2;
-const LIMITS: u32 = 3;
-const MEMORY: u32 = 4;
-const NONE: u32 = 6;
-const URL_BYTES: u32 = 8;
-const NOT_BASE64: u32 = 9;
-const NOT_UTF8: u32 = 10;
-
-const HIDE_IGNORED: u8 = 1;
-const ANYWHERE: u8 = 2;
-const IGNORE_QUERY: u8 = 4;
+pub use raw::Counts;
 
 /// The first fault of a map or of a mappings text: its kind (one of smap.h's SMAP_FAULT_..), the path of its
 /// section, the line and the segment, the number that the kind carries, and its words.
@@ -252,12 +84,7 @@ fn named(call: impl FnOnce(*mut u8, usize) -> usize) -> String {
     String::from_utf8_lossy(&name[..len.min(64)]).into_owned()
 }
 
-fn no_fault() -> RawFault {
-    // zeros are a value of each of its fields
-    unsafe { std::mem::zeroed() }
-}
-
-fn error(code: u32, fault: &RawFault) -> Error {
+fn error(code: u32, fault: &raw::Fault) -> Error {
     match code {
         REFUSED => Error::Refused(Fault {
             kind: fault.kind,
@@ -294,8 +121,8 @@ fn text_of(call: impl FnMut(*mut u8, usize, *mut usize) -> u32) -> Option<String
 }
 
 /// Takes the bytes out that a call puts into a handle.
-fn written(call: impl FnOnce(*mut Handle) -> u32) -> Result<Vec<u8>, u32> {
-    let mut out = Handle::closed();
+fn written(call: impl FnOnce(*mut raw::Bytes) -> u32) -> Result<Vec<u8>, u32> {
+    let mut out = raw::Bytes::default();
     let code = call(&mut out);
     if code != OK {
         return Err(code);
@@ -317,7 +144,7 @@ pub fn version() -> (u32, u32, u32) {
 
 /// A mappings text, sorted and as short as possible.
 pub fn respell(text: &[u8]) -> Result<Vec<u8>, Error> {
-    let mut fault = no_fault();
+    let mut fault = raw::Fault::default();
     written(|out| unsafe { smap_respell(text.as_ptr(), text.len(), out, &mut fault) })
         .map_err(|code| error(code, &fault))
 }
@@ -333,7 +160,7 @@ pub enum LinkError {
 }
 
 /// What a call puts into a handle, or none if there is nothing.
-fn given(call: impl FnOnce(*mut Handle) -> u32) -> Result<Option<Vec<u8>>, LinkError> {
+fn given(call: impl FnOnce(*mut raw::Bytes) -> u32) -> Result<Option<Vec<u8>>, LinkError> {
     match written(call) {
         Ok(bytes) => Ok(Some(bytes)),
         Err(NONE) => Ok(None),
@@ -416,8 +243,8 @@ pub struct Mapping {
     pub is_ignored: bool,
 }
 
-impl From<RawMapping> for Mapping {
-    fn from(m: RawMapping) -> Mapping {
+impl From<raw::Mapping> for Mapping {
+    fn from(m: raw::Mapping) -> Mapping {
         Mapping {
             line: m.line,
             column: m.column,
@@ -467,7 +294,7 @@ pub struct Frame<'line> {
 
 /// The frame that a line is, taken without its line feed, if it is one.
 pub fn frame(line: &[u8]) -> Option<Frame<'_>> {
-    let mut f = RawFrame::default();
+    let mut f = raw::FrameParts::default();
     if unsafe { smap_frame(line.as_ptr(), line.len(), &mut f) } != OK {
         return None;
     }
@@ -509,12 +336,12 @@ impl TraceOptions {
     fn how(self) -> u8 {
         let bits =
             [(self.hide, HIDE_IGNORED), (self.anywhere, ANYWHERE), (self.ignore_query, IGNORE_QUERY)];
-        bits.iter().filter(|(is_set, _)| *is_set).map(|(_, bit)| bit).sum()
+        bits.iter().filter(|(is_set, _)| *is_set).map(|&(_, bit)| bit as u8).sum()
     }
 }
 
 /// A source map. Its handle is in a cell, since each call has its handle to itself while it runs.
-pub struct Map(UnsafeCell<Handle>);
+pub struct Map(UnsafeCell<raw::Map>);
 
 // The library proves that what a handle owns may be read and freed in any thread.
 unsafe impl Send for Map {}
@@ -527,7 +354,7 @@ impl Drop for Map {
 
 impl Map {
     fn closed() -> Map {
-        Map(UnsafeCell::new(Handle::closed()))
+        Map(UnsafeCell::default())
     }
 
     /// Reads a map, whose URL is `base`, under the usual limits.
@@ -537,7 +364,7 @@ impl Map {
 
     /// The same under these limits.
     pub fn open_within(text: &[u8], base: &str, limits: Limits) -> Result<Map, Error> {
-        let (map, mut fault) = (Map::closed(), no_fault());
+        let (map, mut fault) = (Map::closed(), raw::Fault::default());
         let code = unsafe {
             smap_open(map.0.get(), text.as_ptr(), text.len(), base.as_ptr(), base.len(), &limits, &mut fault)
         };
@@ -550,7 +377,7 @@ impl Map {
     pub fn open_within_url_bytes(
         text: &[u8], base: &str, limits: Limits, url_bytes: usize,
     ) -> Result<Map, Error> {
-        let (map, mut fault) = (Map::closed(), no_fault());
+        let (map, mut fault) = (Map::closed(), raw::Fault::default());
         let code = unsafe {
             smap_open_within(
                 map.0.get(), text.as_ptr(), text.len(), base.as_ptr(), base.len(), &limits, url_bytes,
@@ -591,7 +418,7 @@ impl Map {
 
     /// The mapping that a generated position falls to.
     pub fn lookup(&self, line: u32, column: u32) -> Option<Mapping> {
-        let mut m = RawMapping::default();
+        let mut m = raw::Mapping::default();
         let code = unsafe { smap_lookup(self.0.get(), line, column, &mut m) };
         (code == OK).then(|| m.into())
     }
@@ -605,7 +432,7 @@ impl Map {
 
     /// The i-th mapping, in order of line and column.
     pub fn mapping(&self, i: usize) -> Option<Mapping> {
-        let mut m = RawMapping::default();
+        let mut m = raw::Mapping::default();
         let code = unsafe { smap_token(self.0.get(), i, &mut m) };
         (code == OK).then(|| m.into())
     }
@@ -666,7 +493,7 @@ impl Map {
 
     /// The i-th mapping by places in the lists, in order of line and column.
     pub fn listed_mapping(&self, i: usize) -> Option<ListedMapping> {
-        let mut m = RawListed::default();
+        let mut m = raw::ListedMapping::default();
         if unsafe { smap_listed_token(self.0.get(), i, &mut m) } != OK {
             return None;
         }
@@ -712,15 +539,15 @@ impl Map {
         });
         match (text, outcome) {
             (None, _) => Err(Error::Memory),
-            (Some(_), 2) => Ok(Line::Dropped),
-            (Some(text), 1) => Ok(Line::Translated(text)),
+            (Some(_), DROPPED) => Ok(Line::Dropped),
+            (Some(text), TRANSLATED) => Ok(Line::Translated(text)),
             (Some(text), _) => Ok(Line::Kept(text)),
         }
     }
 }
 
 /// Scripts, each a URL and a map, by which traces are translated.
-pub struct Scripts(UnsafeCell<Handle>);
+pub struct Scripts(UnsafeCell<raw::Scripts>);
 
 // As for `Map`.
 unsafe impl Send for Scripts {}
@@ -740,7 +567,7 @@ impl Default for Scripts {
 impl Scripts {
     /// No scripts.
     pub fn new() -> Scripts {
-        Scripts(UnsafeCell::new(Handle::closed()))
+        Scripts(UnsafeCell::default())
     }
 
     /// Adds a script. It shares the map. A script of the same URL gets this map in place of its own.
@@ -762,5 +589,260 @@ impl Scripts {
         written(|out| unsafe { smap_translate(scripts, text, len, how, out, &mut counts) })
             .map(|told| (told, counts))
             .map_err(|_| Error::Memory)
+    }
+}
+
+// What smap.h declares, to the end of the file: tools/write-bindings writes this out of capi/smap.h.
+mod raw {
+    pub const OK: u32 = 0;
+    pub const REFUSED: u32 = 1;
+    pub const NOT_URL: u32 = 2;
+    pub const LIMITS: u32 = 3;
+    pub const MEMORY: u32 = 4;
+    pub const CLOSED: u32 = 5;
+    pub const NONE: u32 = 6;
+    pub const RANGE: u32 = 7;
+    pub const URL_BYTES: u32 = 8;
+    pub const NOT_BASE64: u32 = 9;
+    pub const NOT_UTF8: u32 = 10;
+    pub const FAULT_PREFIX: u32 = 1;
+    pub const FAULT_JSON: u32 = 2;
+    pub const FAULT_NOT_OBJECT: u32 = 3;
+    pub const FAULT_VERSION: u32 = 4;
+    pub const FAULT_FILE: u32 = 5;
+    pub const FAULT_BOTH: u32 = 6;
+    pub const FAULT_SOURCE_ROOT: u32 = 7;
+    pub const FAULT_SOURCES: u32 = 8;
+    pub const FAULT_SOURCES_CONTENT: u32 = 9;
+    pub const FAULT_NAMES: u32 = 10;
+    pub const FAULT_IGNORE_LIST: u32 = 11;
+    pub const FAULT_MAPPINGS: u32 = 12;
+    pub const FAULT_SECTIONS: u32 = 13;
+    pub const FAULT_OFFSET: u32 = 14;
+    pub const FAULT_SECTION_MAP: u32 = 15;
+    pub const FAULT_NESTED: u32 = 16;
+    pub const FAULT_ORDER: u32 = 17;
+    pub const FAULT_OVERLAP: u32 = 18;
+    pub const FAULT_TOO_MANY: u32 = 19;
+    pub const FAULT_SOURCE_URL: u32 = 20;
+    pub const FAULT_UNSTABLE_URL: u32 = 21;
+    pub const FAULT_EMPTY: u32 = 22;
+    pub const FAULT_UNFINISHED: u32 = 23;
+    pub const FAULT_CHARACTER: u32 = 24;
+    pub const FAULT_TOO_LARGE: u32 = 25;
+    pub const FAULT_NEGATIVE_ZERO: u32 = 26;
+    pub const FAULT_COUNT: u32 = 27;
+    pub const FAULT_GENERATED_LINE: u32 = 28;
+    pub const FAULT_COLUMN: u32 = 29;
+    pub const FAULT_SOURCE: u32 = 30;
+    pub const FAULT_ORIGINAL_LINE: u32 = 31;
+    pub const FAULT_ORIGINAL_COLUMN: u32 = 32;
+    pub const FAULT_NAME: u32 = 33;
+    pub const KEPT: u32 = 0;
+    pub const TRANSLATED: u32 = 1;
+    pub const DROPPED: u32 = 2;
+    pub const HIDE_IGNORED: u32 = 1;
+    pub const ANYWHERE: u32 = 2;
+    pub const IGNORE_QUERY: u32 = 4;
+
+    #[repr(C)]
+    #[derive(Clone, Copy, Debug, PartialEq, Eq)]
+    pub struct Fault {
+        pub kind: u32,
+        pub line: u32,
+        pub segment: u32,
+        pub has_place: bool,
+        pub number: usize,
+        pub depth: usize,
+        pub section: [usize; 8],
+        pub text_len: usize,
+        pub text: [u8; 264],
+    }
+
+    impl Default for Fault {
+        fn default() -> Fault {
+            // zeros are a value of each field
+            unsafe { std::mem::zeroed() }
+        }
+    }
+
+    #[repr(C)]
+    #[derive(Debug)]
+    pub struct Map {
+        pub is_open: bool,
+        pub at: *mut u8,
+    }
+
+    impl Default for Map {
+        fn default() -> Map {
+            // zeros are a value of each field
+            unsafe { std::mem::zeroed() }
+        }
+    }
+
+    #[repr(C)]
+    #[derive(Clone, Copy, Debug, PartialEq, Eq, Default)]
+    pub struct Limits {
+        pub items: u32,
+        pub lines: u32,
+    }
+
+    #[repr(C)]
+    #[derive(Clone, Copy, Debug, PartialEq, Eq, Default)]
+    pub struct Counts {
+        pub sources: usize,
+        pub listed_sources: usize,
+        pub names: usize,
+        pub mappings: usize,
+        pub lines: u32,
+    }
+
+    #[repr(C)]
+    #[derive(Clone, Copy, Debug, PartialEq, Eq, Default)]
+    pub struct Mapping {
+        pub line: u32,
+        pub column: u32,
+        pub has_source: bool,
+        pub has_name: bool,
+        pub is_ignored: bool,
+        pub source_line: u32,
+        pub source_column: u32,
+        pub source: usize,
+    }
+
+    #[repr(C)]
+    #[derive(Clone, Copy, Debug, PartialEq, Eq, Default)]
+    pub struct ListedMapping {
+        pub line: u32,
+        pub column: u32,
+        pub has_source: bool,
+        pub has_name: bool,
+        pub source_line: u32,
+        pub source_column: u32,
+        pub source: u32,
+        pub name: u32,
+    }
+
+    #[repr(C)]
+    #[derive(Debug)]
+    pub struct Bytes {
+        pub is_open: bool,
+        pub at: *mut u8,
+    }
+
+    impl Default for Bytes {
+        fn default() -> Bytes {
+            // zeros are a value of each field
+            unsafe { std::mem::zeroed() }
+        }
+    }
+
+    #[repr(C)]
+    #[derive(Clone, Copy, Debug, PartialEq, Eq, Default)]
+    pub struct FrameParts {
+        pub url_from: usize,
+        pub url_len: usize,
+        pub line: u32,
+        pub column: u32,
+    }
+
+    #[repr(C)]
+    #[derive(Debug)]
+    pub struct Scripts {
+        pub is_open: bool,
+        pub at: *mut u8,
+    }
+
+    impl Default for Scripts {
+        fn default() -> Scripts {
+            // zeros are a value of each field
+            unsafe { std::mem::zeroed() }
+        }
+    }
+
+    #[repr(C)]
+    #[derive(Clone, Copy, Debug, PartialEq, Eq, Default)]
+    pub struct TraceCounts {
+        pub lines: u64,
+        pub translated: u64,
+        pub dropped: u64,
+    }
+
+    unsafe extern "C" {
+        pub fn smap_version() -> u32;
+        pub fn smap_code_name(code: u32, out: *mut u8, room: usize) -> usize;
+        pub fn smap_fault_name(kind: u32, out: *mut u8, room: usize) -> usize;
+        pub fn smap_open(
+            map: *mut Map, text: *const u8, len: usize, base: *const u8, base_len: usize,
+            limits: *const Limits, fault: *mut Fault,
+        ) -> u32;
+        pub fn smap_open_within(
+            map: *mut Map, text: *const u8, len: usize, base: *const u8, base_len: usize,
+            limits: *const Limits, url_bytes: usize, fault: *mut Fault,
+        ) -> u32;
+        pub fn smap_close(map: *mut Map);
+        pub fn smap_share(map: *mut Map, other: *mut Map) -> u32;
+        pub fn smap_same(one: *mut Map, other: *mut Map, out: *mut bool) -> u32;
+        pub fn smap_count(map: *mut Map, out: *mut Counts) -> u32;
+        pub fn smap_held(map: *mut Map, out: *mut usize) -> u32;
+        pub fn smap_file(map: *mut Map, out: *mut u8, room: usize, len: *mut usize) -> u32;
+        pub fn smap_lookup(map: *mut Map, line: u32, column: u32, out: *mut Mapping) -> u32;
+        pub fn smap_find(map: *mut Map, line: u32, column: u32, out: *mut usize) -> u32;
+        pub fn smap_name_at(
+            map: *mut Map, line: u32, column: u32, out: *mut u8, room: usize, len: *mut usize,
+        ) -> u32;
+        pub fn smap_token(map: *mut Map, i: usize, out: *mut Mapping) -> u32;
+        pub fn smap_source_url(
+            map: *mut Map, source: usize, out: *mut u8, room: usize, len: *mut usize,
+        ) -> u32;
+        pub fn smap_source_content(
+            map: *mut Map, source: usize, out: *mut u8, room: usize, len: *mut usize,
+        ) -> u32;
+        pub fn smap_is_ignored(map: *mut Map, source: usize, out: *mut bool) -> u32;
+        pub fn smap_listed_source(map: *mut Map, i: usize, out: *mut usize) -> u32;
+        pub fn smap_written_source(
+            map: *mut Map, i: usize, out: *mut u8, room: usize, len: *mut usize,
+        ) -> u32;
+        pub fn smap_written_root(map: *mut Map, i: usize, out: *mut u8, room: usize, len: *mut usize) -> u32;
+        pub fn smap_listed_name(map: *mut Map, i: usize, out: *mut u8, room: usize, len: *mut usize) -> u32;
+        pub fn smap_listed_token(map: *mut Map, i: usize, out: *mut ListedMapping) -> u32;
+        pub fn smap_bytes_data(bytes: *mut Bytes, at: *mut *const u8, len: *mut usize) -> u32;
+        pub fn smap_bytes_copy(bytes: *mut Bytes, from: usize, out: *mut u8, room: usize) -> usize;
+        pub fn smap_bytes_free(bytes: *mut Bytes);
+        pub fn smap_canonical(map: *mut Map, out: *mut Bytes) -> u32;
+        pub fn smap_canonical_relative(map: *mut Map, out: *mut Bytes) -> u32;
+        pub fn smap_canonical_mappings(map: *mut Map, out: *mut Bytes) -> u32;
+        pub fn smap_flatten(map: *mut Map, out: *mut Bytes) -> u32;
+        pub fn smap_respell(text: *const u8, len: usize, out: *mut Bytes, fault: *mut Fault) -> u32;
+        pub fn smap_frame(line: *const u8, len: usize, out: *mut FrameParts) -> u32;
+        pub fn smap_translate_line(
+            map: *mut Map, url: *const u8, url_len: usize, line: *const u8, line_len: usize, how: u8,
+            out: *mut u8, room: usize, len: *mut usize, outcome: *mut u32,
+        ) -> u32;
+        pub fn smap_add_script(scripts: *mut Scripts, url: *const u8, url_len: usize, map: *mut Map) -> u32;
+        pub fn smap_close_scripts(scripts: *mut Scripts);
+        pub fn smap_translate(
+            scripts: *mut Scripts, trace: *const u8, len: usize, how: u8, out: *mut Bytes,
+            counts: *mut TraceCounts,
+        ) -> u32;
+        pub fn smap_script_link(
+            text: *const u8, len: usize, css: bool, out: *mut u8, room: usize, url_len: *mut usize,
+        ) -> u32;
+        pub fn smap_resolve(
+            script: *const u8, script_len: usize, url: *const u8, url_len: usize, out: *mut Bytes,
+        ) -> u32;
+        pub fn smap_data_url(url: *const u8, len: usize, out: *mut Bytes) -> u32;
+        pub fn smap_file_url(path: *const u8, len: usize, out: *mut Bytes) -> u32;
+        pub fn smap_file_path(url: *const u8, len: usize, out: *mut Bytes) -> u32;
+        pub fn smap_script_url(
+            folder: *const u8, folder_len: usize, name: *const u8, name_len: usize, out: *mut Bytes,
+        ) -> u32;
+        pub fn smap_script_name(
+            folder: *const u8, folder_len: usize, url: *const u8, url_len: usize, out: *mut Bytes,
+        ) -> u32;
+        pub fn smap_normal_form(name: *const u8, len: usize, with_query: bool, out: *mut Bytes) -> u32;
+        pub fn smap_alike(
+            one: *const u8, one_len: usize, other: *const u8, other_len: usize, out: *mut bool,
+        ) -> u32;
     }
 }

@@ -1,7 +1,7 @@
 /* Each field of each struct of smap.h: where it lies, and what the library writes there or reads from there.
- * The places are what the layout rules of 64-bit systems give for the fields in the order of the header. The
- * values are worked out by hand from the texts below, and within a struct all numbers differ, so fields that
- * change places, here or in the library, are seen. */
+ * The places, in places.h, are what the layout rules of 64-bit systems give for the fields in the order of the
+ * header. The values are worked out by hand from the texts below, and within a struct all numbers differ, so
+ * fields that change places, here or in the library, are seen. */
 #include "maps.h"
 
 /* ---- where the fields lie */
@@ -16,61 +16,7 @@ typedef struct place {
 #define WHOLE(type, size) {#type, 0, sizeof(type), 0, size}
 
 static const place places[] = {
-    FIELD(smap_fault, kind, 0, 4),
-    FIELD(smap_fault, line, 4, 4),
-    FIELD(smap_fault, segment, 8, 4),
-    FIELD(smap_fault, has_place, 12, 1),
-    FIELD(smap_fault, number, 16, 8),
-    FIELD(smap_fault, depth, 24, 8),
-    FIELD(smap_fault, section, 32, 64),
-    FIELD(smap_fault, text_len, 96, 8),
-    FIELD(smap_fault, text, 104, 264),
-    WHOLE(smap_fault, 368),
-    FIELD(smap_map, is_open, 0, 1),
-    FIELD(smap_map, at, 8, 8),
-    WHOLE(smap_map, 16),
-    FIELD(smap_limits, items, 0, 4),
-    FIELD(smap_limits, lines, 4, 4),
-    WHOLE(smap_limits, 8),
-    FIELD(smap_counts, sources, 0, 8),
-    FIELD(smap_counts, listed_sources, 8, 8),
-    FIELD(smap_counts, names, 16, 8),
-    FIELD(smap_counts, mappings, 24, 8),
-    FIELD(smap_counts, lines, 32, 4),
-    WHOLE(smap_counts, 40),
-    FIELD(smap_mapping, line, 0, 4),
-    FIELD(smap_mapping, column, 4, 4),
-    FIELD(smap_mapping, has_source, 8, 1),
-    FIELD(smap_mapping, has_name, 9, 1),
-    FIELD(smap_mapping, is_ignored, 10, 1),
-    FIELD(smap_mapping, source_line, 12, 4),
-    FIELD(smap_mapping, source_column, 16, 4),
-    FIELD(smap_mapping, source, 24, 8),
-    WHOLE(smap_mapping, 32),
-    FIELD(smap_listed_mapping, line, 0, 4),
-    FIELD(smap_listed_mapping, column, 4, 4),
-    FIELD(smap_listed_mapping, has_source, 8, 1),
-    FIELD(smap_listed_mapping, has_name, 9, 1),
-    FIELD(smap_listed_mapping, source_line, 12, 4),
-    FIELD(smap_listed_mapping, source_column, 16, 4),
-    FIELD(smap_listed_mapping, source, 20, 4),
-    FIELD(smap_listed_mapping, name, 24, 4),
-    WHOLE(smap_listed_mapping, 28),
-    FIELD(smap_bytes, is_open, 0, 1),
-    FIELD(smap_bytes, at, 8, 8),
-    WHOLE(smap_bytes, 16),
-    FIELD(smap_frame_parts, url_from, 0, 8),
-    FIELD(smap_frame_parts, url_len, 8, 8),
-    FIELD(smap_frame_parts, line, 16, 4),
-    FIELD(smap_frame_parts, column, 20, 4),
-    WHOLE(smap_frame_parts, 24),
-    FIELD(smap_scripts, is_open, 0, 1),
-    FIELD(smap_scripts, at, 8, 8),
-    WHOLE(smap_scripts, 16),
-    FIELD(smap_trace_counts, lines, 0, 8),
-    FIELD(smap_trace_counts, translated, 8, 8),
-    FIELD(smap_trace_counts, dropped, 16, 8),
-    WHOLE(smap_trace_counts, 24),
+#include "places.h"
 };
 
 static void places_of_fields(void)

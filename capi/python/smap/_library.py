@@ -5,87 +5,64 @@ from __future__ import annotations
 import ctypes
 import operator
 import os
-from ctypes import POINTER, byref, c_bool, c_char, c_char_p, c_size_t, c_uint8, c_uint32, c_uint64, c_void_p
+from ctypes import byref, c_size_t
 from pathlib import Path
-from typing import Any, Callable, List, NoReturn, Optional, Tuple, Type
+from typing import Any, Callable, ClassVar, NoReturn, Optional, Tuple, Type, TypeVar
 
-OK, REFUSED, NOT_URL, LIMITS, MEMORY, CLOSED, NONE, RANGE, URL_BYTES, NOT_BASE64, NOT_UTF8 = range(11)
-HIDE_IGNORED, ANYWHERE, IGNORE_QUERY = 1, 2, 4
+from . import _declarations as declared
+from ._declarations import ANYWHERE, HIDE_IGNORED, IGNORE_QUERY, LIMITS, MEMORY, OK, RANGE, REFUSED, Fault
 
 # The greatest numbers that the types of the library hold. ctypes cuts off the bits above them.
 LARGEST_U32, LARGEST_SIZE = 0xFFFFFFFF, c_size_t(-1).value
 
 
+Owned = TypeVar("Owned", bound="Owner")
+
+
 class Owner:
-    """What a handle of the library belongs to. A copy would free it a second time, so there is none."""
+    """What owns memory of the library through a handle, until it is closed. A copy would free that a second
+    time, so there is none.
+    """
+
+    _handle: ctypes.Structure
+    # the function of the library that closes the handle
+    _free: ClassVar[Any]
 
     def __reduce__(self) -> NoReturn:
         raise TypeError(f"cannot copy or pickle '{type(self).__name__}' object: it owns memory of libsmap")
 
+    def close(self) -> None:
+        """Frees what it owns. Closing it twice does nothing."""
+        self._free(byref(self._handle))
 
-class Handle(Owner, ctypes.Structure):
-    _fields_ = [("is_open", c_bool), ("at", c_void_p)]
+    def __enter__(self: Owned) -> Owned:
+        return self
 
+    def __exit__(self, *error: object) -> None:
+        self.close()
 
-class Limits(ctypes.Structure):
-    _fields_ = [("items", c_uint32), ("lines", c_uint32)]
-
-
-class Fault(ctypes.Structure):
-    _fields_ = [
-        ("kind", c_uint32),
-        ("line", c_uint32),
-        ("segment", c_uint32),
-        ("has_place", c_bool),
-        ("number", c_size_t),
-        ("depth", c_size_t),
-        ("section", c_size_t * 8),
-        ("text_len", c_size_t),
-        ("text", c_char * 264),
-    ]
+    def __del__(self) -> None:
+        # at the end of the interpreter the module may be empty
+        if "byref" in globals() and byref is not None:
+            self.close()
 
 
-class MappingStruct(ctypes.Structure):
-    _fields_ = [
-        ("line", c_uint32),
-        ("column", c_uint32),
-        ("has_source", c_bool),
-        ("has_name", c_bool),
-        ("is_ignored", c_bool),
-        ("source_line", c_uint32),
-        ("source_column", c_uint32),
-        ("source", c_size_t),
-    ]
-
-
-class FrameStruct(ctypes.Structure):
-    _fields_ = [("url_from", c_size_t), ("url_len", c_size_t), ("line", c_uint32), ("column", c_uint32)]
-
-
-class Numbers(ctypes.Structure):
+def shown(numbers: ctypes.Structure) -> str:
     """Numbers by name."""
-
-    def __repr__(self) -> str:
-        numbers = (f"{field[0]}={getattr(self, field[0])}" for field in self._fields_)
-        return f"{type(self).__name__}({', '.join(numbers)})"
+    named = (f"{field[0]}={getattr(numbers, field[0])}" for field in numbers._fields_)
+    return f"{type(numbers).__name__}({', '.join(named)})"
 
 
-class TraceCounts(Numbers):
+class TraceCounts(declared.TraceCounts):
     """How many lines a trace has, and how many of them were translated and dropped."""
 
-    _fields_ = [("lines", c_uint64), ("translated", c_uint64), ("dropped", c_uint64)]
+    __repr__ = shown
 
 
-class Counts(Numbers):
+class Counts(declared.Counts):
     """How much a map holds: distinct sources, sources and names as listed, mappings, and generated lines."""
 
-    _fields_ = [
-        ("sources", c_size_t),
-        ("listed_sources", c_size_t),
-        ("names", c_size_t),
-        ("mappings", c_size_t),
-        ("lines", c_uint32),
-    ]
+    __repr__ = shown
 
 
 class Error(Exception):
@@ -161,59 +138,10 @@ def load() -> ctypes.CDLL:
     raise ImportError(f"smap can't load its library: {reason}. {advice}", name="smap", path=file)
 
 
-# The functions that the module calls: their names, what they return, and their parameters.
-HANDLE, LEN, TEXT = POINTER(Handle), POINTER(c_size_t), (c_char_p, c_size_t)
-U32, SIZE = c_uint32, c_size_t
-FUNCTIONS: List[Tuple[Any, ...]] = [
-    ("version", U32),
-    ("code_name", SIZE, U32, *TEXT),
-    ("fault_name", SIZE, U32, *TEXT),
-    ("open", U32, HANDLE, *TEXT, *TEXT, POINTER(Limits), POINTER(Fault)),
-    ("open_within", U32, HANDLE, *TEXT, *TEXT, POINTER(Limits), SIZE, POINTER(Fault)),
-    ("close", None, HANDLE),
-    ("share", U32, HANDLE, HANDLE),
-    ("same", U32, HANDLE, HANDLE, POINTER(c_bool)),
-    ("count", U32, HANDLE, POINTER(Counts)),
-    ("held", U32, HANDLE, LEN),
-    ("file", U32, HANDLE, *TEXT, LEN),
-    ("lookup", U32, HANDLE, U32, U32, POINTER(MappingStruct)),
-    ("find", U32, HANDLE, U32, U32, LEN),
-    ("name_at", U32, HANDLE, U32, U32, *TEXT, LEN),
-    ("token", U32, HANDLE, SIZE, POINTER(MappingStruct)),
-    ("source_url", U32, HANDLE, SIZE, *TEXT, LEN),
-    ("source_content", U32, HANDLE, SIZE, *TEXT, LEN),
-    ("is_ignored", U32, HANDLE, SIZE, POINTER(c_bool)),
-    ("written_source", U32, HANDLE, SIZE, *TEXT, LEN),
-    ("written_root", U32, HANDLE, SIZE, *TEXT, LEN),
-    ("listed_name", U32, HANDLE, SIZE, *TEXT, LEN),
-    ("bytes_copy", SIZE, HANDLE, SIZE, *TEXT),
-    ("bytes_free", None, HANDLE),
-    ("canonical", U32, HANDLE, HANDLE),
-    ("canonical_relative", U32, HANDLE, HANDLE),
-    ("canonical_mappings", U32, HANDLE, HANDLE),
-    ("flatten", U32, HANDLE, HANDLE),
-    ("respell", U32, *TEXT, HANDLE, POINTER(Fault)),
-    ("frame", U32, *TEXT, POINTER(FrameStruct)),
-    ("translate_line", U32, HANDLE, *TEXT, *TEXT, c_uint8, *TEXT, LEN, POINTER(U32)),
-    ("add_script", U32, HANDLE, *TEXT, HANDLE),
-    ("close_scripts", None, HANDLE),
-    ("translate", U32, HANDLE, *TEXT, c_uint8, HANDLE, POINTER(TraceCounts)),
-    ("script_link", U32, *TEXT, c_bool, *TEXT, LEN),
-    ("resolve", U32, *TEXT, *TEXT, HANDLE),
-    ("data_url", U32, *TEXT, HANDLE),
-    ("file_url", U32, *TEXT, HANDLE),
-    ("file_path", U32, *TEXT, HANDLE),
-    ("script_url", U32, *TEXT, *TEXT, HANDLE),
-    ("script_name", U32, *TEXT, *TEXT, HANDLE),
-    ("normal_form", U32, *TEXT, c_bool, HANDLE),
-    ("alike", U32, *TEXT, *TEXT, POINTER(c_bool)),
-]
-
-
 def declare(lib: ctypes.CDLL) -> ctypes.CDLL:
-    """Gives the functions that the module calls their types."""
-    for name, result, *parameters in FUNCTIONS:
-        function = getattr(lib, "smap_" + name)
+    """Gives the functions of the library their types."""
+    for name, result, *parameters in declared.FUNCTIONS:
+        function = getattr(lib, name)
         function.restype, function.argtypes = result, parameters
     return lib
 
@@ -298,12 +226,12 @@ def are_position(line: int, column: int) -> bool:
 
 def written(call: Callable[..., int], *words: object) -> bytes:
     """The bytes that a call writes, whose last parameter is their handle."""
-    out = Handle()
+    out = declared.Bytes()
     check(call(*words, byref(out)))
     return taken(out)
 
 
-def taken(out: Handle) -> bytes:
+def taken(out: declared.Bytes) -> bytes:
     """The bytes of a handle, which is freed."""
     n = lib.smap_bytes_copy(byref(out), 0, b"", 0)
     text = ctypes.create_string_buffer(n + 1)

@@ -11,7 +11,8 @@ from contextlib import contextmanager
 from dataclasses import dataclass
 from typing import Callable, Dict, Iterable, Iterator, List, NamedTuple, Optional, Tuple, Union
 
-from ._library import NOT_URL, REFUSED, Error
+from ._declarations import NOT_URL, REFUSED
+from ._library import Error
 from .files import MOST_BYTES, link_in, read_file, too_large
 from .links import as_bytes, data_url, file_path, file_url, normal_form, resolve, script_name, script_url
 

@@ -10,7 +10,8 @@ from __future__ import annotations
 from ctypes import byref, c_bool, c_size_t, create_string_buffer
 from typing import AnyStr, Callable, Iterable, Optional, Union
 
-from ._library import NONE, NOT_UTF8, Error, Handle, check, lib, taken, written
+from ._declarations import NONE, NOT_UTF8, Bytes
+from ._library import Error, check, lib, taken, written
 
 __all__ = ["alike", "as_bytes", "data_url", "file_path", "file_url", "normal_form", "resolve"]
 __all__ += ["script_link", "script_name", "script_url"]
@@ -42,7 +43,7 @@ def _words(texts: Iterable[bytes]) -> Iterable[object]:
 
 def _given(call: Callable[..., int], *texts: bytes) -> Optional[bytes]:
     """The bytes that a call gives for some texts; None where there is nothing."""
-    out = Handle()
+    out = Bytes()
     code = call(*_words(texts), byref(out))
     if code == NONE:
         return None

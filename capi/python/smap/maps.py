@@ -7,8 +7,10 @@ from ctypes import byref, c_bool, c_size_t, c_uint32, create_string_buffer
 from dataclasses import dataclass
 from typing import AnyStr, Callable, Iterator, List, Optional, Tuple, Union
 
-from ._library import NONE, Counts, Fault, Handle, Limits, MappingStruct, Owner, are_position, as_data, as_url
-from ._library import bound_of, check, how_bits, index_of, lib, limit_of, taken, written
+from . import _declarations as declared
+from ._declarations import DROPPED, NONE
+from ._library import Counts, Owner, are_position, as_data, as_url, bound_of, check, how_bits, index_of, lib
+from ._library import limit_of, taken, written
 from .files import read_file
 from .links import file_url
 from .traces import translate
@@ -42,7 +44,7 @@ class Mapping:
 
 def respell(text: bytes) -> bytes:
     """A mappings text, sorted and as short as possible. Raises RefusedError."""
-    text, out, fault = as_data("a mappings text", text), Handle(), Fault()
+    text, out, fault = as_data("a mappings text", text), declared.Bytes(), declared.Fault()
     check(lib.smap_respell(text, len(text), byref(out), byref(fault)), fault)
     return taken(out)
 
@@ -54,8 +56,10 @@ class Map(Owner):
     that the map doesn't have, a negative one too, raises IndexError.
     """
 
+    _free = lib.smap_close
+
     def __init__(self) -> None:
-        self._handle = Handle()
+        self._handle = declared.Map()
 
     @classmethod
     def open(
@@ -72,8 +76,8 @@ class Map(Owner):
         if isinstance(data, str):
             raise TypeError("a map is bytes, not str: read its file in mode 'rb', or call Map.from_file")
         data, url = as_data("a map", data), as_url("the base of a map", base)
-        made, fault = cls(), Fault()
-        limits = Limits(limit_of("items", items), limit_of("lines", lines))
+        made, fault = cls(), declared.Fault()
+        limits = declared.Limits(limit_of("items", items), limit_of("lines", lines))
         words = byref(made._handle), data, len(data), url, len(url), byref(limits)
         if url_bytes is None:
             code = lib.smap_open(*words, byref(fault))
@@ -100,21 +104,6 @@ class Map(Owner):
         if base is None:
             base = file_url(os.path.abspath(file)) or ""
         return cls.open(read_file(file), base, items, lines, url_bytes)
-
-    def close(self) -> None:
-        """Frees the map. Closing it twice does nothing."""
-        lib.smap_close(byref(self._handle))
-
-    def __enter__(self) -> Map:
-        return self
-
-    def __exit__(self, *error: object) -> None:
-        self.close()
-
-    def __del__(self) -> None:
-        # at the end of the interpreter the module may be empty
-        if "lib" in globals() and lib is not None:
-            self.close()
 
     def share(self) -> Map:
         """The same map once more, as for another thread; nothing is copied."""
@@ -201,7 +190,7 @@ class Map(Owner):
         """The same without URL and name, which is faster."""
         if not are_position(line, column):
             return None
-        m = MappingStruct()
+        m = declared.Mapping()
         code = lib.smap_lookup(byref(self._handle), line, column, byref(m))
         if code == NONE:
             return None
@@ -220,14 +209,14 @@ class Map(Owner):
         return i.value
 
     @staticmethod
-    def _mapping(m: MappingStruct) -> Mapping:
+    def _mapping(m: declared.Mapping) -> Mapping:
         source = m.source if m.has_source else None
         place = (m.line, m.column, source, m.source_line, m.source_column)
         return Mapping(*place, m.is_ignored, m.has_name)
 
     def mappings(self) -> Iterator[Mapping]:
         """All mappings, in order of line and column, without URLs and names."""
-        m = MappingStruct()
+        m = declared.Mapping()
         for i in range(self.counts().mappings):
             check(lib.smap_token(byref(self._handle), i, byref(m)))
             yield self._mapping(m)
@@ -261,7 +250,7 @@ class Map(Owner):
                 )
             )
             if n.value <= room:
-                return None if became.value == 2 else out.raw[: n.value]
+                return None if became.value == DROPPED else out.raw[: n.value]
             room = n.value
 
     def translate(

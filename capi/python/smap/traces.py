@@ -7,8 +7,9 @@ from ctypes import byref
 from dataclasses import dataclass
 from typing import TYPE_CHECKING, AnyStr, Dict, Iterable, Optional, Tuple
 
-from ._library import OK, FrameStruct, Handle, Owner, TraceCounts, as_data, as_url, check, how_bits, lib
-from ._library import taken
+from . import _declarations as declared
+from ._declarations import OK
+from ._library import Owner, TraceCounts, as_data, as_url, check, how_bits, lib, taken
 
 if TYPE_CHECKING:
     from .maps import Map
@@ -27,7 +28,7 @@ class Frame:
 
 def frame(line: bytes) -> Optional[Frame]:
     """The frame that a line is, taken without its line feed, if it is one."""
-    line, parts = as_data("a line", line), FrameStruct()
+    line, parts = as_data("a line", line), declared.FrameParts()
     if lib.smap_frame(line, len(line), byref(parts)) != OK:
         return None
     return Frame(line[parts.url_from : parts.url_from + parts.url_len], parts.line, parts.column)
@@ -45,7 +46,7 @@ def named_scripts(trace: bytes) -> Dict[bytes, int]:
 def named_by(lines: Iterable[bytes]) -> Dict[bytes, int]:
     """The same for some lines, without their line feeds."""
     named: Dict[bytes, int] = {}
-    parts, call = FrameStruct(), lib.smap_frame
+    parts, call = declared.FrameParts(), lib.smap_frame
     at = byref(parts)
     for line, times in Counter(lines).items():
         if call(line, len(line), at) == OK:
@@ -60,8 +61,10 @@ class Scripts(Owner):
     They can't be copied or pickled, which raises TypeError.
     """
 
+    _free = lib.smap_close_scripts
+
     def __init__(self, scripts: Optional[Dict[str, Map]] = None) -> None:
-        self._handle = Handle()
+        self._handle = declared.Scripts()
         for url, script in (scripts or {}).items():
             self.add(url, script)
 
@@ -70,21 +73,6 @@ class Scripts(Owner):
         name = as_url("the name of a script", url)
         check(lib.smap_add_script(byref(self._handle), name, len(name), byref(script._handle)))
 
-    def close(self) -> None:
-        """Frees the scripts. Closing them twice does nothing."""
-        lib.smap_close_scripts(byref(self._handle))
-
-    def __enter__(self) -> Scripts:
-        return self
-
-    def __exit__(self, *error: object) -> None:
-        self.close()
-
-    def __del__(self) -> None:
-        # at the end of the interpreter the module may be empty
-        if "lib" in globals() and lib is not None:
-            self.close()
-
     def translate(
         self, trace: bytes, hide: bool = False, *, anywhere: bool = False, ignore_query: bool = False
     ) -> Tuple[bytes, TraceCounts]:
@@ -92,7 +80,7 @@ class Scripts(Owner):
 
         The words are those of `smap.translate`.
         """
-        trace, out, counts = as_data("a trace", trace), Handle(), TraceCounts()
+        trace, out, counts = as_data("a trace", trace), declared.Bytes(), TraceCounts()
         if not self._handle.is_open:
             return trace, TraceCounts(trace.count(b"\n") + (trace[-1:] not in (b"", b"\n")), 0, 0)
         how = how_bits(hide, anywhere, ignore_query)
