@@ -37,8 +37,8 @@ fn fields() -> Result<(), Error> {
         let listed = ListedMapping { line, column, source: listed_source, source_line, source_column, name };
         assert_eq!(map.listed_mapping(i), Some(listed));
     }
-    let counts = Counts { sources: 4, listed_sources: 6, names: 7, mappings: 5, lines: 9 };
-    assert_eq!(map.counts(), counts);
+    let Counts { sources, listed_sources, names, mappings, lines, .. } = map.counts();
+    assert_eq!((sources, listed_sources, names, mappings, lines), (4, 6, 7, 5, 9));
     assert!(Map::open_within(DIFFERENT, BASE, Limits { items: 9, lines: 7 }).is_err());
     let mut scripts = Scripts::new();
     scripts.add("u", &map)?;

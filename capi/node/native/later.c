@@ -80,7 +80,7 @@ static napi_value start(napi_env env, opening *o)
 }
 
 /* openLater(text, url, items, lines, urlBytes): a promise of a handle */
-napi_value do_open_later(napi_env env, napi_callback_info info)
+static napi_value do_open_later(napi_env env, napi_callback_info info)
 {
     ARGUMENTS(5);
     opening *o = calloc(1, sizeof *o);
@@ -89,3 +89,8 @@ napi_value do_open_later(napi_env env, napi_callback_info info)
     if (!promise) free_opening(env, o);
     return promise;
 }
+
+const call later_calls[] = {
+    {"openLater", do_open_later},
+    {NULL, NULL},
+};

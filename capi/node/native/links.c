@@ -49,25 +49,25 @@ static napi_value of_two(napi_env env, napi_callback_info info, call_of_two *cal
 }
 
 /* inlineMap(url) */
-napi_value do_inline_map(napi_env env, napi_callback_info info)
+static napi_value do_inline_map(napi_env env, napi_callback_info info)
 {
     return of_one(env, info, smap_data_url);
 }
 
 /* fileUrl(path) */
-napi_value do_file_url(napi_env env, napi_callback_info info)
+static napi_value do_file_url(napi_env env, napi_callback_info info)
 {
     return of_one(env, info, smap_file_url);
 }
 
 /* filePath(url) */
-napi_value do_file_path(napi_env env, napi_callback_info info)
+static napi_value do_file_path(napi_env env, napi_callback_info info)
 {
     return of_one(env, info, smap_file_path);
 }
 
 /* normalForm(name, query) */
-napi_value do_normal_form(napi_env env, napi_callback_info info)
+static napi_value do_normal_form(napi_env env, napi_callback_info info)
 {
     text_in text;
     bool query;
@@ -81,19 +81,19 @@ napi_value do_normal_form(napi_env env, napi_callback_info info)
 }
 
 /* resolveLink(script, link) */
-napi_value do_resolve_link(napi_env env, napi_callback_info info)
+static napi_value do_resolve_link(napi_env env, napi_callback_info info)
 {
     return of_two(env, info, smap_resolve);
 }
 
 /* scriptUrl(folder, name) */
-napi_value do_script_url(napi_env env, napi_callback_info info)
+static napi_value do_script_url(napi_env env, napi_callback_info info)
 {
     return of_two(env, info, smap_script_url);
 }
 
 /* scriptName(folder, url) */
-napi_value do_script_name(napi_env env, napi_callback_info info)
+static napi_value do_script_name(napi_env env, napi_callback_info info)
 {
     return of_two(env, info, smap_script_name);
 }
@@ -116,7 +116,7 @@ static napi_value link_in(napi_env env, const text_in *text, bool css)
 }
 
 /* scriptLink(text, css) */
-napi_value do_script_link(napi_env env, napi_callback_info info)
+static napi_value do_script_link(napi_env env, napi_callback_info info)
 {
     text_in text;
     bool css;
@@ -129,7 +129,7 @@ napi_value do_script_link(napi_env env, napi_callback_info info)
 }
 
 /* areAlike(one, other): a boolean */
-napi_value do_are_alike(napi_env env, napi_callback_info info)
+static napi_value do_are_alike(napi_env env, napi_callback_info info)
 {
     text_in one, other;
     bool alike = false;
@@ -143,3 +143,16 @@ napi_value do_are_alike(napi_env env, napi_callback_info info)
     CALL(napi_get_boolean(env, alike, &out));
     return out;
 }
+
+const call link_calls[] = {
+    {"inlineMap", do_inline_map},
+    {"fileUrl", do_file_url},
+    {"filePath", do_file_path},
+    {"normalForm", do_normal_form},
+    {"resolveLink", do_resolve_link},
+    {"scriptUrl", do_script_url},
+    {"scriptName", do_script_name},
+    {"scriptLink", do_script_link},
+    {"areAlike", do_are_alike},
+    {NULL, NULL},
+};

@@ -154,7 +154,7 @@ static bool look_for(napi_env env, const text_in *text, napi_value value)
 
 /* open(text, url, items, lines, urlBytes, word): a handle. If a word is given, `found` has whether the text may have
  * it, which is sooner found out here than in JavaScript. */
-napi_value do_open(napi_env env, napi_callback_info info)
+static napi_value do_open(napi_env env, napi_callback_info info)
 {
     text_in text, url;
     smap_limits limits;
@@ -185,7 +185,7 @@ napi_value do_open(napi_env env, napi_callback_info info)
 }
 
 /* close(map) */
-napi_value do_close(napi_env env, napi_callback_info info)
+static napi_value do_close(napi_env env, napi_callback_info info)
 {
     ARGUMENTS(1);
     boxed_map *boxed = map_of(env, w[0]);
@@ -196,7 +196,7 @@ napi_value do_close(napi_env env, napi_callback_info info)
 }
 
 /* told(): how many bytes V8 was told of by all addons, for tests */
-napi_value do_told(napi_env env, napi_callback_info info)
+static napi_value do_told(napi_env env, napi_callback_info info)
 {
     int64_t now = 0;
     napi_value out;
@@ -207,7 +207,7 @@ napi_value do_told(napi_env env, napi_callback_info info)
 }
 
 /* held(map): how many bytes V8 was told of */
-napi_value do_held(napi_env env, napi_callback_info info)
+static napi_value do_held(napi_env env, napi_callback_info info)
 {
     napi_value out;
     ARGUMENTS(1);
@@ -218,7 +218,7 @@ napi_value do_held(napi_env env, napi_callback_info info)
 }
 
 /* same(map, other) */
-napi_value do_same(napi_env env, napi_callback_info info)
+static napi_value do_same(napi_env env, napi_callback_info info)
 {
     bool same = false;
     napi_value out;
@@ -271,7 +271,7 @@ static shared_map *take_shared(int64_t number)
 }
 
 /* share(map): a number */
-napi_value do_share(napi_env env, napi_callback_info info)
+static napi_value do_share(napi_env env, napi_callback_info info)
 {
     napi_value out;
     ARGUMENTS(1);
@@ -289,7 +289,7 @@ napi_value do_share(napi_env env, napi_callback_info info)
 }
 
 /* take(number): a handle, once */
-napi_value do_take(napi_env env, napi_callback_info info)
+static napi_value do_take(napi_env env, napi_callback_info info)
 {
     int64_t number;
     ARGUMENTS(1);
@@ -306,3 +306,14 @@ napi_value do_take(napi_env env, napi_callback_info info)
     free(one);
     return map_out(env, boxed, held);
 }
+
+const call map_calls[] = {
+    {"open", do_open},
+    {"close", do_close},
+    {"told", do_told},
+    {"held", do_held},
+    {"same", do_same},
+    {"share", do_share},
+    {"take", do_take},
+    {NULL, NULL},
+};

@@ -56,47 +56,16 @@ static napi_value do_start(napi_env env, napi_callback_info info)
     return out;
 }
 
-static const struct {
-    const char *name;
-    napi_callback call;
-} calls[] = {
+static const call module_calls[] = {
     {"start", do_start},
     {"version", do_version},
-    {"open", do_open},
-    {"openLater", do_open_later},
-    {"close", do_close},
-    {"told", do_told},
-    {"held", do_held},
-    {"same", do_same},
-    {"share", do_share},
-    {"take", do_take},
-    {"counts", do_counts},
-    {"lookup", do_lookup},
-    {"listedAt", do_listed_at},
-    {"text", do_text},
-    {"texts", do_texts},
-    {"flags", do_flags},
-    {"table", do_table},
-    {"written", do_written},
-    {"respell", do_respell},
-    {"scripts", do_scripts},
-    {"addScript", do_add_script},
-    {"closeScripts", do_close_scripts},
-    {"translate", do_translate},
-    {"frame", do_frame},
-    {"scriptLink", do_script_link},
-    {"resolveLink", do_resolve_link},
-    {"inlineMap", do_inline_map},
-    {"fileUrl", do_file_url},
-    {"filePath", do_file_path},
-    {"scriptUrl", do_script_url},
-    {"scriptName", do_script_name},
-    {"normalForm", do_normal_form},
-    {"areAlike", do_are_alike},
+    {NULL, NULL},
+};
+
+static const call *const tables[] = {
+    module_calls, map_calls, later_calls, question_calls, trace_calls, link_calls,
 #ifdef SMAP_NODE_TEST
-    /* test/refuse.c */
-    {"refuse", do_refuse},
-    {"allocated", do_allocated},
+    test_calls,
 #endif
 };
 
@@ -111,10 +80,11 @@ NAPI_MODULE_INIT()
         free(own);
         return failed(env);
     }
-    for (size_t i = 0; i < sizeof calls / sizeof *calls; i++) {
-        napi_value function;
-        CALL(napi_create_function(env, calls[i].name, NAPI_AUTO_LENGTH, calls[i].call, own, &function));
-        CALL(napi_set_named_property(env, exports, calls[i].name, function));
-    }
+    for (size_t i = 0; i < sizeof tables / sizeof *tables; i++)
+        for (const call *c = tables[i]; c->name; c++) {
+            napi_value function;
+            CALL(napi_create_function(env, c->name, NAPI_AUTO_LENGTH, c->function, own, &function));
+            CALL(napi_set_named_property(env, exports, c->name, function));
+        }
     return exports;
 }

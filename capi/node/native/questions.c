@@ -7,16 +7,27 @@
     boxed_map *boxed = map_of(env, w[0]);                                                                    \
     if (!boxed) return NULL
 
-/* counts(map): [sources, listed sources, names, mappings, lines] */
-napi_value do_counts(napi_env env, napi_callback_info info)
+/* counts(map): {sources, listedSources, names, mappings, lines} */
+static napi_value do_counts(napi_env env, napi_callback_info info)
 {
     smap_counts counts;
+    napi_value out, number;
     MAP_AND(1);
     uint32_t code = smap_count(&boxed->map, &counts);
     if (code != SMAP_OK) return throw_code(env, code, NULL);
-    const uint64_t all[] = {counts.sources, counts.listed_sources, counts.names, counts.mappings,
-                            counts.lines};
-    return numbers_out(env, all, 5);
+    const struct {
+        const char *name;
+        uint64_t count;
+    } all[] = {
+        {"sources", counts.sources},   {"listedSources", counts.listed_sources}, {"names", counts.names},
+        {"mappings", counts.mappings}, {"lines", counts.lines},
+    };
+    CALL(napi_create_object(env, &out));
+    for (size_t i = 0; i < sizeof all / sizeof *all; i++) {
+        CALL(napi_create_int64(env, (int64_t)all[i].count, &number));
+        CALL(napi_set_named_property(env, out, all[i].name, number));
+    }
+    return out;
 }
 
 /* A mapping, by its number, in the array that index.js reads: line, column, source, source line, source
@@ -40,7 +51,7 @@ static uint32_t put_found(smap_map *map, size_t i, uint32_t *found)
 }
 
 /* lookup(map, line, column): whether there is a mapping. It is in `found` then. */
-napi_value do_lookup(napi_env env, napi_callback_info info)
+static napi_value do_lookup(napi_env env, napi_callback_info info)
 {
     thread_data *own;
     uint32_t line, column;
@@ -83,7 +94,7 @@ static uint32_t first_there(smap_map *map, size_t i, smap_listed_mapping *m)
 
 /* listedAt(map, line, column): whether there is a mapping, of the listing, and the first of those that are at
  * this very position. It is in `found` then. */
-napi_value do_listed_at(napi_env env, napi_callback_info info)
+static napi_value do_listed_at(napi_env env, napi_callback_info info)
 {
     thread_data *own;
     uint32_t line, column;
@@ -143,7 +154,7 @@ static napi_value got(napi_env env, smap_map *map, uint32_t which, uint32_t i)
 }
 
 /* text(map, which, i): a string or null */
-napi_value do_text(napi_env env, napi_callback_info info)
+static napi_value do_text(napi_env env, napi_callback_info info)
 {
     uint32_t which, i;
     MAP_AND(3);
@@ -153,7 +164,7 @@ napi_value do_text(napi_env env, napi_callback_info info)
 }
 
 /* texts(map, which, count): the texts of the numbers below `count` */
-napi_value do_texts(napi_env env, napi_callback_info info)
+static napi_value do_texts(napi_env env, napi_callback_info info)
 {
     uint32_t which, count;
     napi_value out;
@@ -188,7 +199,7 @@ static bool words_of(napi_env env, napi_value value, uint32_t **at, size_t *len)
 
 /* flags(map, which, to): a number for each source or listed source: 0, whether it is ignored; 1, which source
  * the listed one is */
-napi_value do_flags(napi_env env, napi_callback_info info)
+static napi_value do_flags(napi_env env, napi_callback_info info)
 {
     uint32_t which, *to;
     size_t count;
@@ -208,7 +219,7 @@ napi_value do_flags(napi_env env, napi_callback_info info)
 
 /* table(map, to): the mappings of the listing as six columns one after another. As many as there is room
  * for. */
-napi_value do_table(napi_env env, napi_callback_info info)
+static napi_value do_table(napi_env env, napi_callback_info info)
 {
     size_t n;
     uint32_t *to;
@@ -229,7 +240,7 @@ napi_value do_table(napi_env env, napi_callback_info info)
 /* ---- what is written */
 
 /* written(map, which, asBuffer): 0 canonical, 1 relative, 2 canonical mappings, 3 flat */
-napi_value do_written(napi_env env, napi_callback_info info)
+static napi_value do_written(napi_env env, napi_callback_info info)
 {
     uint32_t which, code;
     bool as_buffer;
@@ -248,7 +259,7 @@ napi_value do_written(napi_env env, napi_callback_info info)
 }
 
 /* respell(text) */
-napi_value do_respell(napi_env env, napi_callback_info info)
+static napi_value do_respell(napi_env env, napi_callback_info info)
 {
     text_in text;
     smap_bytes bytes = {0};
@@ -260,3 +271,16 @@ napi_value do_respell(napi_env env, napi_callback_info info)
     if (code != SMAP_OK) return throw_code(env, code, &fault);
     return bytes_out(env, &bytes, false);
 }
+
+const call question_calls[] = {
+    {"counts", do_counts},
+    {"lookup", do_lookup},
+    {"listedAt", do_listed_at},
+    {"text", do_text},
+    {"texts", do_texts},
+    {"flags", do_flags},
+    {"table", do_table},
+    {"written", do_written},
+    {"respell", do_respell},
+    {NULL, NULL},
+};

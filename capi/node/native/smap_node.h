@@ -116,7 +116,6 @@ boxed_map *new_map(void);
 /* A handle of an open map, of which V8 is told that it holds so many bytes; or throws, and frees it. */
 napi_value map_out(napi_env env, boxed_map *boxed, int64_t held);
 
-/* How many bytes an open map holds, about. */
 /* The greatest number of bytes of URLs that an argument is; -1, for none, if it is undefined. */
 bool url_bytes_of(napi_env env, napi_value value, int64_t *url_bytes);
 
@@ -124,6 +123,7 @@ bool url_bytes_of(napi_env env, napi_value value, int64_t *url_bytes);
 uint32_t open_map(smap_map *map, const text_in *text, const text_in *url, const smap_limits *limits,
                   int64_t url_bytes, smap_fault *fault);
 
+/* How many bytes an open map holds, about. */
 int64_t held_by(smap_map *map);
 
 /* Tells V8 that so many bytes more, or fewer, hang on its objects: it sees some ten bytes of a handle, and
@@ -132,43 +132,16 @@ void tell_held(napi_env env, int64_t more);
 
 /* ---- what index.js calls */
 
-napi_value do_open(napi_env env, napi_callback_info info);
-napi_value do_open_later(napi_env env, napi_callback_info info);
-napi_value do_close(napi_env env, napi_callback_info info);
-napi_value do_told(napi_env env, napi_callback_info info);
-napi_value do_held(napi_env env, napi_callback_info info);
-napi_value do_same(napi_env env, napi_callback_info info);
-napi_value do_share(napi_env env, napi_callback_info info);
-napi_value do_take(napi_env env, napi_callback_info info);
+/* A function, by the name that JavaScript has for it. */
+typedef struct call {
+    const char *name;
+    napi_callback function;
+} call;
 
-napi_value do_counts(napi_env env, napi_callback_info info);
-napi_value do_lookup(napi_env env, napi_callback_info info);
-napi_value do_listed_at(napi_env env, napi_callback_info info);
-napi_value do_text(napi_env env, napi_callback_info info);
-napi_value do_texts(napi_env env, napi_callback_info info);
-napi_value do_flags(napi_env env, napi_callback_info info);
-napi_value do_table(napi_env env, napi_callback_info info);
-napi_value do_written(napi_env env, napi_callback_info info);
-napi_value do_respell(napi_env env, napi_callback_info info);
-
-napi_value do_scripts(napi_env env, napi_callback_info info);
-napi_value do_add_script(napi_env env, napi_callback_info info);
-napi_value do_close_scripts(napi_env env, napi_callback_info info);
-napi_value do_translate(napi_env env, napi_callback_info info);
-napi_value do_frame(napi_env env, napi_callback_info info);
-
-napi_value do_script_link(napi_env env, napi_callback_info info);
-napi_value do_resolve_link(napi_env env, napi_callback_info info);
-napi_value do_inline_map(napi_env env, napi_callback_info info);
-napi_value do_file_url(napi_env env, napi_callback_info info);
-napi_value do_file_path(napi_env env, napi_callback_info info);
-napi_value do_script_url(napi_env env, napi_callback_info info);
-napi_value do_script_name(napi_env env, napi_callback_info info);
-napi_value do_normal_form(napi_env env, napi_callback_info info);
-napi_value do_are_alike(napi_env env, napi_callback_info info);
+/* Those of a file, which end with one that has no name. */
+extern const call map_calls[], later_calls[], question_calls[], trace_calls[], link_calls[];
 #ifdef SMAP_NODE_TEST
-napi_value do_refuse(napi_env env, napi_callback_info info);
-napi_value do_allocated(napi_env env, napi_callback_info info);
+extern const call test_calls[];
 #endif
 
 #endif

@@ -20,7 +20,7 @@ static void free_scripts(napi_env env, void *at, void *hint)
 }
 
 /* scripts(): a handle */
-napi_value do_scripts(napi_env env, napi_callback_info info)
+static napi_value do_scripts(napi_env env, napi_callback_info info)
 {
     napi_value handle;
     boxed_scripts *boxed = calloc(1, sizeof *boxed);
@@ -34,7 +34,7 @@ napi_value do_scripts(napi_env env, napi_callback_info info)
 
 /* addScript(scripts, url, map, gone): how many bytes the map holds. V8 is told that the scripts hold them in
  * place of the `gone` bytes of the map that the script had; or of nothing, if `gone` is -1. */
-napi_value do_add_script(napi_env env, napi_callback_info info)
+static napi_value do_add_script(napi_env env, napi_callback_info info)
 {
     text_in url;
     int64_t gone, held;
@@ -59,7 +59,7 @@ napi_value do_add_script(napi_env env, napi_callback_info info)
 }
 
 /* closeScripts(scripts) */
-napi_value do_close_scripts(napi_env env, napi_callback_info info)
+static napi_value do_close_scripts(napi_env env, napi_callback_info info)
 {
     ARGUMENTS(1);
     boxed_scripts *boxed = scripts_of(env, w[0]);
@@ -72,7 +72,7 @@ napi_value do_close_scripts(napi_env env, napi_callback_info info)
 }
 
 /* translate(scripts, trace, how, asBuffer): [trace, lines, translated, dropped] */
-napi_value do_translate(napi_env env, napi_callback_info info)
+static napi_value do_translate(napi_env env, napi_callback_info info)
 {
     text_in trace;
     bool as_buffer;
@@ -99,7 +99,7 @@ napi_value do_translate(napi_env env, napi_callback_info info)
 }
 
 /* frame(line): [where its URL begins, and its length, in bytes; line; column], or null */
-napi_value do_frame(napi_env env, napi_callback_info info)
+static napi_value do_frame(napi_env env, napi_callback_info info)
 {
     text_in line;
     smap_frame_parts parts;
@@ -115,3 +115,12 @@ napi_value do_frame(napi_env env, napi_callback_info info)
     CALL(napi_get_null(env, &out));
     return out;
 }
+
+const call trace_calls[] = {
+    {"scripts", do_scripts},
+    {"addScript", do_add_script},
+    {"closeScripts", do_close_scripts},
+    {"translate", do_translate},
+    {"frame", do_frame},
+    {NULL, NULL},
+};

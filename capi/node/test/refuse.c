@@ -54,7 +54,7 @@ void __wrap_free(void *old)
 
 /* refuse(n): the request after the next n of this thread is refused; -1: none is. How many of the n weren't
  * made is returned, or -1 if one was refused. */
-napi_value do_refuse(napi_env env, napi_callback_info info)
+static napi_value do_refuse(napi_env env, napi_callback_info info)
 {
     napi_value out;
     ARGUMENTS(1);
@@ -65,10 +65,16 @@ napi_value do_refuse(napi_env env, napi_callback_info info)
 }
 
 /* allocated(): how many bytes this thread has allocated and not freed */
-napi_value do_allocated(napi_env env, napi_callback_info info)
+static napi_value do_allocated(napi_env env, napi_callback_info info)
 {
     napi_value out;
     (void)info;
     CALL(napi_create_int64(env, allocated, &out));
     return out;
 }
+
+const call test_calls[] = {
+    {"refuse", do_refuse},
+    {"allocated", do_allocated},
+    {NULL, NULL},
+};
