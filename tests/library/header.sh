@@ -86,6 +86,14 @@ kinds_are_explained() {
         [ -s "$work/explained" ]
 }
 
+# Each name of the library that a page has is one of the header, or that of a crate.
+pages_name_what_is_declared() {
+    { preprocessed | grep -o '\<smap_[a-z0-9_]*' && ls crates && echo smap_; } | sort -u >"$work/known"
+    grep -o -h '`[^`]*`' capi/README.md docs/ARCHITECTURE.md docs/CLAIMS.md docs/DECISIONS.md docs/LINKING.md |
+        grep -o '\<smap_[a-z0-9_]*' | sort -u >"$work/named"
+    [ -s "$work/named" ] && ! comm -23 "$work/named" "$work/known" | grep .
+}
+
 soname() {
     objdump -p "$lib/libsmap.so" | grep -q 'SONAME *libsmap.so.0'
 }
@@ -125,6 +133,7 @@ test_header() {
     fi
     try 'the header has the numbers of the definitions' numbers_agree
     try 'docs/OUTPUT.md explains each kind of error' kinds_are_explained
+    try 'the pages name what the header declares' pages_name_what_is_declared
     if has objdump 'the name of the shared object, the versions of its names'; then
         try 'the shared object has its name' soname
         try 'the names of the shared object have their versions' versions_agree

@@ -112,7 +112,10 @@ test('the names of kinds and codes are those of the header', is, () => {
   assert.deepEqual([...source.matchAll(/\[(SMAP_(?!FAULT)\w+)\] = "\1"/g)].map(match => match[1]), codes);
   assert.equal(codes.length, 11);
   const given = /type SmapErrorCode =([^;]*);/.exec(types)[1].match(/SMAP_\w+/g);
-  assert.deepEqual(given.sort(), codes.filter(code => !['SMAP_OK', 'SMAP_NONE'].includes(code)).sort());
+  const thrown = codes.filter(code => !['SMAP_OK', 'SMAP_NONE'].includes(code));
+  assert.deepEqual(given, thrown);
+  const page = fs.readFileSync(path.join(__dirname, '..', 'README.md'), 'utf8');
+  assert.deepEqual(/^`code` is (.*), and `kind`/m.exec(page)[1].match(/SMAP_\w+/g), thrown);
 });
 
 test('each kind has a map above, but one that no URL parser gives cause for', is, () => {
