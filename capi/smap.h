@@ -423,7 +423,7 @@ SMAP_INLINE uint32_t smap_alike(const char *one, size_t one_len, const char *oth
 
 #ifndef SMAP_NO_INLINE
 
-/* ---- texts that end with a NUL
+/* ---- texts that end with a NUL (tools/write-bindings writes this part, out of the declarations above)
  *
  * NAME_text is NAME for such texts, without their lengths. NULL stands for an empty one. */
 
@@ -441,7 +441,8 @@ static inline uint32_t smap_open_text(smap_map *map, const char *text, const cha
 }
 
 static inline uint32_t smap_open_within_text(smap_map *map, const char *text, const char *base,
-                                             const smap_limits *limits, size_t url_bytes, smap_fault *fault)
+                                             const smap_limits *limits, size_t url_bytes,
+                                             smap_fault *fault)
 {
     return smap_open_within(map, text, smap_length_(text), base, smap_length_(base), limits, url_bytes,
                             fault);
@@ -527,13 +528,13 @@ static inline uint32_t smap_alike_text(const char *one, const char *other, bool 
  * NAME_strict is the library's function NAME, which takes no NULL. It has this second name since nothing in C
  * calls a function of a library from an inline function that has its name. */
 
+size_t smap_code_name_strict(uint32_t code, char *out, size_t room);
+size_t smap_fault_name_strict(uint32_t kind, char *out, size_t room);
 uint32_t smap_open_strict(smap_map *map, const void *text, size_t len, const char *base, size_t base_len,
                           const smap_limits *limits, smap_fault *fault);
 uint32_t smap_open_within_strict(smap_map *map, const void *text, size_t len, const char *base,
                                  size_t base_len, const smap_limits *limits, size_t url_bytes,
                                  smap_fault *fault);
-size_t smap_code_name_strict(uint32_t code, char *out, size_t room);
-size_t smap_fault_name_strict(uint32_t kind, char *out, size_t room);
 uint32_t smap_file_strict(smap_map *map, char *out, size_t room, size_t *len);
 uint32_t smap_name_at_strict(smap_map *map, uint32_t line, uint32_t column, char *out, size_t room,
                              size_t *len);
@@ -563,103 +564,104 @@ uint32_t smap_script_url_strict(const char *folder, size_t folder_len, const cha
 uint32_t smap_script_name_strict(const char *folder, size_t folder_len, const char *url, size_t url_len,
                                  smap_bytes *out);
 uint32_t smap_normal_form_strict(const char *name, size_t len, bool with_query, smap_bytes *out);
-uint32_t smap_alike_strict(const char *one, size_t one_len, const char *other, size_t other_len, bool *out);
+uint32_t smap_alike_strict(const char *one, size_t one_len, const char *other, size_t other_len,
+                           bool *out);
 
 static const char smap_no_text_[1] = {0};
+
+static inline size_t smap_code_name(uint32_t code, char *out, size_t room)
+{
+    char no_out;
+    return smap_code_name_strict(code, out ? out : &no_out, room);
+}
+
+static inline size_t smap_fault_name(uint32_t kind, char *out, size_t room)
+{
+    char no_out;
+    return smap_fault_name_strict(kind, out ? out : &no_out, room);
+}
 
 static inline uint32_t smap_open(smap_map *map, const void *text, size_t len, const char *base,
                                  size_t base_len, const smap_limits *limits, smap_fault *fault)
 {
-    const smap_limits usual = {0, 0};
-    smap_fault unwanted;
+    const smap_limits no_limits = {0, 0};
+    smap_fault no_fault;
     return smap_open_strict(map, text ? text : smap_no_text_, len, base ? base : smap_no_text_, base_len,
-                            limits ? limits : &usual, fault ? fault : &unwanted);
+                            limits ? limits : &no_limits, fault ? fault : &no_fault);
 }
 
 static inline uint32_t smap_open_within(smap_map *map, const void *text, size_t len, const char *base,
                                         size_t base_len, const smap_limits *limits, size_t url_bytes,
                                         smap_fault *fault)
 {
-    const smap_limits usual = {0, 0};
-    smap_fault unwanted;
+    const smap_limits no_limits = {0, 0};
+    smap_fault no_fault;
     return smap_open_within_strict(map, text ? text : smap_no_text_, len, base ? base : smap_no_text_,
-                                   base_len, limits ? limits : &usual, url_bytes,
-                                   fault ? fault : &unwanted);
-}
-
-static inline size_t smap_code_name(uint32_t code, char *out, size_t room)
-{
-    char none;
-    return smap_code_name_strict(code, out ? out : &none, room);
-}
-
-static inline size_t smap_fault_name(uint32_t kind, char *out, size_t room)
-{
-    char none;
-    return smap_fault_name_strict(kind, out ? out : &none, room);
+                                   base_len, limits ? limits : &no_limits, url_bytes,
+                                   fault ? fault : &no_fault);
 }
 
 static inline uint32_t smap_file(smap_map *map, char *out, size_t room, size_t *len)
 {
-    char none;
-    size_t unwanted;
-    return smap_file_strict(map, out ? out : &none, room, len ? len : &unwanted);
+    char no_out;
+    size_t no_len;
+    return smap_file_strict(map, out ? out : &no_out, room, len ? len : &no_len);
 }
 
 static inline uint32_t smap_name_at(smap_map *map, uint32_t line, uint32_t column, char *out, size_t room,
                                     size_t *len)
 {
-    char none;
-    size_t unwanted;
-    return smap_name_at_strict(map, line, column, out ? out : &none, room, len ? len : &unwanted);
+    char no_out;
+    size_t no_len;
+    return smap_name_at_strict(map, line, column, out ? out : &no_out, room, len ? len : &no_len);
 }
 
 static inline uint32_t smap_source_url(smap_map *map, size_t source, char *out, size_t room, size_t *len)
 {
-    char none;
-    size_t unwanted;
-    return smap_source_url_strict(map, source, out ? out : &none, room, len ? len : &unwanted);
+    char no_out;
+    size_t no_len;
+    return smap_source_url_strict(map, source, out ? out : &no_out, room, len ? len : &no_len);
 }
 
 static inline uint32_t smap_source_content(smap_map *map, size_t source, char *out, size_t room,
                                            size_t *len)
 {
-    char none;
-    size_t unwanted;
-    return smap_source_content_strict(map, source, out ? out : &none, room, len ? len : &unwanted);
+    char no_out;
+    size_t no_len;
+    return smap_source_content_strict(map, source, out ? out : &no_out, room, len ? len : &no_len);
 }
 
 static inline uint32_t smap_written_source(smap_map *map, size_t i, char *out, size_t room, size_t *len)
 {
-    char none;
-    size_t unwanted;
-    return smap_written_source_strict(map, i, out ? out : &none, room, len ? len : &unwanted);
+    char no_out;
+    size_t no_len;
+    return smap_written_source_strict(map, i, out ? out : &no_out, room, len ? len : &no_len);
 }
 
 static inline uint32_t smap_written_root(smap_map *map, size_t i, char *out, size_t room, size_t *len)
 {
-    char none;
-    size_t unwanted;
-    return smap_written_root_strict(map, i, out ? out : &none, room, len ? len : &unwanted);
+    char no_out;
+    size_t no_len;
+    return smap_written_root_strict(map, i, out ? out : &no_out, room, len ? len : &no_len);
 }
 
 static inline uint32_t smap_listed_name(smap_map *map, size_t i, char *out, size_t room, size_t *len)
 {
-    char none;
-    size_t unwanted;
-    return smap_listed_name_strict(map, i, out ? out : &none, room, len ? len : &unwanted);
+    char no_out;
+    size_t no_len;
+    return smap_listed_name_strict(map, i, out ? out : &no_out, room, len ? len : &no_len);
 }
 
 static inline size_t smap_bytes_copy(smap_bytes *bytes, size_t from, void *out, size_t room)
 {
-    char none;
-    return smap_bytes_copy_strict(bytes, from, out ? out : &none, room);
+    char no_out;
+    return smap_bytes_copy_strict(bytes, from, out ? out : &no_out, room);
 }
 
 static inline uint32_t smap_respell(const char *text, size_t len, smap_bytes *out, smap_fault *fault)
 {
-    smap_fault unwanted;
-    return smap_respell_strict(text ? text : smap_no_text_, len, out, fault ? fault : &unwanted);
+    smap_fault no_fault;
+    return smap_respell_strict(text ? text : smap_no_text_, len, out, fault ? fault : &no_fault);
 }
 
 static inline uint32_t smap_frame(const void *line, size_t len, smap_frame_parts *out)
@@ -667,16 +669,16 @@ static inline uint32_t smap_frame(const void *line, size_t len, smap_frame_parts
     return smap_frame_strict(line ? line : smap_no_text_, len, out);
 }
 
-static inline uint32_t smap_translate_line(smap_map *map, const char *url, size_t url_len, const void *line,
-                                           size_t line_len, uint8_t how, char *out, size_t room,
-                                           size_t *len, uint32_t *outcome)
+static inline uint32_t smap_translate_line(smap_map *map, const char *url, size_t url_len,
+                                           const void *line, size_t line_len, uint8_t how, char *out,
+                                           size_t room, size_t *len, uint32_t *outcome)
 {
-    char none;
-    size_t unwanted;
-    uint32_t ignored;
-    return smap_translate_line_strict(map, url ? url : smap_no_text_, url_len, line ? line : smap_no_text_,
-                                      line_len, how, out ? out : &none, room, len ? len : &unwanted,
-                                      outcome ? outcome : &ignored);
+    char no_out;
+    size_t no_len;
+    uint32_t no_outcome;
+    return smap_translate_line_strict(map, url ? url : smap_no_text_, url_len,
+                                      line ? line : smap_no_text_, line_len, how, out ? out : &no_out,
+                                      room, len ? len : &no_len, outcome ? outcome : &no_outcome);
 }
 
 static inline uint32_t smap_add_script(smap_scripts *scripts, const char *url, size_t url_len,
@@ -688,22 +690,22 @@ static inline uint32_t smap_add_script(smap_scripts *scripts, const char *url, s
 static inline uint32_t smap_translate(smap_scripts *scripts, const void *trace, size_t len, uint8_t how,
                                       smap_bytes *out, smap_trace_counts *counts)
 {
-    smap_trace_counts unwanted;
+    smap_trace_counts no_counts;
     return smap_translate_strict(scripts, trace ? trace : smap_no_text_, len, how, out,
-                                 counts ? counts : &unwanted);
+                                 counts ? counts : &no_counts);
 }
 
 static inline uint32_t smap_script_link(const void *text, size_t len, bool css, char *out, size_t room,
                                         size_t *url_len)
 {
-    char none;
-    size_t unwanted;
-    return smap_script_link_strict(text ? text : smap_no_text_, len, css, out ? out : &none, room,
-                                   url_len ? url_len : &unwanted);
+    char no_out;
+    size_t no_url_len;
+    return smap_script_link_strict(text ? text : smap_no_text_, len, css, out ? out : &no_out, room,
+                                   url_len ? url_len : &no_url_len);
 }
 
-static inline uint32_t smap_resolve(const char *script, size_t script_len, const char *url, size_t url_len,
-                                    smap_bytes *out)
+static inline uint32_t smap_resolve(const char *script, size_t script_len, const char *url,
+                                    size_t url_len, smap_bytes *out)
 {
     return smap_resolve_strict(script ? script : smap_no_text_, script_len, url ? url : smap_no_text_,
                                url_len, out);
@@ -727,8 +729,8 @@ static inline uint32_t smap_file_path(const char *url, size_t len, smap_bytes *o
 static inline uint32_t smap_script_url(const char *folder, size_t folder_len, const char *name,
                                        size_t name_len, smap_bytes *out)
 {
-    return smap_script_url_strict(folder ? folder : smap_no_text_, folder_len, name ? name : smap_no_text_,
-                                  name_len, out);
+    return smap_script_url_strict(folder ? folder : smap_no_text_, folder_len,
+                                  name ? name : smap_no_text_, name_len, out);
 }
 
 static inline uint32_t smap_script_name(const char *folder, size_t folder_len, const char *url,

@@ -38,7 +38,7 @@ class BindingsTest(unittest.TestCase):
 
     def assert_writes(self, names):
         """The check says that these files differ; they are written, and then no longer differ."""
-        said = [f"{name} isn't what capi/smap.h declares: run tools/write-bindings\n" for name in names]
+        said = [f"{name} isn't as tools/write-bindings writes it: run that\n" for name in names]
         self.assertEqual(self.run_tool("--check"), (1, "".join(said), ""))
         self.assertEqual(self.run_tool(), (0, "".join(f"{name}\n" for name in names), ""))
         self.assertEqual(self.run_tool("--check"), (0, "", ""))
@@ -68,7 +68,15 @@ class BindingsTest(unittest.TestCase):
         after = "uint32_t smap_held(smap_map *map, size_t *out);\n"
         new = "SMAP_INLINE uint32_t smap_more(smap_map *map, const char *text, size_t len, bool *out);\n"
         self.change(HEADER, after, after + new)
-        self.assert_writes([PYTHON, CRATE, WRAPPER, VERSIONS])
+        self.assert_writes([HEADER, PYTHON, CRATE, WRAPPER, VERSIONS])
+        for line in [
+            "static inline uint32_t smap_more_text(smap_map *map, const char *text, bool *out)\n",
+            "    return smap_more(map, text, smap_length_(text), out);\n",
+            "uint32_t smap_more_strict(smap_map *map, const char *text, size_t len, bool *out);\n",
+            "static inline uint32_t smap_more(smap_map *map, const char *text, size_t len, bool *out)\n",
+            "    return smap_more_strict(map, text ? text : smap_no_text_, len, out);\n",
+        ]:
+            self.assertEqual(self.read(HEADER).count(line), 1, line)
         parameters = "POINTER(Map), c_char_p, c_size_t, POINTER(c_bool)"
         self.assertIn(f'    ("smap_more", c_uint32, {parameters}),\n', self.read(PYTHON))
         parameters = "map: *mut smap_map, text: *const c_char, len: usize, out: *mut bool"
@@ -88,6 +96,7 @@ class BindingsTest(unittest.TestCase):
 
     def test_what_was_written_by_hand_is_seen(self):
         for name, old, new in [
+            (HEADER, "    smap_trace_counts no_counts;\n", ""),
             (PYTHON, "CLOSED = 5\n", "CLOSED = 6\n"),
             (CRATE, "    pub fn smap_close(map: *mut smap_map);\n", ""),
             (WRAPPER, "        pub fn smap_close(map: *mut Map);\n", ""),

@@ -276,70 +276,76 @@ mod tests {
     use super::*;
     use std::mem::{size_of, size_of_val};
 
-    macro_rules! lies {
-        ($struct:ident.$field:ident, $at:expr, $size:expr) => {
+    macro_rules! field {
+        ($struct:ident, $name:ident, $at:expr, $size:expr) => {
             let it = $struct::default();
-            let at = &it.$field as *const _ as usize - &it as *const _ as usize;
-            assert_eq!((at, size_of_val(&it.$field)), ($at, $size), stringify!($struct.$field));
+            let at = &it.$name as *const _ as usize - &it as *const _ as usize;
+            assert_eq!((at, size_of_val(&it.$name)), ($at, $size), stringify!($struct.$name));
+        };
+    }
+
+    macro_rules! whole {
+        ($struct:ident, $size:expr) => {
+            assert_eq!(size_of::<$struct>(), $size, stringify!($struct));
         };
     }
 
     #[test]
     fn fields_lie_where_c_has_them() {
-        lies!(smap_fault.kind, 0, 4);
-        lies!(smap_fault.line, 4, 4);
-        lies!(smap_fault.segment, 8, 4);
-        lies!(smap_fault.has_place, 12, 1);
-        lies!(smap_fault.number, 16, 8);
-        lies!(smap_fault.depth, 24, 8);
-        lies!(smap_fault.section, 32, 64);
-        lies!(smap_fault.text_len, 96, 8);
-        lies!(smap_fault.text, 104, 264);
-        lies!(smap_map.is_open, 0, 1);
-        lies!(smap_map.at, 8, 8);
-        lies!(smap_limits.items, 0, 4);
-        lies!(smap_limits.lines, 4, 4);
-        lies!(smap_counts.sources, 0, 8);
-        lies!(smap_counts.listed_sources, 8, 8);
-        lies!(smap_counts.names, 16, 8);
-        lies!(smap_counts.mappings, 24, 8);
-        lies!(smap_counts.lines, 32, 4);
-        lies!(smap_mapping.line, 0, 4);
-        lies!(smap_mapping.column, 4, 4);
-        lies!(smap_mapping.has_source, 8, 1);
-        lies!(smap_mapping.has_name, 9, 1);
-        lies!(smap_mapping.is_ignored, 10, 1);
-        lies!(smap_mapping.source_line, 12, 4);
-        lies!(smap_mapping.source_column, 16, 4);
-        lies!(smap_mapping.source, 24, 8);
-        lies!(smap_listed_mapping.line, 0, 4);
-        lies!(smap_listed_mapping.column, 4, 4);
-        lies!(smap_listed_mapping.has_source, 8, 1);
-        lies!(smap_listed_mapping.has_name, 9, 1);
-        lies!(smap_listed_mapping.source_line, 12, 4);
-        lies!(smap_listed_mapping.source_column, 16, 4);
-        lies!(smap_listed_mapping.source, 20, 4);
-        lies!(smap_listed_mapping.name, 24, 4);
-        lies!(smap_bytes.is_open, 0, 1);
-        lies!(smap_bytes.at, 8, 8);
-        lies!(smap_frame_parts.url_from, 0, 8);
-        lies!(smap_frame_parts.url_len, 8, 8);
-        lies!(smap_frame_parts.line, 16, 4);
-        lies!(smap_frame_parts.column, 20, 4);
-        lies!(smap_scripts.is_open, 0, 1);
-        lies!(smap_scripts.at, 8, 8);
-        lies!(smap_trace_counts.lines, 0, 8);
-        lies!(smap_trace_counts.translated, 8, 8);
-        lies!(smap_trace_counts.dropped, 16, 8);
-        assert_eq!(size_of::<smap_fault>(), 368);
-        assert_eq!(size_of::<smap_map>(), 16);
-        assert_eq!(size_of::<smap_limits>(), 8);
-        assert_eq!(size_of::<smap_counts>(), 40);
-        assert_eq!(size_of::<smap_mapping>(), 32);
-        assert_eq!(size_of::<smap_listed_mapping>(), 28);
-        assert_eq!(size_of::<smap_bytes>(), 16);
-        assert_eq!(size_of::<smap_frame_parts>(), 24);
-        assert_eq!(size_of::<smap_scripts>(), 16);
-        assert_eq!(size_of::<smap_trace_counts>(), 24);
+        field!(smap_fault, kind, 0, 4);
+        field!(smap_fault, line, 4, 4);
+        field!(smap_fault, segment, 8, 4);
+        field!(smap_fault, has_place, 12, 1);
+        field!(smap_fault, number, 16, 8);
+        field!(smap_fault, depth, 24, 8);
+        field!(smap_fault, section, 32, 64);
+        field!(smap_fault, text_len, 96, 8);
+        field!(smap_fault, text, 104, 264);
+        whole!(smap_fault, 368);
+        field!(smap_map, is_open, 0, 1);
+        field!(smap_map, at, 8, 8);
+        whole!(smap_map, 16);
+        field!(smap_limits, items, 0, 4);
+        field!(smap_limits, lines, 4, 4);
+        whole!(smap_limits, 8);
+        field!(smap_counts, sources, 0, 8);
+        field!(smap_counts, listed_sources, 8, 8);
+        field!(smap_counts, names, 16, 8);
+        field!(smap_counts, mappings, 24, 8);
+        field!(smap_counts, lines, 32, 4);
+        whole!(smap_counts, 40);
+        field!(smap_mapping, line, 0, 4);
+        field!(smap_mapping, column, 4, 4);
+        field!(smap_mapping, has_source, 8, 1);
+        field!(smap_mapping, has_name, 9, 1);
+        field!(smap_mapping, is_ignored, 10, 1);
+        field!(smap_mapping, source_line, 12, 4);
+        field!(smap_mapping, source_column, 16, 4);
+        field!(smap_mapping, source, 24, 8);
+        whole!(smap_mapping, 32);
+        field!(smap_listed_mapping, line, 0, 4);
+        field!(smap_listed_mapping, column, 4, 4);
+        field!(smap_listed_mapping, has_source, 8, 1);
+        field!(smap_listed_mapping, has_name, 9, 1);
+        field!(smap_listed_mapping, source_line, 12, 4);
+        field!(smap_listed_mapping, source_column, 16, 4);
+        field!(smap_listed_mapping, source, 20, 4);
+        field!(smap_listed_mapping, name, 24, 4);
+        whole!(smap_listed_mapping, 28);
+        field!(smap_bytes, is_open, 0, 1);
+        field!(smap_bytes, at, 8, 8);
+        whole!(smap_bytes, 16);
+        field!(smap_frame_parts, url_from, 0, 8);
+        field!(smap_frame_parts, url_len, 8, 8);
+        field!(smap_frame_parts, line, 16, 4);
+        field!(smap_frame_parts, column, 20, 4);
+        whole!(smap_frame_parts, 24);
+        field!(smap_scripts, is_open, 0, 1);
+        field!(smap_scripts, at, 8, 8);
+        whole!(smap_scripts, 16);
+        field!(smap_trace_counts, lines, 0, 8);
+        field!(smap_trace_counts, translated, 8, 8);
+        field!(smap_trace_counts, dropped, 16, 8);
+        whole!(smap_trace_counts, 24);
     }
 }
