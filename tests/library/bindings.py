@@ -43,9 +43,9 @@ class BindingsTest(unittest.TestCase):
         self.assertEqual(self.run_tool(), (0, "".join(f"{name}\n" for name in names), ""))
         self.assertEqual(self.run_tool("--check"), (0, "", ""))
 
-    def assert_asks(self, sentence):
+    def assert_asks(self, name, sentence):
         for words in ([], ["--check"]):
-            self.assertEqual(self.run_tool(*words), (1, "", f"write-bindings: {VERSIONS} {sentence}\n"))
+            self.assertEqual(self.run_tool(*words), (1, "", f"write-bindings: {name} {sentence}\n"))
 
     def test_nothing_is_written_where_nothing_differs(self):
         self.assertEqual(self.run_tool(), (0, "", ""))
@@ -110,14 +110,19 @@ class BindingsTest(unittest.TestCase):
                 self.assert_writes([name])
                 self.assertEqual(self.read(name), before)
 
+    def test_a_type_that_is_not_known_is_named(self):
+        self.change(HEADER, "uint64_t lines, translated, dropped;", "double lines, translated, dropped;")
+        self.assert_asks(HEADER, "has a type that isn't one of TYPES: double")
+
     def test_a_version_that_was_released_stays(self):
         last = self.read(VERSIONS).rsplit("SMAP_", 2)[1].split(" ")[0]
         declared = "uint32_t smap_version(void);"
         self.change(HEADER, declared, "uint32_t smap_number(void);")
-        self.assert_asks("has, in a version that was released, what smap.h doesn't declare: smap_version")
+        lacks = "has, in a version that was released, what smap.h doesn't declare: smap_version"
+        self.assert_asks(VERSIONS, lacks)
         self.change(HEADER, "uint32_t smap_number(void);", f"{declared}\nuint32_t smap_number(void);")
         (self.top / "VERSION").write_text(f"{last}.1\n")
-        self.assert_asks(f"ends with version {last}, which was released: begin the next one there")
+        self.assert_asks(VERSIONS, f"ends with version {last}, which was released: begin the next one there")
         with (self.top / VERSIONS).open("a") as file:
             file.write(f"\nSMAP_100.0 {{\nglobal:\n}} SMAP_{last};\n")
         self.assert_writes([PYTHON, CRATE, WRAPPER, VERSIONS])
