@@ -7,7 +7,7 @@ use Rattle.std.proofs.Common.{codes, get_or}
 use Rattle.std.specs.List.{starts_with, prefix_len}
 use Rattle.std.specs.List.{position_or_len, list_all, list_any}
 use Rattle.std.specs.Str.Lines.{strip_carriage_return}
-use Rattle.std.proofs.lemmas.Bool.{cases_lt}
+use Rattle.std.proofs.lemmas.Bool.{and_parts, cases_lt, cond_both, not-true}
 use Rattle.std.proofs.lemmas.List.{take-append-drop, take-take, drop_more}
 use Rattle.std.proofs.Math.Seq.{take-append_seam, drop-append_seam, drop-length, get_or-append_seam}
 use Rattle.std.proofs.lemmas.Bool.Decides.{Decides-eqb}
@@ -19,7 +19,10 @@ use Rattle.smap_trace.proofs.CutLemmas.{begins_with}
 -- The body, and the carriage return at the line's end if there is one.
 pub body_cut : (line : List ℕ) → IsLineEnd (drop (length (strip_carriage_return line)) line)
     × (length (strip_carriage_return line) ≤ length line)
-body_cut line = go (slice_index line (length line - 1) == 13) refl
+body_cut line = cond_both (slice_index line (length line - 1) == 13) (take (length line - 1) line) line
+    (λ (body : List ℕ). IsLineEnd (drop (length body) line) × (length body ≤ length line))
+    (λ e. let c = cut_at_last line e in (inr (ap (λ n. drop n line) c.1 ∙ c.0), omega (arith, c.1)))
+    (λ e. (inl (drop-length line), omega arith))
   where
     cut_at_last : (xs : List ℕ) → (slice_index xs (length xs - 1) == 13) ≡ true
         → (drop (length xs - 1) xs ≡ 13 ∷ []) × (length (take (length xs - 1) xs) ≡ length xs - 1)
@@ -29,55 +32,33 @@ body_cut line = go (slice_index line (length line - 1) == 13) refl
         let below : length xs - 1 < length xs = omega arith in
         let is : get_or xs (length xs - 1) 0 ≡ 13 = (Decides-eqb (get_or xs (length xs - 1) 0) 13).0 e in
         let next : length xs - 1 + 1 ≡ length xs = omega arith in (
-          drop_more xs (length xs - 1) 0 below ∙ ap (λ y. y ∷ drop (length xs - 1 + 1) xs) is
-              ∙ ap (λ n. 13 ∷ drop n xs) next ∙ ap (λ (ys : List ℕ). 13 ∷ ys) (drop-length xs),
+          drop_more xs (length xs - 1) 0 below ∙ rw (is, next, drop-length xs) refl,
           omega (arith, length-take (length xs - 1) xs),
         )
-
-    go : (t : Bool) → (slice_index line (length line - 1) == 13) ≡ t
-        → IsLineEnd (drop (length (cond t (take (length line - 1) line) line)) line)
-        × (length (cond t (take (length line - 1) line) line) ≤ length line)
-    go false e = (inl (drop-length line), omega arith)
-    go true e =
-        let c = cut_at_last line e in
-        (inr (ap (λ n. drop n line) c.1 ∙ c.0), omega (arith, c.1))
 
 pub front_passes : (q : ℕ → Bool) (front : List ℕ) (x : ℕ) (rest : List ℕ) → list_all q front ≡ true
     → q x ≡ false → prefix_len q (front ++ x ∷ rest) ≡ length front
 front_passes q [] x rest all stop = rw stop refl
-front_passes q (y ∷ ys) x rest all stop = go (q y) all (λ h. front_passes q ys x rest h stop)
-  where
-    go : (t : Bool) → (t && list_all q ys) ≡ true → (list_all q ys ≡ true
-        → prefix_len q (ys ++ x ∷ rest) ≡ length ys)
-        → cond t (1 + prefix_len q (ys ++ x ∷ rest)) 0 ≡ length (y ∷ ys)
-    go true h more = ap (λ n. 1 + n) (more h) ∙ omega arith
-    go false h more = cc
+front_passes q (y ∷ ys) x rest all stop =
+    let parts = and_parts (q y) (list_all q ys) all in
+    rw (parts.0, front_passes q ys x rest parts.1 stop) (omega arith)
 
 pub front_all : (q : ℕ → Bool) (xs : List ℕ) → list_all q (take (prefix_len q xs) xs) ≡ true
 front_all q [] = refl
-front_all q (x ∷ xs) = go (q x) refl (front_all q xs)
+front_all q (x ∷ xs) = cond_both (q x) (1 + prefix_len q xs) 0 (λ n. list_all q (take n (x ∷ xs)) ≡ true)
+    (λ e. rw (one_more (prefix_len q xs)) (rw (e, front_all q xs) refl)) (λ e. refl)
   where
     one_more : (n : ℕ) → 1 + n ≡ suc n
     one_more n = omega arith
-
-    go : (t : Bool) → q x ≡ t → list_all q (take (prefix_len q xs) xs) ≡ true
-        → list_all q (take (cond t (1 + prefix_len q xs) 0) (x ∷ xs)) ≡ true
-    go false e rest = refl
-    go true e rest = rw (one_more (prefix_len q xs))
-        (ap (λ b. b && list_all q (take (prefix_len q xs) xs)) e ∙ rest)
 
 pub before_lacks : (c : ℕ) (xs : List ℕ) → lacks c (take (position_or_len (λ b. b == c) xs) xs) ≡ true
 before_lacks c xs = none (take (position_or_len (λ b. b == c) xs) xs) (front_all (λ b. not (b == c)) xs)
   where
     none : (ys : List ℕ) → list_all (λ b. not (b == c)) ys ≡ true → lacks c ys ≡ true
     none [] h = refl
-    none (y ∷ ys) h = go (y == c) h (none ys)
-      where
-        go : (t : Bool) → (not t && list_all (λ b. not (b == c)) ys) ≡ true
-            → (list_all (λ b. not (b == c)) ys ≡ true → lacks c ys ≡ true)
-            → not (t || list_any (λ b. b == c) ys) ≡ true
-        go true g more = cc
-        go false g more = more g
+    none (y ∷ ys) h =
+        let parts = and_parts (not (y == c)) (list_all (λ b. not (b == c)) ys) h in
+        rw (not-true (y == c) parts.0) (none ys parts.1)
 
 -- A text that begins with spaces and `at ` is recognized.
 pub at_found : (spaces rest : List ℕ) → AreSpaces spaces
@@ -86,17 +67,15 @@ pub at_found : (spaces rest : List ℕ) → AreSpaces spaces
 at_found spaces rest are =
     let whole : spaces ++ codes "at " ++ rest ≡ spaces ++ (codes "at " ++ rest) =
     append_assoc spaces (codes "at ") rest in (
-      ap (prefix_len is_space) whole ∙ front_passes is_space spaces 97 (codes "t " ++ rest) are refl,
-      ap (drop (length spaces)) whole ∙ drop-append_seam spaces (codes "at " ++ rest),
+      rw whole (front_passes is_space spaces 97 (codes "t " ++ rest) are refl),
+      rw whole (drop-append_seam spaces (codes "at " ++ rest)),
     )
 
 pub at_starts : (body spaces rest : List ℕ) → AreSpaces spaces → body ≡ spaces ++ codes "at " ++ rest
     → starts_with nat_eq (drop (prefix_len is_space body) body) (codes "at ") ≡ true
 at_starts body spaces rest are is =
     let found = at_found spaces rest are in
-    ap (λ (xs : List ℕ). starts_with nat_eq (drop (prefix_len is_space xs) xs) (codes "at ")) is
-    ∙ ap (λ n. starts_with nat_eq (drop n (spaces ++ codes "at " ++ rest)) (codes "at ")) found.0
-    ∙ ap (λ (xs : List ℕ). starts_with nat_eq xs (codes "at ")) found.1 ∙ begins_with (codes "at ") rest
+    rw (is, found.0, found.1) (begins_with (codes "at ") rest)
 
 -- Where the line begins with spaces and `at `, so does its body.
 pub begins_at : (line : List ℕ) → BeginsWithAt line

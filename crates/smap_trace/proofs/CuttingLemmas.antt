@@ -6,7 +6,8 @@ use Rattle.std.proofs.Common.{refl, sym, ap, arith, append_assoc, append-nil, sl
 use Rattle.std.specs.Char.{is_ascii_digit}
 use Rattle.std.specs.List.{list_any, prefix_len, starts_with}
 use Rattle.std.proofs.Math.Seq.{drop-cons, take-add, take-suc}
-use Rattle.std.proofs.lemmas.Bool.{eqb-true}
+use Rattle.std.proofs.lemmas.Bool.{or_parts}
+use Rattle.std.proofs.lemmas.Bool.Decides.{nat_tests}
 use Rattle.std.proofs.lemmas.List.{drop-drop, drop_all, get_or-drop, length-drop, take_more}
 use Rattle.std.proofs.lemmas.List.{map-append}
 use Rattle.std.proofs.lemmas.List.Folds.{list_any-append}
@@ -27,9 +28,8 @@ use Rattle.smap_trace.proofs.PositionLemmas.{no_digit_first}
 
 -- ---- a colon and a digit
 
-no_left : (a b : Bool) → (a || b) ≡ false → (a ≡ false) × (b ≡ false)
-no_left false b h = (refl, h)
-no_left true b h = cc
+other_byte : (b : ℕ) (bs : List ℕ) → (b == 58) ≢ true → has_place (b ∷ bs) ≡ has_place bs
+other_byte b bs ne = grind arith
 
 -- what is behind the first colon decides
 pub colon_passed : (ys : List ℕ) (k : ℕ) → k < length ys
@@ -39,25 +39,14 @@ colon_passed [] k lt none is = absurd (omega (arith, lt))
 colon_passed (b ∷ bs) zero lt none is = rw is refl
 colon_passed (b ∷ bs) (suc k) lt none is =
     let one : suc k + 1 ≡ suc (k + 1) = omega arith in
-    let rest = colon_passed bs k (omega (arith, lt)) (λ i below. none (suc i) (omega arith)) is in
-    rw one (go (b == 58) refl rest)
-  where
-    go : (t : Bool) → (b == 58) ≡ t
-        → has_place bs ≡ (list_any is_ascii_digit (take 1 (drop (k + 1) bs)) || has_place (drop (k + 1) bs))
-        → ((t && list_any is_ascii_digit (take 1 bs)) || has_place bs)
-        ≡ (list_any is_ascii_digit (take 1 (drop (k + 1) bs)) || has_place (drop (k + 1) bs))
-    go true e h = absurd (none 0 (omega arith) e)
-    go false e h = h
+    rw one (other_byte b bs (none 0 (omega arith))
+    ∙ colon_passed bs k (omega (arith, lt)) (λ i below. none (suc i) (omega arith)) is)
 
 pub no_colon : (ys : List ℕ) → ((i : ℕ) → i < length ys → (get_or ys i 0 == 58) ≢ true)
     → has_place ys ≡ false
 no_colon [] none = refl
-no_colon (b ∷ bs) none = go (b == 58) refl (no_colon bs (λ i below. none (suc i) (omega arith)))
-  where
-    go : (t : Bool) → (b == 58) ≡ t → has_place bs ≡ false
-        → ((t && list_any is_ascii_digit (take 1 bs)) || has_place bs) ≡ false
-    go true e h = absurd (none 0 (omega arith) e)
-    go false e h = h
+no_colon (b ∷ bs) none = other_byte b bs (none 0 (omega arith))
+    ∙ no_colon bs (λ i below. none (suc i) (omega arith))
 
 -- ---- without a colon and a digit there is no occurrence
 
@@ -65,22 +54,14 @@ pub no_place-drop : (k : ℕ) (t : List ℕ) → has_place t ≡ false → has_p
 no_place-drop zero t h = h
 no_place-drop (suc k) [] h = refl
 no_place-drop (suc k) (b ∷ bs) h =
-    no_place-drop k bs (no_left (b == 58 && list_any is_ascii_digit (take 1 bs)) (has_place bs) h).1
+    no_place-drop k bs (or_parts (b == 58 && list_any is_ascii_digit (take 1 bs)) (has_place bs) h).1
 
 no_number : (t : List ℕ) → has_place t ≡ false → number_after t ≡ None
 no_number [] h = refl
-no_number (b ∷ bs) h = go (58 == b) refl
-    (no_left (b == 58 && list_any is_ascii_digit (take 1 bs)) (has_place bs) h).0
+no_number (b ∷ bs) h = none b bs h
   where
-    digitless : b ≡ 58 → (b == 58 && list_any is_ascii_digit (take 1 bs)) ≡ false
-        → list_any is_ascii_digit (take 1 bs) ≡ false
-    digitless is e = rw is at e
-
-    go : (t : Bool) → (58 == b) ≡ t → (b == 58 && list_any is_ascii_digit (take 1 bs)) ≡ false
-        → ◌≡◌ {A = Option (ℕ × ℕ)} (cond (t && true) (option_map (λ v. (v, prefix_len is_ascii_digit bs + 1))
-        (place_of (take (prefix_len is_ascii_digit bs) bs))) None) None
-    go true e f = rw (no_digit_first bs (digitless (sym (eqb-true 58 b e)) f)) refl
-    go false e f = refl
+    none : (b : ℕ) (bs : List ℕ) → has_place (b ∷ bs) ≡ false → number_after (b ∷ bs) ≡ None
+    none b bs h = grind (arith, nat_tests, no_digit_first bs)
 
 -- what the code finds behind a colon
 pub number_is : (text : List ℕ) (n : ℕ) (r : Option ℕ) → starts_with nat_eq text (codes ":") ≡ true
@@ -90,12 +71,8 @@ pub number_is : (text : List ℕ) (n : ℕ) (r : Option ℕ) → starts_with nat
     → option_map (λ v. (v, n + 1)) r ≡ number_after text
 number_is text n r starts count is =
     let left : take (length text - 1) (drop 1 text) ≡ drop 1 text = left_is text 1 in
-    let count' = rw left at count in
-    let is' = rw left at is in
-    let place : r ≡ place_of (take n (drop 1 text)) = place_is (take n (drop 1 text)) r is' in
-    let place' : r ≡ place_of (take (prefix_len is_ascii_digit (drop 1 text)) (drop 1 text)) =
-    place ∙ ap (λ k. place_of (take k (drop 1 text))) count' in
-    rw (starts, place', count') refl
+    let place = place_is (take n (drop 1 text)) r (rw left at is) in
+    rw (place, starts, rw left at count) refl
 
 no_line : (t : List ℕ) → has_place t ≡ false → line_and_column t ≡ None
 no_line t h = rw (no_number t h) refl
@@ -107,12 +84,7 @@ no_place true t h = rw (no_line (drop (query_len t) t) (no_place-drop (query_len
 no_occurrence_of : (ignore : Bool) (s : Script) (t : List ℕ) → has_place t ≡ false
     → occurrence_of ignore s t ≡ None
 no_occurrence_of ignore s t h =
-    rw (no_place ignore (drop (length s.0) t) (no_place-drop (length s.0) t h))
-    (go (nat_lt 0 (length s.0) && starts_with nat_eq t s.0))
-  where
-    go : (b : Bool) → ◌≡◌ {A = Option Occurrence} (cond b None None) None
-    go true = refl
-    go false = refl
+    grind (arith, no_place ignore (drop (length s.0) t) (no_place-drop (length s.0) t h))
 
 no_longest : (ignore : Bool) (scripts : List Script) (t : List ℕ) → has_place t ≡ false
     → longest ignore scripts t ≡ None
@@ -121,30 +93,25 @@ no_longest ignore (s ∷ ss) t h = rw (no_occurrence_of ignore s t h) (no_longes
 
 no_occurrence : (ignore : Bool) (scripts : List Script) (before t : List ℕ) → has_place t ≡ false
     → occurrence_between ignore scripts before t ≡ None
-no_occurrence ignore scripts before t h = rw (no_longest ignore scripts t h) (go (may_begin before))
-  where
-    go : (b : Bool) → ◌≡◌ {A = Option Occurrence} (cond b None None) None
-    go true = refl
-    go false = refl
+no_occurrence ignore scripts before t h = grind (arith, no_longest ignore scripts t h)
 
 pub all_bytes : (ignore : Bool) (scripts : List Script) (before t : List ℕ) → has_place t ≡ false
     → cut ignore scripts before 0 t ≡ map byte t
 all_bytes ignore scripts before [] h = refl
 all_bytes ignore scripts before (b ∷ bs) h =
-    rw (no_occurrence ignore scripts before (b ∷ bs) h)
-    (ap (λ (ps : List Piece). byte b ∷ ps)
-    (all_bytes ignore scripts (before ++ b ∷ []) bs (no_place-drop 1 (b ∷ bs) h)))
+    rw (
+      no_occurrence ignore scripts before (b ∷ bs) h,
+      all_bytes ignore scripts (before ++ b ∷ []) bs (no_place-drop 1 (b ∷ bs) h),
+    ) refl
 
 -- ---- one piece more
 
 pub skipped : (ignore : Bool) (scripts : List Script) (before bs : List ℕ) (k : ℕ)
     → cut ignore scripts before k bs ≡ cut ignore scripts (before ++ take k bs) 0 (drop k bs)
-skipped ignore scripts before bs zero =
-    ap (λ (t : List ℕ). cut ignore scripts t 0 bs) (sym (append-nil before))
+skipped ignore scripts before bs zero = rw (append-nil before) refl
 skipped ignore scripts before [] (suc k) = refl
 skipped ignore scripts before (b ∷ bs) (suc k) =
-    skipped ignore scripts (before ++ b ∷ []) bs k
-    ∙ ap (λ (t : List ℕ). cut ignore scripts t 0 (drop k bs)) (append_assoc before (b ∷ []) (take k bs))
+    rw (skipped ignore scripts (before ++ b ∷ []) bs k, append_assoc before (b ∷ []) (take k bs)) refl
 
 -- where no occurrence begins, a byte
 pub byte_cut : (ignore : Bool) (scripts : List Script) (line : List ℕ) (at : ℕ) → at < length line
@@ -165,31 +132,20 @@ pub found_cut : (ignore : Bool) (scripts : List Script) (line : List ℕ) (at : 
 found_cut ignore scripts line at o lt some is =
     let split : drop at line ≡ get_or line at 0 ∷ drop (suc at) line = drop-cons line at 0 lt in
     let is' = rw split at is in
-    let b = get_or line at 0 in
+    let before = take at line ++ get_or line at 0 ∷ [] in
     let bs = drop (suc at) line in
-    let first : cut ignore scripts (take at line) 0 (b ∷ bs) ≡ found o (take o.width (b ∷ bs))
-    ∷ cut ignore scripts (take at line ++ b ∷ []) (o.width - 1) bs = rw is' refl in
+    let all : suc at + (o.width - 1) ≡ at + o.width = omega arith in
     let more : drop (o.width - 1) bs ≡ drop (at + o.width) line =
-    drop-drop (o.width - 1) (suc at) line ∙ ap (λ n. drop n line) (omega arith) in
-    let front : (take at line ++ b ∷ []) ++ take (o.width - 1) bs ≡ take (at + o.width) line =
-    ap (λ (t : List ℕ). t ++ take (o.width - 1) bs) (sym (take-suc line at 0 lt))
-    ∙ sym (take-plus (suc at) (o.width - 1) line) ∙ ap (λ n. take n line) (omega arith) in
-    ap (cut ignore scripts (take at line) 0) split ∙ first
-    ∙ ap (λ (t : List ℕ). found o (take o.width t) ∷ cut ignore scripts (take at line ++ b ∷ [])
-    (o.width - 1) bs) (sym split)
-    ∙ ap (λ (ps : List Piece). found o (take o.width (drop at line)) ∷ ps)
-    (skipped ignore scripts (take at line ++ b ∷ []) bs (o.width - 1)
-    ∙ ap (λ (t : List ℕ). cut ignore scripts t 0 (drop (o.width - 1) bs)) front
-    ∙ ap (cut ignore scripts (take (at + o.width) line) 0) more)
-  where
-    take-plus : (m n : ℕ) (xs : List ℕ) → take (m + n) xs ≡ take m xs ++ take n (drop m xs)
-    take-plus m n xs = take-add m n xs
+    drop-drop (o.width - 1) (suc at) line ∙ rw all refl in
+    let front : before ++ take (o.width - 1) bs ≡ take (at + o.width) line =
+    rw (← all, take-add (suc at) (o.width - 1) line, take-suc line at 0 lt) refl in
+    rw (split, is', skipped ignore scripts before bs (o.width - 1), front, more) refl
 
 -- ---- what is written for bytes
 
 pub bytes_written : (xs : List ℕ) → flat_map written_for (map byte xs) ≡ xs
 bytes_written [] = refl
-bytes_written (b ∷ bs) = ap (λ (ys : List ℕ). b ∷ ys) (bytes_written bs)
+bytes_written (b ∷ bs) = rw (bytes_written bs) refl
 
 pub bytes_kept : (xs : List ℕ) → list_any is_replaced (map byte xs) ≡ false
 bytes_kept [] = refl
@@ -214,9 +170,7 @@ pub behind_colon : (text : List ℕ) (at k : ℕ) → k < length (drop at text)
 behind_colon text at k lt none is =
     let more : drop (k + 1) (drop at text) ≡ drop (at + k + 1) text =
     drop-drop (k + 1) at text ∙ ap (λ n. drop n text) (omega arith) in
-    let split : has_place (drop at text) ≡ (list_any is_ascii_digit (take 1 (drop (at + k + 1) text))
-    || has_place (drop (at + k + 1) text)) = colon_passed (drop at text) k lt none is
-    ∙ ap (λ (t : List ℕ). list_any is_ascii_digit (take 1 t) || has_place t) more in
+    let split = rw more at (colon_passed (drop at text) k lt none is) in
     record {
       with_digit = λ inside digit. split ∙ rw (first_of text (at + k + 1) inside, digit) refl;
       with_other = λ inside other. split ∙ rw (first_of text (at + k + 1) inside, other) refl;
@@ -233,8 +187,7 @@ range_more xs at start le lt =
     let len : start - at < length (drop at xs) = omega (arith, length-drop at xs) in
     let here : get_or (drop at xs) (start - at) 0 ≡ get_or xs start 0 =
     get_or-drop at xs (start - at) 0 ∙ ap (λ n. get_or xs n 0) (omega arith) in
-    ap (λ n. take n (drop at xs)) one ∙ take_more (drop at xs) (start - at) 0 len
-    ∙ ap (λ b. take (start - at) (drop at xs) ++ b ∷ []) here
+    rw (one, take_more (drop at xs) (start - at) 0 len, here) refl
 
 module _ (ignore : Bool) (scripts : List Script) (line : List ℕ) where
   abbrev from : ℕ → List Piece
@@ -245,13 +198,8 @@ module _ (ignore : Bool) (scripts : List Script) (line : List ℕ) where
       → from at ≡ map byte (slice_range line at start) ++ from start
       → from at ≡ map byte (slice_range line at (start + 1)) ++ from (start + 1)
   byte_next at start le lt none h =
-      h ∙ ap (λ (ps : List Piece). map byte (slice_range line at start) ++ ps)
-      (byte_cut ignore scripts line start lt (sym none))
-      ∙ sym (append_assoc (map byte (slice_range line at start)) (byte (get_or line start 0) ∷ [])
-      (from (start + 1)))
-      ∙ ap (λ (ps : List Piece). ps ++ from (start + 1))
-      (sym (map-append byte (slice_range line at start) (get_or line start 0 ∷ []))
-      ∙ ap (map byte) (sym (range_more line at start le lt)))
+      h ∙ rw (byte_cut ignore scripts line start lt (sym none), range_more line at start le lt)
+      (simp (map-append, append_assoc))
 
   pub found_next : (at start : ℕ) (o : CodeOccurrence) → at ≤ start → start < length line
       → IsWithin (length line - start) o
@@ -266,10 +214,7 @@ module _ (ignore : Bool) (scripts : List Script) (line : List ℕ) where
         le,
         omega (arith, within.1),
         (within.0, omega (arith, within.1), within.2, within.3),
-        h ∙ ap (λ (ps : List Piece). map byte (slice_range line at start) ++ ps)
-            (found_cut ignore scripts line start (occurrence_in o) lt within.0 (sym is)
-            ∙ ap (λ n. found (occurrence_in o) (take n (drop start line)) ∷ from (start + o.width))
-            (sym wide)),
+        h ∙ rw (found_cut ignore scripts line start (occurrence_in o) lt within.0 (sym is), wide) refl,
       )
 
 -- ---- one occurrence more is written
@@ -279,41 +224,29 @@ module _ (at_pieces next_pieces : List Piece) (xs : List ℕ) (piece : Piece)
   pub written_on : (out one two whole : List ℕ) → one ≡ out ++ xs → two ≡ one ++ written_for piece
       → out ++ flat_map written_for at_pieces ≡ whole → two ++ flat_map written_for next_pieces ≡ whole
   written_on out one two whole e f h =
-      let rest = flat_map written_for next_pieces in
-      let parts : flat_map written_for at_pieces ≡ xs ++ (written_for piece ++ rest) =
-      ap (flat_map written_for) split ∙ flat_map-append written_for (map byte xs) (piece ∷ next_pieces)
-      ∙ ap (λ (ys : List ℕ). ys ++ (written_for piece ++ rest)) (bytes_written xs) in
-      let grouped : two ++ rest ≡ out ++ (xs ++ (written_for piece ++ rest)) =
-      rw (f, e) (append_assoc (out ++ xs) (written_for piece) rest
-      ∙ append_assoc out xs (written_for piece ++ rest)) in
-      grouped ∙ ap (λ (ys : List ℕ). out ++ ys) (sym parts) ∙ h
+      let parts = rw (
+        split,
+        flat_map-append written_for (map byte xs) (piece ∷ next_pieces),
+        bytes_written xs,
+      ) at h in
+      rw (f, e) (simp append_assoc parts)
 
   any_split : list_any is_replaced at_pieces ≡ (is_replaced piece || list_any is_replaced next_pieces)
-  any_split = ap (list_any is_replaced) split
-      ∙ list_any-append is_replaced (map byte xs) (piece ∷ next_pieces)
-      ∙ ap (λ t. t || (is_replaced piece || list_any is_replaced next_pieces)) (bytes_kept xs)
+  any_split =
+      rw (split, list_any-append is_replaced (map byte xs) (piece ∷ next_pieces), bytes_kept xs) refl
 
   pub replaced_on : (r whole : Bool) → (r || list_any is_replaced at_pieces) ≡ whole
       → ((r || is_replaced piece) || list_any is_replaced next_pieces) ≡ whole
-  replaced_on r whole h = grouped r ∙ ap (λ t. r || t) (sym any_split) ∙ h
-    where
-      grouped : (t : Bool) → ((t || is_replaced piece) || list_any is_replaced next_pieces)
-          ≡ (t || (is_replaced piece || list_any is_replaced next_pieces))
-      grouped true = refl
-      grouped false = refl
+  replaced_on r whole h = grind (arith, any_split)
 
 -- at the end
 pub written_all : (pieces : List Piece) (xs out last whole : List ℕ) → pieces ≡ map byte xs
     → last ≡ out ++ xs → out ++ flat_map written_for pieces ≡ whole → last ≡ whole
 written_all pieces xs out last whole e f h =
-    f ∙ ap (λ (ys : List ℕ). out ++ ys) (sym (ap (flat_map written_for) e ∙ bytes_written xs)) ∙ h
+    f ∙ (rw (e, bytes_written xs) at h)
 
 pub replaced_all : (pieces : List Piece) (xs : List ℕ) (r whole : Bool) → pieces ≡ map byte xs
     → (r || list_any is_replaced pieces) ≡ whole → r ≡ whole
 replaced_all pieces xs r whole e h =
-    let none : list_any is_replaced pieces ≡ false = ap (list_any is_replaced) e ∙ bytes_kept xs in
-    sym (no_more r) ∙ ap (λ t. r || t) (sym none) ∙ h
-  where
-    no_more : (t : Bool) → (t || false) ≡ t
-    no_more true = refl
-    no_more false = refl
+    let whole_is = rw (e, bytes_kept xs) at h in
+    grind arith

@@ -8,7 +8,7 @@ use Rattle.std.specs.Char.{is_ascii_digit}
 use Rattle.std.specs.List.{list_all, list_any, prefix_len, starts_with}
 use Rattle.std.specs.Str.Parse.{AllDigits}
 use Rattle.std.proofs.Math.Seq.{drop-append_seam, take-add, take-append_seam}
-use Rattle.std.proofs.lemmas.Bool.{eqb-true, lt-ltb, ltb-true}
+use Rattle.std.proofs.lemmas.Bool.{and_parts, cond_both, eqb-true, lt-ltb, or_parts}
 use Rattle.std.proofs.lemmas.Bool.Decides.{nat_tests}
 use Rattle.std.proofs.lemmas.Fmt.{decimal_is_IsNumeral}
 use Rattle.std.proofs.lemmas.List.{length-drop, length-take-le, take-append-drop}
@@ -21,7 +21,8 @@ use Rattle.smap_trace.specs.Frame.{IsPlace, position_text}
 use Rattle.smap_trace.specs.Reading.{place_of}
 use Rattle.smap_trace.specs.Scripts.{Script}
 use Rattle.smap_trace.specs.declared.places.Place.{Place}
-use Rattle.smap_trace.proofs.CutLemmas.{begins, begins_with, both}
+use Rattle.smap_trace.proofs.BodyLemmas.{front_all, front_passes}
+use Rattle.smap_trace.proofs.CutLemmas.{begins, begins_with}
 use Rattle.smap_trace.proofs.PlaceLemmas.{place_of-decimal, place_of-some}
 
 pub some_of : {X Y : Type 0} (f : X → Y) (m : Option X) (y : Y) → option_map f m ≡ Some y
@@ -29,45 +30,25 @@ pub some_of : {X Y : Type 0} (f : X → Y) (m : Option X) (y : Y) → option_map
 some_of f (Some x) y h = (x, refl, cc)
 some_of f None y h = cc
 
+both_of : {X Y : Type 0} (f : X → Option Y) (m : Option X) (y : Y) → option_and_then f m ≡ Some y
+    → (x : X) × (m ≡ Some x) × (f x ≡ Some y)
+both_of f (Some x) y h = (x, refl, h)
+both_of f None y h = cc
+
 -- ---- the first bytes that pass a test
 
 stop_behind : (p : ℕ → Bool) (t : List ℕ) → list_any p (take 1 (drop (prefix_len p t) t)) ≡ false
 stop_behind p [] = refl
-stop_behind p (b ∷ bs) = go (p b) refl (stop_behind p bs)
+stop_behind p (b ∷ bs) = cond_both (p b) (1 + prefix_len p bs) 0
+    (λ n. list_any p (take 1 (drop n (b ∷ bs))) ≡ false) (λ e. rw one (stop_behind p bs)) (λ e. rw e refl)
   where
-    go : (t : Bool) → p b ≡ t → list_any p (take 1 (drop (prefix_len p bs) bs)) ≡ false
-        → list_any p (take 1 (drop (cond t (1 + prefix_len p bs) 0) (b ∷ bs))) ≡ false
-    go true e h =
-        let one : 1 + prefix_len p bs ≡ suc (prefix_len p bs) = omega arith in
-        rw one h
-    go false e h = rw e refl
-
-all_passed : (p : ℕ → Bool) (t : List ℕ) → list_all p (take (prefix_len p t) t) ≡ true
-all_passed p [] = refl
-all_passed p (b ∷ bs) = go (p b) refl (all_passed p bs)
-  where
-    go : (t : Bool) → p b ≡ t → list_all p (take (prefix_len p bs) bs) ≡ true
-        → list_all p (take (cond t (1 + prefix_len p bs) 0) (b ∷ bs)) ≡ true
-    go true e h =
-        let one : 1 + prefix_len p bs ≡ suc (prefix_len p bs) = omega arith in
-        rw one (rw (e, h) refl)
-    go false e h = refl
-
-passed_up_to : (p : ℕ → Bool) (t : List ℕ) (y : ℕ) (ys : List ℕ) → list_all p t ≡ true → p y ≡ false
-    → prefix_len p (t ++ y ∷ ys) ≡ length t
-passed_up_to p [] y ys all stop = rw stop refl
-passed_up_to p (b ∷ bs) y ys all stop =
-    let parts = both (p b) (list_all p bs) all in
-    rw (parts.0) (ap (λ n. 1 + n) (passed_up_to p bs y ys parts.1 stop) ∙ omega arith)
+    one : 1 + prefix_len p bs ≡ suc (prefix_len p bs)
+    one = omega arith
 
 pub no_digit_first : (t : List ℕ) → list_any is_ascii_digit (take 1 t) ≡ false
     → prefix_len is_ascii_digit t ≡ 0
 no_digit_first [] h = refl
-no_digit_first (b ∷ bs) h = go (is_ascii_digit b) h
-  where
-    go : (t : Bool) → (t || false) ≡ false → cond t (1 + prefix_len is_ascii_digit bs) 0 ≡ 0
-    go true e = cc
-    go false e = refl
+no_digit_first (b ∷ bs) h = rw ((or_parts (is_ascii_digit b) false h).0) refl
 
 digits_passed : (ds t : List ℕ) → AllDigits 10 ds → list_any is_ascii_digit (take 1 t) ≡ false
     → prefix_len is_ascii_digit (ds ++ t) ≡ length ds
@@ -75,7 +56,7 @@ digits_passed [] t all stop = no_digit_first t stop
 digits_passed (d ∷ ds) t all stop =
     let range = digit_from_value d all.0 in
     let is : is_ascii_digit d ≡ true = grind (arith, nat_tests) in
-    rw is (ap (λ n. 1 + n) (digits_passed ds t all.1 stop) ∙ omega arith)
+    rw (is, digits_passed ds t all.1 stop) (omega arith)
 
 -- ---- a colon and a number
 
@@ -95,34 +76,27 @@ record IsNumberThen (text : List ℕ) (number width : ℕ) : Type 0 where
   whole : text ≡ 58 ∷ (decimal number ++ rest)
   width_is : width ≡ length (decimal number) + 1
 
+number_is : (b : ℕ) (bs : List ℕ) (number width : ℕ) → number_after (b ∷ bs) ≡ Some (number, width)
+    → (b ≡ 58) × ((place_of (take (prefix_len is_ascii_digit bs) bs) ≡ Some number)
+    × (width ≡ prefix_len is_ascii_digit bs + 1))
+number_is b bs number width h = grind (arith, nat_tests)
+
 number_found : (text : List ℕ) (number width : ℕ) → number_after text ≡ Some (number, width)
     → IsNumberThen text number width
 number_found [] number width h = cc
-number_found (b ∷ bs) number width h = go (58 == b) refl h
+number_found (b ∷ bs) number width h =
+    let is = number_is b bs number width h in
+    let read = place_of-some (take count bs) number is.1.0 in
+    record {
+      rest = drop count bs;
+      place = read.0;
+      stops = stop_behind is_ascii_digit bs;
+      whole = rw (is.0, ← read.1, take-append-drop count bs) refl;
+      width_is = rw (is.1.1, ← length-prefix_len is_ascii_digit bs, read.1) refl;
+    }
   where
     count : ℕ
     count = prefix_len is_ascii_digit bs
-
-    go : (t : Bool) → (58 == b) ≡ t
-        → cond (t && true) (option_map {U = ℕ × ℕ} (λ v. (v, count + 1)) (place_of (take count bs))) None
-        ≡ Some (number, width)
-        → IsNumberThen (b ∷ bs) number width
-    go true e k =
-        let v = some_of (λ (v : ℕ). (v, count + 1)) (place_of (take count bs)) (number, width) k in
-        let same : v.0 ≡ number = ap (λ (x : ℕ × ℕ). x.0) v.2 in
-        let wide : count + 1 ≡ width = ap (λ (x : ℕ × ℕ). x.1) v.2 in
-        let read = place_of-some (take count bs) number (v.1 ∙ ap (λ (n : ℕ). Some n) same) in
-        record {
-          rest = drop count bs;
-          place = read.0;
-          stops = stop_behind is_ascii_digit bs;
-          whole = ap (λ c. c ∷ bs) (sym (eqb-true 58 b e))
-              ∙ ap (λ (t : List ℕ). 58 ∷ t) (sym (take-append-drop count bs)
-              ∙ ap (λ (t : List ℕ). t ++ drop count bs) read.1);
-          width_is = sym wide ∙ ap (λ n. n + 1) (sym (length-prefix_len is_ascii_digit bs)
-              ∙ ap (λ (t : List ℕ). length t) read.1);
-        }
-    go false e k = cc
 
 -- ---- a line and a column
 
@@ -148,59 +122,54 @@ record IsPlaceThen (text : List ℕ) (p : Place) : Type 0 where
   whole : text ≡ 58 ∷ (decimal p.line ++ (58 ∷ (decimal p.column ++ rest)))
   width_is : p.width ≡ length (decimal p.line) + 1 + (length (decimal p.column) + 1)
 
+two_numbers : (text : List ℕ) (l m c n : ℕ) → IsNumberThen text l m → number_after (drop m text) ≡ Some (c, n)
+    → IsPlaceThen text (record { line = l; column = c; width = m + n })
+two_numbers text l m c n first h =
+    let one : m ≡ suc (length (decimal l)) = omega (arith, first.width_is) in
+    let behind : drop m text ≡ first.rest = ap (λ n. drop n text) one
+    ∙ ap (drop (suc (length (decimal l)))) first.whole ∙ drop-append_seam (decimal l) first.rest in
+    let second = number_found first.rest c n (sym (ap number_after behind) ∙ h) in
+    record {
+      rest = second.rest;
+      line_place = first.place;
+      column_place = second.place;
+      stops = second.stops;
+      whole = first.whole ∙ ap (λ (t : List ℕ). 58 ∷ (decimal l ++ t)) second.whole;
+      width_is = omega (arith, first.width_is, second.width_is);
+    }
+
 line_found : (text : List ℕ) (p : Place) → line_and_column text ≡ Some p → IsPlaceThen text p
-line_found text p h = go (number_after text) refl h
+line_found text p h =
+    let l = both_of (λ (l : ℕ × ℕ). option_map (make l) (number_after (drop l.1 text))) (number_after text) p h in
+    let c = some_of (make l.0) (number_after (drop l.0.1 text)) p l.2 in
+    subst (IsPlaceThen text) c.2 (two_numbers text l.0.0 l.0.1 c.0.0 c.0.1
+    (number_found text l.0.0 l.0.1 l.1) c.1)
   where
     make : (l c : ℕ × ℕ) → Place
     make l c = record { line = l.0; column = c.0; width = l.1 + c.1 }
-
-    go : (m : Option (ℕ × ℕ)) → number_after text ≡ m
-        → option_and_then (λ l. option_map (λ c. record { line = l.0; column = c.0; width = l.1 + c.1 })
-        (number_after (drop l.1 text))) m ≡ Some p
-        → IsPlaceThen text p
-    go None e k = cc
-    go (Some l) e k =
-        let c = some_of (make l) (number_after (drop l.1 text)) p k in
-        let first = number_found text l.0 l.1 e in
-        let one : l.1 ≡ suc (length (decimal l.0)) = omega (arith, first.width_is) in
-        let behind : drop l.1 text ≡ first.rest =
-        ap (λ n. drop n text) one ∙ ap (λ (t : List ℕ). drop (suc (length (decimal l.0))) t) first.whole
-        ∙ drop-append_seam (decimal l.0) first.rest in
-        let second = number_found first.rest c.0.0 c.0.1 (sym (ap number_after behind) ∙ c.1) in
-        subst (IsPlaceThen text) c.2 (record {
-          rest = second.rest;
-          line_place = first.place;
-          column_place = second.place;
-          stops = second.stops;
-          whole = first.whole ∙ ap (λ (t : List ℕ). 58 ∷ (decimal l.0 ++ t)) second.whole;
-          width_is = ap (λ n. n + c.0.1) first.width_is
-              ∙ ap (λ n. length (decimal l.0) + 1 + n) second.width_is;
-        })
 
 -- ---- a query and a fragment
 
 marked_found : (mark : ℕ) (text : List ℕ) → IsMarked mark (take (marked_len (mark ∷ []) text) text)
 marked_found mark [] = inl refl
-marked_found mark (b ∷ bs) = go (mark == b) refl
+marked_found mark (b ∷ bs) = cond_both (mark == b && true) (count + 1) 0
+    (λ n. IsMarked mark (take n (b ∷ bs))) (λ e. rw one (inr (
+      take count bs,
+      rw (eqb-true mark b (and_parts (mark == b) true e).0) refl,
+      front_all is_query_byte bs,
+    ))) (λ e. inl refl)
   where
     count : ℕ
     count = prefix_len is_query_byte bs
 
-    go : (t : Bool) → (mark == b) ≡ t → IsMarked mark (take (cond (t && true) (count + 1) 0) (b ∷ bs))
-    go true e =
-        let one : count + 1 ≡ suc count = omega arith in
-        rw one (inr (
-          take count bs,
-          ap (λ c. c ∷ take count bs) (sym (eqb-true mark b e)),
-          all_passed is_query_byte bs,
-        ))
-    go false e = inl refl
+    one : count + 1 ≡ suc count
+    one = omega arith
 
 marked_here : (mark : ℕ) (text : List ℕ) (y : ℕ) (ys : List ℕ) → IsMarked mark text → (mark == mark) ≡ true
     → (mark == y) ≡ false → is_query_byte y ≡ false → marked_len (mark ∷ []) (text ++ y ∷ ys) ≡ length text
 marked_here mark text y ys (inl e) same other stop = rw (e, other) refl
 marked_here mark text y ys (inr (w, e, all)) same other stop =
-    rw (e, same) (ap (λ n. n + 1) (passed_up_to is_query_byte w y ys all stop) ∙ omega arith)
+    rw (e, same, front_passes is_query_byte w y ys all stop) (omega arith)
 
 query_found : (text : List ℕ) → IsIgnored true (take (query_len text) text)
 query_found text =
@@ -264,7 +233,6 @@ placed_found true text p h =
     let within : n ≤ length text =
     omega (arith, length-drop n text, ap (λ (t : List ℕ). length t) there.whole) in
     let wide : length (take n text) ≡ n = length-take-le n text within in
-    let split = ap (λ (t : List ℕ). take n text ++ t) (sym there.whole) ∙ take-append-drop n text in
     subst (IsPlacedThen true text) q.2 (record {
       query = take n text;
       rest = there.rest;
@@ -272,28 +240,24 @@ placed_found true text p h =
       line_place = there.line_place;
       column_place = there.column_place;
       stops = there.stops;
-      whole = sym split;
-      width_is = ap (λ k. n + k) there.width_is
-          ∙ ap (λ k. k + (length (decimal q.0.line) + 1 + (length (decimal q.0.column) + 1))) (sym wide);
+      whole = rw (← there.whole, take-append-drop n text) refl;
+      width_is = rw (wide, there.width_is) refl;
     })
 
 placed_here : (ignore : Bool) (text : List ℕ) (p : Place) → IsPlacedThen ignore text p
     → place_after ignore text ≡ Some p
 placed_here false text p h =
-    let there : text ≡ 58 ∷ (decimal p.line ++ (58 ∷ (decimal p.column ++ h.rest))) = h.whole
-    ∙ ap (λ (t : List ℕ). t ++ (58 ∷ (decimal p.line ++ (58 ∷ (decimal p.column ++ h.rest))))) h.ignored in
+    let there : text ≡ 58 ∷ (decimal p.line ++ (58 ∷ (decimal p.column ++ h.rest))) = rw h.ignored at h.whole in
     let wide : length (decimal p.line) + 1 + (length (decimal p.column) + 1) ≡ p.width =
-    omega (arith, h.width_is, ap (λ (t : List ℕ). length t) h.ignored) in
-    ap line_and_column there ∙ place_here p.line p.column h.rest h.line_place h.column_place h.stops
-    ∙ ap (λ w. Some (record { line = p.line; column = p.column; width = w })) wide
+    omega (arith, h.width_is, ap length h.ignored) in
+    rw (there, place_here p.line p.column h.rest h.line_place h.column_place h.stops, wide) refl
 placed_here true text p h =
     let rest = decimal p.line ++ (58 ∷ (decimal p.column ++ h.rest)) in
     let count = query_here h.query rest h.ignored in
     let behind : drop (length h.query) (h.query ++ 58 ∷ rest) ≡ 58 ∷ rest =
     drop-append_seam h.query (58 ∷ rest) in
     let there = place_here p.line p.column h.rest h.line_place h.column_place h.stops in
-    ap (place_after true) h.whole ∙ rw (count, behind, there) refl
-    ∙ ap (λ w. Some (record { line = p.line; column = p.column; width = w })) (sym h.width_is)
+    rw (h.whole, count, behind, there, ← h.width_is) refl
 
 -- ---- a position of a script
 
@@ -332,42 +296,37 @@ parts_counted url query l c =
     let two = length-append (url ++ query) (58 ∷ []) in
     omega (arith, all, four, three, two, length-append url query)
 
+at_script : (ignore : Bool) (s : Script) (text : List ℕ) (o : Occurrence) → occurrence_of ignore s text ≡ Some o
+    → (0 < length s.0) × ((starts_with nat_eq text s.0 ≡ true) × (option_map (λ p. record {
+      url = s.0;
+      map = s.1;
+      line = p.line;
+      column = p.column;
+      width = length s.0 + p.width;
+    }) (place_after ignore (drop (length s.0) text)) ≡ Some o))
+at_script ignore s text o h = grind (arith, nat_tests)
+
 pub position_found : (ignore : Bool) (s : Script) (text : List ℕ) (o : Occurrence)
     → occurrence_of ignore s text ≡ Some o → BeginsWithPosition ignore o text
 position_found ignore s text o h =
-    go (nat_lt 0 (length s.0)) (starts_with nat_eq text s.0) refl refl h
+    let is = at_script ignore s text o h in
+    let p = some_of made (place_after ignore (drop (length s.0) text)) o is.1.1 in
+    let there = placed_found ignore (drop (length s.0) text) p.0 p.1 in
+    subst (λ (x : Occurrence). BeginsWithPosition ignore x text) p.2 (record {
+      query = there.query;
+      rest = there.rest;
+      some_url = is.0;
+      ignored = there.ignored;
+      line_place = there.line_place;
+      column_place = there.column_place;
+      stops = there.stops;
+      whole = begins text s.0 is.1.0
+          ∙ rw (parts_joined s.0 there.query there.rest p.0.line p.0.column, ← there.whole) refl;
+      width_is = rw (parts_counted s.0 there.query p.0.line p.0.column, there.width_is) refl;
+    })
   where
     made : Place → Occurrence
     made p = record { url = s.0; map = s.1; line = p.line; column = p.column; width = length s.0 + p.width }
-
-    go : (a b : Bool) → nat_lt 0 (length s.0) ≡ a → starts_with nat_eq text s.0 ≡ b
-        → cond (a && b) (option_map (λ p. record {
-          url = s.0;
-          map = s.1;
-          line = p.line;
-          column = p.column;
-          width = length s.0 + p.width;
-        }) (place_after ignore (drop (length s.0) text))) None ≡ Some o
-        → BeginsWithPosition ignore o text
-    go true true e f k =
-        let p = some_of made (place_after ignore (drop (length s.0) text)) o k in
-        let there = placed_found ignore (drop (length s.0) text) p.0 p.1 in
-        let split : text ≡ s.0 ++ drop (length s.0) text = begins text s.0 f in
-        subst (λ (x : Occurrence). BeginsWithPosition ignore x text) p.2 (record {
-          query = there.query;
-          rest = there.rest;
-          some_url = ltb-true 0 (length s.0) e;
-          ignored = there.ignored;
-          line_place = there.line_place;
-          column_place = there.column_place;
-          stops = there.stops;
-          whole = split ∙ ap (λ (t : List ℕ). s.0 ++ t) there.whole
-              ∙ sym (parts_joined s.0 there.query there.rest p.0.line p.0.column);
-          width_is = ap (λ n. length s.0 + n) there.width_is
-              ∙ sym (parts_counted s.0 there.query p.0.line p.0.column);
-        })
-    go true false e f k = cc
-    go false b e f k = cc
 
 pub position_here : (ignore : Bool) (text : List ℕ) (o : Occurrence) → BeginsWithPosition ignore o text
     → occurrence_of ignore (o.url, o.map) text ≡ Some o
@@ -389,6 +348,5 @@ position_here ignore text o h =
     let some : nat_lt 0 (length o.url) ≡ true = lt-ltb 0 (length o.url) h.some_url in
     let starts : starts_with nat_eq (o.url ++ rest) o.url ≡ true = begins_with o.url rest in
     let behind : drop (length o.url) (o.url ++ rest) ≡ rest = drop-append_seam o.url rest in
-    ap (occurrence_of ignore (o.url, o.map)) whole ∙ rw (some, starts, behind, there) refl
-    ∙ ap (λ w. Some (record { url = o.url; map = o.map; line = o.line; column = o.column; width = w }))
-    (sym (h.width_is ∙ parts_counted o.url h.query o.line o.column))
+    let wide = h.width_is ∙ parts_counted o.url h.query o.line o.column in
+    rw (whole, some, starts, behind, there, ← wide) refl
