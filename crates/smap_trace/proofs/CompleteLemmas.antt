@@ -6,7 +6,7 @@ use Rattle.std.proofs.Common.{nat_lt, length-take, length-append, codes, get_or}
 use Rattle.std.specs.List.{starts_with, ends_with, after_last, prefix_len, position_or_len, list_all}
 use Rattle.std.specs.Str.Lines.{strip_carriage_return}
 use Rattle.std.proofs.Math.Seq.{take-append_seam, get_or-append_seam}
-use Rattle.std.proofs.lemmas.Bool.{lt-ltb, ne_eqb}
+use Rattle.std.proofs.lemmas.Bool.{false_from_ne_true, lt-ltb, ne_eqb}
 use Rattle.std.proofs.lemmas.List.{take-append-drop}
 use Rattle.std.proofs.lemmas.Slice.Eq.{ends_is}
 use Rattle.std.proofs.lemmas.Bool.Decides.{Decides-eqb}
@@ -44,9 +44,7 @@ opens line last start end l h k = rw (l, h, k) refl
 -- the middle of a line, by its places
 middle : (line a t b : List ℕ) (start end : ℕ) → line ≡ a ++ (t ++ b) → start ≡ length a
     → end ≡ length a + length t → slice_range line start end ≡ t
-middle line a t b start end whole s e =
-    ap (λ (xs : List ℕ). slice_range xs start end) whole ∙ ap (λ n. slice_range (a ++ (t ++ b)) n end) s
-    ∙ ap (λ n. slice_range (a ++ (t ++ b)) (length a) n) e ∙ middle_part a t b
+middle line a t b start end whole s e = rw (whole, s, e) (middle_part a t b)
 
 -- What follows `at `, without the lead and what closes it, is read as a position.
 pub v8_alone : (line front pos last : List ℕ) (x : ℕ) → line ≡ front ++ (pos ++ last) → EndsIn pos x → x ≢ 41
@@ -56,8 +54,7 @@ pub v8_alone : (line front pos last : List ℕ) (x : ℕ) → line ≡ front ++ 
 v8_alone line front pos last x whole ends ne free =
     let text = middle line front pos last (length front) (length front + length pos) whole refl refl in
     v8_bare line (length front) (length front + length pos)
-    (ap (λ (xs : List ℕ). ends_with nat_eq xs (codes ")")) text ∙ ends_not pos x 41 ends ne)
-    (ap (λ (xs : List ℕ). starts_with nat_eq xs (codes "async ")) text ∙ no_async pos free)
+    (rw text (ends_not pos x 41 ends ne)) (rw text (no_async pos free))
 
 pub v8_async : (line front pos last : List ℕ) (x : ℕ) → line ≡ front ++ ((codes "async " ++ pos) ++ last)
     → EndsIn pos x → x ≢ 41
@@ -67,9 +64,8 @@ v8_async line front pos last x whole ends ne =
     let text = middle line front (codes "async " ++ pos) last (length front)
     (length front + length (codes "async " ++ pos)) whole refl refl in
     v8_led line (length front) (length front + length (codes "async " ++ pos))
-    (ap (λ (xs : List ℕ). ends_with nat_eq xs (codes ")")) text
-    ∙ ends_not (codes "async " ++ pos) x 41 (longer (codes "async ") pos x ends) ne)
-    (ap (λ (xs : List ℕ). starts_with nat_eq xs (codes "async ")) text ∙ begins_with (codes "async ") pos)
+    (rw text (ends_not (codes "async " ++ pos) x 41 (longer (codes "async ") pos x ends) ne))
+    (rw text (begins_with (codes "async ") pos))
 
 pub v8_parens : (line front name pos last : List ℕ)
     → line ≡ front ++ ((name ++ 32 ∷ (40 ∷ pos)) ++ (41 ∷ last)) → list_all (λ b. not (b == 32)) pos ≡ true
@@ -78,8 +74,7 @@ pub v8_parens : (line front name pos last : List ℕ)
     (length front + (length name + 2) + length pos)
 v8_parens line front name pos last whole free start end s e =
     let inner = name ++ 32 ∷ (40 ∷ pos) in
-    let whole' : line ≡ front ++ ((inner ++ 41 ∷ []) ++ last) = whole
-    ∙ ap (λ (xs : List ℕ). front ++ xs) (sym (append_assoc inner (41 ∷ []) last)) in
+    let whole' : line ≡ front ++ ((inner ++ 41 ∷ []) ++ last) = rw (append_assoc inner (41 ∷ []) last) whole in
     let closed_len : length (inner ++ 41 ∷ []) ≡ length inner + 1 = length-append inner (41 ∷ []) in
     let text : slice_range line start end ≡ inner ++ 41 ∷ [] =
     middle line front (inner ++ 41 ∷ []) last start end whole' s (omega (arith, e, closed_len)) in
@@ -90,7 +85,7 @@ v8_parens line front name pos last whole free start end s e =
     let inner_is : slice_range line start (end - 1) ≡ inner =
     middle line front inner (41 ∷ last) start (end - 1) whole s end' in
     let last_is : after_last is_space (slice_range line start (end - 1)) ≡ 40 ∷ pos =
-    ap (after_last is_space) inner_is ∙ after_mark is_space name 32 (40 ∷ pos) free refl in
+    rw inner_is (after_mark is_space name 32 (40 ∷ pos) free refl) in
     let inner_len : length inner ≡ length name + suc (suc (length pos)) =
     length-append name (32 ∷ 40 ∷ pos) in
     let here_len : length (slice_range line start (end - 1)) ≡ length inner = ap length inner_is in
@@ -102,8 +97,7 @@ v8_parens line front name pos last whole free start end s e =
     v8_closed line start end closed
     ∙ opens line (40 ∷ pos) start (end - 1) last_is refl
     (lt-ltb (suc (length pos)) (length (slice_range line start (end - 1))) shorter)
-    ∙ ap (λ n. framed line n (end - 1)) start' ∙ ap (λ n. framed line (length front + (length name + 2)) n)
-    end''
+    ∙ ap (λ n. framed line n (end - 1)) start' ∙ rw end'' refl
 
 -- ---- the body of a line
 
@@ -117,29 +111,25 @@ strip_one xs h = rw h refl
 last_byte : (front : List ℕ) (x : ℕ) → slice_index (front ++ x ∷ []) (length (front ++ x ∷ []) - 1) ≡ x
 last_byte front x =
     let len : length (front ++ x ∷ []) - 1 ≡ length front = omega (arith, length-append front (x ∷ [])) in
-    ap (λ n. get_or (front ++ x ∷ []) n 0) len ∙ get_or-append_seam front x [] 0
+    rw len (get_or-append_seam front x [] 0)
 
 pub body_len : (line body last : List ℕ) (x : ℕ) → line ≡ body ++ last → EndsIn body x → x ≢ 13
     → IsLineEnd last → length (strip_carriage_return line) ≡ length body
 body_len line body last x whole ends ne (inl e) =
-    let same : line ≡ ends.front ++ x ∷ [] = whole ∙ ap (λ (xs : List ℕ). body ++ xs) e ∙ append-nil body
-    ∙ ends.whole in
+    let same : line ≡ ends.front ++ x ∷ [] = whole ∙ rw (e, append-nil body) ends.whole in
     let other : (slice_index line (length line - 1) == 13) ≡ false =
-    ap (λ (xs : List ℕ). slice_index xs (length xs - 1) == 13) same
-    ∙ ap (λ b. b == 13) (last_byte ends.front x) ∙ ne_eqb x 13 ne in
+    rw (same, last_byte ends.front x) (ne_eqb x 13 ne) in
     ap length (strip_none line other ∙ same ∙ sym ends.whole)
 body_len line body last x whole ends ne (inr e) =
-    let same : line ≡ body ++ 13 ∷ [] = whole ∙ ap (λ (xs : List ℕ). body ++ xs) e in
-    let is : (slice_index line (length line - 1) == 13) ≡ true =
-    ap (λ (xs : List ℕ). slice_index xs (length xs - 1) == 13) same ∙ ap (λ b. b == 13) (last_byte body 13) in
+    let same : line ≡ body ++ 13 ∷ [] = whole ∙ rw e refl in
+    let is : (slice_index line (length line - 1) == 13) ≡ true = rw (same, last_byte body 13) refl in
     let len : length line ≡ length body + 1 = ap length same ∙ length-append body (13 ∷ []) in
     ap length (strip_one line is) ∙ omega (arith, len, length-take (length line - 1) line)
 
 one_line_frame : (line : List ℕ) (n : ℕ) → lacks 10 line ≡ true → length (strip_carriage_return line) ≡ n
     → frame_of line ≡ body_frame line n
 unfolding frame_of
-one_line_frame line n h e = ap (λ t. cond t (body_frame line (length (strip_carriage_return line))) None) h
-    ∙ ap (body_frame line) e
+one_line_frame line n h e = rw (h, e) refl
 
 body_v8 : (line : List ℕ) (end n : ℕ) → prefix_len is_space (take end line) ≡ n
     → starts_with nat_eq (drop n (take end line)) (codes "at ") ≡ true
@@ -158,16 +148,12 @@ to_v8 line spaces rest last x are line_end ends ne one whole =
     let len : length (strip_carriage_return line) ≡ length front + length rest =
     body_len line body last x whole' (longer front rest x ends) ne line_end ∙ length-append front rest in
     let taken : take (length front + length rest) line ≡ body =
-    ap (λ n. take n line) (sym (length-append front rest)) ∙ ap (take (length body)) whole'
-    ∙ take-append_seam body last in
+    rw (← length-append front rest, whole') (take-append_seam body last) in
     let found = at_found spaces rest are in
     let spaces_len : prefix_len is_space (take (length front + length rest) line) ≡ length spaces =
-    ap (prefix_len is_space) taken ∙ found.0 in
+    rw taken found.0 in
     let starts : starts_with nat_eq (drop (length spaces) (take (length front + length rest) line))
-    (codes "at ") ≡ true =
-    ap (λ (xs : List ℕ). starts_with nat_eq (drop (length spaces) xs) (codes "at ")) taken
-    ∙ ap (λ (xs : List ℕ). starts_with nat_eq xs (codes "at ")) found.1
-    ∙ begins_with (codes "at ") rest in
+    (codes "at ") ≡ true = rw (taken, found.1) (begins_with (codes "at ") rest) in
     let place : length spaces + 3 ≡ length front = sym (length-append spaces (codes "at ")) in
     one_line_frame line (length front + length rest) one len
     ∙ body_v8 line (length front + length rest) (length spaces) spaces_len starts
@@ -186,10 +172,9 @@ looks_alone : (line spaces pos last : List ℕ) (x : ℕ) → AreSpaces spaces �
 looks_alone line spaces pos last x are line_end ends no_cr no_paren free one whole =
     let front = spaces ++ codes "at " in
     let none : front ++ [] ≡ front = append-nil front in
-    let whole' : line ≡ front ++ (pos ++ last) = whole ∙ ap (λ (xs : List ℕ). xs ++ (pos ++ last)) none in
+    let whole' : line ≡ front ++ (pos ++ last) = whole ∙ rw none refl in
     to_v8 line spaces pos last x are line_end ends no_cr one whole'
-    ∙ v8_alone line front pos last x whole' ends no_paren free
-    ∙ ap (λ (xs : List ℕ). framed line (length xs) (length xs + length pos)) (sym none)
+    ∙ v8_alone line front pos last x whole' ends no_paren free ∙ rw none refl
 
 looks_async : (line spaces pos last : List ℕ) (x : ℕ) → AreSpaces spaces → IsLineEnd last → EndsIn pos x
     → x ≢ 13 → x ≢ 41
@@ -217,14 +202,9 @@ looks_parens line spaces name pos last are line_end free one whole =
     let front = spaces ++ codes "at " in
     let lead = name ++ codes " (" in
     let inner = name ++ 32 ∷ (40 ∷ pos) in
-    let inner_is : lead ++ pos ≡ inner = append_assoc name (codes " (") pos in
-    let whole' : line ≡ front ++ (inner ++ (41 ∷ last)) =
-    whole ∙ append_assoc front lead (pos ++ (codes ")" ++ last))
-    ∙ ap (λ (xs : List ℕ). front ++ xs) (sym (append_assoc lead pos (codes ")" ++ last))
-    ∙ ap (λ (xs : List ℕ). xs ++ 41 ∷ last) inner_is) in
+    let whole' : line ≡ front ++ (inner ++ (41 ∷ last)) = whole ∙ simp append_assoc in
     let rest = inner ++ 41 ∷ [] in
-    let whole'' : line ≡ front ++ (rest ++ last) = whole'
-    ∙ ap (λ (xs : List ℕ). front ++ xs) (sym (append_assoc inner (41 ∷ []) last)) in
+    let whole'' : line ≡ front ++ (rest ++ last) = rw (append_assoc inner (41 ∷ []) last) whole' in
     let rest_len : length rest ≡ length inner + 1 = length-append inner (41 ∷ []) in
     let lead_len : length lead ≡ length name + 2 = length-append name (codes " (") in
     let before_len : length (front ++ lead) ≡ length front + length lead = length-append front lead in
@@ -259,8 +239,9 @@ body_firefox line end n h k l = rw (h, k, l) refl
 -- If a line doesn't begin as V8's do, neither does its body.
 no_start : (line body last : List ℕ) → line ≡ body ++ last → (BeginsWithAt line → ⊥)
     → starts_with nat_eq (drop (prefix_len is_space body) body) (codes "at ") ≡ false
-no_start line body last whole not_at = go (starts_with nat_eq (drop (prefix_len is_space body) body)
-    (codes "at ")) refl
+no_start line body last whole not_at = false_from_ne_true (starts_with nat_eq (drop (prefix_len is_space body)
+    body) (codes "at "))
+    (λ h. not_at (begun (begins (drop (prefix_len is_space body) body) (codes "at ") h)))
   where
     begun : drop (prefix_len is_space body) body ≡ codes "at "
         ++ drop 3 (drop (prefix_len is_space body) body) → BeginsWithAt line
@@ -274,14 +255,8 @@ no_start line body last whole not_at = go (starts_with nat_eq (drop (prefix_len 
           whole = whole ∙ ap (λ (xs : List ℕ). xs ++ last)
               (sym (take-append-drop (prefix_len is_space body) body)
               ∙ ap (λ (xs : List ℕ). spaces ++ xs) cut)
-              ∙ append_assoc spaces (codes "at " ++ rest) last
-              ∙ sym (append_assoc spaces (codes "at ") (rest ++ last));
+              ∙ simp append_assoc;
         }
-
-    go : (t : Bool) → starts_with nat_eq (drop (prefix_len is_space body) body) (codes "at ") ≡ t
-        → starts_with nat_eq (drop (prefix_len is_space body) body) (codes "at ") ≡ false
-    go false h = h
-    go true h = absurd (not_at (begun (begins (drop (prefix_len is_space body) body) (codes "at ") h)))
 
 looks_firefox : (line name pos last : List ℕ) (x : ℕ) → (BeginsWithAt line → ⊥) → lacks 64 name ≡ true
     → IsLineEnd last → EndsIn pos x → x ≢ 13
@@ -294,16 +269,16 @@ looks_firefox line name pos last x not_at lacks_at line_end ends no_cr one whole
     let end = length front + length pos in
     let len : length (strip_carriage_return line) ≡ end =
     body_len line body last x whole' (longer front pos x ends) no_cr line_end ∙ length-append front pos in
-    let taken : take end line ≡ body = ap (λ n. take n line) (sym (length-append front pos))
-    ∙ ap (take (length body)) whole' ∙ take-append_seam body last in
+    let taken : take end line ≡ body =
+    rw (← length-append front pos, whole') (take-append_seam body last) in
     let at : position_or_len (λ b. b == 64) (take end line) ≡ length name =
-    ap (position_or_len (λ b. b == 64)) (taken ∙ append_assoc name (codes "@") pos)
-    ∙ front_passes (λ b. not (b == 64)) name 64 pos (lacks_all 64 name lacks_at) refl in
+    rw (taken, append_assoc name (codes "@") pos)
+    (front_passes (λ b. not (b == 64)) name 64 pos (lacks_all 64 name lacks_at) refl) in
     let front_len : length front ≡ length name + 1 = length-append name (codes "@") in
     let below : length name < end = omega (arith, front_len) in
     one_line_frame line end one len
     ∙ body_firefox line end (length name) (no_start line (take end line) last
-    (whole' ∙ ap (λ (xs : List ℕ). xs ++ last) (sym taken)) not_at) at (lt-ltb (length name) end below)
+    (rw taken whole') not_at) at (lt-ltb (length name) end below)
     ∙ ap (λ n. framed line n end) (sym front_len)
 
 -- ---- the frame
@@ -315,8 +290,7 @@ complete line f is =
     let no_cr : d.0 ≢ 13 = λ e. omega (arith, e, d.1) in
     let no_paren : d.0 ≢ 41 = λ e. omega (arith, e, d.1) in
     let free = position_text_lacks f.url f.line f.column is.no_space is.line_place is.column_place in
-    let url : is_url f.url ≡ true = ap (λ t. t && lacks 32 f.url) (lt-ltb 0 (length f.url) is.some_url)
-    ∙ is.no_space in
+    let url : is_url f.url ≡ true = rw (lt-ltb 0 (length f.url) is.some_url) is.no_space in
     let whole : line ≡ f.before ++ (pos ++ f.after) = is.whole ∙ append_assoc f.before pos f.after in
     looks f.before whole is.form d.0 d.3 no_cr no_paren free
     ∙ ap (λ (xs : List ℕ). framed xs (length f.before) (length f.before + length pos)) is.whole
@@ -328,19 +302,10 @@ complete line f is =
         → list_all (λ b. not (b == 32)) (position_text f.url f.line f.column) ≡ true
         → LooksAt line f.before (position_text f.url f.line f.column)
     looks before whole (inl v) x ends no_cr no_paren free =
-        let whole' : line ≡ (v.spaces ++ codes "at " ++ v.lead)
-        ++ (position_text f.url f.line f.column ++ (v.close ++ v.line_end)) =
-        whole ∙ ap (λ (xs : List ℕ). xs ++ (position_text f.url f.line f.column ++ f.after)) v.before_is
-        ∙ ap
-        (λ (xs : List ℕ). (v.spaces ++ codes "at " ++ v.lead) ++ (position_text f.url f.line f.column ++ xs))
-        v.after_is in
-        subst (λ (xs : List ℕ). LooksAt line xs (position_text f.url f.line f.column)) (sym v.before_is)
+        let whole' = rw (v.before_is, v.after_is) at whole in
+        rw v.before_is
         (looks_v8 line v.spaces v.lead (position_text f.url f.line f.column) v.close v.line_end x v.are_spaces
         v.form v.ends ends no_cr no_paren free is.one_line whole')
     looks before whole (inr (not_at, v)) x ends no_cr no_paren free =
-        let whole' : line ≡ (v.name ++ codes "@") ++ (position_text f.url f.line f.column ++ f.after) = whole
-        ∙ ap (λ (xs : List ℕ). xs ++ (position_text f.url f.line f.column ++ f.after)) v.before_is in
-        subst (λ (xs : List ℕ). LooksAt line xs (position_text f.url f.line f.column)) (sym v.before_is)
-        (looks_firefox line v.name (position_text f.url f.line f.column) f.after x not_at v.no_at v.ends ends
-        no_cr
-        is.one_line whole')
+        rw v.before_is (looks_firefox line v.name (position_text f.url f.line f.column) f.after x not_at
+        v.no_at v.ends ends no_cr is.one_line (rw v.before_is at whole))

@@ -4,20 +4,17 @@ use Rattle.std.proofs.Common.{List, ◌∷◌, ◌++◌, length, take, drop, rev
 use Rattle.std.proofs.Common.{slice_range, nat_eq, length-take}
 use Rattle.std.specs.List.{starts_with, suffix_len, before_last, after_last}
 use Rattle.std.proofs.Math.Seq.{split_at, take-append_seam, drop-append_seam}
+use Rattle.std.proofs.lemmas.Bool.{not-false}
 use Rattle.std.proofs.lemmas.Bool.Decides.{Decides-eqb}
 use Rattle.std.proofs.lemmas.List.{take-append-drop, drop-drop, get_or-reverse, length-reverse}
 use Rattle.std.proofs.lemmas.List.Sums.{prefix_len_stops}
 use Rattle.std.proofs.lemmas.Slice.Eq.{starts_is}
 
-pub both : (a b : Bool) → (a && b) ≡ true → (a ≡ true) × (b ≡ true)
-both true b h = (refl, h)
-both false b h = cc
-
 pub rest_at : (xs : List ℕ) (s e : ℕ) → s ≤ e → drop s xs ≡ slice_range xs s e ++ drop e xs
 rest_at xs s e le =
     let more : s + (e - s) ≡ e = omega arith in
     let last : drop (e - s) (drop s xs) ≡ drop e xs = drop-drop (e - s) s xs ∙ ap (λ n. drop n xs) more in
-    sym (take-append-drop (e - s) (drop s xs)) ∙ ap (λ (ys : List ℕ). take (e - s) (drop s xs) ++ ys) last
+    rw (← last) (sym (take-append-drop (e - s) (drop s xs)))
 
 pub cut_at : (xs : List ℕ) (s e : ℕ) → s ≤ e → xs ≡ take s xs ++ (slice_range xs s e ++ drop e xs)
 cut_at xs s e le = sym (take-append-drop s xs) ∙ ap (λ (ys : List ℕ). take s xs ++ ys) (rest_at xs s e le)
@@ -26,8 +23,7 @@ cut_at xs s e le = sym (take-append-drop s xs) ∙ ap (λ (ys : List ℕ). take 
 pub middle_part : (a t b : List ℕ) → slice_range (a ++ (t ++ b)) (length a) (length a + length t) ≡ t
 middle_part a t b =
     let len : length a + length t - length a ≡ length t = omega arith in
-    ap (λ n. take n (drop (length a) (a ++ (t ++ b)))) len
-    ∙ ap (take (length t)) (drop-append_seam a (t ++ b)) ∙ take-append_seam t b
+    rw (len, drop-append_seam a (t ++ b)) (take-append_seam t b)
 
 pub begins : (xs needle : List ℕ) → starts_with nat_eq xs needle ≡ true
     → xs ≡ needle ++ drop (length needle) xs
@@ -38,11 +34,7 @@ begins_with needle more = (starts_is Decides-eqb (needle ++ more) needle
     (starts_with nat_eq (needle ++ more) needle) refl).1 more refl
 
 is_not : (x c : ℕ) → not (x == c) ≡ false → x ≡ c
-is_not x c h = go (x == c) refl h
-  where
-    go : (t : Bool) → (x == c) ≡ t → not t ≡ false → x ≡ c
-    go true e f = (Decides-eqb x c).0 e
-    go false e f = cc
+is_not x c h = (Decides-eqb x c).0 (not-false (x == c) h)
 
 -- A text that has the mark is what stands before the last one, the mark, and what stands after it.
 pub last_cut : (c : ℕ) (xs : List ℕ) → suffix_len (λ b. not (b == c)) xs < length xs
@@ -59,9 +51,7 @@ last_cut c xs lt =
     ∙ ap (λ k. get_or xs k 0) place in
     let is : get_or xs i 0 ≡ c = sym which ∙ is_not (get_or (reverse xs) n 0) c stops in
     let next : suc i ≡ length xs - n = omega arith in
-    split_at xs i 0 (omega arith)
-    ∙ ap (λ x. take i xs ++ x ∷ drop (suc i) xs) is
-    ∙ ap (λ k. take i xs ++ c ∷ drop k xs) next
+    split_at xs i 0 (omega arith) ∙ rw (is, next) refl
 
 -- The same, where something stands before the last mark.
 pub some_before : (c : ℕ) (xs : List ℕ) → 0 < length (before_last (λ b. b == c) xs)

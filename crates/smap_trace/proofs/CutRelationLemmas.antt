@@ -1,12 +1,12 @@
 -- A line is cut as the relation says, and in no other way.
-use Rattle.std.proofs.Common.{◌≡◌, ◌∙◌, ℕ, suc, ◌-◌, ◌<◌, ◌≤◌, Bool, true, false}
+use Rattle.std.proofs.Common.{◌≡◌, ◌∙◌, inl, inr, ℕ, suc, ◌-◌, ◌<◌, ◌≤◌, Bool, true, false}
 use Rattle.std.proofs.Common.{cond, List, [], ◌∷◌, ◌++◌, length, take, drop, flat_map}
 use Rattle.std.proofs.Common.{Option, Some, None, option_map, find, bytes_eq, nat_lt, codes, decimal}
 use Rattle.std.proofs.Common.{refl, sym, ap, subst, arith, append_assoc, append-nil}
 use Rattle.std.specs.Char.{is_ascii_digit}
 use Rattle.std.specs.List.{list_any}
 use Rattle.std.proofs.Math.Seq.{drop-append_seam, take-append_seam}
-use Rattle.std.proofs.lemmas.Bool.{ltb-false, ltb-true}
+use Rattle.std.proofs.lemmas.Bool.{cases_Bool, cond_both, ltb-false, ltb-true}
 use Rattle.std.proofs.lemmas.List.{take-append-drop}
 use Rattle.std.proofs.lemmas.Slice.Eq.{bytes_eq-Decides}
 use Rattle.smap_record.specs.Record.{Record}
@@ -29,47 +29,33 @@ Covers m p = (o : Occurrence) × (m ≡ Some o) × (length p.url ≤ length o.ur
 
 covers_left : (p : Occurrence) (q : Option Occurrence) → Covers (longer (Some p) q) p
 covers_left p None = (p, refl, omega arith)
-covers_left p (Some q) = go (nat_lt (length p.url) (length q.url)) refl
-  where
-    go : (t : Bool) → nat_lt (length p.url) (length q.url) ≡ t → Covers (cond t (Some q) (Some p)) p
-    go true e = (q, refl, omega (arith, ltb-true (length p.url) (length q.url) e))
-    go false e = (p, refl, omega arith)
+covers_left p (Some q) = cond_both (nat_lt (length p.url) (length q.url)) (Some q) (Some p)
+    (λ (m : Option Occurrence). Covers m p)
+    (λ e. (q, refl, omega (arith, ltb-true (length p.url) (length q.url) e))) (λ e. (p, refl, omega arith))
 
 covers_right : (p : Option Occurrence) (q : Occurrence) → Covers (longer p (Some q)) q
 covers_right None q = (q, refl, omega arith)
-covers_right (Some p) q = go (nat_lt (length p.url) (length q.url)) refl
-  where
-    go : (t : Bool) → nat_lt (length p.url) (length q.url) ≡ t → Covers (cond t (Some q) (Some p)) q
-    go true e = (q, refl, omega arith)
-    go false e = (p, refl, omega (arith, ltb-false (length p.url) (length q.url) e))
+covers_right (Some p) q = cond_both (nat_lt (length p.url) (length q.url)) (Some q) (Some p)
+    (λ (m : Option Occurrence). Covers m q) (λ e. (q, refl, omega arith))
+    (λ e. (p, refl, omega (arith, ltb-false (length p.url) (length q.url) e)))
 
 -- the longest is at least as long as that of each script
 pub longest_covers : (ignore : Bool) (scripts : List Script) (text url : List ℕ) (r : Record) (p : Occurrence)
     → map_of scripts url ≡ Some r → occurrence_of ignore (url, r) text ≡ Some p
     → Covers (longest ignore scripts text) p
 longest_covers ignore [] text url r p known is = cc
-longest_covers ignore (s ∷ ss) text url r p known is =
-    go (bytes_eq s.0 url) refl known (λ k. longest_covers ignore ss text url r p k is)
-  where
-    here : occurrence_of ignore s text ≡ Some p → Covers (longest ignore (s ∷ ss) text) p
-    here e = rw e (covers_left p (longest ignore ss text))
-
-    later : Covers (longest ignore ss text) p → Covers (longest ignore (s ∷ ss) text) p
-    later (o, e, le) =
-        let more = covers_right (occurrence_of ignore s text) o in
-        (more.0, ap (longer (occurrence_of ignore s text)) e ∙ more.1, omega (arith, le, more.2))
-
-    go : (t : Bool) → bytes_eq s.0 url ≡ t
-        → option_map (λ (x : Script). x.1)
-        (cond t (Some s) (find (λ (x : Script). bytes_eq x.0 url) ss)) ≡ Some r
-        → (map_of ss url ≡ Some r → Covers (longest ignore ss text) p)
-        → Covers (longest ignore (s ∷ ss) text) p
-    go true e k more =
-        let same_url : s.0 ≡ url = (bytes_eq-Decides s.0 url).0 e in
-        let same_map : s.1 ≡ r = cc in
-        here (ap (λ (u : List ℕ). occurrence_of ignore (u, s.1) text) same_url
-        ∙ ap (λ (m : Record). occurrence_of ignore (url, m) text) same_map ∙ is)
-    go false e k more = later (more k)
+longest_covers ignore (s ∷ ss) text url r p known is = elim (cases_Bool (bytes_eq s.0 url)) [
+  | inl e ↦
+      let same_url : s.0 ≡ url = (bytes_eq-Decides s.0 url).0 e in
+      let first = rw e at known in
+      let same_map : s.1 ≡ r = cc in
+      let here : occurrence_of ignore s text ≡ Some p = rw (same_url, same_map) is in
+      rw here (covers_left p (longest ignore ss text))
+  | inr e ↦
+      let rest = longest_covers ignore ss text url r p (rw e at known) is in
+      let more = covers_right (occurrence_of ignore s text) rest.0 in
+      (more.0, ap (longer (occurrence_of ignore s text)) rest.1 ∙ more.1, omega (arith, rest.2, more.2))
+]
 
 -- ---- between two parts of a line
 
@@ -119,32 +105,28 @@ module _ (ignore : Bool) (scripts : List Script) where
       (computed_there before text rest p is) in
       (all.0, ap (λ t. cond t (longest ignore scripts (text ++ rest)) None) is.0 ∙ all.1, all.2)
 
+  begun_between : (before text : List ℕ) (o : Occurrence)
+      → occurrence_between ignore scripts before text ≡ Some o
+      → (may_begin before ≡ true) × (longest ignore scripts text ≡ Some o)
+  begun_between before text o h = grind arith
+
   stands_there : (before text : List ℕ) (o : Occurrence) → AreDistinct scripts
       → occurrence_between ignore scripts before text ≡ Some o
       → StandsBetween ignore scripts before o (take o.width text) (drop o.width text)
-  stands_there before text o distinct h = go (may_begin before) refl h
-    where
-      known : map_of scripts o.url ≡ Some o.map
-      known = known_between ignore scripts before text o distinct h
-
-      there : (s : Script) × (occurrence_of ignore s text ≡ Some o)
-          → IsOccurrence ignore scripts o (take o.width text)
-          × (list_any is_ascii_digit (take 1 (drop o.width text)) ≡ false)
-      there (s, e) =
-          let is = position_found ignore s text o e in
-          let position = position_text (o.url ++ is.query) o.line o.column in
-          let first : take o.width text ≡ position = ap (λ n. take n text) is.width_is
-          ∙ ap (take (length position)) is.whole ∙ take-append_seam position is.rest in
-          let last : drop o.width text ≡ is.rest = ap (λ n. drop n text) is.width_is
-          ∙ ap (drop (length position)) is.whole ∙ drop-append_seam position is.rest in (
-            subst (IsOccurrence ignore scripts o) (sym first) (is_occurrence text o is known),
-            ap (λ (t : List ℕ). list_any is_ascii_digit (take 1 t)) last ∙ is.stops,
-          )
-
-      go : (t : Bool) → may_begin before ≡ t → cond t (longest ignore scripts text) None ≡ Some o
-          → StandsBetween ignore scripts before o (take o.width text) (drop o.width text)
-      go true e k = let both = there (longest_of ignore scripts text o k) in (e, both.0, both.1)
-      go false e k = cc
+  stands_there before text o distinct h =
+      let begun = begun_between before text o h in
+      let s = longest_of ignore scripts text o begun.1 in
+      let is = position_found ignore s.0 text o s.1 in
+      let position = position_text (o.url ++ is.query) o.line o.column in
+      let first : take o.width text ≡ position = ap (λ n. take n text) is.width_is
+      ∙ ap (take (length position)) is.whole ∙ take-append_seam position is.rest in
+      let last : drop o.width text ≡ is.rest = ap (λ n. drop n text) is.width_is
+      ∙ ap (drop (length position)) is.whole ∙ drop-append_seam position is.rest in
+      let known = known_between ignore scripts before text o distinct h in (
+        begun.0,
+        subst (IsOccurrence ignore scripts o) (sym first) (is_occurrence text o is known),
+        ap (λ (t : List ℕ). list_any is_ascii_digit (take 1 t)) last ∙ is.stops,
+      )
 
   -- ---- a piece
 
@@ -191,23 +173,19 @@ module _ (ignore : Bool) (scripts : List Script) where
       → map_of scripts p.url ≡ Some p.map → length o.url ≡ length p.url → o ≡ p
   one_there text o p is other known_o known_p len =
       let url : o.url ≡ p.url = first_of o is ∙ ap (λ n. take n text) len ∙ sym (first_of p other) in
-      let map : o.map ≡ p.map = some (sym known_o ∙ ap (map_of scripts) url ∙ known_p) in
+      let one_map : Some o.map ≡ Some p.map = sym known_o ∙ ap (map_of scripts) url ∙ known_p in
+      let map : o.map ≡ p.map = cc in
       let same : occurrence_of ignore (o.url, o.map) text ≡ occurrence_of ignore (p.url, p.map) text =
-      ap (λ (u : List ℕ). occurrence_of ignore (u, o.map) text) url
-      ∙ ap (λ (m : Record). occurrence_of ignore (p.url, m) text) map in
-      found_one (sym (position_here ignore text o is) ∙ same ∙ position_here ignore text p other)
+      rw (url, map) refl in
+      let one : Some o ≡ Some p =
+      sym (position_here ignore text o is) ∙ same ∙ position_here ignore text p other in
+      cc
     where
       first_of : (q : Occurrence) → BeginsWithPosition ignore q text → q.url ≡ take (length q.url) text
       first_of q b =
           let rest = b.query ++ codes ":" ++ decimal q.line ++ codes ":" ++ decimal q.column ++ b.rest in
           let whole : text ≡ q.url ++ rest = b.whole ∙ simp append_assoc in
           sym (ap (take (length q.url)) whole ∙ take-append_seam q.url rest)
-
-      some : {m n : Record} → Some m ≡ Some n → m ≡ n
-      some e = cc
-
-      found_one : Some o ≡ Some p → o ≡ p
-      found_one e = cc
 
   found_there : (before text after : List ℕ) (o : Occurrence) → AreDistinct scripts
       → IsPieceBetween ignore scripts before (found o text) after
@@ -239,15 +217,11 @@ module _ (ignore : Bool) (scripts : List Script) where
   cut_found before b bs o is =
       let some : 0 < o.width = wide_between ignore scripts before (b ∷ bs) o is in
       let wide : suc (o.width - 1) ≡ o.width = omega (arith, some) in
-      let first : cut ignore scripts before 0 (b ∷ bs) ≡ found o (take o.width (b ∷ bs))
-      ∷ cut ignore scripts (before ++ b ∷ []) (o.width - 1) bs = rw is refl in
       let more : cut ignore scripts (before ++ b ∷ []) (o.width - 1) bs
       ≡ cut ignore scripts (before ++ take o.width (b ∷ bs)) 0 (drop o.width (b ∷ bs)) =
-      skipped ignore scripts (before ++ b ∷ []) bs (o.width - 1)
-      ∙ ap (λ (t : List ℕ). cut ignore scripts t 0 (drop (o.width - 1) bs))
-      (append_assoc before (b ∷ []) (take (o.width - 1) bs))
+      skipped ignore scripts before (b ∷ bs) (suc (o.width - 1))
       ∙ ap (λ n. cut ignore scripts (before ++ take n (b ∷ bs)) 0 (drop n (b ∷ bs))) wide in
-      first ∙ ap (λ (ps : List Piece). found o (take o.width (b ∷ bs)) ∷ ps) more
+      rw (is, more) refl
 
   -- The text begins with this piece, and the rest of it is cut into the others.
   record IsFirst (before text : List ℕ) (piece : Piece) (others : List Piece) : Type 0 where
@@ -286,12 +260,10 @@ module _ (ignore : Bool) (scripts : List Script) where
       let rest : first.rest ≡ flat_map bytes_of back =
       sym (pieces_joined ignore scripts (before ++ bytes_of piece) 0 first.rest)
       ∙ ap (λ (ps : List Piece). flat_map bytes_of ps) first.onward in
-      subst (λ (t : List ℕ). IsPieceBetween ignore scripts t piece (flat_map bytes_of back))
-      (sym (append-nil before)) (subst (IsPieceBetween ignore scripts before piece) rest first.is)
+      rw (append-nil before, ← rest) first.is
   pieces_stand before text (q ∷ front) back piece distinct h =
       let first = first_of before text q (front ++ piece ∷ back) distinct h in
-      subst (λ (t : List ℕ). IsPieceBetween ignore scripts t piece (flat_map bytes_of back))
-      (append_assoc before (bytes_of q) (flat_map bytes_of front))
+      rw (← append_assoc before (bytes_of q) (flat_map bytes_of front))
       (pieces_stand (before ++ bytes_of q) first.rest front back piece distinct first.onward)
 
   -- and pieces are what is computed
@@ -312,9 +284,7 @@ module _ (ignore : Bool) (scripts : List Script) where
       let last : drop o.width (text ++ after) ≡ after =
       ap (λ n. drop n (text ++ after)) wide ∙ drop-append_seam text after in
       cut_found before c (cs ++ after) o (found_there before text after o distinct is)
-      ∙ ap (λ (t : List ℕ). found o t ∷ cut ignore scripts (before ++ t) 0 (drop o.width (text ++ after)))
-      first
-      ∙ ap (λ (t : List ℕ). found o text ∷ cut ignore scripts (before ++ text) 0 t) last
+      ∙ rw (first, last) refl
 
   only : (before : List ℕ) (pieces : List Piece) → AreDistinct scripts
       → ((front back : List Piece) (piece : Piece) → pieces ≡ front ++ piece ∷ back
@@ -322,18 +292,16 @@ module _ (ignore : Bool) (scripts : List Script) where
       → cut ignore scripts before 0 (flat_map bytes_of pieces) ≡ pieces
   only before [] distinct stand = refl
   only before (p ∷ ps) distinct stand =
-      let is = subst (λ (t : List ℕ). IsPieceBetween ignore scripts t p (flat_map bytes_of ps))
-      (append-nil before) (stand [] ps p refl) in
+      let is = rw (append-nil before) at (stand [] ps p refl) in
       cut_so before p (flat_map bytes_of ps) distinct is
-      ∙ ap (λ (qs : List Piece). p ∷ qs) (only (before ++ bytes_of p) ps distinct behind)
+      ∙ rw (only (before ++ bytes_of p) ps distinct behind) refl
     where
       behind : (front back : List Piece) (piece : Piece) → ps ≡ front ++ piece ∷ back
           → IsPieceBetween ignore scripts ((before ++ bytes_of p) ++ flat_map bytes_of front) piece
           (flat_map bytes_of back)
       behind front back piece e =
-          subst (λ (t : List ℕ). IsPieceBetween ignore scripts t piece (flat_map bytes_of back))
-          (sym (append_assoc before (bytes_of p) (flat_map bytes_of front)))
-          (stand (p ∷ front) back piece (ap (λ (qs : List Piece). p ∷ qs) e))
+          rw (append_assoc before (bytes_of p) (flat_map bytes_of front))
+          (stand (p ∷ front) back piece (rw e refl))
 
 -- ---- the laws
 

@@ -9,9 +9,9 @@ use Rattle.std.specs.Char.{is_ascii_digit}
 use Rattle.std.specs.List.{list_any}
 use Rattle.std.specs.Option.{is_some, option_map_or}
 use Rattle.std.proofs.Math.Seq.{drop-append_seam, take-append_seam}
-use Rattle.std.proofs.lemmas.Bool.{eqb-true}
-use Rattle.std.proofs.lemmas.Bool.Decides.{Decides-eqb}
+use Rattle.std.proofs.lemmas.Bool.Decides.{nat_tests, Decides-eqb}
 use Rattle.std.proofs.lemmas.Grind.{flat_map-append}
+use Rattle.std.proofs.lemmas.List.{nil_from_length}
 use Rattle.std.proofs.lemmas.List.Folds.{list_any-append}
 use Rattle.smap_record.specs.Record.{Origin, Record}
 use Rattle.smap_trace.specs.Anywhere.{Occurrence, Piece, byte, bytes_of, continues, cut, found, longest}
@@ -31,7 +31,7 @@ use Rattle.smap_trace.proofs.CutRelationLemmas.{pieces_stand}
 use Rattle.smap_trace.proofs.CuttingLemmas.{bytes_kept, bytes_written}
 use Rattle.smap_trace.proofs.KnownLemmas.{known_longest}
 use Rattle.smap_trace.proofs.PieceLemmas.{longest_of}
-use Rattle.smap_trace.proofs.PositionLemmas.{BeginsWithPosition, length_position, position_found}
+use Rattle.smap_trace.proofs.PositionLemmas.{BeginsWithPosition, both_of, length_position, position_found}
 use Rattle.smap_trace.proofs.PositionLemmas.{position_here}
 use Rattle.smap_trace.proofs.TextLemmas.{EndsIn, longer as longer_text}
 
@@ -46,21 +46,12 @@ none_between : (ignore : Bool) (scripts : List Script) (before front : List ℕ)
     → cut ignore scripts before 0 (front ++ b ∷ bs) ≡ map byte (front ++ b ∷ bs)
     → occurrence_between ignore scripts (before ++ front) (b ∷ bs) ≡ None
 none_between ignore scripts before [] b bs h =
-    ap (λ (t : List ℕ). occurrence_between ignore scripts t (b ∷ bs)) (append-nil before)
-    ∙ no_piece (occurrence_between ignore scripts before (b ∷ bs)) b bs
-    (cut ignore scripts (before ++ b ∷ []) (more_of (occurrence_between ignore scripts before (b ∷ bs))) bs)
-    (map byte bs) h
+    rw (append-nil before) (no_piece (occurrence_between ignore scripts before (b ∷ bs)) b bs _ _ h)
 none_between ignore scripts before (x ∷ xs) b bs h =
-    ap (λ (t : List ℕ). occurrence_between ignore scripts t (b ∷ bs)) (sym (append_assoc before (x ∷ []) xs))
-    ∙ none_between ignore scripts (before ++ x ∷ []) xs b bs
-    (go (occurrence_between ignore scripts before (x ∷ (xs ++ b ∷ bs))) h)
-  where
-    go : (o : Option Occurrence)
-        → ◌≡◌ {A = List Piece} (piece_at o x (xs ++ b ∷ bs)
-        ∷ cut ignore scripts (before ++ x ∷ []) (more_of o) (xs ++ b ∷ bs)) (byte x ∷ map byte (xs ++ b ∷ bs))
-        → cut ignore scripts (before ++ x ∷ []) 0 (xs ++ b ∷ bs) ≡ map byte (xs ++ b ∷ bs)
-    go None k = cc
-    go (Some o) k = cc
+    let none = no_piece (occurrence_between ignore scripts before (x ∷ (xs ++ b ∷ bs))) x (xs ++ b ∷ bs) _ _ h in
+    let all = rw none at h in
+    let rest : cut ignore scripts (before ++ x ∷ []) 0 (xs ++ b ∷ bs) ≡ map byte (xs ++ b ∷ bs) = cc in
+    rw (← append_assoc before (x ∷ []) xs) (none_between ignore scripts (before ++ x ∷ []) xs b bs rest)
 
 -- ---- what is before and after the position of a frame
 
@@ -69,70 +60,59 @@ begins_behind before x ends other =
     let place : length (ends.front ++ x ∷ []) - 1 ≡ length ends.front =
     omega (arith, length-append ends.front (x ∷ [])) in
     let last : drop (length before - 1) before ≡ x ∷ [] =
-    ap (λ (t : List ℕ). drop (length t - 1) t) ends.whole
-    ∙ ap (λ n. drop n (ends.front ++ x ∷ [])) place ∙ drop-append_seam ends.front (x ∷ []) in
-    rw last (rw other refl)
+    ap (λ (t : List ℕ). drop (length t - 1) t) ends.whole ∙ rw place (drop-append_seam ends.front (x ∷ [])) in
+    rw (last, other) refl
 
 v8_begins : (f : FrameParts) → IsV8 f → may_begin f.before ≡ true
-v8_begins f v = go v.form
+v8_begins f v = rw v.before_is (led v.lead v.close v.form)
   where
-    behind : (x : ℕ) → EndsIn v.lead x → continues x ≡ false → may_begin f.before ≡ true
-    behind x e other = begins_behind f.before x (subst (λ (t : List ℕ). EndsIn t x) (sym v.before_is)
-        (longer_text (v.spaces ++ codes "at ") v.lead x e)) other
+    front : List ℕ
+    front = v.spaces ++ codes "at "
 
-    led : (lead : List ℕ) (x : ℕ) → v.lead ≡ lead → EndsIn lead x → EndsIn v.lead x
-    led lead x e ends = subst (λ (t : List ℕ). EndsIn t x) (sym e) ends
-
-    alone : v.lead ≡ [] → f.before ≡ v.spaces ++ codes "at "
-    alone e = v.before_is ∙ ap (λ (t : List ℕ). (v.spaces ++ codes "at ") ++ t) e
-        ∙ append-nil (v.spaces ++ codes "at ")
-
-    go : InParentheses v.lead v.close ⊎ (Alone v.lead v.close ⊎ AfterAsync v.lead v.close)
-        → may_begin f.before ≡ true
-    go (inl (name, e, d)) = behind 40 (led (name ++ codes " (") 40 e
-        (longer_text name (codes " (") 40 (record { front = codes " "; whole = refl }))) refl
-    go (inr (inl (e, d))) = begins_behind f.before 32 (subst (λ (t : List ℕ). EndsIn t 32) (sym (alone e))
-        (longer_text v.spaces (codes "at ") 32 (record { front = codes "at"; whole = refl }))) refl
-    go (inr (inr (e, d))) =
-        behind 32 (led (codes "async ") 32 e (record { front = codes "async"; whole = refl })) refl
+    led : (lead close : List ℕ) → InParentheses lead close ⊎ (Alone lead close ⊎ AfterAsync lead close)
+        → may_begin (front ++ lead) ≡ true
+    led lead close (inl (name, e, d)) = begins_behind (front ++ lead) 40 (record {
+      front = front ++ (name ++ codes " ");
+      whole = rw e (simp append_assoc);
+    }) refl
+    led lead close (inr (inl (e, d))) = begins_behind (front ++ lead) 32 (record {
+      front = v.spaces ++ codes "at";
+      whole = rw e (simp (append_assoc, append-nil));
+    }) refl
+    led lead close (inr (inr (e, d))) = begins_behind (front ++ lead) 32 (record {
+      front = front ++ codes "async";
+      whole = rw e (simp append_assoc);
+    }) refl
 
 frame_begins : (f : FrameParts) (line : List ℕ) → IsFrame line f → may_begin f.before ≡ true
-frame_begins f line is = go is.form
-  where
-    go : IsV8 f ⊎ ((BeginsWithAt line → ⊥) × IsFirefox f) → may_begin f.before ≡ true
-    go (inl v) = v8_begins f v
-    go (inr (not_at, v)) = begins_behind f.before 64 (record { front = v.name; whole = v.before_is }) refl
+frame_begins f line is = elim is.form [
+  | inl v ↦ v8_begins f v
+  | inr (not_at, v) ↦ begins_behind f.before 64 (record { front = v.name; whole = v.before_is }) refl
+]
 
-end_stops : (close last : List ℕ) → (close ≡ []) ⊎ (close ≡ codes ")") → IsLineEnd last
+end_stops : (last : List ℕ) → IsLineEnd last → list_any is_ascii_digit (take 1 last) ≡ false
+end_stops last (inl d) = rw d refl
+end_stops last (inr d) = rw d refl
+
+close_stops : (lead close last : List ℕ)
+    → InParentheses lead close ⊎ (Alone lead close ⊎ AfterAsync lead close) → IsLineEnd last
     → list_any is_ascii_digit (take 1 (close ++ last)) ≡ false
-end_stops close last (inl e) (inl d) = rw (e, d) refl
-end_stops close last (inl e) (inr d) = rw (e, d) refl
-end_stops close last (inr e) ends = rw e refl
+close_stops lead close last (inl (name, e, d)) ends = rw d refl
+close_stops lead close last (inr (inl (e, d))) ends = rw d (end_stops last ends)
+close_stops lead close last (inr (inr (e, d))) ends = rw d (end_stops last ends)
 
 frame_stops : (f : FrameParts) (line : List ℕ) → IsFrame line f
     → list_any is_ascii_digit (take 1 f.after) ≡ false
-frame_stops f line is = go is.form
-  where
-    closes : (lead close : List ℕ) → InParentheses lead close ⊎ (Alone lead close ⊎ AfterAsync lead close)
-        → (close ≡ []) ⊎ (close ≡ codes ")")
-    closes lead close (inl (name, e, d)) = inr d
-    closes lead close (inr (inl (e, d))) = inl d
-    closes lead close (inr (inr (e, d))) = inl d
-
-    go : IsV8 f ⊎ ((BeginsWithAt line → ⊥) × IsFirefox f) → list_any is_ascii_digit (take 1 f.after) ≡ false
-    go (inl v) = ap (λ (t : List ℕ). list_any is_ascii_digit (take 1 t)) v.after_is
-        ∙ end_stops v.close v.line_end (closes v.lead v.close v.form) v.ends
-    go (inr (not_at, v)) = end_stops [] f.after (inl refl) v.ends
+frame_stops f line is = elim is.form [
+  | inl v ↦ rw v.after_is (close_stops v.lead v.close v.line_end v.form v.ends)
+  | inr (not_at, v) ↦ end_stops f.after v.ends
+]
 
 -- ---- the script that a frame names
 
 -- the position of a frame
 abbrev position_of : FrameParts → List ℕ
 position_of f = position_text f.url f.line f.column
-
-length_zero : (t : List ℕ) → length t ≡ 0 → t ≡ []
-length_zero [] h = refl
-length_zero (b ∷ bs) h = absurd (omega (arith, h))
 
 -- the text between what is before and after the position
 position_there : (line : List ℕ) (f : FrameParts) → IsFrame line f
@@ -144,15 +124,19 @@ position_there line f is =
     let some = length-append (position_of f) f.after in
     let end : length line - length f.after ≡ length f.before + length (position_of f) =
     omega (arith, ap (λ (t : List ℕ). length t) whole, all, some) in
-    ap (slice_range line (length f.before)) end
-    ∙ ap (λ (t : List ℕ). slice_range t (length f.before) (length f.before + length (position_of f))) whole
-    ∙ middle_part f.before (position_of f) f.after
+    rw (end, whole) (middle_part f.before (position_of f) f.after)
 
 -- The line has a position of this script where the frame has its own.
 record IsAtFrame (ignore : Bool) (scripts : List Script) (f : FrameParts) (r : Record) : Type 0 where
   o : Occurrence
   known : map_of scripts o.url ≡ Some o.map
   begins : BeginsWithPosition ignore o (position_of f ++ f.after)
+
+abbrev if_wide : ℕ → Occurrence → Option Record
+if_wide n o = cond (o.width == n) (Some o.map) None
+
+wide : (o : Occurrence) (n : ℕ) (r : Record) → if_wide n o ≡ Some r → o.width ≡ n
+wide o n r h = grind (arith, nat_tests)
 
 at_frame : (ignore : Bool) (scripts : List Script) (line : List ℕ) (f : FrameParts) (r : Record)
     → AreDistinct scripts → IsFrame line f → map_for ignore scripts line f ≡ Some r
@@ -179,44 +163,32 @@ at_frame false scripts line f r distinct is h = record {
   };
 }
 at_frame true scripts line f r distinct is h =
-    let h' = ap (λ (t : List ℕ). option_and_then (λ o. if_wide (length t) o) (longest true scripts t))
-    (sym (position_there line f is)) ∙ h in
-    go (longest true scripts (position_of f)) refl h'
-  where
-    if_wide : ℕ → Occurrence → Option Record
-    if_wide n o = cond (o.width == n) (Some o.map) None
-
-    wide : (o : Occurrence) (t : Bool) → (o.width == length (position_of f)) ≡ t
-        → ◌≡◌ {A = Option Record} (cond t (Some o.map) None) (Some r) → o.width ≡ length (position_of f)
-    wide o true e k = eqb-true o.width (length (position_of f)) e
-    wide o false e k = cc
-
-    go : (m : Option Occurrence) → longest true scripts (position_of f) ≡ m
-        → option_and_then (λ o. if_wide (length (position_of f)) o) m ≡ Some r → IsAtFrame true scripts f r
-    go None e k = cc
-    go (Some o) e k =
-        let s = longest_of true scripts (position_of f) o e in
-        let there = position_found true s.0 (position_of f) o s.1 in
-        let text = position_text (o.url ++ there.query) o.line o.column in
-        let none : there.rest ≡ [] = length_zero there.rest (omega (
-          arith,
-          wide o (o.width == length (position_of f)) refl k,
-          there.width_is,
-          ap (λ (t : List ℕ). length t) there.whole,
-          length-append text there.rest,
-        )) in
-        let all : text ++ f.after ≡ position_of f ++ f.after = ap (λ (t : List ℕ). t ++ f.after)
-        (sym (there.whole ∙ ap (λ (t : List ℕ). text ++ t) none ∙ append-nil text)) in
-        let known = known_longest true scripts (position_of f) o distinct e in
-        record {
-          o = o;
-          known = known;
-          begins = subst (BeginsWithPosition true o) all (begins_there true scripts f.before text f.after o (
-            frame_begins f line is,
-            is_occurrence true scripts (position_of f) o there known,
-            frame_stops f line is,
-          ));
-        }
+    let named = both_of (if_wide (length (position_of f))) (longest true scripts (position_of f)) r
+    (ap (λ (t : List ℕ). option_and_then (if_wide (length t)) (longest true scripts t))
+    (sym (position_there line f is)) ∙ h) in
+    let o = named.0 in
+    let s = longest_of true scripts (position_of f) o named.1 in
+    let there = position_found true s.0 (position_of f) o s.1 in
+    let text = position_text (o.url ++ there.query) o.line o.column in
+    let none : there.rest ≡ [] = nil_from_length there.rest (omega (
+      arith,
+      wide o (length (position_of f)) r named.2,
+      there.width_is,
+      ap length there.whole,
+      length-append text there.rest,
+    )) in
+    let all : text ++ f.after ≡ position_of f ++ f.after = ap (λ (t : List ℕ). t ++ f.after)
+    (sym (there.whole ∙ ap (λ (t : List ℕ). text ++ t) none ∙ append-nil text)) in
+    let known = known_longest true scripts (position_of f) o distinct named.1 in
+    record {
+      o = o;
+      known = known;
+      begins = subst (BeginsWithPosition true o) all (begins_there true scripts f.before text f.after o (
+        frame_begins f line is,
+        is_occurrence true scripts (position_of f) o there known,
+        frame_stops f line is,
+      ));
+    }
 
 -- The position of a frame is cut out of the line if it is one of a script.
 frame_is_cut : (ignore : Bool) (scripts : List Script) (line : List ℕ) (f : FrameParts) (r : Record)
@@ -238,9 +210,7 @@ frame_is_cut ignore scripts line f r distinct is known bytes = go (position_of f
     go (b ∷ bs) e =
         let whole : line ≡ f.before ++ b ∷ bs = is.whole ∙ append_assoc f.before (position_of f) f.after
         ∙ ap (λ (t : List ℕ). f.before ++ t) e in
-        let bytes' : cut ignore scripts [] 0 (f.before ++ b ∷ bs) ≡ map byte (f.before ++ b ∷ bs) =
-        subst (λ (t : List ℕ). cut ignore scripts [] 0 t ≡ map byte t) whole bytes in
-        let none = none_between ignore scripts [] f.before b bs bytes' in
+        let none = none_between ignore scripts [] f.before b bs (rw whole at bytes) in
         let none' = ap (λ t. cond t (longest ignore scripts (b ∷ bs)) None) (sym (frame_begins f line is))
         ∙ none in
         let begins = subst (BeginsWithPosition ignore there.o) e there.begins in
@@ -253,7 +223,7 @@ frame_is_cut ignore scripts line f r distinct is known bytes = go (position_of f
 
 bytes_joined : (xs : List ℕ) → flat_map bytes_of (map byte xs) ≡ xs
 bytes_joined [] = refl
-bytes_joined (b ∷ bs) = ap (λ (ys : List ℕ). b ∷ ys) (bytes_joined bs)
+bytes_joined (b ∷ bs) = rw (bytes_joined bs) refl
 
 no_digit_behind : (rest after : List ℕ) → list_any is_ascii_digit (take 1 rest) ≡ false
     → list_any is_ascii_digit (take 1 after) ≡ false
@@ -265,8 +235,7 @@ one_front : (u v tail : List ℕ) → u ++ tail ≡ v ++ tail → u ≡ v
 one_front u v tail e =
     let len : length u ≡ length v =
     omega (arith, length-append u tail, length-append v tail, ap (λ (t : List ℕ). length t) e) in
-    sym (take-append_seam u tail) ∙ ap (λ (t : List ℕ). take (length u) t) e
-    ∙ ap (λ n. take n (v ++ tail)) len ∙ take-append_seam v tail
+    sym (take-append_seam u tail) ∙ rw (e, len) (take-append_seam v tail)
 
 module _ (scripts : List Script) (line : List ℕ) (f : FrameParts) (distinct : AreDistinct scripts)
     (is : IsFrame line f) where
@@ -274,12 +243,8 @@ module _ (scripts : List Script) (line : List ℕ) (f : FrameParts) (distinct : 
       ++ found o (position_of f) ∷ map byte f.after
       → IsPieceBetween ignore scripts f.before (found o (position_of f)) f.after
   piece_there ignore o pieces =
-      subst (λ (t : List ℕ). IsPieceBetween ignore scripts t (found o (position_of f)) f.after)
-      (bytes_joined f.before)
-      (subst (IsPieceBetween ignore scripts (flat_map bytes_of (map byte f.before)) (found o (position_of f)))
-      (bytes_joined f.after)
-      (pieces_stand ignore scripts [] line (map byte f.before) (map byte f.after) (found o (position_of f))
-      distinct pieces))
+      rw (bytes_joined f.before, bytes_joined f.after) at (pieces_stand ignore scripts [] line
+      (map byte f.before) (map byte f.after) (found o (position_of f)) distinct pieces)
 
   named : (ignore : Bool) (o : Occurrence) → o.line ≡ f.line → o.column ≡ f.column
       → IsPieceBetween ignore scripts f.before (found o (position_of f)) f.after
@@ -289,9 +254,7 @@ module _ (scripts : List Script) (line : List ℕ) (f : FrameParts) (distinct : 
       let none : at.query ≡ [] = at.ignored in
       let tail = codes ":" ++ decimal f.line ++ codes ":" ++ decimal f.column in
       let text : position_text f.url f.line f.column ≡ position_text o.url f.line f.column =
-      at.text_is ∙ ap (λ (u : List ℕ). position_text u o.line o.column)
-      (ap (λ (t : List ℕ). o.url ++ t) none ∙ append-nil o.url)
-      ∙ ap (λ n. position_text o.url n o.column) l ∙ ap (position_text o.url f.line) c in
+      at.text_is ∙ rw (none, append-nil o.url, l, c) refl in
       let mine : position_text f.url f.line f.column ≡ f.url ++ tail = simp append_assoc in
       let other : position_text o.url f.line f.column ≡ o.url ++ tail = simp append_assoc in
       let url : f.url ≡ o.url = one_front f.url o.url tail (sym mine ∙ text ∙ other) in
@@ -325,33 +288,31 @@ module _ (scripts : List Script) (line : List ℕ) (f : FrameParts) (distinct : 
 
 any_of : (front last : List ℕ) (piece : Piece)
     → list_any is_replaced (map byte front ++ piece ∷ map byte last) ≡ is_replaced piece
-any_of front last piece =
-    list_any-append is_replaced (map byte front) (piece ∷ map byte last)
-    ∙ ap (λ t. t || (is_replaced piece || list_any is_replaced (map byte last))) (bytes_kept front)
-    ∙ ap (λ t. is_replaced piece || t) (bytes_kept last) ∙ or_false (is_replaced piece)
-  where
-    or_false : (t : Bool) → (t || false) ≡ t
-    or_false true = refl
-    or_false false = refl
+any_of front last piece = grind (
+  arith,
+  list_any-append is_replaced (map byte front) (piece ∷ map byte last),
+  bytes_kept front,
+  bytes_kept last,
+)
 
 fate_of_one : (front last : List ℕ) (piece : Piece) (text : Option (List ℕ)) → replaced piece ≡ text
     → fate_of_pieces (map byte front ++ piece ∷ map byte last)
     ≡ option_map_or (λ t. translated (front ++ t ++ last)) text kept
 fate_of_one front last piece None e =
-    let none : is_replaced piece ≡ false = ap (λ (t : Option (List ℕ)). is_some t) e in
-    ap (λ t. cond t (translated (flat_map written_for (map byte front ++ piece ∷ map byte last))) kept)
-    (any_of front last piece ∙ none)
+    let none : is_replaced piece ≡ false = rw e refl in
+    rw (any_of front last piece, none) refl
 fate_of_one front last piece (Some t) e =
-    let one : is_replaced piece ≡ true = ap (λ (t : Option (List ℕ)). is_some t) e in
+    let one : is_replaced piece ≡ true = rw e refl in
     let given : written_for piece ≡ t = rw e refl in
-    let all : flat_map written_for (map byte front ++ piece ∷ map byte last) ≡ front ++ t ++ last =
-    flat_map-append written_for (map byte front) (piece ∷ map byte last)
-    ∙ ap (λ (ys : List ℕ). ys ++ (written_for piece ++ flat_map written_for (map byte last)))
-    (bytes_written front)
-    ∙ ap (λ (ys : List ℕ). front ++ (written_for piece ++ ys)) (bytes_written last)
-    ∙ ap (λ (ys : List ℕ). front ++ (ys ++ last)) given ∙ sym (append_assoc front t last) in
-    ap (λ b. cond b (translated (flat_map written_for (map byte front ++ piece ∷ map byte last))) kept)
-    (any_of front last piece ∙ one) ∙ ap translated all
+    rw (
+      any_of front last piece,
+      one,
+      flat_map-append written_for (map byte front) (piece ∷ map byte last),
+      bytes_written front,
+      given,
+      bytes_written last,
+      append_assoc front t last,
+    ) refl
 
 -- the text that replaces the position of a frame
 abbrev text_at : Option Origin → Option (List ℕ)
@@ -363,18 +324,7 @@ same_at : (hide : Bool) (f : FrameParts) (o : Option Origin)
     → cond (is_dropped (option_map_or (fate_at hide f) o kept)) dropped
     (option_map_or (λ t. translated (f.before ++ t ++ f.after)) (text_at o) kept)
     ≡ option_map_or (fate_at hide f) o kept
-same_at hide f None = refl
-same_at hide f (Some o) = go (hide && o.source.ignored) o.source.url
-  where
-    go : (t : Bool) (u : Option (List ℕ)) → cond (is_dropped (cond t dropped (option_map_or
-        (λ url. translated (f.before ++ position_text url (o.line + 1) (o.column + 1) ++ f.after)) u kept)))
-        dropped (option_map_or (λ t. translated (f.before ++ t ++ f.after))
-        (option_map (λ url. position_text url (o.line + 1) (o.column + 1)) u) kept)
-        ≡ cond t dropped (option_map_or
-        (λ url. translated (f.before ++ position_text url (o.line + 1) (o.column + 1) ++ f.after)) u kept)
-    go true u = refl
-    go false None = refl
-    go false (Some u) = refl
+same_at hide f o = grind arith
 
 -- ---- the fate of the line
 

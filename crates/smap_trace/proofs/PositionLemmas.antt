@@ -30,7 +30,7 @@ pub some_of : {X Y : Type 0} (f : X → Y) (m : Option X) (y : Y) → option_map
 some_of f (Some x) y h = (x, refl, cc)
 some_of f None y h = cc
 
-both_of : {X Y : Type 0} (f : X → Option Y) (m : Option X) (y : Y) → option_and_then f m ≡ Some y
+pub both_of : {X Y : Type 0} (f : X → Option Y) (m : Option X) (y : Y) → option_and_then f m ≡ Some y
     → (x : X) × (m ≡ Some x) × (f x ≡ Some y)
 both_of f (Some x) y h = (x, refl, h)
 both_of f None y h = cc

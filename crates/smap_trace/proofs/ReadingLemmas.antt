@@ -4,8 +4,9 @@ use Rattle.std.proofs.Common.{[], ◌∷◌, ◌++◌, length, take, drop, rever
 use Rattle.std.proofs.Common.{append_assoc, length-append, decimal, codes, slice_range}
 use Rattle.std.specs.List.{list_all, prefix_len, suffix_len, before_last, after_last}
 use Rattle.std.specs.Str.Parse.{AllDigits}
-use Rattle.std.proofs.lemmas.Bool.{ne_eqb}
+use Rattle.std.proofs.lemmas.Bool.{and_parts, ne_eqb}
 use Rattle.std.proofs.lemmas.List.{length-reverse, reverse-append}
+use Rattle.std.proofs.lemmas.List.Folds.{list_all-append}
 use Rattle.std.proofs.lemmas.Fmt.{decimal_is_IsNumeral}
 use Rattle.std.proofs.lemmas.Str.Parse.{digit_from_value}
 use Rattle.smap_trace.specs.Frame.{IsPlace, position_text}
@@ -14,37 +15,29 @@ use Rattle.smap_trace.proofs.PlaceLemmas.{place_of-decimal}
 use Rattle.smap_trace.proofs.FrameLemmas.{framed_is}
 use Rattle.std.proofs.Math.Seq.{take-append_seam, drop-append_seam}
 use Rattle.smap_trace.proofs.BodyLemmas.{front_passes}
+use Rattle.smap_trace.proofs.CutLemmas.{middle_part}
 
 -- ---- the last mark
-
-list_all-push : (q : ℕ → Bool) (xs : List ℕ) (y : ℕ) → list_all q xs ≡ true → q y ≡ true
-    → list_all q (xs ++ y ∷ []) ≡ true
-list_all-push q [] y h k = rw k refl
-list_all-push q (x ∷ xs) y h k = go (q x) h (λ r. list_all-push q xs y r k)
-  where
-    go : (t : Bool) → (t && list_all q xs) ≡ true → (list_all q xs ≡ true → list_all q (xs ++ y ∷ []) ≡ true)
-        → (t && list_all q (xs ++ y ∷ [])) ≡ true
-    go true r more = more r
-    go false r more = cc
 
 list_all-reverse : (q : ℕ → Bool) (xs : List ℕ) → list_all q xs ≡ true → list_all q (reverse xs) ≡ true
 list_all-reverse q [] h = refl
 list_all-reverse q (x ∷ xs) h =
-    let parts = two (q x) (list_all q xs) h in
-    subst (λ (zs : List ℕ). list_all q zs ≡ true) (sym (reverse-append (x ∷ []) xs))
-    (list_all-push q (reverse xs) x (list_all-reverse q xs parts.1) parts.0)
-  where
-    two : (a b : Bool) → (a && b) ≡ true → (a ≡ true) × (b ≡ true)
-    two true b e = (refl, e)
-    two false b e = cc
+    let parts = and_parts (q x) (list_all q xs) h in
+    rw (
+      reverse-append (x ∷ []) xs,
+      list_all-append q (reverse xs) (x ∷ []),
+      list_all-reverse q xs parts.1,
+      parts.0,
+    ) refl
 
 pub suffix_after : (q : ℕ → Bool) (front : List ℕ) (x : ℕ) (last : List ℕ) → list_all q last ≡ true
     → q x ≡ false → suffix_len q (front ++ x ∷ last) ≡ length last
 suffix_after q front x last all stop =
-    ap (prefix_len q) (reverse-append front (x ∷ last)
-    ∙ ap (λ (zs : List ℕ). zs ++ reverse front) (reverse-append (x ∷ []) last)
-    ∙ append_assoc (reverse last) (x ∷ []) (reverse front))
-    ∙ front_passes q (reverse last) x (reverse front) (list_all-reverse q last all) stop ∙ length-reverse last
+    rw (
+      reverse-append front (x ∷ last),
+      reverse-append (x ∷ []) last,
+      append_assoc (reverse last) (x ∷ []) (reverse front),
+    ) (front_passes q (reverse last) x (reverse front) (list_all-reverse q last all) stop ∙ length-reverse last)
 
 pub before_mark : (p : ℕ → Bool) (front : List ℕ) (x : ℕ) (last : List ℕ)
     → list_all (λ b. not (p b)) last ≡ true → p x ≡ true → before_last p (front ++ x ∷ last) ≡ front
@@ -54,7 +47,7 @@ before_mark p front x last all is =
     suffix_after (λ b. not (p b)) front x last all stop in
     let len : length (front ++ x ∷ last) - suffix_len (λ b. not (p b)) (front ++ x ∷ last) - 1
     ≡ length front = omega (arith, n, length-append front (x ∷ last)) in
-    ap (λ k. take k (front ++ x ∷ last)) len ∙ take-append_seam front (x ∷ last)
+    rw len (take-append_seam front (x ∷ last))
 
 pub after_mark : (p : ℕ → Bool) (front : List ℕ) (x : ℕ) (last : List ℕ)
     → list_all (λ b. not (p b)) last ≡ true → p x ≡ true → after_last p (front ++ x ∷ last) ≡ last
@@ -63,15 +56,9 @@ after_mark p front x last all is =
     let n : suffix_len (λ b. not (p b)) (front ++ x ∷ last) ≡ length last =
     suffix_after (λ b. not (p b)) front x last all stop in
     let len : length (front ++ x ∷ last) - suffix_len (λ b. not (p b)) (front ++ x ∷ last)
-    ≡ length (front ++ x ∷ []) = omega (
-      arith,
-      n,
-      length-append front (x ∷ last),
-      length-append front
-          (x ∷ []),
-    ) in
-    ap (λ k. drop k (front ++ x ∷ last)) len ∙ ap (drop (length (front ++ x ∷ [])))
-    (sym (append_assoc front (x ∷ []) last)) ∙ drop-append_seam (front ++ x ∷ []) last
+    ≡ length (front ++ x ∷ []) =
+    omega (arith, n, length-append front (x ∷ last), length-append front (x ∷ [])) in
+    rw (len, ← append_assoc front (x ∷ []) last) (drop-append_seam (front ++ x ∷ []) last)
 
 -- ---- digits
 
@@ -102,21 +89,19 @@ framed-position_text before url after l c is lp cp =
     let cut : pos ≡ first ++ 58 ∷ decimal c = append_assoc first (codes ":") (decimal c) in
     let cut' : first ≡ url ++ 58 ∷ decimal l = append_assoc url (codes ":") (decimal l) in
     let text : slice_range line (length before) (length before + length pos) ≡ pos =
-    ap (λ n. take n (drop (length before) line)) (omega arith)
-    ∙ ap (take (length pos)) (ap (drop (length before)) (append_assoc before pos after)
-    ∙ drop-append_seam before (pos ++ after)) ∙ take-append_seam pos after in
-    let rest : before_last is_colon pos ≡ first = ap (before_last is_colon) cut
-    ∙ before_mark is_colon first 58 (decimal c) (no_colon c cp) refl in
-    let column : after_last is_colon pos ≡ decimal c = ap (after_last is_colon) cut
-    ∙ after_mark is_colon first 58 (decimal c) (no_colon c cp) refl in
-    let address : before_last is_colon first ≡ url = ap (before_last is_colon) cut'
-    ∙ before_mark is_colon url 58 (decimal l) (no_colon l lp) refl in
-    let number : after_last is_colon first ≡ decimal l = ap (after_last is_colon) cut'
-    ∙ after_mark is_colon url 58 (decimal l) (no_colon l lp) refl in
-    let front : take (length before) line ≡ before = ap (take (length before)) (append_assoc before pos after)
-    ∙ take-append_seam before (pos ++ after) in
+    rw (append_assoc before pos after) (middle_part before pos after) in
+    let rest : before_last is_colon pos ≡ first =
+    ap (before_last is_colon) cut ∙ before_mark is_colon first 58 (decimal c) (no_colon c cp) refl in
+    let column : after_last is_colon pos ≡ decimal c =
+    ap (after_last is_colon) cut ∙ after_mark is_colon first 58 (decimal c) (no_colon c cp) refl in
+    let address : before_last is_colon first ≡ url =
+    ap (before_last is_colon) cut' ∙ before_mark is_colon url 58 (decimal l) (no_colon l lp) refl in
+    let number : after_last is_colon first ≡ decimal l =
+    ap (after_last is_colon) cut' ∙ after_mark is_colon url 58 (decimal l) (no_colon l lp) refl in
+    let front : take (length before) line ≡ before =
+    rw (append_assoc before pos after) (take-append_seam before (pos ++ after)) in
     let end : drop (length before + length pos) line ≡ after =
-    ap (λ n. drop n line) (sym (length-append before pos)) ∙ drop-append_seam (before ++ pos) after in
+    rw (← length-append before pos) (drop-append_seam (before ++ pos) after) in
     sym (framed_is line (length before) (length before + length pos) l c first (decimal c) url (decimal l)
     after (sym end)
     (sym rest ∙ ap (before_last is_colon) (sym text)) (sym column ∙ ap (after_last is_colon) (sym text))

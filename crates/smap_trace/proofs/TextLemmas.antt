@@ -5,6 +5,7 @@ use Rattle.std.proofs.Common.{append_assoc, nat_eq, length-take, length-append, 
 use Rattle.std.specs.List.{starts_with, ends_with, list_all, list_any}
 use Rattle.std.specs.Str.Parse.{AllDigits}
 use Rattle.std.proofs.Math.Seq.{get_or-append_seam}
+use Rattle.std.proofs.lemmas.Bool.{false_from_ne_true, not-true, or_parts}
 use Rattle.std.proofs.lemmas.Fmt.{decimal_is_IsNumeral}
 use Rattle.std.proofs.lemmas.List.Folds.{list_all-append}
 use Rattle.std.proofs.lemmas.Slice.Eq.{ends_is}
@@ -50,7 +51,8 @@ position_text_ends url l c is =
     (d.0, d.1, d.2, longer (url ++ codes ":" ++ decimal l ++ codes ":") (decimal c) d.0 d.3)
 
 pub ends_not : (xs : List ℕ) (x c : ℕ) → EndsIn xs x → x ≢ c → ends_with nat_eq xs (c ∷ []) ≡ false
-ends_not xs x c e ne = go (ends_with nat_eq xs (c ∷ [])) refl
+ends_not xs x c e ne = false_from_ne_true (ends_with nat_eq xs (c ∷ []))
+    (λ h. ne (same ((ends_is Decides-eqb xs (c ∷ []) (ends_with nat_eq xs (c ∷ [])) refl).0 h)))
   where
     same : xs ≡ take (length xs - 1) xs ++ c ∷ [] → x ≡ c
     same cut =
@@ -64,21 +66,13 @@ ends_not xs x c e ne = go (ends_with nat_eq xs (c ∷ [])) refl
         ∙ get_or-append_seam (take (length xs - 1) xs) c [] 0 in
         sym one ∙ ap (λ n. get_or xs n 0) (sym len') ∙ two
 
-    go : (t : Bool) → ends_with nat_eq xs (c ∷ []) ≡ t → ends_with nat_eq xs (c ∷ []) ≡ false
-    go false h = h
-    go true h = absurd (ne (same ((ends_is Decides-eqb xs (c ∷ []) (ends_with nat_eq xs (c ∷ [])) refl).0 h)))
-
 -- ---- bytes that a text lacks
 
 pub lacks_all : (c : ℕ) (xs : List ℕ) → lacks c xs ≡ true → list_all (λ b. not (b == c)) xs ≡ true
 lacks_all c [] h = refl
-lacks_all c (x ∷ xs) h = go (x == c) h (lacks_all c xs)
-  where
-    go : (t : Bool) → not (t || list_any (λ b. b == c) xs) ≡ true
-        → (lacks c xs ≡ true → list_all (λ b. not (b == c)) xs ≡ true)
-        → (not t && list_all (λ b. not (b == c)) xs) ≡ true
-    go true g more = cc
-    go false g more = more g
+lacks_all c (x ∷ xs) h =
+    let parts = or_parts (x == c) (list_any (λ b. b == c) xs) (not-true _ h) in
+    rw parts.0 (lacks_all c xs (rw parts.1 refl))
 
 pub position_text_lacks : (url : List ℕ) (l c : ℕ) → lacks 32 url ≡ true → IsPlace l → IsPlace c
     → list_all (λ b. not (b == 32)) (position_text url l c) ≡ true
@@ -93,16 +87,12 @@ position_text_lacks url l c free lp cp =
   where
     all_both : (q : ℕ → Bool) (xs ys : List ℕ) → list_all q xs ≡ true → list_all q ys ≡ true
         → list_all q (xs ++ ys) ≡ true
-    all_both q xs ys h k = list_all-append q xs ys ∙ ap (λ t. t && list_all q ys) h ∙ k
+    all_both q xs ys h k = rw (list_all-append q xs ys, h) k
 
 pub no_async : (xs : List ℕ) → list_all (λ b. not (b == 32)) xs ≡ true
     → starts_with nat_eq xs (codes "async ") ≡ false
-no_async xs all = go (starts_with nat_eq xs (codes "async ")) refl
+no_async xs all = false_from_ne_true (starts_with nat_eq xs (codes "async "))
+    (λ h. not_both all (split (drop 6 xs) (begins xs (codes "async ") h)))
   where
     split : (ys : List ℕ) → xs ≡ codes "async" ++ 32 ∷ ys → list_all (λ b. not (b == 32)) xs ≡ false
     split ys e = rw e refl
-
-    go : (t : Bool) → starts_with nat_eq xs (codes "async ") ≡ t
-        → starts_with nat_eq xs (codes "async ") ≡ false
-    go false h = h
-    go true h = absurd (not_both all (split (drop 6 xs) (begins xs (codes "async ") h)))
