@@ -33,6 +33,7 @@ use Rattle.smap_trace.proofs.KnownLemmas.{known_longest}
 use Rattle.smap_trace.proofs.PieceLemmas.{longest_of}
 use Rattle.smap_trace.proofs.PositionLemmas.{BeginsWithPosition, both_of, length_position, position_found}
 use Rattle.smap_trace.proofs.PositionLemmas.{position_here}
+use Rattle.smap_trace.proofs.SoundLemmas.{position_there}
 use Rattle.smap_trace.proofs.TextLemmas.{EndsIn, longer as longer_text}
 
 -- ---- a line of bytes holds no occurrence
@@ -113,18 +114,6 @@ frame_stops f line is = elim is.form [
 -- the position of a frame
 abbrev position_of : FrameParts → List ℕ
 position_of f = position_text f.url f.line f.column
-
--- the text between what is before and after the position
-position_there : (line : List ℕ) (f : FrameParts) → IsFrame line f
-    → slice_range line (length f.before) (length line - length f.after) ≡ position_of f
-position_there line f is =
-    let whole : line ≡ f.before ++ (position_of f ++ f.after) =
-    is.whole ∙ append_assoc f.before (position_of f) f.after in
-    let all = length-append f.before (position_of f ++ f.after) in
-    let some = length-append (position_of f) f.after in
-    let end : length line - length f.after ≡ length f.before + length (position_of f) =
-    omega (arith, ap (λ (t : List ℕ). length t) whole, all, some) in
-    rw (end, whole) (middle_part f.before (position_of f) f.after)
 
 -- The line has a position of this script where the frame has its own.
 record IsAtFrame (ignore : Bool) (scripts : List Script) (f : FrameParts) (r : Record) : Type 0 where

@@ -7,6 +7,7 @@ use Rattle.std.specs.Prelude.{Contains}
 use Rattle.std.specs.List.{list_any}
 use Rattle.std.specs.Map.{keys_of}
 use Rattle.std.specs.Option.{option_map_or}
+use Rattle.std.proofs.lemmas.Bool.{cases_Bool, or_right}
 use Rattle.std.proofs.lemmas.Bool.Decides.{nat_tests}
 use Rattle.std.proofs.lemmas.List.Sums.{sum_by-cons}
 use Rattle.std.proofs.lemmas.Slice.Eq.{bytes_eq-Decides}
@@ -31,7 +32,7 @@ use Rattle.smap_trace.proofs.CutLemmas.{middle_part}
 use Rattle.smap_trace.proofs.KnownLemmas.{names_script}
 use Rattle.smap_trace.proofs.MemberLemmas.{contains_first, contains_later, first_or_later}
 use Rattle.smap_trace.proofs.NamedUrlLemmas.{named_of_frames}
-use Rattle.smap_trace.proofs.SoundLemmas.{sound}
+use Rattle.smap_trace.proofs.SoundLemmas.{position_there, sound}
 
 -- ---- traces whose lines become the same
 
@@ -46,19 +47,17 @@ module _ (fates others : List ℕ → Fate) where
       → flat_map (line_translation_by fates) ls ≡ flat_map (line_translation_by others) ls
   written_alike [] agree = refl
   written_alike (l ∷ ls) agree =
-      ap (λ (f : Fate). written f l ++ flat_map (line_translation_by fates) ls)
-      (agree l (contains_first l ls))
-      ∙ ap (λ (t : List ℕ). written (others l) l ++ t) (written_alike ls (others_agree l ls agree))
+      rw (agree l (contains_first l ls), written_alike ls (others_agree l ls agree)) refl
 
   counted_alike : (p : Fate → Bool) (ls : List (List ℕ)) → AgreeOn ls
       → count_by (λ line. p (fates line)) ls ≡ count_by (λ line. p (others line)) ls
   counted_alike p [] agree = refl
-  counted_alike p (l ∷ ls) agree =
-      sum_by-cons (λ line. cond (p (fates line)) 1 0) l ls
-      ∙ ap (λ (f : Fate). cond (p f) 1 0 + count_by (λ line. p (fates line)) ls)
-      (agree l (contains_first l ls))
-      ∙ ap (λ n. cond (p (others l)) 1 0 + n) (counted_alike p ls (others_agree l ls agree))
-      ∙ sym (sum_by-cons (λ line. cond (p (others line)) 1 0) l ls)
+  counted_alike p (l ∷ ls) agree = rw (
+    sum_by-cons (λ line. cond (p (fates line)) 1 0) l ls,
+    sum_by-cons (λ line. cond (p (others line)) 1 0) l ls,
+    agree l (contains_first l ls),
+    counted_alike p ls (others_agree l ls agree),
+  ) refl
 
   alike : (trace : List ℕ) → AgreeOn (lines_of trace) → AreAlike fates others trace
   alike trace agree = (
@@ -127,34 +126,29 @@ module _ (keeps : Script → Bool) (ignore : Bool) (text : List ℕ) where
     | inr is ↦ is
   ]
 
+  at_filter : (s : Script) (ss : List Script) → longest ignore (filter keeps (s ∷ ss)) text
+      ≡ cond (keeps s) (longest ignore (s ∷ filter keeps ss) text) (longest ignore (filter keeps ss) text)
+  at_filter s ss = grind arith
+
   kept_longest : (ss : List Script) → IsKept keeps ss (longest ignore ss text)
       → longest ignore (filter keeps ss) text ≡ longest ignore ss text
   kept_longest [] holds = refl
   kept_longest (s ∷ ss) holds =
       let o = occurrence_of ignore s text in
-      let same = one_kept (keeps s) o (longest ignore (filter keeps ss) text) (longest ignore ss text)
+      at_filter s ss
+      ∙ one_kept (keeps s) o (longest ignore (filter keeps ss) text) (longest ignore ss text)
       (λ is. kept_longest ss (kept_rest s ss _ (subst (IsKept keeps (s ∷ ss)) is holds))) (no_longer ss)
-      (λ lost. is_later s ss o (longest ignore ss text) refl lost holds) in
-      ◌∙◌ {b = cond (keeps s) (longest ignore (s ∷ filter keeps ss) text) (longest ignore (filter keeps ss) text)}
-      (at_filter (keeps s) s (filter keeps ss)) same
-    where
-      at_filter : (k : Bool) (s : Script) (xs : List Script) → longest ignore (cond k (s ∷ xs) xs) text
-          ≡ cond k (longest ignore (s ∷ xs) text) (longest ignore xs text)
-      at_filter k s xs = grind arith
+      (λ lost. is_later s ss o (longest ignore ss text) refl lost holds)
 
 -- ---- the pieces of a line, and its frame
 
 module _ (keeps : Script → Bool) (ignore : Bool) (ss : List Script) where
   kept_between : (front text : List ℕ) → IsKept keeps ss (occurrence_between ignore ss front text)
       → occurrence_between ignore (filter keeps ss) front text ≡ occurrence_between ignore ss front text
-  kept_between front text holds = at_test (may_begin front) holds (kept_longest keeps ignore text ss)
-    where
-      at_test : (t : Bool) → IsKept keeps ss (cond t (longest ignore ss text) None)
-          → (IsKept keeps ss (longest ignore ss text)
-          → longest ignore (filter keeps ss) text ≡ longest ignore ss text)
-          → cond t (longest ignore (filter keeps ss) text) None ≡ cond t (longest ignore ss text) None
-      at_test true h same = same h
-      at_test false h same = refl
+  kept_between front text holds = elim (cases_Bool (may_begin front)) [
+    | inl e ↦ rw e (kept_longest keeps ignore text ss (rw e at holds))
+    | inr e ↦ rw e refl
+  ]
 
   -- none of the pieces is a position of a script that is left out
   abbrev AreKept : List Piece → Type 0
@@ -175,26 +169,9 @@ module _ (keeps : Script → Bool) (ignore : Bool) (ss : List Script) where
   same_cut front zero (b ∷ bs) holds =
       let o = occurrence_between ignore ss front (b ∷ bs) in
       let rest = cut ignore ss (front ++ b ∷ []) (more_of o) bs in
-      let same = kept_between front (b ∷ bs) (first_kept o b bs rest holds) in
-      ap (λ (p : Option Occurrence). piece_at p b bs
-      ∷ cut ignore (filter keeps ss) (front ++ b ∷ []) (more_of p) bs) same
-      ∙ ap (λ (ps : List Piece). piece_at o b bs ∷ ps) (same_cut (front ++ b ∷ []) (more_of o) bs
-      (λ q bytes c. holds q bytes (contains_later (piece_at o b bs) (found q bytes) rest c)))
-
-  -- what is before and after a frame's position leaves the position
-  position_is : (text : List ℕ) (f : FrameParts) → IsFrame text f
-      → slice_range text (length f.before) (length text - length f.after)
-      ≡ position_text f.url f.line f.column
-  position_is text f is =
-      let pos = position_text f.url f.line f.column in
-      let whole : text ≡ f.before ++ (pos ++ f.after) = is.whole ∙ append_assoc f.before pos f.after in
-      let long : length text ≡ length f.before + (length pos + length f.after) =
-      ap length whole ∙ length-append f.before (pos ++ f.after)
-      ∙ ap (λ n. length f.before + n) (length-append pos f.after) in
-      let end : length text - length f.after ≡ length f.before + length pos = omega (arith, long) in
-      ap (slice_range text (length f.before)) end
-      ∙ ap (λ (t : List ℕ). slice_range t (length f.before) (length f.before + length pos)) whole
-      ∙ middle_part f.before pos f.after
+      let more = same_cut (front ++ b ∷ []) (more_of o) bs
+      (λ q bytes c. holds q bytes (contains_later (piece_at o b bs) (found q bytes) rest c)) in
+      rw (kept_between front (b ∷ bs) (first_kept o b bs rest holds), more) refl
 
   -- none of the scripts that are left out is that of the frame
   abbrev IsKeptFrame : Bool → FrameParts → Type 0
@@ -209,10 +186,8 @@ module _ (keeps : Script → Bool) (ignore : Bool) (ss : List Script) where
       let same : longest true (filter keeps ss) pos ≡ longest true ss pos =
       kept_longest keeps true pos ss (shown (longest true ss pos) refl) in
       let here : longest true (filter keeps ss) given ≡ longest true ss given =
-      ap (longest true (filter keeps ss)) (position_is text f is) ∙ same
-      ∙ ap (longest true ss) (sym (position_is text f is)) in
-      ap (λ (q : Option Occurrence). option_and_then
-      (λ o. cond (o.width == length given) (Some o.map) None) q) here
+      rw (position_there text f is) same in
+      rw here refl
     where
       shown : (q : Option Occurrence) → longest true ss (position_text f.url f.line f.column) ≡ q
           → IsKept keeps ss q
@@ -240,25 +215,15 @@ module _ (finding : Finding) (keeps : Script → Bool) (ss : List Script) (hide 
   same_line : (text : List ℕ)
       → ((s : Script) → Contains ss s → keeps s ≡ false → IsFoundIn finding ss text s.0 → ⊥)
       → fate_found finding (filter keeps ss) hide text ≡ fate_found finding ss hide text
-  same_line text none = go finding.anywhere refl
-    where
-      framed : frame_fate finding.ignore_query (filter keeps ss) hide text
-          ≡ frame_fate finding.ignore_query ss hide text
-      framed = same_frame keeps finding.ignore_query ss hide text (λ s c lost h. none s c lost (inl h))
-
-      go : (t : Bool) → finding.anywhere ≡ t
-          → cond t (anywhere_fate finding.ignore_query (filter keeps ss) hide text)
-          (frame_fate finding.ignore_query (filter keeps ss) hide text)
-          ≡ cond t (anywhere_fate finding.ignore_query ss hide text)
-          (frame_fate finding.ignore_query ss hide text)
-      go false e = framed
-      go true e =
-          let pieces = same_cut keeps finding.ignore_query ss [] 0 text
-          (λ o bytes c s d lost u. none s d lost (inr (e, (o, bytes, c, sym u)))) in
-          ap (λ (f : Fate). cond (is_dropped f) dropped
-          (fate_of_pieces (pieces_of finding.ignore_query (filter keeps ss) text))) framed
-          ∙ ap (λ (ps : List Piece). cond
-          (is_dropped (frame_fate finding.ignore_query ss hide text)) dropped (fate_of_pieces ps)) pieces
+  same_line text none =
+      let framed = same_frame keeps finding.ignore_query ss hide text (λ s c lost h. none s c lost (inl h)) in
+      elim (cases_Bool finding.anywhere) [
+        | inl e ↦
+            let pieces = same_cut keeps finding.ignore_query ss [] 0 text
+            (λ o bytes c s d lost u. none s d lost (inr (e, (o, bytes, c, sym u)))) in
+            rw (e, framed, pieces) refl
+        | inr e ↦ rw e framed
+      ]
 
 pub unfound_left_out : UnfoundAreLeftOut
 unfound_left_out finding keeps ss hide trace none = alike _ _ trace
@@ -280,13 +245,10 @@ unnamed_left_out keeps ss hide trace none =
 
 is_found : (us : List (List ℕ)) (url : List ℕ) → Contains us url → list_any (bytes_eq url) us ≡ true
 is_found [] url c = absurd (omega (arith, c.1))
-is_found (u ∷ us) url c = go (first_or_later u url us c) (bytes_eq url u) refl (is_found us url)
-  where
-    go : (u ≡ url) ⊎ Contains us url → (t : Bool) → bytes_eq url u ≡ t
-        → (Contains us url → list_any (bytes_eq url) us ≡ true) → (t || list_any (bytes_eq url) us) ≡ true
-    go h true e more = refl
-    go (inl same) false e more = absurd (true≢false (sym ((bytes_eq-Decides url u).1 (sym same)) ∙ e))
-    go (inr there) false e more = more there
+is_found (u ∷ us) url c = elim (first_or_later u url us c) [
+  | inl same ↦ rw ((bytes_eq-Decides url u).1 (sym same)) refl
+  | inr there ↦ or_right (bytes_eq url u) (list_any (bytes_eq url) us) (is_found us url there)
+]
 
 pub named_are_enough : NamedSuffice
 named_are_enough ss hide trace = unnamed_left_out (is_named trace) ss hide trace

@@ -5,7 +5,9 @@ use Rattle.std.proofs.Common.{length-drop, flat_map, refl, sym, ap, subst, inl, 
 use Rattle.std.proofs.Common.{append-nil}
 use Rattle.std.specs.List.{list_any, onto_first}
 use Rattle.std.proofs.lemmas.List.{take_more}
+use Rattle.std.proofs.lemmas.List.Folds.{list_any-append}
 use Rattle.std.proofs.Math.Seq.{take-add, take-length}
+use Rattle.std.proofs.lemmas.Bool.{cases_Bool, false_from_ne_true}
 use Rattle.std.proofs.lemmas.Bool.Decides.{nat_tests}
 use Rattle.std.proofs.lemmas.Grind.{flat_map-append}
 use Rattle.smap_trace.specs.declared.outcome.Counts.{Counts}
@@ -28,66 +30,37 @@ some_lines (b ∷ bs) = go (b == 10) (some_lines bs)
 front_lines : (front more : List ℕ) → lines_of (front ++ 10 ∷ more)
     ≡ lines_of (front ++ 10 ∷ []) ++ lines_of more
 front_lines [] more = refl
-front_lines (b ∷ bs) more = go (b == 10) (front_lines bs more)
-  where
-    go : (t : Bool) → lines_of (bs ++ 10 ∷ more) ≡ lines_of (bs ++ 10 ∷ []) ++ lines_of more
-        → cond t ((10 ∷ []) ∷ lines_of (bs ++ 10 ∷ more)) (onto_first b (lines_of (bs ++ 10 ∷ more)))
-        ≡ cond t ((10 ∷ []) ∷ lines_of (bs ++ 10 ∷ [])) (onto_first b (lines_of (bs ++ 10 ∷ [])))
-        ++ lines_of more
-    go true e = ap (λ (xss : List (List ℕ)). (10 ∷ []) ∷ xss) e
-    go false e =
-        let s = some_lines bs in
-        ap (onto_first b) (e ∙ ap (λ (xss : List (List ℕ)). xss ++ lines_of more) s.2)
-        ∙ ap (λ (xss : List (List ℕ)). onto_first b xss ++ lines_of more) (sym s.2)
+front_lines (b ∷ bs) more = elim (cases_Bool (b == 10)) [
+  | inl e ↦ rw (e, front_lines bs more) refl
+  | inr e ↦ let s = some_lines bs in rw (e, front_lines bs more, s.2) refl
+]
 
 pub lines_of-append : (whole more : List ℕ) → IsWhole whole
     → lines_of (whole ++ more) ≡ lines_of whole ++ lines_of more
 lines_of-append whole more (inl e) = rw e refl
-lines_of-append whole more (inr p) = rw p.1 (ap lines_of (append_assoc p.0 (10 ∷ []) more)
-    ∙ front_lines p.0 more)
+lines_of-append whole more (inr p) = rw (p.1, append_assoc p.0 (10 ∷ []) more) (front_lines p.0 more)
+
+-- no byte of it is a line feed
+free_parts : (b : ℕ) (bs : List ℕ) → HasNoFeed (b ∷ bs) → ((b == 10) ≡ false) × HasNoFeed bs
+free_parts b bs free = grind arith
 
 -- a line with its line feed, and a last one without
 pub lines_of-line : (line : List ℕ) → HasNoFeed line → lines_of (line ++ 10 ∷ []) ≡ (line ++ 10 ∷ []) ∷ []
 lines_of-line [] h = refl
-lines_of-line (b ∷ bs) h = go (b == 10) h (lines_of-line bs)
-  where
-    go : (t : Bool) → not (t || list_any (λ c. c == 10) bs) ≡ true
-        → (HasNoFeed bs → lines_of (bs ++ 10 ∷ []) ≡ (bs ++ 10 ∷ []) ∷ [])
-        → cond t ((10 ∷ []) ∷ lines_of (bs ++ 10 ∷ [])) (onto_first b (lines_of (bs ++ 10 ∷ [])))
-        ≡ (b ∷ (bs ++ 10 ∷ [])) ∷ []
-    go true bad rest = cc
-    go false free rest = ap (onto_first b) (rest free)
+lines_of-line (b ∷ bs) h = let p = free_parts b bs h in rw (p.0, lines_of-line bs p.1) refl
 
 -- after a byte, what has no line feed is the rest of its line
 on_line : (b : ℕ) (bs : List ℕ) → HasNoFeed bs → onto_first b (lines_of bs) ≡ (b ∷ bs) ∷ []
 on_line b [] free = refl
-on_line b (c ∷ cs) free = go (c == 10) free (on_line c cs)
-  where
-    go : (t : Bool) → not (t || list_any (λ d. d == 10) cs) ≡ true
-        → (HasNoFeed cs → onto_first c (lines_of cs) ≡ (c ∷ cs) ∷ [])
-        → onto_first b (cond t ((10 ∷ []) ∷ lines_of cs) (onto_first c (lines_of cs))) ≡ (b ∷ c ∷ cs) ∷ []
-    go true bad rest = cc
-    go false h rest = ap (onto_first b) (rest h)
+on_line b (c ∷ cs) free = let p = free_parts c cs free in rw (p.0, on_line c cs p.1) refl
 
 pub lines_of-last : (b : ℕ) (bs : List ℕ) → HasNoFeed (b ∷ bs) → lines_of (b ∷ bs) ≡ (b ∷ bs) ∷ []
-lines_of-last b bs h = go (b == 10) h (on_line b bs)
-  where
-    go : (t : Bool) → not (t || list_any (λ c. c == 10) bs) ≡ true
-        → (HasNoFeed bs → onto_first b (lines_of bs) ≡ (b ∷ bs) ∷ [])
-        → cond t ((10 ∷ []) ∷ lines_of bs) (onto_first b (lines_of bs)) ≡ (b ∷ bs) ∷ []
-    go true bad rest = cc
-    go false free rest = rest free
+lines_of-last b bs h = let p = free_parts b bs h in rw p.0 (on_line b bs p.1)
 
 -- ---- a piece, byte by byte
 
 pub HasNoFeed-append : (front back : List ℕ) → HasNoFeed front → HasNoFeed back → HasNoFeed (front ++ back)
-HasNoFeed-append [] back free clean = clean
-HasNoFeed-append (c ∷ cs) back free clean = go (c == 10) free (λ h. HasNoFeed-append cs back h clean)
-  where
-    go : (t : Bool) → not (t || list_any (λ d. d == 10) cs) ≡ true → (HasNoFeed cs → HasNoFeed (cs ++ back))
-        → not (t || list_any (λ d. d == 10) (cs ++ back)) ≡ true
-    go true bad rest = cc
-    go false h rest = rest h
+HasNoFeed-append front back free clean = grind (arith, list_any-append (λ b. b == 10) front back)
 
 -- what is before the first line feed has none
 pub none_passed : (bytes : List ℕ) (k : ℕ) → ((i : ℕ) → i < k → (get_or bytes i 0 == 10) ≢ true)
@@ -95,12 +68,8 @@ pub none_passed : (bytes : List ℕ) (k : ℕ) → ((i : ℕ) → i < k → (get
 none_passed [] zero none = refl
 none_passed [] (suc k) none = refl
 none_passed (b ∷ bs) zero none = refl
-none_passed (b ∷ bs) (suc k) none = go (b == 10) refl (none_passed bs k (λ i lt. none (suc i) (omega arith)))
-  where
-    go : (t : Bool) → (b == 10) ≡ t → HasNoFeed (take k bs)
-        → not (t || list_any (λ d. d == 10) (take k bs)) ≡ true
-    go true e rest = absurd (none 0 (omega arith) e)
-    go false e rest = rest
+none_passed (b ∷ bs) (suc k) none = rw (false_from_ne_true (b == 10) (none 0 (omega arith)))
+    (none_passed bs k (λ i lt. none (suc i) (omega arith)))
 
 pub none_there : (bytes : List ℕ) → ((i : ℕ) → i < length bytes → (get_or bytes i 0 == 10) ≢ true)
     → HasNoFeed bytes
@@ -116,37 +85,32 @@ pub line_end : (piece : List ℕ) (at feed : ℕ) → feed < length (drop at pie
     → slice_range piece at (at + feed + 1) ≡ take feed (drop at piece) ++ 10 ∷ []
 line_end piece at feed lt is =
     let n : at + feed + 1 - at ≡ feed + 1 = omega arith in
-    ap (λ k. take k (drop at piece)) n ∙ take_more (drop at piece) feed 0 lt
-    ∙ ap (λ b. take feed (drop at piece) ++ b ∷ []) is
+    rw (n, take_more (drop at piece) feed 0 lt, is) refl
 
 pub line_taken : (piece : List ℕ) (at feed : ℕ) → feed < length (drop at piece)
     → get_or (drop at piece) feed 0 ≡ 10
     → take (at + feed + 1) piece ≡ take at piece ++ (take feed (drop at piece) ++ 10 ∷ [])
 line_taken piece at feed lt is =
     let n : at + feed + 1 ≡ at + (feed + 1) = omega arith in
-    ap (λ k. take k piece) n ∙ take-add at (feed + 1) piece
-    ∙ ap (λ (xs : List ℕ). take at piece ++ xs) (take_more (drop at piece) feed 0 lt
-    ∙ ap (λ b. take feed (drop at piece) ++ b ∷ []) is)
+    rw (n, take-add at (feed + 1) piece, take_more (drop at piece) feed 0 lt, is) refl
 
 module _ (fates : List ℕ → Fate) where
   pub translation-append : (whole more : List ℕ) → IsWhole whole
       → translation_by fates (whole ++ more) ≡ translation_by fates whole
       ++ translation_by fates more
-  translation-append whole more is = ap (flat_map (line_translation_by fates))
-      (lines_of-append whole more is) ∙ flat_map-append (line_translation_by fates) (lines_of whole)
-      (lines_of more)
+  translation-append whole more is = rw (lines_of-append whole more is)
+      (flat_map-append (line_translation_by fates) (lines_of whole) (lines_of more))
 
   pub count_lines-append : (c : Counts) (xs ys : List (List ℕ))
       → count_lines fates c (xs ++ ys) ≡ count_lines fates (count_lines fates c xs) ys
   count_lines-append c [] ys = refl
-  count_lines-append c (x ∷ xs) ys = count_lines-append (count_line c (outcome_of (fates x))) xs
-      ys
+  count_lines-append c (x ∷ xs) ys = count_lines-append (count_line c (outcome_of (fates x))) xs ys
 
   pub count_lines-whole : (c : Counts) (whole more : List ℕ) → IsWhole whole
       → count_lines fates c (lines_of (whole ++ more))
       ≡ count_lines fates (count_lines fates c (lines_of whole)) (lines_of more)
-  count_lines-whole c whole more is = ap (count_lines fates c) (lines_of-append whole more is)
-      ∙ count_lines-append c (lines_of whole) (lines_of more)
+  count_lines-whole c whole more is = rw (lines_of-append whole more is)
+      (count_lines-append c (lines_of whole) (lines_of more))
 
   pub Takes-bytes : (line piece rest old new : List ℕ) (c d : Counts) (bytes : List ℕ)
       → Takes fates line piece rest old new c d
@@ -154,8 +118,7 @@ module _ (fates : List ℕ → Fate) where
   Takes-bytes line piece rest old new c d bytes t = record {
     whole = t.whole;
     is_whole = t.is_whole;
-    bytes = sym (append_assoc line piece bytes) ∙ ap (λ (xs : List ℕ). xs ++ bytes) t.bytes
-        ∙ append_assoc t.whole rest bytes;
+    bytes = rw (← append_assoc line piece bytes, t.bytes) (append_assoc t.whole rest bytes);
     given = t.given;
     counted = t.counted;
   }
@@ -168,20 +131,16 @@ module _ (fates : List ℕ → Fate) where
   Takes-feed line piece rest old new c d free t =
       let ended = rest ++ 10 ∷ [] in
       let out = line_translation_by fates ended in
-      let one : translation_by fates ended ≡ out =
-      ap (flat_map (line_translation_by fates)) (lines_of-line rest free) ∙ append-nil out in
+      let one : translation_by fates ended ≡ out = rw (lines_of-line rest free) (append-nil out) in
       record {
         whole = t.whole ++ ended;
         is_whole = inr (t.whole ++ rest, sym (append_assoc t.whole rest (10 ∷ [])));
-        bytes = sym (append_assoc line piece (10 ∷ [])) ∙ ap (λ (xs : List ℕ). xs ++ 10 ∷ []) t.bytes
-            ∙ append_assoc t.whole rest (10 ∷ []) ∙ sym (append-nil (t.whole ++ ended));
+        bytes = rw (← append_assoc line piece (10 ∷ []), t.bytes) (simp (append_assoc, append-nil));
         given = ap (λ (xs : List ℕ). xs ++ out) t.given
-            ∙ append_assoc old (translation_by fates t.whole) out
-            ∙ ap (λ (xs : List ℕ). old ++ xs) (sym (translation-append t.whole ended t.is_whole
-            ∙ ap (λ (xs : List ℕ). translation_by fates t.whole ++ xs) one));
-        counted = sym (count_lines-whole c t.whole ended t.is_whole
-            ∙ ap (λ (k : Counts). count_lines fates k (lines_of ended)) (sym t.counted)
-            ∙ ap (count_lines fates d) (lines_of-line rest free));
+            ∙ rw (translation-append t.whole ended t.is_whole, one)
+            (append_assoc old (translation_by fates t.whole) out);
+        counted =
+            rw (count_lines-whole c t.whole ended t.is_whole, ← t.counted, lines_of-line rest free) refl;
       }
 
   -- the step of the loop over a piece
@@ -226,9 +185,8 @@ module _ (fates : List ℕ → Fate) where
       → out ≡ translation_by fates line
   last_given [] out free (inl p) = absurd (omega (arith, p.0))
   last_given [] out free (inr p) = p.1
-  last_given (b ∷ bs) out free (inl p) = p.1 ∙ sym
-      (ap (flat_map (line_translation_by fates)) (lines_of-last b bs free)
-      ∙ append-nil (line_translation_by fates (b ∷ bs)))
+  last_given (b ∷ bs) out free (inl p) =
+      rw (lines_of-last b bs free, append-nil (line_translation_by fates (b ∷ bs))) p.1
   last_given (b ∷ bs) out free (inr p) = absurd (omega (arith, p.0))
 
   pub last_counted : (line : List ℕ) (c d : Counts) → HasNoFeed line
@@ -237,8 +195,7 @@ module _ (fates : List ℕ → Fate) where
       → d ≡ count_lines fates c (lines_of line)
   last_counted [] c d free (inl p) = absurd (omega (arith, p.0))
   last_counted [] c d free (inr p) = p.1
-  last_counted (b ∷ bs) c d free (inl p) = p.1 ∙ ap (count_lines fates c)
-      (sym (lines_of-last b bs free))
+  last_counted (b ∷ bs) c d free (inl p) = rw (lines_of-last b bs free) p.1
   last_counted (b ∷ bs) c d free (inr p) = absurd (omega (arith, p.0))
 
 pub some_length : (n : ℕ) → false ≡ (n == 0) → 0 < n

@@ -4,6 +4,7 @@ use Rattle.std.proofs.Common.{◌++◌, take, drop, length, arith}
 use Rattle.std.proofs.Common.{Option, refl, sym, ap, subst, inl, inr, append_assoc, append-nil, Result, Ok}
 use Rattle.std.proofs.Common.{Err, OnOk, OnErr, IfOk}
 use Rattle.std.specs.List.{list_any}
+use Rattle.std.proofs.lemmas.Bool.{not-true}
 use Rattle.std.proofs.lemmas.List.Folds.{list_any-append}
 use Rattle.std.proofs.lemmas.List.{take-append-drop}
 use Rattle.smap_io.specs.declared.device.Device.{Device}
@@ -25,33 +26,26 @@ use Rattle.smap_trace.proofs.LineLemmas.{translation-append, count_lines-whole}
 use Rattle.smap_trace.proofs.CountLemmas.{counted_all}
 
 has_feed : (front more : List ℕ) → list_any (λ c. c == 10) (front ++ 10 ∷ more) ≡ true
-has_feed front more = list_any-append (λ c. c == 10) front (10 ∷ more) ∙ go (list_any (λ c. c == 10) front)
-  where
-    go : (t : Bool) → (t || true) ≡ true
-    go true = refl
-    go false = refl
+has_feed front more = grind (arith, list_any-append (λ c. c == 10) front (10 ∷ more))
 
 complete_front : (front more : List ℕ) → complete_of (front ++ 10 ∷ more) ≡ front ++ 10 ∷ complete_of more
 complete_front [] more = refl
-complete_front (b ∷ bs) more = rw (has_feed (b ∷ bs) more)
-    (ap (λ (xs : List ℕ). b ∷ xs) (complete_front bs more))
+complete_front (b ∷ bs) more = rw (has_feed (b ∷ bs) more, complete_front bs more) refl
 
 -- whole lines stay complete, whatever follows
 pub complete_of-append : (whole more : List ℕ) → IsWhole whole
     → complete_of (whole ++ more) ≡ whole ++ complete_of more
 complete_of-append whole more (inl e) = rw e refl
-complete_of-append whole more (inr p) =
-    rw p.1 (ap complete_of (append_assoc p.0 (10 ∷ []) more) ∙ complete_front p.0 more
-    ∙ sym (append_assoc p.0 (10 ∷ []) (complete_of more)))
+complete_of-append whole more (inr p) = rw (
+  p.1,
+  append_assoc p.0 (10 ∷ []) more,
+  append_assoc p.0 (10 ∷ []) (complete_of more),
+) (complete_front p.0 more)
 
 -- a line that waits for its end isn't complete
 none_complete : (line : List ℕ) → HasNoFeed line → complete_of line ≡ []
 none_complete [] free = refl
-none_complete (b ∷ bs) free = go (list_any (λ c. c == 10) (b ∷ bs)) free
-  where
-    go : (t : Bool) → not t ≡ true → cond t (b ∷ complete_of bs) [] ≡ []
-    go true bad = cc
-    go false none = refl
+none_complete (b ∷ bs) free = rw (not-true (list_any (λ c. c == 10) (b ∷ bs)) free) refl
 
 -- a prefix of what was read gives a prefix of what is written
 pub output_front : (fates : List ℕ → Fate) (whole more : List ℕ) (ended : Bool) → IsWhole whole
@@ -59,16 +53,11 @@ pub output_front : (fates : List ℕ → Fate) (whole more : List ℕ) (ended : 
     ≡ translation_by fates whole ++ translation_by fates (read_lines ended more)
 output_front fates whole more true is = translation-append fates whole more is
 output_front fates whole more false is =
-    ap (translation_by fates) (complete_of-append whole more is)
-    ∙ translation-append fates whole (complete_of more) is
+    rw (complete_of-append whole more is) (translation-append fates whole (complete_of more) is)
 
 pub both_whole : (a b : List ℕ) → IsWhole a → IsWhole b → IsWhole (a ++ b)
 both_whole a b is (inl e) = rw (e, append-nil a) is
-both_whole a b is (inr p) = inr (
-  a ++ p.0,
-  ap (λ (xs : List ℕ). a ++ xs) p.1
-      ∙ sym (append_assoc a p.0 (10 ∷ [])),
-)
+both_whole a b is (inr p) = inr (a ++ p.0, rw p.1 (sym (append_assoc a p.0 (10 ∷ []))))
 
 module _ {R W : Type 0} (remaining : R → Option (List ℕ)) (contents : W → Option (List ℕ))
     (fates : List ℕ → Fate)
@@ -77,7 +66,7 @@ module _ {R W : Type 0} (remaining : R → Option (List ℕ)) (contents : W → 
   -- the complete lines so far are the whole ones
   complete_so_far : complete_of (s.whole ++ line) ≡ s.whole
   complete_so_far = complete_of-append s.whole line s.is_whole
-      ∙ ap (λ (xs : List ℕ). s.whole ++ xs) (none_complete line free) ∙ append-nil s.whole
+      ∙ rw (none_complete line free) (append-nil s.whole)
 
   -- nothing more was read, and the whole lines were written
   pub all_so_far : Gave remaining rm rn []
@@ -100,10 +89,8 @@ module _ {R W : Type 0} (remaining : R → Option (List ℕ)) (contents : W → 
     read = Gave-then remaining ro rm rn (s.whole ++ line) piece s.read given;
     within = within;
     written = rw (complete_so_far, append-nil (translation_by fates s.whole)) s.written;
-    is_front = rw complete_so_far
-        (ap (λ (xs : List ℕ). translation_by fates (read_lines (has_ended rn) xs))
-        (append_assoc s.whole line piece) ∙ output_front fates s.whole (line ++ piece) (has_ended rn)
-        s.is_whole);
+    is_front = rw (complete_so_far, append_assoc s.whole line piece)
+        (output_front fates s.whole (line ++ piece) (has_ended rn) s.is_whole);
   }
 
   -- the lines of a piece were written too, in part
@@ -112,17 +99,15 @@ module _ {R W : Type 0} (remaining : R → Option (List ℕ)) (contents : W → 
       → Takes fates line piece rest [] given c d → TookPrefix contents wm wn given
       → WritesPrefix fates (streams remaining ro rn contents wo wn)
   front_with piece rest given d within read t went =
-      let bytes = (s.whole ++ line) ++ piece in
       let ended = has_ended rn in
-      let split : bytes ≡ s.whole ++ (t.whole ++ rest) = append_assoc s.whole line piece
-      ∙ ap (λ (xs : List ℕ). s.whole ++ xs) t.bytes in
       let last = translation_by fates (read_lines ended rest) in
-      let parts : translation_by fates (read_lines ended bytes)
-      ≡ translation_by fates s.whole ++ (translation_by fates t.whole ++ last) =
-      ap (λ (xs : List ℕ). translation_by fates (read_lines ended xs)) split
-      ∙ output_front fates s.whole (t.whole ++ rest) ended s.is_whole
-      ∙ ap (λ (xs : List ℕ). translation_by fates s.whole ++ xs)
-      (output_front fates t.whole rest ended t.is_whole) in
+      let parts : translation_by fates (read_lines ended ((s.whole ++ line) ++ piece))
+      ≡ translation_by fates s.whole ++ (translation_by fates t.whole ++ last) = rw (
+        append_assoc s.whole line piece,
+        t.bytes,
+        output_front fates s.whole (t.whole ++ rest) ended s.is_whole,
+        output_front fates t.whole rest ended t.is_whole,
+      ) refl in
       let cut : translation_by fates t.whole ≡ take went.0 given ++ drop went.0 given = sym t.given
       ∙ sym (take-append-drop went.0 given) in
       record {
@@ -136,9 +121,7 @@ module _ {R W : Type 0} (remaining : R → Option (List ℕ)) (contents : W → 
             (Took-then contents wo wm wn (translation_by fates s.whole) (take went.0 given) s.written
             went.1);
         is_front = rw complete_so_far
-            (parts ∙ ap (λ (xs : List ℕ). translation_by fates s.whole ++ (xs ++ last)) cut
-            ∙ ap (λ (xs : List ℕ). translation_by fates s.whole ++ xs)
-            (append_assoc (take went.0 given) (drop went.0 given) last));
+            (parts ∙ rw (cut, append_assoc (take went.0 given) (drop went.0 given) last) refl);
       }
 
   -- the lines of a piece were all written
@@ -148,15 +131,14 @@ module _ {R W : Type 0} (remaining : R → Option (List ℕ)) (contents : W → 
   after_piece piece rest given d read t went = record {
     whole = s.whole ++ t.whole;
     is_whole = both_whole s.whole t.whole s.is_whole t.is_whole;
-    read = subst (Gave remaining ro rn) (append_assoc s.whole line piece
-        ∙ ap (λ (xs : List ℕ). s.whole ++ xs) t.bytes ∙ sym (append_assoc s.whole t.whole rest))
+    read = rw (append_assoc s.whole t.whole rest, ← t.bytes, ← append_assoc s.whole line piece)
         (Gave-then remaining ro rm rn (s.whole ++ line) piece s.read read);
-    written = subst (Took contents wo wn) (ap (λ (xs : List ℕ). translation_by fates s.whole ++ xs)
-        t.given ∙ sym (translation-append fates s.whole t.whole s.is_whole))
+    written = rw (translation-append fates s.whole t.whole s.is_whole, ← t.given)
         (Took-then contents wo wm wn (translation_by fates s.whole) given s.written went);
-    counted = t.counted ∙ ap (λ (k : Counts). count_lines fates k (lines_of t.whole)) s.counted
-        ∙ sym (count_lines-whole fates (record { lines = 0; translated = 0; dropped = 0 }) s.whole
-        t.whole s.is_whole);
+    counted = rw (
+      count_lines-whole fates (record { lines = 0; translated = 0; dropped = 0 }) s.whole t.whole s.is_whole,
+      ← s.counted,
+    ) t.counted;
   }
 
   -- at the end of the input: the last line was written, or a prefix of it
@@ -171,12 +153,7 @@ module _ {R W : Type 0} (remaining : R → Option (List ℕ)) (contents : W → 
       let read : Gave remaining ro rn (s.whole ++ line) =
       subst (Gave remaining ro rn) (append-nil (s.whole ++ line))
       (Gave-then remaining ro rm rn (s.whole ++ line) [] s.read none) in
-      answered r read end (subst (λ (xs : List ℕ). OnOk r (Took contents wm wn (translation_by fates xs)))
-      same all)
-      (subst (λ (xs : List ℕ). IfOk r (λ after. after ≡ count_lines fates c (lines_of xs))) same
-      counts)
-      (subst (λ (xs : List ℕ). OnErr r (TookPrefix contents wm wn (translation_by fates xs))) same part)
-      never
+      answered r read end (rw same at all) (rw same at counts) (rw same at part) never
     where
       last_in_part : Gave remaining ro rn (s.whole ++ line) → IsAtItsEnd remaining rn
           → TookPrefix contents wm wn (translation_by fates line)
@@ -191,10 +168,12 @@ module _ {R W : Type 0} (remaining : R → Option (List ℕ)) (contents : W → 
         written = rw complete_so_far
             (Took-then contents wo wm wn (translation_by fates s.whole)
             (take part.0 (translation_by fates line)) s.written part.1);
-        is_front = rw (end.0, append-nil (s.whole ++ line), complete_so_far)
-            (translation-append fates s.whole line s.is_whole
-            ∙ ap (λ (xs : List ℕ). translation_by fates s.whole ++ xs)
-            (sym (take-append-drop part.0 (translation_by fates line))));
+        is_front = rw (
+          end.0,
+          append-nil (s.whole ++ line),
+          complete_so_far,
+          take-append-drop part.0 (translation_by fates line),
+        ) (translation-append fates s.whole line s.is_whole);
       }
 
       answered : (r : Result Counts TraceError) → Gave remaining ro rn (s.whole ++ line)
@@ -207,9 +186,8 @@ module _ {R W : Type 0} (remaining : R → Option (List ℕ)) (contents : W → 
           bytes = s.whole ++ line;
           read = read;
           at_end = end.1;
-          written = subst (Took contents wo wn) (sym (translation-append fates s.whole line
-              s.is_whole)) (Took-then contents wo wm wn (translation_by fates s.whole)
-              (translation_by fates line) s.written went);
+          written = rw (translation-append fates s.whole line s.is_whole) (Took-then contents wo wm wn
+              (translation_by fates s.whole) (translation_by fates line) s.written went);
           counts_are = counted ∙ ap (λ (k : Counts). count_lines fates k (lines_of line)) s.counted
               ∙ sym (count_lines-whole fates (record { lines = 0; translated = 0; dropped = 0 })
               s.whole line s.is_whole) ∙ counted_all fates (s.whole ++ line);

@@ -19,7 +19,7 @@ use Rattle.smap_trace.specs.Frame.{AfterAsync}
 use Rattle.smap_trace.specs.Frame.{BeginsWithAt, IsFrame, lacks, position_text}
 use Rattle.smap_trace.specs.Reading.{body_frame, firefox_frame, frame_of, framed, in_parentheses, is_colon}
 use Rattle.smap_trace.specs.Reading.{is_space, is_url, place_of, v8_frame}
-use Rattle.smap_trace.proofs.CutLemmas.{begins, cut_at, last_cut, rest_at, some_before}
+use Rattle.smap_trace.proofs.CutLemmas.{begins, cut_at, last_cut, middle_part, rest_at, some_before}
 use Rattle.smap_trace.proofs.PlaceLemmas.{place_of-some}
 use Rattle.smap_trace.proofs.BodyLemmas.{body_cut, front_all, before_lacks, at_starts, begins_at}
 
@@ -360,6 +360,17 @@ on_one_line : (line : List ℕ) (f : FrameParts) → frame_of line ≡ Some f
     → (lacks 10 line ≡ true) × (body_frame line (length (strip_carriage_return line)) ≡ Some f)
 unfolding frame_of
 on_one_line line f h = grind arith
+
+-- what is before and after a frame's position leaves the position
+pub position_there : (line : List ℕ) (f : FrameParts) → IsFrame line f
+    → slice_range line (length f.before) (length line - length f.after) ≡ position_text f.url f.line f.column
+position_there line f is =
+    let pos = position_text f.url f.line f.column in
+    let whole : line ≡ f.before ++ (pos ++ f.after) = is.whole ∙ append_assoc f.before pos f.after in
+    let some = length-append pos f.after in
+    let end : length line - length f.after ≡ length f.before + length pos =
+    omega (arith, ap length whole, length-append f.before (pos ++ f.after), some) in
+    rw (end, whole) (middle_part f.before pos f.after)
 
 pub sound : (line : List ℕ) (f : FrameParts) → frame_of line ≡ Some f → IsFrame line f
 sound line f h =
