@@ -55,7 +55,7 @@ module _ {X : Type 0} (p : X → Bool) (xs : List X) (d : X) where
       let step : count_by p (take (k + 1) xs) ≡ count_by p (take k xs) + 1 =
       count_by_more_yes p xs k d lt (each k (omega arith)) in
       let one : k + 1 ≡ suc k = omega arith in
-      ap (λ n. count_by p (take n xs)) (sym one) ∙ step ∙ omega arith
+      rw (← one, step) (omega arith)
 
   none_after : (i n : ℕ) → i + n ≤ length xs → ((j : ℕ) → i ≤ j → j < length xs → p (get_or xs j d) ≡ false)
       → count_by p (take (i + n) xs) ≡ count_by p (take i xs)
@@ -75,10 +75,8 @@ counts_past ps q x i sorted here low =
     let is : get_or ps i x ≡ x = at.1 in
     let lower : (j : ℕ) → j < i + 1 → is_at_most (get_or ps j x) q ≡ true = λ j h.
     elim (cases_eq j i) [
-      | inl e ↦ subst (λ n. is_at_most (get_or ps n x) q ≡ true) (sym e)
-          (subst (λ (p : Position). is_at_most p q ≡ true) (sym is) low)
-      | inr ne ↦ trans (get_or ps j x) x q (subst (λ (p : Position). is_at_most (get_or ps j x) p ≡ true) is
-          (pairs ps sorted j i x (omega arith) at.0)) low
+      | inl e ↦ rw (e, is) low
+      | inr ne ↦ trans (get_or ps j x) x q (rw is at (pairs ps sorted j i x (omega arith) at.0)) low
     ] in
     let part : count_at_most (take (i + 1) ps) q ≡ i + 1 =
     all_before (λ p. is_at_most p q) ps x (i + 1) (omega arith) lower in
@@ -93,17 +91,14 @@ counts_up_to ps q x i sorted here high =
     let is : get_or ps i x ≡ x = at.1 in
     let higher : (j : ℕ) → i ≤ j → j < length ps → is_at_most (get_or ps j x) q ≡ false = λ j h lt.
     elim (cases_eq j i) [
-      | inl e ↦ subst (λ n. is_at_most (get_or ps n x) q ≡ false) (sym e)
-          (subst (λ (p : Position). is_at_most p q ≡ false) (sym is) high)
-      | inr ne ↦ greater x (get_or ps j x) q (subst (λ (p : Position). is_at_most p (get_or ps j x) ≡ true) is
-          (pairs ps sorted i j x (omega arith) lt)) high
+      | inl e ↦ rw (e, is) high
+      | inr ne ↦ greater x (get_or ps j x) q (rw is at (pairs ps sorted i j x (omega arith) lt)) high
     ] in
     let rest : i + (length ps - i) ≡ length ps = omega arith in
     let whole : count_at_most (take (i + (length ps - i)) ps) q ≡ count_at_most (take i ps) q =
     none_after (λ p. is_at_most p q) ps x i (length ps - i) (omega arith) higher in
     let all : count_at_most (take (i + (length ps - i)) ps) q ≡ count_at_most ps q =
-    ap (λ (xs : List Position). count_at_most xs q)
-    (ap (λ n. take n ps) rest ∙ take_all (length ps) ps (omega arith)) in
+    rw (rest, take_all (length ps) ps (omega arith)) refl in
     let front : count_at_most (take i ps) q ≤ length (take i ps) =
     count_by-le-length (λ p. is_at_most p q) (take i ps) in
     omega (arith, length-take {A = Position})

@@ -3,7 +3,7 @@ use Rattle.std.proofs.Common.{◌≡◌, ◌∙◌, ℕ, ◌+◌, ◌-◌, ◌/�
 use Rattle.std.proofs.Common.{get_or, nat_le, nat_lt, Option, None, arith, ap, sym, inl, inr, slice_get}
 use Rattle.std.proofs.Common.{slice_index, Some, refl, cond, []}
 use Rattle.std.specs.List.{range_with_len}
-use Rattle.std.proofs.lemmas.Bool.{cases_lt, ltb-true}
+use Rattle.std.proofs.lemmas.Bool.{cases_Bool, cases_lt}
 use Rattle.std.proofs.lemmas.Bool.Decides.{nat_tests}
 use Rattle.std.proofs.lemmas.List.{length-map}
 use Rattle.std.proofs.lemmas.Option.{get_or_from_slice_get, slice_get_within}
@@ -122,46 +122,18 @@ module _ (ms : List Mapping) (line column : ℕ) (sorted : NeverFalls (map mappi
 -- What the table has.
 pub table_at : (ms : List Mapping) (line : ℕ) → line < length (line_starts ms)
     → slice_index (line_starts ms) line ≡ line_start ms line
-table_at ms line h = go (nat_le (lines_of ms / 2) (length ms)) h
-  where
-    go : (t : Bool) → line < length (cond t (map (line_start ms) (range_with_len 0 (lines_of ms + 1))) [])
-        → slice_index (cond t (map (line_start ms) (range_with_len 0 (lines_of ms + 1))) []) line
-        ≡ line_start ms line
-    go true lt = get_or-map-range_with_len (line_start ms) 0 (lines_of ms + 1) line line 0
-        (omega (arith, lt, length-map-range_with_len (line_start ms) 0 (lines_of ms + 1))) (omega arith)
-    go false lt = absurd (omega (arith, lt))
+table_at ms line h = elim (cases_Bool (nat_le (lines_of ms / 2) (length ms))) [
+  | inl e ↦
+      let lt = rw e at h in
+      rw e (get_or-map-range_with_len (line_start ms) 0 (lines_of ms + 1) line line 0
+      (omega (arith, lt, length-map-range_with_len (line_start ms) 0 (lines_of ms + 1))) (omega arith))
+  | inr e ↦ absurd (omega (arith, rw e at h))
+]
 
 -- What a line's part of the table says.
-abbrev if_listed : Bool → List ℕ → ℕ → Option (ℕ × ℕ)
-if_listed true starts line = Some (slice_index starts line, slice_index starts (line + 1))
-if_listed false starts line = None
-
-listed_is : (starts : List ℕ) (line : ℕ)
-    → range_in starts line ≡ if_listed (nat_lt (line + 1) (length starts)) starts line
-listed_is starts line = go (nat_lt (line + 1) (length starts))
-  where
-    go : (t : Bool) → cond {A = Option (ℕ × ℕ)} t
-        (Some (slice_index starts line, slice_index starts (line + 1))) None ≡ if_listed t starts line
-    go true = refl
-    go false = refl
-
 range_is : (starts : List ℕ) (line from to : ℕ) → range_in starts line ≡ Some (from, to)
     → (line + 1 < length starts) × (from ≡ slice_index starts line) × (to ≡ slice_index starts (line + 1))
-range_is starts line from to h =
-    go (nat_lt (line + 1) (length starts)) refl (sym (listed_is starts line) ∙ h)
-  where
-    go : (t : Bool) → nat_lt (line + 1) (length starts) ≡ t → if_listed t starts line ≡ Some (from, to)
-        → (line + 1 < length starts) × (from ≡ slice_index starts line)
-        × (to ≡ slice_index starts (line + 1))
-    go true e k =
-        let there : ℕ × ℕ = (slice_index starts line, slice_index starts (line + 1)) in
-        let asked : ℕ × ℕ = (from, to) in
-        let both : there ≡ asked = cc in (
-          ltb-true (line + 1) (length starts) e,
-          sym (ap (λ (p : ℕ × ℕ). p.0) both),
-          sym (ap (λ (p : ℕ × ℕ). p.1) both),
-        )
-    go false e k = cc
+range_is starts line from to h = grind (arith, nat_tests)
 
 -- The part of a line in the table of a map: where its mappings begin and end.
 pub record IsLinePart (ms : List Mapping) (line column from to : ℕ) : Type 0 where

@@ -8,7 +8,7 @@ use Rattle.std.proofs.Math.Seq.{split_at}
 use Rattle.std.specs.Prelude.{All, option_map}
 use Rattle.std.specs.Option.{option_or}
 use Rattle.std.proofs.lemmas.Bool.Decides.{nat_tests, Decides-eqb}
-use Rattle.std.proofs.lemmas.Bool.{cases_lt}
+use Rattle.std.proofs.lemmas.Bool.{cases_lt, false_from_ne_true, true_from_ne_false}
 use Rattle.smap_mappings.specs.declared.position.Position.{Position}
 use Rattle.smap_mappings.specs.Position.{NeverFalls, position_of}
 use Rattle.smap_trace.specs.Positions.{count_at_most, is_at_most, position_in}
@@ -28,19 +28,13 @@ token_here l i t at = slice_get-map (mapping_of l) l.tokens i ∙ ap (option_map
 -- one position against the count
 pub past_count : (ps : List Position) (q x : Position) (i : ℕ) → NeverFalls ps → slice_get ps i ≡ Some x
     → count_at_most ps q ≤ i → is_at_most x q ≡ false
-past_count ps q x i sorted here le = go (is_at_most x q) refl
-  where
-    go : (t : Bool) → is_at_most x q ≡ t → is_at_most x q ≡ false
-    go false e = e
-    go true e = let more = counts_past ps q x i sorted here e in absurd (omega arith)
+past_count ps q x i sorted here le = false_from_ne_true (is_at_most x q)
+    (λ e. let more = counts_past ps q x i sorted here e in absurd (omega arith))
 
 pub before_count : (ps : List Position) (q x : Position) (i : ℕ) → NeverFalls ps → slice_get ps i ≡ Some x
     → i < count_at_most ps q → is_at_most x q ≡ true
-before_count ps q x i sorted here lt = go (is_at_most x q) refl
-  where
-    go : (t : Bool) → is_at_most x q ≡ t → is_at_most x q ≡ true
-    go true e = e
-    go false e = let less = counts_up_to ps q x i sorted here e in absurd (omega arith)
+before_count ps q x i sorted here lt = true_from_ne_false (is_at_most x q)
+    (λ e. let less = counts_up_to ps q x i sorted here e in absurd (omega arith))
 
 pub lies_after : (m : Mapping) (line column : ℕ)
     → is_at_most (mapping_position m) (position_in (line, column)) ≡ false → LiesAfter line column m
@@ -70,7 +64,7 @@ module _ (ms : List Mapping) (line column : ℕ) (sorted : NeverFalls (map mappi
       let after : LiesAfter line column m = lies_after m line column
       (past_count _ (position_in (line, column)) (mapping_position m) (n + k) sorted
       (here (n + k) d within) (omega arith)) in
-      subst (LiesAfter line column) (sym (get_or-drop n ms k d)) after
+      rw (get_or-drop n ms k d) after
 
   pub none_counted : count_at_most (map mapping_position ms) (position_in (line, column)) ≡ 0
       → FallsToIndex ms line column None
@@ -85,8 +79,8 @@ module _ (ms : List Mapping) (line column : ℕ) (sorted : NeverFalls (map mappi
       let is : get_or ms i m ≡ m = get_or_from_slice_get ms i m m at in
       let low = before_count _ (position_in (line, column)) (mapping_position (get_or ms i m)) i sorted
       (here i m lt) (omega arith) in
-      let low' = subst (λ (x : Mapping). is_at_most (mapping_position x) (position_in (line, column)) ≡ true)
-      is low in (m, at, on_line, is_within_line m line column low' on_line, later_lies (i + 1) (omega arith))
+      let within = is_within_line m line column (rw is at low) on_line in
+      (m, at, on_line, within, later_lies (i + 1) (omega arith))
 
   -- and where it is on an earlier one
   pub last_elsewhere : (i : ℕ) (m : Mapping) → count_at_most (map mapping_position ms)
@@ -101,8 +95,7 @@ module _ (ms : List Mapping) (line column : ℕ) (sorted : NeverFalls (map mappi
         let is : get_or ms i d ≡ m = get_or_from_slice_get ms i m d at in
         let low = before_count _ (position_in (line, column)) (mapping_position (get_or ms i d)) i sorted
         (here i d lti) (omega arith) in
-        let low' = subst (λ (x : Mapping). is_at_most (mapping_position x) (position_in (line, column))
-        ≡ true) is low in
+        let low' = rw is at low in
         λ on_line. absurd (elim (cases_lt k i) [
           | inl lower ↦
               let ek : get_or (map mapping_position ms) k (mapping_position d)
@@ -113,11 +106,7 @@ module _ (ms : List Mapping) (line column : ℕ) (sorted : NeverFalls (map mappi
               lti in
               let s = pairs (map mapping_position ms) sorted k i (mapping_position d) lower
               (omega (arith, length-map ms mapping_position)) in
-              let s' : is_at_most (mapping_position (get_or ms k d)) (mapping_position m) ≡ true =
-              subst (λ (x : Mapping). is_at_most (mapping_position (get_or ms k d)) (mapping_position x)
-              ≡ true) is
-              (rw (ek, ei) at s) in
-              earlier_line (get_or ms k d) m line column s' low' ne on_line
+              earlier_line (get_or ms k d) m line column (rw (ek, ei, is) at s) low' ne on_line
           | inr same ↦
               let e' : k ≡ i = omega arith in
               let this : get_or ms k d ≡ m = ap (λ n. get_or ms n d) e' ∙ is in
@@ -137,18 +126,17 @@ falls_at ms line column i m h at =
       rw (← same) h.3,
       take i ms,
       drop (i + 1) ms,
-      split_at ms i m lt ∙ ap (λ (x : Mapping). take i ms ++ x ∷ drop (suc i) ms) is
-          ∙ ap (λ n. take i ms ++ m ∷ drop n ms) one,
+      split_at ms i m lt ∙ rw (is, one) refl,
       h.4,
     )
 
 -- The record's mappings never fall.
 pub in_order : (l : Listing) → IsListing l → NeverFalls (map mapping_position (map (mapping_of l) l.tokens))
-in_order l is = subst NeverFalls (sym (same l.tokens)) is.encodable.0
+in_order l is = rw (same l.tokens) is.encodable.0
   where
     same : (ts : List Token) → map mapping_position (map (mapping_of l) ts) ≡ map position_of ts
     same [] = refl
-    same (t ∷ ts) = ap (λ (ps : List Position). position_of t ∷ ps) (same ts)
+    same (t ∷ ts) = rw (same ts) refl
 
 -- The relation and the function.
 none_within : (ms : List Mapping) (line column : ℕ) → All (LiesAfter line column) ms
@@ -159,11 +147,7 @@ none_within (m ∷ ms) line column all =
     rw (none_within ms line column (λ k d lt. all (suc k) d (omega arith)), not_here) refl
   where
     after_not : (m : Mapping) (line column : ℕ) → LiesAfter line column m → is_within line column m ≡ false
-    after_not m line column h = go (m.line == line) refl
-      where
-        go : (t : Bool) → (m.line == line) ≡ t → (t && nat_le m.column column) ≡ false
-        go false e = refl
-        go true e = let lt = h ((Decides-eqb m.line line).0 e) in grind (arith, nat_tests)
+    after_not m line column h = grind (arith, nat_tests, h)
 
 last_within : (before : List Mapping) (m : Mapping) (later : List Mapping) (line column : ℕ)
     → is_within line column m ≡ true → mapping_at later line column ≡ None

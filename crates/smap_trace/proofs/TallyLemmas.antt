@@ -1,9 +1,10 @@
 -- URLs that are counted one by one.
-use Rattle.std.proofs.Common.{◌≡◌, ◌∙◌, ℕ, ◌+◌, ◌-◌, ◌^◌, Bool, true, false, cond, not, ◌||◌}
+use Rattle.std.proofs.Common.{◌≡◌, ◌∙◌, inl, inr, ℕ, ◌+◌, ◌-◌, ◌^◌, Bool, true, false, cond, not, ◌||◌}
 use Rattle.std.proofs.Common.{List, [], ◌∷◌, ◌++◌, map, min, filter, count_by, bytes_eq, refl, sym, ap, subst}
 use Rattle.std.proofs.Common.{arith}
 use Rattle.std.proofs.Common.{true≢false, add-zero, append-nil, append_assoc}
 use Rattle.std.specs.List.{AllByRecursion, IsDistinct, list_any, sum_by}
+use Rattle.std.proofs.lemmas.Bool.{cases_Bool, or_parts}
 use Rattle.std.proofs.lemmas.List.Sums.{sum_by-append, sum_by-cons}
 use Rattle.indexmap.specs.IndexSet.{insert_key}
 use Rattle.smap_record.specs.Record.{distinct}
@@ -41,37 +42,27 @@ capped_more n = step n (2 ^ 64 - 1)
 all_none : (u : List ℕ) (xs : List (List ℕ)) → AllByRecursion (λ y. bytes_eq u y ≡ false) xs
     → list_any (bytes_eq u) xs ≡ false
 all_none u [] all = refl
-all_none u (x ∷ xs) all = ap (λ b. b || list_any (bytes_eq u) xs) all.0 ∙ all_none u xs all.1
+all_none u (x ∷ xs) all = rw all.0 (all_none u xs all.1)
+
+one_more : (u x z : List ℕ) (zs : List (List ℕ)) → bytes_eq u x ≡ false
+    → list_any (bytes_eq u) (filter (λ z. not (bytes_eq x z)) zs) ≡ list_any (bytes_eq u) zs
+    → list_any (bytes_eq u) (filter (λ z. not (bytes_eq x z)) (z ∷ zs)) ≡ list_any (bytes_eq u) (z ∷ zs)
+one_more u x z zs other rest = grind (arith, same_bytes x z)
 
 any_filter : (u x : List ℕ) (ds : List (List ℕ)) → bytes_eq u x ≡ false
     → list_any (bytes_eq u) (filter (λ z. not (bytes_eq x z)) ds) ≡ list_any (bytes_eq u) ds
 any_filter u x [] other = refl
-any_filter u x (z ∷ zs) other = by (any_filter u x zs other) (bytes_eq x z) refl
-  where
-    by : list_any (bytes_eq u) (filter (λ z. not (bytes_eq x z)) zs) ≡ list_any (bytes_eq u) zs → (b : Bool)
-        → bytes_eq x z ≡ b
-        → list_any (bytes_eq u)
-        (cond (not b) (z ∷ filter (λ z. not (bytes_eq x z)) zs) (filter (λ z. not (bytes_eq x z)) zs))
-        ≡ (bytes_eq u z || list_any (bytes_eq u) zs)
-    by rest true e = rest ∙ sym (ap (λ b. b || list_any (bytes_eq u) zs)
-        (subst (λ w. bytes_eq u w ≡ false) (same_bytes x z e) other))
-    by rest false e = ap (λ c. bytes_eq u z || c) rest
+any_filter u x (z ∷ zs) other = one_more u x z zs other (any_filter u x zs other)
 
 none_counted : (u : List ℕ) (us : List (List ℕ)) → list_any (bytes_eq u) (distinct bytes_eq us) ≡ false
     → count_by (bytes_eq u) us ≡ 0
 unfolding distinct
 none_counted u [] none = refl
-none_counted u (x ∷ xs) none = by (bytes_eq u x) refl none (none_counted u xs)
-  where
-    by : (b : Bool) → bytes_eq u x ≡ b
-        → (b || list_any (bytes_eq u) (filter (λ z. not (bytes_eq x z)) (distinct bytes_eq xs))) ≡ false
-        → (list_any (bytes_eq u) (distinct bytes_eq xs) ≡ false → count_by (bytes_eq u) xs ≡ 0)
-        → count_by (bytes_eq u) (x ∷ xs) ≡ 0
-    by true e h rest = absurd (true≢false h)
-    by false e h rest =
-        let first : bit (bytes_eq u x) ≡ 0 = ap bit e in
-        let more = rest (sym (any_filter u x (distinct bytes_eq xs) e) ∙ h) in
-        omega (arith, count-cons (bytes_eq u) x xs, first, more)
+none_counted u (x ∷ xs) none =
+    let p = or_parts (bytes_eq u x) (list_any (bytes_eq u)
+    (filter (λ z. not (bytes_eq x z)) (distinct bytes_eq xs))) none in
+    let more = none_counted u xs (sym (any_filter u x (distinct bytes_eq xs) p.0) ∙ p.1) in
+    omega (arith, count-cons (bytes_eq u) x xs, ap bit p.0, more)
 
 -- ---- one more
 
@@ -91,13 +82,9 @@ module _ (us : List (List ℕ)) (u : List ℕ) where
 
   others : (ds : List (List ℕ)) → list_any (bytes_eq u) ds ≡ false → map (pair us) ds ≡ map (pair more) ds
   others [] none = refl
-  others (d ∷ ds) none = by (bytes_eq u d) refl none (others ds)
-    where
-      by : (b : Bool) → bytes_eq u d ≡ b → (b || list_any (bytes_eq u) ds) ≡ false
-          → (list_any (bytes_eq u) ds ≡ false → map (pair us) ds ≡ map (pair more) ds)
-          → map (pair us) (d ∷ ds) ≡ map (pair more) (d ∷ ds)
-      by true e h rest = absurd (true≢false h)
-      by false e h rest = λ i. other d e i ∷ rest h i
+  others (d ∷ ds) none =
+      let p = or_parts (bytes_eq u d) (list_any (bytes_eq u) ds) none in
+      λ i. other d p.0 i ∷ others ds p.1 i
 
   counted : (ds : List (List ℕ)) → IsDistinct bytes_eq ds
       → (list_any (bytes_eq u) ds ≡ false → count_by (bytes_eq u) us ≡ 0)
@@ -108,28 +95,23 @@ module _ (us : List (List ℕ)) (u : List ℕ) where
       let none = absent refl in
       let one : count_by (bytes_eq u) more ≡ 1 = omega (arith, count-push (bytes_eq u) us u, own, none) in
       ap (λ n. (u, n) ∷ []) (sym (ap at_most_u64 one))
-  counted (d ∷ ds) once absent = by (bytes_eq u d) refl (counted ds once.1) absent
+  counted (d ∷ ds) once absent = elim (cases_Bool (bytes_eq u d)) [
+    | inl e ↦
+        let back : bit (bytes_eq d u) ≡ 1 = ap bit (bytes_flip d u ∙ e) in
+        let grown : count_by (bytes_eq d) us + 1 ≡ count_by (bytes_eq d) more =
+        omega (arith, count-push (bytes_eq d) us u, back) in
+        let none : list_any (bytes_eq u) ds ≡ false = rw (same_bytes u d e) (all_none d ds once.0) in
+        rw e (λ i. (d, (capped_more (count_by (bytes_eq d) us) ∙ ap at_most_u64 grown) i) ∷ others ds none i)
+    | inr e ↦
+        let rest = counted ds once.1 (λ h. absent (rw (e, h) refl)) in
+        rw e ((λ i. other d e i ∷ rest i) ∙ last d ds (list_any (bytes_eq u) ds))
+  ]
     where
-      by : (b : Bool) → bytes_eq u d ≡ b
-          → ((list_any (bytes_eq u) ds ≡ false → count_by (bytes_eq u) us ≡ 0)
-          → with_url u (map (pair us) ds) ≡ map (pair more) (insert_key bytes_eq ds u))
-          → ((b || list_any (bytes_eq u) ds) ≡ false → count_by (bytes_eq u) us ≡ 0)
-          → cond b ((d, at_most_u64 ((pair us d).1 + 1)) ∷ map (pair us) ds)
-          (pair us d ∷ with_url u (map (pair us) ds))
-          ≡ map (pair more) (cond (b || list_any (bytes_eq u) ds) (d ∷ ds) ((d ∷ ds) ++ u ∷ []))
-      by true e rest absent =
-          let back : bit (bytes_eq d u) ≡ 1 = ap bit (bytes_flip d u ∙ e) in
-          let grown : count_by (bytes_eq d) us + 1 ≡ count_by (bytes_eq d) more =
-          omega (arith, count-push (bytes_eq d) us u, back) in
-          let none : list_any (bytes_eq u) ds ≡ false =
-          subst (λ w. list_any (bytes_eq w) ds ≡ false) (sym (same_bytes u d e)) (all_none d ds once.0) in
-          λ i. (d, (capped_more (count_by (bytes_eq d) us) ∙ ap at_most_u64 grown) i) ∷ others ds none i
-      by false e rest absent = (λ i. other d e i ∷ rest absent i) ∙ last (list_any (bytes_eq u) ds)
-        where
-          last : (c : Bool) → (pair more d ∷ map (pair more) (cond c ds (ds ++ u ∷ [])))
-              ≡ map (pair more) (cond c (d ∷ ds) ((d ∷ ds) ++ u ∷ []))
-          last true = refl
-          last false = refl
+      last : (d : List ℕ) (ds : List (List ℕ)) (c : Bool)
+          → (pair more d ∷ map (pair more) (cond c ds (ds ++ u ∷ [])))
+          ≡ map (pair more) (cond c (d ∷ ds) ((d ∷ ds) ++ u ∷ []))
+      last d ds true = refl
+      last d ds false = refl
 
 tally-push : (us : List (List ℕ)) (u : List ℕ) → with_url u (tally us) ≡ tally (us ++ u ∷ [])
 tally-push us u = counted us u (distinct bytes_eq us) (distinct-IsDistinct bytes_eq us) (none_counted u us)
@@ -143,7 +125,7 @@ with_urls-append [] ys named = refl
 with_urls-append (x ∷ xs) ys named = with_urls-append xs ys (with_url x named)
 
 tally-more : (us vs : List (List ℕ)) → with_urls vs (tally us) ≡ tally (us ++ vs)
-tally-more us [] = ap tally (sym (append-nil us))
+tally-more us [] = rw (append-nil us) refl
 tally-more us (v ∷ vs) = ap (with_urls vs) (tally-push us v) ∙ tally-more (us ++ v ∷ []) vs
     ∙ ap tally (append_assoc us (v ∷ []) vs)
 
