@@ -1,11 +1,12 @@
 -- Scripts in a table by their URLs.
-use Rattle.std.proofs.Common.{◌≡◌, ◌∙◌, ℕ, zero, suc, ◌+◌, ◌<◌, Bool, true, false, ◌||◌, List, [], ◌∷◌, ◌++◌}
+use Rattle.std.proofs.Common.{◌≡◌, ◌∙◌, inl, inr, ℕ, zero, suc, ◌+◌, ◌<◌, Bool, true, false, ◌||◌, List, [], ◌∷◌, ◌++◌}
 use Rattle.std.proofs.Common.{length, map, take, Bor, get_or, option_map, refl, sym, ap, arith, bytes_eq}
 use Rattle.std.proofs.Common.{Some, None}
 use Rattle.std.proofs.Common.{length-take}
 use Rattle.std.specs.List.{list_any, take-map}
 use Rattle.std.specs.Map.{lookup, lookup_key}
 use Rattle.std.proofs.lemmas.List.{get_or-map, get_or-take, length-map, map-append, take_more}
+use Rattle.std.proofs.lemmas.Bool.{cases_Bool, false_from_ne_true, or_parts}
 use Rattle.std.proofs.lemmas.List.Folds.{list_any_none}
 use Rattle.std.proofs.lemmas.Map.Made.{lookup_key_passes}
 use Rattle.std.proofs.lemmas.Slice.Eq.{bytes_eq-Decides}
@@ -18,28 +19,17 @@ abbrev pub Given : Type 0
 Given = Bor (List ℕ) × Bor ReadMap
 
 pub bytes_flip : (a b : List ℕ) → bytes_eq a b ≡ bytes_eq b a
-bytes_flip a b = go (bytes_eq a b) refl (bytes_eq b a) refl
-  where
-    go : (s : Bool) → bytes_eq a b ≡ s → (t : Bool) → bytes_eq b a ≡ t → bytes_eq a b ≡ bytes_eq b a
-    go true e true f = e ∙ sym f
-    go false e false f = e ∙ sym f
-    go true e false f = sym ((bytes_eq-Decides b a).1 (sym ((bytes_eq-Decides a b).0 e)) ∙ sym e)
-    go false e true f = (bytes_eq-Decides a b).1 (sym ((bytes_eq-Decides b a).0 f)) ∙ sym f
+bytes_flip a b = grind (arith, bytes_eq-Decides a b, bytes_eq-Decides b a)
 
 -- what the table finds
 pub found_in : (url : List ℕ) (es : List Given)
     → option_map (λ (m : Bor ReadMap). record_of m.now) (lookup (λ (k : Bor (List ℕ)). bytes_eq url k.now) es)
     ≡ map_of (scripts_in es) url
 found_in url [] = refl
-found_in url (e ∷ es) = step (bytes_eq e.0.now url) (bytes_flip url e.0.now) refl (found_in url es)
-  where
-    step : (t : Bool) → bytes_eq url e.0.now ≡ bytes_eq e.0.now url → bytes_eq e.0.now url ≡ t
-        → option_map (λ (m : Bor ReadMap). record_of m.now)
-        (lookup (λ (k : Bor (List ℕ)). bytes_eq url k.now) es) ≡ map_of (scripts_in es) url
-        → option_map (λ (m : Bor ReadMap). record_of m.now)
-        (lookup (λ (k : Bor (List ℕ)). bytes_eq url k.now) (e ∷ es)) ≡ map_of (scripts_in (e ∷ es)) url
-    step true f g more = rw (f, g) refl
-    step false f g more = rw (f, g) more
+found_in url (e ∷ es) = elim (cases_Bool (bytes_eq e.0.now url)) [
+  | inl g ↦ rw (bytes_flip url e.0.now, g) refl
+  | inr g ↦ rw (bytes_flip url e.0.now, g) (found_in url es)
+]
 
 -- a script whose URL is new goes last
 insert_new : (k : Bor (List ℕ)) (v : Bor ReadMap) (es : List Given)
@@ -47,17 +37,10 @@ insert_new : (k : Bor (List ℕ)) (v : Bor ReadMap) (es : List Given)
     → scripts_in (insert_entry (λ (a b : Bor (List ℕ)). bytes_eq a.now b.now) es k v)
     ≡ scripts_in es ++ (k.now, record_of v.now) ∷ []
 insert_new k v [] h = refl
-insert_new k v (e ∷ es) h = step (bytes_eq k.now e.0.now) refl h (insert_new k v es)
-  where
-    step : (t : Bool) → bytes_eq k.now e.0.now ≡ t
-        → (t || list_any (λ (s : Script). bytes_eq k.now s.0) (scripts_in es)) ≡ false
-        → (list_any (λ (s : Script). bytes_eq k.now s.0) (scripts_in es) ≡ false
-        → scripts_in (insert_entry (λ (a b : Bor (List ℕ)). bytes_eq a.now b.now) es k v)
-        ≡ scripts_in es ++ (k.now, record_of v.now) ∷ [])
-        → scripts_in (insert_entry (λ (a b : Bor (List ℕ)). bytes_eq a.now b.now) (e ∷ es) k v)
-        ≡ scripts_in (e ∷ es) ++ (k.now, record_of v.now) ∷ []
-    step true f g more = cc
-    step false f g more = rw f (ap (λ (xs : List Script). script_in e ∷ xs) (more g))
+insert_new k v (e ∷ es) h =
+    let p = or_parts (bytes_eq k.now e.0.now) (list_any (λ (s : Script). bytes_eq k.now s.0) (scripts_in es))
+    h in
+    rw p.0 (ap (λ (xs : List Script). script_in e ∷ xs) (insert_new k v es p.1))
 
 any_default : (xs : List Script) (n : ℕ) (x y : Script) → n < length xs → get_or xs n x ≡ get_or xs n y
 any_default [] n x y less = absurd (omega (arith, less))
@@ -72,16 +55,9 @@ absent ss i d distinct lt = list_any_none (λ (s : Script). bytes_eq (get_or ss 
         → bytes_eq (get_or ss i d).0 (get_or (take i ss) k e).0 ≡ false
     each k e within =
         let below : k < i = omega (arith, within, length-take i ss) in
-        go (bytes_eq (get_or ss i d).0 (get_or (take i ss) k e).0) refl below
-      where
-        go : (t : Bool) → bytes_eq (get_or ss i d).0 (get_or (take i ss) k e).0 ≡ t → k < i
-            → bytes_eq (get_or ss i d).0 (get_or (take i ss) k e).0 ≡ false
-        go false f below = f
-        go true f below =
-            let same : (get_or ss i d).0 ≡ (get_or (take i ss) k e).0 = (bytes_eq-Decides _ _).0 f in
-            absurd (distinct k i e below lt
-            (ap (λ (s : Script). s.0) (sym (get_or-take i ss k e below)) ∙ sym same
-            ∙ ap (λ (s : Script). s.0) (any_default ss i d e lt)))
+        false_from_ne_true (bytes_eq (get_or ss i d).0 (get_or (take i ss) k e).0) (λ f.
+        let same : (get_or ss i d).0 ≡ (get_or (take i ss) k e).0 = (bytes_eq-Decides _ _).0 f in
+        distinct k i e below lt (rw (← get_or-take i ss k e below, ← any_default ss i d e lt) (sym same)))
 
 -- one script more in the table
 pub one_more : (es xs : List Given) (i : ℕ) (d : Given) (k : Bor (List ℕ)) (v : Bor ReadMap) → i < length xs
@@ -102,8 +78,7 @@ one_more es xs i d k v lt so_far distinct key value =
     let last : ◌≡◌ {A = Script} (k.now, record_of v.now) (script_in (get_or xs i d)) = rw (key, value) refl in
     insert_new k v es none ∙ ap (λ (ss : List Script). ss ++ (k.now, record_of v.now) ∷ []) so_far
     ∙ ap (λ (s : Script). scripts_in (take i xs) ++ s ∷ []) last
-    ∙ sym (map-append script_in (take i xs) (get_or xs i d ∷ []))
-    ∙ ap (map script_in) (sym (take_more xs i d lt))
+    ∙ rw (take_more xs i d lt, map-append script_in (take i xs) (get_or xs i d ∷ [])) refl
 
 -- a URL that the table finds, and its map
 pub entry_in : (url : List ℕ) (es : List Given) (k : Bor (List ℕ)) (m : Bor ReadMap)

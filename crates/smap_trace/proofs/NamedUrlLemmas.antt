@@ -23,7 +23,7 @@ use Rattle.smap_trace.proofs.SoundLemmas.{some_is, sound}
 
 keys_paired : (f : List ℕ → ℕ) (us : List (List ℕ)) → keys_of (map (λ url. (url, f url)) us) ≡ us
 keys_paired f [] = refl
-keys_paired f (u ∷ us) = ap (λ (ks : List (List ℕ)). u ∷ ks) (keys_paired f us)
+keys_paired f (u ∷ us) = rw (keys_paired f us) refl
 
 listed_once : (us : List (List ℕ)) (url : List ℕ) → Contains us url → Contains (distinct bytes_eq us) url
 listed_once us url c =
@@ -64,8 +64,7 @@ of_line (l ∷ ls) line url c is = elim (first_or_later l line ls c) [
 ]
   where
     here : url_of l ≡ Some url → Contains (filter_map url_of (l ∷ ls)) url
-    here e = subst (λ (o : Option (List ℕ)). Contains (cons_option o (filter_map url_of ls)) url) (sym e)
-        (contains_first url (filter_map url_of ls))
+    here e = rw e (contains_first url (filter_map url_of ls))
 
     later : (o : Option (List ℕ)) → Contains (filter_map url_of ls) url
         → Contains (cons_option o (filter_map url_of ls)) url
@@ -88,8 +87,7 @@ named_of_frames trace url = (there, back)
 
     there : Contains (keys_of (named_in trace)) url → Names trace url
     there c =
-        let p = with_url (lines_of trace) url (listed_ever (urls_of trace) url
-        (subst (λ (us : List (List ℕ)). Contains us url) keys c)) in
+        let p = with_url (lines_of trace) url (listed_ever (urls_of trace) url (rw keys at c)) in
         let text = without_line_feed p.0 in
         let f = framed text url (frame_of text) refl p.2 in
         record {
@@ -105,5 +103,4 @@ named_of_frames trace url = (there, back)
         let is : url_of n.line ≡ Some url =
         ap (option_map (λ (f : FrameParts). f.url)) (complete (without_line_feed n.line) n.frame n.is_frame)
         ∙ ap (λ (u : List ℕ). Some u) n.is_url in
-        subst (λ (us : List (List ℕ)). Contains us url) (sym keys)
-        (listed_once (urls_of trace) url (of_line (lines_of trace) n.line url n.of_trace is))
+        rw keys (listed_once (urls_of trace) url (of_line (lines_of trace) n.line url n.of_trace is))

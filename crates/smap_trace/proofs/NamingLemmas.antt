@@ -26,8 +26,7 @@ use Rattle.smap_trace.proofs.TallyLemmas.{all_tallied, with_urls-append}
 pub urls_of-append : (whole more : List ℕ) → IsWhole whole
     → urls_of (whole ++ more) ≡ urls_of whole ++ urls_of more
 urls_of-append whole more is =
-    ap (filter_map url_of) (lines_of-append whole more is)
-    ∙ filter_map-append url_of (lines_of whole) (lines_of more)
+    rw (lines_of-append whole more is) (filter_map-append url_of (lines_of whole) (lines_of more))
 
 -- what the last line gives, which isn't empty
 pub last_url : (line : List ℕ) → HasNoFeed line → 0 < length line
@@ -51,8 +50,7 @@ rest_step line piece after rest last bytes old new a l clean free t =
       counts = record {
         whole = t.whole;
         is_whole = t.is_whole;
-        bytes = sym (append_assoc line piece bytes) ∙ ap (λ (xs : List ℕ). xs ++ bytes) t.bytes
-            ∙ append_assoc t.whole rest bytes;
+        bytes = rw (← append_assoc line piece bytes, t.bytes) (append_assoc t.whole rest bytes);
         counted = t.counted;
       };
     }
@@ -72,18 +70,14 @@ feed_step line piece after rest last front old new more a l clean m free t =
       free = refl;
       counts = record {
         whole = t.whole ++ ended;
-        is_whole = inr (
-          t.whole ++ (rest ++ front),
-          ap (λ (xs : List ℕ). t.whole ++ xs) given
-              ∙ sym (append_assoc t.whole (rest ++ front) (10 ∷ [])),
-        );
-        bytes = sym (append_assoc line piece (front ++ 10 ∷ []))
-            ∙ ap (λ (xs : List ℕ). xs ++ (front ++ 10 ∷ [])) t.bytes
-            ∙ append_assoc t.whole rest (front ++ 10 ∷ []) ∙ sym (append-nil (t.whole ++ ended));
-        counted = m ∙ ap (with_urls (cons_option (url_of ended) [])) t.counted
-            ∙ ap (λ (us : List (List ℕ)). with_urls us (with_urls (urls_of t.whole) old)) (sym one)
-            ∙ sym (with_urls-append (urls_of t.whole) (urls_of ended) old)
-            ∙ ap (λ (us : List (List ℕ)). with_urls us old) (sym (urls_of-append t.whole ended t.is_whole));
+        is_whole = inr (t.whole ++ (rest ++ front), simp append_assoc);
+        bytes = rw (← append_assoc line piece (front ++ 10 ∷ []), t.bytes)
+            (simp (append_assoc, append-nil));
+        counted = m ∙ ap (with_urls (cons_option (url_of ended) [])) t.counted ∙ rw (
+          urls_of-append t.whole ended t.is_whole,
+          with_urls-append (urls_of t.whole) (urls_of ended) old,
+          one,
+        ) refl;
       };
     }
 
@@ -105,12 +99,13 @@ module _ {R : Type 0} (remaining : R → Option (List ℕ)) (ro rm rn : Device R
   after_piece piece rest new read t = record {
     whole = s.whole ++ t.whole;
     is_whole = both_whole s.whole t.whole s.is_whole t.is_whole;
-    read = subst (Gave remaining ro rn) (append_assoc s.whole line piece
-        ∙ ap (λ (xs : List ℕ). s.whole ++ xs) t.bytes ∙ sym (append_assoc s.whole t.whole rest))
+    read = rw (append_assoc s.whole t.whole rest, ← t.bytes, ← append_assoc s.whole line piece)
         (Gave-then remaining ro rm rn (s.whole ++ line) piece s.read read);
-    counted = t.counted ∙ ap (with_urls (urls_of t.whole)) s.counted
-        ∙ sym (with_urls-append (urls_of s.whole) (urls_of t.whole) [])
-        ∙ ap (λ (us : List (List ℕ)). with_urls us []) (sym (urls_of-append s.whole t.whole s.is_whole));
+    counted = rw (
+      urls_of-append s.whole t.whole s.is_whole,
+      with_urls-append (urls_of s.whole) (urls_of t.whole) [],
+      ← s.counted,
+    ) t.counted;
   }
 
   -- nothing more was read, and the last line was counted
@@ -119,10 +114,12 @@ module _ {R : Type 0} (remaining : R → Option (List ℕ)) (ro rm rn : Device R
   at_the_end new none counted = (
     subst (Gave remaining ro rn) (append-nil (s.whole ++ line))
         (Gave-then remaining ro rm rn (s.whole ++ line) [] s.read none),
-    counted ∙ ap (with_urls (urls_of line)) s.counted
-        ∙ sym (with_urls-append (urls_of s.whole) (urls_of line) [])
-        ∙ ap (λ (us : List (List ℕ)). with_urls us []) (sym (urls_of-append s.whole line s.is_whole))
-        ∙ all_tallied (urls_of (s.whole ++ line)),
+    rw (
+      ← all_tallied (urls_of (s.whole ++ line)),
+      urls_of-append s.whole line s.is_whole,
+      with_urls-append (urls_of s.whole) (urls_of line) [],
+      ← s.counted,
+    ) counted,
   )
 
 -- ---- the table
@@ -139,10 +136,9 @@ pub set_first : (url : List ℕ) (es : List (Vec ℕ × ℕ)) (i v w : ℕ) → 
 set_first url [] i v w first at next = absurd first
 set_first url (e ∷ es) zero v w first at next =
     let old : v ≡ e.1 = ap (λ (o : Option ℕ). unwrap_or o v) (sym at) in
-    rw first (ap (λ n. (e.0.items, n) ∷ named_of es) (next ∙ ap (λ n. at_most_u64 (n + 1)) old))
+    rw (first, next, old) refl
 set_first url (e ∷ es) (suc i) v w first at next =
-    rw first.0 (ap (λ (xs : List (List ℕ × ℕ)). (e.0.items, e.1) ∷ xs)
-    (set_first url es i v w first.1 at next))
+    rw (first.0, set_first url es i v w first.1 at next) refl
 
 pub insert_absent : (url : List ℕ) (es : List (Vec ℕ × ℕ)) (k : Vec ℕ) → k.items ≡ url
     → AllByRecursion (λ (x : Vec ℕ). bytes_eq url x.items ≡ false) (keys_of es)
@@ -150,6 +146,5 @@ pub insert_absent : (url : List ℕ) (es : List (Vec ℕ × ℕ)) (k : Vec ℕ) 
     ≡ with_url url (named_of es)
 insert_absent url [] k is none = ap (λ (u : List ℕ). (u, 1) ∷ []) is
 insert_absent url (e ∷ es) k is none =
-    let other : bytes_eq k.items e.0.items ≡ false = ap (λ u. bytes_eq u e.0.items) is ∙ none.0 in
-    rw (other, none.0)
-    (ap (λ (xs : List (List ℕ × ℕ)). (e.0.items, e.1) ∷ xs) (insert_absent url es k is none.1))
+    let other : bytes_eq k.items e.0.items ≡ false = rw is none.0 in
+    rw (other, none.0, insert_absent url es k is none.1) refl

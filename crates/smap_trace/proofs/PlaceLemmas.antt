@@ -7,7 +7,8 @@ use Rattle.std.specs.Char.{IsNotAsciiDigit, digit_value}
 use Rattle.std.specs.List.{starts_with}
 use Rattle.std.specs.Str.Parse.{AllDigits, IsNumeral, digits_value, digits_value_after}
 use Rattle.std.proofs.Math.Seq.{drop-cons}
-use Rattle.std.proofs.lemmas.Bool.{lt-ltb, le-leb, ltb-true, leb-true}
+use Rattle.std.proofs.lemmas.Bool.{lt-ltb, le-leb}
+use Rattle.std.proofs.lemmas.Bool.Decides.{nat_tests}
 use Rattle.std.proofs.lemmas.Fmt.{decimal-digits_value, decimal_is_IsNumeral, first_decimal}
 use Rattle.std.proofs.lemmas.List.{drop_all}
 use Rattle.std.proofs.lemmas.Slice.Eq.{bytes_eq-Decides}
@@ -54,7 +55,7 @@ pub other_number : (text : List ℕ) (number i : ℕ) → length text ≤ i → 
 other_number text number i past r other n is e =
     let read = rw (drop_all i text past) at r in
     let same : n ≡ number = omega (arith, read.value, (written text n is e).1) in
-    other (subst IsPlace same is)
+    other (rw same at is)
 
 pub zero_first : (text : List ℕ) → starts_with nat_eq text (codes "0") ≡ true → IsNoPlace text
 zero_first [] zero n is e = cc
@@ -85,14 +86,6 @@ is_number text number i past r is other =
 
 -- ---- the same, as a function
 
-guard : {X : Type 0} (b : Bool) (x y : X) → cond b (Some x) None ≡ Some y → (b ≡ true) × (x ≡ y)
-guard true x y h = (refl, cc)
-guard false x y h = cc
-
-both : (a b : Bool) → (a && b) ≡ true → (a ≡ true) × (b ≡ true)
-both true b h = (refl, h)
-both false b h = cc
-
 -- `place_of` answers the number of which the text is the one spelling
 pub place_of-decimal : (n : ℕ) → IsPlace n → place_of (decimal n) ≡ Some n
 place_of-decimal n is =
@@ -104,13 +97,7 @@ place_of-decimal n is =
 
 pub place_of-some : (t : List ℕ) (n : ℕ) → place_of t ≡ Some n → IsPlace n × (t ≡ decimal n)
 place_of-some t n h =
-    let m = digits_value 10 t in
-    let g = guard (nat_lt 0 m && (nat_le m POSITIONS && bytes_eq (decimal m) t)) m n h in
-    let low = both (nat_lt 0 m) (nat_le m POSITIONS && bytes_eq (decimal m) t) g.0 in
-    let high = both (nat_le m POSITIONS) (bytes_eq (decimal m) t) low.1 in
-    let same : decimal m ≡ t = (bytes_eq-Decides _ _).0 high.1 in
-    let P : ℕ → Type 0 = λ k. IsPlace k × (t ≡ decimal k) in
-    subst P g.1 ((ltb-true _ _ low.0, leb-true _ _ high.0), sym same)
+    grind (arith, nat_tests, bytes_eq-Decides (decimal (digits_value 10 t)) t)
 
 pub place_is : (t : List ℕ) (r : Option ℕ)
     → MatchOption r (IsNoPlace t) (λ n. IsPlace n × (t ≡ decimal n)) → r ≡ place_of t
