@@ -11,15 +11,14 @@ use Rattle.smap_trace.specs.Views.{at_most_u64, counts_by, outcome_of}
 abbrev counts : ℕ → ℕ → ℕ → Counts
 counts a b d = record { lines = at_most_u64 a; translated = at_most_u64 b; dropped = at_most_u64 d }
 
-one_more : (n : ℕ) → min (at_most_u64 n + 1) (2 ^ 64 - 1) ≡ at_most_u64 (n + 1)
+pub one_more : (n : ℕ) → at_most_u64 (at_most_u64 n + 1) ≡ at_most_u64 (n + 1)
 one_more n = step n (2 ^ 64 - 1)
   where
     step : (n most : ℕ) → min (min n most + 1) most ≡ min (n + 1) most
     step n most = omega arith
 
-abbrev bit : Bool → ℕ
-bit true = 1
-bit false = 0
+abbrev pub bit : Bool → ℕ
+bit b = cond b 1 0
 
 same : (a b d x y z : ℕ) → a ≡ x → b ≡ y → d ≡ z → counts a b d ≡ counts x y z
 same a b d x y z e f g = rw (e, f, g) refl
@@ -38,13 +37,9 @@ line_counted kept a b d = same_counts _ _ _ _ _ _ (one_more a) (no_more b) (no_m
 line_counted (translated text) a b d = same_counts _ _ _ _ _ _ (one_more a) (one_more b) (no_more d)
 line_counted dropped a b d = same_counts _ _ _ _ _ _ (one_more a) (no_more b) (one_more d)
 
-count_by-cons : (p : List ℕ → Bool) (x : List ℕ) (xs : List (List ℕ))
+pub count_by-cons : (p : List ℕ → Bool) (x : List ℕ) (xs : List (List ℕ))
     → count_by p (x ∷ xs) ≡ bit (p x) + count_by p xs
-count_by-cons p x xs = sum_by-cons (λ y. cond (p y) 1 0) x xs ∙ ap (λ n. n + count_by p xs) (go (p x))
-  where
-    go : (t : Bool) → cond t 1 0 ≡ bit t
-    go true = refl
-    go false = refl
+count_by-cons p x xs = sum_by-cons (λ y. cond (p y) 1 0) x xs
 
 module _ (fates : List ℕ → Fate) where
   abbrev is_told : List ℕ → Bool

@@ -25,7 +25,7 @@ below_all p (q ∷ qs) h zero d lt = rw (h.0) refl
 below_all p (q ∷ qs) h (suc j) d lt = trans p q (get_or qs j d) (rw (h.0) refl)
     (below_all q qs h.1 j d (omega (arith, lt)))
 
-rest_of : (p : Position) (qs : List Position) → NeverFalls (p ∷ qs) → NeverFalls qs
+pub rest_of : (p : Position) (qs : List Position) → NeverFalls (p ∷ qs) → NeverFalls qs
 rest_of p [] h = tt
 rest_of p (q ∷ qs) h = h.1
 

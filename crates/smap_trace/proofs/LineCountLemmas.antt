@@ -1,12 +1,14 @@
 -- Where the mappings of a line begin, by counting those on earlier lines.
-use Rattle.std.proofs.Common.{◌≡◌, ◌∙◌, ℕ, ◌+◌, ◌<◌, ◌≤◌, ◌==◌, Bool, true, false, List, [], ◌∷◌, length, map}
+use Rattle.std.proofs.Common.{◌≡◌, ◌∙◌, inl, inr, ℕ, ◌+◌, ◌<◌, ◌≤◌, ◌==◌, Bool, true, false, List, [], ◌∷◌, length, map}
 use Rattle.std.proofs.Common.{nat_le, nat_lt, cond, arith, ap, sym, refl, slice_index, count_by}
+use Rattle.std.proofs.lemmas.Bool.{cases_Bool, leb-false, leb-true, lt-ltb}
 use Rattle.std.proofs.lemmas.Bool.Decides.{nat_tests}
 use Rattle.std.proofs.lemmas.List.Sums.{sum_by-cons}
 use Rattle.smap_mappings.specs.Position.{NeverFalls}
 use Rattle.smap_record.specs.Fitting.{mapping_position}
 use Rattle.smap_record.specs.Record.{Mapping}
 use Rattle.smap_trace.specs.LineStarts.{line_start, line_starts}
+use Rattle.smap_trace.proofs.HalvingLemmas.{rest_of}
 use Rattle.smap_trace.proofs.LineStartLemmas.{table_at}
 
 -- how many are on earlier lines
@@ -55,26 +57,16 @@ none_earlier m (n ∷ ms) line sorted le =
     let rest : earlier (n ∷ ms) line ≡ 0 = none_earlier n ms line sorted.1 more in
     omega (arith, one, rest)
 
-rest_of : (m : Mapping) (ms : List Mapping) → NeverFalls (map mapping_position (m ∷ ms))
-    → NeverFalls (map mapping_position ms)
-rest_of m [] sorted = tt
-rest_of m (n ∷ ms) sorted = sorted.1
-
 start_is : (ms : List Mapping) (line : ℕ) → NeverFalls (map mapping_position ms)
     → line_start ms line ≡ earlier ms line
 start_is [] line sorted = refl
-start_is (m ∷ ms) line sorted = go (start_is ms line (rest_of m ms sorted)) (nat_le line m.line) refl
-  where
-    go : line_start ms line ≡ earlier ms line → (t : Bool) → nat_le line m.line ≡ t
-        → line_start (m ∷ ms) line ≡ earlier (m ∷ ms) line
-    go rest true e =
-        let le : line ≤ m.line = grind (arith, nat_tests) in
-        rw e (sym (none_earlier m ms line sorted le))
-    go rest false e =
-        let lt : nat_lt m.line line ≡ true = grind (arith, nat_tests) in
-        let one : earlier (m ∷ ms) line ≡ 1 + earlier ms line =
-        more_earlier m ms line ∙ ap (λ b. cond b 1 0 + earlier ms line) lt in
-        rw e (ap (λ n. 1 + n) rest ∙ sym one)
+start_is (m ∷ ms) line sorted = elim (cases_Bool (nat_le line m.line)) [
+  | inl e ↦ rw e (sym (none_earlier m ms line sorted (leb-true line m.line e)))
+  | inr e ↦
+      let rest = start_is ms line (rest_of (mapping_position m) (map mapping_position ms) sorted) in
+      let lt : nat_lt m.line line ≡ true = lt-ltb m.line line (leb-false line m.line e) in
+      rw (e, rest, more_earlier m ms line, lt) refl
+]
 
 pub are_counted : (ms : List Mapping) (line : ℕ) → NeverFalls (map mapping_position ms)
     → line + 1 < length (line_starts ms)

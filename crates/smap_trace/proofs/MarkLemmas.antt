@@ -3,12 +3,9 @@ use Rattle.std.proofs.Common.{◌≡◌, ◌∙◌, ℕ, ◌+◌, ◌-◌, ◌<�
 use Rattle.std.proofs.Common.{List, [], length, take, drop, get_or, Some, None}
 use Rattle.std.proofs.Common.{refl, sym, ap, arith}
 use Rattle.std.specs.List.{suffix_len, position_or_len, before_last, after_last}
+use Rattle.std.proofs.lemmas.Bool.{false_from_ne_true}
 use Rattle.std.proofs.lemmas.List.Sums.{position_or_len_is, suffix_len_is}
 use Rattle.memchr.specs.Find.{IsFirstByte, IsLastByte, is_byte}
-
-fails : (b : Bool) → (b ≡ true → ⊥) → b ≡ false
-fails true h = absurd (h refl)
-fails false h = refl
 
 module _ (c : ℕ) (xs : List ℕ) where
   -- Where the last `n` places have no mark, and the one before them has one.
@@ -18,7 +15,7 @@ module _ (c : ℕ) (xs : List ℕ) where
       → length xs - suffix_len (λ b. not (b == c)) xs ≡ n
   marked_before n le none here =
       let len : suffix_len (λ b. not (b == c)) xs ≡ length xs - n = suffix_len_is (λ b. not (b == c)) xs n 0
-      le (λ k low high. ap not (fails (get_or xs k 0 == c) (none k low high)))
+      le (λ k low high. ap not (false_from_ne_true (get_or xs k 0 == c) (none k low high)))
       (λ some. ap not (here some))
       in
       omega arith
@@ -42,8 +39,8 @@ module _ (c : ℕ) (xs : List ℕ) where
 
   pub first_at : (at : ℕ) → IsFirstByte (is_byte c) xs (Some at) → position_or_len (λ b. b == c) xs ≡ at
   first_at at found = position_or_len_is (λ b. b == c) xs at 0 (omega (arith, found.0.high))
-      (λ k below. fails (get_or xs k 0 == c) (found.0.before k (omega arith) below)) (λ _. found.1)
+      (λ k below. false_from_ne_true (get_or xs k 0 == c) (found.0.before k (omega arith) below)) (λ _. found.1)
 
   pub no_first : IsFirstByte (is_byte c) xs None → position_or_len (λ b. b == c) xs ≡ length xs
   no_first none = position_or_len_is (λ b. b == c) xs (length xs) 0 (omega arith)
-      (λ k below. fails (get_or xs k 0 == c) (none k (omega arith) below)) (λ below. absurd (omega arith))
+      (λ k below. false_from_ne_true (get_or xs k 0 == c) (none k (omega arith) below)) (λ below. absurd (omega arith))

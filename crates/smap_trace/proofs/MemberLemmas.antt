@@ -9,8 +9,5 @@ pub contains_later : {A : Type 0} (x y : A) (xs : List A) → Contains xs y → 
 contains_later x y xs c = let h = c.1 in (suc c.0, omega (arith, h), c.2)
 
 pub first_or_later : {A : Type 0} (x y : A) (xs : List A) → Contains (x ∷ xs) y → (x ≡ y) ⊎ Contains xs y
-first_or_later x y xs (k, below, same) = go k below same
-  where
-    go : (k : ℕ) → k < length (x ∷ xs) → slice_index_or (x ∷ xs) k y ≡ y → (x ≡ y) ⊎ Contains xs y
-    go zero b e = inl e
-    go (suc j) b e = inr (j, omega (arith, b), e)
+first_or_later x y xs (zero, below, same) = inl same
+first_or_later x y xs (suc k, below, same) = inr (k, omega (arith, below), same)

@@ -16,22 +16,16 @@ capped_sum a b = step a b (2 ^ 64 - 1)
     step : (a b most : ℕ) → min (a + b) most ≡ min (min a most + min b most) most
     step a b most = omega arith
 
-count_by-append : (p : List ℕ → Bool) (xs ys : List (List ℕ))
-    → count_by p (xs ++ ys) ≡ count_by p xs + count_by p ys
-count_by-append p xs ys = sum_by-append (λ x. cond (p x) 1 0) xs ys
-
 -- how many of the lines of both parts pass a test, capped
 both_counted : (p : List ℕ → Bool) (lines xs ys : List (List ℕ)) → lines ≡ xs ++ ys
     → at_most_u64 (count_by p lines) ≡ at_most_u64 (at_most_u64 (count_by p xs) + at_most_u64 (count_by p ys))
 both_counted p lines xs ys e =
-    ap (λ (ls : List (List ℕ)). at_most_u64 (count_by p ls)) e ∙ ap at_most_u64 (count_by-append p xs ys)
-    ∙ capped_sum (count_by p xs) (count_by p ys)
+    rw (e, sum_by-append (λ x. cond (p x) 1 0) xs ys) (capped_sum (count_by p xs) (count_by p ys))
 
 both_long : (lines xs ys : List (List ℕ)) → lines ≡ xs ++ ys
     → at_most_u64 (length lines) ≡ at_most_u64 (at_most_u64 (length xs) + at_most_u64 (length ys))
 both_long lines xs ys e =
-    ap (λ (ls : List (List ℕ)). at_most_u64 (length ls)) e ∙ ap at_most_u64 (length-append xs ys)
-    ∙ capped_sum (length xs) (length ys)
+    rw (e, length-append xs ys) (capped_sum (length xs) (length ys))
 
 ended_is_whole : (text : List ℕ) → EndsItsLine text → IsWhole text
 ended_is_whole text (inl e) = inl e

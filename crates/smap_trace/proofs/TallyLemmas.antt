@@ -14,28 +14,16 @@ use Rattle.smap_record.proofs.OnceLemmas.{distinct-IsDistinct}
 use Rattle.smap_trace.specs.Counting.{with_url, with_urls}
 use Rattle.smap_trace.specs.Naming.{tally}
 use Rattle.smap_trace.specs.Views.{at_most_u64}
+use Rattle.smap_trace.proofs.CountLemmas.{bit, count_by-cons, one_more as capped_once}
 use Rattle.smap_trace.proofs.IndexedLemmas.{bytes_flip}
 
 -- ---- how often a URL occurs
-
-abbrev bit : Bool → ℕ
-bit b = cond b 1 0
 
 count-push : (p : List ℕ → Bool) (xs : List (List ℕ)) (x : List ℕ)
     → count_by p (xs ++ x ∷ []) ≡ count_by p xs + bit (p x)
 count-push p xs x =
     let f : List ℕ → ℕ = λ y. bit (p y) in
     sum_by-append f xs (x ∷ []) ∙ ap (λ n. sum_by f xs + n) (sum_by-cons f x [] ∙ add-zero (f x))
-
-count-cons : (p : List ℕ → Bool) (x : List ℕ) (xs : List (List ℕ))
-    → count_by p (x ∷ xs) ≡ bit (p x) + count_by p xs
-count-cons p x xs = sum_by-cons (λ y. cond (p y) 1 0) x xs
-
-capped_more : (n : ℕ) → at_most_u64 (at_most_u64 n + 1) ≡ at_most_u64 (n + 1)
-capped_more n = step n (2 ^ 64 - 1)
-  where
-    step : (n most : ℕ) → min (min n most + 1) most ≡ min (n + 1) most
-    step n most = omega arith
 
 -- ---- a URL that is in no list
 
@@ -62,7 +50,7 @@ none_counted u (x ∷ xs) none =
     let p = or_parts (bytes_eq u x) (list_any (bytes_eq u)
     (filter (λ z. not (bytes_eq x z)) (distinct bytes_eq xs))) none in
     let more = none_counted u xs (sym (any_filter u x (distinct bytes_eq xs) p.0) ∙ p.1) in
-    omega (arith, count-cons (bytes_eq u) x xs, ap bit p.0, more)
+    omega (arith, count_by-cons (bytes_eq u) x xs, ap bit p.0, more)
 
 -- ---- one more
 
@@ -101,7 +89,7 @@ module _ (us : List (List ℕ)) (u : List ℕ) where
         let grown : count_by (bytes_eq d) us + 1 ≡ count_by (bytes_eq d) more =
         omega (arith, count-push (bytes_eq d) us u, back) in
         let none : list_any (bytes_eq u) ds ≡ false = rw (same_bytes u d e) (all_none d ds once.0) in
-        rw e (λ i. (d, (capped_more (count_by (bytes_eq d) us) ∙ ap at_most_u64 grown) i) ∷ others ds none i)
+        rw e (λ i. (d, (capped_once (count_by (bytes_eq d) us) ∙ ap at_most_u64 grown) i) ∷ others ds none i)
     | inr e ↦
         let rest = counted ds once.1 (λ h. absent (rw (e, h) refl)) in
         rw e ((λ i. other d e i ∷ rest i) ∙ last d ds (list_any (bytes_eq u) ds))

@@ -58,8 +58,8 @@ returns-clause-ok g c =
     written_all pieces (drop c.positions.at text) c.positions.out.items c.extend_from_slice-2.new.self.items
     (c.args.out.now.items ++ flat_map written_for (pieces_of c.args.ignore_query (g.M.Maps.scripts
     c.args.maps.now) text)) c.in_default.ensures
-    (c.in_ok-extend_from_slice-2.ensures.items ∙ ap (λ (xs : List ℕ). c.positions.out.items ++ xs)
-    (left_is text c.positions.at)) c.positions.invariant.written
+    (rw (left_is text c.positions.at) at c.in_ok-extend_from_slice-2.ensures.items)
+    c.positions.invariant.written
 
 pub returns-clause-replaced : goal.returns-clause-replaced
 returns-clause-replaced g c =

@@ -17,10 +17,8 @@ returns-then-n-eq0-clause-names g c =
     let p = at_the_end g.R.Read.remaining c.args.reader.now c.pieces.reader c.read.new.self
     c.pieces.line.items
     (named_of c.pieces.lines.entries) s (named_of c.end_line.new.lines.entries)
-    (subst (λ (k : ℕ). Gave g.R.Read.remaining c.pieces.reader c.read.new.self (take k c.read.new.buf))
-    c.if-n-eq0.true c.in-Ok.ensures.bytes.0)
-    (c.in-Ok-end_line.ensures ∙ ap (λ (xs : List ℕ). with_urls (urls_of xs) (named_of c.pieces.lines.entries))
-    c.deref.ensures.value) in (
+    (rw c.if-n-eq0.true at c.in-Ok.ensures.bytes.0)
+    (rw c.deref.ensures.value at c.in-Ok-end_line.ensures) in (
       s.whole ++ c.pieces.line.items,
       p.0,
       (ended, c.in-Ok.ensures.bytes.1 c.if-n-eq0.true room),

@@ -25,8 +25,7 @@ lines-preserved c =
     (named_of c.take_line.new.lines.entries)
     (line_taken piece at feed lt is) c.in_ok-take_line.ensures.rest
     (none_passed (drop at piece) feed (λ i below. found.0.before i (omega arith) below))
-    (c.in_ok-take_line.ensures.counts ∙ ap (λ (xs : List ℕ).
-    with_urls (cons_option (url_of (c.lines.line.items ++ xs)) []) (named_of c.lines.lines.entries)) end)
+    (rw end at c.in_ok-take_line.ensures.counts)
     c.lines.invariant.free c.lines.invariant.counts in
     record { within = omega (arith, lt, length-drop at piece); free = step.free; counts = step.counts }
 
@@ -39,8 +38,7 @@ returns c =
     let step = rest_step c.args.line.now.items (take at piece) piece c.lines.line.items
     c.extend_from_slice.new.self.items (drop at piece) (named_of c.args.lines.now.entries)
     (named_of c.lines.lines.entries)
-    (sym (take-append-drop at piece)) (c.in_ok-extend_from_slice.ensures.items
-    ∙ ap (λ (xs : List ℕ). c.lines.line.items ++ xs) left)
+    (sym (take-append-drop at piece)) (rw left at c.in_ok-extend_from_slice.ensures.items)
     (none_there (drop at piece) (λ i below. none i (omega arith) below))
     c.lines.invariant.free c.lines.invariant.counts in
     record { rest = step.free; counts = step.counts }

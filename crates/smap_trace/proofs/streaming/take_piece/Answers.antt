@@ -25,10 +25,7 @@ lines-preserved g c =
     (take feed (drop at piece)) c.args.counts.now c.lines.counts c.in_ok-counts.field-0
     (line_taken piece at feed lt is) c.in_ok-counts.ensures.rest
     (none_passed (drop at piece) feed (λ i below. found.0.before i (omega arith) below))
-    (c.in_ok-counts.ensures.out ∙ ap (λ (xs : List ℕ). c.lines.out.items
-    ++ line_translation_by fates (c.lines.line.items ++ xs)) end)
-    (c.in_ok-counts.ensures.counts ∙ ap (λ (xs : List ℕ).
-    count_line c.lines.counts (outcome_of (fates (c.lines.line.items ++ xs)))) end)
+    (rw end at c.in_ok-counts.ensures.out) (rw end at c.in_ok-counts.ensures.counts)
     c.lines.invariant.free c.lines.invariant.takes in
     record { within = omega (arith, lt, length-drop at piece); free = step.free; takes = step.takes }
 
@@ -42,8 +39,7 @@ returns g c =
     let step = rest_step fates c.args.line.now.items (take at piece) piece c.lines.line.items
     c.extend_from_slice.new.self.items c.args.out.now.items c.lines.out.items
     (drop at piece) c.args.counts.now c.lines.counts
-    (sym (take-append-drop at piece)) (c.in_ok-extend_from_slice.ensures.items
-    ∙ ap (λ (xs : List ℕ). c.lines.line.items ++ xs) left)
+    (sym (take-append-drop at piece)) (rw left at c.in_ok-extend_from_slice.ensures.items)
     (none_there (drop at piece) (λ i below. none i (omega arith) below))
     c.lines.invariant.free c.lines.invariant.takes in
     record { rest = step.free; takes = step.takes }
