@@ -1,11 +1,11 @@
 -- A line without its carriage return, and whether it begins with spaces and `at `.
 use Rattle.std.proofs.Common.{◌≡◌, ◌∙◌, inl, inr, ℕ, suc, ◌+◌, ◌-◌, ◌<◌, ◌≤◌, ◌==◌, Bool, true, false}
-use Rattle.std.proofs.Common.{not, cond, ◌&&◌, ◌||◌, List, [], ◌∷◌, ◌++◌, length, take, drop}
+use Rattle.std.proofs.Common.{not, List, [], ◌∷◌, ◌++◌, length, take, drop}
 use Rattle.std.proofs.Common.{refl, sym, ap, arith, append_assoc}
 use Rattle.std.proofs.Common.{slice_index, nat_eq, length-take, length-append}
 use Rattle.std.proofs.Common.{codes, get_or}
 use Rattle.std.specs.List.{starts_with, prefix_len}
-use Rattle.std.specs.List.{position_or_len, list_all, list_any}
+use Rattle.std.specs.List.{position_or_len, list_all}
 use Rattle.std.specs.Str.Lines.{strip_carriage_return}
 use Rattle.std.proofs.lemmas.Bool.{and_parts, cases_lt, cond_both, not-true}
 use Rattle.std.proofs.lemmas.List.{take-append-drop, take-take, drop_more}

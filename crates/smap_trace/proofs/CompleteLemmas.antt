@@ -1,8 +1,8 @@
 -- What is a frame of a line is read as that frame.
-use Rattle.std.proofs.Common.{◌≡◌, ◌≢◌, ◌∙◌, ◌⊎◌, inl, inr, ℕ, suc, ◌+◌, ◌-◌, ◌<◌, ◌==◌, Bool, true, false}
-use Rattle.std.proofs.Common.{not, cond, ◌&&◌, List, [], ◌∷◌, ◌++◌, length, take, drop, Some, None, refl, sym}
-use Rattle.std.proofs.Common.{ap, subst, arith, append_assoc, append-nil, slice_range, slice_index, nat_eq}
-use Rattle.std.proofs.Common.{nat_lt, length-take, length-append, codes, get_or}
+use Rattle.std.proofs.Common.{◌≡◌, ◌≢◌, ◌∙◌, ◌⊎◌, inl, inr, ℕ, suc, ◌+◌, ◌-◌, ◌<◌, ◌==◌, true, false}
+use Rattle.std.proofs.Common.{not, List, [], ◌∷◌, ◌++◌, length, take, drop, Some, refl, sym}
+use Rattle.std.proofs.Common.{ap, arith, append_assoc, append-nil, slice_range, slice_index, nat_eq}
+use Rattle.std.proofs.Common.{nat_lt, length-take, length-append, codes}
 use Rattle.std.specs.List.{starts_with, ends_with, after_last, prefix_len, position_or_len, list_all}
 use Rattle.std.specs.Str.Lines.{strip_carriage_return}
 use Rattle.std.proofs.Math.Seq.{take-append_seam, get_or-append_seam}
@@ -25,16 +25,6 @@ v8_closed : (line : List ℕ) (start end : ℕ) → ends_with nat_eq (slice_rang
     → v8_frame line start end ≡ in_parentheses line start (end - 1)
 v8_closed line start end h = rw h refl
 
-v8_led : (line : List ℕ) (start end : ℕ) → ends_with nat_eq (slice_range line start end) (codes ")") ≡ false
-    → starts_with nat_eq (slice_range line start end) (codes "async ") ≡ true
-    → v8_frame line start end ≡ framed line (start + 6) end
-v8_led line start end h k = rw (h, k) refl
-
-v8_bare : (line : List ℕ) (start end : ℕ) → ends_with nat_eq (slice_range line start end) (codes ")") ≡ false
-    → starts_with nat_eq (slice_range line start end) (codes "async ") ≡ false
-    → v8_frame line start end ≡ framed line start end
-v8_bare line start end h k = rw (h, k) refl
-
 opens : (line last : List ℕ) (start end : ℕ) → after_last is_space (slice_range line start end) ≡ last
     → starts_with nat_eq last (codes "(") ≡ true
     → nat_lt (length last) (length (slice_range line start end)) ≡ true
@@ -53,8 +43,7 @@ pub v8_alone : (line front pos last : List ℕ) (x : ℕ) → line ≡ front ++ 
     ≡ framed line (length front) (length front + length pos)
 v8_alone line front pos last x whole ends ne free =
     let text = middle line front pos last (length front) (length front + length pos) whole refl refl in
-    v8_bare line (length front) (length front + length pos)
-    (rw text (ends_not pos x 41 ends ne)) (rw text (no_async pos free))
+    rw (text, ends_not pos x 41 ends ne, no_async pos free) refl
 
 pub v8_async : (line front pos last : List ℕ) (x : ℕ) → line ≡ front ++ ((codes "async " ++ pos) ++ last)
     → EndsIn pos x → x ≢ 41
@@ -63,9 +52,8 @@ pub v8_async : (line front pos last : List ℕ) (x : ℕ) → line ≡ front ++ 
 v8_async line front pos last x whole ends ne =
     let text = middle line front (codes "async " ++ pos) last (length front)
     (length front + length (codes "async " ++ pos)) whole refl refl in
-    v8_led line (length front) (length front + length (codes "async " ++ pos))
-    (rw text (ends_not (codes "async " ++ pos) x 41 (longer (codes "async ") pos x ends) ne))
-    (rw text (begins_with (codes "async ") pos))
+    let closed = ends_not (codes "async " ++ pos) x 41 (longer (codes "async ") pos x ends) ne in
+    rw (text, closed) refl
 
 pub v8_parens : (line front name pos last : List ℕ)
     → line ≡ front ++ ((name ++ 32 ∷ (40 ∷ pos)) ++ (41 ∷ last)) → list_all (λ b. not (b == 32)) pos ≡ true
@@ -101,13 +89,6 @@ v8_parens line front name pos last whole free start end s e =
 
 -- ---- the body of a line
 
-strip_none : (xs : List ℕ) → (slice_index xs (length xs - 1) == 13) ≡ false → strip_carriage_return xs ≡ xs
-strip_none xs h = rw h refl
-
-strip_one : (xs : List ℕ) → (slice_index xs (length xs - 1) == 13) ≡ true
-    → strip_carriage_return xs ≡ take (length xs - 1) xs
-strip_one xs h = rw h refl
-
 last_byte : (front : List ℕ) (x : ℕ) → slice_index (front ++ x ∷ []) (length (front ++ x ∷ []) - 1) ≡ x
 last_byte front x =
     let len : length (front ++ x ∷ []) - 1 ≡ length front = omega (arith, length-append front (x ∷ [])) in
@@ -119,22 +100,17 @@ body_len line body last x whole ends ne (inl e) =
     let same : line ≡ ends.front ++ x ∷ [] = whole ∙ rw (e, append-nil body) ends.whole in
     let other : (slice_index line (length line - 1) == 13) ≡ false =
     rw (same, last_byte ends.front x) (ne_eqb x 13 ne) in
-    ap length (strip_none line other ∙ same ∙ sym ends.whole)
+    rw other (ap length (same ∙ sym ends.whole))
 body_len line body last x whole ends ne (inr e) =
     let same : line ≡ body ++ 13 ∷ [] = whole ∙ rw e refl in
     let is : (slice_index line (length line - 1) == 13) ≡ true = rw (same, last_byte body 13) refl in
     let len : length line ≡ length body + 1 = ap length same ∙ length-append body (13 ∷ []) in
-    ap length (strip_one line is) ∙ omega (arith, len, length-take (length line - 1) line)
+    rw is (omega (arith, len, length-take (length line - 1) line))
 
 one_line_frame : (line : List ℕ) (n : ℕ) → lacks 10 line ≡ true → length (strip_carriage_return line) ≡ n
     → frame_of line ≡ body_frame line n
 unfolding frame_of
 one_line_frame line n h e = rw (h, e) refl
-
-body_v8 : (line : List ℕ) (end n : ℕ) → prefix_len is_space (take end line) ≡ n
-    → starts_with nat_eq (drop n (take end line)) (codes "at ") ≡ true
-    → body_frame line end ≡ v8_frame line (n + 3) end
-body_v8 line end n h k = rw (h, k) refl
 
 to_v8 : (line spaces rest last : List ℕ) (x : ℕ) → AreSpaces spaces → IsLineEnd last → EndsIn rest x → x ≢ 13
     → lacks 10 line ≡ true
@@ -155,9 +131,7 @@ to_v8 line spaces rest last x are line_end ends ne one whole =
     let starts : starts_with nat_eq (drop (length spaces) (take (length front + length rest) line))
     (codes "at ") ≡ true = rw (taken, found.1) (begins_with (codes "at ") rest) in
     let place : length spaces + 3 ≡ length front = sym (length-append spaces (codes "at ")) in
-    one_line_frame line (length front + length rest) one len
-    ∙ body_v8 line (length front + length rest) (length spaces) spaces_len starts
-    ∙ ap (λ n. v8_frame line n (length front + length rest)) place
+    one_line_frame line (length front + length rest) one len ∙ rw (spaces_len, starts, place) refl
 
 -- ---- V8, from the line
 
@@ -230,12 +204,6 @@ looks_v8 line spaces lead pos close last x are (inr (inr (e, d))) line_end ends 
 
 -- ---- Firefox, from the line
 
-body_firefox : (line : List ℕ) (end n : ℕ) → starts_with nat_eq
-    (drop (prefix_len is_space (take end line)) (take end line)) (codes "at ") ≡ false
-    → position_or_len (λ b. b == 64) (take end line) ≡ n → nat_lt n end ≡ true
-    → body_frame line end ≡ framed line (n + 1) end
-body_firefox line end n h k l = rw (h, k, l) refl
-
 -- If a line doesn't begin as V8's do, neither does its body.
 no_start : (line body last : List ℕ) → line ≡ body ++ last → (BeginsWithAt line → ⊥)
     → starts_with nat_eq (drop (prefix_len is_space body) body) (codes "at ") ≡ false
@@ -277,9 +245,12 @@ looks_firefox line name pos last x not_at lacks_at line_end ends no_cr one whole
     let front_len : length front ≡ length name + 1 = length-append name (codes "@") in
     let below : length name < end = omega (arith, front_len) in
     one_line_frame line end one len
-    ∙ body_firefox line end (length name) (no_start line (take end line) last
-    (rw taken whole') not_at) at (lt-ltb (length name) end below)
-    ∙ ap (λ n. framed line n end) (sym front_len)
+    ∙ rw (
+      no_start line (take end line) last (rw taken whole') not_at,
+      at,
+      lt-ltb (length name) end below,
+      ← front_len,
+    ) refl
 
 -- ---- the frame
 

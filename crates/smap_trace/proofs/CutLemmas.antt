@@ -1,5 +1,5 @@
 -- Lines cut into parts.
-use Rattle.std.proofs.Common.{◌≡◌, ◌∙◌, ℕ, suc, ◌+◌, ◌-◌, ◌<◌, ◌≤◌, ◌==◌, Bool, true, false, not, ◌&&◌}
+use Rattle.std.proofs.Common.{◌≡◌, ◌∙◌, ℕ, suc, ◌+◌, ◌-◌, ◌<◌, ◌≤◌, ◌==◌, Bool, true, false, not}
 use Rattle.std.proofs.Common.{List, ◌∷◌, ◌++◌, length, take, drop, reverse, get_or, refl, sym, ap, arith}
 use Rattle.std.proofs.Common.{slice_range, nat_eq, length-take}
 use Rattle.std.specs.List.{starts_with, suffix_len, before_last, after_last}

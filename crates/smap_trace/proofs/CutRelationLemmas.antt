@@ -1,7 +1,7 @@
 -- A line is cut as the relation says, and in no other way.
-use Rattle.std.proofs.Common.{◌≡◌, ◌∙◌, inl, inr, ℕ, suc, ◌-◌, ◌<◌, ◌≤◌, Bool, true, false}
+use Rattle.std.proofs.Common.{◌≡◌, ◌∙◌, inl, inr, ℕ, suc, ◌-◌, ◌<◌, ◌≤◌, Bool, true}
 use Rattle.std.proofs.Common.{cond, List, [], ◌∷◌, ◌++◌, length, take, drop, flat_map}
-use Rattle.std.proofs.Common.{Option, Some, None, option_map, find, bytes_eq, nat_lt, codes, decimal}
+use Rattle.std.proofs.Common.{Option, Some, None, bytes_eq, nat_lt, codes, decimal}
 use Rattle.std.proofs.Common.{refl, sym, ap, subst, arith, append_assoc, append-nil}
 use Rattle.std.specs.Char.{is_ascii_digit}
 use Rattle.std.specs.List.{list_any}

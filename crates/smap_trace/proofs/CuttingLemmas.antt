@@ -1,7 +1,7 @@
 -- Lines cut from left to right into bytes and occurrences.
-use Rattle.std.proofs.Common.{◌≡◌, ◌≢◌, ◌∙◌, ℕ, zero, suc, ◌+◌, ◌-◌, ◌<◌, ◌≤◌, ◌==◌, Bool, true, false, cond}
+use Rattle.std.proofs.Common.{◌≡◌, ◌≢◌, ◌∙◌, ℕ, zero, suc, ◌+◌, ◌-◌, ◌<◌, ◌≤◌, ◌==◌, Bool, true, false}
 use Rattle.std.proofs.Common.{◌&&◌, ◌||◌, List, [], ◌∷◌, ◌++◌, length, take, drop, get_or, map, flat_map}
-use Rattle.std.proofs.Common.{Option, Some, None, MatchOption, option_map, codes, decimal, nat_eq, nat_lt}
+use Rattle.std.proofs.Common.{Option, Some, None, MatchOption, option_map, codes, decimal, nat_eq}
 use Rattle.std.proofs.Common.{refl, sym, ap, arith, append_assoc, append-nil, slice_range}
 use Rattle.std.specs.Char.{is_ascii_digit}
 use Rattle.std.specs.List.{list_any, prefix_len, starts_with}
@@ -14,11 +14,10 @@ use Rattle.std.proofs.lemmas.List.Folds.{list_any-append}
 use Rattle.std.proofs.lemmas.Grind.{flat_map-append}
 use Rattle.smap_trace.specs.Anywhere.{Occurrence, Piece, byte, cut, found, longest}
 use Rattle.smap_trace.specs.Anywhere.{line_and_column, number_after, occurrence_between, occurrence_of}
-use Rattle.smap_trace.specs.Anywhere.{may_begin, place_after, query_len}
+use Rattle.smap_trace.specs.Anywhere.{place_after, query_len}
 use Rattle.smap_trace.specs.Cutting.{has_place, pieces_from}
 use Rattle.smap_trace.specs.Frame.{IsPlace}
 use Rattle.smap_trace.specs.OccurrenceView.{IsWithin, occurrence_in}
-use Rattle.smap_trace.specs.Reading.{place_of}
 use Rattle.smap_trace.specs.Scripts.{Script}
 use Rattle.smap_trace.specs.Translation.{is_replaced, written_for}
 use Rattle.smap_trace.specs.declared.occurrences.Occurrence.{Occurrence as CodeOccurrence}

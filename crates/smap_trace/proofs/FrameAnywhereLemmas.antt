@@ -1,13 +1,13 @@
 -- A frame's position, found in a frame and found anywhere.
 use Rattle.std.proofs.Common.{◌≡◌, ◌∙◌, ◌⊎◌, inl, inr, ℕ, ◌+◌, ◌-◌, ◌==◌, Bool, true}
 use Rattle.std.proofs.Common.{false}
-use Rattle.std.proofs.Common.{cond, ◌&&◌, ◌||◌, List, [], ◌∷◌, ◌++◌, length, take, drop, map, flat_map}
+use Rattle.std.proofs.Common.{cond, List, [], ◌∷◌, ◌++◌, length, take, drop, map, flat_map}
 use Rattle.std.proofs.Common.{Option, Some, None, option_map, option_and_then, codes, decimal}
 use Rattle.std.proofs.Common.{refl, sym, ap, subst, arith, append_assoc, append-nil}
-use Rattle.std.proofs.Common.{length-append, slice_range}
+use Rattle.std.proofs.Common.{length-append}
 use Rattle.std.specs.Char.{is_ascii_digit}
 use Rattle.std.specs.List.{list_any}
-use Rattle.std.specs.Option.{is_some, option_map_or}
+use Rattle.std.specs.Option.{option_map_or}
 use Rattle.std.proofs.Math.Seq.{drop-append_seam, take-append_seam}
 use Rattle.std.proofs.lemmas.Bool.Decides.{nat_tests, Decides-eqb}
 use Rattle.std.proofs.lemmas.Grind.{flat_map-append}
@@ -15,9 +15,9 @@ use Rattle.std.proofs.lemmas.List.{nil_from_length}
 use Rattle.std.proofs.lemmas.List.Folds.{list_any-append}
 use Rattle.smap_record.specs.Record.{Origin, Record}
 use Rattle.smap_trace.specs.Anywhere.{Occurrence, Piece, byte, bytes_of, continues, cut, found, longest}
-use Rattle.smap_trace.specs.Anywhere.{may_begin, more_of, occurrence_between, piece_at, pieces_of}
+use Rattle.smap_trace.specs.Anywhere.{may_begin, occurrence_between, piece_at, pieces_of}
 use Rattle.smap_trace.specs.Cuts.{IsPieceBetween}
-use Rattle.smap_trace.specs.Frame.{AfterAsync, Alone, BeginsWithAt, FrameParts, InParentheses, IsFirefox}
+use Rattle.smap_trace.specs.Frame.{AfterAsync, Alone, FrameParts, InParentheses}
 use Rattle.smap_trace.specs.Frame.{IsFrame, IsLineEnd, IsV8, position_text}
 use Rattle.smap_trace.specs.Laws.{FramesAreFoundAnywhere, HoldsOwnAlone}
 use Rattle.smap_trace.specs.Scripts.{AreDistinct, Script, map_of}
@@ -25,7 +25,6 @@ use Rattle.smap_trace.specs.Translation.{anywhere_fate, dropped, Fate, fate_at, 
 use Rattle.smap_trace.specs.Translation.{frame_fate, is_dropped, is_replaced, kept, map_for, origin_at}
 use Rattle.smap_trace.specs.Translation.{replaced, translated, written_for}
 use Rattle.smap_trace.proofs.CompleteLemmas.{complete}
-use Rattle.smap_trace.proofs.CutLemmas.{middle_part}
 use Rattle.smap_trace.proofs.CutRelationLemmas.{begins_there, is_occurrence, longest_covers, one_there}
 use Rattle.smap_trace.proofs.CutRelationLemmas.{pieces_stand}
 use Rattle.smap_trace.proofs.CuttingLemmas.{bytes_kept, bytes_written}
@@ -34,7 +33,7 @@ use Rattle.smap_trace.proofs.PieceLemmas.{longest_of}
 use Rattle.smap_trace.proofs.PositionLemmas.{BeginsWithPosition, both_of, length_position, position_found}
 use Rattle.smap_trace.proofs.PositionLemmas.{position_here}
 use Rattle.smap_trace.proofs.SoundLemmas.{position_there}
-use Rattle.smap_trace.proofs.TextLemmas.{EndsIn, longer as longer_text}
+use Rattle.smap_trace.proofs.TextLemmas.{EndsIn}
 
 -- ---- a line of bytes holds no occurrence
 

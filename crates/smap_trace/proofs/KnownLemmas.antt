@@ -1,16 +1,13 @@
 -- An occurrence is of the script with its URL.
-use Rattle.std.proofs.Common.{◌≡◌, ◌∙◌, inl, inr, ℕ, suc, ◌+◌, ◌<◌, Bool, true, false, cond}
-use Rattle.std.proofs.Common.{◌&&◌, List, [], ◌∷◌, length, drop, Option, Some, None, option_map, find}
-use Rattle.std.proofs.Common.{bytes_eq, nat_eq, nat_lt, refl, sym, ap, arith}
-use Rattle.std.specs.List.{starts_with}
+use Rattle.std.proofs.Common.{◌≡◌, ◌∙◌, inl, inr, ℕ, suc, ◌<◌, Bool}
+use Rattle.std.proofs.Common.{List, [], ◌∷◌, length, Some}
+use Rattle.std.proofs.Common.{bytes_eq, refl, sym, arith}
 use Rattle.std.specs.Prelude.{slice_index_or}
 use Rattle.std.proofs.lemmas.Bool.{cases_Bool}
 use Rattle.std.proofs.lemmas.Slice.Eq.{bytes_eq-Decides}
 use Rattle.smap_record.specs.Record.{Record}
-use Rattle.smap_trace.specs.Anywhere.{Occurrence, longest, may_begin, occurrence_between, occurrence_of}
-use Rattle.smap_trace.specs.Anywhere.{place_after}
+use Rattle.smap_trace.specs.Anywhere.{Occurrence, longest, occurrence_between, occurrence_of}
 use Rattle.smap_trace.specs.Scripts.{AreDistinct, Script, map_of}
-use Rattle.smap_trace.specs.declared.places.Place.{Place}
 use Rattle.smap_trace.proofs.PieceLemmas.{either}
 
 pub names_script : (ignore : Bool) (s : Script) (text : List ℕ) (o : Occurrence)

@@ -1,8 +1,8 @@
 -- Scripts that are left out.
-use Rattle.std.proofs.Common.{◌≡◌, ◌∙◌, ◌⊎◌, inl, inr, ℕ, zero, suc, ◌+◌, ◌-◌, ◌≤◌, ◌==◌, Bool, true, false}
+use Rattle.std.proofs.Common.{◌≡◌, ◌∙◌, inl, inr, ℕ, zero, suc, ◌-◌, ◌≤◌, Bool, true, false}
 use Rattle.std.proofs.Common.{cond, List, [], ◌∷◌, ◌++◌, length, take, filter, flat_map, count_by, bytes_eq}
-use Rattle.std.proofs.Common.{Option, Some, None, option_and_then, refl, sym, ap, subst, arith, slice_range}
-use Rattle.std.proofs.Common.{length-append, append_assoc, true≢false, ◌||◌}
+use Rattle.std.proofs.Common.{Option, Some, None, refl, sym, ap, subst, arith, slice_range}
+use Rattle.std.proofs.Common.{true≢false}
 use Rattle.std.specs.Prelude.{Contains}
 use Rattle.std.specs.List.{list_any}
 use Rattle.std.specs.Map.{keys_of}
@@ -13,22 +13,21 @@ use Rattle.std.proofs.lemmas.List.Sums.{sum_by-cons}
 use Rattle.std.proofs.lemmas.Slice.Eq.{bytes_eq-Decides}
 use Rattle.smap_record.specs.Record.{Record}
 use Rattle.smap_trace.specs.Anywhere.{Occurrence, Piece, cut, found, longer, longest, may_begin, more_of}
-use Rattle.smap_trace.specs.Anywhere.{occurrence_between, occurrence_of, piece_at, pieces_of}
+use Rattle.smap_trace.specs.Anywhere.{occurrence_between, occurrence_of, piece_at}
 use Rattle.smap_trace.specs.Frame.{FrameParts, IsFrame, position_text}
 use Rattle.smap_trace.specs.Naming.{named_in}
 use Rattle.smap_trace.specs.Reading.{frame_of}
 use Rattle.smap_trace.specs.Scripts.{Script, map_of}
 use Rattle.smap_trace.specs.TraceLaws.{AreAlike, Finds, IsFoundIn, IsInFrame, IsOfFrame, NamedSuffice}
 use Rattle.smap_trace.specs.TraceLaws.{Names, UnfoundAreLeftOut, UnnamedAreLeftOut, is_named}
-use Rattle.smap_trace.specs.Translation.{Fate, dropped, fate_found, fate_in, fate_of_pieces, frame_fate}
+use Rattle.smap_trace.specs.Translation.{Fate, fate_found, fate_in, frame_fate}
 use Rattle.smap_trace.specs.Translation.{is_dropped, is_translated, kept, line_translation_by, lines_of}
 use Rattle.smap_trace.specs.Translation.{map_for}
-use Rattle.smap_trace.specs.Translation.{anywhere_fate, without_line_feed, written}
+use Rattle.smap_trace.specs.Translation.{without_line_feed}
 use Rattle.smap_trace.specs.Views.{at_most_u64}
 use Rattle.smap_trace.specs.declared.finding.Finding.{Finding}
 use Rattle.smap_trace.proofs.ByLengthLemmas.{either, url_length}
 use Rattle.smap_trace.proofs.CountLemmas.{same_counts}
-use Rattle.smap_trace.proofs.CutLemmas.{middle_part}
 use Rattle.smap_trace.proofs.KnownLemmas.{names_script}
 use Rattle.smap_trace.proofs.MemberLemmas.{contains_first, contains_later, first_or_later}
 use Rattle.smap_trace.proofs.NamedUrlLemmas.{named_of_frames}

@@ -1,8 +1,7 @@
 -- Where the mappings of each line begin, and what the count of a search is at least and at most.
-use Rattle.std.proofs.Common.{◌≡◌, ◌∙◌, ℕ, ◌+◌, ◌-◌, ◌/◌, ◌<◌, ◌≤◌, Bool, true, false, List, length, map}
-use Rattle.std.proofs.Common.{get_or, nat_le, nat_lt, Option, None, arith, ap, sym, inl, inr, slice_get}
-use Rattle.std.proofs.Common.{slice_index, Some, refl, cond, []}
-use Rattle.std.specs.List.{range_with_len}
+use Rattle.std.proofs.Common.{◌≡◌, ◌∙◌, ℕ, ◌+◌, ◌-◌, ◌/◌, ◌<◌, ◌≤◌, true, false, List, length, map}
+use Rattle.std.proofs.Common.{get_or, nat_le, None, arith, ap, inl, inr, slice_get}
+use Rattle.std.proofs.Common.{slice_index, Some}
 use Rattle.std.proofs.lemmas.Bool.{cases_Bool, cases_lt}
 use Rattle.std.proofs.lemmas.Bool.Decides.{nat_tests}
 use Rattle.std.proofs.lemmas.List.{length-map}

@@ -1,6 +1,6 @@
 -- What a list contains.
-use Rattle.std.proofs.Common.{◌≡◌, ◌⊎◌, ℕ, zero, suc, ◌<◌, List, ◌∷◌, length, refl, inl, inr, arith}
-use Rattle.std.specs.Prelude.{Contains, slice_index_or}
+use Rattle.std.proofs.Common.{◌≡◌, ◌⊎◌, zero, suc, List, ◌∷◌, refl, inl, inr, arith}
+use Rattle.std.specs.Prelude.{Contains}
 
 pub contains_first : {A : Type 0} (x : A) (xs : List A) → Contains (x ∷ xs) x
 contains_first x xs = (0, omega arith, refl)

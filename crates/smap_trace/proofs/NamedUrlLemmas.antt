@@ -1,6 +1,6 @@
 -- The URLs that a trace names are those of its frames.
 use Rattle.std.proofs.Common.{◌≡◌, ◌∙◌, ℕ, List, [], ◌∷◌, map, bytes_eq}
-use Rattle.std.proofs.Common.{Option, Some, None, option_map, refl, sym, ap, subst, arith, inl, inr}
+use Rattle.std.proofs.Common.{Option, Some, None, option_map, refl, ap, arith, inl, inr}
 use Rattle.std.specs.Prelude.{Contains}
 use Rattle.std.specs.List.{cons_option, filter_map}
 use Rattle.std.specs.Map.{keys_of}

@@ -1,6 +1,6 @@
 -- A trace in two parts.
-use Rattle.std.proofs.Common.{◌≡◌, ◌∙◌, inl, inr, ℕ, ◌+◌, ◌-◌, ◌^◌, Bool, cond, List, ◌++◌}
-use Rattle.std.proofs.Common.{ap, arith, count_by, length, length-append, min, take}
+use Rattle.std.proofs.Common.{◌≡◌, inl, inr, ℕ, ◌+◌, ◌-◌, ◌^◌, Bool, cond, List, ◌++◌}
+use Rattle.std.proofs.Common.{arith, count_by, length, length-append, min, take}
 use Rattle.std.proofs.lemmas.List.Sums.{sum_by-append}
 use Rattle.smap_trace.specs.Pieces.{IsWhole}
 use Rattle.smap_trace.specs.TraceLaws.{EndsItsLine, PartsAreTranslated, sum_of}

@@ -1,24 +1,20 @@
 -- The pieces of a line, joined and as they are written.
-use Rattle.std.proofs.Common.{◌≡◌, ◌∙◌, ◌⊎◌, ℕ, zero, suc, ◌+◌, ◌-◌, ◌<◌, Bool, true, false, cond, ◌||◌}
-use Rattle.std.proofs.Common.{List, [], ◌∷◌, ◌++◌, length, take, drop, flat_map, nat_lt, unwrap_or}
-use Rattle.std.proofs.Common.{Option, Some, None, refl, sym, ap, arith, inl, inr}
-use Rattle.std.proofs.Common.{append-nil, length-append, Result, Ok, Err, OnOk}
+use Rattle.std.proofs.Common.{◌≡◌, ◌⊎◌, ℕ, zero, suc, ◌-◌, ◌<◌, Bool, true, false}
+use Rattle.std.proofs.Common.{List, [], ◌∷◌, ◌++◌, drop, flat_map}
+use Rattle.std.proofs.Common.{Option, Some, None, refl, ap, arith, inl, inr}
+use Rattle.std.proofs.Common.{append-nil, length-append, Result, OnOk}
 use Rattle.std.specs.List.{list_any}
-use Rattle.std.specs.Option.{is_some, option_map_or}
 use Rattle.std.proofs.lemmas.Bool.{or_parts}
 use Rattle.std.proofs.lemmas.Bool.Decides.{Decides-eqb}
 use Rattle.std.proofs.lemmas.List.{take-append-drop}
 use Rattle.std.proofs.lemmas.Slice.Eq.{ends_is}
-use Rattle.smap_record.specs.Record.{Origin, Record}
-use Rattle.smap_trace.specs.Anywhere.{Occurrence, Piece, bytes_of, cut, longer, longest, may_begin}
+use Rattle.smap_trace.specs.Anywhere.{Occurrence, Piece, bytes_of, cut, longer, longest}
 use Rattle.smap_trace.specs.Anywhere.{more_of, occurrence_between, occurrence_of, piece_at, pieces_of}
-use Rattle.smap_trace.specs.Frame.{FrameParts, position_text}
 use Rattle.smap_trace.specs.Laws.{PiecesAreTheLine}
-use Rattle.smap_trace.specs.Reading.{frame_of}
 use Rattle.smap_trace.specs.Scripts.{Script}
-use Rattle.smap_trace.specs.Translation.{anywhere_fate, fate_at, fate_in, feed_of}
-use Rattle.smap_trace.specs.Translation.{frame_fate, has_line_feed, is_dropped, is_replaced, kept, map_for}
-use Rattle.smap_trace.specs.Translation.{origin_at, replaced, translated, without_line_feed, written}
+use Rattle.smap_trace.specs.Translation.{anywhere_fate, feed_of}
+use Rattle.smap_trace.specs.Translation.{frame_fate, has_line_feed, is_dropped, is_replaced}
+use Rattle.smap_trace.specs.Translation.{without_line_feed, written}
 use Rattle.smap_trace.specs.Translation.{written_for}
 use Rattle.smap_trace.proofs.PositionLemmas.{length_position, position_found}
 

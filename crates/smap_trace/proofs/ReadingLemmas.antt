@@ -1,8 +1,8 @@
 -- What is written as a frame is read as that frame.
-use Rattle.std.proofs.Common.{◌≡◌, ◌≢◌, ◌∙◌, ℕ, ◌+◌, ◌-◌, ◌≤◌, ◌==◌, Bool, true, false, not, ◌&&◌, List}
-use Rattle.std.proofs.Common.{[], ◌∷◌, ◌++◌, length, take, drop, reverse, Some, refl, sym, ap, subst, arith}
+use Rattle.std.proofs.Common.{◌≡◌, ◌≢◌, ◌∙◌, ℕ, ◌+◌, ◌-◌, ◌≤◌, ◌==◌, Bool, true, false, not, List}
+use Rattle.std.proofs.Common.{[], ◌∷◌, ◌++◌, length, take, drop, reverse, Some, refl, sym, ap, arith}
 use Rattle.std.proofs.Common.{append_assoc, length-append, decimal, codes, slice_range}
-use Rattle.std.specs.List.{list_all, prefix_len, suffix_len, before_last, after_last}
+use Rattle.std.specs.List.{list_all, suffix_len, before_last, after_last}
 use Rattle.std.specs.Str.Parse.{AllDigits}
 use Rattle.std.proofs.lemmas.Bool.{and_parts, ne_eqb}
 use Rattle.std.proofs.lemmas.List.{length-reverse, reverse-append}

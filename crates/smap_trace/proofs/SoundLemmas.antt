@@ -1,10 +1,9 @@
 -- What is read as a frame of a line is a frame of that line.
 use Rattle.std.proofs.Common.{◌≡◌, ◌∙◌, ◌⊎◌, inl, inr, ℕ, suc, ◌+◌, ◌-◌, ◌<◌, ◌≤◌, ◌==◌, Bool, true, false}
-use Rattle.std.proofs.Common.{not, cond, ◌&&◌, List, [], ◌∷◌, ◌++◌, length, take, drop, Option, Some}
-use Rattle.std.proofs.Common.{None, refl, sym, ap, subst, arith, append_assoc, append-nil, slice_range}
+use Rattle.std.proofs.Common.{not, List, [], ◌∷◌, ◌++◌, length, take, drop, Some}
+use Rattle.std.proofs.Common.{refl, sym, ap, subst, arith, append_assoc, append-nil, slice_range}
 use Rattle.std.proofs.Common.{nat_eq, nat_lt, length-take, length-drop, length-append, decimal}
 use Rattle.std.proofs.Common.{codes, get_or}
-use Rattle.std.specs.Prelude.{option_map, option_and_then}
 use Rattle.std.specs.List.{starts_with, ends_with, suffix_len, before_last, after_last, prefix_len}
 use Rattle.std.specs.List.{position_or_len}
 use Rattle.std.specs.Str.Lines.{strip_carriage_return}
