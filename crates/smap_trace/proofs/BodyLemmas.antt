@@ -1,18 +1,14 @@
 -- A line without its carriage return, and whether it begins with spaces and `at `.
-use Rattle.std.proofs.Common.{◌≡◌, ◌∙◌, inl, inr, ℕ, suc, ◌+◌, ◌-◌, ◌<◌, ◌≤◌, ◌==◌, Bool, true, false}
-use Rattle.std.proofs.Common.{not, List, [], ◌∷◌, ◌++◌, length, take, drop}
-use Rattle.std.proofs.Common.{refl, sym, ap, arith, append_assoc}
-use Rattle.std.proofs.Common.{slice_index, nat_eq, length-take, length-append}
-use Rattle.std.proofs.Common.{codes, get_or}
-use Rattle.std.specs.List.{starts_with, prefix_len}
-use Rattle.std.specs.List.{position_or_len, list_all}
+use Rattle.std.proofs.Common.{◌≡◌, ◌∙◌, inl, inr, ℕ, suc, ◌+◌, ◌-◌, ◌<◌, ◌≤◌, ◌==◌, Bool, true, false, not}
+use Rattle.std.proofs.Common.{List, [], ◌∷◌, ◌++◌, length, take, drop, refl, sym, ap, arith, append_assoc}
+use Rattle.std.proofs.Common.{slice_index, nat_eq, length-take, length-append, codes, get_or}
+use Rattle.std.specs.List.{starts_with, prefix_len, position_or_len, list_all}
 use Rattle.std.specs.Str.Lines.{strip_carriage_return}
 use Rattle.std.proofs.lemmas.Bool.{and_parts, cases_lt, cond_both, not-true}
 use Rattle.std.proofs.lemmas.List.{take-append-drop, take-take, drop_more}
 use Rattle.std.proofs.Math.Seq.{take-append_seam, drop-append_seam, drop-length, get_or-append_seam}
 use Rattle.std.proofs.lemmas.Bool.Decides.{Decides-eqb}
-use Rattle.smap_trace.specs.Frame.{AreSpaces, IsLineEnd}
-use Rattle.smap_trace.specs.Frame.{BeginsWithAt, lacks}
+use Rattle.smap_trace.specs.Frame.{AreSpaces, IsLineEnd, BeginsWithAt, lacks}
 use Rattle.smap_trace.specs.Reading.{is_space}
 use Rattle.smap_trace.proofs.CutLemmas.{begins_with}
 

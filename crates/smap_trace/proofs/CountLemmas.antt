@@ -4,8 +4,7 @@ use Rattle.std.proofs.Common.{count_by, refl, ap, arith}
 use Rattle.std.proofs.lemmas.List.Sums.{sum_by-cons}
 use Rattle.smap_trace.specs.declared.outcome.Counts.{Counts}
 use Rattle.smap_trace.specs.Pieces.{count_line, count_lines}
-use Rattle.smap_trace.specs.Translation.{Fate, dropped, is_dropped, is_translated, kept}
-use Rattle.smap_trace.specs.Translation.{lines_of, translated}
+use Rattle.smap_trace.specs.Translation.{Fate, dropped, is_dropped, is_translated, kept, lines_of, translated}
 use Rattle.smap_trace.specs.Views.{at_most_u64, counts_by, outcome_of}
 
 abbrev counts : ℕ → ℕ → ℕ → Counts

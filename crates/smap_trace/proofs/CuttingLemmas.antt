@@ -8,13 +8,11 @@ use Rattle.std.specs.List.{list_any, prefix_len, starts_with}
 use Rattle.std.proofs.Math.Seq.{drop-cons, take-add, take-suc}
 use Rattle.std.proofs.lemmas.Bool.{or_parts}
 use Rattle.std.proofs.lemmas.Bool.Decides.{nat_tests}
-use Rattle.std.proofs.lemmas.List.{drop-drop, drop_all, get_or-drop, length-drop, take_more}
-use Rattle.std.proofs.lemmas.List.{map-append}
+use Rattle.std.proofs.lemmas.List.{drop-drop, drop_all, get_or-drop, length-drop, take_more, map-append}
 use Rattle.std.proofs.lemmas.List.Folds.{list_any-append}
 use Rattle.std.proofs.lemmas.Grind.{flat_map-append}
-use Rattle.smap_trace.specs.Anywhere.{Occurrence, Piece, byte, cut, found, longest}
-use Rattle.smap_trace.specs.Anywhere.{line_and_column, number_after, occurrence_between, occurrence_of}
-use Rattle.smap_trace.specs.Anywhere.{place_after, query_len}
+use Rattle.smap_trace.specs.Anywhere.{Occurrence, Piece, byte, cut, found, longest, line_and_column}
+use Rattle.smap_trace.specs.Anywhere.{number_after, occurrence_between, occurrence_of, place_after, query_len}
 use Rattle.smap_trace.specs.Cutting.{has_place, pieces_from}
 use Rattle.smap_trace.specs.Frame.{IsPlace}
 use Rattle.smap_trace.specs.OccurrenceView.{IsWithin, occurrence_in}

@@ -1,8 +1,7 @@
 -- Scripts in a table by their URLs.
-use Rattle.std.proofs.Common.{◌≡◌, ◌∙◌, inl, inr, ℕ, zero, suc, ◌+◌, ◌<◌, Bool, true, false, ◌||◌, List, [], ◌∷◌, ◌++◌}
-use Rattle.std.proofs.Common.{length, map, take, Bor, get_or, option_map, refl, sym, ap, arith, bytes_eq}
-use Rattle.std.proofs.Common.{Some, None}
-use Rattle.std.proofs.Common.{length-take}
+use Rattle.std.proofs.Common.{◌≡◌, ◌∙◌, inl, inr, ℕ, zero, suc, ◌+◌, ◌<◌, Bool, true, false, ◌||◌, List, []}
+use Rattle.std.proofs.Common.{◌∷◌, ◌++◌, length, map, take, Bor, get_or, option_map, refl, sym, ap, arith}
+use Rattle.std.proofs.Common.{bytes_eq, Some, None, length-take}
 use Rattle.std.specs.List.{list_any, take-map}
 use Rattle.std.specs.Map.{lookup, lookup_key}
 use Rattle.std.proofs.lemmas.List.{get_or-map, get_or-take, length-map, map-append, take_more}

@@ -1,7 +1,6 @@
 -- An occurrence is of the script with its URL.
-use Rattle.std.proofs.Common.{◌≡◌, ◌∙◌, inl, inr, ℕ, suc, ◌<◌, Bool}
-use Rattle.std.proofs.Common.{List, [], ◌∷◌, length, Some}
-use Rattle.std.proofs.Common.{bytes_eq, refl, sym, arith}
+use Rattle.std.proofs.Common.{◌≡◌, ◌∙◌, inl, inr, ℕ, suc, ◌<◌, Bool, List, [], ◌∷◌, length, Some, bytes_eq}
+use Rattle.std.proofs.Common.{refl, sym, arith}
 use Rattle.std.specs.Prelude.{slice_index_or}
 use Rattle.std.proofs.lemmas.Bool.{cases_Bool}
 use Rattle.std.proofs.lemmas.Slice.Eq.{bytes_eq-Decides}

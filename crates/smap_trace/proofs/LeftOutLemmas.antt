@@ -1,8 +1,7 @@
 -- Scripts that are left out.
-use Rattle.std.proofs.Common.{◌≡◌, ◌∙◌, inl, inr, ℕ, zero, suc, ◌-◌, ◌≤◌, Bool, true, false}
-use Rattle.std.proofs.Common.{cond, List, [], ◌∷◌, ◌++◌, length, take, filter, flat_map, count_by, bytes_eq}
-use Rattle.std.proofs.Common.{Option, Some, None, refl, sym, ap, subst, arith, slice_range}
-use Rattle.std.proofs.Common.{true≢false}
+use Rattle.std.proofs.Common.{◌≡◌, ◌∙◌, inl, inr, ℕ, zero, suc, ◌-◌, ◌≤◌, Bool, true, false, cond, List, []}
+use Rattle.std.proofs.Common.{◌∷◌, ◌++◌, length, take, filter, flat_map, count_by, bytes_eq, Option, Some}
+use Rattle.std.proofs.Common.{None, refl, sym, ap, subst, arith, slice_range, true≢false}
 use Rattle.std.specs.Prelude.{Contains}
 use Rattle.std.specs.List.{list_any}
 use Rattle.std.specs.Map.{keys_of}
@@ -20,10 +19,8 @@ use Rattle.smap_trace.specs.Reading.{frame_of}
 use Rattle.smap_trace.specs.Scripts.{Script, map_of}
 use Rattle.smap_trace.specs.TraceLaws.{AreAlike, Finds, IsFoundIn, IsInFrame, IsOfFrame, NamedSuffice}
 use Rattle.smap_trace.specs.TraceLaws.{Names, UnfoundAreLeftOut, UnnamedAreLeftOut, is_named}
-use Rattle.smap_trace.specs.Translation.{Fate, fate_found, fate_in, frame_fate}
-use Rattle.smap_trace.specs.Translation.{is_dropped, is_translated, kept, line_translation_by, lines_of}
-use Rattle.smap_trace.specs.Translation.{map_for}
-use Rattle.smap_trace.specs.Translation.{without_line_feed}
+use Rattle.smap_trace.specs.Translation.{Fate, fate_found, fate_in, frame_fate, is_dropped, is_translated}
+use Rattle.smap_trace.specs.Translation.{kept, line_translation_by, lines_of, map_for, without_line_feed}
 use Rattle.smap_trace.specs.Views.{at_most_u64}
 use Rattle.smap_trace.specs.declared.finding.Finding.{Finding}
 use Rattle.smap_trace.proofs.ByLengthLemmas.{either, url_length}

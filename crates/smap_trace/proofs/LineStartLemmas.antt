@@ -1,7 +1,6 @@
 -- Where the mappings of each line begin, and what the count of a search is at least and at most.
-use Rattle.std.proofs.Common.{◌≡◌, ◌∙◌, ℕ, ◌+◌, ◌-◌, ◌/◌, ◌<◌, ◌≤◌, true, false, List, length, map}
-use Rattle.std.proofs.Common.{get_or, nat_le, None, arith, ap, inl, inr, slice_get}
-use Rattle.std.proofs.Common.{slice_index, Some}
+use Rattle.std.proofs.Common.{◌≡◌, ◌∙◌, ℕ, ◌+◌, ◌-◌, ◌/◌, ◌<◌, ◌≤◌, true, false, List, length, map, get_or}
+use Rattle.std.proofs.Common.{nat_le, None, arith, ap, inl, inr, slice_get, slice_index, Some}
 use Rattle.std.proofs.lemmas.Bool.{cases_Bool, cases_lt}
 use Rattle.std.proofs.lemmas.Bool.Decides.{nat_tests}
 use Rattle.std.proofs.lemmas.List.{length-map}

@@ -1,7 +1,6 @@
 -- What `memchr` and `memrchr` find, in terms of lists.
-use Rattle.std.proofs.Common.{◌≡◌, ◌∙◌, ℕ, ◌+◌, ◌-◌, ◌<◌, ◌≤◌, ◌==◌, Bool, true, false, not}
-use Rattle.std.proofs.Common.{List, [], length, take, drop, get_or, Some, None}
-use Rattle.std.proofs.Common.{refl, sym, ap, arith}
+use Rattle.std.proofs.Common.{◌≡◌, ◌∙◌, ℕ, ◌+◌, ◌-◌, ◌<◌, ◌≤◌, ◌==◌, Bool, true, false, not, List, [], length}
+use Rattle.std.proofs.Common.{take, drop, get_or, Some, None, refl, sym, ap, arith}
 use Rattle.std.specs.List.{suffix_len, position_or_len, before_last, after_last}
 use Rattle.std.proofs.lemmas.Bool.{false_from_ne_true}
 use Rattle.std.proofs.lemmas.List.Sums.{position_or_len_is, suffix_len_is}

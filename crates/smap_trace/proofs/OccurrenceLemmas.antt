@@ -1,7 +1,6 @@
 -- The longest of several occurrences.
-use Rattle.std.proofs.Common.{◌≡◌, ◌∙◌, ◌⊎◌, ℕ, ◌+◌, ◌<◌, Bool, true, false, cond, List}
-use Rattle.std.proofs.Common.{length, drop, get_or, Option, Some, None, IfSome, nat_lt}
-use Rattle.std.proofs.Common.{refl, sym, ap, arith, inl, inr}
+use Rattle.std.proofs.Common.{◌≡◌, ◌∙◌, ◌⊎◌, ℕ, ◌+◌, ◌<◌, Bool, true, false, cond, List, length, drop, get_or}
+use Rattle.std.proofs.Common.{Option, Some, None, IfSome, nat_lt, refl, sym, ap, arith, inl, inr}
 use Rattle.std.proofs.lemmas.Bool.Decides.{nat_tests}
 use Rattle.std.proofs.lemmas.List.{at_drop_more}
 use Rattle.smap_record.specs.Record.{Record, record_of}

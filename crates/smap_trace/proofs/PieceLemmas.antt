@@ -1,8 +1,7 @@
 -- The pieces of a line, joined and as they are written.
-use Rattle.std.proofs.Common.{◌≡◌, ◌⊎◌, ℕ, zero, suc, ◌-◌, ◌<◌, Bool, true, false}
-use Rattle.std.proofs.Common.{List, [], ◌∷◌, ◌++◌, drop, flat_map}
-use Rattle.std.proofs.Common.{Option, Some, None, refl, ap, arith, inl, inr}
-use Rattle.std.proofs.Common.{append-nil, length-append, Result, OnOk}
+use Rattle.std.proofs.Common.{◌≡◌, ◌⊎◌, ℕ, zero, suc, ◌-◌, ◌<◌, Bool, true, false, List, [], ◌∷◌, ◌++◌, drop}
+use Rattle.std.proofs.Common.{flat_map, Option, Some, None, refl, ap, arith, inl, inr, append-nil}
+use Rattle.std.proofs.Common.{length-append, Result, OnOk}
 use Rattle.std.specs.List.{list_any}
 use Rattle.std.proofs.lemmas.Bool.{or_parts}
 use Rattle.std.proofs.lemmas.Bool.Decides.{Decides-eqb}
@@ -12,10 +11,8 @@ use Rattle.smap_trace.specs.Anywhere.{Occurrence, Piece, bytes_of, cut, longer, 
 use Rattle.smap_trace.specs.Anywhere.{more_of, occurrence_between, occurrence_of, piece_at, pieces_of}
 use Rattle.smap_trace.specs.Laws.{PiecesAreTheLine}
 use Rattle.smap_trace.specs.Scripts.{Script}
-use Rattle.smap_trace.specs.Translation.{anywhere_fate, feed_of}
-use Rattle.smap_trace.specs.Translation.{frame_fate, has_line_feed, is_dropped, is_replaced}
-use Rattle.smap_trace.specs.Translation.{without_line_feed, written}
-use Rattle.smap_trace.specs.Translation.{written_for}
+use Rattle.smap_trace.specs.Translation.{anywhere_fate, feed_of, frame_fate, has_line_feed, is_dropped}
+use Rattle.smap_trace.specs.Translation.{is_replaced, without_line_feed, written, written_for}
 use Rattle.smap_trace.proofs.PositionLemmas.{length_position, position_found}
 
 -- ---- an occurrence takes bytes

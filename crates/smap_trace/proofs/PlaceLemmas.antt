@@ -1,8 +1,7 @@
 -- The decimal form of a place, read digit by digit.
-use Rattle.std.proofs.Common.{◌≡◌, ◌∙◌, ℕ, suc, ◌+◌, ◌*◌, ◌^◌, ◌<◌, ◌≤◌, true, false}
-use Rattle.std.proofs.Common.{List, [], ◌∷◌, length, drop, get_or, Option, Some, None, MatchOption}
-use Rattle.std.proofs.Common.{arith, rules, codes, decimal, bytes_eq, nat_eq, nat_lt, nat_le}
-use Rattle.std.proofs.Common.{refl, sym, ap, subst}
+use Rattle.std.proofs.Common.{◌≡◌, ◌∙◌, ℕ, suc, ◌+◌, ◌*◌, ◌^◌, ◌<◌, ◌≤◌, true, false, List, [], ◌∷◌, length}
+use Rattle.std.proofs.Common.{drop, get_or, Option, Some, None, MatchOption, arith, rules, codes, decimal}
+use Rattle.std.proofs.Common.{bytes_eq, nat_eq, nat_lt, nat_le, refl, sym, ap, subst}
 use Rattle.std.specs.Char.{IsNotAsciiDigit, digit_value}
 use Rattle.std.specs.List.{starts_with}
 use Rattle.std.specs.Str.Parse.{AllDigits, IsNumeral, digits_value, digits_value_after}

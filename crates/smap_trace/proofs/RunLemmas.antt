@@ -1,8 +1,7 @@
 -- What was read and written, over a whole run.
-use Rattle.std.proofs.Common.{◌≡◌, ◌∙◌, ℕ, ◌==◌, ◌≤◌, Bool, true, false, not, cond, ◌||◌, List, [], ◌∷◌}
-use Rattle.std.proofs.Common.{◌++◌, take, drop, length, arith}
-use Rattle.std.proofs.Common.{Option, refl, sym, ap, subst, inl, inr, append_assoc, append-nil, Result, Ok}
-use Rattle.std.proofs.Common.{Err, OnOk, OnErr, IfOk}
+use Rattle.std.proofs.Common.{◌≡◌, ◌∙◌, ℕ, ◌==◌, ◌≤◌, Bool, true, false, not, cond, ◌||◌, List, [], ◌∷◌, ◌++◌}
+use Rattle.std.proofs.Common.{take, drop, length, arith, Option, refl, sym, ap, subst, inl, inr, append_assoc}
+use Rattle.std.proofs.Common.{append-nil, Result, Ok, Err, OnOk, OnErr, IfOk}
 use Rattle.std.specs.List.{list_any}
 use Rattle.std.proofs.lemmas.Bool.{not-true}
 use Rattle.std.proofs.lemmas.List.Folds.{list_any-append}

@@ -1,9 +1,8 @@
 -- What is read as a frame of a line is a frame of that line.
 use Rattle.std.proofs.Common.{◌≡◌, ◌∙◌, ◌⊎◌, inl, inr, ℕ, suc, ◌+◌, ◌-◌, ◌<◌, ◌≤◌, ◌==◌, Bool, true, false}
-use Rattle.std.proofs.Common.{not, List, [], ◌∷◌, ◌++◌, length, take, drop, Some}
-use Rattle.std.proofs.Common.{refl, sym, ap, subst, arith, append_assoc, append-nil, slice_range}
-use Rattle.std.proofs.Common.{nat_eq, nat_lt, length-take, length-drop, length-append, decimal}
-use Rattle.std.proofs.Common.{codes, get_or}
+use Rattle.std.proofs.Common.{not, List, [], ◌∷◌, ◌++◌, length, take, drop, Some, refl, sym, ap, subst, arith}
+use Rattle.std.proofs.Common.{append_assoc, append-nil, slice_range, nat_eq, nat_lt, length-take, length-drop}
+use Rattle.std.proofs.Common.{length-append, decimal, codes, get_or}
 use Rattle.std.specs.List.{starts_with, ends_with, suffix_len, before_last, after_last, prefix_len}
 use Rattle.std.specs.List.{position_or_len}
 use Rattle.std.specs.Str.Lines.{strip_carriage_return}
@@ -13,8 +12,7 @@ use Rattle.std.proofs.Math.Seq.{take-append_seam, drop-append_seam, take-add}
 use Rattle.std.proofs.lemmas.List.Sums.{passes_at_first, suffix_len-le-length}
 use Rattle.std.proofs.lemmas.Slice.Eq.{ends_is}
 use Rattle.std.proofs.lemmas.Bool.Decides.{nat_tests, Decides-eqb}
-use Rattle.smap_trace.specs.Frame.{FrameParts, IsPlace, IsLineEnd, InParentheses, Alone}
-use Rattle.smap_trace.specs.Frame.{AfterAsync}
+use Rattle.smap_trace.specs.Frame.{FrameParts, IsPlace, IsLineEnd, InParentheses, Alone, AfterAsync}
 use Rattle.smap_trace.specs.Frame.{BeginsWithAt, IsFrame, lacks, position_text}
 use Rattle.smap_trace.specs.Reading.{body_frame, firefox_frame, frame_of, framed, in_parentheses, is_colon}
 use Rattle.smap_trace.specs.Reading.{is_space, is_url, place_of, v8_frame}

@@ -1,5 +1,4 @@
-use Rattle.std.proofs.Common.{◌≡◌, ◌∙◌, ◌+◌, ◌<◌, true, length, drop, get_or, sym}
-use Rattle.std.proofs.Common.{arith, length-drop, rules}
+use Rattle.std.proofs.Common.{◌≡◌, ◌∙◌, ◌+◌, ◌<◌, true, length, drop, get_or, sym, arith, length-drop, rules}
 use Rattle.std.specs.Char.{is_ascii_digit}
 use Rattle.std.proofs.lemmas.Bool.{eqb-true}
 use Rattle.smap_trace.proofs.CuttingLemmas.{behind_colon, no_colon}

@@ -1,13 +1,11 @@
-use Rattle.std.proofs.Common.{◌∙◌, ◌+◌, ◌++◌, ℕ, List, drop, ap}
-use Rattle.std.proofs.Common.{flat_map, slice_range}
+use Rattle.std.proofs.Common.{◌∙◌, ◌+◌, ◌++◌, ℕ, List, drop, ap, flat_map, slice_range}
 use Rattle.std.specs.Io.{StartsWith}
 use Rattle.std.specs.List.{list_any}
 use Rattle.smap_trace.specs.Anywhere.{Piece, found, pieces_of}
 use Rattle.smap_trace.specs.Cutting.{pieces_from}
 use Rattle.smap_trace.specs.OccurrenceView.{occurrence_in}
 use Rattle.smap_trace.specs.Translation.{is_replaced, written_for}
-use Rattle.smap_trace.proofs.CuttingLemmas.{replaced_all, replaced_on, written_all}
-use Rattle.smap_trace.proofs.CuttingLemmas.{written_on}
+use Rattle.smap_trace.proofs.CuttingLemmas.{replaced_all, replaced_on, written_all, written_on}
 use Rattle.smap_trace.proofs.LineLemmas.{left_is}
 use Rattle.smap_trace.proofs.StartsLemmas.{on_err, starts_append, starts_trans}
 use Rattle.smap_trace.proofs.anywhere.push_pieces.Goals as goal

@@ -1,5 +1,4 @@
-use Rattle.std.proofs.Common.{sym, Some, rules, arith}
-use Rattle.std.proofs.Common.{ℕ, length-drop}
+use Rattle.std.proofs.Common.{sym, Some, rules, arith, ℕ, length-drop}
 use Rattle.std.proofs.lemmas.List.{take_all}
 use Rattle.smap_trace.proofs.PlaceLemmas.{place_is}
 use Rattle.smap_trace.proofs.FrameLemmas.{framed_is}

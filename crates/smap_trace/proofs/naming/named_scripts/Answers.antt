@@ -1,6 +1,5 @@
 use Rattle.std.proofs.Common.{◌≡◌, ◌≢◌, ◌∙◌, ◌<◌, ◌≤◌, ◌++◌, ℕ, List, ap, subst, take, rules, arith, true}
-use Rattle.std.proofs.Common.{length}
-use Rattle.std.proofs.Common.{length-take, length-append}
+use Rattle.std.proofs.Common.{length, length-take, length-append}
 use Rattle.smap_io.specs.Device.{has_ended}
 use Rattle.smap_io.specs.Reading.{Gave}
 use Rattle.smap_io.proofs.ReadingLemmas.{Gave-then}

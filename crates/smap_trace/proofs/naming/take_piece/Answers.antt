@@ -1,6 +1,5 @@
 use Rattle.std.proofs.Common.{◌≡◌, ◌∙◌, ℕ, ◌+◌, ◌<◌, List, ◌++◌, [], length, take, drop, get_or, sym, ap}
-use Rattle.std.proofs.Common.{arith}
-use Rattle.std.proofs.Common.{length-drop}
+use Rattle.std.proofs.Common.{arith, length-drop}
 use Rattle.std.specs.List.{cons_option}
 use Rattle.std.proofs.lemmas.Bool.{eqb-true}
 use Rattle.std.proofs.lemmas.List.{take-append-drop}

@@ -1,5 +1,4 @@
-use Rattle.std.proofs.Common.{◌≡◌, true, false, rules, ◌+◌, ◌*◌, ◌-◌, ◌/◌, ◌≤◌, arith, Some}
-use Rattle.std.proofs.Common.{slice_get, ◌∙◌}
+use Rattle.std.proofs.Common.{◌≡◌, true, false, rules, ◌+◌, ◌*◌, ◌-◌, ◌/◌, ◌≤◌, arith, Some, slice_get, ◌∙◌}
 use Rattle.smap_trace.specs.Positions.{position_in, is_at_most}
 use Rattle.smap_trace.proofs.HalvingLemmas.{few, halved_once, one_step, counts_past, counts_up_to}
 use Rattle.smap_trace.proofs.searching.search_between.Goals as goal
