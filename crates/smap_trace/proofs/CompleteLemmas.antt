@@ -165,8 +165,7 @@ looks_async line spaces pos last x are line_end ends no_cr no_paren one whole =
     omega (arith, start, rest_len) in
     to_v8 line spaces rest last x are line_end (longer (codes "async ") pos x ends) no_cr one whole'
     ∙ v8_async line front pos last x whole' ends no_paren
-    ∙ ap (λ n. framed line n (length front + length rest)) start
-    ∙ ap (λ n. framed line (length (front ++ codes "async ")) n) end
+    ∙ rw (start, end) refl
 
 looks_parens : (line spaces name pos last : List ℕ) → AreSpaces spaces → IsLineEnd last
     → list_all (λ b. not (b == 32)) pos ≡ true
@@ -264,8 +263,8 @@ complete line f is =
     let url : is_url f.url ≡ true = rw (lt-ltb 0 (length f.url) is.some_url) is.no_space in
     let whole : line ≡ f.before ++ (pos ++ f.after) = is.whole ∙ append_assoc f.before pos f.after in
     looks f.before whole is.form d.0 d.3 no_cr no_paren free
-    ∙ ap (λ (xs : List ℕ). framed xs (length f.before) (length f.before + length pos)) is.whole
-    ∙ framed-position_text f.before f.url f.after f.line f.column url is.line_place is.column_place
+    ∙ rw is.whole
+    (framed-position_text f.before f.url f.after f.line f.column url is.line_place is.column_place)
   where
     looks : (before : List ℕ) → line ≡ f.before ++ (position_text f.url f.line f.column ++ f.after)
         → IsV8 f ⊎ ((BeginsWithAt line → ⊥) × IsFirefox f)

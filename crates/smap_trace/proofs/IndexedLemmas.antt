@@ -68,12 +68,11 @@ one_more es xs i d k v lt so_far distinct key value =
     let len : length (scripts_in xs) ≡ length xs = length-map xs script_in in
     let here : get_or (scripts_in xs) i (script_in d) ≡ script_in (get_or xs i d) =
     get_or-map script_in xs i d (script_in d) lt in
+    let url : k.now ≡ (get_or (scripts_in xs) i (script_in d)).0 =
+    key ∙ ap (λ (s : Script). s.0) (sym here) in
     let none : list_any (λ (s : Script). bytes_eq k.now s.0) (scripts_in es) ≡ false =
-    ap (λ (ss : List Script). list_any (λ (s : Script). bytes_eq k.now s.0) ss)
-    (so_far ∙ sym (take-map script_in i xs))
-    ∙ ap (λ (u : List ℕ). list_any (λ (s : Script). bytes_eq u s.0) (take i (scripts_in xs)))
-    (key ∙ ap (λ (s : Script). s.0) (sym here))
-    ∙ absent (scripts_in xs) i (script_in d) distinct (omega (arith, len, lt)) in
+    rw (so_far, ← take-map script_in i xs, url)
+    (absent (scripts_in xs) i (script_in d) distinct (omega (arith, len, lt))) in
     let last : ◌≡◌ {A = Script} (k.now, record_of v.now) (script_in (get_or xs i d)) = rw (key, value) refl in
     insert_new k v es none ∙ ap (λ (ss : List Script). ss ++ (k.now, record_of v.now) ∷ []) so_far
     ∙ ap (λ (s : Script). scripts_in (take i xs) ++ s ∷ []) last

@@ -112,24 +112,28 @@ place_here l c t lp cp stop =
     behind : (ds t : List ℕ) → drop (length ds + 1) (58 ∷ (ds ++ t)) ≡ t
     behind ds t = let one : length ds + 1 ≡ suc (length ds) = omega arith in rw one (drop-append_seam ds t)
 
--- The text is this place, and a rest that no digit begins.
-record IsPlaceThen (text : List ℕ) (p : Place) : Type 0 where
+-- The text is what is ignored, this place, and a rest that no digit begins.
+record IsPlacedThen (ignore : Bool) (text : List ℕ) (p : Place) : Type 0 where
+  query : List ℕ
   rest : List ℕ
+  ignored : IsIgnored ignore query
   line_place : IsPlace p.line
   column_place : IsPlace p.column
   stops : list_any is_ascii_digit (take 1 rest) ≡ false
-  whole : text ≡ 58 ∷ (decimal p.line ++ (58 ∷ (decimal p.column ++ rest)))
-  width_is : p.width ≡ length (decimal p.line) + 1 + (length (decimal p.column) + 1)
+  whole : text ≡ query ++ (58 ∷ (decimal p.line ++ (58 ∷ (decimal p.column ++ rest))))
+  width_is : p.width ≡ length query + (length (decimal p.line) + 1 + (length (decimal p.column) + 1))
 
 two_numbers : (text : List ℕ) (l m c n : ℕ) → IsNumberThen text l m → number_after (drop m text) ≡ Some (c, n)
-    → IsPlaceThen text (record { line = l; column = c; width = m + n })
+    → IsPlacedThen false text (record { line = l; column = c; width = m + n })
 two_numbers text l m c n first h =
     let one : m ≡ suc (length (decimal l)) = omega (arith, first.width_is) in
     let behind : drop m text ≡ first.rest = ap (λ n. drop n text) one
     ∙ ap (drop (suc (length (decimal l)))) first.whole ∙ drop-append_seam (decimal l) first.rest in
     let second = number_found first.rest c n (sym (ap number_after behind) ∙ h) in
     record {
+      query = [];
       rest = second.rest;
+      ignored = refl;
       line_place = first.place;
       column_place = second.place;
       stops = second.stops;
@@ -137,11 +141,11 @@ two_numbers text l m c n first h =
       width_is = omega (arith, first.width_is, second.width_is);
     }
 
-line_found : (text : List ℕ) (p : Place) → line_and_column text ≡ Some p → IsPlaceThen text p
+line_found : (text : List ℕ) (p : Place) → line_and_column text ≡ Some p → IsPlacedThen false text p
 line_found text p h =
     let l = both_of (λ (l : ℕ × ℕ). option_map (make l) (number_after (drop l.1 text))) (number_after text) p h in
     let c = some_of (make l.0) (number_after (drop l.0.1 text)) p l.2 in
-    subst (IsPlaceThen text) c.2 (two_numbers text l.0.0 l.0.1 c.0.0 c.0.1
+    subst (IsPlacedThen false text) c.2 (two_numbers text l.0.0 l.0.1 c.0.0 c.0.1
     (number_found text l.0.0 l.0.1 l.1) c.1)
   where
     make : (l c : ℕ × ℕ) → Place
@@ -199,38 +203,17 @@ query_here query rest (a, b, e, first, second) = rw e (counted second)
         drop-append_seam a (b ++ 58 ∷ rest) in
         rw apart (rw n (rw (behind, fragment) (sym (length-append a b))))
 
--- The text is what is ignored, this place, and a rest that no digit begins.
-record IsPlacedThen (ignore : Bool) (text : List ℕ) (p : Place) : Type 0 where
-  query : List ℕ
-  rest : List ℕ
-  ignored : IsIgnored ignore query
-  line_place : IsPlace p.line
-  column_place : IsPlace p.column
-  stops : list_any is_ascii_digit (take 1 rest) ≡ false
-  whole : text ≡ query ++ (58 ∷ (decimal p.line ++ (58 ∷ (decimal p.column ++ rest))))
-  width_is : p.width ≡ length query + (length (decimal p.line) + 1 + (length (decimal p.column) + 1))
-
 placed_found : (ignore : Bool) (text : List ℕ) (p : Place) → place_after ignore text ≡ Some p
     → IsPlacedThen ignore text p
-placed_found false text p h =
-    let there = line_found text p h in
-    record {
-      query = [];
-      rest = there.rest;
-      ignored = refl;
-      line_place = there.line_place;
-      column_place = there.column_place;
-      stops = there.stops;
-      whole = there.whole;
-      width_is = omega (arith, there.width_is);
-    }
+placed_found false text p h = line_found text p h
 placed_found true text p h =
     let n = query_len text in
     let q = some_of (λ (q : Place). record { line = q.line; column = q.column; width = n + q.width })
     (line_and_column (drop n text)) p h in
     let there = line_found (drop n text) q.0 q.1 in
-    let within : n ≤ length text =
-    omega (arith, length-drop n text, ap (λ (t : List ℕ). length t) there.whole) in
+    let whole = rw there.ignored at there.whole in
+    let width = rw there.ignored at there.width_is in
+    let within : n ≤ length text = omega (arith, length-drop n text, ap length whole) in
     let wide : length (take n text) ≡ n = length-take-le n text within in
     subst (IsPlacedThen true text) q.2 (record {
       query = take n text;
@@ -239,8 +222,8 @@ placed_found true text p h =
       line_place = there.line_place;
       column_place = there.column_place;
       stops = there.stops;
-      whole = rw (← there.whole, take-append-drop n text) refl;
-      width_is = rw (wide, there.width_is) refl;
+      whole = rw (← whole, take-append-drop n text) refl;
+      width_is = omega (arith, wide, width);
     })
 
 placed_here : (ignore : Bool) (text : List ℕ) (p : Place) → IsPlacedThen ignore text p
