@@ -1,5 +1,5 @@
 -- A line is cut as the relation says, and in no other way.
-use Rattle.std.proofs.Common.{◌≡◌, ◌∙◌, inl, inr, ℕ, suc, ◌-◌, ◌<◌, ◌≤◌, Bool, true, cond, List, [], ◌∷◌}
+use Rattle.std.proofs.Common.{◌≡◌, ◌∙◌, inl, inr, ℕ, ◌≤◌, Bool, true, cond, List, [], ◌∷◌}
 use Rattle.std.proofs.Common.{◌++◌, length, take, drop, flat_map, Option, Some, None, bytes_eq, nat_lt, codes}
 use Rattle.std.proofs.Common.{decimal, refl, sym, ap, subst, arith, append_assoc, append-nil}
 use Rattle.std.specs.Char.{is_ascii_digit}
@@ -15,7 +15,7 @@ use Rattle.smap_trace.specs.Cuts.{IsCut, IsPieceBetween, IsOccurrence, StandsBet
 use Rattle.smap_trace.specs.Frame.{position_text}
 use Rattle.smap_trace.specs.Laws.{CutIsComputed, OneCut}
 use Rattle.smap_trace.specs.Scripts.{AreDistinct, Script, map_of}
-use Rattle.smap_trace.proofs.CuttingLemmas.{skipped}
+use Rattle.smap_trace.proofs.CuttingLemmas.{cut_found}
 use Rattle.smap_trace.proofs.KnownLemmas.{known_between}
 use Rattle.smap_trace.proofs.PieceLemmas.{longest_of, pieces_joined, wide_between}
 use Rattle.smap_trace.proofs.PositionLemmas.{BeginsWithPosition, position_found, position_here}
@@ -209,19 +209,6 @@ module _ (ignore : Bool) (scripts : List Script) where
       → cut ignore scripts before 0 (b ∷ bs) ≡ byte b ∷ cut ignore scripts (before ++ b ∷ []) 0 bs
   cut_byte before b bs none = rw none refl
 
-  cut_found : (before : List ℕ) (b : ℕ) (bs : List ℕ) (o : Occurrence)
-      → occurrence_between ignore scripts before (b ∷ bs) ≡ Some o
-      → cut ignore scripts before 0 (b ∷ bs) ≡ found o (take o.width (b ∷ bs))
-      ∷ cut ignore scripts (before ++ take o.width (b ∷ bs)) 0 (drop o.width (b ∷ bs))
-  cut_found before b bs o is =
-      let some : 0 < o.width = wide_between ignore scripts before (b ∷ bs) o is in
-      let wide : suc (o.width - 1) ≡ o.width = omega (arith, some) in
-      let more : cut ignore scripts (before ++ b ∷ []) (o.width - 1) bs
-      ≡ cut ignore scripts (before ++ take o.width (b ∷ bs)) 0 (drop o.width (b ∷ bs)) =
-      skipped ignore scripts before (b ∷ bs) (suc (o.width - 1))
-      ∙ ap (λ n. cut ignore scripts (before ++ take n (b ∷ bs)) 0 (drop n (b ∷ bs))) wide in
-      rw (is, more) refl
-
   -- The text begins with this piece, and the rest of it is cut into the others.
   record IsFirst (before text : List ℕ) (piece : Piece) (others : List Piece) : Type 0 where
     rest : List ℕ
@@ -248,7 +235,8 @@ module _ (ignore : Bool) (scripts : List Script) where
           → IsFirst before (b ∷ bs) piece others
       go None e = named (byte b) bs (byte_stands before b bs e) (cut_byte before b bs e)
       go (Some o) e = named (found o (take o.width (b ∷ bs))) (drop o.width (b ∷ bs))
-          (found_stands before (b ∷ bs) o distinct e) (cut_found before b bs o e)
+          (found_stands before (b ∷ bs) o distinct e) (cut_found ignore scripts before b bs o
+          (wide_between ignore scripts before (b ∷ bs) o e) e)
 
   -- what is computed are pieces
   pub pieces_stand : (before text : List ℕ) (front back : List Piece) (piece : Piece) → AreDistinct scripts
@@ -282,7 +270,9 @@ module _ (ignore : Bool) (scripts : List Script) where
       ap (λ n. take n (text ++ after)) wide ∙ take-append_seam text after in
       let last : drop o.width (text ++ after) ≡ after =
       ap (λ n. drop n (text ++ after)) wide ∙ drop-append_seam text after in
-      cut_found before c (cs ++ after) o (found_there before text after o distinct is)
+      let is' = found_there before text after o distinct is in
+      cut_found ignore scripts before c (cs ++ after) o
+      (wide_between ignore scripts before (text ++ after) o is') is'
       ∙ rw (first, last) refl
 
   only : (before : List ℕ) (pieces : List Piece) → AreDistinct scripts

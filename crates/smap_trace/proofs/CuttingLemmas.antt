@@ -121,6 +121,18 @@ byte_cut ignore scripts line at lt none =
     rw (split, one, take-suc line at 0 lt) (rw none' refl)
 
 -- where one begins, all of it
+pub cut_found : (ignore : Bool) (scripts : List Script) (before : List ℕ) (b : ℕ) (bs : List ℕ)
+    (o : Occurrence) → 0 < o.width → occurrence_between ignore scripts before (b ∷ bs) ≡ Some o
+    → cut ignore scripts before 0 (b ∷ bs) ≡ found o (take o.width (b ∷ bs))
+    ∷ cut ignore scripts (before ++ take o.width (b ∷ bs)) 0 (drop o.width (b ∷ bs))
+cut_found ignore scripts before b bs o some is =
+    let wide : suc (o.width - 1) ≡ o.width = omega arith in
+    let more : cut ignore scripts (before ++ b ∷ []) (o.width - 1) bs
+    ≡ cut ignore scripts (before ++ take o.width (b ∷ bs)) 0 (drop o.width (b ∷ bs)) =
+    skipped ignore scripts before (b ∷ bs) (suc (o.width - 1))
+    ∙ ap (λ n. cut ignore scripts (before ++ take n (b ∷ bs)) 0 (drop n (b ∷ bs))) wide in
+    rw (is, more) refl
+
 pub found_cut : (ignore : Bool) (scripts : List Script) (line : List ℕ) (at : ℕ) (o : Occurrence)
     → at < length line → 0 < o.width
     → occurrence_between ignore scripts (take at line) (drop at line) ≡ Some o
@@ -128,15 +140,8 @@ pub found_cut : (ignore : Bool) (scripts : List Script) (line : List ℕ) (at : 
     ∷ pieces_from ignore scripts line (at + o.width)
 found_cut ignore scripts line at o lt some is =
     let split : drop at line ≡ get_or line at 0 ∷ drop (suc at) line = drop-cons line at 0 lt in
-    let is' = rw split at is in
-    let before = take at line ++ get_or line at 0 ∷ [] in
-    let bs = drop (suc at) line in
-    let all : suc at + (o.width - 1) ≡ at + o.width = omega arith in
-    let more : drop (o.width - 1) bs ≡ drop (at + o.width) line =
-    drop-drop (o.width - 1) (suc at) line ∙ rw all refl in
-    let front : before ++ take (o.width - 1) bs ≡ take (at + o.width) line =
-    rw (← all, take-add (suc at) (o.width - 1) line, take-suc line at 0 lt) refl in
-    rw (split, is', skipped ignore scripts before bs (o.width - 1), front, more) refl
+    rw split (cut_found ignore scripts (take at line) (get_or line at 0) (drop (suc at) line) o some
+    (rw split at is) ∙ rw (← split, ← take-add at o.width line, drop-drop o.width at line) refl)
 
 -- ---- what is written for bytes
 
