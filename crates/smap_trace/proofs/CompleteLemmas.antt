@@ -62,7 +62,8 @@ pub v8_parens : (line front name pos last : List ℕ)
     (length front + (length name + 2) + length pos)
 v8_parens line front name pos last whole free start end s e =
     let inner = name ++ 32 ∷ (40 ∷ pos) in
-    let whole' : line ≡ front ++ ((inner ++ 41 ∷ []) ++ last) = rw (append_assoc inner (41 ∷ []) last) whole in
+    let whole' : line ≡ front ++ ((inner ++ 41 ∷ []) ++ last) =
+    rw (append_assoc inner (41 ∷ []) last) whole in
     let closed_len : length (inner ++ 41 ∷ []) ≡ length inner + 1 = length-append inner (41 ∷ []) in
     let text : slice_range line start end ≡ inner ++ 41 ∷ [] =
     middle line front (inner ++ 41 ∷ []) last start end whole' s (omega (arith, e, closed_len)) in

@@ -46,7 +46,8 @@ none_between : (ignore : Bool) (scripts : List Script) (before front : List ℕ)
 none_between ignore scripts before [] b bs h =
     rw (append-nil before) (no_piece (occurrence_between ignore scripts before (b ∷ bs)) b bs _ _ h)
 none_between ignore scripts before (x ∷ xs) b bs h =
-    let none = no_piece (occurrence_between ignore scripts before (x ∷ (xs ++ b ∷ bs))) x (xs ++ b ∷ bs) _ _ h in
+    let bytes = xs ++ b ∷ bs in
+    let none = no_piece (occurrence_between ignore scripts before (x ∷ bytes)) x bytes _ _ h in
     let all = rw none at h in
     let rest : cut ignore scripts (before ++ x ∷ []) 0 (xs ++ b ∷ bs) ≡ map byte (xs ++ b ∷ bs) = cc in
     rw (← append_assoc before (x ∷ []) xs) (none_between ignore scripts (before ++ x ∷ []) xs b bs rest)

@@ -1,6 +1,6 @@
 -- Scripts in a table by their URLs.
-use Rattle.std.proofs.Common.{◌≡◌, ◌∙◌, inl, inr, ℕ, zero, suc, ◌+◌, ◌<◌, Bool, true, false, ◌||◌, List, []}
-use Rattle.std.proofs.Common.{◌∷◌, ◌++◌, length, map, take, Bor, get_or, option_map, refl, sym, ap, arith}
+use Rattle.std.proofs.Common.{◌≡◌, ◌∙◌, inl, inr, ℕ, zero, suc, ◌+◌, ◌<◌, false, List, []}
+use Rattle.std.proofs.Common.{◌∷◌, ◌++◌, length, take, Bor, get_or, option_map, refl, sym, ap, arith}
 use Rattle.std.proofs.Common.{bytes_eq, Some, None, length-take}
 use Rattle.std.specs.List.{list_any, take-map}
 use Rattle.std.specs.Map.{lookup, lookup_key}

@@ -25,8 +25,8 @@ place_of_script (s ∷ ss) url r h = elim (cases_Bool (bytes_eq s.0 url)) [
 later : (s : Script) (ss : List Script) → AreDistinct (s ∷ ss) → AreDistinct ss
 later s ss distinct i j d lt within = distinct (suc i) (suc j) d (omega (arith, lt)) (omega (arith, within))
 
-further : (s : Script) (ss : List Script) (o : Occurrence) → AreDistinct (s ∷ ss) → map_of ss o.url ≡ Some o.map
-    → map_of (s ∷ ss) o.url ≡ Some o.map
+further : (s : Script) (ss : List Script) (o : Occurrence) → AreDistinct (s ∷ ss)
+    → map_of ss o.url ≡ Some o.map → map_of (s ∷ ss) o.url ≡ Some o.map
 further s ss o distinct k = elim (cases_Bool (bytes_eq s.0 o.url)) [
   | inl e ↦
       let there = place_of_script ss o.url o.map k in

@@ -1,6 +1,6 @@
 -- What `memchr` and `memrchr` find, in terms of lists.
-use Rattle.std.proofs.Common.{◌≡◌, ◌∙◌, ℕ, ◌+◌, ◌-◌, ◌<◌, ◌≤◌, ◌==◌, Bool, true, false, not, List, [], length}
-use Rattle.std.proofs.Common.{take, drop, get_or, Some, None, refl, sym, ap, arith}
+use Rattle.std.proofs.Common.{◌≡◌, ◌∙◌, ℕ, ◌+◌, ◌-◌, ◌<◌, ◌≤◌, ◌==◌, true, not, List, [], length}
+use Rattle.std.proofs.Common.{take, drop, get_or, Some, None, sym, ap, arith}
 use Rattle.std.specs.List.{suffix_len, position_or_len, before_last, after_last}
 use Rattle.std.proofs.lemmas.Bool.{false_from_ne_true}
 use Rattle.std.proofs.lemmas.List.Sums.{position_or_len_is, suffix_len_is}
@@ -38,8 +38,10 @@ module _ (c : ℕ) (xs : List ℕ) where
 
   pub first_at : (at : ℕ) → IsFirstByte (is_byte c) xs (Some at) → position_or_len (λ b. b == c) xs ≡ at
   first_at at found = position_or_len_is (λ b. b == c) xs at 0 (omega (arith, found.0.high))
-      (λ k below. false_from_ne_true (get_or xs k 0 == c) (found.0.before k (omega arith) below)) (λ _. found.1)
+      (λ k below. false_from_ne_true (get_or xs k 0 == c) (found.0.before k (omega arith) below))
+      (λ _. found.1)
 
   pub no_first : IsFirstByte (is_byte c) xs None → position_or_len (λ b. b == c) xs ≡ length xs
   no_first none = position_or_len_is (λ b. b == c) xs (length xs) 0 (omega arith)
-      (λ k below. false_from_ne_true (get_or xs k 0 == c) (none k (omega arith) below)) (λ below. absurd (omega arith))
+      (λ k below. false_from_ne_true (get_or xs k 0 == c) (none k (omega arith) below))
+      (λ below. absurd (omega arith))

@@ -1,6 +1,6 @@
 -- The longest of several occurrences.
-use Rattle.std.proofs.Common.{◌≡◌, ◌∙◌, ◌⊎◌, ℕ, ◌+◌, ◌<◌, Bool, true, false, cond, List, length, drop, get_or}
-use Rattle.std.proofs.Common.{Option, Some, None, IfSome, nat_lt, refl, sym, ap, arith, inl, inr}
+use Rattle.std.proofs.Common.{◌≡◌, ◌∙◌, ◌⊎◌, ℕ, ◌+◌, ◌<◌, Bool, List, length, drop, get_or}
+use Rattle.std.proofs.Common.{Option, IfSome, sym, ap, arith, inl, inr}
 use Rattle.std.proofs.lemmas.Bool.Decides.{nat_tests}
 use Rattle.std.proofs.lemmas.List.{at_drop_more}
 use Rattle.smap_record.specs.Record.{Record, record_of}

@@ -143,7 +143,8 @@ two_numbers text l m c n first h =
 
 line_found : (text : List ℕ) (p : Place) → line_and_column text ≡ Some p → IsPlacedThen false text p
 line_found text p h =
-    let l = both_of (λ (l : ℕ × ℕ). option_map (make l) (number_after (drop l.1 text))) (number_after text) p h in
+    let l = both_of (λ (l : ℕ × ℕ). option_map (make l) (number_after (drop l.1 text))) (number_after text) p
+    h in
     let c = some_of (make l.0) (number_after (drop l.0.1 text)) p l.2 in
     subst (IsPlacedThen false text) c.2 (two_numbers text l.0.0 l.0.1 c.0.0 c.0.1
     (number_found text l.0.0 l.0.1 l.1) c.1)
@@ -229,7 +230,7 @@ placed_found true text p h =
 placed_here : (ignore : Bool) (text : List ℕ) (p : Place) → IsPlacedThen ignore text p
     → place_after ignore text ≡ Some p
 placed_here false text p h =
-    let there : text ≡ 58 ∷ (decimal p.line ++ (58 ∷ (decimal p.column ++ h.rest))) = rw h.ignored at h.whole in
+    let there = rw h.ignored at h.whole in
     let wide : length (decimal p.line) + 1 + (length (decimal p.column) + 1) ≡ p.width =
     omega (arith, h.width_is, ap length h.ignored) in
     rw (there, place_here p.line p.column h.rest h.line_place h.column_place h.stops, wide) refl
@@ -278,7 +279,8 @@ parts_counted url query l c =
     let two = length-append (url ++ query) (58 ∷ []) in
     omega (arith, all, four, three, two, length-append url query)
 
-at_script : (ignore : Bool) (s : Script) (text : List ℕ) (o : Occurrence) → occurrence_of ignore s text ≡ Some o
+at_script : (ignore : Bool) (s : Script) (text : List ℕ) (o : Occurrence)
+    → occurrence_of ignore s text ≡ Some o
     → (0 < length s.0) × ((starts_with nat_eq text s.0 ≡ true) × (option_map (λ p. record {
       url = s.0;
       map = s.1;

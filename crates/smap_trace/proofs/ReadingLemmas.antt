@@ -37,7 +37,8 @@ suffix_after q front x last all stop =
       reverse-append front (x ∷ last),
       reverse-append (x ∷ []) last,
       append_assoc (reverse last) (x ∷ []) (reverse front),
-    ) (front_passes q (reverse last) x (reverse front) (list_all-reverse q last all) stop ∙ length-reverse last)
+    ) (front_passes q (reverse last) x (reverse front) (list_all-reverse q last all) stop
+    ∙ length-reverse last)
 
 pub before_mark : (p : ℕ → Bool) (front : List ℕ) (x : ℕ) (last : List ℕ)
     → list_all (λ b. not (p b)) last ≡ true → p x ≡ true → before_last p (front ++ x ∷ last) ≡ front

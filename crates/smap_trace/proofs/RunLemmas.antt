@@ -1,5 +1,5 @@
 -- What was read and written, over a whole run.
-use Rattle.std.proofs.Common.{◌≡◌, ◌∙◌, ℕ, ◌==◌, ◌≤◌, Bool, true, false, not, cond, ◌||◌, List, [], ◌∷◌, ◌++◌}
+use Rattle.std.proofs.Common.{◌≡◌, ◌∙◌, ℕ, ◌==◌, ◌≤◌, Bool, true, false, List, [], ◌∷◌, ◌++◌}
 use Rattle.std.proofs.Common.{take, drop, length, arith, Option, refl, sym, ap, subst, inl, inr, append_assoc}
 use Rattle.std.proofs.Common.{append-nil, Result, Ok, Err, OnOk, OnErr, IfOk}
 use Rattle.std.specs.List.{list_any}

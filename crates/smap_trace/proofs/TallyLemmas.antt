@@ -1,7 +1,7 @@
 -- URLs that are counted one by one.
-use Rattle.std.proofs.Common.{◌≡◌, ◌∙◌, inl, inr, ℕ, ◌+◌, ◌-◌, ◌^◌, Bool, true, false, cond, not, ◌||◌, List}
-use Rattle.std.proofs.Common.{[], ◌∷◌, ◌++◌, map, min, filter, count_by, bytes_eq, refl, sym, ap, subst}
-use Rattle.std.proofs.Common.{arith, true≢false, add-zero, append-nil, append_assoc}
+use Rattle.std.proofs.Common.{◌≡◌, ◌∙◌, inl, inr, ℕ, ◌+◌, Bool, true, false, cond, not, List}
+use Rattle.std.proofs.Common.{[], ◌∷◌, ◌++◌, map, filter, count_by, bytes_eq, refl, sym, ap}
+use Rattle.std.proofs.Common.{arith, add-zero, append-nil, append_assoc}
 use Rattle.std.specs.List.{AllByRecursion, IsDistinct, list_any, sum_by}
 use Rattle.std.proofs.lemmas.Bool.{cases_Bool, or_parts}
 use Rattle.std.proofs.lemmas.List.Sums.{sum_by-append, sum_by-cons}

@@ -1,4 +1,4 @@
-use Rattle.std.proofs.Common.{◌∙◌, ◌+◌, ◌++◌, ℕ, List, drop, ap, flat_map, slice_range}
+use Rattle.std.proofs.Common.{◌+◌, ◌++◌, drop, flat_map, slice_range}
 use Rattle.std.specs.Io.{StartsWith}
 use Rattle.std.specs.List.{list_any}
 use Rattle.smap_trace.specs.Anywhere.{Piece, found, pieces_of}

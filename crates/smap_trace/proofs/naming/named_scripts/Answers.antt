@@ -1,10 +1,8 @@
-use Rattle.std.proofs.Common.{◌≡◌, ◌≢◌, ◌∙◌, ◌<◌, ◌≤◌, ◌++◌, ℕ, List, ap, subst, take, rules, arith, true}
+use Rattle.std.proofs.Common.{◌≡◌, ◌≢◌, ◌∙◌, ◌<◌, ◌≤◌, ◌++◌, take, rules, arith, true}
 use Rattle.std.proofs.Common.{length, length-take, length-append}
 use Rattle.smap_io.specs.Device.{has_ended}
-use Rattle.smap_io.specs.Reading.{Gave}
 use Rattle.smap_io.proofs.ReadingLemmas.{Gave-then}
-use Rattle.smap_trace.specs.Counting.{named_of, with_urls}
-use Rattle.smap_trace.specs.Naming.{urls_of}
+use Rattle.smap_trace.specs.Counting.{named_of}
 use Rattle.smap_trace.proofs.NamingLemmas.{after_piece, at_the_end}
 use Rattle.smap_trace.proofs.naming.named_scripts.Goals as goal
 

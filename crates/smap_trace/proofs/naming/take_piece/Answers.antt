@@ -1,10 +1,7 @@
-use Rattle.std.proofs.Common.{◌≡◌, ◌∙◌, ℕ, ◌+◌, ◌<◌, List, ◌++◌, [], length, take, drop, get_or, sym, ap}
-use Rattle.std.proofs.Common.{arith, length-drop}
-use Rattle.std.specs.List.{cons_option}
+use Rattle.std.proofs.Common.{◌≡◌, ◌+◌, ◌<◌, length, take, drop, get_or, sym, arith, length-drop}
 use Rattle.std.proofs.lemmas.Bool.{eqb-true}
 use Rattle.std.proofs.lemmas.List.{take-append-drop}
-use Rattle.smap_trace.specs.Counting.{named_of, with_urls}
-use Rattle.smap_trace.specs.Naming.{url_of}
+use Rattle.smap_trace.specs.Counting.{named_of}
 use Rattle.smap_trace.proofs.LineLemmas.{none_passed, none_there, line_end, line_taken, left_is}
 use Rattle.smap_trace.proofs.NamingLemmas.{feed_step, rest_step}
 use Rattle.smap_trace.proofs.naming.take_piece.Goals as goal

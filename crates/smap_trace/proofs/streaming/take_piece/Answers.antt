@@ -1,10 +1,6 @@
-use Rattle.std.proofs.Common.{◌≡◌, ◌∙◌, ℕ, ◌+◌, ◌<◌, List, ◌++◌, length, take, drop, get_or, sym, ap, arith}
-use Rattle.std.proofs.Common.{length-drop}
+use Rattle.std.proofs.Common.{◌≡◌, ◌+◌, ◌<◌, length, take, drop, get_or, sym, arith, length-drop}
 use Rattle.std.proofs.lemmas.Bool.{eqb-true}
 use Rattle.std.proofs.lemmas.List.{take-append-drop}
-use Rattle.smap_trace.specs.Translation.{line_translation_by}
-use Rattle.smap_trace.specs.Pieces.{count_line}
-use Rattle.smap_trace.specs.Views.{outcome_of}
 use Rattle.smap_trace.proofs.LineLemmas.{feed_step, rest_step, none_passed, none_there, line_end, line_taken}
 use Rattle.smap_trace.proofs.LineLemmas.{left_is}
 use Rattle.smap_trace.proofs.streaming.take_piece.Goals as goal

@@ -1,7 +1,5 @@
-use Rattle.std.proofs.Common.{◌≡◌, ◌≤◌, arith, length, option_map, take}
+use Rattle.std.proofs.Common.{arith, take}
 use Rattle.smap_record.specs.Record.{record_of}
-use Rattle.smap_trace.specs.ByLength.{at_length}
-use Rattle.smap_trace.specs.OccurrenceView.{occurrence_in}
 use Rattle.smap_trace.specs.Views.{scripts_in}
 use Rattle.std.proofs.lemmas.Bool.Decides.{nat_tests}
 use Rattle.smap_trace.proofs.ByLengthLemmas.{looked_up}
