@@ -6,10 +6,10 @@ use Rattle.std.proofs.Common.{append-nil, length-append}
 use Rattle.std.specs.Char.{is_ascii_digit}
 use Rattle.std.specs.List.{list_any}
 use Rattle.std.specs.Option.{option_map_or}
-use Rattle.std.proofs.Math.Seq.{drop-append_seam, take-append_seam}
+use Rattle.std.proofs.Math.Seq.{drop-append_seam}
 use Rattle.std.proofs.lemmas.Bool.Decides.{nat_tests, Decides-eqb}
 use Rattle.std.proofs.lemmas.Grind.{flat_map-append}
-use Rattle.std.proofs.lemmas.List.{nil_from_length}
+use Rattle.std.proofs.lemmas.List.{append_cancel_right, nil_from_length}
 use Rattle.std.proofs.lemmas.List.Folds.{list_any-append}
 use Rattle.smap_record.specs.Record.{Origin, Record}
 use Rattle.smap_trace.specs.Anywhere.{Occurrence, Piece, byte, bytes_of, continues, cut, found, longest}
@@ -218,12 +218,6 @@ no_digit_behind : (rest after : List ℕ) → list_any is_ascii_digit (take 1 re
 no_digit_behind [] after h g = g
 no_digit_behind (b ∷ bs) after h g = h
 
-one_front : (u v tail : List ℕ) → u ++ tail ≡ v ++ tail → u ≡ v
-one_front u v tail e =
-    let len : length u ≡ length v =
-    omega (arith, length-append u tail, length-append v tail, ap (λ (t : List ℕ). length t) e) in
-    sym (take-append_seam u tail) ∙ rw (e, len) (take-append_seam v tail)
-
 module _ (scripts : List Script) (line : List ℕ) (f : FrameParts) (distinct : AreDistinct scripts)
     (is : IsFrame line f) where
   piece_there : (ignore : Bool) (o : Occurrence) → pieces_of ignore scripts line ≡ map byte f.before
@@ -244,7 +238,7 @@ module _ (scripts : List Script) (line : List ℕ) (f : FrameParts) (distinct : 
       at.text_is ∙ rw (none, append-nil o.url, l, c) refl in
       let mine : position_text f.url f.line f.column ≡ f.url ++ tail = simp append_assoc in
       let other : position_text o.url f.line f.column ≡ o.url ++ tail = simp append_assoc in
-      let url : f.url ≡ o.url = one_front f.url o.url tail (sym mine ∙ text ∙ other) in
+      let url : f.url ≡ o.url = append_cancel_right f.url o.url tail (sym mine ∙ text ∙ other) in
       ap (map_of scripts) url ∙ at.of_script
   named true o l c (stands, is_longest) =
       let at = stands.1 in
@@ -315,28 +309,24 @@ same_at hide f o = grind arith
 
 -- ---- the fate of the line
 
-settled : (in_frame of_pieces wanted pieces : Fate) → in_frame ≡ wanted → of_pieces ≡ pieces
+settled : {in_frame of_pieces wanted pieces : Fate} → in_frame ≡ wanted → of_pieces ≡ pieces
     → cond (is_dropped wanted) dropped pieces ≡ wanted
     → cond (is_dropped in_frame) dropped of_pieces ≡ in_frame
-settled in_frame of_pieces wanted pieces e d h = rw (e, d) h
+settled e d h = rw (e, d) h
 
 pub are_found_anywhere : FramesAreFoundAnywhere
 are_found_anywhere ignore scripts hide line f distinct is own = go own
   where
     in_frame : frame_fate ignore scripts hide line
         ≡ option_map_or (fate_in hide f) (map_for ignore scripts line f) kept
-    in_frame = ap (λ (g : Option FrameParts). option_map_or
-        (λ h. option_map_or (fate_in hide h) (map_for ignore scripts line h) kept) g kept)
-        (complete line f is)
+    in_frame = rw (complete line f is) refl
 
     all_bytes : pieces_of ignore scripts line ≡ map byte line → (m : Option Record)
         → map_for ignore scripts line f ≡ m
         → anywhere_fate ignore scripts hide line ≡ frame_fate ignore scripts hide line
-    all_bytes bytes None e = settled (frame_fate ignore scripts hide line)
-        (fate_of_pieces (pieces_of ignore scripts line)) kept kept
-        (in_frame ∙ ap (λ (m : Option Record). option_map_or (fate_in hide f) m kept) e)
-        (ap fate_of_pieces bytes
-        ∙ ap (λ t. cond t (translated (flat_map written_for (map byte line))) kept) (bytes_kept line)) refl
+    all_bytes bytes None e =
+        settled (in_frame ∙ ap (λ (m : Option Record). option_map_or (fate_in hide f) m kept) e)
+        (ap fate_of_pieces bytes ∙ rw (bytes_kept line) refl) refl
     all_bytes bytes (Some r) e = absurd (frame_is_cut ignore scripts line f r distinct is e bytes)
 
     go : HoldsOwnAlone ignore scripts line f
@@ -346,13 +336,8 @@ are_found_anywhere ignore scripts hide line f distinct is own = go own
         let position = position_text f.url f.line f.column in
         let known = named scripts line f distinct is ignore o l c
         (piece_there scripts line f distinct is ignore o pieces) in
-        let text : replaced (found o position) ≡ text_at (origin_at o.map f.line f.column) =
-        ap (λ n. text_at (origin_at o.map n o.column)) l ∙ ap (λ n. text_at (origin_at o.map f.line n)) c in
-        settled (frame_fate ignore scripts hide line) (fate_of_pieces (pieces_of ignore scripts line))
-        (option_map_or (fate_at hide f) (origin_at o.map f.line f.column) kept)
-        (option_map_or (λ t. translated (f.before ++ t ++ f.after))
-        (text_at (origin_at o.map f.line f.column)) kept)
-        (in_frame ∙ ap (λ (m : Option Record). option_map_or (fate_in hide f) m kept) known)
+        let text : replaced (found o position) ≡ text_at (origin_at o.map f.line f.column) = rw (l, c) refl in
+        settled (in_frame ∙ ap (λ (m : Option Record). option_map_or (fate_in hide f) m kept) known)
         (ap fate_of_pieces pieces ∙ fate_of_one f.before f.after (found o position)
         (text_at (origin_at o.map f.line f.column)) text)
         (same_at hide f (origin_at o.map f.line f.column))

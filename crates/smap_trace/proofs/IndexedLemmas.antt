@@ -1,10 +1,9 @@
 -- Scripts in a table by their URLs.
-use Rattle.std.proofs.Common.{◌≡◌, ◌∙◌, inl, inr, ℕ, zero, suc, ◌+◌, ◌<◌, false, List, []}
-use Rattle.std.proofs.Common.{◌∷◌, ◌++◌, length, take, Bor, get_or, option_map, refl, sym, ap, arith}
-use Rattle.std.proofs.Common.{bytes_eq, Some, None, length-take}
+use Rattle.std.proofs.Common.{◌≡◌, ◌∙◌, inl, inr, ℕ, ◌+◌, ◌<◌, false, List, [], ◌∷◌, ◌++◌, length, take, Bor}
+use Rattle.std.proofs.Common.{get_or, option_map, refl, sym, ap, arith, bytes_eq, Some, None, length-take}
 use Rattle.std.specs.List.{list_any, take-map}
 use Rattle.std.specs.Map.{lookup, lookup_key}
-use Rattle.std.proofs.lemmas.List.{get_or-map, get_or-take, length-map, map-append, take_more}
+use Rattle.std.proofs.lemmas.List.{get_or_default, get_or-map, get_or-take, length-map, map-append, take_more}
 use Rattle.std.proofs.lemmas.Bool.{cases_Bool, false_from_ne_true, or_parts}
 use Rattle.std.proofs.lemmas.List.Folds.{list_any_none}
 use Rattle.std.proofs.lemmas.Map.Made.{lookup_key_passes}
@@ -41,11 +40,6 @@ insert_new k v (e ∷ es) h =
     h in
     rw p.0 (ap (λ (xs : List Script). script_in e ∷ xs) (insert_new k v es p.1))
 
-any_default : (xs : List Script) (n : ℕ) (x y : Script) → n < length xs → get_or xs n x ≡ get_or xs n y
-any_default [] n x y less = absurd (omega (arith, less))
-any_default (z ∷ zs) zero x y less = refl
-any_default (z ∷ zs) (suc n) x y less = any_default zs n x y (omega (arith, less))
-
 absent : (ss : List Script) (i : ℕ) (d : Script) → AreDistinct ss → i < length ss
     → list_any (λ (s : Script). bytes_eq (get_or ss i d).0 s.0) (take i ss) ≡ false
 absent ss i d distinct lt = list_any_none (λ (s : Script). bytes_eq (get_or ss i d).0 s.0) (take i ss) each
@@ -56,7 +50,7 @@ absent ss i d distinct lt = list_any_none (λ (s : Script). bytes_eq (get_or ss 
         let below : k < i = omega (arith, within, length-take i ss) in
         false_from_ne_true (bytes_eq (get_or ss i d).0 (get_or (take i ss) k e).0) (λ f.
         let same : (get_or ss i d).0 ≡ (get_or (take i ss) k e).0 = (bytes_eq-Decides _ _).0 f in
-        distinct k i e below lt (rw (← get_or-take i ss k e below, ← any_default ss i d e lt) (sym same)))
+        distinct k i e below lt (rw (← get_or-take i ss k e below, ← get_or_default ss i d e lt) (sym same)))
 
 -- one script more in the table
 pub one_more : (es xs : List Given) (i : ℕ) (d : Given) (k : Bor (List ℕ)) (v : Bor ReadMap) → i < length xs
