@@ -1,6 +1,7 @@
 -- A mappings text is ASCII.
-use Rattle.std.proofs.Common.{ℕ, ◌<◌, List, [], ◌∷◌, ◌++◌, map, filter, zero, suc, arith, Bool, true, false}
-use Rattle.std.proofs.Common.{cond}
+use Rattle.std.proofs.lemmas.Bool.{cond_both}
+use Rattle.smap_record.proofs.ListLemmas.{all_append}
+use Rattle.std.proofs.Common.{ℕ, ◌<◌, List, [], ◌∷◌, ◌++◌, map, filter, zero, suc, arith}
 use Rattle.std.specs.Prelude.{◌==◌, flat_map, IsUtf8, ℤ}
 use Rattle.std.specs.List.{AllByRecursion, join_with_byte}
 use Rattle.std.specs.Str.{IsAscii}
@@ -14,15 +15,12 @@ use Rattle.smap_mappings.specs.Text.{line_count}
 abbrev AreAscii : List ℕ → Type 0
 AreAscii bs = AllByRecursion (λ b. b < 128) bs
 
-append : (xs ys : List ℕ) → AreAscii xs → AreAscii ys → AreAscii (xs ++ ys)
-append [] ys h k = k
-append (x ∷ xs) ys h k = (h.0, append xs ys h.1 k)
-
 join : (c : ℕ) (parts : List (List ℕ)) → c < 128 → AllByRecursion AreAscii parts
     → AreAscii (join_with_byte c parts)
 join c [] low h = tt
 join c (x ∷ []) low h = h.0
-join c (x ∷ y ∷ xs) low h = append x (c ∷ join_with_byte c (y ∷ xs)) h.0 (low, join c (y ∷ xs) low h.1)
+join c (x ∷ y ∷ xs) low h =
+    all_append (λ b. b < 128) x (c ∷ join_with_byte c (y ∷ xs)) h.0 (low, join c (y ∷ xs) low h.1)
 
 digit : (d : ℕ) → digit_byte d < 128
 unfolding digit_byte
@@ -35,8 +33,9 @@ digits (d ∷ ds) = (digit d, digits ds)
 spelled : (ns : List ℤ) → AreAscii (flat_map spelling ns)
 unfolding spelling
 spelled [] = tt
-spelled (n ∷ ns) = append (map digit_byte (shortest_digits 7 (unsigned_of n))) (flat_map spelling ns)
-    (digits (shortest_digits 7 (unsigned_of n))) (spelled ns)
+spelled (n ∷ ns) =
+    let ds = shortest_digits 7 (unsigned_of n) in
+    all_append (λ b. b < 128) (map digit_byte ds) (flat_map spelling ns) (digits ds) (spelled ns)
 
 segments : (before ts : List Token) → AllByRecursion (λ s. AreAscii s.1) (segments_after before ts)
 segments before [] = tt
@@ -49,13 +48,9 @@ on_line line ss h = join 44 (map (λ s. s.1) (filter (λ s. s.0 == line) ss)) (o
     kept : (ss : List (ℕ × List ℕ)) → AllByRecursion (λ s. AreAscii s.1) ss
         → AllByRecursion AreAscii (map (λ s. s.1) (filter (λ s. s.0 == line) ss))
     kept [] h = tt
-    kept (s ∷ ss) h = by (s.0 == line) (kept ss h.1)
-      where
-        by : (b : Bool) → AllByRecursion AreAscii (map (λ s. s.1) (filter (λ s. s.0 == line) ss))
-            → AllByRecursion AreAscii
-            (map (λ s. s.1) (cond b (s ∷ filter (λ s. s.0 == line) ss) (filter (λ s. s.0 == line) ss)))
-        by true rest = (h.0, rest)
-        by false rest = rest
+    kept (s ∷ ss) h = let rest = kept ss h.1 in
+        cond_both (s.0 == line) (s ∷ filter (λ s. s.0 == line) ss) (filter (λ s. s.0 == line) ss)
+        (λ ss. AllByRecursion AreAscii (map (λ s. s.1) ss)) (λ _. (h.0, rest)) (λ _. rest)
 
 lines : (ss : List (ℕ × List ℕ)) (ls : List ℕ) → AllByRecursion (λ s. AreAscii s.1) ss
     → AllByRecursion AreAscii (map (line_text ss) ls)

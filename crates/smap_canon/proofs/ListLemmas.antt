@@ -1,45 +1,37 @@
 -- Lists that hold each element once, and the place of an element in them.
-use Rattle.std.proofs.Common.{◌≡◌, ℕ, ◌<◌, ◌+◌, List, [], ◌∷◌, length, Some, ap, refl, ◌∙◌, sym, Bool, true}
-use Rattle.std.proofs.Common.{false, cond, not, ◌||◌, filter, subst, arith, Contains, true≢false, slice_get}
-use Rattle.std.proofs.Common.{get_or, zero, suc}
+use Rattle.std.proofs.Common.{◌≡◌, List, [], ◌∷◌, Some, refl, ◌∙◌, sym, Bool, true, ap}
+use Rattle.std.proofs.Common.{false, not, filter, arith, Contains, slice_get, ℕ, get_or, inl, inr}
 use Rattle.std.specs.Prelude.{find}
 use Rattle.std.specs.List.{AllByRecursion, list_any, position_or_len, IsDistinct}
-use Rattle.std.proofs.lemmas.List.Folds.{find_at}
+use Rattle.std.proofs.lemmas.Bool.{cond_both, cases_Bool, or_left, or_right}
+use Rattle.std.proofs.lemmas.List.Folds.{find_at, list_any_at}
+use Rattle.std.proofs.lemmas.List.Sums.{position_or_len_is}
+use Rattle.std.proofs.lemmas.Map.Keys.{apart_from_distinct}
+use Rattle.std.proofs.lemmas.Map.Views.{any-filter_same}
+use Rattle.std.proofs.lemmas.Option.{slice_get_within, get_or_from_slice_get}
 use Rattle.smap_record.specs.Record.{distinct}
-
-pub or_true : (b c : Bool) → c ≡ true → (b || c) ≡ true
-or_true true c e = refl
-or_true false c e = e
 
 -- ---- distinct lists
 
 filter-all : {A : Type 0} (same : A → A → Bool) (x : A) (xs : List A)
     → AllByRecursion (λ y. same x y ≡ false) xs → filter (λ y. not (same x y)) xs ≡ xs
 filter-all same x [] h = refl
-filter-all same x (y ∷ ys) h =
-    ap (λ b. cond (not b) (y ∷ filter (λ y. not (same x y)) ys) (filter (λ y. not (same x y)) ys)) h.0
-    ∙ ap (λ zs. y ∷ zs) (filter-all same x ys h.1)
+filter-all same x (y ∷ ys) h = rw (h.0, filter-all same x ys h.1) refl
 
 pub distinct-once : {A : Type 0} (same : A → A → Bool) (xs : List A)
     → IsDistinct same xs → distinct same xs ≡ xs
 unfolding distinct IsDistinct
 distinct-once same [] h = refl
-distinct-once same (x ∷ xs) h = ap (λ ys. x ∷ filter (λ y. not (same x y)) ys) (distinct-once same xs h.1)
-    ∙ ap (λ ys. x ∷ ys) (filter-all same x xs h.0)
+distinct-once same (x ∷ xs) h = rw (distinct-once same xs h.1, filter-all same x xs h.0) refl
 
 -- ---- the place of an element
 
 module _ {A : Type 0} (same : A → A → Bool) (equal : (x y : A) → same x y ≡ true → x ≡ y)
     (own : (x : A) → same x x ≡ true) where
   found : (x : A) (xs : List A) → list_any (same x) xs ≡ true → find (same x) xs ≡ Some x
-  found x [] h = absurd (true≢false (sym h))
-  found x (y ∷ ys) h = by (found x ys) (same x y) refl
-    where
-      by : (list_any (same x) ys ≡ true → find (same x) ys ≡ Some x)
-          → (b : Bool) → same x y ≡ b → find (same x) (y ∷ ys) ≡ Some x
-      by more true e = ap (λ b. cond b (Some y) (find (same x) ys)) e ∙ ap Some (sym (equal x y e))
-      by more false e = ap (λ b. cond b (Some y) (find (same x) ys)) e
-          ∙ more (sym (ap (λ b. b || list_any (same x) ys) e) ∙ h)
+  found x [] h = absurd cc
+  found x (y ∷ ys) h = cond_both (same x y) (Some y) (find (same x) ys) (λ o. o ≡ Some x)
+      (λ e. ap Some (sym (equal x y e))) (λ e. found x ys (rw e at h))
 
   pub at_place : (x : A) (xs : List A) → list_any (same x) xs ≡ true
       → slice_get xs (position_or_len (same x) xs) ≡ Some x
@@ -48,74 +40,30 @@ module _ {A : Type 0} (same : A → A → Bool) (equal : (x y : A) → same x y 
   -- an element that isn't the first is still there once the first is dropped
   kept : (x y : A) (ys : List A) → same x y ≡ false → list_any (same x) ys ≡ true
       → list_any (same x) (filter (λ z. not (same y z)) ys) ≡ true
-  kept x y [] other h = h
-  kept x y (z ∷ zs) other h = by (kept x y zs other) (same y z) (same x z) refl refl
-    where
-      by : (list_any (same x) zs ≡ true → list_any (same x) (filter (λ z. not (same y z)) zs) ≡ true)
-          → (b c : Bool) → same y z ≡ b → same x z ≡ c
-          → list_any (same x) (filter (λ z. not (same y z)) (z ∷ zs)) ≡ true
-      by more true true e f =
-          absurd (true≢false (sym (subst (λ w. same x w ≡ true) (sym (equal y z e)) f) ∙ other))
-      by more true false e f = ap (λ b. list_any (same x)
-          (cond (not b) (z ∷ filter (λ z. not (same y z)) zs) (filter (λ z. not (same y z)) zs))) e
-          ∙ more (sym (ap (λ b. b || list_any (same x) zs) f) ∙ h)
-      by more false true e f = ap (λ b. list_any (same x)
-          (cond (not b) (z ∷ filter (λ z. not (same y z)) zs) (filter (λ z. not (same y z)) zs))) e
-          ∙ ap (λ b. b || list_any (same x) (filter (λ z. not (same y z)) zs)) f
-      by more false false e f = ap (λ b. list_any (same x)
-          (cond (not b) (z ∷ filter (λ z. not (same y z)) zs) (filter (λ z. not (same y z)) zs))) e
-          ∙ ap (λ b. b || list_any (same x) (filter (λ z. not (same y z)) zs)) f
-          ∙ more (sym (ap (λ b. b || list_any (same x) zs) f) ∙ h)
+  kept x y ys other h = any-filter_same (same x) (λ z. not (same y z)) true
+      (λ z e. grind (arith, equal x z, equal y z, own x)) ys ∙ h
 
   pub any_distinct : (x : A) (xs : List A) → list_any (same x) xs ≡ true
       → list_any (same x) (distinct same xs) ≡ true
   unfolding distinct
   any_distinct x [] h = h
-  any_distinct x (y ∷ ys) h = by (any_distinct x ys) (same x y) refl
-    where
-      by : (list_any (same x) ys ≡ true → list_any (same x) (distinct same ys) ≡ true)
-          → (b : Bool) → same x y ≡ b → list_any (same x) (distinct same (y ∷ ys)) ≡ true
-      by more true e = ap (λ b. b || list_any (same x) (filter (λ z. not (same y z)) (distinct same ys))) e
-      by more false e = ap (λ b. b || list_any (same x) (filter (λ z. not (same y z)) (distinct same ys))) e
-          ∙ kept x y (distinct same ys) e (more (sym (ap (λ b. b || list_any (same x) ys) e) ∙ h))
+  any_distinct x (y ∷ ys) h = elim (cases_Bool (same x y)) [
+    | inl e ↦ or_left _ _ e
+    | inr e ↦ or_right _ _ (kept x y (distinct same ys) e (any_distinct x ys (rw e at h)))
+  ]
 
   pub any_Contains : (xs : List A) (x : A) → Contains xs x → list_any (same x) xs ≡ true
-  any_Contains [] x h = absurd (omega (arith, h.1))
-  any_Contains (y ∷ ys) x h = by (any_Contains ys x) h.0 h.1 h.2
-    where
-      by : (Contains ys x → list_any (same x) ys ≡ true) → (k : ℕ) → k < length (y ∷ ys)
-          → get_or (y ∷ ys) k x ≡ x → list_any (same x) (y ∷ ys) ≡ true
-      by more zero below e =
-          ap (λ b. b || list_any (same x) ys) (subst (λ w. same x w ≡ true) (sym e) (own x))
-      by more (suc k) below e = or_true (same x y) (list_any (same x) ys) (more (k, omega arith, e))
+  any_Contains xs x h = list_any_at (same x) xs h.0 x h.1 (rw h.2 (own x))
 
-  pub any_at : (xs : List A) (i : ℕ) (x : A) → slice_get xs i ≡ Some x → list_any (same x) xs ≡ true
-  any_at [] i x h = cc
-  any_at (y ∷ ys) zero x h =
-      let e : y ≡ x = cc in ap (λ b. b || list_any (same x) ys) (subst (λ w. same x w ≡ true) (sym e) (own x))
-  any_at (y ∷ ys) (suc i) x h = or_true (same x y) (list_any (same x) ys) (any_at ys i x h)
-
-  away : (x : A) (xs : List A) (i : ℕ) (y : A) → AllByRecursion (λ z. same x z ≡ false) xs
-      → slice_get xs i ≡ Some y → same y x ≡ false
-  away x [] i y h at = cc
-  away x (z ∷ zs) zero y h at = let e : z ≡ y = cc in by (same y x) refl (subst (λ w. same x w ≡ false) e h.0)
-    where
-      by : (b : Bool) → same y x ≡ b → same x y ≡ false → b ≡ false
-      by true e other = absurd (true≢false (sym (subst (λ w. same w y ≡ true) (equal y x e) (own y)) ∙ other))
-      by false e other = refl
-  away x (z ∷ zs) (suc i) y h at = away x zs i y h.1 at
+  turned : (x y : A) → same x y ≡ false → same y x ≡ false
+  turned x y e = grind (arith, equal y x, own x)
 
   -- the element at a place stands there alone
   pub place-at : (xs : List A) (i : ℕ) (x : A) → IsDistinct same xs → slice_get xs i ≡ Some x
       → position_or_len (same x) xs ≡ i
-  unfolding IsDistinct
-  place-at [] i x once h = cc
-  place-at (y ∷ ys) zero x once h =
-      let e : y ≡ x = cc in
-      let found : same x y ≡ true = subst (λ w. same x w ≡ true) (sym e) (own x) in
-      ap (λ b. cond (not b) (1 + position_or_len (same x) ys) 0) found
-  place-at (y ∷ ys) (suc i) x once h =
-      let rest = place-at ys i x once.1 h in
-      let next : 1 + i ≡ suc i = omega arith in
-      ap (λ b. cond (not b) (1 + position_or_len (same x) ys) 0) (away y ys i x once.0 h)
-      ∙ ap (λ n. 1 + n) rest ∙ next
+  place-at xs i x once at =
+      let here = get_or_from_slice_get xs i x x at in
+      let below = slice_get_within xs i x at in
+      position_or_len_is (same x) xs i x (omega arith)
+      (λ k l. turned (get_or xs k x) x (rw here at (apart_from_distinct same xs k i x once l below)))
+      (λ _. rw here (own x))

@@ -1,6 +1,7 @@
 -- The members of a layout as one list, so that what is proved of them is proved member by member.
-use Rattle.std.proofs.Common.{◌≡◌, ℕ, List, [], ◌∷◌, map, Option, Some, None, ap, refl, ◌∙◌, Bool, true}
-use Rattle.std.specs.Prelude.{codes, option_map, option_and_then, ◌&&◌, IfSome}
+use Rattle.std.proofs.Common.{arith}
+use Rattle.std.proofs.Common.{◌≡◌, ℕ, List, [], ◌∷◌, map, Option, Some, None, refl, Bool, true}
+use Rattle.std.specs.Prelude.{codes, option_map, ◌&&◌, IfSome}
 use Rattle.std.specs.List.{list_all, AllByRecursion}
 use Rattle.std.specs.Option.{option_or}
 use Rattle.std.proofs.Common.{Ordering, Less, Equal, Greater}
@@ -49,22 +50,20 @@ value_of name [] = None
 value_of name (m ∷ ms) = match_ordering (slice_cmp nat_cmp name m.0)
     (value_of name ms) (option_or m.1 (value_of name ms)) (value_of name ms)
 
-pub get-written : (name : List ℕ) (ms : List OptionalMember) → get_member name (written ms) ≡ value_of name ms
-get-written name [] = refl
-get-written name (m ∷ ms) = first m.1
-    ∙ ap (λ (v : Option Data). match_ordering (slice_cmp nat_cmp name m.0) v (option_or m.1 v) v)
-    (get-written name ms)
+get-optional : (name key : List ℕ) (o : Option Data) (ms : Members)
+    → get_member name (optional_member key o ms) ≡ match_ordering (slice_cmp nat_cmp name key)
+    (get_member name ms) (option_or o (get_member name ms)) (get_member name ms)
+get-optional name key (Some d) ms = refl
+get-optional name key None ms = alike (slice_cmp nat_cmp name key) (get_member name ms)
   where
     alike : (c : Ordering) (v : Option Data) → v ≡ match_ordering c v v v
     alike Less v = refl
     alike Equal v = refl
     alike Greater v = refl
 
-    first : (o : Option Data) → get_member name (optional_member m.0 o (written ms))
-        ≡ match_ordering (slice_cmp nat_cmp name m.0) (get_member name (written ms))
-        (option_or o (get_member name (written ms))) (get_member name (written ms))
-    first None = alike (slice_cmp nat_cmp name m.0) (get_member name (written ms))
-    first (Some d) = refl
+pub get-written : (name : List ℕ) (ms : List OptionalMember) → get_member name (written ms) ≡ value_of name ms
+get-written name [] = refl
+get-written name (m ∷ ms) = rw (get-optional name m.0 m.1 (written ms), get-written name ms) refl
 
 -- ---- members that are read one after another
 
@@ -84,6 +83,24 @@ rise (m ∷ ms) = are_after m.0 ms && rise ms
 abbrev read_after : List OptionalMember → Members → Option Members
 read_after ms found = of_members (members_outline (written ms)) found
 
+greater : (c : Ordering) → is_gt c ≡ true → c ≡ Greater
+greater Less h = absurd cc
+greater Equal h = absurd cc
+greater Greater h = refl
+
+put_behind : (name key : List ℕ) (d x : Data) (found : Members) → is_gt (slice_cmp nat_cmp key name) ≡ true
+    → put key x (member name d found) ≡ member name d (put key x found)
+put_behind name key d x found h = rw (greater (slice_cmp nat_cmp key name) h) refl
+
+-- One that may be there stays before the member, if those after it do.
+stays_before : (name key : List ℕ) (d : Data) (o : Option Data) (ms found : Members)
+    → is_gt (slice_cmp nat_cmp key name) ≡ true
+    → ((ns : Members) → of_members (members_outline ms) (member name d ns)
+    ≡ option_map (member name d) (of_members (members_outline ms) ns))
+    → of_members (members_outline (optional_member key o ms)) (member name d found)
+    ≡ option_map (member name d) (of_members (members_outline (optional_member key o ms)) found)
+stays_before name key d o ms found after stays = grind (arith, put_behind name key d, stays)
+
 -- A member stays before those with names after its own.
 stays_first : (name : List ℕ) (d : Data) (ms : List OptionalMember) → are_after name ms ≡ true
     → (found : Members)
@@ -91,31 +108,7 @@ stays_first : (name : List ℕ) (d : Data) (ms : List OptionalMember) → are_af
 stays_first name d [] after found = refl
 stays_first name d (m ∷ ms) after found =
     let parts = and_parts (is_gt (slice_cmp nat_cmp m.0 name)) (are_after name ms) after in
-    by m.1 parts.0 (stays_first name d ms parts.1)
-  where
-    greater : (c : Ordering) → is_gt c ≡ true → c ≡ Greater
-    greater Less h = absurd cc
-    greater Equal h = absurd cc
-    greater Greater h = refl
-
-    put_behind : (x : Data) → is_gt (slice_cmp nat_cmp m.0 name) ≡ true
-        → put m.0 x (member name d found) ≡ member name d (put m.0 x found)
-    put_behind x h = ap (λ (c : Ordering). match_ordering c (member m.0 x (member name d found))
-        (member name x found) (member name d (put m.0 x found))) (greater (slice_cmp nat_cmp m.0 name) h)
-
-    read : (o : Option Data) → is_gt (slice_cmp nat_cmp m.0 name) ≡ true
-        → ((ns : Members) → read_after ms (member name d ns) ≡ option_map (member name d) (read_after ms ns))
-        → option_and_then (λ x. read_after ms (put m.0 x (member name d found))) o
-        ≡ option_map (member name d) (option_and_then (λ x. read_after ms (put m.0 x found)) o)
-    read None h stays = refl
-    read (Some x) h stays = ap (read_after ms) (put_behind x h) ∙ stays (put m.0 x found)
-
-    by : (o : Option Data) → is_gt (slice_cmp nat_cmp m.0 name) ≡ true
-        → ((ns : Members) → read_after ms (member name d ns) ≡ option_map (member name d) (read_after ms ns))
-        → of_members (members_outline (optional_member m.0 o (written ms))) (member name d found)
-        ≡ option_map (member name d) (of_members (members_outline (optional_member m.0 o (written ms))) found)
-    by None h stays = stays found
-    by (Some e) h stays = read (of_json (outline e)) h stays
+    stays_before name m.0 d m.1 (written ms) found parts.0 (stays_first name d ms parts.1)
 
 -- Members whose names rise, and whose values are said, are read as they are written.
 pub members_said : (ms : List OptionalMember) → rise ms ≡ true → AllByRecursion (λ m. IfSome m.1 IsSaid) ms
@@ -130,7 +123,4 @@ members_said (m ∷ ms) rising said =
         → of_members (members_outline (optional_member m.0 o (written ms))) no_members
         ≡ Some (optional_member m.0 o (written ms))
     by None said after more = more
-    by (Some d) said after more =
-        ap (option_and_then (λ x. read_after ms (member m.0 x no_members))) said
-        ∙ stays_first m.0 d ms after no_members
-        ∙ ap (option_map (member m.0 d)) more
+    by (Some d) said after more = rw (said, stays_first m.0 d ms after no_members, more) refl

@@ -1,12 +1,12 @@
 -- Names that are numbered one by one.
 use Rattle.std.proofs.Common.{◌≡◌, ◌≢◌, inl, inr, ℕ, ◌+◌, ◌<◌, ◌≤◌, List, [], ◌∷◌, ◌++◌, take, drop, set}
 use Rattle.std.proofs.Common.{length}
-use Rattle.std.proofs.Common.{get_or, Option, Some, None, ap, refl, ◌∙◌, sym, subst, Bool, true, false, cond}
-use Rattle.std.proofs.Common.{not, eqb, ◌||◌, true≢false, slice_get, replicate, append-nil, append_assoc}
-use Rattle.std.proofs.Common.{length-append, add-zero, arith}
-use Rattle.std.specs.Prelude.{bytes_eq, option_map, option_and_then, IfSome}
+use Rattle.std.proofs.Common.{get_or, Option, Some, None, ap, refl, ◌∙◌, sym, subst, Bool, true, cond}
+use Rattle.std.proofs.Common.{not, ◌||◌, slice_get, replicate, append-nil, append_assoc}
+use Rattle.std.proofs.Common.{length-append, arith}
+use Rattle.std.specs.Prelude.{bytes_eq, option_map}
 use Rattle.std.specs.List.{AllByRecursion, list_any, filter_map, cons_option, position_or_len}
-use Rattle.std.proofs.lemmas.Bool.{cases_eq, or_cases}
+use Rattle.std.proofs.lemmas.Bool.{cases_eq, or_cases, cases_Bool}
 use Rattle.std.proofs.lemmas.Bool.Decides.{nat_tests}
 use Rattle.std.proofs.lemmas.List.{take-append-drop, get_or-set_other, get_or-set_same, get_or-replicate}
 use Rattle.std.proofs.lemmas.List.{length-set, length-replicate}
@@ -21,7 +21,6 @@ use Rattle.smap_record.specs.Fitting.{names_used}
 use Rattle.smap_record.proofs.EqualLemmas.{same_bytes, own_bytes}
 use Rattle.smap_record.proofs.DistinctLemmas.{distinct-push}
 use Rattle.smap_record.proofs.ListLemmas.{all_append, all_weaker, take_next, map-push}
-use Rattle.smap_canon.proofs.PushedLemmas.{take_none}
 use Rattle.smap_canon.specs.Numbering.{texts_of, name_of, with_name, AreNumbers, IsNumbered}
 use Rattle.smap_canon.specs.declared.numbering.TheConstants.{UNUSED}
 
@@ -67,7 +66,7 @@ used-with_name ms i m at = by (name_of m) (used-next ms i m at)
 pub used-start : (ks : List (Bor (List ℕ))) (ms : List Mapping)
     → ks ≡ [] → texts_of ks ≡ names_used (take 0 ms)
 unfolding distinct
-used-start ks ms e = ap texts_of e ∙ sym (ap (λ xs. names_used xs) (take_none ms))
+used-start ks ms e = ap texts_of e
 
 -- ---- a place stays
 
@@ -170,24 +169,12 @@ module _ {A : Type 0} (same : A → A → Bool) (equal : (x y : A) → same x y 
   distinct-front : (xs ys : List A) → (zs : List A) × (distinct same (xs ++ ys) ≡ distinct same xs ++ zs)
   distinct-front xs [] = ([], ap (distinct same) (append-nil xs) ∙ sym (append-nil (distinct same xs)))
   distinct-front xs (y ∷ ys) =
-      by (list_any (same y) (distinct same xs)) refl (distinct-front (xs ++ y ∷ []) ys)
-    where
-      by : (b : Bool) → list_any (same y) (distinct same xs) ≡ b
-          → ((zs : List A) × (distinct same ((xs ++ y ∷ []) ++ ys) ≡ distinct same (xs ++ y ∷ []) ++ zs))
-          → (zs : List A) × (distinct same (xs ++ y ∷ ys) ≡ distinct same xs ++ zs)
-      by true e more = (
-        more.0,
-        ap (distinct same) (sym (append_assoc xs (y ∷ []) ys)) ∙ more.1
-            ∙ ap (λ ds. ds ++ more.0) (distinct-push same equal own xs y
-            ∙ ap (λ b. cond b (distinct same xs) (distinct same xs ++ y ∷ [])) e),
-      )
-      by false e more = (
-        y ∷ more.0,
-        ap (distinct same) (sym (append_assoc xs (y ∷ []) ys)) ∙ more.1
-            ∙ ap (λ ds. ds ++ more.0) (distinct-push same equal own xs y
-            ∙ ap (λ b. cond b (distinct same xs) (distinct same xs ++ y ∷ [])) e)
-            ∙ append_assoc (distinct same xs) (y ∷ []) more.0,
-      )
+      let more = distinct-front (xs ++ y ∷ []) ys in
+      let whole = rw (append_assoc xs (y ∷ []) ys, distinct-push same equal own xs y) at more.1 in
+      elim (cases_Bool (list_any (same y) (distinct same xs))) [
+        | inl e ↦ (more.0, rw e at whole)
+        | inr e ↦ (y ∷ more.0, (rw e at whole) ∙ append_assoc (distinct same xs) (y ∷ []) more.0)
+      ]
 
 used-front : (ms : List Mapping) (i : ℕ)
     → (zs : List (List ℕ)) × (names_used ms ≡ names_used (take i ms) ++ zs)

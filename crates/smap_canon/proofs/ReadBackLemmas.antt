@@ -1,6 +1,7 @@
 -- What is written of a layout is read back as that layout.
+use Rattle.std.proofs.lemmas.Bool.{cond_both}
 use Rattle.std.proofs.Common.{◌≡◌, ℕ, ◌<◌, ◌≤◌, ◌^◌, suc, List, [], ◌∷◌, length, map, Option, Some, None, ap}
-use Rattle.std.proofs.Common.{ap₂, refl, ◌∙◌, sym, Bool, true, false, cond, max, arith, append-nil}
+use Rattle.std.proofs.Common.{ap₂, refl, ◌∙◌, sym, max, arith, append-nil}
 use Rattle.std.specs.Prelude.{option_map, option_and_then, IfSome, IsUtf8}
 use Rattle.std.specs.List.{AllByRecursion}
 use Rattle.json.specs.Token.{Token}
@@ -42,19 +43,14 @@ or_null_said (Some s) = refl
 number_said : (n : ℕ) → n < 2 ^ 64 → IsSaid (whole_number n)
 number_said n few = ap (option_map number) (number_of-decimal n few)
 
-one_said : (d : Data) (ds : Items) → IsSaid d → AreSaid ds → AreSaid (item d ds)
-one_said d ds one rest = rw (one, rest) refl
-
 each_said : {A : Type 0} (write : A → Data) → ((x : A) → IsSaid (write x)) → (xs : List A)
     → AreSaid (items_of (map write xs))
 each_said write said [] = refl
-each_said write said (x ∷ xs) =
-    one_said (write x) (items_of (map write xs)) (said x) (each_said write said xs)
+each_said write said (x ∷ xs) = rw (said x, each_said write said xs) refl
 
 numbers_said : (ns : List ℕ) → AllByRecursion (λ n. n < 2 ^ 64) ns → AreSaid (items_of (map whole_number ns))
 numbers_said [] few = refl
-numbers_said (n ∷ ns) few =
-    one_said (whole_number n) (items_of (map whole_number ns)) (number_said n few.0) (numbers_said ns few.1)
+numbers_said (n ∷ ns) few = rw (number_said n few.0, numbers_said ns few.1) refl
 
 list_said : (ds : List Data) → AreSaid (items_of ds) → IsSaid (list_of ds)
 list_said ds said = ap (option_map array) said
@@ -66,15 +62,9 @@ unless_empty_said [] said = tt
 unless_empty_said (d ∷ ds) said = list_said (d ∷ ds) said
 
 contents_said : (es : List Entry) → IfSome (written_contents es) IsSaid
-contents_said es = by (has_content es)
-  where
-    all : IsSaid (list_of (map (λ (e : Entry). or_null e.content) es))
-    all = list_said (map (λ (e : Entry). or_null e.content) es)
-        (each_said (λ (e : Entry). or_null e.content) (λ e. or_null_said e.content) es)
-
-    by : (b : Bool) → IfSome (cond b (Some (list_of (map (λ (e : Entry). or_null e.content) es))) None) IsSaid
-    by true = all
-    by false = tt
+contents_said es = cond_both (has_content es) (Some (list_of (map (λ (e : Entry). or_null e.content) es))) None
+    (λ o. IfSome o IsSaid) (λ _. list_said (map (λ (e : Entry). or_null e.content) es)
+    (each_said (λ (e : Entry). or_null e.content) (λ e. or_null_said e.content) es)) (λ _. tt)
 
 file_said : (o : Option (List ℕ)) → IfSome (option_map string o) IsSaid
 file_said None = tt

@@ -1,24 +1,17 @@
 -- The record of the canonical listing is the record.
-use Rattle.std.proofs.Common.{◌≡◌, ℕ, List, [], ◌∷◌, map, Option, Some, None, ap, refl, true, ◌||◌, slice_get}
-use Rattle.std.specs.Prelude.{IfSome, option_map, option_and_then, bytes_eq, unwrap_or}
+use Rattle.std.proofs.Common.{◌≡◌, ℕ, List, [], ◌∷◌, map, Option, Some, None, refl, true, slice_get}
+use Rattle.std.specs.Prelude.{IfSome, option_map, option_and_then, bytes_eq}
 use Rattle.std.specs.List.{AllByRecursion, list_any, filter_map, position_or_len, cons_option}
+use Rattle.std.proofs.lemmas.Bool.{or_left, or_right}
+use Rattle.std.proofs.lemmas.Option.{IfSome_then}
+use Rattle.smap_record.proofs.ListLemmas.{all_weaker}
 use Rattle.smap_record.specs.Record.{Parts, Origin, Mapping, Record, Listing, Allowed, record_of, mapping_of}
-use Rattle.smap_record.specs.Record.{origin_of, no_entry, distinct, same_entry}
+use Rattle.smap_record.specs.Record.{origin_of, same_entry}
 use Rattle.smap_record.specs.Fitting.{Fits, IsMappingOf, IsOriginOf, names_used}
 use Rattle.smap_canon.specs.Numbering.{name_of, HasName}
 use Rattle.smap_canon.specs.Canonical.{canonical_map, canonical_listing, token_of, original_of}
 use Rattle.smap_record.proofs.EqualLemmas.{same_bytes, own_bytes, same_entries, own_entry}
-use Rattle.smap_canon.proofs.ListLemmas.{or_true, distinct-once, at_place, any_distinct, any_Contains}
-
-weaker : (x : List ℕ) (names : List (List ℕ)) (ms : List Mapping) → AllByRecursion (HasName names) ms
-    → AllByRecursion (HasName (x ∷ names)) ms
-weaker x names [] h = tt
-weaker x names (m ∷ ms) h = (by (name_of m) h.0, weaker x names ms h.1)
-  where
-    by : (o : Option (List ℕ)) → IfSome o (λ n. list_any (bytes_eq n) names ≡ true)
-        → IfSome o (λ n. list_any (bytes_eq n) (x ∷ names) ≡ true)
-    by None h = tt
-    by (Some n) h = or_true (bytes_eq n x) (list_any (bytes_eq n) names) h
+use Rattle.smap_canon.proofs.ListLemmas.{distinct-once, at_place, any_distinct, any_Contains}
 
 listed_names : (ms : List Mapping) → AllByRecursion (HasName (filter_map name_of ms)) ms
 listed_names [] = tt
@@ -29,22 +22,15 @@ listed_names (m ∷ ms) = by (name_of m) (listed_names ms)
         × AllByRecursion (HasName (cons_option o (filter_map name_of ms))) ms
     by None rest = (tt, rest)
     by (Some n) rest = (
-      ap (λ b. b || list_any (bytes_eq n) (filter_map name_of ms)) (own_bytes n),
-      weaker n (filter_map name_of ms) ms rest,
+      or_left _ _ (own_bytes n),
+      all_weaker (HasName (filter_map name_of ms)) (HasName (n ∷ filter_map name_of ms))
+          (λ m named. IfSome_then (name_of m) named (λ k. or_right _ _)) ms rest,
     )
 
-once : (names : List (List ℕ)) (ms : List Mapping) → AllByRecursion (HasName names) ms
-    → AllByRecursion (HasName (distinct bytes_eq names)) ms
-once names [] h = tt
-once names (m ∷ ms) h = (by (name_of m) h.0, once names ms h.1)
-  where
-    by : (o : Option (List ℕ)) → IfSome o (λ n. list_any (bytes_eq n) names ≡ true)
-        → IfSome o (λ n. list_any (bytes_eq n) (distinct bytes_eq names) ≡ true)
-    by None h = tt
-    by (Some n) h = any_distinct bytes_eq same_bytes own_bytes n names h
-
 pub used_names : (ms : List Mapping) → AllByRecursion (HasName (names_used ms)) ms
-used_names ms = once (filter_map name_of ms) ms (listed_names ms)
+used_names ms = all_weaker (HasName (filter_map name_of ms)) (HasName (names_used ms)) (λ m named.
+    IfSome_then (name_of m) named (λ n. any_distinct bytes_eq same_bytes own_bytes n (filter_map name_of ms)))
+    ms (listed_names ms)
 
 -- a mapping by its places, seen in the lists, is the mapping
 mapping_same : (lines : ℕ) (l : Listing) (m : Mapping) → IsMappingOf lines l.sources m → HasName l.names m
@@ -60,10 +46,11 @@ mapping_same lines l m fits named = (λ i. record m { origin = by m.origin fits.
         → IfSome (option_and_then (λ o. o.name) o) (λ n. list_any (bytes_eq n) l.names ≡ true)
         → option_map (origin_of l) (option_map (original_of l.sources l.names) o) ≡ o
     by None known named = refl
-    by (Some o) known named =
-        let source = ap (λ e. unwrap_or e no_entry) (at_place same_entry same_entries own_entry o.source
-        l.sources (any_Contains same_entry same_entries own_entry l.sources o.source known.known)) in
-        ap Some (λ i. record o { source = source i; name = name o.name named i })
+    by (Some o) known named = rw (
+      at_place same_entry same_entries own_entry o.source l.sources
+          (any_Contains same_entry same_entries own_entry l.sources o.source known.known),
+      name o.name named,
+    ) refl
 
 mappings_same : (lines : ℕ) (l : Listing) (ms : List Mapping)
     → AllByRecursion (IsMappingOf lines l.sources) ms → AllByRecursion (HasName l.names) ms

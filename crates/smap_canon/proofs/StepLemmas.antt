@@ -1,14 +1,14 @@
 -- One mapping more is numbered and written.
 use Rattle.std.proofs.Common.{◌≡◌, ◌∙◌, ◌+◌, ◌<◌, ◌++◌, ◌∷◌, [], sym, ap, List, ℕ, Some, slice_get, length}
 use Rattle.std.proofs.Common.{map, take, arith}
-use Rattle.std.specs.Prelude.{option_map, unwrap_or}
+use Rattle.std.specs.Prelude.{option_map}
 use Rattle.std.proofs.lemmas.List.{length-map}
-use Rattle.std.proofs.lemmas.Option.{slice_get-map, slice_get-get_or}
+use Rattle.std.proofs.lemmas.Option.{slice_get-map}
 use denote.Ref.{Bor}
 use Rattle.smap_mappings.specs.declared.token.Token.{Token}
 use Rattle.smap_mappings.specs.Position.{POSITIONS}
 use Rattle.smap_mappings.specs.Text.{IsEncodable}
-use Rattle.smap_record.specs.Record.{Entry, ReadMap, record_of, mapping_of, no_entry}
+use Rattle.smap_record.specs.Record.{ReadMap, record_of, mapping_of}
 use Rattle.smap_record.specs.Fitting.{names_used}
 use Rattle.smap_record.specs.Listings.{IsListing}
 use Rattle.smap_canon.specs.Canonical.{token_of}
@@ -17,12 +17,6 @@ use Rattle.smap_canon.proofs.ListedLemmas.{listing-writable}
 use Rattle.smap_canon.proofs.WritableLemmas.{canonical_encodable}
 use Rattle.smap_canon.proofs.NumberingLemmas.{used-with_name, few-used}
 use Rattle.smap_canon.proofs.PushedLemmas.{encodable_more}
-
--- what is listed at a place
-pub source-there : (sources : List Entry) (i : ℕ) → i < length sources
-    → slice_get sources i ≡ Some (unwrap_or (slice_get sources i) no_entry)
-source-there sources i below = let found = slice_get-get_or sources i no_entry below in
-    found ∙ ap Some (sym (ap (λ e. unwrap_or e no_entry) found))
 
 module _ (m : ReadMap) (i : ℕ) (t : Token) (at : slice_get m.listing.tokens i ≡ Some t) where
   pub mapping-there : slice_get (record_of m).mappings i ≡ Some (mapping_of m.listing t)

@@ -1,9 +1,10 @@
 -- Which records have a canonical listing whose tokens can be written.
-use Rattle.std.proofs.Common.{◌≡◌, ℕ, ◌<◌, List, [], ◌∷◌, length, map, Option, Some, None, ap, refl, sym}
-use Rattle.std.proofs.Common.{subst, true, arith}
+use Rattle.std.proofs.Common.{◌≡◌, ℕ, ◌<◌, List, [], ◌∷◌, length, map, Option, Some, None, ap, refl}
+use Rattle.std.proofs.Common.{true, arith}
 use Rattle.std.specs.Prelude.{IfSome, option_map, option_and_then, bytes_eq}
 use Rattle.std.specs.List.{AllByRecursion, list_any, position_or_len}
-use Rattle.std.proofs.lemmas.Option.{slice_get_within}
+use Rattle.std.proofs.lemmas.Option.{slice_get_within, IfSome_then}
+use Rattle.smap_record.proofs.ListLemmas.{all_map, all_both}
 use Rattle.smap_mappings.specs.declared.token.Bounds.{Bounds}
 use Rattle.smap_mappings.specs.Position.{POSITIONS, position_of, NeverFalls}
 use Rattle.smap_mappings.specs.Text.{IsPlaced, IsOriginal, IsEncodable}
@@ -54,11 +55,6 @@ name_place : (names : List (List ℕ)) (o : Option (List ℕ))
 name_place names None h = tt
 name_place names (Some n) h = slice_get_within names _ n (at_place bytes_eq same_bytes own_bytes n names h)
 
-name_above : (count : ℕ) (o : Option ℕ) → count < POSITIONS → IfSome o (λ i. i < count)
-    → IfSome o (λ i. i < POSITIONS)
-name_above count None few h = tt
-name_above count (Some i) few h = omega arith
-
 token_placed : (sources : List Entry) (names : List (List ℕ)) (m : Mapping) → length sources < POSITIONS
     → length names < POSITIONS → IsKnown sources m → HasName names m → IsPlaced (token_of sources names m)
 token_placed sources names m few_sources few_names known named =
@@ -72,8 +68,8 @@ token_placed sources names m few_sources few_names known named =
       source = omega (arith, source_place sources o.source known.source);
       line = known.line;
       column = known.column;
-      name = name_above (length names) (option_map (λ n. position_or_len (bytes_eq n) names) o.name) few_names
-          (name_place names o.name named);
+      name = IfSome_then (option_map (λ n. position_or_len (bytes_eq n) names) o.name)
+          (name_place names o.name named) (λ i below. omega arith);
     }
 
 token_within : (bounds : Bounds) (sources : List Entry) (names : List (List ℕ)) (m : Mapping)
@@ -91,48 +87,34 @@ token_within bounds sources names m all_sources all_names below known named =
         → IfSome (option_and_then (λ o. o.name) o) (λ n. list_any (bytes_eq n) names ≡ true)
         → IfSome (option_map (original_of sources names) o) (λ o. IfSome o.name (λ n. n < bounds.names))
     name None named = tt
-    name (Some o) named =
-        subst (λ count. IfSome (option_map (λ n. position_or_len (bytes_eq n) names) o.name) (λ i. i < count))
-        (sym all_names) (name_place names o.name named)
+    name (Some o) named = rw all_names (name_place names o.name named)
 
 -- ---- all mappings
 
-tokens_placed : (sources : List Entry) (names : List (List ℕ)) (ms : List Mapping)
-    → length sources < POSITIONS → length names < POSITIONS
-    → AllByRecursion (IsKnown sources) ms → AllByRecursion (HasName names) ms
-    → AllByRecursion IsPlaced (map (token_of sources names) ms)
-tokens_placed sources names [] few_sources few_names known named = tt
-tokens_placed sources names (m ∷ ms) few_sources few_names known named = (
-  token_placed sources names m few_sources few_names known.0 named.0,
-  tokens_placed sources names ms few_sources few_names known.1 named.1,
-)
-
-tokens_within : (bounds : Bounds) (sources : List Entry) (names : List (List ℕ)) (ms : List Mapping)
-    → bounds.sources ≡ length sources → bounds.names ≡ length names
-    → AllByRecursion (λ m. m.line < bounds.lines) ms → AllByRecursion (IsKnown sources) ms
-    → AllByRecursion (HasName names) ms → AllByRecursion (IsWithin bounds) (map (token_of sources names) ms)
-tokens_within bounds sources names [] all_sources all_names below known named = tt
-tokens_within bounds sources names (m ∷ ms) all_sources all_names below known named = (
-  token_within bounds sources names m all_sources all_names below.0 known.0 named.0,
-  tokens_within bounds sources names ms all_sources all_names below.1 known.1 named.1,
-)
-
 -- The canonical tokens can be written.
 pub canonical_encodable : (r : Record) → IsWritable r → IsEncodable (canonical_listing r).tokens
-canonical_encodable r h = (
-  subst NeverFalls (sym (same_positions r.sources (names_used r.mappings) r.mappings)) h.in_order,
-  tokens_placed r.sources (names_used r.mappings) r.mappings h.few_sources h.few_names h.mappings
-      (used_names r.mappings),
-)
+canonical_encodable r h =
+    let names = names_used r.mappings in (
+      rw (same_positions r.sources names r.mappings) h.in_order,
+      all_map (λ m. IsKnown r.sources m × HasName names m) IsPlaced (token_of r.sources names)
+          (λ m known. token_placed r.sources names m h.few_sources h.few_names known.0 known.1) r.mappings
+          (all_both (IsKnown r.sources) (HasName names) r.mappings h.mappings (used_names r.mappings)),
+    )
 
 -- They are read back under limits whose lines hold them.
 pub canonical_for : (limits : Allowed) (r : Record)
     → IsWritable r → AllByRecursion (λ m. m.line < limits.lines) r.mappings
     → AreFor (flat_bounds limits (canonical_listing r)) (canonical_listing r).tokens
-canonical_for limits r h below = record {
-  line_start = refl;
-  column_start = refl;
-  encodable = canonical_encodable r h;
-  within = tokens_within (flat_bounds limits (canonical_listing r)) r.sources (names_used r.mappings)
-      r.mappings refl refl below h.mappings (used_names r.mappings);
-}
+canonical_for limits r h below =
+    let names = names_used r.mappings in
+    let bounds = flat_bounds limits (canonical_listing r) in
+    record {
+      line_start = refl;
+      column_start = refl;
+      encodable = canonical_encodable r h;
+      within = all_map (λ m. m.line < limits.lines × (IsKnown r.sources m × HasName names m)) (IsWithin bounds)
+          (token_of r.sources names)
+          (λ m known. token_within bounds r.sources names m refl refl known.0 known.1.0 known.1.1) r.mappings
+          (all_both (λ m. m.line < limits.lines) (λ m. IsKnown r.sources m × HasName names m) r.mappings below
+          (all_both (IsKnown r.sources) (HasName names) r.mappings h.mappings (used_names r.mappings)));
+    }

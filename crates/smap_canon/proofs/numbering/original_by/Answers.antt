@@ -1,15 +1,15 @@
-use Rattle.std.proofs.Common.{◌≡◌, ◌≢◌, ◌<◌, ◌∙◌, Some, length, sym, ap, bytes_eq, slice_get, arith, subst}
-use Rattle.std.specs.Prelude.{IfSome, option_map, option_and_then, unwrap_or, get_or}
+use Rattle.std.proofs.Common.{refl}
+use Rattle.std.proofs.Common.{◌≡◌, ◌<◌, ◌∙◌, length, sym, bytes_eq, slice_get, arith}
+use Rattle.std.specs.Prelude.{option_map, unwrap_or}
 use Rattle.std.specs.List.{position_or_len}
 use Rattle.std.proofs.lemmas.Option.{slice_get-get_or}
 use Rattle.smap_record.specs.Record.{record_of, origin_of, same_entry, no_entry}
 use Rattle.smap_record.proofs.EqualLemmas.{same_entries, own_entry}
 use Rattle.smap_record.proofs.OnceLemmas.{distinct-IsDistinct, length-distinct}
 use Rattle.smap_canon.specs.Numbering.{used_in}
-use Rattle.smap_canon.specs.declared.numbering.TheConstants.{UNUSED}
 use Rattle.smap_canon.proofs.ListLemmas.{place-at}
 use Rattle.smap_canon.proofs.NumberingLemmas.{number-there}
-use Rattle.smap_canon.proofs.StepLemmas.{source-there}
+use Rattle.smap_canon.proofs.ListedLemmas.{source-there}
 use Rattle.smap_canon.proofs.numbering.original_by.Goals as goal
 use Rattle.smap_canon.proofs.numbering.original_by.Goals.{in-Some, in-None}
 
@@ -35,18 +35,15 @@ returns c =
     let name : c.match-original.name ≡ option_map (λ n. position_or_len (bytes_eq n) (used_in names))
     (origin_of l o).name = elim c.match-original.branch [
       | in-Some w ↦
+          let i = w.in-Some.listed in
           let numbers = names.numbers.items in
-          let below : w.in-Some.listed < length l.names =
-          subst (λ i. IfSome i (λ n. n < length l.names)) w.in-Some.is c.requires.listed.name in
-          let inside : w.in-Some.listed < length numbers = omega (arith, below, c.requires.numbers.count) in
-          w.name-is ∙ ap Some w.index.ensures
-          ∙ sym (slice_get-get_or numbers w.in-Some.listed w.index.result.now inside)
-          ∙ slice_get-get_or numbers w.in-Some.listed 0 inside
-          ∙ number-there l.names (used_in names) numbers w.in-Some.listed c.requires.numbers below
-          (subst (λ i. IfSome i (λ n. get_or numbers n 0 ≢ UNUSED)) w.in-Some.is c.requires.numbered)
-          ∙ ap (λ i. option_map (λ n. position_or_len (bytes_eq n) (used_in names))
-          (option_and_then (slice_get l.names) i)) (sym w.in-Some.is)
-      | in-None w ↦ w.name-is ∙ ap (λ i. option_map (λ n. position_or_len (bytes_eq n) (used_in names))
-          (option_and_then (slice_get l.names) i)) (sym w.in-None.is)
+          let below = rw w.in-Some.is at c.requires.listed.name in
+          let inside : i < length numbers = omega (arith, below, c.requires.numbers.count) in
+          let there = number-there l.names (used_in names) numbers i c.requires.numbers below
+          (rw w.in-Some.is at c.requires.numbered) in
+          let read = slice_get-get_or numbers i w.index.result.now inside in
+          let same = slice_get-get_or numbers i 0 inside in
+          rw (w.name-is, w.in-Some.is) (cc w.index.ensures)
+      | in-None w ↦ rw (w.name-is, w.in-None.is) refl
     ] in
     λ i. record { source = source i; line = o.line; column = o.column; name = name i }

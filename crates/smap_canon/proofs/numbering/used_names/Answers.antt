@@ -1,13 +1,11 @@
-use Rattle.std.proofs.Common.{◌∙◌, ap, sym, subst, arith}
-use Rattle.std.specs.List.{AllByRecursion}
+use Rattle.std.proofs.Common.{◌∙◌, ap, arith}
 use Rattle.std.proofs.lemmas.List.{length-map, take_all}
 use Rattle.smap_record.specs.Record.{record_of, mapping_of}
 use Rattle.smap_record.specs.Fitting.{names_used}
 use Rattle.smap_record.specs.Listings.{IsListedToken}
 use Rattle.smap_record.proofs.ListLemmas.{all_at}
-use Rattle.smap_canon.specs.Numbering.{used_in, IsNumbered}
+use Rattle.smap_canon.specs.Numbering.{used_in}
 use Rattle.smap_canon.proofs.NumberingLemmas.{used-start, numbers-none, numbered-next}
-use Rattle.smap_canon.proofs.PushedLemmas.{take_none}
 use Rattle.smap_canon.proofs.StepLemmas.{used-then, few-keys}
 use Rattle.smap_canon.proofs.numbering.used_names.Goals as goal
 
@@ -18,8 +16,7 @@ loop-i-init c =
       used = used-start c.in_ok-names.names.used.keys (record_of m).mappings c.in_ok-names.ensures.used;
       numbers = numbers-none m.listing.names (used_in c.in_ok-names.names) c.in_ok-names.names.numbers.items
           c.in_ok-names.ensures.numbers;
-      each = subst (AllByRecursion (IsNumbered c.in_ok-names.names.numbers.items))
-          (sym (take_none m.listing.tokens)) tt;
+      each = tt;
     }
 
 pub use_name-requires-clause-listed : goal.use_name-requires-clause-listed
@@ -54,5 +51,5 @@ returns c =
     record {
       used = c.loop-i.invariant.used ∙ ap names_used mappings;
       numbers = c.loop-i.invariant.numbers;
-      each = subst (AllByRecursion (IsNumbered c.loop-i.names.numbers.items)) all c.loop-i.invariant.each;
+      each = rw all at c.loop-i.invariant.each;
     }

@@ -1,8 +1,8 @@
-use Rattle.std.proofs.Common.{◌∙◌, sym, subst, true≢false, List}
-use Rattle.smap_record.specs.Record.{Entry, record_of, same_entry}
+use Rattle.std.proofs.Common.{◌∙◌, sym, true≢false}
+use Rattle.smap_record.specs.Record.{record_of, same_entry}
 use Rattle.smap_record.specs.Views.{mapping_of_view}
 use Rattle.smap_record.proofs.OnceLemmas.{distinct-IsDistinct}
-use Rattle.smap_canon.proofs.SamenessLemmas.{IsNumbered, equal_views, views_equal, same_next, same_place}
+use Rattle.smap_canon.proofs.SamenessLemmas.{equal_views, views_equal, same_next, same_place}
 use Rattle.smap_canon.proofs.sameness.same_mappings.Goals as goal
 
 pub loop-i-preserved : goal.loop-i-preserved
@@ -10,8 +10,7 @@ loop-i-preserved c =
     let a = c.args.a.now in
     let x = c.token.result in
     let y = c.token-in-loop-i.result in
-    let y_at = subst (λ (sources : List Entry). IsNumbered sources y) (sym c.requires)
-    c.token-in-loop-i.ensures.number in
+    let y_at = rw (← c.requires) at c.token-in-loop-i.ensures.number in
     same_next (record_of a).mappings (record_of c.args.b.now).mappings c.loop-i.i (mapping_of_view x)
     (mapping_of_view y) c.loop-i.invariant c.token.ensures.mapping c.token-in-loop-i.ensures.mapping
     (equal_views (record_of a).sources (distinct-IsDistinct same_entry a.listing.sources) x y
@@ -24,8 +23,7 @@ returns-then-not-same_mapping c = (
       let a = c.args.a.now in
       let x = c.token.result in
       let y = c.token-in-loop-i.result in
-      let y_at = subst (λ (sources : List Entry). IsNumbered sources y) (sym c.requires)
-      c.token-in-loop-i.ensures.number in
+      let y_at = rw (← c.requires) at c.token-in-loop-i.ensures.number in
       let is =
       same_place (record_of a).mappings (record_of c.args.b.now).mappings c.loop-i.i (mapping_of_view x)
       (mapping_of_view y) c.token.ensures.mapping c.token-in-loop-i.ensures.mapping e in

@@ -35,10 +35,6 @@ returns g c =
     let mappings = string (mappings_text m.listing.tokens) in
     let file : option_map (λ s. string s.now) c.file-file.result ≡ option_map string m.file =
     texts_copied c.file-file.result ∙ ap (option_map string) c.file-file.ensures in
-    let ignored : option_map ignored_tree c.ignored_of-ignored.result
-    ≡ unless_empty (map whole_number (ignored_from 0 sources)) = c.ignored_of-ignored.ensures in
-    let contents : option_map contents_tree c.contents_of-contents.result ≡ written_contents sources =
-    c.contents_of-contents.ensures in
     let m7 = member (codes "version") (whole_number 3) no_members in
     let m6 = optional_member (codes "sourcesContent") (written_contents sources) m7 in
     let m5 = member (codes "sources") urls m6 in
@@ -50,24 +46,20 @@ returns g c =
       l0,
       subst (λ n. Logs old l0 (map_begins (Some n)))
           (members_count (spelling_of self.spelling) m c.is_some.result c.is_some-2.result c.is_some-3.result
-          (c.is_some.ensures
-          ∙ is_some-map (λ s. string s.now) c.file-file.result (option_map string m.file) file)
-          (c.is_some-2.ensures ∙ is_some-map ignored_tree c.ignored_of-ignored.result
-          (unless_empty (map whole_number (ignored_from 0 sources))) ignored)
-          (c.is_some-3.ensures
-          ∙ is_some-map contents_tree c.contents_of-contents.result (written_contents sources) contents))
+          (c.is_some.ensures ∙ is_some-map (λ s. string s.now) _ _ file)
+          (c.is_some-2.ensures ∙ is_some-map ignored_tree _ _ c.ignored_of-ignored.ensures)
+          (c.is_some-3.ensures ∙ is_some-map contents_tree _ _ c.contents_of-contents.ensures))
           c.in_ok-begin_map.ensures,
       optional_sent (λ s old new. Logs old new (text s.now)) (λ s. string s.now) (λ x old new w. w)
-          c.file-file.result (option_map string m.file) file (codes "file") m2 l0 l1 new
+          _ _ file (codes "file") m2 l0 l1 new
           c.in_ok-optional_member.ensures
           (optional_sent (λ i. SendsValue (ignored_tree i)) ignored_tree (λ x old new w. w)
-          c.ignored_of-ignored.result (unless_empty (map whole_number (ignored_from 0 sources))) ignored
-          (codes "ignoreList") m3 l1 l2 new c.in_ok-optional_member-2.ensures
+          _ _ c.ignored_of-ignored.ensures (codes "ignoreList") m3 l1 l2 new c.in_ok-optional_member-2.ensures
           (member_sent (codes "mappings") mappings m4 l2 l3 new c.in_ok-member.ensures
           (member_sent (codes "names") names m5 l3 l4 new c.in_ok-member-2.ensures
           (member_sent (codes "sources") urls m6 l4 l5 new c.in_ok-member-3.ensures
           (optional_sent (λ i. SendsValue (contents_tree i)) contents_tree (λ x old new w. w)
-          c.contents_of-contents.result (written_contents sources) contents (codes "sourcesContent") m7 l5 l6
+          _ _ c.contents_of-contents.ensures (codes "sourcesContent") m7 l5 l6
           new c.in_ok-optional_member-3.ensures
           (member_sent (codes "version") (whole_number 3) no_members l6 l7 new c.in_ok-member-4.ensures
           e)))))),
