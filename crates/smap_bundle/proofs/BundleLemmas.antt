@@ -1,7 +1,8 @@
 -- A bundle from its entries.
+use Rattle.std.proofs.lemmas.List.{nil_from_length}
 use Rattle.std.proofs.Common.{◌≡◌, ◌∙◌, ℕ, zero, suc, ◌<◌, ◌≤◌, List, [], ◌∷◌, ◌++◌, length, Option, Some}
 use Rattle.std.specs.Option.{option_map_or}
-use Rattle.std.proofs.Common.{None, Ok, Err, refl, sym, ap, subst, arith, append_assoc}
+use Rattle.std.proofs.Common.{None, Ok, Err, refl, sym, ap, arith, append_assoc}
 use Rattle.std.proofs.Common.{append-nil, length-append}
 use Rattle.smap_record.specs.Faults.{◌>>=◌}
 use Rattle.smap_record.specs.Scripts.{Script}
@@ -38,10 +39,9 @@ pub same_from : (m n : ℕ) (seen : List Script) (text : List ℕ) → length te
     → bundle_from m seen text ≡ bundle_from n seen text
 unfolding bundle_from
 same_from zero zero seen text le fits = refl
-same_from zero (suc n) seen [] le fits = sym (nothing n seen)
-same_from zero (suc n) seen (x ∷ xs) le fits = absurd (omega (arith, le))
-same_from (suc m) zero seen [] le fits = nothing m seen
-same_from (suc m) zero seen (x ∷ xs) le fits = absurd (omega (arith, fits))
+same_from zero (suc n) seen text le fits =
+    rw (nil_from_length text (omega (arith, le))) (sym (nothing n seen))
+same_from (suc m) zero seen text le fits = rw (nil_from_length text (omega (arith, fits))) (nothing m seen)
 same_from (suc m) (suc n) seen text le fits = go (after trace_line text) (entry_in seen text) refl
     (λ ss rest less. same_from m n ss rest (omega (arith, le, less)) (omega (arith, fits, less)))
   where
@@ -62,16 +62,14 @@ pub reached : (ss seen : List Script) (text rest : List ℕ) (m n : ℕ) → Beg
     → length text ≤ m → length rest ≤ n → bundle_from m seen text ≡ bundle_from n (seen ++ ss) rest
 unfolding bundle_from
 reached [] seen text rest m n is le fits =
-    same_from m n seen text le (omega (arith, ap length is, fits))
-    ∙ ap (bundle_from n seen) is ∙ ap (λ (ss : List Script). bundle_from n ss rest) (sym (append-nil seen))
+    rw (is, append-nil seen) (same_from m n seen rest (omega (arith, ap length is, le)) fits)
 reached (s ∷ ss) seen text rest zero n (next, e, more) le fits =
     absurd (omega (arith, le, shorter text next (taken seen text (s, next) e)))
 reached (s ∷ ss) seen text rest (suc m) n (next, e, more) le fits =
     let t = taken seen text (s, next) e in
     let trace = trace_isnt text t.header.script t.header.base t.header.bytes t.more t.begins in
-    let one : bundle_from (suc m) seen text ≡ bundle_from m (seen ++ s ∷ []) next = rw (trace, e) refl in
-    one ∙ reached ss (seen ++ s ∷ []) next rest m n more (omega (arith, le, shorter text next t)) fits
-    ∙ ap (λ (zs : List Script). bundle_from n zs rest) (append_assoc seen (s ∷ []) ss)
+    rw (trace, e, ← append_assoc seen (s ∷ []) ss)
+    (reached ss (seen ++ s ∷ []) next rest m n more (omega (arith, le, shorter text next t)) fits)
 
 pub of_entries : (ss : List Script) (text rest : List ℕ) (n : ℕ) → BeginsWithEntries [] text ss rest
     → length rest ≤ n → bundle_of text ≡ bundle_from n ss rest
@@ -102,22 +100,15 @@ faulty_bundle ss entries line text fault are is =
 one_more : (ss seen : List Script) (text next rest : List ℕ) (s : Script)
     → BeginsWithEntries seen text ss next → entry_in (seen ++ ss) next ≡ Ok (s, rest)
     → BeginsWithEntries seen text (ss ++ s ∷ []) rest
-one_more [] seen text next rest s is e = (
-  rest,
-  ap (entry_in seen) is ∙ ap (λ (zs : List Script). entry_in zs next) (sym (append-nil seen)) ∙ e,
-  refl,
-)
+one_more [] seen text next rest s is e = (rest, rw is (rw (append-nil seen) at e), refl)
 one_more (t ∷ ts) seen text next rest s (after_t, e, more) last = (
   after_t,
   e,
-  one_more ts (seen ++ t ∷ []) after_t next rest s more
-      (ap (λ (zs : List Script). entry_in zs next) (append_assoc seen (t ∷ []) ts) ∙ last),
+  one_more ts (seen ++ t ∷ []) after_t next rest s more (rw (append_assoc seen (t ∷ []) ts) last),
 )
 
 pub entries_more : (ss : List Script) (entries entry : List ℕ) (s : Script) → AreEntries entries ss
     → ((more : List ℕ) → entry_in ss (entry ++ more) ≡ Ok (s, more))
     → AreEntries (entries ++ entry) (ss ++ s ∷ [])
-entries_more ss entries entry s are is rest =
-    one_more ss [] ((entries ++ entry) ++ rest) (entry ++ rest) rest s
-    (subst (λ (xs : List ℕ). BeginsWithEntries [] xs ss (entry ++ rest))
-    (sym (append_assoc entries entry rest)) (are (entry ++ rest))) (is rest)
+entries_more ss entries entry s are is rest = rw (append_assoc entries entry rest)
+    (one_more ss [] (entries ++ (entry ++ rest)) (entry ++ rest) rest s (are (entry ++ rest)) (is rest))

@@ -1,8 +1,11 @@
 -- `header_in` computes the header with which a text begins.
-use Rattle.std.proofs.Common.{◌≡◌, ◌∙◌, ℕ, ◌<◌, ◌==◌, Bool, true, false, not, ◌&&◌, ◌||◌}
+use Rattle.std.proofs.lemmas.Bool.{and_parts, or_parts, cases_Bool, not-true, not_from_false}
+use Rattle.std.proofs.lemmas.Bool.Decides.{nat_tests}
+use Rattle.std.proofs.Common.{inl, inr}
+use Rattle.std.proofs.lemmas.List.{nil_from_length}
+use Rattle.std.proofs.Common.{◌≡◌, ◌∙◌, ℕ, ◌<◌, ◌==◌, Bool, true, not, ◌&&◌, ◌||◌}
 use Rattle.std.proofs.Common.{if◌then◌else◌, List, [], ◌∷◌, ◌++◌, length, codes, Option, Some, None}
 use Rattle.std.proofs.Common.{refl, sym, ap, subst, arith, append_assoc, length-append}
-use Rattle.std.specs.Prelude.{option_map}
 use Rattle.std.specs.List.{list_any}
 use Rattle.std.proofs.lemmas.Bool.{lt-ltb, ltb-true}
 use Rattle.std.proofs.lemmas.Bool.Decides.{Decides-eqb}
@@ -13,57 +16,42 @@ use Rattle.smap_record.specs.Scripts.{lacks}
 use Rattle.smap_bundle.specs.Header.{BeginsWithHeader, HeaderParts, IsHeader, IsNumber, IsWord, ◌>>=◌, after}
 use Rattle.smap_bundle.specs.Header.{cut, header_in, header_of, longest_header, number_in, word_in}
 use Rattle.smap_bundle.specs.Laws.{HeaderIsComputed, OneBeginning, OneHeader}
-use Rattle.smap_bundle.proofs.TextLemmas.{both, lacks_front, lacks_rest}
-use Rattle.smap_bundle.proofs.HeaderLemmas.{begun, inside, inside_is, inside_lacks, words}
+use Rattle.smap_bundle.proofs.TextLemmas.{lacks_front, lacks_rest}
+use Rattle.smap_bundle.proofs.HeaderLemmas.{begun, inside, inside_lacks, line_is, words, words_are}
 
 then_some : {A B P : Type 0} (o : Option A) (f : A → Option B) (y : B) → (o >>= f) ≡ Some y
     → ((x : A) → o ≡ Some x → f x ≡ Some y → P) → P
 then_some None f y e k = absurd (none-some y e)
 then_some (Some x) f y e k = k x refl e
 
-same : (x : ℕ) → (x == x) ≡ true
-same x = (Decides-eqb x x).1 refl
-
 -- ---- prefixes and cuts
 
 pub after_is : (p text rest : List ℕ) → after p text ≡ Some rest → text ≡ p ++ rest
 after_is [] text rest e = same_Some text rest e
 after_is (y ∷ p) [] rest e = absurd (none-some rest e)
-after_is (y ∷ p) (x ∷ xs) rest e = go (x == y) refl e (after_is p xs rest)
-  where
-    go : (t : Bool) → (x == y) ≡ t → (if t then after p xs else None) ≡ Some rest
-        → (after p xs ≡ Some rest → xs ≡ p ++ rest) → (x ∷ xs) ≡ (y ∷ p) ++ rest
-    go true is h more = let first = (Decides-eqb x y).0 is in let tail = more h in cc
-    go false is h more = absurd (none-some rest h)
+after_is (y ∷ p) (x ∷ xs) rest e = elim (cases_Bool (x == y)) [
+  | inl is ↦ rw ((Decides-eqb x y).0 is, after_is p xs rest (rw is at e)) refl
+  | inr is ↦ absurd (none-some rest (rw is at e))
+]
 
 cut_there : (b : ℕ) (front rest : List ℕ) → lacks b front ≡ true
     → cut b (front ++ b ∷ rest) ≡ Some (front, rest)
-cut_there b [] rest free = rw (same b) refl
-cut_there b (x ∷ xs) rest free = go (x == b) refl free (cut_there b xs rest)
-  where
-    go : (t : Bool) → (x == b) ≡ t → not (t || list_any (λ c. c == b) xs) ≡ true
-        → (lacks b xs ≡ true → cut b (xs ++ b ∷ rest) ≡ Some (xs, rest))
-        → cut b ((x ∷ xs) ++ b ∷ rest) ≡ Some (x ∷ xs, rest)
-    go true e h more = cc
-    go false e h more = rw (e, more h) refl
+cut_there b [] rest free = rw ((Decides-eqb b b).1 refl) refl
+cut_there b (x ∷ xs) rest free =
+    let parts = or_parts (x == b) (list_any (λ c. c == b) xs) (not-true _ free) in
+    rw (parts.0, cut_there b xs rest (not_from_false _ parts.1)) refl
 
 abbrev CutAt : ℕ → List ℕ → List ℕ × List ℕ → Type 0
 CutAt b text c = (text ≡ c.0 ++ b ∷ c.1) × (lacks b c.0 ≡ true)
 
 cut_is : (b : ℕ) (text : List ℕ) (c : List ℕ × List ℕ) → cut b text ≡ Some c → CutAt b text c
 cut_is b [] c e = absurd (none-some c e)
-cut_is b (x ∷ xs) c e = go (x == b) refl e (cut_is b xs)
-  where
-    go : (t : Bool) → (x == b) ≡ t
-        → (if t then Some ([], xs) else option_map (λ d. (x ∷ d.0, d.1)) (cut b xs)) ≡ Some c
-        → ((d : List ℕ × List ℕ) → cut b xs ≡ Some d → CutAt b xs d) → CutAt b (x ∷ xs) c
-    go true is h more = subst (CutAt b (x ∷ xs)) (same_Some _ _ h) (
-      ap (λ (y : ℕ). y ∷ xs) ((Decides-eqb x b).0 is),
-      refl,
-    )
-    go false is h more = map_some _ (cut b xs) c h (λ d found told.
-        let tail = more d found in
-        subst (CutAt b (x ∷ xs)) told (ap (λ (ys : List ℕ). x ∷ ys) tail.0, rw is tail.1))
+cut_is b (x ∷ xs) c e = elim (cases_Bool (x == b)) [
+  | inl is ↦ subst (CutAt b (x ∷ xs)) (same_Some _ _ (rw is at e)) (rw ((Decides-eqb x b).0 is) refl, refl)
+  | inr is ↦ map_some _ (cut b xs) c (rw is at e) (λ d found told.
+      let tail = cut_is b xs d found in
+      subst (CutAt b (x ∷ xs)) told (ap (λ (ys : List ℕ). x ∷ ys) tail.0, rw is tail.1))
+]
 
 -- ---- words and numbers
 
@@ -74,7 +62,7 @@ word_is : (text word : List ℕ) → word_in text ≡ Some word → lacks 32 tex
     → IsWord text × (text ≡ word)
 word_is text word e space feed =
     let c = cond_some _ _ _ e in
-    let t = both _ _ c.0 in (
+    let t = and_parts _ _ c.0 in (
       record {
         some = ltb-true 0 (length text) t.0;
         utf8 = IsUtf8-from_is_utf8 text t.1;
@@ -88,35 +76,27 @@ tested : (s t : Bool) (value n : ℕ) → s ≡ true → t ≡ true → value �
     → (if s && t then Some value else None) ≡ Some n
 tested s t value n p q e = rw (p, q, e) refl
 
+-- `0` alone, or digits that don't begin with it
+alone : (d n : ℕ) → (d ≡ 48 → n ≡ 0) → (not (d == 48) || n == 0) ≡ true
+alone d n few = grind (arith, nat_tests)
+
 number_there : (text : List ℕ) (n : ℕ) → IsNumber text n → number_in text ≡ Some n
 number_there [] n is = absurd (omega (arith, is.some))
-number_there (d ∷ ds) n is = tested _ _ _ n is.digits (go (d == 48) refl ds refl) is.value
-  where
-    go : (t : Bool) → (d == 48) ≡ t → (rest : List ℕ) → ds ≡ rest → (not (d == 48) || length ds == 0) ≡ true
-    go false z rest e = rw z refl
-    go true z [] e = rw (z, e) refl
-    go true z (y ∷ ys) e =
-        let len = ap length (is.no_zero ((Decides-eqb d 48).0 z)) in
-        let more = ap length e in
-        absurd (omega (arith, len, more))
+number_there (d ∷ ds) n is = tested _ _ _ n is.digits
+    (alone d (length ds) (λ zero. omega (arith, ap length (is.no_zero zero)))) is.value
 
 number_is : (text : List ℕ) (n : ℕ) → number_in text ≡ Some n → IsNumber text n
 number_is [] n e = absurd (none-some n e)
 number_is (d ∷ ds) n e =
     let c = cond_some _ _ _ e in
-    let t = both _ _ c.0 in
+    let t = and_parts _ _ c.0 in
     record {
       digits = t.0;
       some = omega arith;
-      no_zero = λ zero. alone zero ds (rw ((Decides-eqb d 48).1 zero) at t.1);
+      no_zero = λ zero. let none = (Decides-eqb (length ds) 0).0 (rw ((Decides-eqb d 48).1 zero) at t.1) in
+          rw (zero, nil_from_length ds none) refl;
       value = c.1;
     }
-  where
-    alone : d ≡ 48 → (rest : List ℕ) → (length rest == 0) ≡ true → (d ∷ rest) ≡ codes "0"
-    alone zero [] none = cc
-    alone zero (y ∷ ys) none =
-        let len : length (y ∷ ys) ≡ 0 = (Decides-eqb (length (y ∷ ys)) 0).0 none in
-        absurd (omega (arith, len))
 
 -- ---- a header
 
@@ -126,7 +106,7 @@ parts_there line script base n h =
     let short : length (inside script base h.digits) < longest_header = omega (
       arith,
       h.short,
-      ap length (h.whole ∙ inside_is script base h.digits),
+      ap length (line_is line script base n h),
       length-append (inside script base h.digits) (10 ∷ []),
     ) in
     rw (
@@ -173,9 +153,7 @@ parts_are line h free e =
     let short = ltb-true (length line) longest_header told.0 in
     subst (λ (p : HeaderParts). IsHeader (line ++ 10 ∷ []) p.script p.base p.bytes) told.1 (record {
       digits = second.1;
-      whole = ap (λ (xs : List ℕ). xs ++ 10 ∷ []) (all ∙ ap (λ (xs : List ℕ). inside xs second.0 second.1)
-          one.1 ∙ ap (λ (xs : List ℕ). inside script xs second.1) two.1)
-          ∙ sym (inside_is script base second.1);
+      whole = rw (all, one.1, two.1) (sym (words_are script base second.1));
       script_word = subst IsWord one.1 one.0;
       base_word = subst IsWord two.1 two.0;
       number = number_is second.1 bytes is_number;
@@ -192,8 +170,7 @@ header_is text h more e =
     let told = same_parts parts h line.1 more e2 in
     record {
       line = line.0 ++ 10 ∷ [];
-      whole = c.0 ∙ sym (append_assoc line.0 (10 ∷ []) line.1)
-          ∙ ap (λ (xs : List ℕ). (line.0 ++ 10 ∷ []) ++ xs) told.1;
+      whole = rw (append_assoc line.0 (10 ∷ []) more, c.0, told.1) refl;
       header = subst (λ (p : HeaderParts). IsHeader (line.0 ++ 10 ∷ []) p.script p.base p.bytes) told.0
           (parts_are line.0 parts c.1 are);
     }))

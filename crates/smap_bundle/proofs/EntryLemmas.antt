@@ -1,15 +1,16 @@
 -- What is wrong with an entry, and what an entry is.
-use Rattle.std.proofs.Common.{◌≡◌, ◌≢◌, ◌∙◌, ◌⊎◌, inl, inr, ℕ, ◌+◌, ◌-◌, ◌^◌, ◌<◌, ◌≤◌, ◌==◌, Bool, true}
-use Rattle.std.proofs.Common.{false, if◌then◌else◌, List, [], ◌∷◌, ◌++◌, length, map, min, take, drop, get_or}
-use Rattle.std.proofs.Common.{codes, Option, Some, None, option_and_then, Result, Ok, Err}
+use Rattle.std.proofs.lemmas.Bool.Decides.{nat_tests}
+use Rattle.std.proofs.lemmas.List.Quantifiers.{all_pairs_push}
+use Rattle.std.proofs.Common.{◌≡◌, ◌≢◌, ◌∙◌, inl, inr, ℕ, ◌+◌, ◌-◌, ◌^◌, ◌<◌, ◌≤◌, Bool, true}
+use Rattle.std.proofs.Common.{false, List, [], ◌∷◌, ◌++◌, length, map, min, drop, get_or}
+use Rattle.std.proofs.Common.{codes, Option, Some, None, Result, Ok, Err}
 use Rattle.std.proofs.Common.{refl, sym, ap, subst}
 use Rattle.std.proofs.Common.{arith, append_assoc, append-nil, length-append, length-drop, true≢false}
 use Rattle.std.specs.Prelude.{IsErr, slice_get}
 use Rattle.std.proofs.Math.ListN.{get_or-append}
-use Rattle.std.proofs.Math.Seq.{drop-append_seam, get_or-append_seam, take-append_seam}
+use Rattle.std.proofs.Math.Seq.{drop-append_seam, take-append_seam}
 use Rattle.std.proofs.NetLemmas.Options.{and_then_some, cond_some}
 use Rattle.std.proofs.lemmas.Bool.{cases_lt, le-ltb, lt-ltb}
-use Rattle.std.proofs.lemmas.Bool.Decides.{Decides-eqb}
 use Rattle.std.proofs.lemmas.Cmp.{nat_list_eq_equiv}
 use Rattle.std.proofs.lemmas.List.{get_or-map, length-map}
 use Rattle.std.proofs.lemmas.Map.Views.{list_any-from_Contains}
@@ -53,8 +54,7 @@ past_the_end bytes more n short none is =
       short,
       length-append bytes more,
       ap length none,
-    )) in
-    let bad : ◌≡◌ {A = Option ℕ} None (Some 10) = sym past ∙ is in cc
+    )) in cc
 
 -- the byte after this many, where it isn't a line feed
 pub no_feed_there : (bytes more : List ℕ) (n x : ℕ) → n < length bytes → x ≡ get_or bytes n x → x ≢ 10
@@ -70,28 +70,12 @@ byte_after (x ∷ xs) y ys = byte_after xs y ys
 pub map_there : (bytes more : List ℕ) (n : ℕ) → length bytes ≡ n
     → map_in n ((bytes ++ 10 ∷ []) ++ more) ≡ Some (bytes, more)
 map_there bytes more n len =
-    let text : (bytes ++ 10 ∷ []) ++ more ≡ bytes ++ 10 ∷ more = append_assoc bytes (10 ∷ []) more in
-    let rest : drop (length bytes + 1) (bytes ++ 10 ∷ more) ≡ more =
-    ap (λ (xs : List ℕ). drop (length bytes + 1) xs) (sym text)
-    ∙ ap (λ k. drop k ((bytes ++ 10 ∷ []) ++ more)) (sym (length-append bytes (10 ∷ [])))
-    ∙ drop-append_seam (bytes ++ 10 ∷ []) more in
-    rw (text, sym len, byte_after bytes 10 more, take-append_seam bytes (10 ∷ more), rest) refl
-
-abbrev parts_at : ℕ → List ℕ → List ℕ × List ℕ
-parts_at n text = (take n text, drop (n + 1) text)
+    let text = append_assoc bytes (10 ∷ []) more in
+    let rest = rw (length-append bytes (10 ∷ []), text) at (drop-append_seam (bytes ++ 10 ∷ []) more) in
+    rw (text, ← len, byte_after bytes 10 more, take-append_seam bytes (10 ∷ more), rest) refl
 
 pub no_map : (n : ℕ) (text : List ℕ) → slice_get text n ≢ Some 10 → map_in n text ≡ None
-no_map n text none = go (slice_get text n) refl
-  where
-    byte : (b : ℕ) (t : Bool) → (b == 10) ≡ t → slice_get text n ≡ Some b
-        → (if b == 10 then Some (parts_at n text) else None) ≡ None
-    byte b true e h = absurd (none (h ∙ ap (λ (x : ℕ). Some x) ((Decides-eqb b 10).0 e)))
-    byte b false e h = rw e refl
-
-    go : (o : Option ℕ) → slice_get text n ≡ o
-        → option_and_then (λ b. if b == 10 then Some (parts_at n text) else None) o ≡ None
-    go None h = refl
-    go (Some b) h = byte b (b == 10) refl h
+no_map n text none = grind (arith, nat_tests)
 
 -- how much follows a map
 map_leaves : (n : ℕ) (text : List ℕ) (parts : List ℕ × List ℕ) → map_in n text ≡ Some parts
@@ -108,8 +92,7 @@ map_leaves n text parts e = and_then_some _ (slice_get text n) parts e (λ b at 
 pub refused_at : {A : Type 0} {r : Checked A} (seen : List Script) (i : ℕ) (fault : EntryFault)
     (found : BundleFault) → i ≡ length seen → found ≡ refusal i fault → r ≡ Err (fault_after seen fault)
     → r ≡ Err found
-refused_at {A = A} seen i fault found at is e =
-    e ∙ sym (ap (λ (f : BundleFault). Err f) (is ∙ ap (λ k. refusal k fault) at))
+refused_at seen i fault found at is e = rw (e, is, at) refl
 
 not_url : (seen : List Script) (r : Parsed Parts) → IsErr r
     → base_url seen r ≡ Err (fault_after seen wrong.Base)
@@ -156,16 +139,16 @@ pub entry_begun : (seen : List Script) (text script base : List ℕ) (n : ℕ) (
 unfolding entry_in
 entry_begun seen text script base n more b = rw (header_there text script base n more b) refl
 
+is_none : {A : Type 0} (o : Option A) → ((x : A) → o ≡ Some x → ⊥) → o ≡ None
+is_none None none = refl
+is_none (Some x) none = absurd (none x refl)
+
 -- no entry begins with the line `trace`
 pub trace_isnt : (text script base : List ℕ) (n : ℕ) (more : List ℕ)
     → BeginsWithHeader text script base n more → after trace_line text ≡ None
-trace_isnt text script base n more b = go (after trace_line text) refl
-  where
-    go : (o : Option (List ℕ)) → after trace_line text ≡ o → o ≡ None
-    go None e = refl
-    go (Some trace) e = absurd (no_header_of_trace script base more trace n
-        (subst (λ (xs : List ℕ). BeginsWithHeader xs script base n more)
-        (after_is trace_line text trace e) b))
+trace_isnt text script base n more b = is_none (after trace_line text) (λ trace e.
+    no_header_of_trace script base more trace n (subst (λ (xs : List ℕ). BeginsWithHeader xs script base n more)
+    (after_is trace_line text trace e) b))
 
 then_ok : {A B F P : Type 0} (r : Result A F) (f : A → Result B F) (y : B) → (r >>= f) ≡ Ok y
     → ((x : A) → r ≡ Ok x → f x ≡ Ok y → P) → P
@@ -221,10 +204,10 @@ has_none : (ended : Bool) (line more : List ℕ) → IsLine ended line → MayFo
     → ((script base : List ℕ) (n : ℕ) → IsHeader line script base n → ⊥) → HasNoHeader (line ++ more)
 has_none ended line more (inl w) may isnt none = record {
   no_trace = λ trace e.
-      let cut = one_cut 10 w.0.front (codes "trace") more trace refl w.0.one_line refl (start ∙ e) in
+      let cut = one_cut 10 w.0.front (codes "trace") more trace w.0.one_line refl (start ∙ e) in
       isnt (w.0.whole ∙ ap (λ (xs : List ℕ). xs ++ 10 ∷ []) cut.0);
   no_header = λ script base rest n b.
-      let cut = one_cut 10 w.0.front (inside script base b.header.digits) more rest refl w.0.one_line
+      let cut = one_cut 10 w.0.front (inside script base b.header.digits) more rest w.0.one_line
       (inside_lacks b.line script base n b.header)
       (start ∙ begun (line ++ more) script base rest n b) in
       let same : b.line ≡ line = line_is b.line script base n b.header
@@ -265,21 +248,12 @@ pub no_entry : (seen : List Script) (ended : Bool) (line more : List ℕ) → Is
     → IsFaultAt seen (line ++ more) (fault_after seen wrong.Header)
 unfolding entry_in
 no_entry seen ended line more is may isnt none =
-    (trace (after trace_line (line ++ more)) refl, header (header_in (line ++ more)) refl)
-  where
-    neither : HasNoHeader (line ++ more)
-    neither = has_none ended line more is may isnt none
-
-    trace : (o : Option (List ℕ)) → after trace_line (line ++ more) ≡ o → o ≡ None
-    trace None e = refl
-    trace (Some t) e = absurd (neither.no_trace t (after_is trace_line (line ++ more) t e))
-
-    header : (o : Option (HeaderParts × List ℕ)) → header_in (line ++ more) ≡ o
-        → (or_fault seen wrong.Header o >>= λ start. entry_with seen start.0 start.1)
-        ≡ Err (fault_after seen wrong.Header)
-    header None e = refl
-    header (Some h) e = absurd (neither.no_header h.0.script h.0.base h.1 h.0.bytes
-        (header_is (line ++ more) h.0 h.1 e))
+    let neither = has_none ended line more is may isnt none in (
+      is_none (after trace_line (line ++ more))
+          (λ trace e. neither.no_trace trace (after_is trace_line (line ++ more) trace e)),
+      rw (is_none (header_in (line ++ more)) (λ h e. neither.no_header h.0.script h.0.base h.1 h.0.bytes
+          (header_is (line ++ more) h.0 h.1 e))) refl,
+    )
 
 -- a fault after a header is one of the text
 pub fault_of_entry : (seen : List Script) (line script base : List ℕ) (n : ℕ) (more : List ℕ)
@@ -404,28 +378,12 @@ within_part n bytes few = (fault_after [] wrong.CutOff, inr (tt, omega (arith, f
 -- a script with a new URL after others
 pub distinct_more : (ss : List Script) (s : Script) → AreDistinct ss → IsNew ss s.0
     → AreDistinct (ss ++ s ∷ [])
-distinct_more ss s distinct new i j d lt within e = go (cases_lt j (length ss))
-  where
-    len : length (ss ++ s ∷ []) ≡ length ss + 1
-    len = length-append ss (s ∷ [])
-
-    first : i < length ss → (get_or (ss ++ s ∷ []) i d).0 ≡ (get_or ss i d).0
-    first less = ap (λ (t : Script). t.0) (get_or-append ss (s ∷ []) d i less)
-
-    go : (j < length ss) ⊎ (length ss ≤ j) → ⊥
-    go (inl less) = distinct i j d lt less (sym (first (omega (arith, lt, less)))
-        ∙ e ∙ ap (λ (t : Script). t.0) (get_or-append ss (s ∷ []) d j less))
-    go (inr le) =
-        let last : j ≡ length ss = omega (arith, le, within, len) in
-        let before : i < length ss = omega (arith, lt, last) in
-        let here : get_or (ss ++ s ∷ []) j d ≡ s = ap (λ k. get_or (ss ++ s ∷ []) k d) last
-        ∙ get_or-append_seam ss s [] d in
-        let same : (get_or ss i d).0 ≡ s.0 = sym (first before) ∙ e ∙ ap (λ (t : Script). t.0) here in
-        true≢false (sym (list_any-from_Contains nat_list_eq_equiv s.0 (map (λ (t : Script). t.0) ss) (
-          i,
-          omega (arith, before, length-map ss (λ (t : Script). t.0)),
-          get_or-map (λ (t : Script). t.0) ss i d s.0 before ∙ same,
-        )) ∙ new)
+distinct_more ss s distinct new = all_pairs_push (λ (a b : Script). a.0 ≢ b.0) ss s distinct (λ k d lt same.
+    true≢false (sym (list_any-from_Contains nat_list_eq_equiv s.0 (map (λ (t : Script). t.0) ss) (
+      k,
+      omega (arith, lt, length-map ss (λ (t : Script). t.0)),
+      get_or-map (λ (t : Script). t.0) ss k d s.0 lt ∙ same,
+    )) ∙ new))
 
 -- ---- lines as they are read
 
@@ -446,12 +404,14 @@ line_read remaining a b line still (inl w) = (
   w.failures,
 )
 line_read remaining a b line still (inr u) = (
-  inr (u.1, u.0.within, λ still_open. far (cases_lt (length line) longest_header) still_open),
+  inr (
+    u.1,
+    u.0.within,
+    λ still_open. elim (cases_lt (length line) longest_header) [
+      | inl lt ↦ absurd (true≢false (sym (u.0.short lt).0 ∙ still_open))
+      | inr le ↦ le
+    ],
+  ),
   u.0.gave,
   u.0.failures,
 )
-  where
-    far : (length line < longest_header) ⊎ (longest_header ≤ length line) → has_ended b ≡ false
-        → longest_header ≤ length line
-    far (inl lt) still_open = absurd (true≢false (sym (u.0.short lt).0 ∙ still_open))
-    far (inr le) still_open = le

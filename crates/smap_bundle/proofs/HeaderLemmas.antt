@@ -1,32 +1,23 @@
 -- A header as a text.
-use Rattle.std.proofs.Common.{◌≡◌, ◌∙◌, ℕ, ◌==◌, Bool, true, false, List, [], ◌∷◌, ◌++◌, get_or, codes}
-use Rattle.std.proofs.Common.{refl, sym, ap, arith, append_assoc}
+use Rattle.std.proofs.lemmas.Bool.{and_parts}
+use Rattle.std.proofs.lemmas.Bool.Decides.{nat_tests}
+use Rattle.std.proofs.Common.{◌≡◌, ◌∙◌, ℕ, ◌==◌, true, false, List, [], ◌∷◌, ◌++◌, get_or, codes}
+use Rattle.std.proofs.Common.{refl, ap, arith, append_assoc}
 use Rattle.std.specs.Char.{is_ascii_digit}
 use Rattle.std.specs.List.{list_all}
-use Rattle.std.proofs.lemmas.Bool.Decides.{Decides-eqb}
 use Rattle.smap_record.specs.Scripts.{lacks}
 use Rattle.smap_bundle.specs.Header.{BeginsWithHeader, IsHeader, header, trace_line}
-use Rattle.smap_bundle.proofs.TextLemmas.{both, lacks_both}
+use Rattle.smap_bundle.proofs.TextLemmas.{lacks_both}
 
 -- ---- the end of a header
 
-not_both : {t : Bool} → t ≡ true → t ≡ false → ⊥
-not_both p q = cc
-
 digit_lacks : (x : ℕ) → is_ascii_digit x ≡ true → (x == 10) ≡ false
-digit_lacks x h = go (x == 10) refl
-  where
-    go : (t : Bool) → (x == 10) ≡ t → (x == 10) ≡ false
-    go false e = e
-    go true e =
-        let same : x ≡ 10 = (Decides-eqb x 10).0 e in
-        let bad : is_ascii_digit 10 ≡ true = ap is_ascii_digit (sym same) ∙ h in
-        absurd (not_both bad refl)
+digit_lacks x h = grind (arith, nat_tests)
 
 digits_lack : (ds : List ℕ) → list_all is_ascii_digit ds ≡ true → lacks 10 ds ≡ true
 digits_lack [] h = refl
 digits_lack (d ∷ ds) h =
-    let parts = both (is_ascii_digit d) (list_all is_ascii_digit ds) h in
+    let parts = and_parts (is_ascii_digit d) (list_all is_ascii_digit ds) h in
     rw (digit_lacks d parts.0) (digits_lack ds parts.1)
 
 -- a header between `map ` and its line feed
@@ -39,13 +30,7 @@ inside script base len = codes "map " ++ words script base len
 
 pub words_are : (script base len : List ℕ)
     → header script base len ≡ codes "map " ++ (words script base len ++ 10 ∷ [])
-words_are script base len = sym (
-    ap (λ (xs : List ℕ). codes "map " ++ xs) (append_assoc script (codes " " ++ (base ++ (codes " " ++ len)))
-    (10 ∷ [])
-    ∙ ap (λ (xs : List ℕ). script ++ (codes " " ++ xs)) (append_assoc base (codes " " ++ len) (10 ∷ []))))
-
-pub inside_is : (script base len : List ℕ) → header script base len ≡ inside script base len ++ 10 ∷ []
-inside_is script base len = words_are script base len
+words_are script base len = simp append_assoc
 
 pub inside_lacks : (line script base : List ℕ) (n : ℕ) (h : IsHeader line script base n)
     → lacks 10 (inside script base h.digits) ≡ true
@@ -60,7 +45,7 @@ inside_lacks line script base n h =
 -- The line of a header is what stands before its line feed, and that.
 pub line_is : (line script base : List ℕ) (n : ℕ) (h : IsHeader line script base n)
     → line ≡ inside script base h.digits ++ 10 ∷ []
-line_is line script base n h = h.whole ∙ inside_is script base h.digits
+line_is line script base n h = h.whole ∙ words_are script base h.digits
 
 pub begun : (text script base more : List ℕ) (n : ℕ) (b : BeginsWithHeader text script base n more)
     → text ≡ inside script base b.header.digits ++ 10 ∷ more

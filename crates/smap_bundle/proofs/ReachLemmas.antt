@@ -1,5 +1,6 @@
 -- What ends within an entry has no trace.
-use Rattle.std.proofs.Common.{◌≡◌, ◌∙◌, ◌⊎◌, inl, inr, ℕ, suc, ◌+◌, ◌<◌, ◌≤◌, List, [], ◌∷◌, ◌++◌, length}
+use Rattle.std.proofs.lemmas.List.{nil_from_length}
+use Rattle.std.proofs.Common.{◌≡◌, ◌∙◌, inl, inr, ℕ, suc, ◌<◌, List, [], ◌∷◌, ◌++◌, length}
 use Rattle.std.proofs.Common.{codes, Option, Some, None, Ok, Err, refl, sym, ap, subst, arith}
 use Rattle.std.proofs.Common.{append-nil, length-append}
 use Rattle.std.specs.Option.{option_map_or}
@@ -17,10 +18,6 @@ use Rattle.smap_bundle.proofs.ComputedLemmas.{after_is, one_beginning}
 use Rattle.smap_bundle.proofs.EntryLemmas.{Taken, taken}
 use Rattle.smap_bundle.proofs.HeaderLemmas.{inside, line_is, no_header_of_trace}
 use Rattle.smap_bundle.proofs.TextLemmas.{no_end_within}
-
-empty : (text : List ℕ) → length text ≤ 0 → text ≡ []
-empty [] none = refl
-empty (x ∷ xs) none = absurd (omega (arith, none))
 
 header_begins : (line more script base : List ℕ) (n : ℕ) → IsHeader line script base n
     → BeginsWithHeader (line ++ more) script base n more
@@ -43,14 +40,12 @@ module _ (line : List ℕ) (is_line : IsWithinLine longest_header line) where
       absurd (no_header_of_trace h.0 h.1 more trace h.2
       (subst (λ (text : List ℕ). BeginsWithHeader text h.0 h.1 h.2 more) same
       (header_begins line more h.0 h.1 h.2 h.3)))
-  at_trace more trace fault (inl none) same = go (cases_lt (length trace_line) (length line))
-    where
-      len : length line + length more ≡ length trace_line + length trace
-      len = sym (length-append line more) ∙ ap length same ∙ length-append trace_line trace
-
-      go : (length trace_line < length line) ⊎ (length line ≤ length trace_line) → trace ≡ []
-      go (inl long) = absurd (no_end more (codes "trace") trace none long same)
-      go (inr short) = empty trace (omega (arith, len, short, ap length none))
+  at_trace more trace fault (inl none) same =
+      let len = sym (length-append line more) ∙ ap length same ∙ length-append trace_line trace in
+      elim (cases_lt (length trace_line) (length line)) [
+        | inl long ↦ absurd (no_end more (codes "trace") trace none long same)
+        | inr short ↦ nil_from_length trace (omega (arith, len, short, ap length none))
+      ]
 
   -- no entry, and more after it
   no_entry : (more rest : List ℕ) (fault : BundleFault) → Taken (line ++ more) rest → 0 < length rest

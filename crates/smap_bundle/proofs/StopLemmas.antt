@@ -67,10 +67,7 @@ module _ {R : Type 0} (remaining : R → Option (List ℕ)) (a b : Device R) (by
     },
     same,
   )
-  refusal_stops calls r P Within fault.TooLong says settled within = absurd (wrong says)
-    where
-      wrong : fault.TooLong ≡ fault.Refused r → ⊥
-      wrong e = let bad : ◌≡◌ {A = ℕ} 0 1 = cc in omega (arith, bad)
+  refusal_stops calls r P Within fault.TooLong says settled within = absurd cc
   refusal_stops calls r P Within fault.Memory says settled within =
       (bytes, gave, (fault.Refused r, within), same)
   refusal_stops calls r P Within fault.Read says settled within = absurd says

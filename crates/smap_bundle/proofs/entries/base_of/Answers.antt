@@ -1,4 +1,4 @@
-use Rattle.std.proofs.Common.{◌≡◌, ◌∙◌, ◌≤◌, Err, length, sym, arith}
+use Rattle.std.proofs.Common.{◌≡◌, ◌∙◌, ◌≤◌, Err, sym, arith}
 use Rattle.std.proofs.lemmas.List.{length-map}
 use Rattle.smap_io.specs.Limits.{longest_input}
 use Rattle.smap_bundle.specs.declared.fault.EntryFault.TheVariants as wrong
@@ -16,8 +16,7 @@ returns-then-contains_key-clause-stops c = λ n more e.
     let script = c.args.header.now.script.now in
     let base = c.args.header.now.base.now in
     let fits : n ≤ longest_input = omega (arith, e) in
-    let at : c.len.result ≡ length seen = c.len.ensures.len
-    ∙ sym (length-map c.args.scripts.now.entries script_of) in
+    let at = c.len.ensures.len ∙ sym (length-map c.args.scripts.now.entries script_of) in
     let known = is_known script c.args.scripts.now.entries (sym c.contains_key.ensures
     ∙ c.if-contains_key.true) in
     says_as (λ found. found ≡ refusal c.len.result wrong.Repeated)
@@ -35,8 +34,7 @@ returns-in-Err-NotUrl-clause-stops c = λ n more e.
     let script = c.args.header.now.script.now in
     let base = c.args.header.now.base.now in
     let fits : n ≤ longest_input = omega (arith, e) in
-    let at : c.len-in-Err-NotUrl.result ≡ length seen = c.len-in-Err-NotUrl.ensures.len
-    ∙ sym (length-map c.args.scripts.now.entries script_of) in
+    let at = c.len-in-Err-NotUrl.ensures.len ∙ sym (length-map c.args.scripts.now.entries script_of) in
     let new = is_unknown script c.args.scripts.now.entries (sym c.contains_key.ensures
     ∙ c.if-contains_key.false) in
     let bad = rw c.in-Err-NotUrl.field-0-is at c.in-Err-NotUrl.ensures in

@@ -1,4 +1,4 @@
-use Rattle.std.proofs.Common.{arith, ◌≡◌, ◌∙◌, ◌++◌, [], Err, inl, inr, length, sym, refl}
+use Rattle.std.proofs.Common.{arith, ◌≡◌, ◌∙◌, ◌++◌, [], Err, inl, inr, sym, refl}
 use Rattle.std.proofs.lemmas.List.{length-map}
 use Rattle.std.proofs.lemmas.Result.{on_ok_weaker}
 use Rattle.smap_io.specs.Device.{has_ended}
@@ -16,8 +16,7 @@ use Rattle.smap_bundle.proofs.entries.take_entry.Goals as goal
 pub returns-in_default-clause-stops : goal.returns-in_default-clause-stops
 returns-in_default-clause-stops g c =
     let seen = scripts_of c.args.scripts.now.entries in
-    let at : c.len.result ≡ length seen = c.len.ensures.len
-    ∙ sym (length-map c.args.scripts.now.entries script_of) in
+    let at = c.len.ensures.len ∙ sym (length-map c.args.scripts.now.entries script_of) in
     refusal_stops g.R.Read.remaining c.args.reader.now c.args.reader.now []
     (Gave-none g.R.Read.remaining c.args.reader.now) refl
     c.args.calls.now (record { entry = c.len.result; fault = wrong.Header })

@@ -1,5 +1,5 @@
 use Rattle.std.proofs.Common.{◌≡◌, ◌∙◌, ℕ, List, ◌++◌, ◌∷◌, [], inl, inr}
-use Rattle.std.proofs.Common.{Err, length, length-append, sym, refl}
+use Rattle.std.proofs.Common.{Err, length-append, sym, refl}
 use Rattle.std.proofs.Common.{arith, subst}
 use Rattle.std.proofs.lemmas.List.{length-map}
 use Rattle.std.proofs.lemmas.Result.{err_from_is_err_and}
@@ -42,8 +42,7 @@ returns-in_err-bytes-clause-stops g c = λ n e.
     let script = c.args.header.now.script.now in
     let base = c.args.header.now.base.now in
     let len = is_len n c.args.header.now.length e c.in_ok-base.ensures.fits in
-    let at : c.len-entry.result ≡ length seen = c.len-entry.ensures.len
-    ∙ sym (length-map c.args.scripts.now.entries script_of) in
+    let at = c.len-entry.ensures.len ∙ sym (length-map c.args.scripts.now.entries script_of) in
     rw (p.1, p.2) (stops_after g.R.Read.remaining c.args.reader.now c.args.reader.now []
     (Gave-none g.R.Read.remaining c.args.reader.now) refl c.bytes_of.new.reader
     c.args.calls.now c.args.calls.now (cut_off c.len-entry.result n) (Faults seen script base n)
@@ -62,8 +61,7 @@ returns-in_err-map-clause-stops g c = λ n e.
     let base = c.args.header.now.base.now in
     let bytes = c.in_ok-bytes.bytes.items in
     let len = is_len n c.args.header.now.length e c.in_ok-base.ensures.fits in
-    let at : c.len-entry.result ≡ length seen = c.len-entry.ensures.len
-    ∙ sym (length-map c.args.scripts.now.entries script_of) in
+    let at = c.len-entry.ensures.len ∙ sym (length-map c.args.scripts.now.entries script_of) in
     rw (p.1, p.2) (says_stops g.R.Read.remaining c.args.reader.now c.bytes_of.new.reader (bytes ++ 10 ∷ [])
     c.in_ok-bytes.ensures.gave c.in_ok-bytes.ensures.failures
     c.args.calls.now (Faults seen script base n) (IsWithinMap n) c.in_err-map.field-0.0

@@ -1,4 +1,4 @@
-use Rattle.std.proofs.Common.{ℕ, List, Some, None, sym, refl, rules, subst}
+use Rattle.std.proofs.Common.{ℕ, List, Some, None, sym, rules, subst}
 use Rattle.smap_bundle.specs.Header.{IsNumber}
 use Rattle.smap_bundle.proofs.ParsedLemmas.{base_cut, cut_of, header_of, no_words, script_cut, word_is}
 use Rattle.smap_bundle.proofs.header.parse_header.Goals as goal
@@ -49,10 +49,9 @@ returns-then-not-is_one_line c = λ script base n h.
 
 pub returns : goal.returns
 returns c =
-    let cut = cut_of c.args.line.now c.in_ok-words.words.now c.in_ok-script.script.now c.in_ok-base.base.now
-    c.in_ok-base.digits.now
-    (c.in_ok-script.script, c.in_ok-script.rest) (c.in_ok-base.base, c.in_ok-base.digits)
-    c.in_ok-words.ensures c.in_ok-script.ensures.cases refl c.in_ok-base.ensures.cases refl refl in
+    let cut = cut_of c.args.line.now c.in_ok-words.words.now (c.in_ok-script.script, c.in_ok-script.rest)
+    (c.in_ok-base.base, c.in_ok-base.digits) c.in_ok-words.ensures c.in_ok-script.ensures.cases
+    c.in_ok-base.ensures.cases in
     let number = c.in_ok-length.ensures in (
       number.0,
       header_of c.args.line.now c.in_ok-script.script.now c.in_ok-base.base.now c.in_ok-base.digits.now
