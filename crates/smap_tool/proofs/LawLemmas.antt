@@ -1,10 +1,11 @@
 -- The law of `respell`, from the law that the text of tokens reads back as these tokens.
+use Rattle.std.proofs.lemmas.List.{same_from_push}
 use Rattle.std.proofs.Common.{◌≡◌, ℕ, ◌-◌, List, [], ◌∷◌, ◌++◌, length, Ok, refl, sym, ap, ◌∙◌, arith, lit<}
 use Rattle.std.proofs.Common.{lit≤, length-append}
 use Rattle.std.proofs.Math.Seq.{take-append_seam}
 use Rattle.std.proofs.lemmas.List.{drop_at}
 use Rattle.smap_mappings.specs.declared.token.Token.{Token}
-use Rattle.smap_mappings.specs.Decoded.{AreBounds, decoded}
+use Rattle.smap_mappings.specs.Decoded.{AreBounds}
 use Rattle.smap_mappings.specs.Text.{mappings_text}
 use Rattle.smap_mappings.specs.Laws.{AreFor, TextReadsBack}
 use Rattle.smap_mappings.proofs.DecodedLemmas.{decoded-encodable, decoded-within}
@@ -19,9 +20,6 @@ pub without-append : (text : List ℕ) → without_line_feed (text ++ 10 ∷ [])
 without-append text =
     let len : length (text ++ 10 ∷ []) - 1 ≡ length text = omega (arith, length-append text (10 ∷ [])) in
     rw (len, drop_at text (10 ∷ []) (length text) refl) (take-append_seam text (10 ∷ []))
-
-pub same_front : (a b : List ℕ) → a ++ 10 ∷ [] ≡ b ++ 10 ∷ [] → a ≡ b
-same_front a b same = sym (without-append a) ∙ ap without_line_feed same ∙ without-append b
 
 -- ---- what is accepted
 
@@ -55,12 +53,11 @@ pub decides : TextReadsBack → RespellDecides
 decides back a b s t is_s is_t = (
   λ same. output_of a s is_s ∙ ap (λ ts. mappings_text ts ++ 10 ∷ []) same ∙ sym (output_of b t is_t),
   λ same.
-      let texts : mappings_text s ≡ mappings_text t = same_front _ _ (sym (output_of a s is_s)
-      ∙ same ∙ output_of b t is_t) in
+      let texts = same_from_push (mappings_text s) (mappings_text t) 10 10 (sym (output_of a s is_s) ∙ same
+      ∙ output_of b t is_t) in
       let first = back respell_bounds s (accepted_for a s is_s) in
       let second = back respell_bounds t (accepted_for b t is_t) in
-      let both : Ok s ≡ Ok t = sym first ∙ ap (decoded respell_bounds) texts ∙ second in
-      cc,
+      cc (texts.0),
 )
 
 pub stays : TextReadsBack → OutputStays

@@ -1,5 +1,6 @@
 -- A task of a command line that was accepted is in range.
-use Rattle.std.proofs.Common.{◌≡◌, ◌≤◌, ℕ, List, [], ◌∷◌, Bool, true, false, Option, Some, None, inl, inr}
+use Rattle.std.proofs.lemmas.Bool.{cond_both}
+use Rattle.std.proofs.Common.{◌≡◌, ◌≤◌, ℕ, List, [], ◌∷◌, true, Option, Some, None, inl, inr}
 use Rattle.std.proofs.Common.{codes, subst, sym, if◌then◌else◌}
 use Rattle.std.specs.Prelude.{IsSomeAnd}
 use Rattle.std.specs.Str.{bytes_eq}
@@ -34,12 +35,10 @@ one_named name rows [] h = absurd h
 one_named name rows (s ∷ rest) (inl h) =
     let same : bytes_eq s.name name ≡ true = (bytes_eq-Decides s.name name).1 (sym h.0) in
     rw same (inl h)
-one_named name rows (s ∷ rest) (inr h) = go (bytes_eq s.name name) (one_named name rows rest h)
-  where
-    go : (b : Bool) → IsOneOf (named name rest) (name, rows)
-        → IsOneOf (if b then s ∷ named name rest else named name rest) (name, rows)
-    go true below = inr below
-    go false below = below
+one_named name rows (s ∷ rest) (inr h) =
+    let below = one_named name rows rest h in
+    cond_both (bytes_eq s.name name) (s ∷ named name rest) (named name rest)
+    (λ subs. IsOneOf subs (name, rows)) (λ _. inr below) (λ _. below)
 
 -- the rows of a command of this name
 rows_of_name : (m : Text × List Row) (name : Text) → m.0 ≡ name → IsCommand m

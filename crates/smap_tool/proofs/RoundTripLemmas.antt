@@ -1,5 +1,5 @@
 -- A map that is read again has the same record, and so translates alike.
-use Rattle.std.proofs.Common.{◌≡◌, ℕ, List, ◌∷◌, ◌++◌, Ok, Err, sym, ap, ◌∙◌}
+use Rattle.std.proofs.Common.{◌≡◌, ℕ, List, ◌∷◌, ◌++◌, Ok, ap}
 use Rattle.smap_record.specs.declared.fault.ReadError.{ReadError}
 use Rattle.smap_record.specs.declared.fault.ReadError.TheVariants as errors
 use Rattle.smap_record.specs.Results.{Fails}
@@ -13,11 +13,7 @@ use Rattle.smap_tool.specs.RoundTrips.{TranslateAlike}
 -- what is read of bytes that are read as this record has it
 read_same : (base : Parts) (limits : Allowed) (a b : List ℕ) (r : Record) (n : ReadMap)
     → ReadAs base limits a r → b ≡ a → reading base limits b ≡ Ok n → r ≡ record_of n
-read_same base limits a b r n one same read =
-    let both : ◌≡◌ {A = Checked ReadMap} (Ok one.0) (Ok n) = sym one.1 ∙ sym (ap (reading base limits) same)
-    ∙ read in
-    let maps : one.0 ≡ n = cc in
-    sym one.2 ∙ ap record_of maps
+read_same base limits a b r n one same read = cc (one.1, one.2)
 
 pub alike : (base : Parts) (limits : Allowed) (a b : List ℕ) (r : Record) (n : ReadMap)
     → ReadAs base limits a r → b ≡ a → reading base limits b ≡ Ok n → TranslateAlike r (record_of n)
@@ -30,7 +26,5 @@ pub only_memory : {Y : Type 0} (base : Parts) (limits : Allowed) (a b : List ℕ
     (expected : Checked Y) → ReadAs base limits a r → b ≡ a → Fails e (reading base limits b)
     → Fails e expected
 only_memory base limits a b r (errors.Refused fault) expected one same fails =
-    let both : ◌≡◌ {A = Checked ReadMap} (Ok one.0) (Err fault) = sym one.1
-    ∙ sym (ap (reading base limits) same) ∙ fails in
-    absurd cc
+    absurd (cc one.1)
 only_memory base limits a b r errors.Memory expected one same fails = tt

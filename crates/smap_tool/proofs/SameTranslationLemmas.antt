@@ -1,5 +1,5 @@
 -- Records that stand for one another are equal, and so are their translations.
-use Rattle.std.proofs.Common.{◌≡◌, ◌∙◌, List, [], ◌∷◌, inl, inr, refl, sym, ap}
+use Rattle.std.proofs.Common.{◌≡◌, List, [], ◌∷◌, inl, inr, refl, sym, ap}
 use Rattle.smap_record.specs.Record.{Record}
 use Rattle.smap_canon.specs.Canonical.{canonical_text_in}
 use Rattle.smap_canon.proofs.LawLemmas.{is_fixed_point, read_once}
@@ -21,11 +21,9 @@ all_equal [] [] h = refl
 all_equal [] (t ∷ ts) h = absurd h
 all_equal (s ∷ ss) [] h = absurd h
 all_equal (s ∷ ss) (t ∷ ts) h =
-    let head : s ≡ t = both s t h.0 (one s.1 t.1 h.1) in
-    ap (λ (x : Script). x ∷ ss) head ∙ ap (λ (xs : List Script). t ∷ xs) (all_equal ss ts h.2)
-  where
-    both : (a b : Script) → a.0 ≡ b.0 → a.1 ≡ b.1 → a ≡ b
-    both a b e f = λ i. (e i, f i)
+    let head = one s.1 t.1 h.1 in
+    let tail = all_equal ss ts h.2 in
+    λ i. (h.0 i, head i) ∷ tail i
 
 pub same : SameTranslation
 same scripts others distinct also agree finding hide trace =

@@ -1,6 +1,8 @@
 -- What a reader of values makes of a flag's text and of a number's.
+use Rattle.std.proofs.lemmas.Bool.{cases_Bool}
+use Rattle.std.proofs.Common.{inl, inr}
 use Rattle.std.proofs.Common.{◌≡◌, ◌==◌, ◌∙◌, ℕ, ◌<◌, ◌≤◌, ◌^◌, Bool, true, false, cond, List, [], ◌∷◌}
-use Rattle.std.proofs.Common.{Option, Some, None, IfSome, ap, refl, subst, codes, drop, unwrap_or, arith}
+use Rattle.std.proofs.Common.{Option, Some, None, IfSome, ap, refl, codes, drop, unwrap_or, arith}
 use Rattle.std.specs.Prelude.{◌↔◌, IsSome, IsSomeAnd, IsTrue, Result, Ok, pos}
 use Rattle.std.proofs.lemmas.Bool.{ne_eqb}
 use Rattle.std.proofs.lemmas.Int.{ints}
@@ -55,11 +57,10 @@ module _ {E : Type 0} (G : List ℕ → Result ℕ E → Type 0) (parses : (t : 
 
 without_minus-cond : (t : Text) → without_minus t ≡ cond (starts_with_minus t) (drop 1 t) t
 without_minus-cond [] = refl
-without_minus-cond (x ∷ xs) = go (x == 45)
+without_minus-cond (x ∷ xs) = pushed_in (x == 45) x xs
   where
-    go : (b : Bool) → unwrap_or (cond b (Some xs) None) (x ∷ xs) ≡ cond b xs (x ∷ xs)
-    go true = refl
-    go false = refl
+    pushed_in : (b : Bool) (x : ℕ) (xs : Text) → unwrap_or (cond b (Some xs) None) (x ∷ xs) ≡ cond b xs (x ∷ xs)
+    pushed_in b x xs = grind arith
 
 no_plus : (ds : Text) → IsNumeral 10 ds → without_leading_plus ds ≡ ds
 no_plus [] h = refl
@@ -71,19 +72,17 @@ no_plus (d ∷ ds) h =
 pub in_range : (high n : ℕ) (t : Text) → IsSignedIn (pos 0) (pos high) t
     → n ≡ digits_value 10 (without_leading_plus (without_minus t)) → n ≤ high
 in_range high n t passed is =
-    go (starts_with_minus t) refl (subst (λ (u : Text). n ≡ digits_value 10 (without_leading_plus u))
-    (without_minus-cond t) is)
-  where
-    go : (b : Bool) → starts_with_minus t ≡ b → n ≡ digits_value 10
-        (without_leading_plus (cond (starts_with_minus t) (drop 1 t) t)) → n ≤ high
-    go true minus e =
-        let low_ok = rw minus at passed.2 in
-        let numeral : IsNumeral 10 (drop 1 t) = rw minus at passed.0 in
-        let value : n ≡ digits_value 10 (without_leading_plus (drop 1 t)) = rw minus at e in
-        let same : n ≡ digits_value 10 (drop 1 t) = value ∙ ap (digits_value 10)
-        (no_plus (drop 1 t) numeral) in
-        omega (arith, ints)
-    go false minus e =
-        let high_ok = rw minus at passed.3 in
-        let value : n ≡ digits_value 10 (without_leading_plus t) = rw minus at e in
-        omega (arith, ints)
+    let e = rw (without_minus-cond t) at is in
+    elim (cases_Bool (starts_with_minus t)) [
+      | inl minus ↦
+          let low_ok = rw minus at passed.2 in
+          let numeral : IsNumeral 10 (drop 1 t) = rw minus at passed.0 in
+          let value : n ≡ digits_value 10 (without_leading_plus (drop 1 t)) = rw minus at e in
+          let same : n ≡ digits_value 10 (drop 1 t) = value ∙ ap (digits_value 10)
+          (no_plus (drop 1 t) numeral) in
+          omega (arith, ints)
+      | inr plain ↦
+          let high_ok = rw plain at passed.3 in
+          let value : n ≡ digits_value 10 (without_leading_plus t) = rw plain at e in
+          omega (arith, ints)
+    ]

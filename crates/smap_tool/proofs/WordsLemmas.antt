@@ -1,5 +1,7 @@
 -- The subcommand that accepted words name is one of those that there are, with the values that it wants. This
 -- holds for every command whose subcommands have plain arguments, which is tested by computing.
+use Rattle.std.proofs.lemmas.Bool.{or_parts, and_parts, not-true, not-false}
+use Rattle.smap_record.proofs.ListLemmas.{all_weaker}
 use Rattle.std.proofs.Common.{◌≡◌, ◌∙◌, ℕ, ◌<◌, List, [], ◌∷◌, ◌++◌, length, Bool, true, false, cond}
 use Rattle.std.proofs.Common.{Option, Some, None, IfSome, is_some, option_map, refl, sym, ap, subst}
 use Rattle.std.proofs.Common.{arith, slice_get, inl, inr, not, ◌||◌, ◌&&◌, if◌then◌else◌, length-append}
@@ -18,7 +20,7 @@ use Rattle.clap.specs.Kinds.{check_kinds, or_else, range_kinds, request_kinds, v
 use Rattle.clap.specs.Simple.{argument_words, entered, label_of, names_of, rows_at}
 use Rattle.clap.specs.Takes.{is_given}
 use Rattle.clap.specs.ValueTests.{accepts}
-use Rattle.clap.specs.Values.{reading_of, refused_kind}
+use Rattle.clap.specs.Values.{reading_of}
 use Rattle.clap.specs.Walk.{action_of, answers_to, arg_by_id, default_rows, has_row, is_empty, more_values}
 use Rattle.clap.specs.Walk.{most_values, nothing_held, reading_by, row_text, rows_after, stop_after, used_as}
 use Rattle.clap.specs.Walk.{values_or_missing, with_values, without}
@@ -43,34 +45,12 @@ use Rattle.smap_tool.proofs.RowLemmas.{Keeps, KeepsByDefault, found_holds, level
 
 -- ---- truth values, and what a search finds
 
-either_false : (p q : Bool) → (p || q) ≡ false → (p ≡ false) × (q ≡ false)
-either_false true q e = absurd cc
-either_false false q e = (refl, e)
-
-both_true : (p q : Bool) → (p && q) ≡ true → (p ≡ true) × (q ≡ true)
-both_true true q e = (refl, e)
-both_true false q e = absurd cc
-
-not_false : (b : Bool) → not b ≡ false → b ≡ true
-not_false true e = refl
-not_false false e = absurd cc
-
-not_true : (b : Bool) → not b ≡ true → b ≡ false
-not_true true e = absurd cc
-not_true false e = refl
-
 some_and : {X : Type 0} (P : X → Type 0) (o : Option X) → is_some o ≡ true → IfSome o P → IsSomeAnd o P
 some_and P None is h = absurd cc
 some_and P (Some x) is h = h
 
 mapped_some : {X Y : Type 0} (f : X → Y) (o : Option X) → is_some o ≡ true → is_some (option_map f o) ≡ true
-mapped_some f None is = is
-mapped_some f (Some x) is = is
-
-weaker : {X : Type 0} (P Q : X → Type 0) → ((x : X) → P x → Q x) → (xs : List X) → AllByRecursion P xs
-    → AllByRecursion Q xs
-weaker P Q f [] all = tt
-weaker P Q f (x ∷ xs) all = (f x all.0, weaker P Q f xs all.1)
+mapped_some f o is = grind arith
 
 -- what is found holds the fact, and passes the test
 found_passes : {X : Type 0} (P : X → Type 0) (test : X → Bool) (xs : List X) → AllByRecursion P xs
@@ -115,7 +95,7 @@ own_below : (a : Rule) (c rest : List Rule) → list_any (λ b. bytes_eq a.id b.
     → AllByRecursion (IsOwn c) rest → AllByRecursion (IsOwn (a ∷ c)) rest
 own_below a c [] e all = tt
 own_below a c (b ∷ rest) e all =
-    let parts = either_false (bytes_eq a.id b.id) (list_any (λ x. bytes_eq a.id x.id) rest) e in (
+    let parts = or_parts (bytes_eq a.id b.id) (list_any (λ x. bytes_eq a.id x.id) rest) e in (
       rw parts.0 all.0,
       own_below a c rest parts.1 all.1,
     )
@@ -123,10 +103,10 @@ own_below a c (b ∷ rest) e all =
 all_own : (c : List Rule) → are_distinct c ≡ true → AllByRecursion (IsOwn c) c
 all_own [] e = tt
 all_own (a ∷ rest) e =
-    let parts = both_true (not (list_any (λ b. bytes_eq a.id b.id) rest)) (are_distinct rest) e in
+    let parts = and_parts (not (list_any (λ b. bytes_eq a.id b.id) rest)) (are_distinct rest) e in
     let same : bytes_eq a.id a.id ≡ true = (bytes_eq-Decides a.id a.id).1 refl in (
       rw same refl,
-      own_below a rest rest (not_true _ parts.0) (all_own rest parts.1),
+      own_below a rest rest (not-true _ parts.0) (all_own rest parts.1),
     )
 
 -- ---- values that passed
@@ -262,7 +242,7 @@ all_keep : (c : List Rule) (again : Bool) (rules : List Rule) → AllByRecursion
     → AllByRecursion (Keeps again (AllGood c)) rules × AllByRecursion (KeepsByDefault (AllGood c)) rules
 all_keep c again [] own is = (tt, tt)
 all_keep c again (a ∷ rest) own is =
-    let parts = both_true (is_plain_rule a) (list_all is_plain_rule rest) is in
+    let parts = and_parts (is_plain_rule a) (list_all is_plain_rule rest) is in
     let below = all_keep c again rest own.1 parts.1 in (
       (rule_keeps c a own.0 again parts.0, below.0),
       (default_keeps c a own.0, below.1),
@@ -271,30 +251,20 @@ all_keep c again (a ∷ rest) own is =
 -- ---- a level without a fault
 
 third_fails : (a b c : Bool) → check_kinds a b c ≡ [] → c ≡ false
-third_fails true b c e = absurd cc
-third_fails false true c e = absurd cc
-third_fails false false true e = absurd cc
-third_fails false false false e = refl
+third_fails a b c e = grind arith
+
+unless_negated : (n x : Bool) → (not (n && false) && x) ≡ false → x ≡ false
+unless_negated n x e = grind arith
 
 -- the arguments that are wanted are there
 wanted_given : (s : Shape) (rows : List Row) → check_fault s rows false ≡ []
     → list_any (λ a. a.required && not (is_given a.id rows)) s.rules ≡ false
-wanted_given s rows e = go s.subcommand_negates_reqs (third_fails _ _ _ e)
-  where
-    go : (n : Bool) → (not (n && false) && list_any (λ a. a.required && not (is_given a.id rows)) s.rules)
-        ≡ false
-        → list_any (λ a. a.required && not (is_given a.id rows)) s.rules ≡ false
-    go true f = f
-    go false f = f
+wanted_given s rows e = unless_negated s.subcommand_negates_reqs _ (third_fails _ _ _ e)
 
 -- ---- what a row gives
 
 value_passed : (i : Bool) (p : ValueParser) (v : Text) → value_kinds i p v ≡ [] → accepts i p v ≡ true
-value_passed i p v e = go (accepts i p v) e
-  where
-    go : (b : Bool) → (if b then [] else refused_kind p ∷ []) ≡ [] → b ≡ true
-    go true f = refl
-    go false f = absurd cc
+value_passed i p v e = grind arith
 
 -- a first value, which passed the rule, and is read as the rule says
 abbrev HasRowText : Rule → Row → Type 0
@@ -347,14 +317,14 @@ given_as i p id rows g = rw g.1 refl
 given_if : (c : List Rule) (a : Rule) → IsOwn c a → (rows : List Row) → AllGood c rows
     → (required : Bool) → (required && not (is_given a.id rows)) ≡ false → IsGivenIf required a rows
 given_if c a own rows all true e =
-    given_as a.ignore_case a.parser a.id rows (given_gives c a own rows all (not_false _ e))
+    given_as a.ignore_case a.parser a.id rows (given_gives c a own rows all (not-false _ e))
 given_if c a own rows all false e = tt
 
 values_given : (c rules : List Rule) → AllByRecursion (IsOwn c) rules → (rows : List Row) → AllGood c rows
     → list_any (λ a. a.required && not (is_given a.id rows)) rules ≡ false → HasValues rules rows
 values_given c [] own rows all e = tt
 values_given c (a ∷ rest) own rows all e =
-    let parts = either_false (a.required && not (is_given a.id rows))
+    let parts = or_parts (a.required && not (is_given a.id rows))
     (list_any (λ b. b.required && not (is_given b.id rows)) rest) e in (
       given_if c a own.0 rows all a.required parts.0,
       values_given c rest own.1 rows all parts.1,
@@ -365,7 +335,7 @@ values_given c (a ∷ rest) own rows all e =
 level_gives : (s : Shape) (words : List Text) → is_plain_level s ≡ true
     → level_fault s [] nothing_held words false [] ≡ [] → HasValues s.rules (rows_after s.rules [] words)
 level_gives s words is e =
-    let parts = both_true (list_all is_plain_rule s.rules) (are_distinct s.rules) is in
+    let parts = and_parts (list_all is_plain_rule s.rules) (are_distinct s.rules) is in
     let own = all_own s.rules parts.1 in
     let keep = all_keep s.rules s.args_override_self s.rules own parts.0 in
     let kept = level-keeps s (AllGood s.rules) keep.0 keep.1 [] words e tt in
@@ -380,9 +350,9 @@ all_among : (words : List Text) (subs : List Shape) → list_all is_plain_level 
     → AllByRecursion (IsGoodAmong subs words) subs
 all_among words [] is = tt
 all_among words (s ∷ rest) is =
-    let parts = both_true (is_plain_level s) (list_all is_plain_level rest) is in (
+    let parts = and_parts (is_plain_level s) (list_all is_plain_level rest) is in (
       λ e. inl (refl, level_gives s words parts.0 e),
-      weaker (IsGoodAmong rest words) (IsGoodAmong (s ∷ rest) words) (λ x good e. inr (good e)) rest
+      all_weaker (IsGoodAmong rest words) (IsGoodAmong (s ∷ rest) words) (λ x good e. inr (good e)) rest
           (all_among words rest parts.1),
     )
 
