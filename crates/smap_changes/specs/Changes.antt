@@ -1,7 +1,7 @@
 -- What changes of a map, a line for each member of its top level that isn't the same.
-use Rattle.std.specs.Prelude.{ℕ, ◌-◌, ◌==◌, ◌&&◌, ◌||◌, Bool, bytes_eq, cond, decimal, List, [], ◌∷◌, ◌++◌, codes, length, nat_le}
+use Rattle.std.specs.Prelude.{ℕ, ◌-◌, ◌==◌, ◌&&◌, ◌||◌, Bool, bytes_eq, cond, List, [], ◌∷◌, ◌++◌, codes, length, nat_le}
 use Rattle.std.specs.Prelude.{option_and_then, Option, Some, None, String, string_bytes, take}
-use Rattle.std.specs.List.{flat_map}
+use Rattle.std.specs.List.{flat_map, list_all}
 use Rattle.std.specs.BTreeMap.{BTreeMap, get_by_text}
 use Rattle.std.specs.declared.alloc.Global.{Global}
 use Rattle.serde_json.specs.contracts.value.ValuePartialEq.TheImpl as comparison
@@ -10,8 +10,8 @@ use Rattle.serde_json.specs.Find.{as_array, as_str}
 use Rattle.serde_json.specs.View.{view}
 use Rattle.serde_json.specs.declared.value.Value.{Value, out-Value}
 use Rattle.serde_json.specs.declared.value.Value.TheOpen.{Value-F}
-use Rattle.smap_changes.specs.Lists.{items_of, missing, texts_of}
-use Rattle.smap_changes.specs.Showing.{byte_counts, entry_counts, line, quoted, size, text_change}
+use Rattle.smap_changes.specs.Lists.{fewer, is_text_or_null, items_of, missing, texts_of}
+use Rattle.smap_changes.specs.Showing.{byte_counts, count_text, entry_counts, line, quoted, size, text_change}
 
 -- ---- lists of texts
 
@@ -20,32 +20,50 @@ other text = codes ", " ++ quoted text
 
 -- so many more texts than two
 abbrev pub more : ℕ → List ℕ
-more n = cond (nat_le n 2) [] (codes " and " ++ (decimal (n - 2) ++ codes " more"))
+more n = cond (nat_le n 2) [] (codes " and " ++ (count_text (n - 2) ++ codes " more"))
 
--- texts behind a word, three of them at most, and how many more there are
-abbrev pub told : List ℕ → List (List ℕ) → List ℕ
-told word [] = []
-told word (t ∷ ts) =
-    codes "; " ++ (word ++ (codes " " ++ (quoted t ++ (flat_map other (take 2 ts) ++ more (length ts)))))
+-- three texts at most, and how many more there are
+abbrev pub named : List (List ℕ) → List ℕ
+named [] = []
+named (t ∷ ts) = quoted t ++ (flat_map other (take 2 ts) ++ more (length ts))
 
 abbrev pub is_none : List (List ℕ) → Bool
 is_none texts = length texts == 0
 
-abbrev pub told_both : List (List ℕ) → List (List ℕ) → List ℕ
-told_both gone added = told (codes "without") gone ++ told (codes "with") added
+-- texts behind a word
+abbrev pub told : List ℕ → List (List ℕ) → List ℕ
+told word texts = cond (is_none texts) [] (codes "; " ++ (word ++ (codes " " ++ named texts)))
 
--- what became of a list's texts, if these are gone, and these are new
-abbrev pub texts_change : Bool → List (List ℕ) → List (List ℕ) → List ℕ
-texts_change is_as_long gone added = cond (is_none gone && (is_none added && is_as_long))
-    (codes ", in another order") (told_both gone added)
+abbrev pub merged_told : List (List ℕ) → List ℕ
+merged_told texts = cond (is_none texts) [] (codes ", " ++ (named texts ++ codes " merged"))
 
--- the same by the texts of the list before and now
-abbrev pub texts_told : Bool → List (List ℕ) → List (List ℕ) → List ℕ
-texts_told is_as_long before now = texts_change is_as_long (missing now before) (missing before now)
+abbrev pub all_told : List (List ℕ) → List (List ℕ) → List (List ℕ) → List ℕ
+all_told merged gone added = merged_told merged ++ (told (codes "without") gone ++ told (codes "with") added)
+
+-- where there is nothing to be told of single texts
+abbrev pub order_told : Bool → List ℕ
+order_told are_reordered = cond are_reordered (codes ", in another order") (codes ", other ones")
+
+-- what became of a list's texts, if these are merged, gone and new
+abbrev pub texts_change : Bool → Bool → List (List ℕ) → List (List ℕ) → List (List ℕ) → List ℕ
+texts_change is_as_long are_reordered merged gone added = cond
+    (is_as_long && (is_none merged && (is_none gone && is_none added)))
+    (order_told are_reordered) (all_told merged gone added)
+
+-- the same by the texts before and now: those are merged that stood there more often than they do now
+abbrev pub texts_told : Bool → Bool → List (List ℕ) → List (List ℕ) → List ℕ
+texts_told is_as_long are_reordered before now =
+    texts_change is_as_long are_reordered (fewer now before) (missing now before) (missing before now)
+
+-- None stands there more often now, and what isn't a text is null. So these are the same entries in another order
+-- where there are as many, and none is merged, gone or new.
+abbrev pub are_reordered : List Data → List Data → Bool
+are_reordered before now = is_none (fewer (texts_of before) (texts_of now))
+    && (list_all is_text_or_null before && list_all is_text_or_null now)
 
 abbrev pub list_change : List Data → List Data → List ℕ
 list_change before now = entry_counts (length before) (length now)
-    ++ texts_told (length before == length now) (texts_of before) (texts_of now)
+    ++ texts_told (length before == length now) (are_reordered before now) (texts_of before) (texts_of now)
 
 -- ---- values
 
@@ -109,18 +127,16 @@ members_of tree = entries_if (object_of tree)
 abbrev pub member : Value → List ℕ → Option Value
 member tree name = option_and_then (λ m. get_by_text m name) (object_of tree)
 
-abbrev pub dropped : List ℕ → Value → List ℕ
-dropped name before = line name (codes "dropped" ++ size (view before))
-
-abbrev pub added : List ℕ → Value → List ℕ
-added name now = line name (codes "added" ++ size (view now))
+-- a member that only one of the maps has, behind a word
+abbrev pub single : List ℕ → List ℕ → Value → List ℕ
+single word name value = line name (word ++ size (view value))
 
 abbrev pub changed : List ℕ → Value → Value → List ℕ
 changed name before now = line name (value_change name (view before) (view now))
 
 -- what becomes of a member that the map has, if it isn't the same
 abbrev pub old_change : List ℕ → Value → Option Value → List (List ℕ)
-old_change name before None = dropped name before ∷ []
+old_change name before None = single (codes "dropped") name before ∷ []
 old_change name before (Some now) = cond (is_same now before) [] (changed name before now ∷ [])
 
 abbrev pub old_line : Value → Entry → List (List ℕ)
@@ -128,7 +144,7 @@ old_line after m = old_change (string_bytes m.0) m.1 (member after (string_bytes
 
 -- a member of the new map, if only that has it
 abbrev pub new_change : List ℕ → Value → Option Value → List (List ℕ)
-new_change name now None = added name now ∷ []
+new_change name now None = single (codes "added") name now ∷ []
 new_change name now (Some before) = []
 
 abbrev pub new_line : Value → Entry → List (List ℕ)

@@ -1,3 +1,4 @@
 pub mod Showing
 pub mod Lists
+pub mod Counts
 pub mod Changes

@@ -1,5 +1,5 @@
 -- Values in a few words.
-use Rattle.std.specs.Prelude.{ℕ, zero, suc, ◌-◌, ◌==◌, ◌&&◌, ◌||◌, Bool, cond, decimal, List, [], ◌++◌, codes, length, take}
+use Rattle.std.specs.Prelude.{ℕ, zero, suc, ◌-◌, ◌%◌, ◌==◌, ◌&&◌, ◌||◌, Bool, cond, decimal, List, [], ◌∷◌, ◌++◌, codes, length, take}
 use Rattle.std.specs.Prelude.{nat_le, nat_lt, Option, Some, None, slice_index, slice_range}
 use Rattle.serde_json.specs.Data.{Data, string, Items}
 use Rattle.serde_json.specs.Find.{as_array, as_str}
@@ -44,6 +44,19 @@ bare name = cond (is_short name) (inside (json name)) (inside (json (cut name)) 
 abbrev pub line : List ℕ → List ℕ → List ℕ
 line name change = bare name ++ (codes ": " ++ change)
 
+-- a comma between a digit and three, six or more threes of digits behind it
+abbrev pub separator : ℕ → List ℕ
+separator left = cond (nat_lt 0 left && (left % 3 == 0)) (codes ",") []
+
+-- digits with a comma between each three, counted from the last one
+abbrev pub grouped : List ℕ → List ℕ
+grouped [] = []
+grouped (digit ∷ digits) = digit ∷ (separator (length digits) ++ grouped digits)
+
+-- a number as it is shown
+abbrev pub count_text : ℕ → List ℕ
+count_text n = grouped (decimal n)
+
 abbrev pub entries_word : ℕ → List ℕ
 entries_word n = cond (n == 1) (codes "entry") (codes "entries")
 
@@ -51,18 +64,18 @@ abbrev pub bytes_word : ℕ → List ℕ
 bytes_word n = cond (n == 1) (codes "byte") (codes "bytes")
 
 abbrev pub entry_count : ℕ → List ℕ
-entry_count n = decimal n ++ (codes " " ++ entries_word n)
+entry_count n = count_text n ++ (codes " " ++ entries_word n)
 
 -- so many entries before, and so many now
 abbrev pub entry_counts : ℕ → ℕ → List ℕ
-entry_counts m n = cond (m == n) (entry_count n) (decimal m ++ (codes " to " ++ entry_count n))
+entry_counts m n = cond (m == n) (entry_count n) (count_text m ++ (codes " to " ++ entry_count n))
 
 abbrev pub byte_count : ℕ → List ℕ
-byte_count n = decimal n ++ (codes " " ++ bytes_word n)
+byte_count n = count_text n ++ (codes " " ++ bytes_word n)
 
 -- so many bytes before, and so many now
 abbrev pub byte_counts : ℕ → ℕ → List ℕ
-byte_counts m n = cond (m == n) (byte_count n ++ codes ", other ones") (decimal m ++ (codes " to " ++ byte_count n))
+byte_counts m n = cond (m == n) (byte_count n ++ codes ", other ones") (count_text m ++ (codes " to " ++ byte_count n))
 
 -- how a text becomes another: both, where they are short, and else their lengths
 abbrev pub text_change : List ℕ → List ℕ → List ℕ

@@ -109,23 +109,13 @@ fn changed_line(
     line_of(alloc, name, change.as_str())
 }
 
-/// The line of a member that is gone.
-fn dropped_line(alloc: Global, name: &str, before: &Value) -> Result<String, AllocError>
-    ensures { IfOk result (λ t. string_bytes t ≡ spec.dropped name.now before.now) }
+/// The line of a member that only one of the maps has, with what it is.
+fn single_line(alloc: Global, word: &str, name: &str, value: &Value) -> Result<String, AllocError>
+    ensures { IfOk result (λ t. string_bytes t ≡ spec.single word.now name.now value.now) }
 {
-    let size = size_of(alloc, before)?;
+    let size = size_of(alloc, value)?;
     let size = size.as_str();
-    let change = format!(in alloc; "dropped{size}")?;
-    line_of(alloc, name, change.as_str())
-}
-
-/// The line of a member that is new.
-fn added_line(alloc: Global, name: &str, now: &Value) -> Result<String, AllocError>
-    ensures { IfOk result (λ t. string_bytes t ≡ spec.added name.now now.now) }
-{
-    let size = size_of(alloc, now)?;
-    let size = size.as_str();
-    let change = format!(in alloc; "added{size}")?;
+    let change = format!(in alloc; "{word}{size}")?;
     line_of(alloc, name, change.as_str())
 }
 
@@ -148,7 +138,7 @@ fn push_old(
             }
         }
         None => {
-            let line = dropped_line(alloc, name, before)?;
+            let line = single_line(alloc, "dropped", name, before)?;
             lines.push(line)?;
         }
     }
@@ -167,7 +157,7 @@ fn push_new(
         ++ spec.new_change name.now now.now (spec.member before.now name.now)) }
 {
     if member(before, name).is_none() {
-        let line = added_line(alloc, name, now)?;
+        let line = single_line(alloc, "added", name, now)?;
         lines.push(line)?;
     }
     Ok(())

@@ -1,80 +1,32 @@
-//! Arrays of a map before and after a rewrite: which of their texts are gone, and which are new.
-ghost use Rattle.std.specs.Prelude.{◌≡◌, ◌==◌, ◌++◌, ◌∷◌, [], IfOk, OnOk, length, map, string_bytes, take};
-ghost use Rattle.std.specs.List.{flat_map};
-ghost use Rattle.std.specs.Str.{bytes_eq};
-ghost use Rattle.indexmap.specs.IndexSet.{insert_all, insert_key};
+//! Arrays of a map before and after a rewrite: which of their texts are merged, gone and new.
+ghost use Rattle.std.specs.Prelude.{◌≡◌, ◌==◌, ◌&&◌, ◌++◌, ◌∷◌, [], IfOk, OnOk, length, map, string_bytes, take};
+ghost use Rattle.std.specs.List.{flat_map, list_all};
 ghost use Rattle.serde_json.specs.View.{view};
 ghost use Rattle.smap_changes.specs.Changes as spec;
+ghost use Rattle.smap_changes.specs.Counts as table;
 ghost use Rattle.smap_changes.specs.Lists as lists;
 
-use crate::showing::{entry_counts, quoted};
-use indexmap::IndexSet;
+use crate::counting::{counts_of, fewer, missing};
+use crate::showing::{count_text, entry_counts, quoted};
+use indexmap::IndexMap;
 use serde_json::Value;
 use std::alloc::{AllocError, Global};
 
 /// The most texts that are named behind the first one.
 const MORE_NAMED: usize = 2;
 
-/// Adds a text, unless it is there.
-fn add_text<'v>(found: &mut IndexSet<&'v str>, text: &'v str) -> Result<(), AllocError>
-    ensures { OnOk result (map (λ n. n.now) found.new.keys
-        ≡ insert_key bytes_eq (map (λ n. n.now) found.old.keys) text.now) }
+/// Whether an entry is a text or null, as those of sources and names are.
+fn is_text_or_null(entry: &Value) -> bool
+    ensures { result ≡ lists.is_text_or_null (view entry.now) }
 {
-    found.insert(text)?;
-    Ok(())
+    matches!(entry, Value::Null | Value::String(_))
 }
 
-/// Adds the text of an entry, if it is one.
-fn add_entry<'v>(found: &mut IndexSet<&'v str>, entry: &'v Value) -> Result<(), AllocError>
-    ensures { OnOk result (map (λ n. n.now) found.new.keys
-        ≡ insert_all bytes_eq (map (λ n. n.now) found.old.keys) (lists.text_of (view entry.now))) }
+/// Whether each entry is a text or null.
+fn are_texts_or_null(entries: &[Value]) -> bool
+    ensures { result ≡ list_all (λ v. lists.is_text_or_null (view v)) entries.now }
 {
-    if let Some(text) = entry.as_str() {
-        add_text(found, text)?;
-    }
-    Ok(())
-}
-
-/// The texts of a list, each once.
-fn texts_of<'v>(alloc: Global, entries: &'v [Value]) -> Result<IndexSet<&'v str>, AllocError>
-    ensures { IfOk result (λ s. map (λ n. n.now) s.keys ≡ lists.texts_of (map view entries.now)) }
-{
-    let mut texts = IndexSet::new(alloc);
-    for i in 0..entries.len() {
-        add_entry(&mut texts, &entries[i])?;
-    }
-    Ok(texts)
-}
-
-/// Adds a text that isn't among others.
-fn push_missing<'v>(
-    others: &IndexSet<&'v str>,
-    text: &'v str,
-    missing: &mut Vec<&'v str>,
-) -> Result<(), AllocError>
-    ensures { OnOk result (map (λ n. n.now) missing.new.items ≡ map (λ n. n.now) missing.old.items
-        ++ lists.missing (map (λ n. n.now) others.now.keys) (text.now ∷ [])) }
-{
-    if !others.contains(text) {
-        missing.push(text)?;
-    }
-    Ok(())
-}
-
-/// The texts of a list that another doesn't have, each once.
-fn missing<'v>(
-    alloc: Global,
-    texts: &IndexSet<&'v str>,
-    others: &IndexSet<&'v str>,
-) -> Result<Vec<&'v str>, AllocError>
-    ensures { IfOk result (λ m. map (λ n. n.now) m.items
-        ≡ lists.missing (map (λ n. n.now) others.now.keys) (map (λ n. n.now) texts.now.keys)) }
-{
-    let mut missing = Vec::new(alloc);
-    for text in texts.iter() {
-        push_missing(others, *text, &mut missing)?;
-    }
-    Ok(missing)
+    entries.iter().all(is_text_or_null)
 }
 
 /// Appends another text.
@@ -115,83 +67,158 @@ fn more(alloc: Global, count: usize) -> Result<String, AllocError>
     if count <= MORE_NAMED {
         return Ok(String::new(alloc));
     }
-    let count = count - MORE_NAMED;
+    let count = count_text(alloc, count - MORE_NAMED)?;
+    let count = count.as_str();
     format!(in alloc; " and {count} more")
 }
 
-/// A text and others, a few of them by name, behind a word.
-fn told_first(alloc: Global, word: &str, first: &str, rest: &[&str]) -> Result<String, AllocError>
-    ensures { IfOk result (λ t. string_bytes t ≡ spec.told word.now (first.now ∷ map (λ n. n.now) rest.now)) }
+/// A text and others, a few of them by name.
+fn named_first(alloc: Global, first: &str, rest: &[&str]) -> Result<String, AllocError>
+    ensures { IfOk result (λ t. string_bytes t ≡ spec.named (first.now ∷ map (λ n. n.now) rest.now)) }
 {
     let first = quoted(alloc, first)?;
     let others = others(alloc, few(rest))?;
     let more = more(alloc, rest.len())?;
     let (first, others, more) = (first.as_str(), others.as_str(), more.as_str());
-    format!(in alloc; "; {word} {first}{others}{more}")
+    format!(in alloc; "{first}{others}{more}")
 }
 
-/// Texts, a few of them by name, behind a word, and nothing for none.
+/// Texts, a few of them by name.
+fn named(alloc: Global, texts: &[&str]) -> Result<String, AllocError>
+    ensures { IfOk result (λ t. string_bytes t ≡ spec.named (map (λ n. n.now) texts.now)) }
+{
+    if texts.is_empty() {
+        return Ok(String::new(alloc));
+    }
+    named_first(alloc, texts[0], &texts[1..])
+}
+
+/// Texts behind a word, and nothing for none.
 fn told(alloc: Global, word: &str, texts: &[&str]) -> Result<String, AllocError>
     ensures { IfOk result (λ t. string_bytes t ≡ spec.told word.now (map (λ n. n.now) texts.now)) }
 {
     if texts.is_empty() {
         return Ok(String::new(alloc));
     }
-    told_first(alloc, word, texts[0], &texts[1..])
+    let named = named(alloc, texts)?;
+    let named = named.as_str();
+    format!(in alloc; "; {word} {named}")
 }
 
-/// Which texts are gone, and which are new.
-fn told_both(alloc: Global, gone: &[&str], added: &[&str]) -> Result<String, AllocError>
-    ensures { IfOk result (λ t. string_bytes t ≡ spec.told_both (map (λ n. n.now) gone.now) (map (λ n. n.now) added.now)) }
+/// Texts that are merged, and nothing for none.
+fn merged_told(alloc: Global, texts: &[&str]) -> Result<String, AllocError>
+    ensures { IfOk result (λ t. string_bytes t ≡ spec.merged_told (map (λ n. n.now) texts.now)) }
 {
+    if texts.is_empty() {
+        return Ok(String::new(alloc));
+    }
+    let named = named(alloc, texts)?;
+    let named = named.as_str();
+    format!(in alloc; ", {named} merged")
+}
+
+/// Which texts are merged, which are gone, and which are new.
+fn all_told(
+    alloc: Global,
+    merged: &[&str],
+    gone: &[&str],
+    added: &[&str],
+) -> Result<String, AllocError>
+    ensures { IfOk result (λ t. string_bytes t ≡ spec.all_told (map (λ n. n.now) merged.now)
+        (map (λ n. n.now) gone.now) (map (λ n. n.now) added.now)) }
+{
+    let merged = merged_told(alloc, merged)?;
     let gone = told(alloc, "without", gone)?;
     let added = told(alloc, "with", added)?;
-    let (gone, added) = (gone.as_str(), added.as_str());
-    format!(in alloc; "{gone}{added}")
+    let (merged, gone, added) = (merged.as_str(), gone.as_str(), added.as_str());
+    format!(in alloc; "{merged}{gone}{added}")
+}
+
+/// What is told where no text is merged, gone or new.
+fn order_told(are_reordered: bool) -> &'static str
+    ensures { result.now ≡ spec.order_told are_reordered }
+{
+    if are_reordered {
+        ", in another order"
+    } else {
+        ", other ones"
+    }
 }
 
 /// What becomes of the texts of a list.
 fn texts_change(
     alloc: Global,
     is_as_long: bool,
+    are_reordered: bool,
+    merged: &[&str],
     gone: &[&str],
     added: &[&str],
 ) -> Result<String, AllocError>
-    ensures { IfOk result (λ t. string_bytes t
-        ≡ spec.texts_change is_as_long (map (λ n. n.now) gone.now) (map (λ n. n.now) added.now)) }
+    ensures { IfOk result (λ t. string_bytes t ≡ spec.texts_change is_as_long are_reordered
+        (map (λ n. n.now) merged.now) (map (λ n. n.now) gone.now) (map (λ n. n.now) added.now)) }
 {
-    if gone.is_empty() && added.is_empty() && is_as_long {
-        return String::from_str(alloc, ", in another order");
+    if is_as_long && merged.is_empty() && gone.is_empty() && added.is_empty() {
+        return String::from_str(alloc, order_told(are_reordered));
     }
-    told_both(alloc, gone, added)
+    all_told(alloc, merged, gone, added)
 }
 
-/// The texts that are gone, and those that are new, by those before and those now.
+/// The texts that are merged, gone and new, by how often they stood in a list and stand there now.
 fn texts_told(
     alloc: Global,
     is_as_long: bool,
-    before: &IndexSet<&str>,
-    now: &IndexSet<&str>,
+    are_reordered: bool,
+    before: &IndexMap<&str, usize>,
+    now: &IndexMap<&str, usize>,
 ) -> Result<String, AllocError>
-    ensures { IfOk result (λ t. string_bytes t ≡ spec.texts_told is_as_long
-        (map (λ n. n.now) before.now.keys) (map (λ n. n.now) now.now.keys)) }
+    ensures { IfOk result (λ t. string_bytes t ≡ spec.texts_change is_as_long are_reordered
+        (table.fewer_in (table.rows_of now.now.entries) (table.rows_of before.now.entries))
+        (table.missing_in (table.rows_of now.now.entries) (table.rows_of before.now.entries))
+        (table.missing_in (table.rows_of before.now.entries) (table.rows_of now.now.entries))) }
 {
-    let gone = missing(alloc, before, now)?;
-    let added = missing(alloc, now, before)?;
-    texts_change(alloc, is_as_long, &gone, &added)
+    let merged = fewer(alloc, now, before)?;
+    let gone = missing(alloc, now, before)?;
+    let added = missing(alloc, before, now)?;
+    texts_change(alloc, is_as_long, are_reordered, &merged, &gone, &added)
+}
+
+/// Whether no text stands in a list more often now, and what isn't a text is null.
+fn are_reordered(
+    alloc: Global,
+    before: &[Value],
+    now: &[Value],
+    olds: &IndexMap<&str, usize>,
+    news: &IndexMap<&str, usize>,
+) -> Result<bool, AllocError>
+    ensures { IfOk result (λ b. b
+        ≡ (spec.is_none (table.fewer_in (table.rows_of olds.now.entries) (table.rows_of news.now.entries))
+        && (list_all (λ v. lists.is_text_or_null (view v)) before.now
+        && list_all (λ v. lists.is_text_or_null (view v)) now.now))) }
+{
+    let repeated = fewer(alloc, olds, news)?;
+    let are_texts = are_texts_or_null(before) && are_texts_or_null(now);
+    Ok(repeated.is_empty() && are_texts)
 }
 
 /// What becomes of the texts of a list.
 fn lists_told(alloc: Global, before: &[Value], now: &[Value]) -> Result<String, AllocError>
     ensures { IfOk result (λ t. string_bytes t ≡ spec.texts_told (length before.now == length now.now)
+        (spec.are_reordered (map view before.now) (map view now.now))
         (lists.texts_of (map view before.now)) (lists.texts_of (map view now.now))) }
 {
-    let olds = texts_of(alloc, before)?;
-    let news = texts_of(alloc, now)?;
-    texts_told(alloc, before.len() == now.len(), &olds, &news)
+    let olds = counts_of(alloc, before)?;
+    let news = counts_of(alloc, now)?;
+    let are_reordered = are_reordered(alloc, before, now, &olds, &news)?;
+    texts_told(
+        alloc,
+        before.len() == now.len(),
+        are_reordered,
+        &olds,
+        &news,
+    )
 }
 
-/// How a list of texts becomes another: how many entries there are, and which are gone or new.
+/// How a list of texts becomes another: how many entries there are, and which are merged, gone or new.
 pub(crate) fn list_change(
     alloc: Global,
     before: &[Value],

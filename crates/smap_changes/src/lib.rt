@@ -3,6 +3,7 @@
 #![tactic(auto)]
 
 mod comparing;
+mod counting;
 mod entries;
 mod showing;
 #[cfg(test)]

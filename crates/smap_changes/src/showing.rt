@@ -1,5 +1,6 @@
 //! Values in a few words.
-ghost use Rattle.std.specs.Prelude.{◌≡◌, IfOk, length, string_bytes};
+ghost use Rattle.std.specs.Prelude.{◌≡◌, ◌++◌, IfOk, OnOk, length, string_bytes};
+ghost use Rattle.std.specs.Str.{IsAscii};
 ghost use Rattle.serde_json.specs.View.{view};
 ghost use Rattle.smap_changes.specs.Showing as spec;
 
@@ -92,11 +93,48 @@ fn bytes_word(count: usize) -> &'static str
     if count == 1 { "byte" } else { "bytes" }
 }
 
+/// A comma behind a digit that three more digits, or six and so on, follow.
+fn separator(left: usize) -> &'static str
+    ensures { result.now ≡ spec.separator left }
+{
+    if 0 < left && left % 3 == 0 { "," } else { "" }
+}
+
+/// Appends a digit that so many others follow.
+fn push_digit(text: &mut String, digit: &str, left: usize) -> Result<(), AllocError>
+    ensures { OnOk result (string_bytes text.new
+        ≡ string_bytes text.old ++ (digit.now ++ spec.separator left)) }
+{
+    text.push_str(digit)?;
+    text.push_str(separator(left))
+}
+
+/// Digits with commas between each three.
+fn grouped(alloc: Global, digits: &str) -> Result<String, AllocError>
+    requires { IsAscii digits.now }
+    ensures { IfOk result (λ t. string_bytes t ≡ spec.grouped digits.now) }
+{
+    let mut text = String::new(alloc);
+    for i in 0..digits.len() {
+        push_digit(&mut text, &digits[i..i + 1], digits.len() - i - 1)?;
+    }
+    Ok(text)
+}
+
+/// A number as it is shown.
+pub(crate) fn count_text(alloc: Global, count: usize) -> Result<String, AllocError>
+    ensures { IfOk result (λ t. string_bytes t ≡ spec.count_text count) }
+{
+    let digits = format!(in alloc; "{count}")?;
+    grouped(alloc, digits.as_str())
+}
+
 /// So many entries.
 pub(crate) fn entry_count(alloc: Global, count: usize) -> Result<String, AllocError>
     ensures { IfOk result (λ t. string_bytes t ≡ spec.entry_count count) }
 {
-    let word = entries_word(count);
+    let (count, word) = (count_text(alloc, count)?, entries_word(count));
+    let count = count.as_str();
     format!(in alloc; "{count} {word}")
 }
 
@@ -107,15 +145,17 @@ pub(crate) fn entry_counts(alloc: Global, before: usize, now: usize) -> Result<S
     if before == now {
         return entry_count(alloc, now);
     }
-    let word = entries_word(now);
-    format!(in alloc; "{before} to {now} {word}")
+    let (before, now) = (count_text(alloc, before)?, entry_count(alloc, now)?);
+    let (before, now) = (before.as_str(), now.as_str());
+    format!(in alloc; "{before} to {now}")
 }
 
 /// So many bytes.
 fn byte_count(alloc: Global, count: usize) -> Result<String, AllocError>
     ensures { IfOk result (λ t. string_bytes t ≡ spec.byte_count count) }
 {
-    let word = bytes_word(count);
+    let (count, word) = (count_text(alloc, count)?, bytes_word(count));
+    let count = count.as_str();
     format!(in alloc; "{count} {word}")
 }
 
@@ -123,12 +163,13 @@ fn byte_count(alloc: Global, count: usize) -> Result<String, AllocError>
 pub(crate) fn byte_counts(alloc: Global, before: usize, now: usize) -> Result<String, AllocError>
     ensures { IfOk result (λ t. string_bytes t ≡ spec.byte_counts before now) }
 {
-    let count = byte_count(alloc, now)?;
-    let count = count.as_str();
-    if before == now {
-        return format!(in alloc; "{count}, other ones");
+    let is_as_long = before == now;
+    let (before, now) = (count_text(alloc, before)?, byte_count(alloc, now)?);
+    let (before, now) = (before.as_str(), now.as_str());
+    if is_as_long {
+        return format!(in alloc; "{now}, other ones");
     }
-    format!(in alloc; "{before} to {count}")
+    format!(in alloc; "{before} to {now}")
 }
 
 /// How a text becomes another: both, where they are short, and else how long they are.

@@ -1,4 +1,5 @@
 use crate::changes;
+use crate::showing::count_text;
 use serde_json::Value;
 use std::alloc::Global;
 use std::test::Fail;
@@ -89,5 +90,46 @@ fn long_names_and_texts(rt: HostRuntime) -> Result<(), Fail> {
          names: 1 to 0 entries; without \"123456789012345678901234567890123456789012345678901234567890\"...\n\
          x: 61 to 0 bytes\n"
     );
+    Ok(())
+}
+
+#[test]
+fn merged_and_reordered(rt: HostRuntime) -> Result<(), Fail> {
+    let lines = lines_of(
+        rt.alloc(),
+        "{\"sources\":[\"a\",\"b\",\"b\",\"a\",\"b\",\"c\",null],\"names\":[\"a\",\"a\",\"b\"]}",
+        "{\"sources\":[\"a\",\"b\",\"d\"],\"names\":[\"a\",\"b\",\"b\"]}",
+    )?;
+    assert_eq!(rt;
+        lines.as_str(),
+        "names: 3 entries, \"a\" merged\n\
+         sources: 7 to 3 entries, \"a\", \"b\" merged; without \"c\"; with \"d\"\n"
+    );
+    let lines = lines_of(
+        rt.alloc(),
+        "{\"sources\":[\"a\",\"b\",null,\"a\"],\"names\":[\"a\",null],\"x\":1}",
+        "{\"sources\":[null,\"a\",\"a\",\"b\"],\"names\":[\"a\",\"a\"],\"x\":2}",
+    )?;
+    assert_eq!(rt;
+        lines.as_str(),
+        "names: 2 entries, other ones\n\
+         sources: 4 entries, in another order\n\
+         x: another value\n"
+    );
+    Ok(())
+}
+
+#[test]
+fn numbers_with_commas(rt: HostRuntime) -> Result<(), Fail> {
+    for (count, text) in [
+        (0, "0"),
+        (999, "999"),
+        (1_000, "1,000"),
+        (10_233, "10,233"),
+        (100_000, "100,000"),
+        (1_234_567, "1,234,567"),
+    ] {
+        assert_eq!(rt; count_text(rt.alloc(), count)?.as_str(), text);
+    }
     Ok(())
 }
