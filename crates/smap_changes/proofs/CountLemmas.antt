@@ -20,10 +20,7 @@ use Rattle.std.proofs.lemmas.List.Folds.{list_all-map}
 use Rattle.smap_changes.specs.Changes.{are_reordered, is_none, texts_change, texts_told}
 use Rattle.smap_changes.specs.Counts.{Row, counted, fewer_in, is_fewer, keys, missing_in, rows_of, table_of, times}
 use Rattle.smap_changes.specs.Lists.{is_text_or_null, count, fewer, if_any, missing, once, text_of, texts_of}
-use Rattle.smap_changes.proofs.ListLemmas.{view_at}
-
-abbrev pub Text : Type 0
-Text = List ℕ
+use Rattle.smap_drops.proofs.DropLemmas.{Text, view_at}
 
 -- ---- the map's words
 

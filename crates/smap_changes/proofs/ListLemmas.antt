@@ -1,27 +1,18 @@
--- Entries as a list, and texts that are added once.
-use Rattle.std.proofs.Common.{◌≡◌, ◌∙◌, ◌<◌, ◌≤◌, ℕ, zero, suc, Bor, List, [], ◌∷◌, ◌++◌}
-use Rattle.std.proofs.Common.{Option, Some, ap, arith, get_or, length, map, refl, sym, take}
+-- Entries as a list, and texts that are told.
+use Rattle.std.proofs.Common.{◌≡◌, ◌∙◌, ◌≤◌, ℕ, Bor, List, [], ◌∷◌, ◌++◌}
+use Rattle.std.proofs.Common.{Option, Some, ap, length, map, refl, sym, take}
 use Rattle.std.specs.List.{flat_map}
 use Rattle.std.proofs.lemmas.List.{length-map, take_all}
 use Rattle.serde_json.specs.Data.{Data, Items}
 use Rattle.serde_json.specs.Find.{as_array, as_str}
-use Rattle.serde_json.specs.View.{items_of as as_items, items_view, view}
+use Rattle.serde_json.specs.View.{items_view, view}
 use Rattle.serde_json.specs.declared.value.Value.{Value}
 use Rattle.smap_changes.specs.Changes.{array_change, if_arrays, other_change, value_change}
 use Rattle.smap_changes.specs.Showing.{entries_size, size, size_if}
-use Rattle.smap_changes.specs.Lists.{items_of}
-
-abbrev pub Text : Type 0
-Text = List ℕ
-
-abbrev pub texts : List (Bor Text) → List Text
-texts ns = map (λ n. n.now) ns
+use Rattle.smap_drops.specs.Drops.{items_of}
+use Rattle.smap_drops.proofs.DropLemmas.{Text, back, texts}
 
 -- ---- entries
-
-pub back : (ds : List Data) → items_of (as_items ds) ≡ ds
-back [] = refl
-back (d ∷ ds) = ap (λ (xs : List Data). d ∷ xs) (back ds)
 
 pub counted : (vs : List Value) → length (items_of (items_view vs)) ≡ length vs
 counted vs = ap length (back (map view vs)) ∙ length-map vs view
@@ -45,15 +36,6 @@ arrays name before now xs ys vs ws same_before same_now is_before is_now =
     ∙ of_lists name vs ws
     ∙ ap (λ (x : Option Items). if_arrays name x (Some (items_view ws)) (other_change name before now)) is_before
     ∙ ap (λ (x : Option Items). if_arrays name (as_array before) x (other_change name before now)) is_now
-
--- ---- values
-
--- the value behind a place
-pub view_at : (vs : List Value) (i : ℕ) (d : Value) (e : Data) → i < length vs
-    → view (get_or vs i d) ≡ get_or (map view vs) i e
-view_at [] i d e lt = absurd (omega (arith, lt))
-view_at (v ∷ vs) zero d e lt = refl
-view_at (v ∷ vs) (suc i) d e lt = view_at vs i d e (omega (arith, lt))
 
 -- ---- texts that are told
 

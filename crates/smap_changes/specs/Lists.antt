@@ -2,12 +2,8 @@
 use Rattle.std.specs.Prelude.{ℕ, ◌==◌, ◌&&◌, Bool, true, false, bytes_eq, filter, length, nat_lt, List, [], ◌∷◌, Option, Some, None}
 use Rattle.std.specs.List.{flat_map}
 use Rattle.indexmap.specs.IndexSet.{insert_all}
-use Rattle.serde_json.specs.Data.{Data, null, string, Items, no_items, item}
+use Rattle.serde_json.specs.Data.{Data, null, string}
 use Rattle.serde_json.specs.Find.{as_str}
-
-abbrev pub items_of : Items → List Data
-items_of no_items = []
-items_of (item d ds) = d ∷ items_of ds
 
 abbrev pub if_any : Option (List ℕ) → List (List ℕ)
 if_any None = []

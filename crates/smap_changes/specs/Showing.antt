@@ -1,44 +1,22 @@
 -- Values in a few words.
-use Rattle.std.specs.Prelude.{ℕ, zero, suc, ◌-◌, ◌%◌, ◌==◌, ◌&&◌, ◌||◌, Bool, cond, decimal, List, [], ◌∷◌, ◌++◌, codes, length, take}
-use Rattle.std.specs.Prelude.{nat_le, nat_lt, Option, Some, None, slice_index, slice_range}
-use Rattle.serde_json.specs.Data.{Data, string, Items}
+use Rattle.std.specs.Prelude.{ℕ, ◌%◌, ◌==◌, ◌&&◌, Bool, cond, decimal, List, [], ◌∷◌, ◌++◌, codes, length}
+use Rattle.std.specs.Prelude.{nat_le, nat_lt, Option, Some, None}
+use Rattle.serde_json.specs.Data.{Data, Items}
 use Rattle.serde_json.specs.Find.{as_array, as_str}
-use Rattle.serde_json.specs.Written.{compact_text}
-use Rattle.smap_changes.specs.Lists.{items_of}
+use Rattle.smap_drops.specs.Drops.{items_of}
+use Rattle.smap_drops.specs.Naming.{bare_json, cut, json}
 
 -- a text of at most 60 bytes is shown whole
 abbrev pub is_short : List ℕ → Bool
 is_short text = nat_le (length text) 60
 
--- no character of UTF-8 has bytes on both sides of this place
-abbrev pub is_boundary : List ℕ → ℕ → Bool
-is_boundary text i = nat_le i (length text)
-    && (nat_le (length text) i || (nat_lt (slice_index text i) 128 || nat_le 192 (slice_index text i)))
-
--- the last such place that isn't behind this one
-unfoldable pub last_boundary : List ℕ → ℕ → ℕ
-last_boundary text zero = zero
-last_boundary text (suc n) = cond (is_boundary text (suc n)) (suc n) (last_boundary text n)
-
--- as many whole characters of a text as 60 bytes hold
-abbrev pub cut : List ℕ → List ℕ
-cut text = take (last_boundary text 60) text
-
--- a text as JSON has it
-abbrev pub json : List ℕ → List ℕ
-json text = compact_text (string text)
-
--- and with dots in place of what is too long
+-- a text as JSON has it, with dots in place of what is too long
 abbrev pub quoted : List ℕ → List ℕ
-quoted text = cond (is_short text) (json text) (json (cut text) ++ codes "...")
-
--- without the first byte and the last one
-abbrev pub inside : List ℕ → List ℕ
-inside text = slice_range text 1 (length text - 1)
+quoted text = cond (is_short text) (json text) (json (cut text 60) ++ codes "...")
 
 -- a member's name as JSON has it, without the quotation marks
 abbrev pub bare : List ℕ → List ℕ
-bare name = cond (is_short name) (inside (json name)) (inside (json (cut name)) ++ codes "...")
+bare name = cond (is_short name) (bare_json name) (bare_json (cut name 60) ++ codes "...")
 
 -- the line of a member
 abbrev pub line : List ℕ → List ℕ → List ℕ

@@ -5,6 +5,7 @@ ghost use Rattle.serde_json.specs.View.{view};
 ghost use Rattle.smap_changes.specs.Showing as spec;
 
 use serde_json::Value;
+use smap_drops::{bare_json, cut, json};
 use std::alloc::{AllocError, Global};
 
 /// The most bytes of a text that are shown.
@@ -17,43 +18,16 @@ pub(crate) fn is_short(text: &str) -> bool
     text.len() <= MOST_SHOWN
 }
 
-/// A text up to its last character that ends within so many bytes.
-fn cut(text: &str) -> &str
-    ensures { result.now ≡ spec.cut text.now }
-{
-    let (front, _) = text.split_at(text.floor_char_boundary(MOST_SHOWN));
-    front
-}
-
-/// A text as JSON has it.
-fn json_text(alloc: Global, text: &str) -> Result<String, AllocError>
-    ensures { IfOk result (λ t. string_bytes t ≡ spec.json text.now) }
-{
-    let value = Value::String(String::from_str(alloc, text)?);
-    let json = value.to_string(alloc)?;
-    Ok(json)
-}
-
 /// A text as JSON has it, with dots in place of what is too long to be shown.
 pub(crate) fn quoted(alloc: Global, text: &str) -> Result<String, AllocError>
     ensures { IfOk result (λ t. string_bytes t ≡ spec.quoted text.now) }
 {
     if is_short(text) {
-        return json_text(alloc, text);
+        return json(alloc, text);
     }
-    let json = json_text(alloc, cut(text))?;
+    let json = json(alloc, cut(text, MOST_SHOWN))?;
     let json = json.as_str();
     format!(in alloc; "{json}...")
-}
-
-/// A text without its first byte and its last one, which are characters.
-fn inside(alloc: Global, text: &str) -> Result<String, AllocError>
-    ensures { IfOk result (λ t. string_bytes t ≡ spec.inside text.now) }
-{
-    let Some(text) = text.get(1..text.len().saturating_sub(1)) else {
-        return Err(AllocError);
-    };
-    String::from_str(alloc, text)
 }
 
 /// A member's name as JSON has it, without the quotation marks.
@@ -61,11 +35,9 @@ fn bare(alloc: Global, name: &str) -> Result<String, AllocError>
     ensures { IfOk result (λ t. string_bytes t ≡ spec.bare name.now) }
 {
     if is_short(name) {
-        let json = json_text(alloc, name)?;
-        return inside(alloc, json.as_str());
+        return bare_json(alloc, name);
     }
-    let json = json_text(alloc, cut(name))?;
-    let json = inside(alloc, json.as_str())?;
+    let json = bare_json(alloc, cut(name, MOST_SHOWN))?;
     let json = json.as_str();
     format!(in alloc; "{json}...")
 }

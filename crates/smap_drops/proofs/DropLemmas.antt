@@ -32,7 +32,7 @@ pub lost_found : (part : Part) (b : Bool) (o : Option Members) (es : List (Strin
 lost_found part b o es is =
     ap (lost_among part b) (sym (names_in_view es)) ∙ ap (lost_of part b) is
 
-back : (ds : List Data) → items_of (as_items ds) ≡ ds
+pub back : (ds : List Data) → items_of (as_items ds) ≡ ds
 back [] = refl
 back (d ∷ ds) = ap (λ (xs : List Data). d ∷ xs) (back ds)
 

@@ -1,5 +1,5 @@
 //! The members of a map and of its sections that a rewrite drops.
-ghost use Rattle.std.specs.Prelude.{◌≡◌, IfOk, OnOk, map};
+ghost use Rattle.std.specs.Prelude.{◌≡◌, ◌==◌, ◌&&◌, IfOk, OnOk, length, map};
 ghost use Rattle.std.specs.Str.{bytes_eq};
 ghost use Rattle.indexmap.specs.IndexSet.{insert_all, insert_key};
 ghost use Rattle.serde_json.specs.Find.{as_array};
@@ -147,7 +147,9 @@ fn names_in<'v>(alloc: Global, found: &IndexSet<&'v str>) -> Result<Vec<&'v str>
 
 impl Drops<'_> {
     /// Whether nothing is dropped.
-    pub fn is_empty(&self) -> bool {
+    pub fn is_empty(&self) -> bool
+        ensures { result ≡ (length self.now.own.items == 0 && length self.now.in_sections.items == 0) }
+    {
         self.own.is_empty() && self.in_sections.is_empty()
     }
 }
