@@ -1,4 +1,7 @@
 //! What the arguments name: maps, files of folders, logs.
+ghost use Rattle.std.specs.Prelude.{◌≡◌, ◌==◌, ◌&&◌, [], length};
+ghost use Rattle.smap_arguments.specs.WantedView as spec;
+
 use smap_link::{FileKind, file_kind};
 use smap_pick::Place;
 use std::alloc::Global;
@@ -40,7 +43,16 @@ pub struct Wanted<'a> {
 }
 
 impl<'a> Wanted<'a> {
-    pub fn new(alloc: Global) -> Wanted<'a> {
+    /// Nothing is named.
+    pub fn new(alloc: Global) -> Wanted<'a>
+        ensures places { result.places.items ≡ [] }
+        ensures origins { result.origins.items ≡ [] }
+        ensures files { result.files.items ≡ [] }
+        ensures file_roots { result.file_roots.items ≡ [] }
+        ensures map_count { result.map_count ≡ 0 }
+        ensures roots { result.roots.items ≡ [] }
+        ensures logs { result.logs.items ≡ [] }
+    {
         Wanted {
             places: Vec::new(alloc),
             origins: Vec::new(alloc),
@@ -53,12 +65,16 @@ impl<'a> Wanted<'a> {
     }
 
     /// Whether no map can be found.
-    pub fn is_empty(&self) -> bool {
+    pub fn is_empty(&self) -> bool
+        ensures { result ≡ ((length self.now.places.items == 0) && (length self.now.files.items == 0)) }
+    {
         self.places.is_empty() && self.files.is_empty()
     }
 }
 
 /// Whether a file's name is that of a script or of a style sheet, which may name its map.
-pub fn may_name_map(name: &[u8]) -> bool {
+pub fn may_name_map(name: &[u8]) -> bool
+    ensures { result ≡ spec.may_name_map name.now }
+{
     matches!(file_kind(name), FileKind::Script | FileKind::StyleSheet)
 }

@@ -1,0 +1,4 @@
+pub mod KeptLemmas
+pub mod ListLemmas
+pub mod NamedLemmas
+pub mod SettlingLemmas
