@@ -18,8 +18,8 @@ use Rattle.smap_finder.specs.declared.chosen.Opening.{Opening}
 use Rattle.smap_finder.specs.declared.opening.Opener.{Opener}
 use Rattle.smap_arguments.specs.declared.wanted.Wanted.{Wanted}
 
--- What was chosen: the names that have maps, what was looked for, the names that have none, how often a file was
--- opened for a further name, and the greatest status of a map that was refused.
+-- What was chosen: the names that have maps, the openings, the names that are left without maps, how often a file
+-- was opened for a further name, and the greatest status of a map that was refused.
 pub record Choices : Type 0 where
   pub mapped : List MappedName
   pub openings : List Opening
@@ -48,8 +48,8 @@ pub record IsOver {D : Type 0} (of : D → Held) (held : Held) (w : Wanted) (o :
   pub held_is : held_of of o ≡ held
   pub table_is : IsTable o.table (scripts_of (places_of w))
 
--- What was looked for for one name serves another: the same was found for both, and, of a file in a folder
--- without a URL, they differ in their queries and fragments alone.
+-- An opening for one name serves another: the same was found for both, and, of a file in a folder without a URL,
+-- they differ in their queries and fragments alone.
 abbrev pub Serves : List ℕ → Found → List ℕ → Found → Type 0
 Serves opened (Given i) name (Given j) = i ≡ j
 Serves opened (ByEnd i) name (ByEnd j) = (i ≡ j) × (bare opened ≡ bare name)
@@ -62,7 +62,7 @@ IsFind (ByEnd i) = ⊤
 IsFind (Unclear i j) = ⊥
 IsFind Missing = ⊥
 
--- What has this number was looked for, and serves this.
+-- The opening with this number serves a name for which this was found.
 abbrev pub IsServedBy : Choices → ℕ → List ℕ → Found → Opening → Type 0
 IsServedBy c number name found opening =
     (slice_get c.openings number ≡ Some opening) × Serves opening.name.items opening.found name found
@@ -82,11 +82,11 @@ HasMap c name = (m : ReadMap) × Has c name m
 
 -- ---- names without a map
 
--- Files of folders without a URL were opened for further names as often as they are.
+-- Files of folders without a URL were opened for further names as often as they may be.
 abbrev pub IsCrowded : Choices → Type 0
 IsCrowded c = MOST_AGAIN < c.again
 
--- What it has was looked for, for it or for a name that it serves, and gives no map.
+-- An opening that serves the name gave no map.
 pub record IsWithoutMap (held : Held) (w : Wanted) (worst : ℕ) (name : List ℕ) (found : Found) : Type 0 where
   pub opened : List ℕ
   pub opened_for : Found
@@ -107,7 +107,7 @@ IsNotOpened c (ByEnd i) = IsCrowded c
 IsNotOpened c (Unclear i j) = ⊤
 IsNotOpened c Missing = ⊤
 
--- This is the number of what was looked for for a name, or none is.
+-- This is the number of an opening that serves a name, or there is none.
 abbrev pub IsNumberOf : Choices → List ℕ → Found → Option ℕ → Type 0
 IsNumberOf c name found (Some number) = (o : Opening) × IsServedBy c number name found o
 IsNumberOf c name found None = IsNotOpened c found
@@ -127,7 +127,7 @@ IsSettledIn held w in_frames c name = HasMap c name ⊎ IsLeft held w in_frames 
 abbrev pub IsNamed : Held → Wanted → MappedName → Type 0
 IsNamed held w n = (in_frames : Bool) × IsPicked held w in_frames (string_bytes n.name) n.found
 
--- What became of looking for what a name has.
+-- What became of opening what a name has.
 abbrev pub IsTried : Held → Wanted → ℕ → List ℕ → Found → Option ReadMap → Type 0
 IsTried held w worst name found (Some m) = IsOpenedFor held w name found m
 IsTried held w worst name found None = IsWithout held w worst name found

@@ -28,7 +28,7 @@ pub struct How {
     pub verbose: bool,
 }
 
-/// What was looked for: the map of what a name has.
+/// What a name has, opened.
 #[derive(Drop)]
 pub(crate) struct Opening {
     /// The name of the log for which it was opened.
@@ -44,11 +44,11 @@ pub(crate) struct Opening {
 pub(crate) struct MappedName {
     pub(crate) name: String,
     pub(crate) found: Found,
-    /// The number of what was looked for.
+    /// The number of its opening.
     pub(crate) number: usize,
 }
 
-/// Whether what was looked for for one name serves another.
+/// Whether an opening for one name serves another.
 fn serves(opened: &[u8], opened_for: Found, name: &[u8], found: Found) -> bool
     ensures serves { result ≡ true → Serves opened.now opened_for name.now found }
     ensures all { Serves opened.now opened_for name.now found → result ≡ true }
@@ -74,7 +74,7 @@ fn is_name(key: &[u8], name: &[u8]) -> bool
 #[derive(Drop)]
 pub struct Chosen {
     pub(crate) openings: Vec<Opening>,
-    /// Where in that list a find stands, by what stands for it.
+    /// The numbers of the openings, by what stands for a find.
     pub(crate) numbers: IndexMap<Vec<u8>, usize>,
     pub(crate) mapped: Vec<MappedName>,
     /// The places of the names in that list.
@@ -189,7 +189,7 @@ impl Chosen {
         }
     }
 
-    /// The number of what was looked for under this key, if it serves this.
+    /// The number of the opening under this key, if it serves this name.
     pub(crate) fn number_of(&self, key: &[u8], name: &[u8], found: Found) -> Option<usize>
         ensures { IfSome result (λ n. (o : Opening) × IsServedBy (choices_of self.now) n name.now found o) }
     {
@@ -202,7 +202,7 @@ impl Chosen {
         }
     }
 
-    /// The map that has this number, if there is one.
+    /// The map of the opening with this number, if it gave one.
     pub(crate) fn map_at(&self, number: usize) -> Option<&SourceMap>
         ensures { (o : Opening) → slice_get (choices_of self.now).openings number ≡ Some o
             → option_map (λ m. m.now) result ≡ o.map }
@@ -211,7 +211,7 @@ impl Chosen {
         opening.map.as_ref()
     }
 
-    /// Notes what became of looking for what a name has, and answers its number.
+    /// Notes what became of opening what a name has, and answers the number of that.
     pub(crate) fn note_opening(
         &mut self,
         alloc: Global,

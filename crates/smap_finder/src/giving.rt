@@ -97,7 +97,7 @@ pub(crate) fn opened_under<E: Eprint + AllocGlobal, D: Disk>(
     opened_map(host, store, how, wanted, &under, worst)
 }
 
-/// Opens the map of a pick, and notes what became of it under this key.
+/// Opens the map of a pick, and notes that under this key.
 fn open_one<E: Eprint + AllocGlobal, D: Disk>(
     host: &Host<'_, E, D>,
     store: &mut FileStore<'_, D>,
@@ -120,8 +120,8 @@ fn open_one<E: Eprint + AllocGlobal, D: Disk>(
     Ok(number)
 }
 
-/// The number of what is looked for for a pick, which is opened if it isn't yet; none where it is opened for no
-/// further name.
+/// The number of the opening that serves a pick, which is opened if none does yet; none where nothing was found, or
+/// its file is opened for no further name.
 fn number_for<E: Eprint + AllocGlobal, D: Disk>(
     host: &Host<'_, E, D>,
     store: &mut FileStore<'_, D>,
@@ -154,7 +154,7 @@ fn number_for<E: Eprint + AllocGlobal, D: Disk>(
     Ok(Some(number))
 }
 
-/// Gives a name the map with this number, or notes that it has none.
+/// Gives a name the map of the opening with this number, or notes that it has none.
 fn link_to(
     alloc: Global,
     in_frames: bool,
@@ -178,7 +178,7 @@ fn link_to(
     chosen.note_mapped(alloc, name, pick.found, number)
 }
 
-/// The same where there is such a number.
+/// The same, or notes that a name has no map where there is no opening.
 fn link(
     alloc: Global,
     in_frames: bool,
