@@ -1,6 +1,8 @@
 -- Lists beside others, and elements by their numbers.
-use Rattle.std.proofs.Common.{◌≡◌, ◌∙◌, ℕ, zero, suc, ◌+◌, Bool, true, false, cond, not, ◌&&◌, List, [], ◌∷◌, ◌++◌}
-use Rattle.std.proofs.Common.{◌≤◌, append-nil, append_assoc, map, length, drop, filter, Option, Some, None, ap, sym, refl, arith, slice_get}
+use Rattle.std.proofs.Common.{◌≡◌, ◌∙◌, ℕ, zero, suc, ◌+◌, Bool, true, false, cond, not, ◌&&◌, List, []}
+use Rattle.std.proofs.Common.{◌∷◌, ◌++◌}
+use Rattle.std.proofs.Common.{◌≤◌, append-nil, append_assoc, map, length, drop, filter, Option, Some, None}
+use Rattle.std.proofs.Common.{ap, sym, refl, arith, slice_get}
 use Rattle.std.proofs.lemmas.List.{drop_all}
 use Rattle.std.specs.List.{zip}
 use Rattle.std.specs.Option.{option_zip}
@@ -18,7 +20,8 @@ slice_get-zip {A = A} {B = B} (x ∷ xs) [] (suc i) =
 slice_get-zip (x ∷ xs) (y ∷ ys) zero = refl
 slice_get-zip (x ∷ xs) (y ∷ ys) (suc i) = slice_get-zip xs ys i
 
-drop_suc : {A : Type 0} (xs : List A) (i : ℕ) (x : A) → slice_get xs i ≡ Some x → drop i xs ≡ x ∷ drop (suc i) xs
+drop_suc : {A : Type 0} (xs : List A) (i : ℕ) (x : A) → slice_get xs i ≡ Some x → drop i xs ≡ x ∷ drop
+    (suc i) xs
 drop_suc [] i x h = cc
 drop_suc (y ∷ ys) zero x h = let e : y ≡ x = cc in ap (λ z. z ∷ ys) e
 drop_suc (y ∷ ys) (suc i) x h = drop_suc ys i x h
@@ -55,7 +58,8 @@ beside_flag-push set (g ∷ fs) f (y ∷ ys) x h = by (cond set g (not g)) (besi
     by false h = h
 
 -- those that pass one test, of those that pass another
-pub filter_both : {A : Type 0} (p q : A → Bool) (xs : List A) → filter p (filter q xs) ≡ filter (λ x. q x && p x) xs
+pub filter_both : {A : Type 0} (p q : A → Bool) (xs : List A) → filter p (filter q xs) ≡ filter
+    (λ x. q x && p x) xs
 filter_both p q [] = refl
 filter_both p q (x ∷ xs) = by (q x) (filter_both p q xs)
   where
@@ -75,7 +79,8 @@ pub made_more : {A B : Type 0} (g : A → B) (xs : List A) (i : ℕ) (x : A) (do
     → more ++ map g (drop (i + 1) xs) ≡ whole
 made_more g xs i x done more whole y at is e h =
     ap (λ ys. ys ++ map g (drop (i + 1) xs)) e ∙ append_assoc done (y ∷ []) (map g (drop (i + 1) xs))
-    ∙ ap (λ (z : _). done ++ z ∷ map g (drop (i + 1) xs)) is ∙ ap (λ ys. done ++ map g ys) (sym (drop_at xs i x at)) ∙ h
+    ∙ ap (λ (z : _). done ++ z ∷ map g (drop (i + 1) xs)) is ∙ ap (λ ys. done ++ map g ys) (sym
+    (drop_at xs i x at)) ∙ h
 
 pub made_all : {A B : Type 0} (g : A → B) (xs : List A) (i : ℕ) (done whole : List B) → length xs ≤ i
     → done ++ map g (drop i xs) ≡ whole → done ≡ whole

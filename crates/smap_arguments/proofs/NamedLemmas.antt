@@ -21,7 +21,8 @@ pub named_is : (places : List Place) (origins : List Origin) (i : ℕ) (place : 
 named_is places origins i place origin p o =
     rw (slice_get-zip (places_in places) origins i, slice_get-map place_in places i, p, o) refl
 
-pub no_named : (places : List Place) (origins : List Origin) (i : ℕ) → min (length places) (length origins) ≤ i
+pub no_named : (places : List Place) (origins : List Origin) (i : ℕ) → min (length places)
+    (length origins) ≤ i
     → None ≡ slice_get (zip (places_in places) origins) i
 no_named places origins i le = sym (slice_get_past (zip (places_in places) origins) i
     (omega (arith, length-zip (places_in places) origins, length-map places place_in, le)))
@@ -34,14 +35,16 @@ past_end places origins i le =
 -- ---- the scripts that have a map, of those that were gone through and of those to come
 
 abbrev pub IsMappedUpTo : List Named → ℕ → List (Bor (List ℕ)) → Type 0
-IsMappedUpTo ns i keys = (script : List ℕ) → (holds keys script || is_mapped (drop i ns) script) ≡ is_mapped ns script
+IsMappedUpTo ns i keys = (script : List ℕ) → (holds keys script || is_mapped (drop i ns) script)
+    ≡ is_mapped ns script
 
 pub mapped_past : (ns : List Named) (i : ℕ) (keys : List (Bor (List ℕ))) → slice_get ns i ≡ None
     → IsMappedUpTo ns i keys → IsMappedUpTo ns (i + 1) keys
 mapped_past ns i keys none h = λ script.
     ap (λ ms. holds keys script || is_mapped ms script) (drop_none_more ns i none) ∙ h script
 
-pub mapped_passed : (ns : List Named) (i : ℕ) (keys : List (Bor (List ℕ))) (n : Named) → slice_get ns i ≡ Some n
+pub mapped_passed : (ns : List Named) (i : ℕ) (keys : List (Bor (List ℕ))) (n : Named) → slice_get ns i
+    ≡ Some n
     → may_link n ≡ true → IsMappedUpTo ns i keys → IsMappedUpTo ns (i + 1) keys
 mapped_passed ns i keys n at link h = λ script.
     let e : is_mapped (drop i ns) script ≡ is_mapped (drop (i + 1) ns) script =
@@ -53,7 +56,8 @@ or_moved : (a b c : Bool) → ((a || b) || c) ≡ (a || (b || c))
 or_moved true b c = refl
 or_moved false b c = refl
 
-pub mapped_added : (ns : List Named) (i : ℕ) (keys new : List (Bor (List ℕ))) (n : Named) → slice_get ns i ≡ Some n
+pub mapped_added : (ns : List Named) (i : ℕ) (keys new : List (Bor (List ℕ))) (n : Named) → slice_get ns i
+    ≡ Some n
     → may_link n ≡ false
     → ((other : List ℕ) → holds new other ≡ (holds keys other || bytes_eq other n.0.script))
     → IsMappedUpTo ns i keys → IsMappedUpTo ns (i + 1) new
@@ -65,7 +69,9 @@ mapped_added ns i keys new n at link more h = λ script.
     ap (λ b. b || rest) (more script) ∙ or_moved (holds keys script) (bytes_eq script n.0.script) rest
     ∙ ap (λ b. holds keys script || b) (sym e) ∙ h script
 
-pub mapped_all : (ns : List Named) (keys : List (Bor (List ℕ))) (script : List ℕ) (left : List Named) → left ≡ []
-    → (holds keys script || is_mapped left script) ≡ is_mapped ns script → holds keys script ≡ is_mapped ns script
+pub mapped_all : (ns : List Named) (keys : List (Bor (List ℕ))) (script : List ℕ) (left : List Named)
+    → left ≡ []
+    → (holds keys script || is_mapped left script) ≡ is_mapped ns script → holds keys script
+    ≡ is_mapped ns script
 mapped_all ns keys script left none h =
     sym (or-false (holds keys script)) ∙ ap (λ ms. holds keys script || is_mapped ms script) (sym none) ∙ h

@@ -1,6 +1,8 @@
 -- One map for each script, one place at a time.
-use Rattle.std.proofs.Common.{◌≡◌, ◌∙◌, ℕ, ◌+◌, Bool, true, false, not, ◌&&◌, ◌||◌, List, [], ◌∷◌, ◌++◌, cond, filter, length}
-use Rattle.std.proofs.Common.{inl, inr, ap, sym, refl, arith, Bor, Some, None, ◌<◌, ◌≤◌, min, drop, slice_get, append-nil, append_assoc, length-append}
+use Rattle.std.proofs.Common.{◌≡◌, ◌∙◌, ℕ, ◌+◌, Bool, true, false, not, ◌&&◌, ◌||◌, List, [], ◌∷◌, ◌++◌}
+use Rattle.std.proofs.Common.{cond, filter, length}
+use Rattle.std.proofs.Common.{inl, inr, ap, sym, refl, arith, Bor, Some, None, ◌<◌, ◌≤◌, min, drop}
+use Rattle.std.proofs.Common.{slice_get, append-nil, append_assoc, length-append}
 use Rattle.std.proofs.lemmas.Option.{none-some, slice_get_cases, slice_get_within}
 use Rattle.std.proofs.Math.Bool.{or-false}
 use Rattle.std.specs.Str.{bytes_eq}
@@ -17,7 +19,8 @@ use Rattle.smap_arguments.proofs.ListLemmas.{beside_flag-push, drop_at, drop_non
 
 held_alike : (keys : List (Bor (List ℕ))) (text other : List ℕ) → holds keys text ≡ true
     → bytes_eq other text ≡ true → holds keys other ≡ true
-held_alike keys text other held same = let e : other ≡ text = (bytes_eq-Decides other text).0 same in rw e held
+held_alike keys text other held same = let e : other
+    ≡ text = (bytes_eq-Decides other text).0 same in rw e held
 
 -- a text more
 pub holds_more : (keys : List (Bor (List ℕ))) (text : Bor (List ℕ)) (other : List ℕ)
@@ -54,13 +57,15 @@ seen_before keys n ns held =
     agrees m false same = refl
 
 -- one whose script is new comes first
-pub seen_first : (keys new : List (Bor (List ℕ))) (n : Named) (ns : List Named) → holds keys n.0.script ≡ false
+pub seen_first : (keys new : List (Bor (List ℕ))) (n : Named) (ns : List Named) → holds keys n.0.script
+    ≡ false
     → ((other : List ℕ) → holds new other ≡ (holds keys other || bytes_eq other n.0.script))
     → unseen keys (first_of_each (n ∷ ns)) ≡ n ∷ unseen new (first_of_each ns)
 seen_first keys new n ns held more =
     rw held (ap (λ ms. n ∷ ms)
     (filter_both (λ m. not (holds keys m.0.script)) (λ m. not (is_same_script n m)) (first_of_each ns)
-    ∙ filter_agree _ _ (λ m. agrees m (is_same_script n m) (holds keys m.0.script) (more m.0.script)) (first_of_each ns)))
+    ∙ filter_agree _ _ (λ m. agrees m (is_same_script n m) (holds keys m.0.script) (more m.0.script))
+    (first_of_each ns)))
   where
     agrees : (m : Named) (b c : Bool) → holds new m.0.script ≡ (c || b)
         → (not b && not c) ≡ not (holds new m.0.script)
@@ -85,7 +90,8 @@ same_unseen keys new text held added ns =
 abbrev staying : List Named → List Named → List Named
 staying ns those = filter (λ n. not (gives_way ns n)) those
 
-pub record IsDecidedUpTo (ns : List Named) (i : ℕ) (flags : List Bool) (keys : List (Bor (List ℕ))) (again : List ℕ) : Type 0 where
+pub record IsDecidedUpTo (ns : List Named) (i : ℕ) (flags : List Bool) (keys : List (Bor (List ℕ)))
+    (again : List ℕ) : Type 0 where
   pub count : length flags ≡ min i (length ns)
   pub kept_is : beside_flag true flags ns ++ unseen keys (first_of_each (staying ns (drop i ns))) ≡ kept ns
   pub stay : length (beside_flag true flags ns) + length again + length (staying ns (drop i ns))
@@ -124,7 +130,8 @@ next_gives_way : (ns : List Named) (i : ℕ) (n : Named) → slice_get ns i ≡ 
 next_gives_way ns i n at gives = ap (staying ns) (drop_at ns i n at)
     ∙ ap (λ b. cond (not b) (n ∷ staying ns (drop (i + 1) ns)) (staying ns (drop (i + 1) ns))) gives
 
-module _ (ns : List Named) (i : ℕ) (flags more : List Bool) (keys : List (Bor (List ℕ))) (again : List ℕ) (n : Named)
+module _ (ns : List Named) (i : ℕ) (flags more : List Bool) (keys : List (Bor (List ℕ))) (again : List ℕ)
+    (n : Named)
     (at : slice_get ns i ≡ Some n) (h : IsDecidedUpTo ns i flags keys again) where
   flag_at : slice_get ns (length flags) ≡ Some n
   flag_at =
@@ -141,7 +148,8 @@ module _ (ns : List Named) (i : ℕ) (flags more : List Bool) (keys : List (Bor 
   not_kept e = ap (λ fs. beside_flag true fs ns) e ∙ beside_flag-push true flags false ns n flag_at
       ∙ append-nil (beside_flag true flags ns)
 
-  pub decided_gone : more ≡ flags ++ false ∷ [] → gives_way ns n ≡ true → IsDecidedUpTo ns (i + 1) more keys again
+  pub decided_gone : more ≡ flags ++ false ∷ [] → gives_way ns n ≡ true → IsDecidedUpTo ns
+      (i + 1) more keys again
   decided_gone e gives = record {
     count = one_flag_more false e;
     kept_is = rw (not_kept e, ← next_gives_way ns i n at gives) h.kept_is;
@@ -182,7 +190,8 @@ module _ (ns : List Named) (i : ℕ) (flags more : List Bool) (keys : List (Bor 
         count = one_flag_more false e;
         kept_is = ap (λ ys. ys ++ unseen new (first_of_each rest)) (not_kept e)
             ∙ ap (λ ys. beside_flag true flags ns ++ ys)
-            (same_unseen keys new n.0.script held added (first_of_each rest) ∙ sym (seen_before keys n rest held)
+            (same_unseen keys new n.0.script held added (first_of_each rest) ∙ sym
+            (seen_before keys n rest held)
             ∙ ap (λ ms. unseen keys (first_of_each ms)) (sym (next_stays ns i n at stays)))
             ∙ h.kept_is;
         stay = omega (arith, ap length (not_kept e), longer, ap length (next_stays ns i n at stays), h.stay);
@@ -196,8 +205,18 @@ decided_all ns i flags keys again past h =
     let none : drop i ns ≡ [] = drop_all i ns past in
     let all : beside_flag true flags ns ≡ kept ns =
     sym (append-nil (beside_flag true flags ns))
-    ∙ ap (λ ms. beside_flag true flags ns ++ unseen keys (first_of_each (staying ns ms))) (sym none) ∙ h.kept_is in
-    (omega (arith, past, h.count), all, omega (arith, ap length all, ap (λ ms. length (staying ns ms)) none, h.stay))
+    ∙ ap (λ ms. beside_flag true flags ns ++ unseen keys (first_of_each (staying ns ms))) (sym none)
+    ∙ h.kept_is in (
+      omega (arith, past, h.count),
+      all,
+      omega (
+        arith,
+        ap length all,
+        ap (λ ms. length
+            (staying ns ms)) none,
+        h.stay,
+      ),
+    )
 
 pub no_element : {A : Type 0} (xs : List A) (i : ℕ) → slice_get xs i ≡ None → length xs ≤ i
 no_element xs i none = elim (slice_get_cases xs i).1 [

@@ -8,7 +8,8 @@ use Rattle.std.specs.Str.{bytes_eq}
 abbrev pub beside_flag : {X : Type 0} → Bool → List Bool → List X → List X
 beside_flag set [] xs = []
 beside_flag set (f ∷ fs) [] = []
-beside_flag set (f ∷ fs) (x ∷ xs) = cond (cond set f (not f)) (x ∷ beside_flag set fs xs) (beside_flag set fs xs)
+beside_flag set (f ∷ fs) (x ∷ xs) = cond (cond set f (not f)) (x ∷ beside_flag set fs xs)
+    (beside_flag set fs xs)
 
 -- a text is among these
 abbrev pub holds : List (Bor (List ℕ)) → List ℕ → Bool

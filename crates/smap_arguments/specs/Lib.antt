@@ -1,3 +1,5 @@
 pub mod Chosen
+pub mod Lists
+pub mod Naming
 pub mod Settling
 pub mod WantedView

@@ -1,6 +1,7 @@
 //! One map for each script: those that are named twice are told, and a script that may name its map gives way
 //! to a map that is there.
-ghost use Rattle.std.specs.Prelude.{◌≡◌, ◌+◌, ◌⊎◌, ◌||◌, ◌++◌, List, ℕ, IfErr, IfOk, OnOk, Ok, false, true, length};
+ghost use Rattle.std.specs.Prelude.{◌≡◌, ◌+◌, ◌⊎◌, ◌||◌, ◌++◌, List, ℕ, IfErr, IfOk, OnOk, Ok, false, true};
+ghost use Rattle.std.specs.Prelude.{length};
 ghost use Rattle.std.specs.Prelude.{map, not, option_map, slice_get};
 ghost use Rattle.std.specs.List.{zip};
 ghost use Rattle.std.specs.Str.{bytes_eq};
@@ -48,7 +49,10 @@ fn may_link(place: &Place, origin: Origin) -> bool
 }
 
 /// Adds a text, and says whether it is new.
-fn add_text<'a>(texts: &mut IndexSet<&'a [u8]>, text: &'a [u8]) -> Result<bool, AllocError>
+pub(crate) fn add_text<'a>(
+    texts: &mut IndexSet<&'a [u8]>,
+    text: &'a [u8],
+) -> Result<bool, AllocError>
     ensures new { IfOk result (λ new. new ≡ not (holds texts.old.keys text.now)) }
     ensures added { (other : List ℕ) → OnOk result (holds texts.new.keys other
         ≡ (holds texts.old.keys other || bytes_eq other text.now)) }
@@ -81,7 +85,8 @@ fn mapped<'a>(
 
 /// Whether a place gives way to a map of its script that is there.
 fn gives_way(place: &Place, origin: Origin, mapped: &IndexSet<&[u8]>) -> bool
-    ensures { (ns : List view.Named) → ((script : List ℕ) → holds mapped.now.keys script ≡ spec.is_mapped ns script)
+    ensures { (ns : List view.Named) → ((script : List ℕ) → holds mapped.now.keys script
+        ≡ spec.is_mapped ns script)
         → result ≡ spec.gives_way ns (place_in place.now, origin) }
 {
     may_link(place, origin) && mapped.contains(place.script.as_slice())
@@ -174,7 +179,11 @@ fn parted<T: Drop>(
 }
 
 /// Those beside flags that are set.
-fn chosen<T: Drop>(alloc: Global, items: Vec<T>, flags: &[bool]) -> Result<Vec<T>, AllocError>
+pub(crate) fn chosen<T: Drop>(
+    alloc: Global,
+    items: Vec<T>,
+    flags: &[bool],
+) -> Result<Vec<T>, AllocError>
     ensures { IfOk result (λ v. v.items ≡ beside_flag true flags.now items.items) }
 {
     let (_, set) = parted(alloc, items, flags)?;
@@ -215,7 +224,8 @@ fn put_maps_first(alloc: Global, wanted: &mut Wanted<'_>) -> Result<(), AllocErr
         ≡ map (λ f. f.0) (spec.maps_first (view.files_in wanted.old))) }
     ensures file_roots { OnOk result (wanted.new.file_roots.items
         ≡ map (λ f. f.1) (spec.maps_first (view.files_in wanted.old))) }
-    ensures map_count { OnOk result (wanted.new.map_count ≡ length (spec.maps_of (view.files_in wanted.old))) }
+    ensures map_count { OnOk result (wanted.new.map_count ≡ length (spec.maps_of
+        (view.files_in wanted.old))) }
     ensures others { (wanted.new.places ≡ wanted.old.places) × (wanted.new.origins ≡ wanted.old.origins)
         × (wanted.new.roots ≡ wanted.old.roots) × (wanted.new.logs ≡ wanted.old.logs) }
 {
@@ -232,8 +242,10 @@ fn put_maps_first(alloc: Global, wanted: &mut Wanted<'_>) -> Result<(), AllocErr
 
 /// Leaves the places that are kept.
 fn leave_kept(alloc: Global, kept: &[bool], wanted: &mut Wanted<'_>) -> Result<(), AllocError>
-    ensures places { OnOk result (wanted.new.places.items ≡ beside_flag true kept.now wanted.old.places.items) }
-    ensures origins { OnOk result (wanted.new.origins.items ≡ beside_flag true kept.now wanted.old.origins.items) }
+    ensures places { OnOk result (wanted.new.places.items
+        ≡ beside_flag true kept.now wanted.old.places.items) }
+    ensures origins { OnOk result (wanted.new.origins.items
+        ≡ beside_flag true kept.now wanted.old.origins.items) }
     ensures others { (wanted.new.files ≡ wanted.old.files) × (wanted.new.file_roots ≡ wanted.old.file_roots)
         × (wanted.new.map_count ≡ wanted.old.map_count) × (wanted.new.roots ≡ wanted.old.roots)
         × (wanted.new.logs ≡ wanted.old.logs) }

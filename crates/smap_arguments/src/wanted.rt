@@ -1,5 +1,6 @@
 //! What the arguments name: maps, files of folders, logs.
-ghost use Rattle.std.specs.Prelude.{◌≡◌, ◌==◌, ◌&&◌, [], length};
+ghost use Rattle.std.specs.Prelude.{◌≡◌, ◌==◌, ◌&&◌, length};
+ghost use Rattle.smap_arguments.specs.Lists.{lists_of, no_lists};
 ghost use Rattle.smap_arguments.specs.WantedView as spec;
 
 use smap_link::{FileKind, file_kind};
@@ -45,13 +46,8 @@ pub struct Wanted<'a> {
 impl<'a> Wanted<'a> {
     /// Nothing is named.
     pub fn new(alloc: Global) -> Wanted<'a>
-        ensures places { result.places.items ≡ [] }
-        ensures origins { result.origins.items ≡ [] }
-        ensures files { result.files.items ≡ [] }
-        ensures file_roots { result.file_roots.items ≡ [] }
+        ensures lists { lists_of result ≡ no_lists }
         ensures map_count { result.map_count ≡ 0 }
-        ensures roots { result.roots.items ≡ [] }
-        ensures logs { result.logs.items ≡ [] }
     {
         Wanted {
             places: Vec::new(alloc),

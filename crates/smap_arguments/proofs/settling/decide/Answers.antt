@@ -4,7 +4,8 @@ use Rattle.std.specs.List.{zip}
 use Rattle.std.specs.Str.{bytes_eq}
 use Rattle.smap_arguments.specs.Chosen.{holds}
 use Rattle.smap_arguments.specs.WantedView.{Named}
-use Rattle.smap_arguments.proofs.SettlingLemmas.{decided_again, decided_all, decided_first, decided_gone, decided_past, no_element}
+use Rattle.smap_arguments.proofs.SettlingLemmas.{decided_again, decided_all, decided_first, decided_gone}
+use Rattle.smap_arguments.proofs.SettlingLemmas.{decided_past, no_element}
 use Rattle.std.proofs.lemmas.List.{nil_from_length}
 use Rattle.smap_arguments.proofs.NamedLemmas.{past_end}
 use Rattle.smap_arguments.proofs.SettlingLemmas.{none_decided, is_old, not_new}
@@ -14,7 +15,8 @@ use Rattle.smap_arguments.proofs.settling.decide.Goals as goal
 pub loop-i-init : goal.loop-i-init
 loop-i-init c =
     none_decided (zip (places_in c.args.places.now) c.args.origins.now) c.new-kept.result.items c.new-seen.result.keys
-    c.new-repeated.result.items c.new-kept.ensures.items (nil_from_length c.new-seen.result.keys c.new-seen.ensures.len)
+    c.new-repeated.result.items c.new-kept.ensures.items
+    (nil_from_length c.new-seen.result.keys c.new-seen.ensures.len)
     c.new-repeated.ensures.items
 
 pub loop-i-preserved-in_default : goal.loop-i-preserved-in_default
@@ -61,13 +63,19 @@ loop-i-preserved c =
     (ap length c.in_ok-push-4.ensures.items ∙ length_push c.loop-i.repeated.items c.loop-i.i)
 
 pub returns-clause-count : goal.returns-clause-count
-returns-clause-count c = (decided_all (zip (places_in c.args.places.now) c.args.origins.now) c.loop-i.i c.loop-i.kept.items
-    c.loop-i.seen.keys c.loop-i.repeated.items (past_end c.args.places.now c.args.origins.now c.loop-i.i c.loop-i-test.false) c.loop-i.invariant).0
+returns-clause-count c = (decided_all (zip
+    (places_in c.args.places.now) c.args.origins.now) c.loop-i.i c.loop-i.kept.items
+    c.loop-i.seen.keys c.loop-i.repeated.items
+    (past_end c.args.places.now c.args.origins.now c.loop-i.i c.loop-i-test.false) c.loop-i.invariant).0
 
 pub returns-clause-kept : goal.returns-clause-kept
-returns-clause-kept c = (decided_all (zip (places_in c.args.places.now) c.args.origins.now) c.loop-i.i c.loop-i.kept.items
-    c.loop-i.seen.keys c.loop-i.repeated.items (past_end c.args.places.now c.args.origins.now c.loop-i.i c.loop-i-test.false) c.loop-i.invariant).1
+returns-clause-kept c = (decided_all (zip
+    (places_in c.args.places.now) c.args.origins.now) c.loop-i.i c.loop-i.kept.items
+    c.loop-i.seen.keys c.loop-i.repeated.items
+    (past_end c.args.places.now c.args.origins.now c.loop-i.i c.loop-i-test.false) c.loop-i.invariant).1
 
 pub returns-clause-repeated : goal.returns-clause-repeated
-returns-clause-repeated c = (decided_all (zip (places_in c.args.places.now) c.args.origins.now) c.loop-i.i c.loop-i.kept.items
-    c.loop-i.seen.keys c.loop-i.repeated.items (past_end c.args.places.now c.args.origins.now c.loop-i.i c.loop-i-test.false) c.loop-i.invariant).2
+returns-clause-repeated c = (decided_all (zip
+    (places_in c.args.places.now) c.args.origins.now) c.loop-i.i c.loop-i.kept.items
+    c.loop-i.seen.keys c.loop-i.repeated.items
+    (past_end c.args.places.now c.args.origins.now c.loop-i.i c.loop-i-test.false) c.loop-i.invariant).2

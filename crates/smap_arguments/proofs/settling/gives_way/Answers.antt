@@ -7,4 +7,5 @@ pub returns-then-may_link : goal.returns-then-may_link
 returns-then-may_link c ns h =
     c.contains.ensures ∙ ap (λ (text : List ℕ). holds c.args.mapped.now.keys text) c.as_slice.ensures.value
     ∙ h c.args.place.now.script.items
-    ∙ ap (λ b. b && is_mapped ns c.args.place.now.script.items) (sym (sym c.may_link.ensures ∙ c.if-may_link.true))
+    ∙ ap (λ b. b && is_mapped ns c.args.place.now.script.items) (sym (sym c.may_link.ensures
+    ∙ c.if-may_link.true))

@@ -28,5 +28,6 @@ returns-clause-map_count c =
     let files = c.args.wanted.now.files.items in
     let roots = c.args.wanted.now.file_roots.items in
     let flags : c.in_ok-flags.flags.items ≡ flags_of files roots = search rules in
-    let count : c.in_ok-files.count ≡ length (beside_flag false c.in_ok-flags.flags.items files) = search rules in
+    let count : c.in_ok-files.count ≡ length
+    (beside_flag false c.in_ok-flags.flags.items files) = search rules in
     arranged_count files roots c.in_ok-flags.flags.items flags c.in_ok-files.count count

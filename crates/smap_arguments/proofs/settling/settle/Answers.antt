@@ -9,7 +9,8 @@ use Rattle.smap_arguments.proofs.settling.settle.Goals.{After-drop-decided-3}
 use Rattle.smap_arguments.proofs.settling.settle.Given.{Over}
 
 pub returns-clause-settled : goal.returns-clause-settled
-returns-clause-settled g c = always_ok c.end_if_repeated.result (settled c.args.wanted.now c.leave_kept.new.wanted
+returns-clause-settled g c = always_ok c.end_if_repeated.result
+    (settled c.args.wanted.now c.leave_kept.new.wanted
     c.put_maps_first.new.wanted c.as_slice.result.now c.as_slice-2.result.now c.in_ok-decided.decided.kept.items
     c.deref-2.result.now c.as_slice.ensures.value c.as_slice-2.ensures.value c.in_ok-decided.ensures.count
     c.in_ok-decided.ensures.kept c.deref-2.ensures.value c.in_ok-leave_kept.ensures.places
@@ -17,7 +18,8 @@ returns-clause-settled g c = always_ok c.end_if_repeated.result (settled c.args.
     c.in_ok-put_maps_first.ensures.file_roots c.in_ok-put_maps_first.ensures.map_count
     c.in_ok-put_maps_first.ensures.others)
 
-are_repeated : (g : Over) (c : After-drop-decided-3 g) → not c.is_empty.result ≡ has_repeated (named_in c.args.wanted.now)
+are_repeated : (g : Over) (c : After-drop-decided-3 g) → not c.is_empty.result ≡ has_repeated
+    (named_in c.args.wanted.now)
 are_repeated g c =
     let none : c.is_empty.result ≡ (length c.in_ok-decided.decided.repeated.items == 0) = search rules in
     repeated_is (zip (places_in c.as_slice.result.now) c.as_slice-2.result.now) c.in_ok-decided.decided.repeated.items
@@ -27,8 +29,14 @@ are_repeated g c =
 
 pub returns-clause-once : goal.returns-clause-once
 returns-clause-once g c skip =
-    on_ok c.end_if_repeated.result (λ none. sym (are_repeated g c) ∙ none) (c.end_if_repeated.ensures.once skip)
+    on_ok c.end_if_repeated.result (λ none. sym (are_repeated g c) ∙ none)
+    (c.end_if_repeated.ensures.once skip)
 
 pub returns-clause-stops : goal.returns-clause-stops
 returns-clause-stops g c =
-    if_err c.end_if_repeated.result (λ s h. inr (h.0, h.1, sym (are_repeated g c) ∙ h.2)) c.end_if_repeated.ensures.stops
+    if_err c.end_if_repeated.result (λ s h. inr (
+      h.0,
+      h.1,
+      sym (are_repeated g c)
+          ∙ h.2,
+    )) c.end_if_repeated.ensures.stops
