@@ -6,8 +6,9 @@ use Rattle.std.proofs.lemmas.List.{take-append-drop}
 use Rattle.std.proofs.lemmas.Slice.Eq.{bytes_eq-Decides}
 use Rattle.std.specs.Str.{bytes_eq}
 use Rattle.std.proofs.Math.Seq.{drop-append-add, drop-append_seam, take-append_seam}
-use Rattle.smap_repair.specs.Listed.{is_listed}
+use Rattle.smap_repair.specs.Listed.{is_listed, mark}
 use Rattle.smap_repair.specs.Leading.{IsRepairOf, Leads, ahead_of, behind, made}
+use Rattle.smap_repair.specs.Unmarking.{IsRemoval}
 use Rattle.smap_repair.specs.declared.repair.Repair.{Repair}
 
 one_more : (rs : List Repair) (r : Repair) (old mid : List ℕ) → Leads rs old mid → IsRepairOf r mid
@@ -53,3 +54,14 @@ cut_at left before rest begins e =
 pub leads_nowhere : (text : List ℕ) → Leads [] text text
 unfolding Leads
 leads_nowhere text = refl
+
+-- the mark removed
+pub mark_removed : (r : Repair) (text rest : List ℕ) → IsRemoval r → text ≡ mark ++ rest → Leads (r ∷ []) text rest
+mark_removed r text rest is cut =
+    let front : text ≡ string_bytes r.before ++ rest = rw is.before cut in
+    let listed : is_listed r.change [] (string_bytes r.before) (string_bytes r.after) rest ≡ true =
+    rw (is.change, is.before, is.after) refl in
+    let led : Leads (r ∷ []) text (string_bytes r.after ++ rest) =
+    leads_on [] r text [] text rest is.start front listed (leads_nowhere text) in
+    let behind_mark : string_bytes r.after ++ rest ≡ rest = ap (λ (t : List ℕ). t ++ rest) is.after in
+    subst (Leads (r ∷ []) text) behind_mark led

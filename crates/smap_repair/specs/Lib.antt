@@ -3,3 +3,4 @@ pub mod Leading
 pub mod Listed
 pub mod Repairing
 pub mod Words
+pub mod Unmarking

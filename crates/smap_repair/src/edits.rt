@@ -48,21 +48,9 @@ pub(crate) fn add_edit(
     }
 }
 
-/// What keeps a text from being JSON: a byte order mark, and halves of surrogate pairs.
-pub(crate) fn edits_of_text(alloc: Global, text: &[u8]) -> Result<Vec<Edit>, AllocError> {
+/// Escapes of half a surrogate pair, which keep a text from being JSON.
+pub(crate) fn edits_of_halves(alloc: Global, text: &[u8]) -> Result<Vec<Edit>, AllocError> {
     let mut edits = Vec::new(alloc);
-    if text.starts_with(b"\xef\xbb\xbf") {
-        let place = Place { start: 0, end: 3 };
-        add_edit(
-            alloc,
-            text,
-            &[],
-            Change::ByteOrderMark,
-            place,
-            "",
-            &mut edits,
-        )?;
-    }
     for start in lone_halves(alloc, text)? {
         let place = Place {
             start,

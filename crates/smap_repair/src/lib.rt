@@ -13,6 +13,7 @@ mod halves;
 mod listed;
 mod lone;
 mod maps;
+mod mark;
 mod mending;
 mod places;
 mod repair;

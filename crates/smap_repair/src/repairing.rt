@@ -3,8 +3,10 @@ ghost use Rattle.std.specs.Prelude.{◌≡◌, IfOk, ℕ, List, IfSome, IsOk, Is
 ghost use Rattle.smap_record.specs.Reading.{reading};
 ghost use Rattle.smap_repair.specs.Leading.{Leads};
 ghost use Rattle.smap_repair.specs.Repairing.{IsRepaired};
+ghost use Rattle.smap_repair.specs.Unmarking.{IsMarkedOnly, LosesMark};
 
-use crate::edits::{edits_of_maps, edits_of_text};
+use crate::edits::{edits_of_halves, edits_of_maps};
+use crate::mark::without_mark;
 use crate::mending::{Mended, with_edits};
 use crate::repair::Repair;
 use smap_record::{Base, Fault, Limits, ReadError, SourceMap};
@@ -51,16 +53,14 @@ fn fault_of(
     }
 }
 
-/// The text with what keeps it from being JSON repaired.
-#[tactic(auto, using(crate::proofs::LeadLemmas::leads_nowhere))]
-fn text_mended(alloc: Global, text: &[u8]) -> Result<Option<Mended>, AllocError>
-    ensures { IfOk result (λ o. IfSome o (λ m. Leads m.repairs.items text.now m.text.items)) }
+/// A text, with escapes of half a surrogate pair repaired as well.
+fn halves_mended(alloc: Global, mended: Mended) -> Result<Option<Mended>, AllocError>
+    ensures { IfOk result (λ o. IfSome o (λ m. (old : List ℕ)
+        → Leads mended.repairs.items old mended.text.items → Leads m.repairs.items old m.text.items)) }
 {
-    let edits = edits_of_text(alloc, text)?;
-    match with_edits(alloc, text, Vec::new(alloc), edits)? {
-        Some(mended) => Ok(Some(mended)),
-        None => Ok(None),
-    }
+    let Mended { text, repairs } = mended;
+    let edits = edits_of_halves(alloc, &text)?;
+    with_edits(alloc, &text, repairs, edits)
 }
 
 /// A text, with what its maps have to be repaired repaired as well; none if nothing was to be repaired.
@@ -76,11 +76,12 @@ fn maps_mended(alloc: Global, mended: Mended, base: &Base) -> Result<Option<Mend
     with_edits(alloc, &text, repairs, edits)
 }
 
-/// The text with what the list has for it repaired; none if nothing is to be repaired.
-fn mended(alloc: Global, text: &[u8], base: &Base) -> Result<Option<Mended>, AllocError>
-    ensures { IfOk result (λ o. IfSome o (λ m. Leads m.repairs.items text.now m.text.items)) }
+/// A text, with what the list has for it repaired as well; none if nothing was to be repaired.
+fn further_mended(alloc: Global, mended: Mended, base: &Base) -> Result<Option<Mended>, AllocError>
+    ensures { IfOk result (λ o. IfSome o (λ m. (old : List ℕ)
+        → Leads mended.repairs.items old mended.text.items → Leads m.repairs.items old m.text.items)) }
 {
-    let Some(mended) = text_mended(alloc, text)? else {
+    let Some(mended) = halves_mended(alloc, mended)? else {
         return Ok(None);
     };
     match maps_mended(alloc, mended, base)? {
@@ -89,10 +90,34 @@ fn mended(alloc: Global, text: &[u8], base: &Base) -> Result<Option<Mended>, All
     }
 }
 
+/// What becomes of a text with this first fault that is repaired so far.
+fn repaired_further(
+    alloc: Global,
+    fault: Fault,
+    mended: Mended,
+    base: &Base,
+    limits: Limits,
+) -> Result<Repaired, AllocError>
+    ensures { IfOk result (λ a. (old : List ℕ) → reading base.now limits old ≡ Err fault
+        → Leads mended.repairs.items old mended.text.items → IsRepaired base.now limits old a) }
+{
+    let Some(Mended { text, repairs }) = further_mended(alloc, mended, base)? else {
+        return Ok(Repaired::Refused { fault, left: None });
+    };
+    match fault_of(alloc, &text, base, limits)? {
+        None => Ok(Repaired::Mended { text, repairs }),
+        Some(left) => Ok(Repaired::Refused {
+            fault,
+            left: Some(left),
+        }),
+    }
+}
+
 /// Repairs the text of a map, if it is refused as it is and the closed list of repairs suffices.
 ///
 /// `base` and `limits` are those with which the map is read, before and after. The text is looked through a
-/// few times, whatever the number of repairs, and read twice. A map that needs anything else besides stays
+/// few times, whatever the number of repairs, and read twice, or three times if it begins with a byte order mark:
+/// where that alone keeps it from being read, it is all that is removed. A map that needs anything else besides stays
 /// refused, and so does one that needs more than 65,536 repairs. Which section and which index a repair is
 /// told with is tested, and not promised.
 ///
@@ -105,19 +130,21 @@ pub fn repair_text(
     base: &Base,
     limits: Limits,
 ) -> Result<Repaired, AllocError>
-    ensures { IfOk result (IsRepaired base.now limits text.now) }
+    ensures answer { IfOk result (IsRepaired base.now limits text.now) }
+    ensures mark { IfOk result (λ a. IsMarkedOnly base.now limits text.now → LosesMark text.now a) }
 {
     let Some(fault) = fault_of(alloc, text, base, limits)? else {
         return Ok(Repaired::Sound);
     };
-    let Some(Mended { text, repairs }) = mended(alloc, text, base)? else {
-        return Ok(Repaired::Refused { fault, left: None });
-    };
-    match fault_of(alloc, &text, base, limits)? {
-        None => Ok(Repaired::Mended { text, repairs }),
-        Some(left) => Ok(Repaired::Refused {
-            fault,
-            left: Some(left),
+    let mended = without_mark(alloc, text)?;
+    if mended.repairs.is_empty() {
+        return repaired_further(alloc, fault, mended, base, limits);
+    }
+    match fault_of(alloc, &mended.text, base, limits)? {
+        None => Ok(Repaired::Mended {
+            text: mended.text,
+            repairs: mended.repairs,
         }),
+        Some(_) => repaired_further(alloc, fault, mended, base, limits),
     }
 }
