@@ -1,5 +1,5 @@
 -- Answers that are known but for a want of memory.
-use Rattle.std.proofs.Common.{◌≡◌, ◌∙◌, ◌⊎◌, inl, inr, ⊎_elim, ℕ, List, Option, Some, None, Ok, Err, sym}
+use Rattle.std.proofs.Common.{◌≡◌, ◌⊎◌, inr, ⊎_elim, ℕ, Option, Some, None, Ok, Err}
 use Rattle.std.proofs.Common.{subst}
 use Rattle.std.specs.Prelude.{Result}
 use Rattle.std.specs.declared.option.Option.TheVariants as o

@@ -1,7 +1,8 @@
 -- How much memory a map takes: sums of numbers that are capped, rooms, and roots.
+use Rattle.std.proofs.Common.{add-one}
 use Rattle.std.proofs.Common.{◌≡◌, ◌+◌, ◌^◌, ◌<◌, ◌≤◌, ◌∙◌, ℕ, zero, suc, List, [], ◌∷◌, Option, Some, None}
-use Rattle.std.proofs.Common.{ap, arith, drop, false, length, option_copied, refl}
-use Rattle.std.proofs.Common.{slice_get, subst, sym, take}
+use Rattle.std.proofs.Common.{arith, drop, false, length, option_copied, refl}
+use Rattle.std.proofs.Common.{slice_get, sym, take}
 use Rattle.std.proofs.Common.{Bool, Bor, bytes_eq}
 use Rattle.std.specs.Option.{option_eq}
 use Rattle.std.proofs.Math.ListN.{drop_of_length-le}
@@ -12,7 +13,7 @@ use Rattle.std.proofs.lemmas.Bool.Decides.{nat_tests}
 use Rattle.std.proofs.lemmas.List.Sums.{sum_by_push}
 use Rattle.smap_record.specs.Written.{Spelling}
 use Rattle.smap_c.specs.Memory.{capped, grown, root_memory, roots_memory, text_memory}
-use Rattle.smap_c.proofs.ScriptLemmas.{take_next}
+use Rattle.smap_record.proofs.ListLemmas.{take_next}
 
 -- ---- sums
 
@@ -21,9 +22,7 @@ pub capped_next : {A : Type 0} (f : A → ℕ) (xs : List A) (i : ℕ) (x : A) (
     → so_far ≡ capped (sum_by f (take i xs)) → slice_get xs i ≡ Some x → next ≡ capped (so_far + capped (f x))
     → next ≡ capped (sum_by f (take (i + 1) xs))
 capped_next f xs i x so_far next before at is =
-    let more : sum_by f (take (i + 1) xs) ≡ sum_by f (take i xs) + f x =
-    ap (sum_by f) (take_next xs i x at) ∙ sum_by_push f (take i xs) x in
-    rw (is, before, more) (capped_plus (sum_by f (take i xs)) (f x))
+    rw (is, before, take_next xs i x at, sum_by_push f (take i xs) x) (capped_plus (sum_by f (take i xs)) (f x))
   where
     capped_plus : (a b : ℕ) → capped (capped a + capped b) ≡ capped (a + b)
     capped_plus a b = omega arith
@@ -58,10 +57,7 @@ next_root (x ∷ xs) (suc i) s e = next_root xs i s e
 same_borrowed : (same : Bor (List ℕ) → Bor (List ℕ) → Bool)
     → ((a b : Bor (List ℕ)) → same a b ≡ bytes_eq a.now b.now)
     → (a b : Option (Bor (List ℕ))) → option_eq same a b ≡ same_text (option_copied a) (option_copied b)
-same_borrowed same are None None = refl
-same_borrowed same are None (Some b) = refl
-same_borrowed same are (Some a) None = refl
-same_borrowed same are (Some a) (Some b) = are a b
+same_borrowed same are a b = grind (arith, are)
 
 -- the root that is told of a source is its own
 pub root_at : (ss : List Spelling) (i : ℕ) (s : Spelling) (root : Option (List ℕ)) → slice_get ss i ≡ Some s
@@ -98,9 +94,7 @@ pub roots_next : (ss : List Spelling) (i : ℕ) (s : Spelling) (so_far root next
     → root ≡ capped (root_memory s (slice_get ss (i + 1))) → next ≡ capped (so_far + root)
     → (next < 2 ^ 64) × (capped (next + roots_memory (drop (i + 1) ss)) ≡ whole)
 roots_next ss i s so_far root next whole at before is step =
-    let one : suc i ≡ i + 1 = omega arith in
-    let left = subst (λ (k : ℕ). roots_memory (drop i ss)
-    ≡ root_memory s (slice_get ss k) + roots_memory (drop k ss)) one (next_root ss i s at) in
+    let left = rw (sym (add-one i)) at (next_root ss i s at) in
     (omega (arith, step), omega (arith, left, before, is, step))
 
 none_left : (ss : List Spelling) (i : ℕ) → length ss ≤ i → roots_memory (drop i ss) ≡ 0

@@ -1,18 +1,19 @@
 -- Scripts in a table by their URLs, and the translation of a whole trace.
-use Rattle.std.proofs.Common.{◌≡◌, ◌∙◌, ℕ, zero, suc, ◌+◌, Bool, true, false, List, [], ◌∷◌, ◌++◌, map, take}
-use Rattle.std.proofs.Common.{get_or, length, Bor, String, Some, refl, sym, ap, arith, bytes_eq, string_bytes}
+use Rattle.std.proofs.lemmas.Bool.{cases_Bool}
+use Rattle.std.proofs.Common.{inl, inr}
+use Rattle.smap_record.proofs.ListLemmas.{take_next}
+use Rattle.std.proofs.Common.{◌≡◌, ◌∙◌, ℕ, ◌+◌, Bool, false, List, [], ◌∷◌, ◌++◌, map, take}
+use Rattle.std.proofs.Common.{length, Bor, String, Some, refl, sym, arith, bytes_eq, string_bytes}
 use Rattle.std.specs.Prelude.{slice_get}
 use Rattle.std.specs.List.{AllByRecursion, IsDistinct}
-use Rattle.std.proofs.lemmas.List.{get_or-map, length-map, map-append, take_more, append-nil}
+use Rattle.std.proofs.lemmas.List.{get_or-map, length-map, map-append, append-nil}
 use Rattle.std.proofs.lemmas.Map.Made.{AllPairs-from_IsDistinct}
-use Rattle.std.proofs.lemmas.Option.{slice_get_within}
 use Rattle.std.proofs.lemmas.Slice.Eq.{bytes_eq-Decides}
 use Rattle.std.specs.Map.{keys_of}
-use Rattle.std.proofs.Common.{Option, Ok, subst}
-use Rattle.std.specs.Io.KnownBytes.{Appends, Consumes, IsAtEnd}
+use Rattle.std.proofs.Common.{Ok}
 use Rattle.indexmap.specs.IndexMap.{insert_entry}
 use Rattle.smap_record.specs.Record.{ReadMap, record_of}
-use Rattle.smap_trace.specs.Translation.{AreDistinct, Script, Fate, translation_by}
+use Rattle.smap_trace.specs.Translation.{AreDistinct, Script, Fate}
 use Rattle.smap_trace.specs.Views.{script_in, scripts_in}
 use Rattle.smap_c.specs.Scripts.{with_script, told_trace}
 use Rattle.smap_c.specs.ScriptsView.{script_of, scripts_of}
@@ -31,15 +32,10 @@ pub put : {A : Type 0} (k : String A) (v : Shared) (es : List (String A × Share
     → scripts_of (insert_entry same_key es k v)
     ≡ with_script (string_bytes k) (record_of v.arc.value.map) (scripts_of es)
 put k v [] = refl
-put {A = A} k v (e ∷ es) = step (same_key k e.0) refl (put k v es)
-  where
-    step : (t : Bool) → same_key k e.0 ≡ t
-        → scripts_of (insert_entry same_key es k v)
-        ≡ with_script (string_bytes k) (record_of v.arc.value.map) (scripts_of es)
-        → scripts_of (insert_entry same_key (e ∷ es) k v)
-        ≡ with_script (string_bytes k) (record_of v.arc.value.map) (scripts_of (e ∷ es))
-    step true f more = rw f refl
-    step false f more = rw f (ap (λ (ss : List Script). script_of e ∷ ss) more)
+put k v (e ∷ es) = elim (cases_Bool (same_key k e.0)) [
+  | inl is ↦ rw is refl
+  | inr is ↦ rw (is, put k v es) refl
+]
 
 -- ---- no two scripts have one URL
 
@@ -70,26 +66,18 @@ distinct es d i j s lt within same =
 
 -- ---- the pairs of a URL and a map
 
-found : {A : Type 0} (es : List A) (i : ℕ) (e : A) → slice_get es i ≡ Some e → get_or es i e ≡ e
-found [] i e h = cc
-found (x ∷ xs) zero e h = cc
-found (x ∷ xs) (suc i) e h = found xs i e h
-
-pub take_next : {A : Type 0} (es : List A) (i : ℕ) (e : A) → slice_get es i ≡ Some e
-    → take (i + 1) es ≡ take i es ++ e ∷ []
-take_next {A = A} es i e h =
-    take_more es i e (slice_get_within es i e h) ∙ ap (λ (x : A). take i es ++ x ∷ []) (found es i e h)
-
 pub next_pair : {A : Type 0} (xs : List (Bor (List ℕ) × Bor ReadMap)) (es : List (String A × Shared)) (i : ℕ)
     (e : String A × Shared) (u : Bor (List ℕ)) (m : Bor ReadMap) → scripts_in xs ≡ scripts_of (take i es)
     → slice_get es i ≡ Some e → u.now ≡ string_bytes e.0 → m.now ≡ e.1.arc.value.map
     → scripts_in (xs ++ (u, m) ∷ []) ≡ scripts_of (take (i + 1) es)
-next_pair {A = A} xs es i e u m so_far at url is =
-    let last : ◌≡◌ {A = Script} (u.now, record_of m.now) (script_of e) = rw (url, is) refl in
-    map-append script_in xs ((u, m) ∷ [])
-    ∙ ap (λ (ss : List Script). ss ++ (u.now, record_of m.now) ∷ []) so_far
-    ∙ ap (λ (s : Script). scripts_of (take i es) ++ s ∷ []) last
-    ∙ sym (map-append script_of (take i es) (e ∷ [])) ∙ ap scripts_of (sym (take_next es i e at))
+next_pair xs es i e u m so_far at url is = rw (
+  map-append script_in xs ((u, m) ∷ []),
+  so_far,
+  take_next es i e at,
+  map-append script_of (take i es) (e ∷ []),
+  url,
+  is,
+) refl
 
 -- ---- the translation of a whole trace, read from a slice and written into a vector
 
@@ -99,14 +87,7 @@ pub whole : (fates : List ℕ → Fate) (s : Streams) (trace rest out : List ℕ
     → ◌≡◌ {A = List ℕ × Counts} (out, counts) (told_trace fates trace)
 whole fates s trace rest out counts t before after empty full =
     let a = t.translates.0 in
-    let read : trace ≡ a.bytes ++ rest =
-    subst (λ (x : Option (List ℕ)). Consumes (Some trace) x a.bytes) after
-    (subst (λ (x : Option (List ℕ)). Consumes x s.read_after a.bytes) before a.read) in
-    let ended : rest ≡ [] = subst IsAtEnd after a.at_end in
-    let all : a.bytes ≡ trace =
-    sym (read ∙ ap (λ (xs : List ℕ). a.bytes ++ xs) ended ∙ append-nil a.bytes) in
-    let text : List ℕ = translation_by fates a.bytes in
-    let written : out ≡ text =
-    subst (λ (x : Option (List ℕ)). Appends (Some []) x text) full
-    (subst (λ (x : Option (List ℕ)). Appends x s.written_after text) empty a.written) in
-    rw (written, a.counts_are, all) refl
+    let ended = rw after at a.at_end in
+    let all = rw (before, after, ended, append-nil a.bytes) at a.read in
+    let written = rw (empty, full) at a.written in
+    rw (all, written, a.counts_are) refl

@@ -1,6 +1,5 @@
-use Rattle.std.proofs.Common.{◌≡◌, ◌∙◌, ◌⊎◌, inl, inr, ⊎_elim, ap, sym, ℕ, List, Option, Err}
-use Rattle.std.specs.Prelude.{Result}
-use Rattle.smap_c.specs.Links.{Answer, data_answer, data_code}
+use Rattle.std.proofs.Common.{◌∙◌, inl, inr, ⊎_elim, ap, sym, ℕ, Err}
+use Rattle.smap_c.specs.Links.{data_answer, data_code}
 use Rattle.smap_c.proofs.links.data_of.Goals as goal
 
 pub returns-in-Ok : goal.returns-in-Ok
