@@ -77,7 +77,8 @@ mapping_known l t placed listed =
         let e : Entry = unwrap_or (slice_get l.sources o.source) no_entry in
         record {
           source = any_distinct same_entry same_entries own_entry e l.sources (any_passes_from_place
-              (same_entry e) l.sources o.source e (source-there l.sources o.source listed.source) (own_entry e));
+              (same_entry e) l.sources o.source e (source-there l.sources o.source listed.source)
+              (own_entry e));
           line = placed.line;
           column = placed.column;
         }

@@ -35,7 +35,8 @@ IsNumbered sources v = IfSome v.original (IsAt sources)
 module _ (sources : List Entry) (once : IsDistinct same_entry sources) where
   same_origins : (o p : OriginalView) → IsAt sources o → IsAt sources p → same_numbered o p ≡ true
       → origin_of_view o ≡ origin_of_view p
-  same_origins o p o_at p_at e = grind (arith, nat_tests, same_texts (option_copied o.name) (option_copied p.name))
+  same_origins o p o_at p_at e =
+      grind (arith, nat_tests, same_texts (option_copied o.name) (option_copied p.name))
 
   own_origin : (o p : OriginalView) → IsAt sources o → IsAt sources p → origin_of_view o ≡ origin_of_view p
       → same_numbered o p ≡ true

@@ -112,8 +112,8 @@ canonical_for limits r h below =
       line_start = refl;
       column_start = refl;
       encodable = canonical_encodable r h;
-      within = all_map (λ m. m.line < limits.lines × (IsKnown r.sources m × HasName names m)) (IsWithin bounds)
-          (token_of r.sources names)
+      within = all_map (λ m. m.line < limits.lines × (IsKnown r.sources m × HasName names m))
+          (IsWithin bounds) (token_of r.sources names)
           (λ m known. token_within bounds r.sources names m refl refl known.0 known.1.0 known.1.1) r.mappings
           (all_both (λ m. m.line < limits.lines) (λ m. IsKnown r.sources m × HasName names m) r.mappings below
           (all_both (IsKnown r.sources) (HasName names) r.mappings h.mappings (used_names r.mappings)));
