@@ -147,7 +147,8 @@ is_none (Some x) none = absurd (none x refl)
 pub trace_isnt : (text script base : List ℕ) (n : ℕ) (more : List ℕ)
     → BeginsWithHeader text script base n more → after trace_line text ≡ None
 trace_isnt text script base n more b = is_none (after trace_line text) (λ trace e.
-    no_header_of_trace script base more trace n (subst (λ (xs : List ℕ). BeginsWithHeader xs script base n more)
+    no_header_of_trace script base more trace n
+    (subst (λ (xs : List ℕ). BeginsWithHeader xs script base n more)
     (after_is trace_line text trace e) b))
 
 then_ok : {A B F P : Type 0} (r : Result A F) (f : A → Result B F) (y : B) → (r >>= f) ≡ Ok y

@@ -37,7 +37,8 @@ digits_ascii : (ds : List ℕ) → list_all is_ascii_digit ds ≡ true → IsAsc
 digits_ascii [] h i = omega arith
 digits_ascii (d ∷ ds) h zero = let range =
     digit_is d (and_parts (is_ascii_digit d) (list_all is_ascii_digit ds) h).0 in omega (arith, range.1)
-digits_ascii (d ∷ ds) h (suc i) = digits_ascii ds (and_parts (is_ascii_digit d) (list_all is_ascii_digit ds) h).1 i
+digits_ascii (d ∷ ds) h (suc i) =
+    digits_ascii ds (and_parts (is_ascii_digit d) (list_all is_ascii_digit ds) h).1 i
 
 no_plus : (text : List ℕ) (n : ℕ) → IsNumber text n → get_or text 0 0 ≢ 43
 no_plus [] n is e = omega (arith, is.some)
