@@ -1,6 +1,8 @@
 -- Tables of how often texts stand in a list.
-use Rattle.std.proofs.Common.{◌≡◌, ◌∙◌, ◌+◌, ◌-◌, ◌^◌, ◌<◌, ◌≤◌, ◌==◌, ◌&&◌, ℕ, zero, suc, Bool, true, false, cond, Bor, List, [], ◌∷◌, ◌++◌}
-use Rattle.std.proofs.Common.{Option, Some, None, ap, append-nil, arith, drop, fold, get_or, length, map, refl, sym, take, unwrap_or}
+use Rattle.std.proofs.Common.{◌≡◌, ◌∙◌, ◌+◌, ◌-◌, ◌^◌, ◌<◌, ◌≤◌, ◌==◌, ◌&&◌, ℕ, zero, suc, Bool, true, false}
+use Rattle.std.proofs.Common.{cond, Bor, List, [], ◌∷◌, ◌++◌}
+use Rattle.std.proofs.Common.{Option, Some, None, ap, append-nil, arith, drop, fold, get_or, length, map}
+use Rattle.std.proofs.Common.{refl, sym, take, unwrap_or}
 use Rattle.std.specs.List.{filter, list_all, slice_range}
 use Rattle.std.specs.Map.{keys_of, lookup}
 use Rattle.std.specs.Str.{bytes_eq}
@@ -18,7 +20,8 @@ use Rattle.serde_json.specs.View.{view}
 use Rattle.serde_json.specs.declared.value.Value.{Value}
 use Rattle.std.proofs.lemmas.List.Folds.{list_all-map}
 use Rattle.smap_changes.specs.Changes.{are_reordered, is_none, texts_change, texts_told}
-use Rattle.smap_changes.specs.Counts.{Row, counted, fewer_in, is_fewer, keys, missing_in, rows_of, table_of, times}
+use Rattle.smap_changes.specs.Counts.{Row, counted, fewer_in, is_fewer, keys, missing_in, rows_of, table_of}
+use Rattle.smap_changes.specs.Counts.{times}
 use Rattle.smap_changes.specs.Lists.{is_text_or_null, count, fewer, if_any, missing, once, text_of, texts_of}
 use Rattle.smap_drops.proofs.DropLemmas.{Text, view_at}
 

@@ -1,5 +1,6 @@
 -- What changes of a map, a line for each member of its top level that isn't the same.
-use Rattle.std.specs.Prelude.{ℕ, ◌-◌, ◌==◌, ◌&&◌, ◌||◌, Bool, bytes_eq, cond, List, [], ◌∷◌, ◌++◌, codes, length, nat_le}
+use Rattle.std.specs.Prelude.{ℕ, ◌-◌, ◌==◌, ◌&&◌, ◌||◌, Bool, bytes_eq, cond, List, [], ◌∷◌, ◌++◌, codes}
+use Rattle.std.specs.Prelude.{length, nat_le}
 use Rattle.std.specs.Prelude.{option_and_then, Option, Some, None, String, string_bytes, take}
 use Rattle.std.specs.List.{flat_map, list_all}
 use Rattle.std.specs.BTreeMap.{BTreeMap, get_by_text}

@@ -1,5 +1,6 @@
 -- The entries of an array.
-use Rattle.std.specs.Prelude.{ℕ, ◌==◌, ◌&&◌, Bool, true, false, bytes_eq, filter, length, nat_lt, List, [], ◌∷◌, Option, Some, None}
+use Rattle.std.specs.Prelude.{ℕ, ◌==◌, ◌&&◌, Bool, true, false, bytes_eq, filter, length, nat_lt, List, []}
+use Rattle.std.specs.Prelude.{◌∷◌, Option, Some, None}
 use Rattle.std.specs.List.{flat_map}
 use Rattle.indexmap.specs.IndexSet.{insert_all}
 use Rattle.serde_json.specs.Data.{Data, null, string}

@@ -1,5 +1,6 @@
 -- Names of a log, and what they have.
-use Rattle.std.proofs.Common.{arith, ◌≡◌, ◌∙◌, ◌<◌, ◌≤◌, ◌+◌, ◌++◌, ◌∷◌, ap, refl, sym, inl, ℕ, Bor, List, [], length, take}
+use Rattle.std.proofs.Common.{arith, ◌≡◌, ◌∙◌, ◌<◌, ◌≤◌, ◌+◌, ◌++◌, ◌∷◌, ap, refl, sym, inl, ℕ, Bor, List, []}
+use Rattle.std.proofs.Common.{length, take}
 use Rattle.std.proofs.Common.{Option, Some, None, get_or, map, subst, option_map, true, false}
 use Rattle.std.proofs.lemmas.List.{get_or-map, length-map, map_push, take_all, take_more}
 use Rattle.std.proofs.lemmas.List.Elements.{All-push}
@@ -7,7 +8,8 @@ use Rattle.std.specs.Global.{Vec}
 use Rattle.std.specs.List.{All, slice_get}
 use Rattle.std.proofs.lemmas.Option.{get_or_from_slice_get, slice_get-get_or, slice_get-map, slice_get_within}
 use Rattle.smap_disk.specs.Held.{Held, IsHeld}
-use Rattle.smap_finder.specs.Choice.{AreChoices, ArePicksIn, ArePicksOf, IsFoundIn, NamesMap, files_of, is_half_unclear}
+use Rattle.smap_finder.specs.Choice.{AreChoices, ArePicksIn, ArePicksOf, IsFoundIn, NamesMap, files_of}
+use Rattle.smap_finder.specs.Choice.{is_half_unclear}
 use Rattle.smap_finder.specs.Choice.{places_of}
 use Rattle.smap_finder.specs.Given.{Folder, IsFollowed, Names, folder_for}
 use Rattle.smap_finder.specs.declared.following.Followed.TheVariants as followed

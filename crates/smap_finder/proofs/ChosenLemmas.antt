@@ -5,7 +5,8 @@ use Rattle.std.specs.Bool.{beq}
 use Rattle.std.specs.List.{All, Contains, slice_get}
 use Rattle.std.proofs.lemmas.Bool.{cases_lt, cond_both}
 use Rattle.std.proofs.lemmas.List.{map-append}
-use Rattle.std.proofs.lemmas.List.Elements.{All-cons, All-head, All-nil, All-tail, Contains-append_left, Contains-push}
+use Rattle.std.proofs.lemmas.List.Elements.{All-cons, All-head, All-nil, All-tail, Contains-append_left}
+use Rattle.std.proofs.lemmas.List.Elements.{Contains-push}
 use Rattle.indexmap.specs.IndexMap.{insert_entry}
 use Rattle.smap_finder.specs.ChosenView.{Choices, Has, Serves}
 use Rattle.smap_finder.specs.declared.chosen.MappedName.{MappedName}

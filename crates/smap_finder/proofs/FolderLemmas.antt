@@ -1,5 +1,7 @@
 -- What stands before the last slash of a path.
-use Rattle.std.proofs.Common.{◌≡◌, ◌∙◌, inl, inr, ℕ, zero, suc, ◌+◌, ◌-◌, ◌<◌, ◌≤◌, List, length, get_or, take, drop, Option, Some, None, MatchOption, option_map, Bor, refl, sym, ap, arith, eq-eqb, ne_eqb, get_or-drop, length-drop}
+use Rattle.std.proofs.Common.{◌≡◌, ◌∙◌, inl, inr, ℕ, zero, suc, ◌+◌, ◌-◌, ◌<◌, ◌≤◌, List, length, get_or}
+use Rattle.std.proofs.Common.{take, drop, Option, Some, None, MatchOption, option_map, Bor, refl, sym, ap}
+use Rattle.std.proofs.Common.{arith, eq-eqb, ne_eqb, get_or-drop, length-drop}
 use Rattle.std.specs.Path.{rfind_below, rsplit_once}
 use Rattle.std.specs.Str.Pattern.{RFindsChar}
 use Rattle.std.proofs.lemmas.Bool.{cases_eq, cond-false, cond-true}

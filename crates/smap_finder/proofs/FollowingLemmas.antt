@@ -1,5 +1,6 @@
 -- What was found by the URL that a script names.
-use Rattle.std.proofs.Common.{◌≡◌, ◌⊎◌, inl, inr, List, ℕ, Bool, true, false, not, ◌&&◌, Option, None, Some, Result, Ok, Err, IfOk, IfErr, MatchOption, option_map, refl, sym}
+use Rattle.std.proofs.Common.{◌≡◌, ◌⊎◌, inl, inr, List, ℕ, Bool, true, false, not, ◌&&◌, Option, None, Some}
+use Rattle.std.proofs.Common.{Result, Ok, Err, IfOk, IfErr, MatchOption, option_map, refl, sym}
 use Rattle.std.specs.Global.{Vec}
 use Rattle.base64.specs.declared.engine.general_purpose.GeneralPurpose.{GeneralPurpose}
 use Rattle.smap_link.specs.Inline.{IsForgiving, data_of, inline_map, is_data, some_map}
@@ -7,7 +8,8 @@ use Rattle.smap_link.specs.Kinds.{link_in}
 use Rattle.smap_link.specs.declared.inline.InlineFault.{InlineFault}
 use Rattle.smap_link.specs.declared.inline.InlineFault.TheVariants as fault
 use Rattle.smap_pick.specs.Places.{MapPlace}
-use Rattle.smap_finder.specs.Given.{Folder, Holds, IsBadInline, IsFollowed, IsFollowedBy, IsInline, NamesUnfound, is_vain, named_url}
+use Rattle.smap_finder.specs.Given.{Folder, Holds, IsBadInline, IsFollowed, IsFollowedBy, IsInline}
+use Rattle.smap_finder.specs.Given.{NamesUnfound, is_vain, named_url}
 use Rattle.smap_finder.specs.declared.following.Followed.{Followed}
 use Rattle.smap_finder.specs.declared.following.Followed.TheVariants as followed
 

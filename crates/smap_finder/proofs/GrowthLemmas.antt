@@ -1,6 +1,7 @@
 -- What was chosen stays while more is.
 use Rattle.std.proofs.Common.{◌≡◌, ◌⊎◌, ◌≤◌, arith, inl, inr, refl, subst, ℕ, Bool, List, Bor, get_or}
-use Rattle.std.proofs.Common.{Option, None, Some, Result, Ok, Err, IfNone, IfOk, IfSome, MatchResult, OnOk, option_map, sym}
+use Rattle.std.proofs.Common.{Option, None, Some, Result, Ok, Err, IfNone, IfOk, IfSome, MatchResult, OnOk}
+use Rattle.std.proofs.Common.{option_map, sym}
 use Rattle.std.specs.List.{All, Contains}
 use Rattle.std.proofs.lemmas.List.Elements.{All-contains}
 use Rattle.smap_arguments.specs.declared.wanted.Wanted.{Wanted}
@@ -14,7 +15,8 @@ use Rattle.smap_finder.specs.Choice.{IsOpenedAs, IsUnopened, has_base, opening_n
 use Rattle.smap_finder.specs.Given.{Folder}
 use Rattle.smap_finder.specs.Opened.{GivesNone}
 use Rattle.smap_pick.specs.Places.{MapPlace}
-use Rattle.smap_finder.specs.ChosenView.{AreChosen, Choices, IsWithoutMap, Grows, HasMap, HasNone, IsFor, IsLeft, IsNotOpened}
+use Rattle.smap_finder.specs.ChosenView.{AreChosen, Choices, IsWithoutMap, Grows, HasMap, HasNone, IsFor}
+use Rattle.smap_finder.specs.ChosenView.{IsLeft, IsNotOpened}
 use Rattle.smap_finder.specs.ChosenView.{IsFind, IsServedBy, IsSettledIn, IsTried, Serves, further}
 use Rattle.smap_finder.specs.declared.chosen.Opening.{Opening}
 

@@ -1,5 +1,6 @@
 -- What was reached by what a file holds and what that names.
-use Rattle.std.proofs.Common.{◌≡◌, ◌⊎◌, ◌<◌, inl, inr, cond, List, ℕ, Bool, Option, Some, None, Result, Ok, Err, IfOk, IsSome, MatchOption, ap, refl}
+use Rattle.std.proofs.Common.{◌≡◌, ◌⊎◌, ◌<◌, inl, inr, cond, List, ℕ, Bool, Option, Some, None, Result, Ok}
+use Rattle.std.proofs.Common.{Err, IfOk, IsSome, MatchOption, ap, refl}
 use Rattle.smap_disk.specs.Held.{Held, IsHeld}
 use Rattle.smap_pick.specs.Opening.{IsMadeOf}
 use Rattle.smap_pick.specs.Places.{MapPlace}
@@ -8,8 +9,10 @@ use Rattle.smap_finder.specs.declared.loading.Content.TheVariants as content
 use Rattle.smap_finder.specs.declared.loading.Loaded.{Loaded}
 use Rattle.smap_finder.specs.declared.loading.Loaded.TheVariants as loaded
 use Rattle.smap_finder.specs.declared.loading.MapFault.{MapFault}
-use Rattle.smap_finder.specs.Given.{Folder, Holds, IsContent, IsLoaded, IsRead, IsUnread, Names, NamesNothing, NamesUnfound, folder_for, linked_base}
-use Rattle.smap_finder.specs.Opened.{GivesNone, IsLeftOut, IsLink, IsOpened, IsReached, with_base, within_base}
+use Rattle.smap_finder.specs.Given.{Folder, Holds, IsContent, IsLoaded, IsRead, IsUnread, Names, NamesNothing}
+use Rattle.smap_finder.specs.Given.{NamesUnfound, folder_for, linked_base}
+use Rattle.smap_finder.specs.Opened.{GivesNone, IsLeftOut, IsLink, IsOpened, IsReached, with_base}
+use Rattle.smap_finder.specs.Opened.{within_base}
 
 -- ---- what became of a file
 

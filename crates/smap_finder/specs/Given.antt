@@ -2,7 +2,8 @@
 -- (ECMA-426, "Linking generated code to source maps").
 use Rattle.std.specs.Prelude.{◌≡◌, ◌⊎◌, ℕ, ◌-◌, ◌==◌, ◌&&◌, ◌||◌, Bool, true, false, not, nat_eq, nat_lt}
 use Rattle.std.specs.Prelude.{List, [], ◌++◌, codes, cond, drop, length, take, ⊤}
-use Rattle.std.specs.Prelude.{Option, Some, None, option_and_then, option_map, unwrap_or, Result, Ok, Err, IsErr}
+use Rattle.std.specs.Prelude.{Option, Some, None, option_and_then, option_map, unwrap_or, Result, Ok, Err}
+use Rattle.std.specs.Prelude.{IsErr}
 use Rattle.std.specs.List.{starts_with, suffix_len}
 use Rattle.std.specs.Path.{rsplit_once, slash}
 use Rattle.std.specs.Str.{is_utf8}
@@ -180,7 +181,8 @@ linked_base place url = url_or place.base (resolved place.script url)
 abbrev pub IsFollowedBy : Folder → MapPlace → List ℕ → Followed → Type 0
 IsFollowedBy folder place url (followed.Inline bytes) = ⊥
 IsFollowedBy folder place url (followed.File found) =
-    (is_vain url ≡ false) × (NamesBy folder place.file url found.file.items × (found.base.items ≡ linked_base place url))
+    (is_vain url ≡ false)
+    × (NamesBy folder place.file url found.file.items × (found.base.items ≡ linked_base place url))
 IsFollowedBy folder place url followed.Nothing = is_vain url ≡ true
 IsFollowedBy folder place url (followed.Wrong what) = (is_vain url ≡ false) × IsUnfound folder place.file url
 

@@ -8,7 +8,8 @@ use Rattle.smap_finder.specs.declared.loading.Loaded.{Loaded}
 use Rattle.smap_finder.specs.declared.loading.Loaded.TheVariants as loaded
 use Rattle.smap_finder.specs.declared.loading.MapFault.{MapFault}
 use Rattle.smap_finder.specs.declared.loading.MapFault.TheVariants as fault
-use Rattle.smap_finder.specs.Given.{Folder, Holds, IsRead, IsUnread, Names, NamesNothing, NamesUnfound, folder_for, linked_base}
+use Rattle.smap_finder.specs.Given.{Folder, Holds, IsRead, IsUnread, Names, NamesNothing, NamesUnfound}
+use Rattle.smap_finder.specs.Given.{folder_for, linked_base}
 
 -- ---- the bytes of a map, and the URL that they are read with
 

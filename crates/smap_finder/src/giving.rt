@@ -3,7 +3,8 @@ ghost use Rattle.std.specs.Prelude.{◌≡◌, ◌<◌, ◌≤◌, ◌⊎◌, Bo
 ghost use Rattle.std.specs.List.{All, Contains};
 ghost use Rattle.smap_disk.specs.Held.{Held};
 ghost use Rattle.smap_finder.specs.Choice.{ArePicked, IsPickedBy};
-ghost use Rattle.smap_finder.specs.ChosenView.{AreChosen, Choices, Grows, IsFind, IsJudged, IsNumberOf, IsOver};
+ghost use Rattle.smap_finder.specs.ChosenView.{AreChosen, Choices, Grows, IsFind, IsJudged, IsNumberOf};
+ghost use Rattle.smap_finder.specs.ChosenView.{IsOver};
 ghost use Rattle.smap_finder.specs.ChosenView.{IsNotOpened, IsServedBy, IsSettledIn, IsTried, choices_of};
 ghost use Rattle.smap_finder.specs.declared.chosen.Opening.{Opening};
 ghost use Rattle.smap_pick.specs.declared.finding.Found.{Found};

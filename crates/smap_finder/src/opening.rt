@@ -1,10 +1,12 @@
 //! The maps of the scripts that a log names, opened as the log first names them.
-ghost use Rattle.std.specs.Prelude.{◌≡◌, ◌<◌, ◌≤◌, cond, IfNone, IfOk, IfSome, IsSome, MatchOption, None, option_map};
+ghost use Rattle.std.specs.Prelude.{◌≡◌, ◌<◌, ◌≤◌, cond, IfNone, IfOk, IfSome, IsSome, MatchOption, None};
+ghost use Rattle.std.specs.Prelude.{option_map};
 ghost use Rattle.smap_disk.specs.Held.{Held, IsHeld};
 ghost use Rattle.smap_finder.specs.Given.{IsContent, IsLoaded, IsRead};
 ghost use Rattle.smap_finder.specs.Choice.{IsOpenedAs, IsUnopened, files_of, places_of};
 ghost use Rattle.smap_finder.specs.ChosenView.{IsOver};
-ghost use Rattle.smap_finder.specs.Opened.{GivesNone, IsLeftOut, IsLink, IsOpened, IsReached, with_base, within_base};
+ghost use Rattle.smap_finder.specs.Opened.{GivesNone, IsLeftOut, IsLink, IsOpened, IsReached, with_base};
+ghost use Rattle.smap_finder.specs.Opened.{within_base};
 ghost use Rattle.smap_finder.specs.RootView.{folder_of};
 ghost use Rattle.smap_pick.specs.Opening.{IsMadeOf, found_place};
 ghost use Rattle.smap_pick.specs.PlaceView.{place_in};

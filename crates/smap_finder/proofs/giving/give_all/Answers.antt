@@ -20,7 +20,8 @@ loop-i-preserved g c =
     record {
       settled = All-more (λ (p : Pick). IsSettledIn held w frames after p.name.now) picks c.loop-i.i d
           c.loop-i-test.true (all_grown held w frames _ _ _ c.give.ensures.grows was.settled)
-          (subst (λ (h : Held). IsSettledIn h w frames after (get_or picks c.loop-i.i d).name.now) was.held c.in_ok-give.ensures.settled);
+          (subst (λ (h : Held). IsSettledIn h w frames after (get_or picks c.loop-i.i d).name.now) was.held
+          c.in_ok-give.ensures.settled);
       chosen = subst (λ (h : Held). AreChosen h w after) was.held c.give.ensures.chosen;
       grows = grows_on _ _ _ was.grows c.give.ensures.grows;
       held = c.give.ensures.held ∙ was.held;

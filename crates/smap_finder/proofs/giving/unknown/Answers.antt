@@ -1,4 +1,5 @@
-use Rattle.std.proofs.Common.{◌⊎◌, ◌+◌, ◌++◌, ◌∷◌, [], inl, inr, refl, sym, subst, ⊎_elim, ℕ, List, Bor, get_or, map, take}
+use Rattle.std.proofs.Common.{◌⊎◌, ◌+◌, ◌++◌, ◌∷◌, [], inl, inr, refl, sym, subst, ⊎_elim, ℕ, List, Bor}
+use Rattle.std.proofs.Common.{get_or, map, take}
 use Rattle.std.specs.List.{All, Contains}
 use Rattle.std.proofs.lemmas.List.{take_all}
 use Rattle.std.proofs.lemmas.List.Elements.{All-more}

@@ -1,6 +1,7 @@
 use Rattle.std.proofs.Common.{inl, inr}
 use Rattle.smap_pick.specs.PlaceView.{place_in}
-use Rattle.smap_finder.proofs.ReachedLemmas.{if_both, left_out, reached_beside, reached_itself, reached_link, reached_within}
+use Rattle.smap_finder.proofs.ReachedLemmas.{if_both, left_out, reached_beside, reached_itself, reached_link}
+use Rattle.smap_finder.proofs.ReachedLemmas.{reached_within}
 use Rattle.smap_finder.proofs.opening.map_of_script.Goals as goal
 
 pub returns-in-Nothing-clause-reached : goal.returns-in-Nothing-clause-reached
