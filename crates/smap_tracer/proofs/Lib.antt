@@ -1,5 +1,8 @@
 pub mod LogLemmas
+pub mod NamedLemmas
+pub mod NamingLemmas
 pub mod PartsLemmas
 pub mod RunLemmas
 pub mod ScriptLemmas
+pub mod SettledLemmas
 pub mod TracedLemmas

@@ -10,9 +10,8 @@ use Rattle.std.proofs.lemmas.List.{get_or_default}
 use Rattle.std.proofs.lemmas.List.Folds.{concat-append}
 use Rattle.std.proofs.Math.Seq.{take-length}
 use Rattle.smap_disk.specs.Held.{GivesHeld, HasSize, Held}
-use Rattle.smap_arguments.specs.declared.wanted.Wanted.{Wanted}
-use Rattle.smap_tracer.specs.declared.decorating.Style.{Style}
-use Rattle.smap_tracer.specs.Written.{AreTracedParts, AreWhole, HaveSizes, IsAll, IsBegun, IsTraced, IsTracedLog, IsTracedText, IsTracedTextIn}
+use Rattle.smap_tracer.specs.declared.tracing.Job.{Job}
+use Rattle.smap_tracer.specs.Written.{AreTracedParts, AreWhole, HaveSizes, IsAll, IsBegun, IsTraced, IsTracedLog, IsTracedText, IsTracedTextIn, IsNameOf}
 
 -- each of these parts is whole lines
 abbrev pub AreLines : List (List ℕ) → Type 0
@@ -30,17 +29,17 @@ more_whole (p ∷ []) part all = (all.0, tt)
 more_whole (p ∷ q ∷ parts) part all = (all.0, more_whole (q ∷ parts) part all.1)
 
 -- what was handed out of a log was translated
-pub record SoFar (held : Held) (wanted : Wanted) (style : Style) (ended : Bool) (left rest before after : Option (List ℕ))
+pub record SoFar (held : Held) (job : Job) (Sought : List ℕ → Type 0) (ended : Bool) (left rest before after : Option (List ℕ))
     : Type 0 where
   pub parts : List (List ℕ)
   pub whole : AreWhole parts
   pub lines : ended ≡ false → AreLines parts
   pub taken : Consumes left rest (concat parts)
-  pub traced : AreTracedParts held wanted style parts before after
+  pub traced : AreTracedParts held job Sought parts before after
 
-pub none_so_far : (held : Held) (wanted : Wanted) (style : Style) (ended : Bool) (left rest before : Option (List ℕ))
-    → rest ≡ left → SoFar held wanted style ended left rest before before
-none_so_far held wanted style ended left rest before is = record {
+pub none_so_far : (held : Held) (job : Job) (Sought : List ℕ → Type 0) (ended : Bool) (left rest before : Option (List ℕ))
+    → rest ≡ left → SoFar held job Sought ended left rest before before
+none_so_far held job Sought ended left rest before is = record {
   parts = [];
   whole = tt;
   lines = λ going. tt;
@@ -48,41 +47,41 @@ none_so_far held wanted style ended left rest before is = record {
   traced = refl;
 }
 
-more_parts : (held : Held) (wanted : Wanted) (style : Style) (parts : List (List ℕ)) (part : List ℕ)
-    (before middle after : Option (List ℕ)) → AreTracedParts held wanted style parts before middle
-    → IsTraced held wanted style (Some part) middle after
-    → AreTracedParts held wanted style (parts ++ part ∷ []) before after
-more_parts held wanted style [] part before middle after all one =
-    (after, subst (λ (b : Option (List ℕ)). IsTraced held wanted style (Some part) b after) all one, refl)
-more_parts held wanted style (p ∷ parts) part before middle after all one =
-    (all.0, all.1, more_parts held wanted style parts part all.0 middle after all.2 one)
+more_parts : (held : Held) (job : Job) (Sought : List ℕ → Type 0) (parts : List (List ℕ)) (part : List ℕ)
+    (before middle after : Option (List ℕ)) → AreTracedParts held job Sought parts before middle
+    → IsTraced held job Sought (Some part) middle after
+    → AreTracedParts held job Sought (parts ++ part ∷ []) before after
+more_parts held job Sought [] part before middle after all one =
+    (after, subst (λ (b : Option (List ℕ)). IsTraced held job Sought (Some part) b after) all one, refl)
+more_parts held job Sought (p ∷ parts) part before middle after all one =
+    (all.0, all.1, more_parts held job Sought parts part all.0 middle after all.2 one)
 
 one_joined : (parts : List (List ℕ)) (part : List ℕ) → concat (parts ++ part ∷ []) ≡ concat parts ++ part
 one_joined parts part = concat-append parts (part ∷ []) ∙ ap (λ l. concat parts ++ l) (append-nil part)
 
-pub one_more_part : (held : Held) (wanted : Wanted) (style : Style) (was ended : Bool)
+pub one_more_part : (held : Held) (job : Job) (Sought : List ℕ → Type 0) (was ended : Bool)
     (left rest next before middle after : Option (List ℕ)) (part : List ℕ)
-    → SoFar held wanted style was left rest before middle → was ≡ false
+    → SoFar held job Sought was left rest before middle → was ≡ false
     → (ended ≡ false → IsEmptyOrEndsWith part 10) → Consumes rest next part
-    → IsTraced held wanted style (Some part) middle after → SoFar held wanted style ended left next before after
-one_more_part held wanted style was ended left rest next before middle after part all going lines taken one = record {
+    → IsTraced held job Sought (Some part) middle after → SoFar held job Sought ended left next before after
+one_more_part held job Sought was ended left rest next before middle after part all going lines taken one = record {
   parts = all.parts ++ part ∷ [];
   whole = more_whole all.parts part (all.lines going);
   lines = λ still. more_lines all.parts part (all.lines going) (lines still);
   taken = subst (Consumes left next) (sym (one_joined all.parts part))
       (Consumes-trans left rest next (concat all.parts) part all.taken taken);
-  traced = more_parts held wanted style all.parts part before middle after all.traced one;
+  traced = more_parts held job Sought all.parts part before middle after all.traced one;
 }
 
-all_taken : (left rest : Option (List ℕ)) (text : List ℕ) → Consumes left rest text → IsAtEnd rest → IsAll left text
+pub all_taken : (left rest : Option (List ℕ)) (text : List ℕ) → Consumes left rest text → IsAtEnd rest → IsAll left text
 all_taken None rest text taken end = tt
 all_taken (Some x) None text taken end = absurd taken
 all_taken (Some x) (Some y) text taken end = taken ∙ ap (λ l. text ++ l) end ∙ append-nil text
 
-pub all_parts : (held : Held) (wanted : Wanted) (style : Style) (ended : Bool)
-    (left rest before after : Option (List ℕ)) → SoFar held wanted style ended left rest before after → IsAtEnd rest
-    → IsTracedText held wanted style left before after
-all_parts held wanted style ended left rest before after all end = record {
+pub all_parts : (held : Held) (job : Job) (Sought : List ℕ → Type 0) (ended : Bool)
+    (left rest before after : Option (List ℕ)) → SoFar held job Sought ended left rest before after → IsAtEnd rest
+    → IsTracedText held job Sought left before after
+all_parts held job Sought ended left rest before after all end = record {
   parts = all.parts;
   whole = all.whole;
   all = all_taken left rest (concat all.parts) all.taken end;
@@ -90,9 +89,9 @@ all_parts held wanted style ended left rest before after all end = record {
 }
 
 -- a text that is translated at once
-pub one_part : (held : Held) (wanted : Wanted) (style : Style) (left before after : Option (List ℕ))
-    → IsTraced held wanted style left before after → IsTracedText held wanted style left before after
-one_part held wanted style left before after one = record {
+pub one_part : (held : Held) (job : Job) (Sought : List ℕ → Type 0) (left before after : Option (List ℕ))
+    → IsTraced held job Sought left before after → IsTracedText held job Sought left before after
+one_part held job Sought left before after one = record {
   parts = one.translated.text ∷ [];
   whole = tt;
   all = subst (IsAll left) (sym (append-nil one.translated.text)) one.translated.all;
@@ -102,15 +101,46 @@ one_part held wanted style left before after one = record {
       scripts = one.scripts;
       have_maps = one.have_maps;
       translated = record { text = one.translated.text; all = refl; written = one.translated.written };
+      choices = one.choices;
+      given = one.given;
+      judged = one.judged;
     },
     refl,
   );
 }
 
-pub one_log : (held : Held) (wanted : Wanted) (style : Style) (path : List ℕ) (left before begun after : Option (List ℕ))
-    → IsBegun before begun → GivesHeld held path left → IsTracedTextIn held wanted style left begun after
-    → IsTracedLog held wanted style path before after
-one_log held wanted style path left before begun after is gives traced = record {
+-- Less was looked for.
+pub parts_sought : (held : Held) (job : Job) (Sought Other : List ℕ → Type 0) (parts : List (List ℕ))
+    (before after : Option (List ℕ)) → ((name : List ℕ) → Other name → Sought name)
+    → AreTracedParts held job Sought parts before after → AreTracedParts held job Other parts before after
+parts_sought held job Sought Other [] before after less all = all
+parts_sought held job Sought Other (part ∷ parts) before after less all = (
+  all.0,
+  record {
+    scripts = all.1.scripts;
+    have_maps = all.1.have_maps;
+    translated = all.1.translated;
+    choices = all.1.choices;
+    given = λ name of sought. all.1.given name of (less name sought);
+    judged = all.1.judged;
+  },
+  parts_sought held job Sought Other parts all.0 after less all.2,
+)
+
+pub text_sought : (held : Held) (job : Job) (Sought Other : List ℕ → Type 0) (left before after : Option (List ℕ))
+    → ((name : List ℕ) → Other name → Sought name) → IsTracedText held job Sought left before after
+    → IsTracedText held job Other left before after
+text_sought held job Sought Other left before after less all = record {
+  parts = all.parts;
+  whole = all.whole;
+  all = all.all;
+  traced = parts_sought held job Sought Other all.parts before after less all.traced;
+}
+
+pub one_log : (held : Held) (job : Job) (path : List ℕ) (left before begun after : Option (List ℕ))
+    → IsBegun before begun → GivesHeld held path left → IsTracedTextIn held job (IsNameOf held path) left begun after
+    → IsTracedLog held job path before after
+one_log held job path left before begun after is gives traced = record {
   begun = begun;
   left = left;
   is_begun = is;

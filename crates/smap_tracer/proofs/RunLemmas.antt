@@ -1,8 +1,8 @@
 -- What a run answers to its words.
-use Rattle.std.proofs.Common.{◌≡◌, ◌∙◌, subst, false, ℕ, List, map, Option, None, Result, Ok, Err, OnOk}
+use Rattle.std.proofs.Common.{◌≡◌, ◌∙◌, false, ℕ, List, Option, None, Result, Ok, Err, OnOk}
 use Rattle.smap_disk.specs.Held.{Held}
 use Rattle.smap_arguments.specs.declared.wanted.Wanted.{Wanted}
-use Rattle.smap_tracer.specs.Runs.{IsAnswered, IsStyleOf, IsTracedAsked, IsTracedJob, IsTracedRun}
+use Rattle.smap_tracer.specs.Runs.{IsAnswered, IsJobOf, IsTracedAsked, IsTracedJob}
 use Rattle.smap_tracer.specs.declared.program.InputKind.{InputKind}
 use Rattle.smap_tracer.specs.declared.tracing.Job.{Job}
 use Rattle.smap_words.specs.Request.{IsAsked}
@@ -10,16 +10,16 @@ use Rattle.smap_words.specs.declared.request.Asked.{Asked}
 use Rattle.smap_words.specs.declared.request.TraceWords.{TraceWords}
 
 pub traced_asked : {A E : Type 0} (held : Held) (asked : TraceWords) (wanted : Wanted) (job : Job) (kind : InputKind)
-    (left before after : Option (List ℕ)) (result : Result A E) → job.wanted ≡ wanted → IsStyleOf asked job.style
-    → job.list ≡ asked.list → OnOk result (job.list ≡ false → IsTracedJob held job kind left before after)
+    (left before after : Option (List ℕ)) (result : Result A E) → job.wanted ≡ wanted → IsJobOf asked job
+    → OnOk result (job.list ≡ false → IsTracedJob held job kind left before after)
     → OnOk result (asked.output ≡ None → asked.list ≡ false → IsTracedAsked held wanted asked kind left before after)
-traced_asked held asked wanted job kind left before after (Ok a) is style list traced = λ none off. record {
-  style = job.style;
-  is_style = style;
-  traced = subst (λ (w : Wanted). IsTracedRun held w job.style (map (λ p. p.now) w.logs.items) kind left before after)
-      is (traced (list ∙ off));
+traced_asked held asked wanted job kind left before after (Ok a) is of traced = λ none off. record {
+  job = job;
+  wanted_is = is;
+  is_job = of;
+  traced = traced (of.list ∙ off);
 }
-traced_asked held asked wanted job kind left before after (Err e) is style list traced = tt
+traced_asked held asked wanted job kind left before after (Err e) is of traced = tt
 
 pub wanted_traced : {A E : Type 0} (held : Held) (asked : TraceWords) (wanted : Wanted) (kind : InputKind)
     (left before after : Option (List ℕ)) (result : Result A E)

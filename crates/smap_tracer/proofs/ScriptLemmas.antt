@@ -2,6 +2,9 @@
 use Rattle.std.proofs.Common.{◌≡◌, ◌∙◌, ℕ, ◌<◌, List, [], ◌∷◌, map, get_or, length, Bor, Option, Some, refl, sym, ap, subst}
 use Rattle.std.proofs.Common.{◌++◌, ◌+◌, arith, take}
 use Rattle.std.proofs.lemmas.List.{get_or-map, length-map, map-append, take_more}
+use Rattle.std.specs.List.{Contains}
+use Rattle.smap_finder.specs.ChosenView.{Choices, HasMap}
+use Rattle.smap_tracer.specs.Written.{AreAll}
 use Rattle.smap_link.specs.Choice.{first_of, AreDistinct as AreDistinctNames}
 use Rattle.smap_record.specs.Record.{ReadMap}
 use Rattle.smap_trace.specs.Translation.{AreDistinct, Script}
@@ -28,6 +31,12 @@ urls_of ss = map (λ (s : Script). s.0) ss
 same_names : (xs : List (Bor (List ℕ) × Bor ReadMap)) → names_of xs ≡ urls_of (scripts_in xs)
 same_names [] = refl
 same_names (x ∷ xs) = ap (λ (ns : List (List ℕ)). x.0.now ∷ ns) (same_names xs)
+
+-- each name that has a map is that of a script
+pub all_names : (choices : Choices) (list scripts : List (Bor (List ℕ) × Bor ReadMap)) → scripts ≡ list
+    → ((name : List ℕ) → HasMap choices name → Contains (names_of list) name) → AreAll choices (scripts_in scripts)
+all_names choices list scripts is all name has =
+    subst (λ (names : List (List ℕ)). Contains names name) (ap names_of (sym is) ∙ same_names scripts) (all name has)
 
 same_place : (i j : ℕ) → ◌≡◌ {A = Option ℕ} (Some i) (Some j) → i ≡ j
 same_place i j h = cc

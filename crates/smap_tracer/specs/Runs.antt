@@ -1,51 +1,65 @@
 -- What a run writes of its logs.
-use Rattle.std.specs.Prelude.{◌≡◌, ℕ, false, List, [], ◌∷◌, length, map, Option, None}
+use Rattle.std.specs.Prelude.{◌≡◌, ℕ, false, List, [], ◌∷◌, map, ⊤, Option, None}
+use Rattle.std.specs.Borrow.{Bor}
 use Rattle.std.specs.Io.KnownBytes.{Appends}
 use Rattle.smap_disk.specs.Held.{Held}
 use Rattle.smap_arguments.specs.declared.wanted.Wanted.{Wanted}
 use Rattle.smap_tracer.specs.Written.{AreTraced, IsTracedFront, IsTracedTextIn}
 use Rattle.smap_tracer.specs.declared.program.TheConstants.{STDIN}
-use Rattle.smap_tracer.specs.declared.decorating.Style.{Style}
 use Rattle.smap_tracer.specs.declared.program.InputKind.{InputKind}
 use Rattle.smap_tracer.specs.declared.program.InputKind.TheVariants.{Closed, File, Other, Terminal}
 use Rattle.smap_tracer.specs.declared.tracing.Job.{Job}
 use Rattle.smap_words.specs.declared.request.Asked.{Asked}
 use Rattle.smap_words.specs.declared.request.Asked.TheVariants.{Help, Trace, Version}
 use Rattle.smap_words.specs.declared.request.TraceWords.{TraceWords}
+use Rattle.smap_words.specs.declared.values.Prefix.{Prefix}
 
 -- Standard input was translated and written to its end, or as far as it went if it is a file.
-abbrev pub IsTracedInput : Held → Wanted → Style → InputKind → Option (List ℕ) → Option (List ℕ) → Option (List ℕ)
-    → Type 0
-IsTracedInput held wanted style File left before after = IsTracedFront held wanted style STDIN.now left before after
-IsTracedInput held wanted style Closed left before after = IsTracedTextIn held wanted style left before after
-IsTracedInput held wanted style Terminal left before after = IsTracedTextIn held wanted style left before after
-IsTracedInput held wanted style Other left before after = IsTracedTextIn held wanted style left before after
+abbrev pub IsTracedInput : Held → Job → InputKind → Option (List ℕ) → Option (List ℕ) → Option (List ℕ) → Type 0
+IsTracedInput held job File left before after = IsTracedFront held job STDIN.now left before after
+IsTracedInput held job Closed left before after = IsTracedTextIn held job (λ name. ⊤) left before after
+IsTracedInput held job Terminal left before after = IsTracedTextIn held job (λ name. ⊤) left before after
+IsTracedInput held job Other left before after = IsTracedTextIn held job (λ name. ⊤) left before after
 
 -- The logs with these names were translated and written, or standard input if there are none.
-abbrev pub IsTracedRun : Held → Wanted → Style → List (List ℕ) → InputKind → Option (List ℕ) → Option (List ℕ)
+abbrev pub IsTracedRun : Held → Job → List (List ℕ) → InputKind → Option (List ℕ) → Option (List ℕ)
     → Option (List ℕ) → Type 0
-IsTracedRun held wanted style [] kind left before after = IsTracedInput held wanted style kind left before after
-IsTracedRun held wanted style (path ∷ paths) kind left before after =
-    AreTraced held wanted style (path ∷ paths) before after
+IsTracedRun held job [] kind left before after = IsTracedInput held job kind left before after
+IsTracedRun held job (path ∷ paths) kind left before after = AreTraced held job (path ∷ paths) before after
 
 -- The logs of a run were translated and written.
 abbrev pub IsTracedJob : Held → Job → InputKind → Option (List ℕ) → Option (List ℕ) → Option (List ℕ) → Type 0
 IsTracedJob held job kind left before after =
-    IsTracedRun held job.wanted job.style (map (λ p. p.now) job.wanted.logs.items) kind left before after
+    IsTracedRun held job (map (λ p. p.now) job.wanted.logs.items) kind left before after
 
--- A style is what these words ask for.
-pub record IsStyleOf (asked : TraceWords) (style : Style) : Type 0 where
-  pub anywhere : style.finding.anywhere ≡ asked.anywhere
-  pub hide : style.hide ≡ asked.hide_ignored
-  pub context : style.context ≡ asked.context
-  pub prefixes : length style.prefixes.now ≡ length asked.prefixes.items
+-- what is written for the beginnings of source URLs: for each its first text the second
+abbrev pub pairs_of : List (Bor (List ℕ) × Bor (List ℕ)) → List (List ℕ × List ℕ)
+pairs_of pairs = map (λ p. (p.0.now, p.1.now)) pairs
 
--- What is wanted was translated and written in the style that these words ask for.
+-- the same as the words have it
+abbrev pub prefixes_of : List Prefix → List (List ℕ × List ℕ)
+prefixes_of prefixes = map (λ p. (p.from.now, p.to.now)) prefixes
+
+-- A run does what these words ask for. A URL in the log is taken with its query.
+pub record IsJobOf (asked : TraceWords) (job : Job) : Type 0 where
+  pub anywhere : job.anywhere ≡ asked.anywhere
+  pub list : job.list ≡ asked.list
+  pub check_all : job.check_all ≡ asked.check_all
+  pub skip : job.how.skip ≡ asked.skip_broken
+  pub verbose : job.how.verbose ≡ asked.verbose
+  pub found_anywhere : job.style.finding.anywhere ≡ asked.anywhere
+  pub queries : job.style.finding.ignore_query ≡ false
+  pub hide : job.style.hide ≡ asked.hide_ignored
+  pub context : job.style.context ≡ asked.context
+  pub prefixes : pairs_of job.style.prefixes.now ≡ prefixes_of asked.prefixes.items
+
+-- What is wanted was translated and written by a run that does what these words ask for.
 pub record IsTracedAsked (held : Held) (wanted : Wanted) (asked : TraceWords) (kind : InputKind)
     (left before after : Option (List ℕ)) : Type 0 where
-  pub style : Style
-  pub is_style : IsStyleOf asked style
-  pub traced : IsTracedRun held wanted style (map (λ p. p.now) wanted.logs.items) kind left before after
+  pub job : Job
+  pub wanted_is : job.wanted ≡ wanted
+  pub is_job : IsJobOf asked job
+  pub traced : IsTracedJob held job kind left before after
 
 -- The same of words that ask for a translation on standard output; or the help or the version was written.
 abbrev pub IsAnswered : Held → List ℕ → List ℕ → Asked → InputKind → Option (List ℕ) → Option (List ℕ)

@@ -1,9 +1,17 @@
 //! The scripts that lines of a log name.
-use indexmap::IndexMap;
+ghost use Rattle.std.specs.Prelude.{◌≡◌, ◌++◌, ◌≤◌, [], ◌∷◌, IfOk, OnOk, filter, length, map};
+ghost use Rattle.std.specs.List.{prefix_len};
+ghost use Rattle.std.specs.Map.{keys_of};
+ghost use Rattle.smap_trace.specs.Anywhere.{is_query_byte, marked_len};
+ghost use Rattle.smap_trace.specs.Naming.{urls_of};
+ghost use Rattle.smap_tracer.specs.Naming as spec;
+ghost use Rattle.smap_tracer.specs.Naming.{AreNamesOf, AreSame, frames_of, others_in, others_of};
+
+use indexmap::{IndexMap, IndexSet};
 use smap_io::Device;
 use smap_lines::add_spans;
 use smap_link::bare;
-use smap_trace::named_scripts;
+use smap_trace::{NamedScripts, named_scripts};
 use std::alloc::{AllocError, Global};
 
 /// Names of scripts, in the order in which lines first have them.
@@ -11,40 +19,53 @@ use std::alloc::{AllocError, Global};
 pub(crate) struct Names {
     /// Those of frames, and how many lines have each.
     pub(crate) frames: IndexMap<Vec<u8>, u64>,
-    /// Texts that may be names since a position follows, each once.
-    pub(crate) others: IndexMap<Vec<u8>, ()>,
+    /// Texts that may be names since a position follows.
+    pub(crate) others: IndexSet<Vec<u8>>,
+}
+
+/// The texts as slices.
+fn slices(alloc: Global, texts: &[Vec<u8>]) -> Result<Vec<&[u8]>, AllocError>
+    ensures { IfOk result (λ all. map (λ s. s.now) all.items ≡ map (λ t. t.items) texts.now) }
+{
+    let mut slices = Vec::with_capacity(alloc, texts.len())?;
+    for text in texts {
+        slices.push(text.as_slice())?;
+    }
+    Ok(slices)
 }
 
 impl Names {
-    pub(crate) fn new(alloc: Global) -> Names {
+    pub(crate) fn new(alloc: Global) -> Names
+        ensures frames { frames_of result ≡ [] }
+        ensures others { others_of result ≡ [] }
+    {
         Names {
             frames: IndexMap::new(alloc),
-            others: IndexMap::new(alloc),
+            others: IndexSet::new(alloc),
         }
     }
 
     /// Those of frames.
-    pub(crate) fn of_frames(&self, alloc: Global) -> Result<Vec<&[u8]>, AllocError> {
-        let mut all = Vec::with_capacity(alloc, self.frames.len())?;
-        for (name, _) in self.frames.iter() {
-            all.push(name.as_slice())?;
-        }
-        Ok(all)
+    pub(crate) fn of_frames(&self, alloc: Global) -> Result<Vec<&[u8]>, AllocError>
+        ensures { IfOk result (λ all. map (λ name. name.now) all.items ≡ frames_of self.now) }
+    {
+        slices(alloc, self.frames.keys().as_slice())
     }
 
     /// The others.
-    pub(crate) fn of_others(&self, alloc: Global) -> Result<Vec<&[u8]>, AllocError> {
-        let mut all = Vec::with_capacity(alloc, self.others.len())?;
-        for (name, _) in self.others.iter() {
-            all.push(name.as_slice())?;
-        }
-        Ok(all)
+    pub(crate) fn of_others(&self, alloc: Global) -> Result<Vec<&[u8]>, AllocError>
+        ensures { IfOk result (λ all. map (λ name. name.now) all.items ≡ others_of self.now) }
+    {
+        slices(alloc, self.others.as_slice())
     }
 
     /// Counts lines whose frames have this name.
-    fn count(&mut self, alloc: Global, name: &[u8], lines: u64) -> Result<(), AllocError> {
-        if let Some(count) = self.frames.get_mut(name) {
-            *count = (*count).saturating_add(lines);
+    fn count(&mut self, alloc: Global, name: &[u8], lines: u64) -> Result<(), AllocError>
+        ensures frames { OnOk result (AreSame (frames_of self.new) (frames_of self.old ++ name.now ∷ [])) }
+        ensures others { others_of self.new ≡ others_of self.old }
+    {
+        if let Some(i) = self.frames.get_index_of(name) {
+            self.frames[i] = self.frames[i].saturating_add(lines);
             return Ok(());
         }
         self.frames.insert(Vec::from_slice(alloc, name)?, lines)?;
@@ -52,15 +73,27 @@ impl Names {
     }
 
     /// Counts the frames of these lines.
-    pub(crate) fn add_frames(&mut self, alloc: Global, lines: &[u8]) -> Result<(), AllocError> {
+    pub(crate) fn add_frames(&mut self, alloc: Global, lines: &[u8]) -> Result<(), AllocError>
+        ensures frames { OnOk result (AreSame (frames_of self.new) (frames_of self.old ++ urls_of lines.now)) }
+        ensures others { others_of self.new ≡ others_of self.old }
+    {
         let mut reader = Device::new(lines);
-        let Ok(named) = named_scripts(alloc, &mut reader) else {
-            return Err(AllocError);
-        };
+        match named_scripts(alloc, &mut reader) {
+            Ok(named) => self.add_named(alloc, &named),
+            Err(_) => Err(AllocError),
+        }
+    }
+
+    /// Counts the lines that name these.
+    fn add_named(&mut self, alloc: Global, named: &NamedScripts) -> Result<(), AllocError>
+        ensures frames { OnOk result (AreSame (frames_of self.new) (frames_of self.old ++ keys_of named.now)) }
+        ensures others { others_of self.new ≡ others_of self.old }
+    {
         for i in 0..named.len() {
-            if let Some((name, count)) = named.get(i) {
-                self.count(alloc, name, count)?;
-            }
+            let Some((name, count)) = named.get(i) else {
+                continue
+            };
+            self.count(alloc, name, count)?;
         }
         Ok(())
     }
@@ -80,8 +113,12 @@ impl Names {
         Ok(())
     }
 
-    /// Adds what has a position behind it in these lines.
-    pub(crate) fn add_others(&mut self, alloc: Global, lines: &[u8]) -> Result<(), AllocError> {
+    /// Adds what has a position behind it in these lines, and isn't the name of a frame.
+    pub(crate) fn add_others(&mut self, alloc: Global, lines: &[u8]) -> Result<(), AllocError>
+        ensures frames { frames_of self.new ≡ frames_of self.old }
+        ensures others { OnOk result (AreSame (others_of self.new)
+            (others_of self.old ++ spec.without (frames_of self.old) (others_in lines.now))) }
+    {
         for line in lines.split(|b| *b == b'\n') {
             self.add_others_of(alloc, line)?;
         }
@@ -89,19 +126,52 @@ impl Names {
     }
 
     /// Adds what has a position behind it in this line.
-    fn add_others_of(&mut self, alloc: Global, line: &[u8]) -> Result<(), AllocError> {
+    fn add_others_of(&mut self, alloc: Global, line: &[u8]) -> Result<(), AllocError>
+        ensures frames { frames_of self.new ≡ frames_of self.old }
+        ensures others { OnOk result (AreSame (others_of self.new)
+            (others_of self.old ++ spec.without (frames_of self.old) (spec.others_in_line line.now))) }
+    {
         let mut spans = Vec::new(alloc);
         add_spans(line, &mut spans)?;
         for span in &spans {
-            let Some(name) = line.get(span.start..span.url_end) else {
-                continue
-            };
-            if !has_plain_query(name) {
-                continue;
-            }
-            if !self.frames.contains_key(name) && !self.others.contains_key(name) {
-                self.others.insert(Vec::from_slice(alloc, name)?, ())?;
-            }
+            self.add_other(alloc, &line[span.start..span.url_end])?;
+        }
+        Ok(())
+    }
+
+    /// Adds a text that may be a name, unless it is that of a frame.
+    fn add_other(&mut self, alloc: Global, name: &[u8]) -> Result<(), AllocError>
+        ensures frames { frames_of self.new ≡ frames_of self.old }
+        ensures others { OnOk result (AreSame (others_of self.new)
+            (others_of self.old ++ spec.without (frames_of self.old) (filter spec.has_plain_query (name.now ∷ [])))) }
+    {
+        if !has_plain_query(name) {
+            return Ok(());
+        }
+        if self.frames.contains_key(name) {
+            return Ok(());
+        }
+        if self.others.contains(name) {
+            return Ok(());
+        }
+        self.others.insert(Vec::from_slice(alloc, name)?)?;
+        Ok(())
+    }
+
+    /// Adds the names in these lines.
+    pub(crate) fn add_lines(
+        &mut self,
+        alloc: Global,
+        lines: &[u8],
+        anywhere: bool,
+    ) -> Result<(), AllocError>
+        ensures frames { OnOk result (AreSame (frames_of self.new) (frames_of self.old ++ urls_of lines.now)) }
+        ensures others { OnOk result (AreSame (others_of self.new)
+            (others_of self.old ++ spec.others_if anywhere (frames_of self.new) lines.now)) }
+    {
+        self.add_frames(alloc, lines)?;
+        if anywhere {
+            self.add_others(alloc, lines)?;
         }
         Ok(())
     }
@@ -121,34 +191,53 @@ impl Names {
 }
 
 /// Whether a query or a fragment can hold the byte where it is left out.
-fn is_query_byte(b: u8) -> bool {
+fn is_query_byte(b: u8) -> bool
+    ensures { result ≡ is_query_byte b }
+{
     b > b' ' && !b"\x7f\"'`<>\\:?#".contains(&b)
 }
 
-/// Whether all of what follows the path of a URL can be left out as its query and its fragment.
-pub(crate) fn has_plain_query(name: &[u8]) -> bool {
-    let Some(rest) = name.get(bare(name).len()..) else {
-        return true;
-    };
-    let rest = match rest.strip_prefix(b"?".as_slice()) {
-        Some(query) => {
-            let size = query.iter().take_while(|b| is_query_byte(**b)).count();
-            query.get(size..).unwrap_or(b"")
-        }
-        None => rest,
-    };
-    match rest.strip_prefix(b"#".as_slice()) {
-        Some(fragment) => fragment.iter().all(|b| is_query_byte(*b)),
-        None => rest.is_empty(),
+/// How many such bytes the text begins with.
+fn query_byte_count(text: &[u8]) -> usize
+    ensures value { result ≡ prefix_len is_query_byte text.now }
+    ensures within { result ≤ length text.now }
+{
+    text.iter().take_while(|b| is_query_byte(**b)).count()
+}
+
+/// How many bytes the mark takes with what follows it.
+fn marked_len(mark: &[u8], text: &[u8]) -> usize
+    requires { length mark.now ≡ 1 }
+    ensures value { result ≡ marked_len mark.now text.now }
+    ensures within { result ≤ length text.now }
+{
+    if !text.starts_with(mark) {
+        return 0;
     }
+    query_byte_count(&text[1..]) + 1
+}
+
+/// What stands behind the path of a URL.
+fn behind<'a>(name: &'a [u8]) -> &'a [u8]
+    ensures { result.now ≡ spec.behind name.now }
+{
+    &name[bare(name).len()..]
+}
+
+/// Whether all of what follows the path of a URL can be left out as its query and its fragment.
+pub(crate) fn has_plain_query(name: &[u8]) -> bool
+    ensures { result ≡ spec.has_plain_query name.now }
+{
+    let rest = behind(name);
+    let query = marked_len(b"?", rest);
+    query + marked_len(b"#", &rest[query..]) == rest.len()
 }
 
 /// The names in these lines.
-pub(crate) fn names_in(alloc: Global, lines: &[u8], anywhere: bool) -> Result<Names, AllocError> {
+pub(crate) fn names_in(alloc: Global, lines: &[u8], anywhere: bool) -> Result<Names, AllocError>
+    ensures { IfOk result (AreNamesOf anywhere lines.now) }
+{
     let mut names = Names::new(alloc);
-    names.add_frames(alloc, lines)?;
-    if anywhere {
-        names.add_others(alloc, lines)?;
-    }
+    names.add_lines(alloc, lines, anywhere)?;
     Ok(names)
 }

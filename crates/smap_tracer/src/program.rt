@@ -1,8 +1,9 @@
 //! A run of `smap-trace`.
-ghost use Rattle.std.specs.Prelude.{◌≡◌, false, IfOk, OnOk, length, map};
+ghost use Rattle.std.specs.Prelude.{◌≡◌, false, IfOk, OnOk, map};
 ghost use Rattle.smap_finder.specs.ChosenView.{IsOver};
 ghost use Rattle.smap_tracer.specs.OutputView.{contents_of};
-ghost use Rattle.smap_tracer.specs.Runs.{IsAnswered, IsTracedAsked, IsTracedInput, IsTracedJob};
+ghost use Rattle.smap_tracer.specs.Runs.{IsAnswered, IsJobOf, IsTracedAsked, IsTracedInput, IsTracedJob};
+ghost use Rattle.smap_tracer.specs.Runs.{pairs_of, prefixes_of};
 ghost use Rattle.smap_tracer.specs.Written.{AreNamed};
 ghost use Rattle.smap_words.specs.Request.{IsAsked};
 
@@ -67,8 +68,8 @@ where
     I: Drop,
     requires named { AreNamed (D.held host.now.disk.now) job.now.wanted state.old.chosen }
     requires over { IsOver D.held (D.held host.now.disk.now) job.now.wanted opener.old }
-    ensures { OnOk result (IsTracedInput (D.held host.now.disk.now) job.now.wanted job.now.style
-        input.kind (I.remaining input.reader) (contents_of W.contents output.old) (contents_of W.contents output.new)) }
+    ensures { OnOk result (IsTracedInput (D.held host.now.disk.now) job.now input.kind
+        (I.remaining input.reader) (contents_of W.contents output.old) (contents_of W.contents output.new)) }
 {
     let Input { reader, kind } = input;
     match kind {
@@ -228,7 +229,7 @@ fn check_input<E: Eprint + AllocGlobal, D: Disk>(
 
 /// The prefixes as pairs.
 fn prefixes<'a>(alloc: Global, all: &[Prefix<'a>]) -> Result<Vec<(&'a str, &'a str)>, AllocError>
-    ensures { IfOk result (λ pairs. length pairs.items ≡ length all.now) }
+    ensures { IfOk result (λ pairs. pairs_of pairs.items ≡ prefixes_of all.now) }
 {
     let mut prefixes = Vec::new(alloc);
     for prefix in all {
@@ -296,12 +297,9 @@ fn job_of<'a>(
     wanted: Wanted<'a>,
     prefixes: &'a [(&'a str, &'a str)],
 ) -> Job<'a>
+    requires { pairs_of prefixes.now ≡ prefixes_of asked.now.prefixes.items }
     ensures wanted { result.wanted ≡ wanted.entry }
-    ensures list { result.list ≡ asked.now.list }
-    ensures anywhere { result.style.finding.anywhere ≡ asked.now.anywhere }
-    ensures hide { result.style.hide ≡ asked.now.hide_ignored }
-    ensures context { result.style.context ≡ asked.now.context }
-    ensures prefixes { result.style.prefixes.now ≡ prefixes.now }
+    ensures job { IsJobOf asked.now result }
 {
     Job {
         anywhere: asked.anywhere,
@@ -406,6 +404,25 @@ where
     }
 }
 
+/// Does what the words ask for, and answers the exit status: 0 only where that was done.
+fn run_on<E: Eprint + AllocGlobal, D: Disk, I: Read, W: Write + Drop>(
+    host: &Host<'_, E, D>,
+    words: &[&str],
+    input: Input<I>,
+    output: &mut Output<W>,
+) -> u8
+where
+    I: Drop,
+    ensures { result ≡ 0 → (asked : Asked) × IsAsked (map (λ w. w.now) words.now) asked
+        × IsAnswered (D.held host.now.disk.now) HELP.now VERSION.now asked input.kind (I.remaining input.reader)
+        (contents_of W.contents output.old) (contents_of W.contents output.new) }
+{
+    match answer(host, words, input, output) {
+        Ok(()) => 0,
+        Err(stop) => host.end(stop).max(1),
+    }
+}
+
 /// Runs `smap-trace`. The first word is the name of the program, and isn't looked at. Answers the exit
 /// status: 0 where it is done, 1 where a map is refused, 2 where the command line is wrong or names what
 /// can't be read, 3 where a file or the log can't be read or the output can't be written, 4 where memory ran
@@ -426,8 +443,5 @@ where
         name: "smap-trace",
     };
     let mut output = Output::new(output);
-    match answer(&host, words, input, &mut output) {
-        Ok(()) => 0,
-        Err(stop) => host.end(stop),
-    }
+    run_on(&host, words, input, &mut output)
 }

@@ -1,10 +1,10 @@
 //! Scripts with their maps, each name once.
 ghost use Rattle.std.specs.Prelude.{◌≡◌, IfOk, IfSome, map};
 ghost use Rattle.std.specs.List.{All};
-ghost use Rattle.smap_finder.specs.ChosenView.{maps_of};
+ghost use Rattle.smap_finder.specs.ChosenView.{choices_of};
 ghost use Rattle.smap_trace.specs.Translation.{AreDistinct};
 ghost use Rattle.smap_trace.specs.Views.{scripts_in};
-ghost use Rattle.smap_tracer.specs.Written.{HasMapOf};
+ghost use Rattle.smap_tracer.specs.Written.{AreAll, HasMapOf};
 
 use smap_finder::Chosen;
 use smap_host::Stop;
@@ -50,7 +50,8 @@ pub(crate) fn distinct<'a>(
 
 /// The scripts that have maps.
 pub(crate) fn scripts_of(alloc: Global, chosen: &Chosen) -> Result<Scripts<'_>, Stop>
-    ensures { IfOk result (λ scripts. All (HasMapOf (maps_of chosen.now)) (scripts_in scripts.list.items)) }
+    ensures have_maps { IfOk result (λ scripts. All (HasMapOf (choices_of chosen.now)) (scripts_in scripts.list.items)) }
+    ensures are_all { IfOk result (λ scripts. AreAll (choices_of chosen.now) (scripts_in scripts.list.items)) }
 {
     let list = chosen.scripts(alloc)?;
     match distinct(alloc, list)? {

@@ -1,11 +1,14 @@
 //! Logs translated: files, whose names are all looked for first, and streams, as they come.
-ghost use Rattle.std.specs.Prelude.{◌≡◌, [], IfOk, OnOk, Some, map};
+ghost use Rattle.std.specs.Prelude.{◌≡◌, IfOk, OnOk, Some, map, ⊤};
+ghost use Rattle.std.specs.List.{Contains};
 ghost use Rattle.std.specs.Io.Take.{take_remaining};
 ghost use Rattle.smap_disk.specs.Held.{GivesHeld, HasSize};
-ghost use Rattle.smap_finder.specs.ChosenView.{IsOver, maps_of};
+ghost use Rattle.smap_finder.specs.ChosenView.{IsOver, choices_of, no_choices};
+ghost use Rattle.smap_trace.specs.Naming.{urls_of};
+ghost use Rattle.smap_tracer.specs.Naming.{AddsNames, HaveNames, frames_of};
 ghost use Rattle.smap_tracer.specs.OutputView.{contents_of};
 ghost use Rattle.smap_tracer.specs.Written.{AreNamed, AreTraced, HaveSizes, IsTracedFront, IsTracedIn, IsTracedLog};
-ghost use Rattle.smap_tracer.specs.Written.{IsTracedTextIn};
+ghost use Rattle.smap_tracer.specs.Written.{AreSettled, AreSettledLogs, IsNameOf, IsTracedTextIn};
 
 use crate::decorating::Style;
 use crate::hints::{hint_at_nothing, hint_at_start};
@@ -47,7 +50,7 @@ pub(crate) struct State {
 }
 
 pub(crate) fn new_state(alloc: Global) -> State
-    ensures { maps_of result.chosen ≡ ([], []) }
+    ensures { choices_of result.chosen ≡ no_choices }
 {
     State {
         chosen: Chosen::new(alloc),
@@ -70,6 +73,8 @@ pub(crate) fn open_names<E: Eprint + AllocGlobal, D: Disk>(
     requires over { IsOver D.held (D.held host.now.disk.now) job.now.wanted opener.old }
     ensures named { AreNamed (D.held host.now.disk.now) job.now.wanted chosen.new }
     ensures over { IsOver D.held (D.held host.now.disk.now) job.now.wanted opener.new }
+    ensures settled { OnOk result (AreSettled (D.held host.now.disk.now) job.now (choices_of chosen.new)
+        (Contains (frames_of names.now))) }
 {
     let alloc = host.alloc();
     let (how, wanted) = (job.how, &job.wanted);
@@ -86,21 +91,13 @@ fn note_start<E: Eprint + AllocGlobal, D: Disk>(
     lines: &[u8],
     state: &mut State,
 )
-    ensures { state.new.chosen ≡ state.old.chosen }
+    ensures chosen { state.new.chosen ≡ state.old.chosen }
+    ensures names { state.new.names ≡ state.old.names }
 {
     if !state.has_begun {
         state.has_begun = true;
         state.is_hinted = hint_at_start(host, lines, job.how.verbose);
     }
-}
-
-/// Adds the names that lines have.
-fn name_lines(alloc: Global, job: &Job<'_>, lines: &[u8], names: &mut Names) -> Result<(), Stop> {
-    names.add_frames(alloc, lines)?;
-    if job.anywhere {
-        names.add_others(alloc, lines)?;
-    }
-    Ok(())
 }
 
 /// Adds the names that a log has.
@@ -112,16 +109,18 @@ fn name_log<E: Eprint + AllocGlobal, D: Disk, R: Read>(
 ) -> Result<(), Stop>
 where
     R: Drop,
-    ensures { state.new.chosen ≡ state.old.chosen }
+    ensures chosen { state.new.chosen ≡ state.old.chosen }
+    ensures names { OnOk result (AddsNames (R.remaining reader) state.old.names state.new.names) }
 {
     let mut log = Log::new(host.alloc(), reader);
     for _ in 0..u64::MAX {
-        if !log.advance(host)? {
+        let more = log.advance(host)?;
+        if !more {
             return Ok(());
         }
         let lines = log.lines();
         note_start(host, job, lines, state);
-        name_lines(host.alloc(), job, lines, &mut state.names)?;
+        state.names.add_lines(host.alloc(), lines, job.anywhere)?;
     }
     Err(host.fail(3, "cannot read the log"))
 }
@@ -138,6 +137,8 @@ fn open_lines<E: Eprint + AllocGlobal, D: Disk>(
     requires over { IsOver D.held (D.held host.now.disk.now) job.now.wanted opener.old }
     ensures named { AreNamed (D.held host.now.disk.now) job.now.wanted state.new.chosen }
     ensures over { IsOver D.held (D.held host.now.disk.now) job.now.wanted opener.new }
+    ensures settled { OnOk result (AreSettled (D.held host.now.disk.now) job.now (choices_of state.new.chosen)
+        (Contains (urls_of lines.now))) }
 {
     let alloc = host.alloc();
     let names = names_in(alloc, lines, job.anywhere)?;
@@ -159,7 +160,7 @@ fn follow_lines<E: Eprint + AllocGlobal, D: Disk, W: Write + Drop>(
     requires over { IsOver D.held (D.held host.now.disk.now) job.now.wanted opener.old }
     ensures named { AreNamed (D.held host.now.disk.now) job.now.wanted state.new.chosen }
     ensures over { IsOver D.held (D.held host.now.disk.now) job.now.wanted opener.new }
-    ensures traced { OnOk result (IsTracedIn (D.held host.now.disk.now) job.now.wanted job.now.style (Some lines.now)
+    ensures traced { OnOk result (IsTracedIn (D.held host.now.disk.now) job.now (λ name. ⊤) (Some lines.now)
         (contents_of W.contents output.old) (contents_of W.contents output.new)) }
 {
     note_start(host, job, lines, state);
@@ -183,7 +184,7 @@ where
     requires over { IsOver D.held (D.held host.now.disk.now) job.now.wanted opener.old }
     ensures named { AreNamed (D.held host.now.disk.now) job.now.wanted state.new.chosen }
     ensures over { IsOver D.held (D.held host.now.disk.now) job.now.wanted opener.new }
-    ensures traced { OnOk result (IsTracedTextIn (D.held host.now.disk.now) job.now.wanted job.now.style
+    ensures traced { OnOk result (IsTracedTextIn (D.held host.now.disk.now) job.now (λ name. ⊤)
         (R.remaining reader) (contents_of W.contents output.old) (contents_of W.contents output.new)) }
 {
     let mut log = Log::new(host.alloc(), reader);
@@ -221,6 +222,7 @@ fn name_logs<E: Eprint + AllocGlobal, D: Disk>(
     state: &mut State,
 ) -> Result<Vec<u64>, Stop>
     ensures chosen { state.new.chosen ≡ state.old.chosen }
+    ensures names { OnOk result (HaveNames (D.held host.now.disk.now) paths.now state.new.names) }
     ensures sizes { IfOk result (λ sizes. HaveSizes (D.held host.now.disk.now) paths.now sizes.items) }
 {
     let mut sizes = Vec::new(host.alloc());
@@ -246,9 +248,11 @@ fn translate_file<E: Eprint + AllocGlobal, D: Disk, W: Write + Drop>(
     output: &mut Output<W>,
 ) -> Result<(), Stop>
     requires named { AreNamed (D.held host.now.disk.now) job.now.wanted state.old.chosen }
+    requires settled { AreSettled (D.held host.now.disk.now) job.now (choices_of state.old.chosen)
+        (IsNameOf (D.held host.now.disk.now) path.now) }
     requires size { HasSize (D.held host.now.disk.now) path.now size }
     ensures chosen { state.new.chosen ≡ state.old.chosen }
-    ensures traced { OnOk result (IsTracedLog (D.held host.now.disk.now) job.now.wanted job.now.style path.now
+    ensures traced { OnOk result (IsTracedLog (D.held host.now.disk.now) job.now path.now
         (contents_of W.contents output.old) (contents_of W.contents output.new)) }
 {
     let tally = &mut state.tally;
@@ -269,6 +273,8 @@ fn open_files<E: Eprint + AllocGlobal, D: Disk>(
     requires over { IsOver D.held (D.held host.now.disk.now) job.now.wanted opener.old }
     ensures named { AreNamed (D.held host.now.disk.now) job.now.wanted state.new.chosen }
     ensures over { IsOver D.held (D.held host.now.disk.now) job.now.wanted opener.new }
+    ensures settled { OnOk result (AreSettledLogs (D.held host.now.disk.now) job.now (choices_of state.new.chosen)
+        paths.now) }
     ensures sizes { IfOk result (λ sizes. HaveSizes (D.held host.now.disk.now) paths.now sizes.items) }
 {
     let sizes = name_logs(host, job, paths, state)?;
@@ -287,9 +293,10 @@ fn translate_files<E: Eprint + AllocGlobal, D: Disk, W: Write + Drop>(
     output: &mut Output<W>,
 ) -> Result<(), Stop>
     requires named { AreNamed (D.held host.now.disk.now) job.now.wanted state.old.chosen }
+    requires settled { AreSettledLogs (D.held host.now.disk.now) job.now (choices_of state.old.chosen) paths.now }
     requires sizes { HaveSizes (D.held host.now.disk.now) paths.now sizes.now }
     ensures chosen { state.new.chosen ≡ state.old.chosen }
-    ensures traced { OnOk result (AreTraced (D.held host.now.disk.now) job.now.wanted job.now.style
+    ensures traced { OnOk result (AreTraced (D.held host.now.disk.now) job.now
         (map (λ p. p.now) paths.now) (contents_of W.contents output.old) (contents_of W.contents output.new)) }
 {
     for i in 0..paths.len() {
@@ -309,7 +316,7 @@ pub(crate) fn trace_files<E: Eprint + AllocGlobal, D: Disk, W: Write + Drop>(
 ) -> Result<(), Stop>
     requires named { AreNamed (D.held host.now.disk.now) job.now.wanted state.old.chosen }
     requires over { IsOver D.held (D.held host.now.disk.now) job.now.wanted opener.old }
-    ensures { OnOk result (AreTraced (D.held host.now.disk.now) job.now.wanted job.now.style
+    ensures { OnOk result (AreTraced (D.held host.now.disk.now) job.now
         (map (λ p. p.now) paths.now) (contents_of W.contents output.old) (contents_of W.contents output.new)) }
 {
     let sizes = open_files(host, job, opener, paths, state)?;
@@ -330,7 +337,7 @@ where
     I: Drop,
     requires named { AreNamed (D.held host.now.disk.now) job.now.wanted state.old.chosen }
     requires over { IsOver D.held (D.held host.now.disk.now) job.now.wanted opener.old }
-    ensures { OnOk result (IsTracedFront (D.held host.now.disk.now) job.now.wanted job.now.style path.now
+    ensures { OnOk result (IsTracedFront (D.held host.now.disk.now) job.now path.now
         (I.remaining input) (contents_of W.contents output.old) (contents_of W.contents output.new)) }
 {
     let paths = [path];
@@ -360,7 +367,7 @@ fn follow_path<E: Eprint + AllocGlobal, D: Disk, W: Write + Drop>(
     requires over { IsOver D.held (D.held host.now.disk.now) job.now.wanted opener.old }
     ensures named { AreNamed (D.held host.now.disk.now) job.now.wanted state.new.chosen }
     ensures over { IsOver D.held (D.held host.now.disk.now) job.now.wanted opener.new }
-    ensures traced { OnOk result (IsTracedLog (D.held host.now.disk.now) job.now.wanted job.now.style path.now
+    ensures traced { OnOk result (IsTracedLog (D.held host.now.disk.now) job.now path.now
         (contents_of W.contents output.old) (contents_of W.contents output.new)) }
 {
     begin_log(host, output, &mut state.tally)?;
@@ -381,7 +388,7 @@ pub(crate) fn trace_streams<E: Eprint + AllocGlobal, D: Disk, W: Write + Drop>(
 ) -> Result<(), Stop>
     requires named { AreNamed (D.held host.now.disk.now) job.now.wanted state.old.chosen }
     requires over { IsOver D.held (D.held host.now.disk.now) job.now.wanted opener.old }
-    ensures { OnOk result (AreTraced (D.held host.now.disk.now) job.now.wanted job.now.style
+    ensures { OnOk result (AreTraced (D.held host.now.disk.now) job.now
         (map (λ p. p.now) paths.now) (contents_of W.contents output.old) (contents_of W.contents output.new)) }
 {
     for path in paths {
@@ -403,7 +410,7 @@ where
     I: Drop,
     requires named { AreNamed (D.held host.now.disk.now) job.now.wanted state.old.chosen }
     requires over { IsOver D.held (D.held host.now.disk.now) job.now.wanted opener.old }
-    ensures { OnOk result (IsTracedTextIn (D.held host.now.disk.now) job.now.wanted job.now.style
+    ensures { OnOk result (IsTracedTextIn (D.held host.now.disk.now) job.now (λ name. ⊤)
         (I.remaining input) (contents_of W.contents output.old) (contents_of W.contents output.new)) }
 {
     follow_log(host, job, opener, input, state, output)?;

@@ -1,6 +1,6 @@
 //! Lines of a log, translated and written.
 ghost use Rattle.std.specs.Prelude.{OnOk, Some};
-ghost use Rattle.smap_finder.specs.ChosenView.{maps_of};
+ghost use Rattle.smap_finder.specs.ChosenView.{choices_of};
 ghost use Rattle.smap_trace.specs.Translation.{fate_by};
 ghost use Rattle.smap_trace.specs.Views.{scripts_in};
 ghost use Rattle.smap_tracer.specs.OutputView.{contents_of};
@@ -95,7 +95,7 @@ pub(crate) fn translate_lines<E: Eprint + AllocGlobal, D: Disk, W: Write + Drop>
     output: &mut Output<W>,
     tally: &mut Tally,
 ) -> Result<(), Stop>
-    ensures { OnOk result (IsTranslatedIn (maps_of chosen.now) style.now (Some lines.now)
+    ensures { OnOk result (IsTranslatedIn (choices_of chosen.now) style.now (Some lines.now)
         (contents_of W.contents output.old) (contents_of W.contents output.new)) }
 {
     let alloc = host.alloc();
@@ -137,7 +137,7 @@ pub(crate) fn translate_log<E: Eprint + AllocGlobal, D: Disk, R: Read, W: Write 
 ) -> Result<(), Stop>
 where
     R: Drop,
-    ensures { OnOk result (IsTranslatedIn (maps_of chosen.now) style.now (R.remaining reader)
+    ensures { OnOk result (IsTranslatedIn (choices_of chosen.now) style.now (R.remaining reader)
         (contents_of W.contents output.old) (contents_of W.contents output.new)) }
 {
     if style.is_plain() {

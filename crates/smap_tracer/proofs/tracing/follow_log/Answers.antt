@@ -1,4 +1,5 @@
 use Rattle.std.proofs.Common.{◌∙◌, ap, subst, List, ℕ, Some}
+use Rattle.std.specs.Prelude.{⊤}
 use Rattle.std.specs.Io.KnownBytes.{IsAtEnd}
 use Rattle.smap_tracer.specs.Logs.{handed, pending}
 use Rattle.smap_tracer.specs.OutputView.{contents_of}
@@ -12,7 +13,7 @@ loop-init g c = record {
   named = c.requires.named;
   over = c.requires.over;
   traced = λ plain. let log = c.new-log.result in
-      none_so_far (g.D.Disk.held c.args.host.now.disk.now) c.args.job.now.wanted c.args.job.now.style log.ended
+      none_so_far (g.D.Disk.held c.args.host.now.disk.now) c.args.job.now (λ name. ⊤) log.ended
       (g.R.Read.remaining c.args.reader) (pending g.R.Read.remaining log)
       (contents_of g.W.Write.contents c.args.output.now)
       (new_log (g.R.Read.remaining log.reader) log.block log.ended c.new-log.ensures.block c.new-log.ensures.ended
@@ -22,7 +23,7 @@ loop-init g c = record {
 pub returns-then-not-more-clause-traced : goal.returns-then-not-more-clause-traced
 returns-then-not-more-clause-traced g c plain =
     let end : IsAtEnd (pending g.R.Read.remaining c.loop.log) = rw c.if-not-more.true at c.in_ok-more.ensures.lines in
-    all_parts (g.D.Disk.held c.args.host.now.disk.now) c.args.job.now.wanted c.args.job.now.style c.loop.log.ended
+    all_parts (g.D.Disk.held c.args.host.now.disk.now) c.args.job.now (λ name. ⊤) c.loop.log.ended
     (g.R.Read.remaining c.args.reader) (pending g.R.Read.remaining c.loop.log)
     (contents_of g.W.Write.contents c.args.output.now) (contents_of g.W.Write.contents c.loop.output)
     (c.loop.invariant.traced plain) end
@@ -32,16 +33,15 @@ loop-preserved g c = record {
   named = c.in_ok-follow_lines.ensures.named;
   over = c.in_ok-follow_lines.ensures.over;
   traced = λ plain. let held = g.D.Disk.held c.args.host.now.disk.now in
-      let wanted = c.args.job.now.wanted in
-      let style = c.args.job.now.style in
+      let job = c.args.job.now in
       let log = c.advance.new.self in
       let before = contents_of g.W.Write.contents c.args.output.now in
       let middle = contents_of g.W.Write.contents c.loop.output in
       let after = contents_of g.W.Write.contents c.follow_lines.new.output in
-      one_more_part held wanted style c.loop.log.ended log.ended (g.R.Read.remaining c.args.reader)
+      one_more_part held job (λ name. ⊤) c.loop.log.ended log.ended (g.R.Read.remaining c.args.reader)
       (pending g.R.Read.remaining c.loop.log) (pending g.R.Read.remaining log) before middle after (handed log)
       (c.loop.invariant.traced plain) (c.in_ok-more.ensures.going c.if-not-more.false)
       (handed_lines log.block log.ended) (rw c.if-not-more.false at c.in_ok-more.ensures.lines)
-      (subst (λ (part : List ℕ). IsTraced held wanted style (Some part) middle after) c.lines.ensures
+      (subst (λ (part : List ℕ). IsTraced held job (λ name. ⊤) (Some part) middle after) c.lines.ensures
       (c.in_ok-follow_lines.ensures.traced plain));
 }

@@ -1,4 +1,5 @@
 use Rattle.std.proofs.Common.{◌≡◌, true}
+use Rattle.std.specs.Prelude.{⊤}
 use Rattle.smap_finder.specs.ChosenView.{IsOver}
 use Rattle.smap_tracer.proofs.PartsLemmas.{SoFar}
 use Rattle.smap_tracer.specs.Logs.{pending}
@@ -11,7 +12,7 @@ invariant-loop g l = record {
   named : AreNamed (g.D.Disk.held l.host.disk.now) l.job.wanted l.state.chosen;
   over : IsOver g.D.Disk.held (g.D.Disk.held l.host.disk.now) l.job.wanted l.opener;
   traced : is_plain_style l.job.style.prefixes.now l.job.style.context ≡ true
-      → SoFar (g.D.Disk.held l.host.disk.now) l.job.wanted l.job.style l.log.ended
+      → SoFar (g.D.Disk.held l.host.disk.now) l.job (λ name. ⊤) l.log.ended
       (g.R.Read.remaining l.fn.reader) (pending g.R.Read.remaining l.log) (contents_of g.W.Write.contents l.initial.output)
       (contents_of g.W.Write.contents l.output);
 }

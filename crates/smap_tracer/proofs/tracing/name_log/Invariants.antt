@@ -1,5 +1,12 @@
 use Rattle.std.proofs.Common.{◌≡◌}
+use Rattle.smap_tracer.specs.Logs.{pending}
+use Rattle.smap_tracer.specs.Naming.{frames_of}
+use Rattle.smap_tracer.proofs.NamedLemmas.{NamedSoFar}
 use Rattle.smap_tracer.proofs.tracing.name_log.Given as goal
 
 abbrev pub invariant-loop : goal.invariant-loop
-invariant-loop g l = l.state.chosen ≡ l.initial.state.chosen
+invariant-loop g l = record {
+  chosen : l.state.chosen ≡ l.initial.state.chosen;
+  named : NamedSoFar l.log.ended (g.R.Read.remaining l.fn.reader) (pending g.R.Read.remaining l.log)
+      (frames_of l.initial.state.names) (frames_of l.state.names);
+}

@@ -6,6 +6,6 @@ pub loop-path-preserved : goal.loop-path-preserved
 loop-path-preserved g c = record {
   named = c.in_ok-follow_path.ensures.named;
   over = c.in_ok-follow_path.ensures.over;
-  traced = one_more_path _ _ _ c.args.paths.now c.loop-path.path-index _ (omega (arith, c.loop-path-test.true)) _ _ _
+  traced = one_more_path _ _ c.args.paths.now c.loop-path.path-index _ (omega (arith, c.loop-path-test.true)) _ _ _
       c.loop-path.invariant.traced c.in_ok-follow_path.ensures.traced;
 }

@@ -6,7 +6,7 @@ use Rattle.smap_tracer.proofs.tracing.translate_files.Given as goal
 abbrev pub invariant-loop-i : goal.invariant-loop-i
 invariant-loop-i g l = record {
   chosen : l.state.chosen ≡ l.initial.state.chosen;
-  traced : AreTraced (g.D.Disk.held l.host.disk.now) l.job.wanted l.job.style
+  traced : AreTraced (g.D.Disk.held l.host.disk.now) l.job
       (map (λ p. p.now) (take l.i l.paths)) (contents_of g.W.Write.contents l.initial.output)
       (contents_of g.W.Write.contents l.output);
 }

@@ -1,0 +1,39 @@
+use Rattle.std.proofs.Common.{◌∙◌, ◌++◌, ap, refl, subst, List, ℕ}
+use Rattle.std.specs.Io.KnownBytes.{IsAtEnd}
+use Rattle.smap_trace.specs.Naming.{urls_of}
+use Rattle.smap_tracer.specs.Logs.{handed, pending}
+use Rattle.smap_tracer.specs.Naming.{AreSame, frames_of}
+use Rattle.smap_tracer.proofs.LogLemmas.{handed_lines, new_log}
+use Rattle.smap_tracer.proofs.NamedLemmas.{all_named, more_named, none_named}
+use Rattle.smap_tracer.proofs.tracing.name_log.Goals as goal
+
+pub loop-init : goal.loop-init
+loop-init g c = let log = c.new-log.result in record {
+  chosen = refl;
+  named = none_named log.ended (g.R.Read.remaining c.args.reader) (pending g.R.Read.remaining log)
+      (frames_of c.args.state.now.names)
+      (new_log (g.R.Read.remaining log.reader) log.block log.ended c.new-log.ensures.block c.new-log.ensures.ended
+      ∙ ap g.R.Read.remaining c.new-log.ensures.reader);
+}
+
+pub returns-then-not-more-clause-names : goal.returns-then-not-more-clause-names
+returns-then-not-more-clause-names g c =
+    let end : IsAtEnd (pending g.R.Read.remaining c.loop.log) = rw c.if-not-more.true at c.in_ok-more.ensures.lines in
+    all_named c.loop.log.ended (g.R.Read.remaining c.args.reader) (pending g.R.Read.remaining c.loop.log)
+    c.args.state.now.names c.loop.state.names c.loop.invariant.named end
+
+pub loop-preserved : goal.loop-preserved
+loop-preserved g c = record {
+  chosen = c.note_start.ensures.chosen ∙ c.loop.invariant.chosen;
+  named = let log = c.advance.new.self in
+      let before = frames_of c.args.state.now.names in
+      let middle = frames_of c.loop.state.names in
+      let after = frames_of c.add_lines.new.self in
+      more_named c.loop.log.ended log.ended (g.R.Read.remaining c.args.reader) (pending g.R.Read.remaining c.loop.log)
+      (pending g.R.Read.remaining log) before middle after (handed log)
+      c.loop.invariant.named (c.in_ok-more.ensures.going c.if-not-more.false)
+      (handed_lines log.block log.ended) (rw c.if-not-more.false at c.in_ok-more.ensures.lines)
+      (subst (λ (part : List ℕ). AreSame after (middle ++ urls_of part)) c.lines-lines.ensures
+      (subst (λ ns. AreSame after (frames_of ns ++ urls_of c.lines-lines.result.now)) c.note_start.ensures.names
+      c.in_ok-add_lines.ensures.frames));
+}
