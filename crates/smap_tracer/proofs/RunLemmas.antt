@@ -2,7 +2,7 @@
 use Rattle.std.proofs.Common.{◌≡◌, ◌∙◌, false, ℕ, List, Option, None, Result, Ok, Err, OnOk}
 use Rattle.smap_disk.specs.Held.{Held}
 use Rattle.smap_arguments.specs.declared.wanted.Wanted.{Wanted}
-use Rattle.smap_tracer.specs.Runs.{IsAnswered, IsJobOf, IsTracedAsked, IsTracedJob}
+use Rattle.smap_tracer.specs.Runs.{AreFound, IsAnswered, IsJobOf, IsTracedAsked, IsTracedJob}
 use Rattle.smap_tracer.specs.declared.program.InputKind.{InputKind}
 use Rattle.smap_tracer.specs.declared.tracing.Job.{Job}
 use Rattle.smap_words.specs.Request.{IsAsked}
@@ -22,12 +22,13 @@ traced_asked held asked wanted job kind left before after (Ok a) is of traced = 
 traced_asked held asked wanted job kind left before after (Err e) is of traced = tt
 
 pub wanted_traced : {A E : Type 0} (held : Held) (asked : TraceWords) (wanted : Wanted) (kind : InputKind)
-    (left before after : Option (List ℕ)) (result : Result A E)
+    (left before after : Option (List ℕ)) (result : Result A E) → AreFound asked wanted
     → OnOk result (asked.output ≡ None → asked.list ≡ false → IsTracedAsked held wanted asked kind left before after)
     → OnOk result (asked.output ≡ None → asked.list ≡ false
-    → (w : Wanted) × IsTracedAsked held w asked kind left before after)
-wanted_traced held asked wanted kind left before after (Ok a) traced = λ none off. (wanted, traced none off)
-wanted_traced held asked wanted kind left before after (Err e) traced = tt
+    → (w : Wanted) × AreFound asked w × IsTracedAsked held w asked kind left before after)
+wanted_traced held asked wanted kind left before after (Ok a) found traced = λ none off.
+    (wanted, found, traced none off)
+wanted_traced held asked wanted kind left before after (Err e) found traced = tt
 
 pub answered : {A E : Type 0} (held : Held) (help version : List ℕ) (words : List (List ℕ)) (asked : Asked)
     (kind : InputKind) (left before after : Option (List ℕ)) (result : Result A E) → IsAsked words asked

@@ -3,6 +3,9 @@ use Rattle.std.specs.Prelude.{◌≡◌, ℕ, false, List, [], ◌∷◌, map, �
 use Rattle.std.specs.Borrow.{Bor}
 use Rattle.std.specs.Io.KnownBytes.{Appends}
 use Rattle.smap_disk.specs.Held.{Held}
+use Rattle.smap_arguments.specs.Lists.{lists_of, no_lists}
+use Rattle.smap_arguments.specs.Naming.{NamesAll}
+use Rattle.smap_arguments.specs.Settling.{IsSettled}
 use Rattle.smap_arguments.specs.declared.wanted.Wanted.{Wanted}
 use Rattle.smap_tracer.specs.Written.{AreTraced, IsTracedFront, IsTracedTextIn}
 use Rattle.smap_tracer.specs.declared.program.TheConstants.{STDIN}
@@ -53,6 +56,12 @@ pub record IsJobOf (asked : TraceWords) (job : Job) : Type 0 where
   pub context : job.style.context ≡ asked.context
   pub prefixes : pairs_of job.style.prefixes.now ≡ prefixes_of asked.prefixes.items
 
+-- These are the maps and logs that the arguments of these words name, one map for each script.
+pub record AreFound (asked : TraceWords) (wanted : Wanted) : Type 0 where
+  pub named : Wanted
+  pub names : NamesAll asked.arguments.items no_lists (lists_of named)
+  pub settled : IsSettled named wanted
+
 -- What is wanted was translated and written by a run that does what these words ask for.
 pub record IsTracedAsked (held : Held) (wanted : Wanted) (asked : TraceWords) (kind : InputKind)
     (left before after : Option (List ℕ)) : Type 0 where
@@ -61,10 +70,10 @@ pub record IsTracedAsked (held : Held) (wanted : Wanted) (asked : TraceWords) (k
   pub is_job : IsJobOf asked job
   pub traced : IsTracedJob held job kind left before after
 
--- The same of words that ask for a translation on standard output; or the help or the version was written.
+-- The same of what the words name, where they ask for a translation on standard output; or the help or the version was written.
 abbrev pub IsAnswered : Held → List ℕ → List ℕ → Asked → InputKind → Option (List ℕ) → Option (List ℕ)
     → Option (List ℕ) → Type 0
 IsAnswered held help version Help kind left before after = Appends before after help
 IsAnswered held help version Version kind left before after = Appends before after version
 IsAnswered held help version (Trace asked) kind left before after = asked.output ≡ None → asked.list ≡ false
-    → (wanted : Wanted) × IsTracedAsked held wanted asked kind left before after
+    → (wanted : Wanted) × AreFound asked wanted × IsTracedAsked held wanted asked kind left before after

@@ -2,7 +2,7 @@
 ghost use Rattle.std.specs.Prelude.{◌≡◌, false, IfOk, OnOk, map};
 ghost use Rattle.smap_finder.specs.ChosenView.{IsOver};
 ghost use Rattle.smap_tracer.specs.OutputView.{contents_of};
-ghost use Rattle.smap_tracer.specs.Runs.{IsAnswered, IsJobOf, IsTracedAsked, IsTracedInput, IsTracedJob};
+ghost use Rattle.smap_tracer.specs.Runs.{AreFound, IsAnswered, IsJobOf, IsTracedAsked, IsTracedInput, IsTracedJob};
 ghost use Rattle.smap_tracer.specs.Runs.{pairs_of, prefixes_of};
 ghost use Rattle.smap_tracer.specs.Written.{AreNamed};
 ghost use Rattle.smap_words.specs.Request.{IsAsked};
@@ -278,7 +278,9 @@ fn found<'a, E: Eprint + AllocGlobal, D: Disk>(
     host: &Host<'_, E, D>,
     asked: &TraceWords<'a>,
     kind: InputKind,
-) -> Result<Wanted<'a>, Stop> {
+) -> Result<Wanted<'a>, Stop>
+    ensures { IfOk result (AreFound asked.now) }
+{
     let mut wanted = wanted_by(host, &asked.arguments)?;
     settle(host, asked.skip_broken, &mut wanted)?;
     if wanted.is_empty() && !asked.list {
@@ -354,8 +356,8 @@ fn trace<E: Eprint + AllocGlobal, D: Disk, I: Read, W: Write + Drop>(
 where
     I: Drop,
     ensures { OnOk result (asked.now.output ≡ None → asked.now.list ≡ false → (wanted : Wanted)
-        × IsTracedAsked (D.held host.now.disk.now) wanted asked.now input.kind (I.remaining input.reader)
-        (contents_of W.contents output.old) (contents_of W.contents output.new)) }
+        × AreFound asked.now wanted × IsTracedAsked (D.held host.now.disk.now) wanted asked.now input.kind
+        (I.remaining input.reader) (contents_of W.contents output.old) (contents_of W.contents output.new)) }
 {
     let wanted = found(host, asked, input.kind)?;
     trace_wanted(host, asked, wanted, input, output)
