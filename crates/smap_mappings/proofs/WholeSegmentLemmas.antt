@@ -1,14 +1,13 @@
 -- A segment that lies whole in a text.
 use Rattle.std.proofs.Common.{◌≡◌, ℕ, ◌+◌, ◌-◌, ◌<◌, ◌≤◌, ◌⊎◌, true}
 use Rattle.std.proofs.Common.{List, [], ◌∷◌, ◌++◌, length, take, drop, get_or}
-use Rattle.std.proofs.Common.{Result, Ok, ℤ, refl, sym, ap, subst, ◌∙◌, arith}
+use Rattle.std.proofs.Common.{Ok, ℤ, refl, sym, ap, ◌∙◌, arith}
 use Rattle.std.proofs.Common.{length-append}
-use Rattle.std.specs.Prelude.{slice_range}
+use Rattle.std.specs.Prelude.{slice_range, IsTrue}
 use Rattle.std.proofs.lemmas.List.{drop-drop}
 use Rattle.std.proofs.Math.Seq.{take-add}
 use Rattle.smap_vlq.specs.declared.segment.Fields.{Fields}
-use Rattle.smap_vlq.specs.declared.segment.SegmentFault.{SegmentFault}
-use Rattle.smap_vlq.specs.Number.{◌>>=◌, number_at}
+use Rattle.smap_vlq.specs.Number.{number_at}
 use Rattle.smap_vlq.specs.Segment.{SpellsAll, is_field_count, fields_in, fields_of}
 use Rattle.smap_vlq.proofs.NumberLemmas.{number_is_spelled}
 use Rattle.smap_vlq.proofs.SpelledLemmas.{segment_spelled, SpellsAll-bytes, Spells-some}
@@ -16,17 +15,13 @@ use Rattle.smap_vlq.proofs.PiecesLemmas.{SpellsAll-push}
 use Rattle.smap_mappings.specs.Pieces.{IsWhole}
 use Rattle.smap_mappings.proofs.RunningTextLemmas.{IsClean, clean_bytes}
 
-slice_none : (text : List ℕ) (at : ℕ) → slice_range text at at ≡ []
-slice_none text at = let e : at - at ≡ 0 = omega arith in rw e refl
-
 slice_joined : (text : List ℕ) (start place end : ℕ) → start ≤ place → place ≤ end
     → slice_range text start end ≡ slice_range text start place ++ slice_range text place end
 slice_joined text start place end a b =
     let n : end - start ≡ (place - start) + (end - place) = omega arith in
     let m : start + (place - start) ≡ place = omega arith in
     ap (λ (k : ℕ). take k (drop start text)) n ∙ take-add (place - start) (end - place) (drop start text)
-    ∙ ap (λ (l : List ℕ). take (place - start) (drop start text) ++ take (end - place) l)
-    (drop-drop (place - start) start text ∙ ap (λ (k : ℕ). drop k text) m)
+    ∙ rw (drop-drop (place - start) start text, m) refl
 
 -- Numbers that stand one after another.
 pub record Stretch (text : List ℕ) (start end : ℕ) (ns : List ℤ) : Type 0 where
@@ -34,23 +29,23 @@ pub record Stretch (text : List ℕ) (start end : ℕ) (ns : List ℤ) : Type 0 
   pub spelled : SpellsAll (slice_range text start end) ns
 
 pub no_number : (text : List ℕ) (start : ℕ) → Stretch text start start []
-no_number text start = record { le = omega arith; spelled = slice_none text start }
+no_number text start =
+    record { le = omega arith; spelled = (let e : start - start ≡ 0 = omega arith in rw e refl) }
 
-pub one_more : (text : List ℕ) (start place end : ℕ) (ns : List ℤ) (n : ℤ)
-    → Stretch text start place ns → Ok (n, end) ≡ number_at text place → Stretch text start end (ns ++ n ∷ [])
-one_more text start place end ns n p e =
+pub one_more : {text : List ℕ} {start place : ℕ} {ns : List ℤ} → Stretch text start place ns
+    → (n : ℤ) (end : ℕ) → Ok (n, end) ≡ number_at text place → Stretch text start end (ns ++ n ∷ [])
+one_more {text} {start} {place} {ns} p n end e =
     let s = (number_is_spelled text place n end).0 (sym e) in
     record {
       le = (let a = p.le in let b = s.0 in omega arith);
-      spelled = subst (λ (l : List ℕ). SpellsAll l (ns ++ n ∷ []))
-          (sym (slice_joined text start place end p.le s.0))
+      spelled = rw (slice_joined text start place end p.le s.0)
           (SpellsAll-push (slice_range text start place) (slice_range text place end) ns n p.spelled s.2);
     }
 
-pub whole : (text : List ℕ) (start end : ℕ) (ns : List ℤ) (fields : Fields) → Stretch text start end ns
-    → is_field_count (length ns) ≡ true → fields ≡ fields_of ns → end < length text
+pub whole : {text : List ℕ} {start end : ℕ} {ns : List ℤ} → Stretch text start end ns
+    → IsTrue (is_field_count (length ns)) → (fields : Fields) → fields ≡ fields_of ns → end < length text
     → (get_or text end 0 ≡ 44) ⊎ (get_or text end 0 ≡ 59) → IsWhole text start fields end
-whole text start end ns fields p count is within ended = record {
+whole {ns} p count fields is within ended = record {
   le = p.le;
   within = within;
   ns = ns;
@@ -60,17 +55,13 @@ whole text start end ns fields p count is within ended = record {
   ended = ended;
 }
 
-pub whole_fields : (text : List ℕ) (start end : ℕ) (fields : Fields)
+pub whole_fields : {text : List ℕ} {start end : ℕ} {fields : Fields}
     → IsWhole text start fields end → fields_in (slice_range text start end) ≡ Ok fields
-whole_fields text start end fields w =
-    ap (λ (q : Result (List ℤ) SegmentFault). q >>= λ ns. Ok (fields_of ns))
-    (segment_spelled (slice_range text start end) w.ns w.spelled w.count)
-    ∙ ap (λ (f : Fields). Ok f) (sym w.fields_are)
+whole_fields w = rw (segment_spelled _ w.ns w.spelled w.count, w.fields_are) refl
 
-pub whole_clean : (text : List ℕ) (start end : ℕ) (fields : Fields) → IsWhole text start fields end
+pub whole_clean : {text : List ℕ} {start end : ℕ} {fields : Fields} → IsWhole text start fields end
     → IsClean (slice_range text start end)
-whole_clean text start end fields w =
-    clean_bytes (slice_range text start end) (SpellsAll-bytes (slice_range text start end) w.ns w.spelled)
+whole_clean w = clean_bytes _ (SpellsAll-bytes _ w.ns w.spelled)
 
 pub some_spelled : (text : List ℕ) (ns : List ℤ) → SpellsAll text ns → is_field_count (length ns) ≡ true
     → 0 < length text

@@ -1,19 +1,9 @@
-use Rattle.std.proofs.Common.{◌≡◌, ◌∙◌, sym, ap, subst, Ok, Err, Result, List, [], map}
-use Rattle.smap_mappings.specs.Lines.{segments_of}
-use Rattle.smap_mappings.specs.Position.{NeverFalls, position_of}
-use Rattle.smap_mappings.specs.Pieces.{Fits}
-use Rattle.smap_mappings.specs.declared.token.Bounds.{Bounds}
-use Rattle.smap_mappings.specs.Decoded.{ReturnsTokens, decoded}
-use Rattle.std.proofs.lemmas.Result.{err_from_is_err_and}
-use Rattle.smap_mappings.specs.declared.token.Token.{Token}
-use Rattle.smap_mappings.specs.Tokens.{Fault, tokens_after}
+use Rattle.std.proofs.Common.{◌∙◌, sym, refl}
 use Rattle.std.specs.Prelude.{vec_capacity}
-use Rattle.smap_mappings.proofs.ReaderLemmas.{read_of, failed_of, reads_here, gives_failed, gives_last}
-use Rattle.smap_mappings.proofs.ReaderLemmas.{decoded_all, fits_last, all_read, same_refusal}
+use Rattle.std.proofs.lemmas.Result.{err_from_is_err_and}
+use Rattle.smap_mappings.proofs.ReaderLemmas.{read_of, failed_of, gives_failed, gives_last, decoded_all}
+use Rattle.smap_mappings.proofs.ReaderLemmas.{fits_last, all_read, reads_here, same_refusal}
 use Rattle.smap_mappings.proofs.reader.MappingsReader.finish.Goals as goal
-
-abbrev read : List Token → Result (List Token) Fault
-read tokens = Ok tokens
 
 pub returns-in-Some-clause-says : goal.returns-in-Some-clause-says
 returns-in-Some-clause-says c = λ bounds text h. gives_failed bounds text c.in-Some.error
@@ -22,48 +12,37 @@ returns-in-Some-clause-says c = λ bounds text h. gives_failed bounds text c.in-
 pub returns-in_err-end_line-clause-says : goal.returns-in_err-end_line-clause-says
 returns-in_err-end_line-clause-says c = λ bounds text h.
     let p = err_from_is_err_and c.from_residual.result c.from_residual.ensures.1 in
-    let s = c.args.self in
-    let k = read_of s bounds text c.in_default.not-Some h in
-    let q = reads_here s bounds text k in
-    let e = c.in_err-end_line.field-0.0 in
-    rw (p.1, p.2) (subst (λ (b : Bounds). ReturnsTokens (Err e) (decoded b text)) k.same
-    (gives_last s.bounds text (vec_capacity s.tokens.list) s.tokens.list.items
-    c.end_line.new.tokens.list.items s.cursor k.current e q
-    (c.in_err-end_line.ensures.reads q.before q.line q.index k.current q.is_at k.segment k.begun q.sums)))
+    let k = read_of c.args.self bounds text c.in_default.not-Some h in
+    let q = reads_here k in
+    rw (p.1, p.2, ← k.same) (gives_last q (vec_capacity c.args.self.tokens.list) c.end_line.new.tokens.list.items
+    c.in_err-end_line.field-0.0
+    (c.in_err-end_line.ensures.reads q.before q.line q.index k.current q.is_at k.segment k.begun q.sums))
 
 pub returns-clause-says : goal.returns-clause-says
 returns-clause-says c = λ bounds text h.
-    let s = c.args.self in
-    let k = read_of s bounds text c.in_default.not-Some h in
-    let q = reads_here s bounds text k in
-    subst (λ (b : Bounds). decoded b text ≡ read c.in_ok-arranged.arranged.items) k.same
-    (decoded_all s.bounds text (vec_capacity s.tokens.list) s.tokens.list.items
-    c.end_line.new.tokens.list.items s.cursor k.current c.in_ok-end_line.field-0 q
+    let k = read_of c.args.self bounds text c.in_default.not-Some h in
+    let q = reads_here k in
+    rw (← k.same) (decoded_all q (vec_capacity c.args.self.tokens.list) c.end_line.new.tokens.list.items
+    c.in_ok-end_line.field-0
     (c.in_ok-end_line.ensures.reads q.before q.line q.index k.current q.is_at k.segment k.begun q.sums)
-    ∙ ap read (sym c.in_ok-arranged.ensures.arranged))
+    ∙ rw c.in_ok-arranged.ensures.arranged refl)
 
 pub returns-in_err-end_line-clause-fits : goal.returns-in_err-end_line-clause-fits
 returns-in_err-end_line-clause-fits c = λ bounds text h none fits falls e.
     let p = err_from_is_err_and c.from_residual.result c.from_residual.ensures.1 in
-    let s = c.args.self in
-    let k = read_of s bounds text c.in_default.not-Some h in
-    let q = reads_here s bounds text k in
-    let d = c.in_err-end_line.field-0.0 in
-    fits_last s.bounds text (vec_capacity s.tokens.list) s.tokens.list.items
-    c.end_line.new.tokens.list.items s.cursor k.current d q
+    let k = read_of c.args.self bounds text c.in_default.not-Some h in
+    let q = reads_here k in
+    fits_last q (vec_capacity c.args.self.tokens.list) c.end_line.new.tokens.list.items
+    c.in_err-end_line.field-0.0
     (c.in_err-end_line.ensures.reads q.before q.line q.index k.current q.is_at k.segment k.begun q.sums)
-    (subst (λ (b : Bounds). Fits b (segments_of text) (vec_capacity s.tokens.list)) (sym k.same) fits)
+    (rw (← k.same) at fits)
     (sym p.2 ∙ same_refusal p.0 _ (sym p.1 ∙ e))
 
 pub returns-in_err-arranged-clause-fits : goal.returns-in_err-arranged-clause-fits
 returns-in_err-arranged-clause-fits c = λ bounds text h none fits falls e.
-    let s = c.args.self in
-    let k = read_of s bounds text c.in_default.not-Some h in
-    let q = reads_here s bounds text k in
-    let all = all_read s.bounds text (vec_capacity s.tokens.list) s.tokens.list.items
-    c.end_line.new.tokens.list.items s.cursor k.current c.in_ok-end_line.field-0 q
+    let k = read_of c.args.self bounds text c.in_default.not-Some h in
+    let q = reads_here k in
+    let all = all_read q (vec_capacity c.args.self.tokens.list) c.end_line.new.tokens.list.items
+    c.in_ok-end_line.field-0
     (c.in_ok-end_line.ensures.reads q.before q.line q.index k.current q.is_at k.segment k.begun q.sums) in
-    let sorted : NeverFalls (map position_of c.end_line.new.tokens.list.items) =
-    falls c.end_line.new.tokens.list.items (subst (λ (b : Bounds).
-    tokens_after b [] (segments_of text) ≡ read c.end_line.new.tokens.list.items) k.same all) in
-    absurd (let fine = c.in_err-arranged.ensures.fits sorted in cc)
+    absurd (let fine = c.in_err-arranged.ensures.fits (falls c.end_line.new.tokens.list.items (rw (← k.same) all)) in cc)
