@@ -1,10 +1,10 @@
 -- The mappings text of tokens and its segments, token by token.
-use Rattle.std.proofs.Common.{◌≡◌, ℕ, zero, suc, ◌+◌, ◌-◌, ◌<◌, ◌≤◌, max, Bool, true, false, cond, eqb, List}
+use Rattle.std.proofs.Common.{◌≡◌, ℕ, zero, suc, ◌+◌, ◌-◌, ◌<◌, ◌≤◌, max, true, false, cond, eqb, List}
 use Rattle.std.proofs.Common.{[], ◌∷◌, ◌++◌, length, replicate, Option, Some, None, Ok, ℤ, nat_abs, refl, sym}
-use Rattle.std.proofs.Common.{ap, subst, ◌∙◌, arith, append_assoc, length-append}
+use Rattle.std.proofs.Common.{inl, inr, ap, ◌∙◌, arith, append_assoc, length-append}
 use Rattle.std.specs.Prelude.{IfSome, flat_map}
 use Rattle.std.specs.List.{AllByRecursion}
-use Rattle.std.proofs.lemmas.Bool.{eqb-true, eqb-false, ne_eqb}
+use Rattle.std.proofs.lemmas.Bool.{cases_eq, eq-eqb, ne_eqb}
 use Rattle.std.proofs.lemmas.Int.{ints}
 use Rattle.std.proofs.lemmas.List.{append-nil}
 use Rattle.smap_vlq.specs.Number.{digit_of, spelling}
@@ -59,16 +59,12 @@ left_to_write : (done left : List Token) (out : List ℕ) (r : Running) (lines :
     → IsEncodable (done ++ left) → mappings_text (done ++ left) ≡ out ++ text_from r lines left
 left_to_write done [] out r lines p h = ap mappings_text (append-nil done) ∙ sym p.text ∙ sym (append-nil out)
 left_to_write done (t ∷ ts) out r lines p h =
-    let text : List ℕ = segment_from (before_token r lines t) t in
+    let next : List ℕ = (out ++ separator lines t.line) ++ segment_from (before_token r lines t) t in
     let same : (done ++ t ∷ []) ++ ts ≡ done ++ t ∷ ts = append_assoc done (t ∷ []) ts in
-    let more : IsEncodable ((done ++ t ∷ []) ++ ts) = subst IsEncodable (sym same) h in
-    ap mappings_text (sym same)
-    ∙ left_to_write (done ++ t ∷ []) ts ((out ++ separator lines t.line) ++ text) (after_token r lines t)
-    (t.line + 1)
-    (goes_on done out ((out ++ separator lines t.line) ++ text) r lines t p
-    (encodable-front (done ++ t ∷ []) ts more) refl) more
-    ∙ append_assoc (out ++ separator lines t.line) text (text_from (after_token r lines t) (t.line + 1) ts)
-    ∙ append_assoc out (separator lines t.line) (text ++ text_from (after_token r lines t) (t.line + 1) ts)
+    let more : IsEncodable ((done ++ t ∷ []) ++ ts) = rw same h in
+    rw (← same) (left_to_write (done ++ t ∷ []) ts next (after_token r lines t) (t.line + 1)
+    (goes_on done out next r lines t p (encodable-front (done ++ t ∷ []) ts more) refl) more
+    ∙ simp append_assoc)
 
 pub mappings_text-from : (tokens : List Token) → IsEncodable tokens
     → mappings_text tokens ≡ text_from at_start 0 tokens
@@ -91,19 +87,16 @@ AreSegments r lines [] = Unit {0}
 AreSegments r lines (t ∷ ts) = (lines ≤ t.line + 1) × IsSegment (before_token r lines t) t
     × AreSegments (after_token r lines t) (t.line + 1) ts
 
+other_byte : (b c d : ℕ) → digit_of b ≡ Some d → digit_of c ≡ None → eqb b c ≡ false
+other_byte b c d e none = ne_eqb b c (λ is. absurd (let k = ap digit_of is in cc))
+
 pub clean_bytes : (text : List ℕ) → AllByRecursion IsDigitByte text → IsClean text
 unfolding digit_of
 clean_bytes [] all = tt
 clean_bytes (b ∷ bs) all = (
-  (ne_eqb b 59 (λ e. not_semicolon b all.0.0 all.0.1 e), ne_eqb b 44 (λ e. not_comma b all.0.0 all.0.1 e)),
+  (other_byte b 59 all.0.0 all.0.1 refl, other_byte b 44 all.0.0 all.0.1 refl),
   clean_bytes bs all.1,
 )
-  where
-    not_semicolon : (b d : ℕ) → digit_of b ≡ Some d → b ≡ 59 → ⊥
-    not_semicolon b d e is = absurd (let k = subst (λ (c : ℕ). digit_of c ≡ Some d) is e in cc)
-
-    not_comma : (b d : ℕ) → digit_of b ≡ Some d → b ≡ 44 → ⊥
-    not_comma b d e is = absurd (let k = subst (λ (c : ℕ). digit_of c ≡ Some d) is e in cc)
 
 abbrev AreSmall : List ℤ → Type 0
 AreSmall ns = AllByRecursion (λ n. nat_abs n ≤ 2147483647) ns
@@ -119,22 +112,15 @@ name_small r (Some n) h k = (difference_small r.name n h.name k, tt)
 original_small : (r : Running) (o : Option Original) → IsRunning r → IfSome o IsOriginal
     → AreSmall (original_from r o)
 original_small r None h k = tt
-original_small r (Some o) h k = (
-  difference_small r.source o.source h.source k.source,
-  (
-    difference_small r.original_line o.line h.original_line k.line,
-    (difference_small r.original_column o.column h.original_column k.column, name_small r o.name h k.name),
-  ),
-)
+original_small r (Some o) h k =
+    let source = difference_small r.source o.source h.source k.source in
+    let line = difference_small r.original_line o.line h.original_line k.line in
+    let column = difference_small r.original_column o.column h.original_column k.column in
+    (source, (line, (column, name_small r o.name h k.name)))
 
 field_count : (n : ℤ) (r : Running) (o : Option Original)
     → is_field_count (length (n ∷ original_from r o)) ≡ true
-field_count n r None = refl
-field_count n r (Some o) = by_name o.name
-  where
-    by_name : (m : Option ℕ) → is_field_count (suc (suc (suc (suc (length (name_from r.name m)))))) ≡ true
-    by_name None = refl
-    by_name (Some m) = refl
+field_count n r o = grind arith
 
 segment_back : (r : Running) (t : Token) → IsRunning r → IsPlaced t → IsSegment r t
 segment_back r t h p =
@@ -173,40 +159,32 @@ walk_clean line index current (b ∷ bs) rest all =
     rw (all.0.0, all.0.1) (walk_clean line index (current ++ b ∷ []) bs rest all.1
     ∙ ap (λ (c : List ℕ). walk line index c rest) (append_assoc current (b ∷ []) bs))
 
-walk_lines : (line k : ℕ) (rest : List ℕ)
-    → walk line 0 [] (replicate k 59 ++ rest) ≡ walk (line + k) 0 [] rest
-walk_lines line zero rest = ap (λ (l : ℕ). walk l 0 [] rest) (omega arith)
-walk_lines line (suc k) rest = walk_lines (line + 1) k rest ∙ ap (λ (l : ℕ). walk l 0 [] rest) (omega arith)
+walk_lines : (line k next : ℕ) (rest : List ℕ) → next ≡ line + k
+    → walk line 0 [] (replicate k 59 ++ rest) ≡ walk next 0 [] rest
+walk_lines line zero next rest e = ap (λ (l : ℕ). walk l 0 [] rest) (omega arith)
+walk_lines line (suc k) next rest e = walk_lines (line + 1) k next rest (omega arith)
 
 -- a segment that isn't empty ends
 pub ending_some : (line index : ℕ) (current : List ℕ) → 0 < length current
     → ending line index current ≡ text_at line index current ∷ []
-ending_some line zero [] lt = absurd (omega arith)
-ending_some line zero (b ∷ bs) lt = refl
-ending_some line (suc index) current lt = refl
+ending_some line index current lt = grind arith
 
 walk_separator : (line index : ℕ) (current : List ℕ) (next : ℕ) (rest : List ℕ)
     → 0 < length current → line ≤ next
     → walk line index current (separator (line + 1) next ++ rest)
     ≡ text_at line index current ∷ walk next (index_on (line + 1) next (index + 1)) [] rest
-walk_separator line index current next rest lt le = by_test (eqb (line + 1) (next + 1)) refl
-  where
-    further : (k : ℕ) → next + 1 - max (line + 1) 1 ≡ suc k
-        → walk line index current (replicate (next + 1 - max (line + 1) 1) 59 ++ rest)
-        ≡ text_at line index current ∷ walk next 0 [] rest
-    further k e =
-        ap (λ (n : ℕ). walk line index current (replicate n 59 ++ rest)) e
-        ∙ ap (λ (s : List SegmentText). s ++ walk (line + 1) 0 [] (replicate k 59 ++ rest))
-        (ending_some line index current lt)
-        ∙ ap (λ (s : List SegmentText). text_at line index current ∷ s)
-        (walk_lines (line + 1) k rest ∙ ap (λ (l : ℕ). walk l 0 [] rest) (omega arith))
-
-    by_test : (b : Bool) → eqb (line + 1) (next + 1) ≡ b
-        → walk line index current (separator (line + 1) next ++ rest)
-        ≡ text_at line index current ∷ walk next (index_on (line + 1) next (index + 1)) [] rest
-    by_test true e = let same : line ≡ next = omega (arith, eqb-true _ _ e) in
-        rw (e) (ap (λ (l : ℕ). text_at line index current ∷ walk l (index + 1) [] rest) same)
-    by_test false e = let other = eqb-false _ _ e in rw (e) (further (next - line - 1) (omega arith))
+walk_separator line index current next rest lt le = elim (cases_eq line next) [
+  | inl same ↦ rw (eq-eqb (line + 1) (next + 1) (omega arith))
+      (ap (λ (l : ℕ). text_at line index current ∷ walk l (index + 1) [] rest) same)
+  | inr other ↦
+      let lines : next + 1 - max (line + 1) 1 ≡ suc (next - line - 1) = omega arith in
+      rw (
+        ne_eqb (line + 1) (next + 1) (λ e. other (omega arith)),
+        lines,
+        ending_some line index current lt,
+        walk_lines (line + 1) (next - line - 1) next rest (omega arith),
+      ) refl
+]
 
 walk_tokens : (r : Running) (line index : ℕ) (current : List ℕ) (ts : List Token)
     → 0 < length current → AreSegments r (line + 1) ts
@@ -218,31 +196,24 @@ walk_tokens r line index current (t ∷ ts) lt all =
     let place : ℕ = index_on (line + 1) t.line (index + 1) in
     let text : List ℕ = segment_from r1 t in
     let rest : List ℕ = text_from (after_token r (line + 1) t) (t.line + 1) ts in
-    walk_separator line index current t.line (text ++ rest) lt (let le = all.0 in omega arith)
-    ∙ ap (λ (s : List SegmentText). text_at line index current ∷ s)
-    (walk_clean t.line place [] text rest all.1.clean
-    ∙ walk_tokens (after_token r (line + 1) t) t.line place text ts all.1.some all.2)
+    walk_separator line index current t.line (text ++ rest) lt (let le = all.0 in omega arith) ∙ rw (
+      walk_clean t.line place [] text rest all.1.clean,
+      walk_tokens (after_token r (line + 1) t) t.line place text ts all.1.some all.2,
+    ) refl
+
+first_lines : (line : ℕ) (rest : List ℕ) → walk 0 0 [] (separator 0 line ++ rest) ≡ walk line 0 [] rest
+first_lines line rest =
+    let count : line + 1 - max 0 1 ≡ line = omega arith in
+    rw (ne_eqb 0 (line + 1) (λ e. omega arith), count) (walk_lines 0 line line rest (omega arith))
 
 -- The segments of the text are those of the tokens.
 pub segments_from : (r : Running) (ts : List Token) → AreSegments r 0 ts
     → segments_of (text_from r 0 ts) ≡ texts_from r 0 0 ts
 segments_from r [] all = segments_of-walk []
 segments_from r (t ∷ ts) all =
-    let r1 = before_token r 0 t in
-    let text : List ℕ = segment_from r1 t in
+    let text : List ℕ = segment_from (before_token r 0 t) t in
     let rest : List ℕ = text_from (after_token r 0 t) (t.line + 1) ts in
-    segments_of-walk (text_from r 0 (t ∷ ts))
-    ∙ first (text ++ rest) (ne_eqb 0 (t.line + 1) (λ e. omega arith))
+    segments_of-walk (text_from r 0 (t ∷ ts)) ∙ first_lines t.line (text ++ rest)
     ∙ walk_clean t.line 0 [] text rest all.1.clean
     ∙ walk_tokens (after_token r 0 t) t.line 0 text ts all.1.some all.2
-    ∙ ap (λ (k : ℕ). text_at t.line k text ∷ texts_from (after_token r 0 t) (t.line + 1) (k + 1) ts)
-    (none_yet (eqb 0 (t.line + 1)))
-  where
-    none_yet : (b : Bool) → zero ≡ cond b zero zero
-    none_yet true = refl
-    none_yet false = refl
-
-    first : (after : List ℕ) → eqb 0 (t.line + 1) ≡ false
-        → walk 0 0 [] (separator 0 t.line ++ after) ≡ walk t.line 0 [] after
-    first after e =
-        rw e (walk_lines 0 (t.line + 1 - max 0 1) after ∙ ap (λ (l : ℕ). walk l 0 [] after) (omega arith))
+    ∙ rw (ne_eqb 0 (t.line + 1) (λ e. omega arith)) refl
