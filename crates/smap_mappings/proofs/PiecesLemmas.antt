@@ -1,46 +1,29 @@
 -- What has been read of a mappings text that comes in pieces.
-use Rattle.std.proofs.Common.{◌≡◌, ℕ, ◌+◌, ◌-◌, ◌<◌, ◌≤◌, inl, inr, eqb, List, [], ◌∷◌, ◌++◌, length, take, drop}
-use Rattle.std.proofs.Common.{get_or, Result, Ok, Err, refl, sym, ap, ◌∙◌, arith, append_assoc, length-append}
+use Rattle.std.proofs.Common.{◌≡◌, ℕ, ◌+◌, ◌-◌, ◌<◌, ◌≤◌, inl, inr, eqb, List, [], ◌∷◌, ◌++◌, length, take}
+use Rattle.std.proofs.Common.{drop, get_or, Result, Ok, Err, refl, sym, ap, ◌∙◌, arith, append_assoc}
+use Rattle.std.proofs.Common.{length-append}
 use Rattle.std.specs.Prelude.{slice_range}
-use Rattle.std.proofs.lemmas.Bool.{cases_Bool, cases_lt, le-ltb}
+use Rattle.std.proofs.lemmas.Bool.{cases_Bool}
 use Rattle.std.proofs.lemmas.List.{length_push, take-append-drop, take_at, take_more}
 use Rattle.std.proofs.Math.Seq.{take-add}
 use Rattle.smap_vlq.specs.declared.segment.Fields.{Fields}
-use Rattle.smap_vlq.specs.Segment.{fields_in}
 use Rattle.smap_mappings.specs.declared.cursor.Cursor.{Cursor}
 use Rattle.smap_mappings.specs.declared.error.MappingsError.{MappingsError}
 use Rattle.smap_mappings.specs.declared.error.MappingsError.TheVariants as errors
 use Rattle.smap_mappings.specs.declared.error.SegmentKind.{SegmentKind}
-use Rattle.smap_mappings.specs.declared.error.SegmentKind.TheVariants as kind
 use Rattle.smap_mappings.specs.declared.error.SegmentPlace.{SegmentPlace}
 use Rattle.smap_mappings.specs.declared.running.Running.{Running}
 use Rattle.smap_mappings.specs.declared.token.Bounds.{Bounds}
 use Rattle.smap_mappings.specs.declared.token.Token.{Token}
 use Rattle.smap_mappings.specs.Lines.{SegmentText, segments_of}
 use Rattle.smap_mappings.specs.Tokens.{Segment, u32_count, tokens_after}
-use Rattle.smap_mappings.specs.Steps.{Sums, Continues, walk, text_at, ending, token_step}
-use Rattle.smap_mappings.specs.Steps.{at_start, judge_step}
+use Rattle.smap_mappings.specs.Steps.{Sums, Continues, walk, text_at, ending, at_start}
 use Rattle.smap_mappings.specs.Pieces.{ended_segments, IsAt, IsReadTo, Overflows, Fails, IsWhole}
 use Rattle.smap_mappings.proofs.LinesLemmas.{segments_of-walk}
 use Rattle.smap_vlq.proofs.ListLemmas.{behind-nil}
 use Rattle.smap_mappings.proofs.ScanLemmas.{Sums-none, Sums-on}
 use Rattle.smap_mappings.proofs.RunningTextLemmas.{IsClean, walk_clean, ending_some}
 use Rattle.smap_mappings.proofs.WholeSegmentLemmas.{whole_clean, some_spelled}
-
--- ---- one segment more
-
-too_far : (bounds : Bounds) (r : Running) (line : ℕ) (fields : Fields)
-    → bounds.lines ≤ bounds.start_line + line → token_step bounds r line fields ≡ Err kind.GeneratedLine
-too_far bounds r line fields le = rw (le-ltb (bounds.start_line + line) bounds.lines le) refl
-
--- A line past the greatest `u32` is past each bound of lines.
-pub judged : (bounds : Bounds) (r : Running) (counted line : ℕ) (text : List ℕ) (fields : Fields)
-    → bounds.lines ≤ 4294967295 → counted ≡ u32_count line → fields_in text ≡ Ok fields
-    → token_step bounds r counted fields ≡ judge_step bounds r line text
-judged bounds r counted line text fields le at e = rw e (elim (cases_lt line 4294967296) [
-  | inl small ↦ ap (λ (k : ℕ). token_step bounds r k fields) (omega arith)
-  | inr large ↦ too_far bounds r counted fields (omega arith) ∙ sym (too_far bounds r line fields (omega arith))
-])
 
 -- ---- the segments that have ended
 
@@ -73,7 +56,8 @@ walks line index current (b ∷ bs) = elim (cases_Bool (eqb b 59)) [
   ]
 ]
 
-pub ended_are : (text : List ℕ) (w : Walks (λ rest. segments_of (text ++ rest))) → ended_segments text ≡ w.ended
+pub ended_are : (text : List ℕ) (w : Walks (λ rest. segments_of (text ++ rest)))
+    → ended_segments text ≡ w.ended
 ended_are text w =
     let last : SegmentText = text_at w.line w.index (w.current ++ 65 ∷ []) in
     let e : segments_of (text ++ 65 ∷ []) ≡ w.ended ++ last ∷ [] =
@@ -137,7 +121,8 @@ module _ {bounds : Bounds} {text : List ℕ} {tokens : List Token} {cursor : Cur
 
     -- there are more tokens than there is room for
     pub overflows : {all : List SegmentText} (room : ℕ) (texts rest : List SegmentText)
-        → all ≡ (p.ended ++ texts) ++ rest → (more : List Token) → tokens_after bounds p.before texts ≡ Ok more → room < length tokens + length more
+        → all ≡ (p.ended ++ texts) ++ rest → (more : List Token)
+        → tokens_after bounds p.before texts ≡ Ok more → room < length tokens + length more
         → Overflows bounds all room
     overflows room texts rest e more is lt = (
       tokens ++ more,
@@ -176,7 +161,8 @@ module _ {bounds : Bounds} {text : List ℕ} {tokens : List Token} {cursor : Cur
             → tokens_after bounds [] ((p.ended ++ texts) ++ after) ≡ Err (place, k)
         fault place k c after = rw (append_assoc p.ended texts after, p.read (texts ++ after), c after) refl
 
-        by_result : (r : Result Running MappingsError) → Continues bounds p.before p.line texts room tokens new r
+        by_result : (r : Result Running MappingsError)
+            → Continues bounds p.before p.line texts room tokens new r
             → Leads bounds (text ++ byte ∷ []) room new next r
         by_result (Ok x) c = record {
           ended = p.ended ++ texts;
@@ -222,7 +208,8 @@ fails_less bounds text most room (errors.Fault place k) le h = h
 
 still_fails : (bounds : Bounds) (text more : List ℕ) (most : ℕ) (error : MappingsError)
     → Fails bounds text most error → Fails bounds (text ++ more) most error
-still_fails bounds text more most errors.Memory h = λ rest. rw (append_assoc text more rest) (h (more ++ rest))
+still_fails bounds text more most errors.Memory h =
+    λ rest. rw (append_assoc text more rest) (h (more ++ rest))
 still_fails bounds text more most (errors.Fault place k) h =
     λ rest. rw (append_assoc text more rest) (h (more ++ rest))
 
@@ -267,8 +254,10 @@ module _ {bounds : Bounds} (text piece : List ℕ) {tokens : List Token} {cursor
     pub whole_semicolon : get_or piece end 0 ≡ 59
         → Leads bounds (text ++ take (end + 1) piece) room new (after_semicolon cursor) r
     unfolding at_end bytes_read
-    whole_semicolon is = rw (← one_byte text piece end w.within, is) (semicolon at_end room new r
-        (rw (ending_some p.line p.index (slice_range piece start end) (some_spelled _ w.ns w.spelled w.count)) c))
+    whole_semicolon is =
+        let ends = ending_some p.line p.index (slice_range piece start end)
+        (some_spelled _ w.ns w.spelled w.count) in
+        rw (← one_byte text piece end w.within, is) (semicolon at_end room new r (rw ends c))
 
 pub whole_fails : {bounds : Bounds} (text piece : List ℕ) {tokens : List Token} {cursor : Cursor}
     {start end : ℕ} {fields : Fields} (w : IsWhole piece start fields end)

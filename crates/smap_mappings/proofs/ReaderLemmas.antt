@@ -1,11 +1,10 @@
 -- What the reader of a mappings text in pieces stands for, and what it returns.
-use Rattle.std.proofs.Common.{◌≡◌, ◌≢◌, ℕ, ◌+◌, ◌<◌, ◌≤◌, false}
-use Rattle.std.proofs.Common.{ltb, List, [], ◌∷◌, ◌++◌, length, take, get_or, map, Option, None}
-use Rattle.std.proofs.Common.{Some, Result, Ok, Err, refl, sym, ap, subst, ◌∙◌, arith}
+use Rattle.std.proofs.Common.{◌≡◌, ◌≢◌, ℕ, ◌+◌, ◌<◌, ◌≤◌, false, List, [], ◌∷◌, ◌++◌, length, take, get_or}
+use Rattle.std.proofs.Common.{map, Option, None, Some, Result, Ok, Err, refl, sym, ap, subst, ◌∙◌, arith}
 use Rattle.std.proofs.Common.{length-append}
-use Rattle.std.specs.Prelude.{IsOk, vec_capacity}
+use Rattle.std.specs.Prelude.{IsOk, vec_capacity, IfOk}
 use Rattle.std.specs.List.{AllByRecursion}
-use Rattle.std.proofs.lemmas.Bool.Decides.{nat_tests}
+use Rattle.std.proofs.lemmas.Bool.{ltb-false}
 use Rattle.std.proofs.lemmas.List.{append-nil, nil_from_length}
 use Rattle.smap_mappings.specs.declared.cursor.Cursor.{Cursor}
 use Rattle.smap_mappings.specs.declared.error.MappingsError.{MappingsError}
@@ -16,14 +15,12 @@ use Rattle.smap_mappings.specs.declared.token.Token.{Token}
 use Rattle.smap_mappings.specs.Lines.{SegmentText, segments_of}
 use Rattle.smap_mappings.specs.Tokens.{tokens_after}
 use Rattle.smap_mappings.specs.Steps.{Continues, ending}
-use Rattle.smap_mappings.specs.Pieces.{ended_segments, ReturnsFirstFault, IsReadTo, IsRead, Fits}
-use Rattle.smap_mappings.specs.Pieces.{Overflows}
+use Rattle.smap_mappings.specs.Pieces.{ended_segments, ReturnsFirstFault, IsReadTo, IsRead, Fits, Overflows}
 use Rattle.smap_mappings.specs.Pieces.{HasFailed, Fails, StandsUnder, StandsFor}
 use Rattle.smap_mappings.specs.declared.reader.MappingsReader.{MappingsReader}
 use Rattle.smap_mappings.specs.declared.token_list.TokenList.{TokenList}
 use Rattle.smap_mappings.specs.Decoded.{ReturnsTokens, AreBounds, IsWithin, IsFromStart, decoded}
 use Rattle.std.specs.Global.{Vec}
-use Rattle.std.specs.Prelude.{IfOk}
 use Rattle.smap_mappings.specs.Text.{IsEncodable}
 use Rattle.smap_mappings.proofs.DecodedLemmas.{decoded-encodable, decoded-within, decoded-from_start, good_is}
 use Rattle.smap_mappings.specs.Arrangement.{arranged}
@@ -93,9 +90,6 @@ gives_failed bounds text errors.Memory h = tt
 gives_failed bounds text (errors.Fault place k) h =
     let e = rw append-nil at (h []).1 in rw e refl
 
-none_current : (current : List ℕ) → ltb 0 (length current) ≡ false → current ≡ []
-none_current current e = nil_from_length current (grind (arith, nat_tests))
-
 pub reads_here : {r : MappingsReader} {bounds : Bounds} {text : List ℕ} (h : IsRead r bounds text)
     → IsReadTo r.bounds text r.tokens.list.items r.cursor h.current
 reads_here h = rw h.same h.reads
@@ -103,7 +97,7 @@ reads_here h = rw h.same h.reads
 -- between segments
 between : {r : MappingsReader} {bounds : Bounds} {text : List ℕ} (h : IsRead r bounds text)
     → r.begun ≡ false → h.current ≡ []
-between h e = none_current h.current (sym h.begun ∙ e)
+between h e = nil_from_length h.current (omega (arith, ltb-false 0 _ (sym h.begun ∙ e)))
 
 pub here : {r : MappingsReader} {bounds : Bounds} {text : List ℕ} (h : IsRead r bounds text)
     → r.begun ≡ false → IsReadTo r.bounds text r.tokens.list.items r.cursor []

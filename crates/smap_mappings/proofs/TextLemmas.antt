@@ -1,7 +1,7 @@
 -- The mappings text of one token more.
-use Rattle.std.proofs.Common.{◌≡◌, ℕ, zero, suc, ◌+◌, ◌-◌, ◌<◌, ◌≤◌, max, Bool, eqb, List}
-use Rattle.std.proofs.Common.{[], ◌∷◌, ◌++◌, length, map, filter, replicate, refl, sym, ap, ◌∙◌, arith}
-use Rattle.std.proofs.Common.{append_assoc, add-one, inl, inr}
+use Rattle.std.proofs.Common.{◌≡◌, ℕ, zero, suc, ◌+◌, ◌-◌, ◌<◌, ◌≤◌, max, Bool, eqb, List, [], ◌∷◌, ◌++◌}
+use Rattle.std.proofs.Common.{length, map, filter, replicate, refl, sym, ap, ◌∙◌, arith, append_assoc}
+use Rattle.std.proofs.Common.{add-one, inl, inr}
 use Rattle.std.specs.List.{join_with_byte, AllByRecursion}
 use Rattle.std.proofs.lemmas.Bool.{cases_eq, cond_both, eq-eqb, ne_eqb}
 use Rattle.std.proofs.lemmas.List.{append-nil, length_push, map-append, map_push, replicate_more}
@@ -150,7 +150,8 @@ joined-new_line segments n line x all le = rw (
 -- ---- tokens
 
 pub line_count-push : (ts : List Token) (t : Token) → line_count (ts ++ t ∷ []) ≡ t.line + 1
-line_count-push ts t = rw (map_push (λ (u : Token). u.line + 1) ts t) (last_or-push 0 (map (λ u. u.line + 1) ts) (t.line + 1))
+line_count-push ts t =
+    rw (map_push (λ (u : Token). u.line + 1) ts t) (last_or-push 0 (map (λ u. u.line + 1) ts) (t.line + 1))
 
 -- the last line has a segment
 last_line : (before ts : List Token) (line : ℕ) → line_count ts ≡ line + 1

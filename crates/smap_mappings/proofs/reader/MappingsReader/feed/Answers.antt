@@ -8,10 +8,12 @@ returns-in-Ok-clause-tells c = λ bounds text h. tells_read
     (c.in-Ok.ensures.reads bounds text (read_of c.args.self.now bounds text c.in_default.not-Some h))
 
 pub returns-in-Err-clause-tells : goal.returns-in-Err-clause-tells
-returns-in-Err-clause-tells c = λ bounds text h. tells_failed bounds (text ++ c.args.piece.now) (vec_capacity c.args.self.now.tokens.list) c.in-Err.error
+returns-in-Err-clause-tells c = λ bounds text h.
+    tells_failed bounds (text ++ c.args.piece.now) (vec_capacity c.args.self.now.tokens.list) c.in-Err.error
     (c.in-Err.ensures.reads bounds text (read_of c.args.self.now bounds text c.in_default.not-Some h))
 
 pub returns-in-Err-clause-fits : goal.returns-in-Err-clause-fits
 returns-in-Err-clause-fits c = λ bounds text h none fits e.
     fits_memory bounds (text ++ c.args.piece.now) (vec_capacity c.args.self.now.tokens.list) c.in-Err.error
-    (c.in-Err.ensures.reads bounds text (read_of c.args.self.now bounds text c.in_default.not-Some h)) fits (cc)
+    (c.in-Err.ensures.reads bounds text (read_of c.args.self.now bounds text c.in_default.not-Some h))
+    fits (cc)

@@ -14,8 +14,8 @@ returns-in_err-end_line-clause-says c = λ bounds text h.
     let p = err_from_is_err_and c.from_residual.result c.from_residual.ensures.1 in
     let k = read_of c.args.self bounds text c.in_default.not-Some h in
     let q = reads_here k in
-    rw (p.1, p.2, ← k.same) (gives_last q (vec_capacity c.args.self.tokens.list) c.end_line.new.tokens.list.items
-    c.in_err-end_line.field-0.0
+    rw (p.1, p.2, ← k.same) (gives_last q (vec_capacity c.args.self.tokens.list)
+    c.end_line.new.tokens.list.items c.in_err-end_line.field-0.0
     (c.in_err-end_line.ensures.reads q.before q.line q.index k.current q.is_at k.segment k.begun q.sums))
 
 pub returns-clause-says : goal.returns-clause-says
@@ -45,4 +45,5 @@ returns-in_err-arranged-clause-fits c = λ bounds text h none fits falls e.
     let all = all_read q (vec_capacity c.args.self.tokens.list) c.end_line.new.tokens.list.items
     c.in_ok-end_line.field-0
     (c.in_ok-end_line.ensures.reads q.before q.line q.index k.current q.is_at k.segment k.begun q.sums) in
-    absurd (let fine = c.in_err-arranged.ensures.fits (falls c.end_line.new.tokens.list.items (rw (← k.same) all)) in cc)
+    let sorted = falls c.end_line.new.tokens.list.items (rw (← k.same) all) in
+    absurd (let fine = c.in_err-arranged.ensures.fits sorted in cc)

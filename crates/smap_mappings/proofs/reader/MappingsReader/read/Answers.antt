@@ -11,7 +11,8 @@ returns-in_err-cursor-clause-reads c = λ bounds text k.
     let p = err_from_is_err_and c.from_residual.result c.from_residual.ensures.1 in
     let f = c.loop-place.invariant.1 in
     let h = f.reads bounds text k in
-    rw (p.1, p.2, ← h.same) (fails_less _ (text ++ c.args.piece.now) (vec_capacity c.args.self.now.tokens.list)
+    rw (p.1, p.2, ← h.same)
+    (fails_less _ (text ++ c.args.piece.now) (vec_capacity c.args.self.now.tokens.list)
     (vec_capacity c.loop-place.self.tokens.list) c.in_err-cursor.field-0.0 f.room
     (c.in_err-cursor.ensures.reads text (here h c.if-not-self.true)))
 

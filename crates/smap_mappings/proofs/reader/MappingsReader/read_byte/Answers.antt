@@ -10,7 +10,8 @@ pub returns-in_err-running-in-44-clause-reads : goal.returns-in_err-running-in-4
 returns-in_err-running-in-44-clause-reads c = λ bounds text h.
     let p = err_from_is_err_and c.from_residual.result c.from_residual.ensures.1 in
     let q = reads_here h in
-    rw (p.1, p.2, c.in-44.is, ← h.same) (comma q (vec_capacity c.args.self.now.tokens.list) c.end_segment.new.tokens.list.items (Err c.in_err-running-in-44.field-0.0)
+    rw (p.1, p.2, c.in-44.is, ← h.same) (comma q (vec_capacity c.args.self.now.tokens.list)
+    c.end_segment.new.tokens.list.items (Err c.in_err-running-in-44.field-0.0)
     (c.in_err-running-in-44.ensures.reads q.before q.line q.index h.current q.is_at h.segment q.sums))
 
 pub returns-in_err-running-in-59-clause-reads : goal.returns-in_err-running-in-59-clause-reads
@@ -18,7 +19,8 @@ returns-in_err-running-in-59-clause-reads c = λ bounds text h.
     let p = err_from_is_err_and c.from_residual-in_err-running-in-59.result
     c.from_residual-in_err-running-in-59.ensures.1 in
     let q = reads_here h in
-    rw (p.1, p.2, c.in-59.is, ← h.same) (semicolon q (vec_capacity c.args.self.now.tokens.list) c.end_line.new.tokens.list.items (Err c.in_err-running-in-59.field-0.0)
+    rw (p.1, p.2, c.in-59.is, ← h.same) (semicolon q (vec_capacity c.args.self.now.tokens.list)
+    c.end_line.new.tokens.list.items (Err c.in_err-running-in-59.field-0.0)
     (c.in_err-running-in-59.ensures.reads q.before q.line q.index h.current q.is_at h.segment h.begun q.sums))
 
 pub returns-in_ok-running-in-44-clause-reads : goal.returns-in_ok-running-in-44-clause-reads
@@ -31,7 +33,8 @@ returns-in_ok-running-in-44-clause-reads c = λ bounds text h.
       begun = refl;
       segment = c.in_ok-running-in-44.ensures.again;
       reads = rw (c.in-44.is, c.after_comma-self.ensures, ← h.same)
-          (comma q (vec_capacity c.args.self.now.tokens.list) c.end_segment.new.tokens.list.items (Ok c.in_ok-running-in-44.running)
+          (comma q (vec_capacity c.args.self.now.tokens.list) c.end_segment.new.tokens.list.items
+          (Ok c.in_ok-running-in-44.running)
           (c.in_ok-running-in-44.ensures.reads q.before q.line q.index h.current q.is_at h.segment q.sums));
     }
 
@@ -45,7 +48,8 @@ returns-in_ok-running-in-59-clause-reads c = λ bounds text h.
       begun = refl;
       segment = c.in_ok-running-in-59.ensures.again h.current h.segment h.begun;
       reads = rw (c.in-59.is, c.after_semicolon-self.ensures, ← h.same)
-          (semicolon q (vec_capacity c.args.self.now.tokens.list) c.end_line.new.tokens.list.items (Ok c.in_ok-running-in-59.running)
+          (semicolon q (vec_capacity c.args.self.now.tokens.list) c.end_line.new.tokens.list.items
+          (Ok c.in_ok-running-in-59.running)
           (c.in_ok-running-in-59.ensures.reads q.before q.line q.index h.current q.is_at h.segment h.begun
           q.sums));
     }

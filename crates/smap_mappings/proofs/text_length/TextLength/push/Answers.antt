@@ -1,9 +1,7 @@
-use Rattle.std.proofs.Common.{◌∙◌, ◌++◌, ◌∷◌, ◌+◌, [], List, ℕ, ap, sym, subst, refl, arith, length}
-use Rattle.std.proofs.Common.{length-append}
+use Rattle.std.proofs.Common.{◌∙◌, ◌++◌, ap, refl, arith, length, length-append}
 use Rattle.smap_mappings.specs.declared.running.Running.{Running}
 use Rattle.smap_mappings.specs.Text.{mappings_text}
 use Rattle.smap_mappings.specs.Writing.{segment_from, running_after, separator, at_line}
-use Rattle.smap_mappings.specs.Feeding.{Encoded}
 use Rattle.smap_mappings.proofs.EncodingLemmas.{goes_on}
 use Rattle.smap_mappings.proofs.text_length.TextLength.push.Goals as goal
 
@@ -29,8 +27,5 @@ returns c tokens e h =
         c.separator_len.ensures,
         segment,
       );
-      encoded = subst (λ (r : Running).
-          Encoded (tokens ++ t ∷ []) (mappings_text (tokens ++ t ∷ [])) r (t.line + 1)) (sym after)
-          (subst (λ (out : List ℕ). Encoded (tokens ++ t ∷ []) out (running_after running t) (t.line + 1))
-          fed.text fed);
+      encoded = rw after (rw fed.text at fed);
     }
