@@ -27,7 +27,7 @@ use Rattle.smap_mappings.proofs.WholeSegmentLemmas.{whole_clean, some_spelled}
 
 -- ---- the segments that have ended
 
--- The segments of a text that goes on, those first that have ended.
+-- The segments of a text that goes on: those that have ended, and the place and the bytes of the current one.
 pub record Walks (segments : List ℕ → List SegmentText) : Type 0 where
   pub ended : List SegmentText
   pub line : ℕ
@@ -130,7 +130,7 @@ module _ {bounds : Bounds} {text : List ℕ} {tokens : List Token} {cursor : Cur
       omega (arith, length-append tokens more),
     )
 
-    -- A separator ends segments, whatever follows, and leads to a place.
+    -- A separator, by the segments that it ends, whatever follows, and by the place after it.
     separated : (byte : ℕ) (texts : List SegmentText) (next_line next_index : ℕ) (next : Running → Cursor)
         → ((rest : List ℕ)
         → walk p.line p.index current (byte ∷ rest) ≡ texts ++ walk next_line next_index [] rest)

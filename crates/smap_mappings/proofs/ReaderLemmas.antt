@@ -103,7 +103,7 @@ pub here : {r : MappingsReader} {bounds : Bounds} {text : List ℕ} (h : IsRead 
     → r.begun ≡ false → IsReadTo r.bounds text r.tokens.list.items r.cursor []
 here h e = rw (between h e) at (reads_here h)
 
--- What the pieces of a loop over a piece keep: room and failure, and that the bytes so far were read.
+-- What a reader keeps up to an index of a piece: its room, its failure, and that all bytes so far were read.
 pub record Follows (first now : MappingsReader) (piece : List ℕ) (place : ℕ) : Type 0 where
   pub room : vec_capacity first.tokens.list ≤ vec_capacity now.tokens.list
   pub same : now.failed ≡ first.failed

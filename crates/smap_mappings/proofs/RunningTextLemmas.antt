@@ -128,8 +128,7 @@ segment_back r t h p =
     let small : AreSmall (numbers_from r t) =
     (difference_small r.column t.column h.column p.column, original_small r t.original h p.original) in
     record {
-      clean = clean_bytes (segment_from r t)
-          (SpellsAll-bytes (segment_from r t) (numbers_from r t) (spellings_spell (numbers_from r t) small));
+      clean = clean_bytes _ (SpellsAll-bytes _ (numbers_from r t) (spellings_spell (numbers_from r t) small));
       some = omega (
         arith,
         Spells-some (spelling first) first (spelling_spells first small.0),
@@ -153,11 +152,10 @@ are_segments r lines t (u ∷ us) le h e = (
 
 pub walk_clean : (line index : ℕ) (current text rest : List ℕ)
     → IsClean text → walk line index current (text ++ rest) ≡ walk line index (current ++ text) rest
-walk_clean line index current [] rest all =
-    ap (λ (c : List ℕ). walk line index c rest) (sym (append-nil current))
+walk_clean line index current [] rest all = rw (append-nil current) refl
 walk_clean line index current (b ∷ bs) rest all =
-    rw (all.0.0, all.0.1) (walk_clean line index (current ++ b ∷ []) bs rest all.1
-    ∙ ap (λ (c : List ℕ). walk line index c rest) (append_assoc current (b ∷ []) bs))
+    rw (all.0.0, all.0.1, ← append_assoc current (b ∷ []) bs)
+    (walk_clean line index (current ++ b ∷ []) bs rest all.1)
 
 walk_lines : (line k next : ℕ) (rest : List ℕ) → next ≡ line + k
     → walk line 0 [] (replicate k 59 ++ rest) ≡ walk next 0 [] rest
@@ -192,9 +190,8 @@ walk_tokens : (r : Running) (line index : ℕ) (current : List ℕ) (ts : List T
     ≡ text_at line index current ∷ texts_from r (line + 1) (index + 1) ts
 walk_tokens r line index current [] lt all = ending_some line index current lt
 walk_tokens r line index current (t ∷ ts) lt all =
-    let r1 = before_token r (line + 1) t in
     let place : ℕ = index_on (line + 1) t.line (index + 1) in
-    let text : List ℕ = segment_from r1 t in
+    let text : List ℕ = segment_from (before_token r (line + 1) t) t in
     let rest : List ℕ = text_from (after_token r (line + 1) t) (t.line + 1) ts in
     walk_separator line index current t.line (text ++ rest) lt (let le = all.0 in omega arith) ∙ rw (
       walk_clean t.line place [] text rest all.1.clean,

@@ -17,15 +17,13 @@ join-push : (c : ℕ) (ls : List (List ℕ)) (y : List ℕ)
     → 0 < length ls → join_with_byte c (ls ++ y ∷ []) ≡ join_with_byte c ls ++ c ∷ y
 join-push c [] y lt = absurd (omega arith)
 join-push c (l ∷ []) y lt = refl
-join-push c (l ∷ m ∷ ms) y lt = ap (λ (t : List ℕ). l ++ (c ∷ t)) (join-push c (m ∷ ms) y (omega arith))
-    ∙ sym (append_assoc l (c ∷ join_with_byte c (m ∷ ms)) (c ∷ y))
+join-push c (l ∷ m ∷ ms) y lt = rw (join-push c (m ∷ ms) y (omega arith)) (sym (append_assoc l _ (c ∷ y)))
 
 join-grow : (c : ℕ) (ls : List (List ℕ)) (y z : List ℕ)
     → join_with_byte c (ls ++ (y ++ z) ∷ []) ≡ join_with_byte c (ls ++ y ∷ []) ++ z
 join-grow c [] y z = refl
 join-grow c (l ∷ []) y z = sym (append_assoc l (c ∷ y) z)
-join-grow c (l ∷ m ∷ ms) y z = ap (λ (t : List ℕ). l ++ (c ∷ t)) (join-grow c (m ∷ ms) y z)
-    ∙ sym (append_assoc l (c ∷ join_with_byte c (m ∷ (ms ++ y ∷ []))) z)
+join-grow c (l ∷ m ∷ ms) y z = rw (join-grow c (m ∷ ms) y z) (sym (append_assoc l _ z))
 
 pub last_or-push : {A : Type 0} (d : A) (xs : List A) (x : A) → last_or d (xs ++ x ∷ []) ≡ x
 last_or-push d [] x = refl
