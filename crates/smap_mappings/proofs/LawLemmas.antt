@@ -1,10 +1,7 @@
 -- The law of mappings texts.
-use Rattle.std.proofs.Common.{refl, Some, None, ℕ, List, [], ◌∷◌, Result, Ok, ap, ◌∙◌, arith}
-use Rattle.smap_vlq.specs.Number.{◌>>=◌}
+use Rattle.std.proofs.Common.{refl, Some, None, List, [], ◌∷◌, Result, Ok, arith, rules}
 use Rattle.smap_mappings.specs.declared.token.Token.{Token}
-use Rattle.smap_mappings.specs.Lines.{segments_of}
-use Rattle.smap_mappings.specs.Tokens.{Fault, tokens_after}
-use Rattle.smap_mappings.specs.Arrangement.{arranged}
+use Rattle.smap_mappings.specs.Tokens.{Fault}
 use Rattle.smap_mappings.specs.Decoded.{decoded}
 use Rattle.smap_mappings.specs.Text.{IsEncodable, mappings_text}
 use Rattle.smap_mappings.specs.declared.token.Bounds.{Bounds}
@@ -32,18 +29,15 @@ segments_there (t ∷ ts) h = are_segments at_start 0 t ts (omega arith) (record
 pub text_says : (bounds : Bounds) (tokens : List Token) → AreFor bounds tokens
     → Says bounds (mappings_text tokens) tokens
 text_says bounds tokens are =
-    let all : AreSegments at_start 0 tokens = segments_there tokens are.encodable in
-    ap (λ (text : List ℕ). tokens_after bounds [] (segments_of text))
-    (mappings_text-from tokens are.encodable)
-    ∙ ap (tokens_after bounds []) (segments_from at_start tokens all)
-    ∙ tokens_again bounds at_start 0 0 [] tokens are.line_start are.column_start are.encodable.1 are.within
-    all stands_first
+    let all = segments_there tokens are.encodable in
+    rw (mappings_text-from tokens are.encodable, segments_from at_start tokens all)
+    (tokens_again bounds at_start 0 0 [] tokens are.line_start are.column_start are.encodable.1 are.within
+    all stands_first)
 
 pub text_reads_back : TextReadsBack
 unfolding decoded
 text_reads_back bounds tokens are =
-    ap (λ (r : Result (List Token) Fault). r >>= λ ts. tokens_are (arranged ts)) (text_says bounds tokens are)
-    ∙ ap tokens_are (arranged-in_order tokens are.encodable.0)
+    rw (text_says bounds tokens are, arranged-in_order tokens are.encodable.0) refl
 
 -- ---- the premise is met: three tokens on two lines, with two sources and a name
 
@@ -65,33 +59,6 @@ some_are_for : AreFor bounds_there tokens_there
 some_are_for = record {
   line_start = refl;
   column_start = refl;
-  encodable = (
-    (refl, (refl, tt)),
-    (
-      record {
-        line = omega arith;
-        column = omega arith;
-        original =
-            record { source = omega arith; line = omega arith; column = omega arith; name = omega arith };
-      },
-      (
-        record { line = omega arith; column = omega arith; original = tt },
-        (
-          record {
-            line = omega arith;
-            column = omega arith;
-            original = record { source = omega arith; line = omega arith; column = omega arith; name = tt };
-          },
-          tt,
-        ),
-      ),
-    ),
-  );
-  within = (
-    record { line = omega arith; source = omega arith; name = omega arith },
-    (
-      record { line = omega arith; source = tt; name = tt },
-      (record { line = omega arith; source = omega arith; name = tt }, tt),
-    ),
-  );
+  encodable = search (rules, arith);
+  within = search (rules, arith);
 }

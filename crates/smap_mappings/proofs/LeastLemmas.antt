@@ -1,5 +1,5 @@
 -- No text with the same tokens in its order is shorter than the canonical one.
-use Rattle.std.proofs.Common.{◌≡◌, ℕ, zero, suc, ◌+◌, inl, inr, Bool, true, false, cond, eqb, List, [], ◌∷◌}
+use Rattle.std.proofs.Common.{◌≡◌, ℕ, zero, suc, ◌+◌, inl, inr, List, [], ◌∷◌}
 use Rattle.std.proofs.Common.{◌++◌, length, replicate, Option, Some, None, Result, Ok, Err, ℤ, pos, negsuc}
 use Rattle.std.proofs.Common.{◌+ℤ◌, refl, sym, ap, subst, ◌∙◌, arith}
 use Rattle.std.specs.Prelude.{flat_map, ok_or, option_map, unwrap_or}
@@ -26,11 +26,11 @@ use Rattle.smap_mappings.specs.Writing.{name_from, original_from, segment_from, 
 use Rattle.smap_mappings.specs.Writing.{running_after, separator, at_line}
 use Rattle.smap_mappings.specs.Laws.{TextIsLeast}
 use Rattle.smap_mappings.proofs.StepsLemmas.{AreFields, one_field, four_fields, five_fields, below_is}
-use Rattle.smap_mappings.proofs.StepsLemmas.{placed-column, column_is, segment_fields, StepAgrees, reads}
-use Rattle.smap_mappings.proofs.DecodedLemmas.{good, bind_ok, good_is, some_is, at_place_ok}
+use Rattle.smap_mappings.proofs.StepsLemmas.{column_is, segment_fields, StepAgrees, reads}
+use Rattle.smap_mappings.proofs.DecodedLemmas.{good, bind_ok, good_is, some_is, at_place_ok, number_is}
 use Rattle.smap_mappings.specs.Steps.{at_start}
 use Rattle.smap_mappings.proofs.RunningTextLemmas.{numbers_from, text_from, mappings_text-from}
-use Rattle.smap_mappings.proofs.ReadBackLemmas.{Stand, stands_after, stands_first, column_kept}
+use Rattle.smap_mappings.proofs.ReadBackLemmas.{Stand, stands_after, stands_first, column_kept, placed_same}
 use Rattle.smap_mappings.proofs.SeparatorLemmas.{joined, SegmentsRise, IsJoined, text_joined}
 use Rattle.smap_mappings.proofs.LawLemmas.{text_says}
 
@@ -44,10 +44,6 @@ record OriginalTold (r : Running) (ns : List ℤ) (x : Running × Option Origina
   after : x.0 ≡ original_after r x.1
   numbers : ns ≡ original_from r x.1
 
-three_same : (a b c x y z : ℤ) → a ≡ x → b ≡ y → c ≡ z → (ns ms : List ℤ) → ns ≡ ms
-    → a ∷ b ∷ c ∷ ns ≡ x ∷ y ∷ z ∷ ms
-three_same a b c x y z e f g ns ms h = cc
-
 -- a number that is told, by the one before it
 told : (limit old : ℕ) (n : ℤ) (k : SegmentKind) (new : ℕ) → ok_or (below limit (pos old +ℤ n)) k ≡ good new
     → n ≡ difference old new
@@ -60,21 +56,31 @@ told_as r source line column name = (
   Some (record { source = source; line = line; column = column; name = name.1 }),
 )
 
-numbers_there : (bounds : Bounds) (r : Running) (b c d : ℤ) (source line column : ℕ)
-    → ok_or (below bounds.sources (pos r.source +ℤ b)) kind.Source ≡ good source
-    → ok_or (below POSITIONS (pos r.original_line +ℤ c)) kind.OriginalLine ≡ good line
-    → ok_or (below POSITIONS (pos r.original_column +ℤ d)) kind.OriginalColumn ≡ good column
-    → (name : ℕ × Option ℕ) (ns : List ℤ) → name.0 ≡ unwrap_or name.1 r.name → ns ≡ name_from r.name name.1
-    → OriginalTold r (b ∷ c ∷ d ∷ ns) (told_as r source line column name)
-numbers_there bounds r b c d source line column es el ec name ns last e = record {
-  after =
-      ap (λ (n : ℕ). record r { source = source; original_line = line; original_column = column; name = n })
-      last;
-  numbers = three_same b c d (difference r.source source) (difference r.original_line line)
-      (difference r.original_column column) (told bounds.sources r.source b kind.Source source es)
-      (told POSITIONS r.original_line c kind.OriginalLine line el)
-      (told POSITIONS r.original_column d kind.OriginalColumn column ec) ns (name_from r.name name.1) e;
-}
+-- What the numbers of a name must be, and the name after them.
+abbrev NameTold : ℕ → List ℤ → ℕ × Option ℕ → Type 0
+NameTold last ns name = (name.0 ≡ unwrap_or name.1 last) × (ns ≡ name_from last name.1)
+
+numbers_there : (bounds : Bounds) (r : Running) (b c d : ℤ) (ns : List ℤ)
+    (named : Result (ℕ × Option ℕ) SegmentKind)
+    → ((name : ℕ × Option ℕ) → named ≡ good name → NameTold r.name ns name) → (x : Running × Option Original)
+    → (ok_or (below bounds.sources (pos r.source +ℤ b)) kind.Source >>= λ source.
+    ok_or (below POSITIONS (pos r.original_line +ℤ c)) kind.OriginalLine >>= λ line.
+    ok_or (below POSITIONS (pos r.original_column +ℤ d)) kind.OriginalColumn >>= λ column.
+    named >>= λ name. good (told_as r source line column name)) ≡ good x
+    → OriginalTold r (b ∷ c ∷ d ∷ ns) x
+numbers_there bounds r b c d ns named is x e =
+    let s = bind_ok (ok_or (below bounds.sources (pos r.source +ℤ b)) kind.Source) _ x e in
+    let l = bind_ok (ok_or (below POSITIONS (pos r.original_line +ℤ c)) kind.OriginalLine) _ x s.2 in
+    let o = bind_ok (ok_or (below POSITIONS (pos r.original_column +ℤ d)) kind.OriginalColumn) _ x l.2 in
+    let n = bind_ok named _ x o.2 in
+    let name = is n.0 n.1 in
+    let source = told bounds.sources r.source b kind.Source s.0 s.1 in
+    let line = told POSITIONS r.original_line c kind.OriginalLine l.0 l.1 in
+    let column = told POSITIONS r.original_column d kind.OriginalColumn o.0 o.1 in
+    let numbers : b ∷ c ∷ d ∷ ns ≡ difference r.source s.0 ∷ difference r.original_line l.0
+    ∷ difference r.original_column o.0 ∷ name_from r.name n.0.1 = let ns_is = name.1 in cc in
+    subst (OriginalTold r (b ∷ c ∷ d ∷ ns)) (good_is (told_as r s.0 l.0 o.0 n.0) x n.2)
+    (record { after = rw name.0 refl; numbers = numbers })
 
 original_told : (bounds : Bounds) (r : Running) (first : ℤ) (ns : List ℤ) → AreFields (first ∷ ns)
     → (x : Running × Option Original) → original_step bounds r (fields_of (first ∷ ns)) ≡ good x
@@ -82,22 +88,14 @@ original_told : (bounds : Bounds) (r : Running) (first : ℤ) (ns : List ℤ) �
 original_told bounds r first ns (one_field a) x e =
     subst (OriginalTold r []) (good_is (r, None) x e) (record { after = refl; numbers = refl })
 original_told bounds r first ns (four_fields a b c d) x e =
-    let s = bind_ok (ok_or (below bounds.sources (pos r.source +ℤ b)) kind.Source) _ x e in
-    let l = bind_ok (ok_or (below POSITIONS (pos r.original_line +ℤ c)) kind.OriginalLine) _ x s.2 in
-    let o = bind_ok (ok_or (below POSITIONS (pos r.original_column +ℤ d)) kind.OriginalColumn) _ x l.2 in
-    subst (OriginalTold r (b ∷ c ∷ d ∷ [])) (good_is (told_as r s.0 l.0 o.0 (r.name, None)) x o.2)
-    (numbers_there bounds r b c d s.0 l.0 o.0 s.1 l.1 o.1 (r.name, None) [] refl refl)
+    numbers_there bounds r b c d [] (good (r.name, None))
+    (λ name is. subst (NameTold r.name []) (good_is (r.name, None) name is) (refl, refl)) x e
 original_told bounds r first ns (five_fields a b c d f) x e =
-    let s = bind_ok (ok_or (below bounds.sources (pos r.source +ℤ b)) kind.Source) _ x e in
-    let l = bind_ok (ok_or (below POSITIONS (pos r.original_line +ℤ c)) kind.OriginalLine) _ x s.2 in
-    let o = bind_ok (ok_or (below POSITIONS (pos r.original_column +ℤ d)) kind.OriginalColumn) _ x l.2 in
-    let m = bind_ok (name_step bounds r.name (fields_of (a ∷ b ∷ c ∷ d ∷ f ∷ []))) _ x o.2 in
-    let n = bind_ok (ok_or (below bounds.names (pos r.name +ℤ f)) kind.Name) _ m.0 m.1 in
-    let name = good_is (n.0, Some n.0) m.0 n.2 in
-    subst (OriginalTold r (b ∷ c ∷ d ∷ f ∷ []))
-    (ap (told_as r s.0 l.0 o.0) name ∙ good_is (told_as r s.0 l.0 o.0 m.0) x m.2)
-    (numbers_there bounds r b c d s.0 l.0 o.0 s.1 l.1 o.1 (n.0, Some n.0) (f ∷ []) refl
-    (ap (λ (k : ℤ). k ∷ []) (told bounds.names r.name f kind.Name n.0 n.1)))
+    numbers_there bounds r b c d (f ∷ []) (name_step bounds r.name (fields_of (a ∷ b ∷ c ∷ d ∷ f ∷ [])))
+    (λ name is.
+    let n = bind_ok (ok_or (below bounds.names (pos r.name +ℤ f)) kind.Name) _ name is in
+    subst (NameTold r.name (f ∷ [])) (good_is (n.0, Some n.0) name n.2)
+    (refl, ap (λ k. k ∷ []) (told bounds.names r.name f kind.Name n.0 n.1))) x e
 
 -- A segment on a line spells the differences to its token, and leaves its values.
 record SegmentTold (r : Running) (line : ℕ) (ns : List ℤ) (x : Running × Token) : Type 0 where
@@ -105,41 +103,23 @@ record SegmentTold (r : Running) (line : ℕ) (ns : List ℤ) (x : Running × To
   after : x.0 ≡ running_after r x.1
   numbers : ns ≡ numbers_from r x.1
 
--- with a start at column 0 a column is where the text says
 column_same : (bounds : Bounds) (line : ℕ) (z : ℤ) (x : ℕ × ℕ) → bounds.start_column ≡ 0
     → column_step bounds line z ≡ Some x → x.1 ≡ x.0
-column_same bounds line z x start e = same z e
+column_same bounds line (pos column) x start e =
+    let at : ℕ = (placed bounds line column).column in
+    same (below POSITIONS (pos at)) column x
+    (λ m is. number_is POSITIONS at m is ∙ placed_same bounds line column start) e
   where
-    at_zero : (column : ℕ) (t : Bool) → cond t (bounds.start_column + column) column ≡ column
-    at_zero column true = omega arith
-    at_zero column false = refl
-
-    pair_is : (p q : ℕ × ℕ) → Some p ≡ Some q → p ≡ q
-    pair_is p q e = cc
-
-    by_placed : (column : ℕ) (o : Option ℕ) → ((m : ℕ) → o ≡ Some m → m ≡ column)
+    same : (o : Option ℕ) (column : ℕ) (x : ℕ × ℕ) → ((m : ℕ) → o ≡ Some m → m ≡ column)
         → option_map (λ (placed : ℕ). (column, placed)) o ≡ Some x → x.1 ≡ x.0
-    by_placed column None is e = absurd cc
-    by_placed column (Some m) is e = let p = pair_is (column, m) x e in
-        sym (ap (λ (q : ℕ × ℕ). q.1) p) ∙ is m refl ∙ ap (λ (q : ℕ × ℕ). q.0) p
-
-    number_is : (m n : ℕ) → pos m ≡ pos n → n ≡ m
-    number_is m n e = cc
-
-    same : (z : ℤ) → column_step bounds line z ≡ Some x → x.1 ≡ x.0
-    same (pos column) e =
-        by_placed column (below POSITIONS (pos (placed bounds line column).column))
-        (λ m is. number_is (placed bounds line column).column m
-        (below_is POSITIONS (pos (placed bounds line column).column) m is) ∙ placed-column bounds line column
-        ∙ at_zero column (eqb line 0)) e
-    same (negsuc column) e = absurd cc
+    same o column x is e = grind (arith, is)
+column_same bounds line (negsuc column) x start e = absurd cc
 
 line_told : (bounds : Bounds) (line : ℕ) (k : SegmentKind) (l : ℕ) → bounds.start_line ≡ 0
     → ok_or (below bounds.lines (pos (bounds.start_line + line))) k ≡ good l → l ≡ line
 line_told bounds line k l start e =
-    let is : pos (bounds.start_line + line) ≡ pos l = below_is bounds.lines (pos (bounds.start_line + line)) l
-    (some_is (below bounds.lines (pos (bounds.start_line + line))) k l e) in
-    omega (arith, ints)
+    let z : ℕ = bounds.start_line + line in
+    omega (arith, start, number_is bounds.lines z l (some_is (below bounds.lines (pos z)) k l e))
 
 abbrev step_told : ℕ → ℕ × ℕ → Running × Option Original → Running × Token
 step_told line column rest =
@@ -149,16 +129,14 @@ segment_there : (r : Running) (line : ℕ) (first : ℤ) (ns : List ℤ) (l : �
     (rest : Running × Option Original) → l ≡ line → column.1 ≡ column.0
     → pos r.column +ℤ first ≡ pos column.0 → OriginalTold r ns rest
     → SegmentTold r line (first ∷ ns) (step_told l column rest)
-segment_there r line first ns l column rest line_is same sum h =
-    let number : first ≡ difference r.column column.1 =
-    difference_is r.column column.1 first (sum ∙ ap pos (sym same)) in
-    record {
-      line_is = line_is;
-      after = ap (λ (n : ℕ). record rest.0 { column = n }) (sym same)
-          ∙ ap (λ (s : Running). record s { column = column.1 }) h.after ∙ column_kept r column.1 rest.1;
-      numbers =
-          ap (λ (n : ℤ). n ∷ ns) number ∙ ap (λ (ms : List ℤ). difference r.column column.1 ∷ ms) h.numbers;
-    }
+segment_there r line first ns l column rest line_is same sum h = record {
+  line_is = line_is;
+  after = rw (← same, h.after) (column_kept r column.1 rest.1);
+  numbers =
+      let number = difference_is r.column column.1 first (sum ∙ ap pos (sym same)) in
+      let others = h.numbers in
+      cc;
+}
 
 token_told : (bounds : Bounds) (r : Running) (line : ℕ) (first : ℤ) (ns : List ℤ)
     → bounds.start_line ≡ 0 → bounds.start_column ≡ 0 → AreFields (first ∷ ns) → (x : Running × Token)
@@ -214,45 +192,49 @@ step_of : (step : Result (Running × Token) SegmentKind) (said : Result (Segment
     → said ≡ good y
     → (x : Running × Token) × (step ≡ good x) × (y.1 ≡ x.1) × Sums x.0 (before ++ y.0 ∷ []) line
 step_of (Ok x) said before line y h e =
-    let same : h.0 ≡ y = good_is h.0 y (sym h.1 ∙ e) in (
-      x,
-      refl,
-      subst (λ (z : Segment × Token). z.1 ≡ x.1) same h.2,
-      subst (λ (z : Segment × Token). Sums x.0 (before ++ z.0 ∷ []) line) same h.3,
-    )
+    let same : h.0 ≡ y = good_is h.0 y (sym h.1 ∙ e) in
+    rw (← same) (x, refl, h.2, h.3)
 step_of (Err k) said before line y h e = absurd cc
 
 -- ---- all segments
+
+-- a segment, and what is after it
+one_more : (lines : ℕ) (s : SegmentText) (ss : List SegmentText) (r : Running) (t : Token) (ts : List Token)
+    → t.line ≡ s.line → IsOrIsLonger s.text (segment_from (at_line r lines s.line) t)
+    → IsOrIsLonger (joined (s.line + 1) ss)
+    (text_from (running_after (at_line r lines s.line) t) (s.line + 1) ts)
+    → IsOrIsLonger (joined lines (s ∷ ss)) (text_from r lines (t ∷ ts))
+one_more lines s ss r t ts same least after =
+    let old : Running = at_line r lines s.line in
+    let rest : List ℕ = text_from (running_after old t) (s.line + 1) ts in
+    subst (λ line. IsOrIsLonger (joined lines (s ∷ ss)) (separator lines line
+    ++ (segment_from (at_line r lines line) t
+    ++ text_from (running_after (at_line r lines line) t) (line + 1) ts))) (sym same)
+    (put_after (separator lines s.line) (separator lines s.line) (s.text ++ joined (s.line + 1) ss)
+    (segment_from old t ++ rest) (inl refl)
+    (put_after s.text (segment_from old t) (joined (s.line + 1) ss) rest least after))
 
 joined_least : (bounds : Bounds) (r : Running) (lines : ℕ) (before : List Segment) (ss : List SegmentText)
     (ts : List Token) → bounds.start_line ≡ 0 → bounds.start_column ≡ 0
     → SegmentsRise lines ss → Stand r before lines → tokens_after bounds before ss ≡ good ts
     → IsOrIsLonger (joined lines ss) (text_from r lines ts)
 joined_least bounds r lines before [] ts line_start column_start rise stand e =
-    subst (λ (us : List Token). IsOrIsLonger [] (text_from r lines us)) (good_is [] ts e) (inl refl)
+    rw (← good_is [] ts e) (inl refl)
 joined_least bounds r lines before (s ∷ ss) ts line_start column_start rise stand e =
     let old : Running = at_line r lines s.line in
     let read = bind_ok (at_place s (read_in bounds before s)) _ ts e in
-    let rest = bind_ok (tokens_after bounds (before ++ read.0.0 ∷ []) ss) _ ts read.2 in
+    let more : List Segment = before ++ read.0.0 ∷ [] in
+    let rest = bind_ok (tokens_after bounds more ss) _ ts read.2 in
     let step = step_of (judge_step bounds old s.line s.text) (read_in bounds before s) before
     s.line read.0 (reads bounds old before s.line s.index s.text (stand s.line rise.0))
     (at_place_ok s (read_in bounds before s) read.0 read.1) in
-    let t : TextTold old s.line s.text step.0 =
-    text_told bounds old s.line s.text line_start column_start step.0 step.1 in
+    let t = text_told bounds old s.line s.text line_start column_start step.0 step.1 in
     let new : Running = running_after old step.0.1 in
-    let after : IsOrIsLonger (joined (s.line + 1) ss) (text_from new (s.line + 1) rest.0)
-    = joined_least bounds new (s.line + 1) (before ++ read.0.0 ∷ []) ss rest.0 line_start
-    column_start rise.1 (stands_after new (before ++ read.0.0 ∷ []) s.line
-    (subst (λ (v : Running). Sums v (before ++ read.0.0 ∷ []) s.line) t.after step.3)) rest.1 in
-    subst (λ (us : List Token). IsOrIsLonger (joined lines (s ∷ ss)) (text_from r lines us))
-    (ap (λ (u : Token). u ∷ rest.0) (sym step.2) ∙ good_is (read.0.1 ∷ rest.0) ts rest.2)
-    (subst (λ (line : ℕ). IsOrIsLonger (joined lines (s ∷ ss))
-    (separator lines line ++ (segment_from (at_line r lines line) step.0.1
-    ++ text_from (running_after (at_line r lines line) step.0.1) (line + 1) rest.0))) (sym t.line_is)
-    (put_after (separator lines s.line) (separator lines s.line) (s.text ++ joined (s.line + 1) ss)
-    (segment_from old step.0.1 ++ text_from new (s.line + 1) rest.0) (inl refl)
-    (put_after s.text (segment_from old step.0.1) (joined (s.line + 1) ss)
-    (text_from new (s.line + 1) rest.0) t.least after)))
+    let after = joined_least bounds new (s.line + 1) more ss rest.0 line_start column_start rise.1
+    (stands_after new more s.line (subst (λ v. Sums v more s.line) t.after step.3)) rest.1 in
+    subst (λ us. IsOrIsLonger (joined lines (s ∷ ss)) (text_from r lines us))
+    (ap (λ u. u ∷ rest.0) (sym step.2) ∙ good_is (read.0.1 ∷ rest.0) ts rest.2)
+    (one_more lines s ss r step.0.1 rest.0 t.line_is t.least after)
 
 -- semicolons after it only lengthen a text
 semicolons_after : (count : ℕ) (text least : List ℕ) → IsOrIsLonger text least
@@ -268,9 +250,7 @@ text_is_least bounds tokens are = (text_says bounds tokens are, λ text e. least
   where
     least : (text : List ℕ) → tokens_after bounds [] (segments_of text) ≡ good tokens
         → IsJoined 0 text (segments_of text) → IsOrIsLonger text (mappings_text tokens)
-    least text e j =
-        subst (IsOrIsLonger text) (sym (mappings_text-from tokens are.encodable))
-        (subst (λ (t : List ℕ). IsOrIsLonger t (text_from at_start 0 tokens)) (sym j.whole)
+    least text e j = rw (mappings_text-from tokens are.encodable, j.whole)
         (semicolons_after j.last_lines (joined 0 (segments_of text)) (text_from at_start 0 tokens)
         (joined_least bounds at_start 0 [] (segments_of text) tokens are.line_start are.column_start j.rise
-        stands_first e)))
+        stands_first e))
