@@ -8,20 +8,6 @@ use Rattle.smap_mappings.specs.Position.{is_before, position_of, NeverFalls}
 use Rattle.smap_mappings.specs.Steps.{in_order}
 use Rattle.smap_mappings.proofs.ArrangementLemmas.{before}
 
--- None of the first tokens lies before the one in front of it.
-abbrev pub InOrderBelow : List Token → ℕ → Type 0
-InOrderBelow ts n = (j k : ℕ) (d : Token) → j ≡ k + 1 → j < n → before (get_or ts j d) (get_or ts k d) ≡ false
-
-pub never_falls_below : (ts : List Token) (n : ℕ) → length ts ≤ n → InOrderBelow ts n
-    → NeverFalls (map position_of ts)
-never_falls_below [] n le h = tt
-never_falls_below (t ∷ []) n le h = tt
-never_falls_below (t ∷ u ∷ us) zero le h = absurd (omega arith)
-never_falls_below (t ∷ u ∷ us) (suc n) le h = (
-  h 1 0 t (omega arith) (omega arith),
-  never_falls_below (u ∷ us) n (omega arith) (λ j k d e lt. h (suc j) (suc k) d (omega arith) (omega arith)),
-)
-
 pub one_falls : (ts : List Token) (j k : ℕ) (d : Token) → j ≡ suc k → j < length ts
     → before (get_or ts j d) (get_or ts k d) ≡ true → NeverFalls (map position_of ts) → ⊥
 one_falls [] j k d is lt e h = absurd (omega arith)

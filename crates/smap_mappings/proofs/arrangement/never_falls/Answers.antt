@@ -1,7 +1,7 @@
 use Rattle.std.proofs.Common.{◌≡◌, true, ◌-◌, arith, refl, None, get_or, rules}
 use Rattle.smap_mappings.specs.declared.token.Token.{Token}
-use Rattle.smap_mappings.proofs.ArrangementLemmas.{before}
-use Rattle.smap_mappings.proofs.OrderLemmas.{never_falls_below, one_falls}
+use Rattle.smap_mappings.proofs.ArrangementLemmas.{before, never_falls_below}
+use Rattle.smap_mappings.proofs.OrderLemmas.{one_falls}
 use Rattle.smap_mappings.proofs.arrangement.never_falls.Goals as goal
 
 abbrev no_token : Token
