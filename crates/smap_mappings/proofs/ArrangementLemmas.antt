@@ -1,6 +1,6 @@
 -- A sorted list in which ties keep their order is the arrangement.
-use Rattle.std.proofs.Common.{◌≡◌, ℕ, zero, suc, ◌+◌, ◌<◌, ◌≤◌, true, false, cond, List, [], ◌∷◌, length, get_or}
-use Rattle.std.proofs.Common.{Bool, map, filter, refl, sym, ap, ◌∙◌, arith, None}
+use Rattle.std.proofs.Common.{◌≡◌, ℕ, zero, suc, ◌+◌, ◌<◌, ◌≤◌, true, false, cond, List, [], ◌∷◌, length}
+use Rattle.std.proofs.Common.{get_or, Bool, map, filter, refl, sym, ap, ◌∙◌, arith, None}
 use Rattle.std.specs.Cmp.{IsStrictWeakOrder}
 use Rattle.std.specs.List.Sorted.{IsSortedBy, IsStableBy, ties}
 use Rattle.std.proofs.lemmas.Bool.{cond_both}
@@ -24,6 +24,10 @@ before_order = record {
 
     chain : (x y z : Token) → before x y ≡ false → before y z ≡ false → before x z ≡ false
     chain x y z p q = grind (arith, nat_tests)
+
+-- stands for what is read past the end of a list
+abbrev pub no_token : Token
+no_token = record { line = 0; column = 0; original = None }
 
 abbrev AreInOrder : List Token → Type 0
 AreInOrder ts = NeverFalls (map position_of ts)
@@ -146,7 +150,8 @@ ties_at x t = grind (arith, nat_tests)
 pub arranged_is : (ts sorted : List Token) → IsSortedBy before sorted → IsStableBy before ts sorted
     → sorted ≡ arranged ts
 arranged_is ts sorted up stable = one_arrangement ts sorted (record {
-  in_order = never_falls_below sorted (length sorted) (omega arith) (λ j k d e lt. rw e (up k d (omega arith) (omega arith)));
+  in_order = never_falls_below sorted (length sorted) (omega arith)
+      (λ j k d e lt. rw e (up k d (omega arith) (omega arith)));
   same = λ line column.
       let x : Token = record { line = line; column = column; original = None } in
       sym (filter_agree (ties before x) (is_at line column) (ties_at x) sorted) ∙ stable x

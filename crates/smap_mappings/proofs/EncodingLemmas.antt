@@ -1,11 +1,11 @@
 -- A loop that writes the text of tokens.
-use Rattle.std.proofs.Common.{◌≡◌, ℕ, ◌+◌, ◌<◌, ◌≤◌, Bool, false, eqb, List, [], ◌∷◌}
-use Rattle.std.proofs.Common.{◌++◌, length, take, drop, map, filter, refl, ap, ◌∙◌, arith}
-use Rattle.std.proofs.Common.{append_assoc, Option, None, Some}
+use Rattle.std.proofs.Common.{◌≡◌, ℕ, ◌+◌, ◌<◌, ◌≤◌, Bool, false, eqb, List, [], ◌∷◌, ◌++◌, length, take}
+use Rattle.std.proofs.Common.{drop, map, filter, refl, ap, ◌∙◌, arith, append_assoc, Option, None, Some}
+use Rattle.std.proofs.Common.{rules}
 use Rattle.std.specs.Prelude.{unwrap_or, IfSome}
 use Rattle.std.proofs.lemmas.Bool.Decides.{nat_tests}
 use Rattle.smap_mappings.specs.Position.{POSITIONS, NeverFalls, is_before, position_of}
-use Rattle.std.specs.List.{AllByRecursion, filter_map}
+use Rattle.std.specs.List.{AllByRecursion, filter_map, cons_option}
 use Rattle.std.proofs.lemmas.Bool.{eq-eqb, ne_eqb, eqb-true, eqb-false, cond_both}
 use Rattle.std.proofs.lemmas.List.{append-nil, map-append, take-append-le, take-append-drop}
 use Rattle.std.proofs.Math.Seq.{take-length}
@@ -13,13 +13,12 @@ use Rattle.std.proofs.lemmas.List.Elements.{filter-append, filter_map-append}
 use Rattle.smap_mappings.specs.declared.token.Token.{Token}
 use Rattle.smap_mappings.specs.declared.token.Original.{Original}
 use Rattle.smap_mappings.specs.declared.running.Running.{Running}
-use Rattle.std.specs.List.{cons_option}
 use Rattle.smap_mappings.specs.Text.{last_or, original_differences, segment_text, original_before}
 use Rattle.smap_mappings.specs.Text.{column_before, no_original, line_count, mappings_text, IsPlaced}
 use Rattle.smap_mappings.specs.Text.{IsOriginal, IsEncodable}
 use Rattle.smap_mappings.specs.Feeding.{Remembers, Encoded}
-use Rattle.smap_mappings.specs.Writing.{original_from, segment_from, running_after, original_after}
-use Rattle.smap_mappings.specs.Writing.{IsRunning, separator, at_line}
+use Rattle.smap_mappings.specs.Writing.{original_from, segment_from, running_after, original_after, IsRunning}
+use Rattle.smap_mappings.specs.Writing.{separator, at_line}
 use Rattle.smap_mappings.proofs.TextLemmas.{last_or-push, line_count-push, mappings_text-push}
 
 differences-from : (r : Running) (ts : List Token) (o : Option Original)
@@ -60,12 +59,7 @@ last_name r os (Some o) h = rw (filter_map-append (λ (p : Original). p.name) os
 
 Remembers-column : (r : Running) (ts : List Token) (n : ℕ)
     → Remembers r ts → Remembers (record r { column = n }) ts
-Remembers-column r ts n h = record {
-  source = h.source;
-  original_line = h.original_line;
-  original_column = h.original_column;
-  name = h.name;
-}
+Remembers-column r ts n h = search rules
 
 Remembers-push : (r : Running) (ts : List Token) (t : Token)
     → Remembers r ts → Remembers (running_after r t) (ts ++ t ∷ [])
@@ -133,29 +127,17 @@ still_below [] n m t le lt all = (lt, tt)
 still_below (u ∷ us) n m t le lt all = ((let h = all.0 in omega arith), still_below us n m t le lt all.1)
 
 column_running : (r : Running) (n : ℕ) → n < POSITIONS → IsRunning r → IsRunning (record r { column = n })
-column_running r n lt h = record {
-  column = lt;
-  source = h.source;
-  original_line = h.original_line;
-  original_column = h.original_column;
-  name = h.name;
-}
+column_running r n lt h = search rules
+
+name_running : (last : ℕ) (n : Option ℕ) → last < POSITIONS → IfSome n (λ m. m < POSITIONS)
+    → unwrap_or n last < POSITIONS
+name_running last None lt h = lt
+name_running last (Some n) lt h = h
 
 original_running : (r : Running) (o : Option Original) → IsRunning r → IfSome o IsOriginal
     → IsRunning (original_after r o)
 original_running r None h k = h
-original_running r (Some o) h k = record {
-  column = h.column;
-  source = k.source;
-  original_line = k.line;
-  original_column = k.column;
-  name = by_name r.name o.name h.name k.name;
-}
-  where
-    by_name : (last : ℕ) (n : Option ℕ) → last < POSITIONS → IfSome n (λ m. m < POSITIONS)
-        → unwrap_or n last < POSITIONS
-    by_name last None lt k = lt
-    by_name last (Some n) lt k = k
+original_running r (Some o) h k = search (rules, name_running r.name o.name h.name k.name)
 
 pub IsRunning-after : (r : Running) (t : Token) → IsRunning r → IsPlaced t → IsRunning (running_after r t)
 IsRunning-after r t h p =

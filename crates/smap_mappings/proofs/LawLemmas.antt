@@ -17,13 +17,7 @@ tokens_are ts = Ok ts
 
 segments_there : (tokens : List Token) → IsEncodable tokens → AreSegments at_start 0 tokens
 segments_there [] h = tt
-segments_there (t ∷ ts) h = are_segments at_start 0 t ts (omega arith) (record {
-  column = omega arith;
-  source = omega arith;
-  original_line = omega arith;
-  original_column = omega arith;
-  name = omega arith;
-}) h
+segments_there (t ∷ ts) h = are_segments at_start 0 t ts (omega arith) (search (rules, arith)) h
 
 -- The tokens of the text, in its order, are these.
 pub text_says : (bounds : Bounds) (tokens : List Token) → AreFor bounds tokens

@@ -1,7 +1,7 @@
 -- No text with the same tokens in its order is shorter than the canonical one.
-use Rattle.std.proofs.Common.{◌≡◌, ℕ, zero, suc, ◌+◌, inl, inr, List, [], ◌∷◌}
-use Rattle.std.proofs.Common.{◌++◌, length, replicate, Option, Some, None, Result, Ok, Err, ℤ, pos, negsuc}
-use Rattle.std.proofs.Common.{◌+ℤ◌, refl, sym, ap, subst, ◌∙◌, arith}
+use Rattle.std.proofs.Common.{◌≡◌, ℕ, zero, suc, ◌+◌, inl, inr, List, [], ◌∷◌, ◌++◌, length, replicate}
+use Rattle.std.proofs.Common.{Option, Some, None, Result, Ok, Err, ℤ, pos, negsuc, ◌+ℤ◌, refl, sym, ap, subst}
+use Rattle.std.proofs.Common.{◌∙◌, arith}
 use Rattle.std.specs.Prelude.{flat_map, ok_or, option_map, unwrap_or}
 use Rattle.std.proofs.lemmas.Int.{ints}
 use Rattle.std.proofs.lemmas.List.{append-nil, length-append}
@@ -20,15 +20,14 @@ use Rattle.smap_mappings.specs.Lines.{SegmentText, segments_of}
 use Rattle.smap_mappings.specs.Position.{POSITIONS}
 use Rattle.smap_mappings.specs.Tokens.{Segment, below, placed, at_place, read_in, tokens_after}
 use Rattle.smap_mappings.specs.Steps.{Sums, name_step, original_step, column_step, token_step, fields_or_kind}
-use Rattle.smap_mappings.specs.Steps.{judge_step}
+use Rattle.smap_mappings.specs.Steps.{judge_step, at_start}
 use Rattle.smap_mappings.specs.Text.{difference, mappings_text}
-use Rattle.smap_mappings.specs.Writing.{name_from, original_from, segment_from, original_after}
-use Rattle.smap_mappings.specs.Writing.{running_after, separator, at_line}
+use Rattle.smap_mappings.specs.Writing.{name_from, original_from, segment_from, original_after, running_after}
+use Rattle.smap_mappings.specs.Writing.{separator, at_line}
 use Rattle.smap_mappings.specs.Laws.{TextIsLeast}
 use Rattle.smap_mappings.proofs.StepsLemmas.{AreFields, one_field, four_fields, five_fields, below_is}
 use Rattle.smap_mappings.proofs.StepsLemmas.{column_is, segment_fields, StepAgrees, reads}
-use Rattle.smap_mappings.proofs.DecodedLemmas.{good, bind_ok, good_is, some_is, at_place_ok, number_is}
-use Rattle.smap_mappings.specs.Steps.{at_start}
+use Rattle.smap_mappings.proofs.DecodedLemmas.{good, bind_ok, taken, good_is, at_place_ok, number_is}
 use Rattle.smap_mappings.proofs.RunningTextLemmas.{numbers_from, text_from, mappings_text-from}
 use Rattle.smap_mappings.proofs.ReadBackLemmas.{Stand, stands_after, stands_first, column_kept, placed_same}
 use Rattle.smap_mappings.proofs.SeparatorLemmas.{joined, SegmentsRise, IsJoined, text_joined}
@@ -45,10 +44,8 @@ record OriginalTold (r : Running) (ns : List ℤ) (x : Running × Option Origina
   numbers : ns ≡ original_from r x.1
 
 -- a number that is told, by the one before it
-told : (limit old : ℕ) (n : ℤ) (k : SegmentKind) (new : ℕ) → ok_or (below limit (pos old +ℤ n)) k ≡ good new
-    → n ≡ difference old new
-told limit old n k new e =
-    difference_is old new n (below_is limit (pos old +ℤ n) new (some_is (below limit (pos old +ℤ n)) k new e))
+told : (limit old : ℕ) (n : ℤ) (new : ℕ) → below limit (pos old +ℤ n) ≡ Some new → n ≡ difference old new
+told limit old n new e = difference_is old new n (below_is limit (pos old +ℤ n) new e)
 
 abbrev told_as : Running → ℕ → ℕ → ℕ → ℕ × Option ℕ → Running × Option Original
 told_as r source line column name = (
@@ -69,14 +66,14 @@ numbers_there : (bounds : Bounds) (r : Running) (b c d : ℤ) (ns : List ℤ)
     named >>= λ name. good (told_as r source line column name)) ≡ good x
     → OriginalTold r (b ∷ c ∷ d ∷ ns) x
 numbers_there bounds r b c d ns named is x e =
-    let s = bind_ok (ok_or (below bounds.sources (pos r.source +ℤ b)) kind.Source) _ x e in
-    let l = bind_ok (ok_or (below POSITIONS (pos r.original_line +ℤ c)) kind.OriginalLine) _ x s.2 in
-    let o = bind_ok (ok_or (below POSITIONS (pos r.original_column +ℤ d)) kind.OriginalColumn) _ x l.2 in
+    let s = taken (below bounds.sources (pos r.source +ℤ b)) kind.Source _ x e in
+    let l = taken (below POSITIONS (pos r.original_line +ℤ c)) kind.OriginalLine _ x s.2 in
+    let o = taken (below POSITIONS (pos r.original_column +ℤ d)) kind.OriginalColumn _ x l.2 in
     let n = bind_ok named _ x o.2 in
     let name = is n.0 n.1 in
-    let source = told bounds.sources r.source b kind.Source s.0 s.1 in
-    let line = told POSITIONS r.original_line c kind.OriginalLine l.0 l.1 in
-    let column = told POSITIONS r.original_column d kind.OriginalColumn o.0 o.1 in
+    let source = told bounds.sources r.source b s.0 s.1 in
+    let line = told POSITIONS r.original_line c l.0 l.1 in
+    let column = told POSITIONS r.original_column d o.0 o.1 in
     let numbers : b ∷ c ∷ d ∷ ns ≡ difference r.source s.0 ∷ difference r.original_line l.0
     ∷ difference r.original_column o.0 ∷ name_from r.name n.0.1 = let ns_is = name.1 in cc in
     subst (OriginalTold r (b ∷ c ∷ d ∷ ns)) (good_is (told_as r s.0 l.0 o.0 n.0) x n.2)
@@ -93,9 +90,9 @@ original_told bounds r first ns (four_fields a b c d) x e =
 original_told bounds r first ns (five_fields a b c d f) x e =
     numbers_there bounds r b c d (f ∷ []) (name_step bounds r.name (fields_of (a ∷ b ∷ c ∷ d ∷ f ∷ [])))
     (λ name is.
-    let n = bind_ok (ok_or (below bounds.names (pos r.name +ℤ f)) kind.Name) _ name is in
+    let n = taken (below bounds.names (pos r.name +ℤ f)) kind.Name _ name is in
     subst (NameTold r.name (f ∷ [])) (good_is (n.0, Some n.0) name n.2)
-    (refl, ap (λ k. k ∷ []) (told bounds.names r.name f kind.Name n.0 n.1))) x e
+    (refl, ap (λ k. k ∷ []) (told bounds.names r.name f n.0 n.1))) x e
 
 -- A segment on a line spells the differences to its token, and leaves its values.
 record SegmentTold (r : Running) (line : ℕ) (ns : List ℤ) (x : Running × Token) : Type 0 where
@@ -115,11 +112,10 @@ column_same bounds line (pos column) x start e =
     same o column x is e = grind (arith, is)
 column_same bounds line (negsuc column) x start e = absurd cc
 
-line_told : (bounds : Bounds) (line : ℕ) (k : SegmentKind) (l : ℕ) → bounds.start_line ≡ 0
-    → ok_or (below bounds.lines (pos (bounds.start_line + line))) k ≡ good l → l ≡ line
-line_told bounds line k l start e =
-    let z : ℕ = bounds.start_line + line in
-    omega (arith, start, number_is bounds.lines z l (some_is (below bounds.lines (pos z)) k l e))
+line_told : (bounds : Bounds) (line l : ℕ) → bounds.start_line ≡ 0
+    → below bounds.lines (pos (bounds.start_line + line)) ≡ Some l → l ≡ line
+line_told bounds line l start e =
+    omega (arith, start, number_is bounds.lines (bounds.start_line + line) l e)
 
 abbrev step_told : ℕ → ℕ × ℕ → Running × Option Original → Running × Token
 step_told line column rest =
@@ -143,13 +139,12 @@ token_told : (bounds : Bounds) (r : Running) (line : ℕ) (first : ℤ) (ns : Li
     → token_step bounds r line (fields_of (first ∷ ns)) ≡ good x → SegmentTold r line (first ∷ ns) x
 token_told bounds r line first ns line_start column_start are x e =
     let z : ℤ = pos r.column +ℤ first in
-    let l = bind_ok (ok_or (below bounds.lines (pos (bounds.start_line + line))) kind.GeneratedLine) _ x e in
-    let c = bind_ok (ok_or (column_step bounds line z) kind.Column) _ x l.2 in
+    let l = taken (below bounds.lines (pos (bounds.start_line + line))) kind.GeneratedLine _ x e in
+    let c = taken (column_step bounds line z) kind.Column _ x l.2 in
     let o = bind_ok (original_step bounds r (fields_of (first ∷ ns))) _ x c.2 in
-    let column = some_is (column_step bounds line z) kind.Column c.0 c.1 in
     subst (SegmentTold r line (first ∷ ns)) (good_is (step_told l.0 c.0 o.0) x o.2)
-    (segment_there r line first ns l.0 c.0 o.0 (line_told bounds line kind.GeneratedLine l.0 line_start l.1)
-    (column_same bounds line z c.0 column_start column) (column_is bounds line z c.0 column)
+    (segment_there r line first ns l.0 c.0 o.0 (line_told bounds line l.0 line_start l.1)
+    (column_same bounds line z c.0 column_start c.1) (column_is bounds line z c.0 c.1)
     (original_told bounds r first ns are o.0 o.1))
 
 -- ---- one segment

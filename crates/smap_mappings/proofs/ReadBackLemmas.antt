@@ -1,6 +1,6 @@
 -- The segments of tokens, read one after another.
-use Rattle.std.proofs.Common.{◌≡◌, ℕ, ◌+◌, ◌<◌, ◌≤◌, eqb, List, [], ◌∷◌, ◌++◌}
-use Rattle.std.proofs.Common.{Option, Some, None, Result, Ok, ℤ, pos, ◌+ℤ◌, refl, subst, arith}
+use Rattle.std.proofs.Common.{◌≡◌, ℕ, ◌+◌, ◌<◌, ◌≤◌, eqb, List, [], ◌∷◌, ◌++◌, Option, Some, None, Result, Ok}
+use Rattle.std.proofs.Common.{ℤ, pos, ◌+ℤ◌, refl, subst, arith}
 use Rattle.std.specs.Prelude.{IfSome, unwrap_or}
 use Rattle.std.specs.List.{AllByRecursion}
 use Rattle.std.proofs.lemmas.Bool.{cond_both, eqb-true, eqb-false, ne_eqb, lt-ltb}
@@ -12,18 +12,16 @@ use Rattle.smap_mappings.specs.declared.token.Original.{Original}
 use Rattle.smap_mappings.specs.declared.running.Running.{Running}
 use Rattle.smap_mappings.specs.declared.error.SegmentKind.{SegmentKind}
 use Rattle.smap_mappings.specs.Lines.{SegmentText}
-use Rattle.smap_mappings.specs.Tokens.{Segment, Fault, below, placed, read_in}
-use Rattle.smap_mappings.specs.Tokens.{tokens_after}
-use Rattle.smap_mappings.specs.Steps.{Sums, text_at, original_step, column_step, token_step}
-use Rattle.smap_mappings.specs.Steps.{judge_step, name_step}
+use Rattle.smap_mappings.specs.Tokens.{Segment, Fault, below, placed, read_in, tokens_after}
+use Rattle.smap_mappings.specs.Steps.{Sums, text_at, original_step, column_step, token_step, judge_step}
+use Rattle.smap_mappings.specs.Steps.{name_step, at_start}
 use Rattle.smap_mappings.specs.Position.{POSITIONS}
 use Rattle.smap_mappings.specs.Text.{IsPlaced, IsOriginal, difference}
-use Rattle.smap_mappings.specs.Writing.{original_from, name_from, segment_from, original_after}
-use Rattle.smap_mappings.specs.Writing.{running_after, at_line}
+use Rattle.smap_mappings.specs.Writing.{original_from, name_from, segment_from, original_after, running_after}
+use Rattle.smap_mappings.specs.Writing.{at_line}
 use Rattle.smap_mappings.specs.Decoded.{IsWithin}
 use Rattle.smap_mappings.proofs.StepsLemmas.{StepAgrees, reads, placed-column}
 use Rattle.smap_mappings.proofs.ScanLemmas.{Sums-none, Sums-on}
-use Rattle.smap_mappings.specs.Steps.{at_start}
 use Rattle.smap_mappings.proofs.RunningTextLemmas.{numbers_from, before_token, after_token, texts_from}
 use Rattle.smap_mappings.proofs.RunningTextLemmas.{index_on, IsSegment, AreSegments}
 

@@ -1,11 +1,7 @@
-use Rattle.std.proofs.Common.{◌≡◌, true, ◌-◌, arith, refl, None, get_or, rules}
-use Rattle.smap_mappings.specs.declared.token.Token.{Token}
-use Rattle.smap_mappings.proofs.ArrangementLemmas.{before, never_falls_below}
+use Rattle.std.proofs.Common.{◌≡◌, true, ◌-◌, arith, refl, get_or, rules}
+use Rattle.smap_mappings.proofs.ArrangementLemmas.{before, never_falls_below, no_token}
 use Rattle.smap_mappings.proofs.OrderLemmas.{one_falls}
 use Rattle.smap_mappings.proofs.arrangement.never_falls.Goals as goal
-
-abbrev no_token : Token
-no_token = record { line = 0; column = 0; original = None }
 
 pub returns-then-lt : goal.returns-then-lt
 returns-then-lt c =

@@ -1,6 +1,5 @@
 use Rattle.std.proofs.Common.{◌≡◌, ◌∙◌, ◌++◌, ◌∷◌, ◌+◌, [], List, ℕ, ap, sym, subst, refl, arith, take}
-use Rattle.std.proofs.Common.{length}
-use Rattle.std.proofs.Common.{drop}
+use Rattle.std.proofs.Common.{length, drop}
 use Rattle.smap_mappings.specs.declared.running.Running.{Running}
 use Rattle.smap_mappings.specs.Writing.{segment_from, running_after, separator, at_line}
 use Rattle.smap_mappings.specs.Feeding.{Encoded}
