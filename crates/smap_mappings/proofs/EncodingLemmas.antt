@@ -80,13 +80,7 @@ Remembers-push r ts t h =
 pub starts : (out : List ℕ) (r : Running) → out ≡ [] → r
     ≡ record { column = 0; source = 0; original_line = 0; original_column = 0; name = 0 } → Encoded [] out r 0
 unfolding mappings_text
-starts out r none zeros = rw (none, zeros) (record {
-  text = refl;
-  lines_are = refl;
-  lines_below = tt;
-  column = λ line e. absurd (omega arith);
-  remembers = record { source = refl; original_line = refl; original_column = refl; name = refl };
-})
+starts out r none zeros = rw (none, zeros) (search (rules, arith))
 
 pub is_before-line : (x t : Token) → is_before (position_of t) (position_of x) ≡ false → x.line ≤ t.line
 is_before-line x t e = grind (arith, nat_tests)
@@ -103,8 +97,6 @@ placed_last [] t h = h.0
 placed_last (x ∷ xs) t h = placed_last xs t h.1
 
 -- the first ones of tokens that have a text have one
-
-
 never_falls_front : (xs ys : List Token) → NeverFalls (map position_of (xs ++ ys))
     → NeverFalls (map position_of xs)
 never_falls_front [] ys h = tt
@@ -158,7 +150,8 @@ on_next : (ts : List Token) (r : Running) (lines line : ℕ) → AllByRecursion 
 on_next ts r lines line below le column h =
     cond_both (eqb lines (line + 1)) r (record r { column = 0 })
     (λ s. (column_before ts line ≡ s.column) × Remembers s ts) (λ e. (column (eqb-true _ _ e), h))
-    (λ e. (column_before-none ts lines line below (omega (arith, eqb-false _ _ e)), Remembers-column r ts 0 h))
+    (λ e.
+    (column_before-none ts lines line below (omega (arith, eqb-false _ _ e)), Remembers-column r ts 0 h))
 
 -- a token more
 pub goes_on : (ts : List Token) (out next : List ℕ) (r : Running) (lines : ℕ) (t : Token)

@@ -1,7 +1,6 @@
 -- The law of mappings texts.
-use Rattle.std.proofs.Common.{refl, Some, None, List, [], ◌∷◌, Result, Ok, arith, rules}
+use Rattle.std.proofs.Common.{refl, Some, None, List, [], ◌∷◌, arith, rules}
 use Rattle.smap_mappings.specs.declared.token.Token.{Token}
-use Rattle.smap_mappings.specs.Tokens.{Fault}
 use Rattle.smap_mappings.specs.Decoded.{decoded}
 use Rattle.smap_mappings.specs.Text.{IsEncodable, mappings_text}
 use Rattle.smap_mappings.specs.declared.token.Bounds.{Bounds}
@@ -12,10 +11,7 @@ use Rattle.smap_mappings.proofs.RunningTextLemmas.{segments_from}
 use Rattle.smap_mappings.proofs.ArrangementLemmas.{arranged-in_order}
 use Rattle.smap_mappings.proofs.ReadBackLemmas.{tokens_again, stands_first}
 
-abbrev tokens_are : List Token → Result (List Token) Fault
-tokens_are ts = Ok ts
-
-segments_there : (tokens : List Token) → IsEncodable tokens → AreSegments at_start 0 tokens
+pub segments_there : (tokens : List Token) → IsEncodable tokens → AreSegments at_start 0 tokens
 segments_there [] h = tt
 segments_there (t ∷ ts) h = are_segments at_start 0 t ts (omega arith) (search (rules, arith)) h
 

@@ -7,7 +7,7 @@ use Rattle.std.proofs.lemmas.Int.{ints}
 use Rattle.std.proofs.lemmas.List.{append-nil, length-append}
 use Rattle.smap_vlq.specs.declared.segment.SegmentFault.{SegmentFault}
 use Rattle.smap_vlq.specs.Number.{◌>>=◌, spelling}
-use Rattle.smap_vlq.specs.Segment.{SpellsAll, segment_of, fields_of}
+use Rattle.smap_vlq.specs.Segment.{segment_of, fields_of}
 use Rattle.smap_vlq.proofs.SegmentLawLemmas.{segment_is_spelled}
 use Rattle.smap_vlq.proofs.LeastLemmas.{IsOrIsLonger, put_after, spellings_least}
 use Rattle.smap_mappings.specs.declared.token.Bounds.{Bounds}
@@ -21,7 +21,7 @@ use Rattle.smap_mappings.specs.Position.{POSITIONS}
 use Rattle.smap_mappings.specs.Tokens.{Segment, below, placed, at_place, read_in, tokens_after}
 use Rattle.smap_mappings.specs.Steps.{Sums, name_step, original_step, column_step, token_step, fields_or_kind}
 use Rattle.smap_mappings.specs.Steps.{judge_step, at_start}
-use Rattle.smap_mappings.specs.Text.{difference, mappings_text}
+use Rattle.smap_mappings.specs.Text.{difference}
 use Rattle.smap_mappings.specs.Writing.{name_from, original_from, segment_from, original_after, running_after}
 use Rattle.smap_mappings.specs.Writing.{separator, at_line}
 use Rattle.smap_mappings.specs.Laws.{TextIsLeast}
@@ -30,7 +30,7 @@ use Rattle.smap_mappings.proofs.StepsLemmas.{column_is, segment_fields, StepAgre
 use Rattle.smap_mappings.proofs.DecodedLemmas.{good, bind_ok, taken, good_is, at_place_ok, number_is}
 use Rattle.smap_mappings.proofs.RunningTextLemmas.{numbers_from, text_from, mappings_text-from}
 use Rattle.smap_mappings.proofs.ReadBackLemmas.{Stand, stands_after, stands_first, column_kept, placed_same}
-use Rattle.smap_mappings.proofs.SeparatorLemmas.{joined, SegmentsRise, IsJoined, text_joined}
+use Rattle.smap_mappings.proofs.SeparatorLemmas.{joined, SegmentsRise, text_joined}
 use Rattle.smap_mappings.proofs.LawLemmas.{text_says}
 
 -- ---- the numbers of a segment that gives a token
@@ -86,7 +86,7 @@ original_told bounds r first ns (one_field a) x e =
     subst (OriginalTold r []) (good_is (r, None) x e) (record { after = refl; numbers = refl })
 original_told bounds r first ns (four_fields a b c d) x e =
     numbers_there bounds r b c d [] (good (r.name, None))
-    (λ name is. subst (NameTold r.name []) (good_is (r.name, None) name is) (refl, refl)) x e
+    (λ name is. rw (← good_is (r.name, None) name is) (refl, refl)) x e
 original_told bounds r first ns (five_fields a b c d f) x e =
     numbers_there bounds r b c d (f ∷ []) (name_step bounds r.name (fields_of (a ∷ b ∷ c ∷ d ∷ f ∷ [])))
     (λ name is.
@@ -155,20 +155,6 @@ record TextTold (r : Running) (line : ℕ) (text : List ℕ) (x : Running × Tok
   after : x.0 ≡ running_after r x.1
   least : IsOrIsLonger text (segment_from r x.1)
 
-numbers_told : (bounds : Bounds) (r : Running) (line : ℕ) (text : List ℕ) (ns : List ℤ)
-    → bounds.start_line ≡ 0 → bounds.start_column ≡ 0 → AreFields ns → SpellsAll text ns
-    → (x : Running × Token)
-    → token_step bounds r line (fields_of ns) ≡ good x → TextTold r line text x
-numbers_told bounds r line text [] line_start column_start are spelled x e = elim are [ ]
-numbers_told bounds r line text (n ∷ ns) line_start column_start are spelled x e =
-    let t = token_told bounds r line n ns line_start column_start are x e in
-    record {
-      line_is = t.line_is;
-      after = t.after;
-      least = subst (λ (ms : List ℤ). IsOrIsLonger text (flat_map spelling ms)) t.numbers
-          (spellings_least text (n ∷ ns) spelled);
-    }
-
 text_told : (bounds : Bounds) (r : Running) (line : ℕ) (text : List ℕ) → bounds.start_line ≡ 0
     → bounds.start_column ≡ 0 → (x : Running × Token) → judge_step bounds r line text ≡ good x
     → TextTold r line text x
@@ -177,8 +163,16 @@ text_told bounds r line text line_start column_start x e = by_numbers (segment_o
     by_numbers : (ns : Result (List ℤ) SegmentFault) → segment_of text ≡ ns
         → (fields_or_kind (ns >>= λ ms. Ok (fields_of ms)) >>= λ fields. token_step bounds r line fields)
         ≡ good x → TextTold r line text x
-    by_numbers (Ok ns) is e = numbers_told bounds r line text ns line_start column_start
-        (segment_fields text ns is) ((segment_is_spelled text ns).0 is).0 x e
+    by_numbers (Ok []) is e = elim (segment_fields text [] is) [ ]
+    by_numbers (Ok (n ∷ ns)) is e =
+        let are = segment_fields text (n ∷ ns) is in
+        let t = token_told bounds r line n ns line_start column_start are x e in
+        record {
+          line_is = t.line_is;
+          after = t.after;
+          least = subst (λ (ms : List ℤ). IsOrIsLonger text (flat_map spelling ms)) t.numbers
+              (spellings_least text (n ∷ ns) ((segment_is_spelled text (n ∷ ns)).0 is).0);
+        }
     by_numbers (Err f) is e = absurd cc
 
 -- What was read is what the step said.
@@ -241,11 +235,9 @@ semicolons_after (suc count) text least (inr lt) =
     inr (omega (arith, length-append text (replicate (suc count) 59)))
 
 pub text_is_least : TextIsLeast
-text_is_least bounds tokens are = (text_says bounds tokens are, λ text e. least text e (text_joined text))
-  where
-    least : (text : List ℕ) → tokens_after bounds [] (segments_of text) ≡ good tokens
-        → IsJoined 0 text (segments_of text) → IsOrIsLonger text (mappings_text tokens)
-    least text e j = rw (mappings_text-from tokens are.encodable, j.whole)
-        (semicolons_after j.last_lines (joined 0 (segments_of text)) (text_from at_start 0 tokens)
-        (joined_least bounds at_start 0 [] (segments_of text) tokens are.line_start are.column_start j.rise
-        stands_first e))
+text_is_least bounds tokens are = (text_says bounds tokens are, λ text e.
+    let j = text_joined text in
+    rw (mappings_text-from tokens are.encodable, j.whole)
+    (semicolons_after j.last_lines (joined 0 (segments_of text)) (text_from at_start 0 tokens)
+    (joined_least bounds at_start 0 [] (segments_of text) tokens are.line_start are.column_start j.rise
+    stands_first e)))

@@ -9,13 +9,12 @@ use Rattle.smap_vlq.proofs.SpelledLemmas.{spelling-length}
 use Rattle.smap_mappings.specs.declared.token.Token.{Token}
 use Rattle.smap_mappings.specs.declared.token.Original.{Original}
 use Rattle.smap_mappings.specs.declared.running.Running.{Running}
-use Rattle.smap_mappings.specs.Position.{NeverFalls, position_of}
 use Rattle.smap_mappings.specs.Text.{IsEncodable, last_or, line_count, mappings_text}
 use Rattle.smap_mappings.specs.Writing.{original_from, segment_from, separator}
-use Rattle.smap_mappings.proofs.EncodingLemmas.{is_before-line}
 use Rattle.smap_mappings.specs.Steps.{at_start}
-use Rattle.smap_mappings.proofs.RunningTextLemmas.{before_token, after_token, text_from, numbers_from}
-use Rattle.smap_mappings.proofs.RunningTextLemmas.{mappings_text-from}
+use Rattle.smap_mappings.proofs.RunningTextLemmas.{AreSegments, before_token, after_token, text_from}
+use Rattle.smap_mappings.proofs.RunningTextLemmas.{numbers_from, mappings_text-from}
+use Rattle.smap_mappings.proofs.LawLemmas.{segments_there}
 
 spellings_length : (ns : List ℤ) → length (flat_map spelling ns) ≤ 7 * length ns
 spellings_length [] = omega arith
@@ -38,28 +37,14 @@ separator_length lines line le =
 abbrev lines_after : ℕ → List Token → ℕ
 lines_after lines ts = last_or lines (map (λ t. t.line + 1) ts)
 
-abbrev LinesRise : ℕ → List Token → Type 0
-LinesRise lines [] = Unit {0}
-LinesRise lines (t ∷ ts) = (lines ≤ t.line + 1) × LinesRise (t.line + 1) ts
-
-lines_rise : (lines : ℕ) (t : Token) (ts : List Token) → lines ≤ t.line + 1
-    → NeverFalls (map position_of (t ∷ ts)) → LinesRise lines (t ∷ ts)
-lines_rise lines t [] le h = (le, tt)
-lines_rise lines t (u ∷ us) le h =
-    (le, lines_rise (t.line + 1) u us (let k = is_before-line t u h.0 in omega arith) h.1)
-
-all_rise : (ts : List Token) → NeverFalls (map position_of ts) → LinesRise 0 ts
-all_rise [] h = tt
-all_rise (t ∷ ts) h = lines_rise 0 t ts (omega arith) h
-
-text_length : (r : Running) (lines : ℕ) (ts : List Token) → LinesRise lines ts
+text_length : (r : Running) (lines : ℕ) (ts : List Token) → AreSegments r lines ts
     → length (text_from r lines ts) + lines ≤ 36 * length ts + lines_after lines ts
 text_length r lines [] h = omega arith
 text_length r lines (t ∷ ts) h =
     let front : List ℕ = separator lines t.line in
     let text : List ℕ = segment_from (before_token r lines t) t in
     let rest : List ℕ = text_from (after_token r lines t) (t.line + 1) ts in
-    let more = text_length (after_token r lines t) (t.line + 1) ts h.1 in
+    let more = text_length (after_token r lines t) (t.line + 1) ts h.2 in
     omega (
       arith,
       length-append front (text ++ rest),
@@ -75,5 +60,5 @@ pub length_bound : (tokens : List Token) → IsEncodable tokens
 length_bound tokens h = omega (
   arith,
   ap length (mappings_text-from tokens h),
-  text_length at_start 0 tokens (all_rise tokens h.0),
+  text_length at_start 0 tokens (segments_there tokens h),
 )

@@ -133,10 +133,12 @@ put_together lines line index current (b ∷ bs) at =
     by_byte below after on =
         let text : List ℕ = separator lines line ++ (current ++ b ∷ bs) in
         cond_both (eqb b 59) (ending line index current ++ walk (line + 1) 0 [] bs) _ (IsJoined lines text)
-        (λ e. rw (eqb-true b 59 e) (at_semicolon lines line index current at bs (walk (line + 1) 0 [] bs) below))
+        (λ e. rw (eqb-true b 59 e)
+        (at_semicolon lines line index current at bs (walk (line + 1) 0 [] bs) below))
         (λ _. cond_both (eqb b 44) (text_at line index current ∷ walk line (index + 1) [] bs)
         (walk line index (current ++ b ∷ []) bs) (IsJoined lines text)
-        (λ e. rw (eqb-true b 44 e) (at_comma lines line index current at bs (walk line (index + 1) [] bs) after))
+        (λ e. rw (eqb-true b 44 e)
+        (at_comma lines line index current at bs (walk line (index + 1) [] bs) after))
         (λ _. rw (← append_assoc current (b ∷ []) bs) on))
 
 -- Each text is its segments, put together, and semicolons.
