@@ -14,10 +14,7 @@ abbrev pub before : Token → Token → Bool
 before a b = is_before (position_of a) (position_of b)
 
 pub before_order : IsStrictWeakOrder before
-before_order = record {
-  one_way = λ x y e. one_way x y e;
-  chain = λ x y z p q. chain x y z p q;
-}
+before_order = record { one_way = one_way; chain = chain }
   where
     one_way : (x y : Token) → before x y ≡ true → before y x ≡ false
     one_way x y e = grind (arith, nat_tests)

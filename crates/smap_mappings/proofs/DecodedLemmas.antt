@@ -109,9 +109,10 @@ column_parts : (bounds : Bounds) (line l : ℕ) (z : ℤ) (c : ℕ) → l ≡ bo
     → column_in bounds line z ≡ Some c
     → (c < POSITIONS) × (is_before (record { line = l; column = c }) (start_of bounds) ≡ false)
 column_parts bounds line l (pos own) c is e =
-    let at : ℕ = (placed bounds line own).column in
-    (below_limit POSITIONS (pos at) c e,
-    after_start bounds line own l c is (number_is POSITIONS at c e ∙ placed-column bounds line own))
+    let at : ℕ = (placed bounds line own).column in (
+      below_limit POSITIONS (pos at) c e,
+      after_start bounds line own l c is (number_is POSITIONS at c e ∙ placed-column bounds line own),
+    )
 column_parts bounds line l (negsuc m) c is e = absurd cc
 
 token_parts : (bounds : Bounds) (before : List Segment) (s : Segment) (t : Token)
@@ -173,9 +174,10 @@ module _ (bounds : Bounds) where
   all_read before (text ∷ texts) ts e =
       let x = bind_ok (at_place text (read_in bounds before text)) _ ts e in
       let r = bind_ok (tokens_after bounds (before ++ x.0.0 ∷ []) texts) _ ts x.2 in
-      rw (← good_is (x.0.1 ∷ r.0) ts r.2)
-      (one_read before text x.0 (at_place_ok text (read_in bounds before text) x.0 x.1),
-      all_read (before ++ x.0.0 ∷ []) texts r.0 r.1)
+      rw (← good_is (x.0.1 ∷ r.0) ts r.2) (
+        one_read before text x.0 (at_place_ok text (read_in bounds before text) x.0 x.1),
+        all_read (before ++ x.0.0 ∷ []) texts r.0 r.1,
+      )
 
 module _ (P : Token → Type 0) where
   all_inserted : (t : Token) (us : List Token) → P t → AllByRecursion P us

@@ -46,9 +46,4 @@ tokens_there =
     { line = 1; column = 0; original = Some (record { source = 0; line = 2; column = 9; name = None }) } ∷ []
 
 some_are_for : AreFor bounds_there tokens_there
-some_are_for = record {
-  line_start = refl;
-  column_start = refl;
-  encodable = search (rules, arith);
-  within = search (rules, arith);
-}
+some_are_for = search (rules, arith)

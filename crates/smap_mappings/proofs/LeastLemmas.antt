@@ -1,12 +1,13 @@
 -- No text with the same tokens in its order is shorter than the canonical one.
-use Rattle.std.proofs.Common.{◌≡◌, ℕ, zero, suc, ◌+◌, inl, inr, List, [], ◌∷◌, ◌++◌, length, replicate}
-use Rattle.std.proofs.Common.{Option, Some, None, Result, Ok, Err, ℤ, pos, negsuc, ◌+ℤ◌, refl, sym, ap, subst}
-use Rattle.std.proofs.Common.{◌∙◌, arith}
-use Rattle.std.specs.Prelude.{flat_map, ok_or, option_map, unwrap_or}
+use Rattle.std.proofs.Common.{false, eqb, ◌≡◌, ℕ, zero, suc, ◌+◌, inl, inr, List, [], ◌∷◌, ◌++◌, length}
+use Rattle.std.proofs.Common.{replicate, Option, Some, None, Result, Ok, Err, ℤ, pos, negsuc, ◌+ℤ◌, refl, sym}
+use Rattle.std.proofs.Common.{ap, subst, ◌∙◌, arith}
+use Rattle.std.specs.Prelude.{flat_map, option_map, unwrap_or}
 use Rattle.std.proofs.lemmas.Int.{ints}
 use Rattle.std.proofs.lemmas.List.{append-nil, length-append}
 use Rattle.smap_vlq.specs.declared.segment.SegmentFault.{SegmentFault}
 use Rattle.smap_vlq.specs.Number.{◌>>=◌, spelling}
+use Rattle.smap_vlq.specs.declared.segment.Fields.{Fields}
 use Rattle.smap_vlq.specs.Segment.{segment_of, fields_of}
 use Rattle.smap_vlq.proofs.SegmentLawLemmas.{segment_is_spelled}
 use Rattle.smap_vlq.proofs.LeastLemmas.{IsOrIsLonger, put_after, spellings_least}
@@ -19,8 +20,8 @@ use Rattle.smap_mappings.specs.declared.error.SegmentKind.TheVariants as kind
 use Rattle.smap_mappings.specs.Lines.{SegmentText, segments_of}
 use Rattle.smap_mappings.specs.Position.{POSITIONS}
 use Rattle.smap_mappings.specs.Tokens.{Segment, below, placed, at_place, read_in, tokens_after}
-use Rattle.smap_mappings.specs.Steps.{Sums, name_step, original_step, column_step, token_step, fields_or_kind}
-use Rattle.smap_mappings.specs.Steps.{judge_step, at_start}
+use Rattle.smap_mappings.specs.Steps.{field, Sums, name_step, original_step, column_step, token_step}
+use Rattle.smap_mappings.specs.Steps.{fields_or_kind, judge_step, at_start}
 use Rattle.smap_mappings.specs.Text.{difference}
 use Rattle.smap_mappings.specs.Writing.{name_from, original_from, segment_from, original_after, running_after}
 use Rattle.smap_mappings.specs.Writing.{separator, at_line}
@@ -57,19 +58,18 @@ told_as r source line column name = (
 abbrev NameTold : ℕ → List ℤ → ℕ × Option ℕ → Type 0
 NameTold last ns name = (name.0 ≡ unwrap_or name.1 last) × (ns ≡ name_from last name.1)
 
-numbers_there : (bounds : Bounds) (r : Running) (b c d : ℤ) (ns : List ℤ)
-    (named : Result (ℕ × Option ℕ) SegmentKind)
-    → ((name : ℕ × Option ℕ) → named ≡ good name → NameTold r.name ns name) → (x : Running × Option Original)
-    → (ok_or (below bounds.sources (pos r.source +ℤ b)) kind.Source >>= λ source.
-    ok_or (below POSITIONS (pos r.original_line +ℤ c)) kind.OriginalLine >>= λ line.
-    ok_or (below POSITIONS (pos r.original_column +ℤ d)) kind.OriginalColumn >>= λ column.
-    named >>= λ name. good (told_as r source line column name)) ≡ good x
-    → OriginalTold r (b ∷ c ∷ d ∷ ns) x
-numbers_there bounds r b c d ns named is x e =
-    let s = taken (below bounds.sources (pos r.source +ℤ b)) kind.Source _ x e in
+numbers_there : (bounds : Bounds) (r : Running) (fields : Fields) (ns : List ℤ) → eqb fields.count 1 ≡ false
+    → ((name : ℕ × Option ℕ) → name_step bounds r.name fields ≡ good name → NameTold r.name ns name)
+    → (x : Running × Option Original) → original_step bounds r fields ≡ good x
+    → OriginalTold r (field fields 1 ∷ field fields 2 ∷ field fields 3 ∷ ns) x
+numbers_there bounds r fields ns several is x e =
+    let b : ℤ = field fields 1 in
+    let c : ℤ = field fields 2 in
+    let d : ℤ = field fields 3 in
+    let s = taken (below bounds.sources (pos r.source +ℤ b)) kind.Source _ x (rw several at e) in
     let l = taken (below POSITIONS (pos r.original_line +ℤ c)) kind.OriginalLine _ x s.2 in
     let o = taken (below POSITIONS (pos r.original_column +ℤ d)) kind.OriginalColumn _ x l.2 in
-    let n = bind_ok named _ x o.2 in
+    let n = bind_ok (name_step bounds r.name fields) _ x o.2 in
     let name = is n.0 n.1 in
     let source = told bounds.sources r.source b s.0 s.1 in
     let line = told POSITIONS r.original_line c l.0 l.1 in
@@ -85,11 +85,10 @@ original_told : (bounds : Bounds) (r : Running) (first : ℤ) (ns : List ℤ) �
 original_told bounds r first ns (one_field a) x e =
     subst (OriginalTold r []) (good_is (r, None) x e) (record { after = refl; numbers = refl })
 original_told bounds r first ns (four_fields a b c d) x e =
-    numbers_there bounds r b c d [] (good (r.name, None))
+    numbers_there bounds r (fields_of (a ∷ b ∷ c ∷ d ∷ [])) [] refl
     (λ name is. rw (← good_is (r.name, None) name is) (refl, refl)) x e
 original_told bounds r first ns (five_fields a b c d f) x e =
-    numbers_there bounds r b c d (f ∷ []) (name_step bounds r.name (fields_of (a ∷ b ∷ c ∷ d ∷ f ∷ [])))
-    (λ name is.
+    numbers_there bounds r (fields_of (a ∷ b ∷ c ∷ d ∷ f ∷ [])) (f ∷ []) refl (λ name is.
     let n = taken (below bounds.names (pos r.name +ℤ f)) kind.Name _ name is in
     subst (NameTold r.name (f ∷ [])) (good_is (n.0, Some n.0) name n.2)
     (refl, ap (λ k. k ∷ []) (told bounds.names r.name f n.0 n.1))) x e
@@ -235,9 +234,12 @@ semicolons_after (suc count) text least (inr lt) =
     inr (omega (arith, length-append text (replicate (suc count) 59)))
 
 pub text_is_least : TextIsLeast
-text_is_least bounds tokens are = (text_says bounds tokens are, λ text e.
-    let j = text_joined text in
-    rw (mappings_text-from tokens are.encodable, j.whole)
-    (semicolons_after j.last_lines (joined 0 (segments_of text)) (text_from at_start 0 tokens)
-    (joined_least bounds at_start 0 [] (segments_of text) tokens are.line_start are.column_start j.rise
-    stands_first e)))
+text_is_least bounds tokens are = (
+  text_says bounds tokens are,
+  λ text e.
+      let j = text_joined text in
+      rw (mappings_text-from tokens are.encodable, j.whole)
+      (semicolons_after j.last_lines (joined 0 (segments_of text)) (text_from at_start 0 tokens)
+      (joined_least bounds at_start 0 [] (segments_of text) tokens are.line_start are.column_start j.rise
+      stands_first e)),
+)

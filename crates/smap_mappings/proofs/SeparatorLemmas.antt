@@ -52,8 +52,12 @@ separator-empty : (lines line : ℕ) (rest : List ℕ)
 separator-empty lines line rest le =
     let count : ℕ = line + 1 - max lines 1 in
     let more : line + 1 + 1 - max lines 1 ≡ line + 1 - max lines 1 + 1 = omega arith in
-    rw (separator-further lines (line + 1) (omega arith), separator-further lines line le, more,
-    ← replicate_more {X = ℕ} count 59) (append_assoc (semicolons count) (59 ∷ []) rest)
+    rw (
+      separator-further lines (line + 1) (omega arith),
+      separator-further lines line le,
+      more,
+      ← replicate_more {X = ℕ} count 59,
+    ) (append_assoc (semicolons count) (59 ∷ []) rest)
 
 -- ---- byte by byte
 
@@ -74,11 +78,7 @@ module _ (lines line index : ℕ) (current : List ℕ) (at : StandsAt lines line
   one_more rest segments h = record {
     rise = (rises, h.rise);
     last_lines = h.last_lines;
-    whole =
-        let after : List ℕ = joined (line + 1) segments in
-        let end : List ℕ = semicolons h.last_lines in
-        rw (h.whole, append_assoc (separator lines line) (current ++ after) end,
-        append_assoc current after end) refl;
+    whole = rw h.whole (simp append_assoc refl);
   }
 
   at_end : IsJoined lines (separator lines line ++ (current ++ [])) (ending line index current)
