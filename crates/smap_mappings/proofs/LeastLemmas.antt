@@ -8,7 +8,7 @@ use Rattle.std.proofs.lemmas.List.{append-nil, length-append}
 use Rattle.smap_vlq.specs.declared.segment.SegmentFault.{SegmentFault}
 use Rattle.smap_vlq.specs.Number.{◌>>=◌, spelling}
 use Rattle.smap_vlq.specs.declared.segment.Fields.{Fields}
-use Rattle.smap_vlq.specs.Segment.{segment_of, fields_of}
+use Rattle.smap_vlq.specs.Segment.{SpellsAll, segment_of, fields_of}
 use Rattle.smap_vlq.proofs.SegmentLawLemmas.{segment_is_spelled}
 use Rattle.smap_vlq.proofs.LeastLemmas.{IsOrIsLonger, put_after, spellings_least}
 use Rattle.smap_mappings.specs.declared.token.Bounds.{Bounds}
@@ -29,7 +29,7 @@ use Rattle.smap_mappings.specs.Laws.{TextIsLeast}
 use Rattle.smap_mappings.proofs.StepsLemmas.{AreFields, one_field, four_fields, five_fields, below_is}
 use Rattle.smap_mappings.proofs.StepsLemmas.{column_is, segment_fields, StepAgrees, reads}
 use Rattle.smap_mappings.proofs.DecodedLemmas.{good, bind_ok, taken, good_is, at_place_ok, number_is}
-use Rattle.smap_mappings.proofs.RunningTextLemmas.{numbers_from, text_from, mappings_text-from}
+use Rattle.smap_mappings.proofs.RunningTextLemmas.{text_from, mappings_text-from}
 use Rattle.smap_mappings.proofs.ReadBackLemmas.{Stand, stands_after, stands_first, column_kept, placed_same}
 use Rattle.smap_mappings.proofs.SeparatorLemmas.{joined, SegmentsRise, text_joined}
 use Rattle.smap_mappings.proofs.LawLemmas.{text_says}
@@ -93,12 +93,6 @@ original_told bounds r first ns (five_fields a b c d f) x e =
     subst (NameTold r.name (f ∷ [])) (good_is (n.0, Some n.0) name n.2)
     (refl, ap (λ k. k ∷ []) (told bounds.names r.name f n.0 n.1))) x e
 
--- A segment on a line spells the differences to its token, and leaves its values.
-record SegmentTold (r : Running) (line : ℕ) (ns : List ℤ) (x : Running × Token) : Type 0 where
-  line_is : x.1.line ≡ line
-  after : x.0 ≡ running_after r x.1
-  numbers : ns ≡ numbers_from r x.1
-
 column_same : (bounds : Bounds) (line : ℕ) (z : ℤ) (x : ℕ × ℕ) → bounds.start_column ≡ 0
     → column_step bounds line z ≡ Some x → x.1 ≡ x.0
 column_same bounds line (pos column) x start e =
@@ -120,39 +114,42 @@ abbrev step_told : ℕ → ℕ × ℕ → Running × Option Original → Running
 step_told line column rest =
     (record rest.0 { column = column.0 }, record { line = line; column = column.1; original = rest.1 })
 
-segment_there : (r : Running) (line : ℕ) (first : ℤ) (ns : List ℤ) (l : ℕ) (column : ℕ × ℕ)
-    (rest : Running × Option Original) → l ≡ line → column.1 ≡ column.0
-    → pos r.column +ℤ first ≡ pos column.0 → OriginalTold r ns rest
-    → SegmentTold r line (first ∷ ns) (step_told l column rest)
-segment_there r line first ns l column rest line_is same sum h = record {
-  line_is = line_is;
-  after = rw (← same, h.after) (column_kept r column.1 rest.1);
-  numbers =
-      let number = difference_is r.column column.1 first (sum ∙ ap pos (sym same)) in
-      let others = h.numbers in
-      cc;
-}
-
-token_told : (bounds : Bounds) (r : Running) (line : ℕ) (first : ℤ) (ns : List ℤ)
-    → bounds.start_line ≡ 0 → bounds.start_column ≡ 0 → AreFields (first ∷ ns) → (x : Running × Token)
-    → token_step bounds r line (fields_of (first ∷ ns)) ≡ good x → SegmentTold r line (first ∷ ns) x
-token_told bounds r line first ns line_start column_start are x e =
-    let z : ℤ = pos r.column +ℤ first in
-    let l = taken (below bounds.lines (pos (bounds.start_line + line))) kind.GeneratedLine _ x e in
-    let c = taken (column_step bounds line z) kind.Column _ x l.2 in
-    let o = bind_ok (original_step bounds r (fields_of (first ∷ ns))) _ x c.2 in
-    subst (SegmentTold r line (first ∷ ns)) (good_is (step_told l.0 c.0 o.0) x o.2)
-    (segment_there r line first ns l.0 c.0 o.0 (line_told bounds line l.0 line_start l.1)
-    (column_same bounds line z c.0 column_start c.1) (column_is bounds line z c.0 c.1)
-    (original_told bounds r first ns are o.0 o.1))
-
--- ---- one segment
-
 -- A segment text gives a token and leaves these values.
 record TextTold (r : Running) (line : ℕ) (text : List ℕ) (x : Running × Token) : Type 0 where
   line_is : x.1.line ≡ line
   after : x.0 ≡ running_after r x.1
   least : IsOrIsLonger text (segment_from r x.1)
+
+segment_there : (r : Running) (line : ℕ) (text : List ℕ) (first : ℤ) (ns : List ℤ) (l : ℕ) (column : ℕ × ℕ)
+    (rest : Running × Option Original) → l ≡ line → column.1 ≡ column.0
+    → pos r.column +ℤ first ≡ pos column.0 → OriginalTold r ns rest → SpellsAll text (first ∷ ns)
+    → TextTold r line text (step_told l column rest)
+segment_there r line text first ns l column rest line_is same sum h spelled =
+    let number = difference_is r.column column.1 first (sum ∙ ap pos (sym same)) in
+    let others = h.numbers in
+    let numbers : first ∷ ns ≡ difference r.column column.1 ∷ original_from r rest.1 = cc in
+    record {
+      line_is = line_is;
+      after = rw (← same, h.after) (column_kept r column.1 rest.1);
+      least = subst (λ (ms : List ℤ). IsOrIsLonger text (flat_map spelling ms)) numbers
+          (spellings_least text (first ∷ ns) spelled);
+    }
+
+token_told : (bounds : Bounds) (r : Running) (line : ℕ) (text : List ℕ) (first : ℤ) (ns : List ℤ)
+    → bounds.start_line ≡ 0 → bounds.start_column ≡ 0 → AreFields (first ∷ ns) → SpellsAll text (first ∷ ns)
+    → (x : Running × Token)
+    → token_step bounds r line (fields_of (first ∷ ns)) ≡ good x → TextTold r line text x
+token_told bounds r line text first ns line_start column_start are spelled x e =
+    let z : ℤ = pos r.column +ℤ first in
+    let l = taken (below bounds.lines (pos (bounds.start_line + line))) kind.GeneratedLine _ x e in
+    let c = taken (column_step bounds line z) kind.Column _ x l.2 in
+    let o = bind_ok (original_step bounds r (fields_of (first ∷ ns))) _ x c.2 in
+    subst (TextTold r line text) (good_is (step_told l.0 c.0 o.0) x o.2)
+    (segment_there r line text first ns l.0 c.0 o.0 (line_told bounds line l.0 line_start l.1)
+    (column_same bounds line z c.0 column_start c.1) (column_is bounds line z c.0 c.1)
+    (original_told bounds r first ns are o.0 o.1) spelled)
+
+-- ---- one segment
 
 text_told : (bounds : Bounds) (r : Running) (line : ℕ) (text : List ℕ) → bounds.start_line ≡ 0
     → bounds.start_column ≡ 0 → (x : Running × Token) → judge_step bounds r line text ≡ good x
@@ -163,15 +160,8 @@ text_told bounds r line text line_start column_start x e = by_numbers (segment_o
         → (fields_or_kind (ns >>= λ ms. Ok (fields_of ms)) >>= λ fields. token_step bounds r line fields)
         ≡ good x → TextTold r line text x
     by_numbers (Ok []) is e = elim (segment_fields text [] is) [ ]
-    by_numbers (Ok (n ∷ ns)) is e =
-        let are = segment_fields text (n ∷ ns) is in
-        let t = token_told bounds r line n ns line_start column_start are x e in
-        record {
-          line_is = t.line_is;
-          after = t.after;
-          least = subst (λ (ms : List ℤ). IsOrIsLonger text (flat_map spelling ms)) t.numbers
-              (spellings_least text (n ∷ ns) ((segment_is_spelled text (n ∷ ns)).0 is).0);
-        }
+    by_numbers (Ok (n ∷ ns)) is e = token_told bounds r line text n ns line_start column_start
+        (segment_fields text (n ∷ ns) is) ((segment_is_spelled text (n ∷ ns)).0 is).0 x e
     by_numbers (Err f) is e = absurd cc
 
 -- What was read is what the step said.

@@ -13,7 +13,7 @@ use Rattle.smap_mappings.specs.declared.running.Running.{Running}
 use Rattle.smap_mappings.specs.declared.error.SegmentKind.{SegmentKind}
 use Rattle.smap_mappings.specs.Lines.{SegmentText}
 use Rattle.smap_mappings.specs.Tokens.{Segment, Fault, below, placed, read_in, tokens_after}
-use Rattle.smap_mappings.specs.Steps.{Sums, text_at, original_step, column_step, token_step, judge_step}
+use Rattle.smap_mappings.specs.Steps.{Sums, text_at, original_step, column_step, judge_step}
 use Rattle.smap_mappings.specs.Steps.{name_step, at_start}
 use Rattle.smap_mappings.specs.Position.{POSITIONS}
 use Rattle.smap_mappings.specs.Text.{IsPlaced, IsOriginal, difference}
@@ -22,7 +22,7 @@ use Rattle.smap_mappings.specs.Writing.{at_line}
 use Rattle.smap_mappings.specs.Decoded.{IsWithin}
 use Rattle.smap_mappings.proofs.StepsLemmas.{StepAgrees, reads, placed-column}
 use Rattle.smap_mappings.proofs.ScanLemmas.{Sums-none, Sums-on}
-use Rattle.smap_mappings.proofs.RunningTextLemmas.{numbers_from, before_token, after_token, texts_from}
+use Rattle.smap_mappings.proofs.RunningTextLemmas.{before_token, after_token, texts_from}
 use Rattle.smap_mappings.proofs.RunningTextLemmas.{index_on, IsSegment, AreSegments}
 
 -- ---- one segment
@@ -73,26 +73,20 @@ pub column_kept : (r : Running) (column : ℕ) (o : Option Original)
     → record (original_after r o) { column = column } ≡ original_after (record r { column = column }) o
 column_kept r column o = grind arith
 
--- The segment's numbers give the token, and the values after it.
-token_again : (bounds : Bounds) (r : Running) (t : Token) → bounds.start_line ≡ 0 → bounds.start_column ≡ 0
-    → IsPlaced t → IsWithin bounds t
-    → token_step bounds r t.line (fields_of (numbers_from r t)) ≡ both (running_after r t) t
-token_again bounds r t line_start column_start p w =
+-- The text of a token's segment gives the token, and the values after it.
+text_again : (bounds : Bounds) (r : Running) (t : Token) → bounds.start_line ≡ 0 → bounds.start_column ≡ 0
+    → IsPlaced t → IsWithin bounds t → IsSegment r t
+    → judge_step bounds r t.line (segment_from r t) ≡ both (running_after r t) t
+text_again bounds r t line_start column_start p w s =
     let line_is : bounds.start_line + t.line ≡ t.line = omega arith in
     rw (
+      s.numbers,
       line_is,
       below_is bounds.lines t.line w.line,
       column_again bounds t.line r.column t.column column_start p.column,
       original_again bounds r t.original p.original w.source w.name (difference r.column t.column),
       column_kept r t.column t.original,
     ) refl
-
--- so does its text
-text_again : (bounds : Bounds) (r : Running) (t : Token) → bounds.start_line ≡ 0 → bounds.start_column ≡ 0
-    → IsPlaced t → IsWithin bounds t → IsSegment r t
-    → judge_step bounds r t.line (segment_from r t) ≡ both (running_after r t) t
-text_again bounds r t line_start column_start p w s =
-    rw s.numbers (token_again bounds r t line_start column_start p w)
 
 -- ---- a further line
 

@@ -1,7 +1,7 @@
 -- A mappings text is its segments, put together with the separators that they need, and semicolons at its
 -- end.
-use Rattle.std.proofs.Common.{◌≡◌, ℕ, zero, suc, ◌+◌, ◌-◌, ◌<◌, ◌≤◌, ◌⊎◌, inl, inr, max, eqb, List, [], ◌∷◌}
-use Rattle.std.proofs.Common.{◌++◌, replicate, refl, ◌∙◌, arith, append_assoc}
+use Rattle.std.proofs.Common.{add-one, ◌≡◌, ℕ, zero, suc, ◌+◌, ◌-◌, ◌≤◌, ◌⊎◌, inl, inr, max, eqb, List}
+use Rattle.std.proofs.Common.{[], ◌∷◌, ◌++◌, replicate, refl, ◌∙◌, arith, append_assoc}
 use Rattle.std.proofs.lemmas.Bool.{cond_both, eq-eqb, ne_eqb, eqb-true}
 use Rattle.std.proofs.lemmas.List.{append-nil, replicate_more}
 use Rattle.smap_mappings.specs.Lines.{SegmentText, segments_of}
@@ -28,9 +28,13 @@ pub record IsJoined (lines : ℕ) (text : List ℕ) (segments : List SegmentText
   pub whole : text ≡ joined lines segments ++ replicate last_lines 59
 
 -- Segments stand on so many lines, in front of the segment with this index on a line.
-record StandsAt (lines line index : ℕ) : Type 0 where
-  first : index ≡ 0 → lines ≤ line
-  further : 0 < index → lines ≡ line + 1
+abbrev StandsAt : ℕ → ℕ → ℕ → Type 0
+StandsAt lines line zero = lines ≤ line
+StandsAt lines line (suc index) = lines ≡ line + 1
+
+rises : (lines line index : ℕ) → StandsAt lines line index → lines ≤ line + 1
+rises lines line zero at = omega arith
+rises lines line (suc index) at = omega arith
 
 -- ---- separators
 
@@ -62,33 +66,31 @@ separator-empty lines line rest le =
 -- ---- byte by byte
 
 -- a segment ends, or the line is empty
-ends : (line index : ℕ) (current : List ℕ) → (ending line index current ≡ text_at line index current ∷ [])
-    ⊎ ((ending line index current ≡ []) × (index ≡ 0) × (current ≡ []))
-ends line zero [] = inr (refl, refl, refl)
-ends line zero (b ∷ bs) = inl refl
-ends line (suc index) current = inl refl
+ends : (lines line index : ℕ) (current : List ℕ) → StandsAt lines line index
+    → (ending line index current ≡ text_at line index current ∷ [])
+    ⊎ ((ending line index current ≡ []) × (lines ≤ line) × (current ≡ []))
+ends lines line zero [] at = inr (refl, at, refl)
+ends lines line zero (b ∷ bs) at = inl refl
+ends lines line (suc index) current at = inl refl
 
 module _ (lines line index : ℕ) (current : List ℕ) (at : StandsAt lines line index) where
-  rises : lines ≤ line + 1
-  rises = grind (arith, at.first, at.further)
-
   -- a segment, and what is after it
   one_more : (rest : List ℕ) (segments : List SegmentText) → IsJoined (line + 1) rest segments
       → IsJoined lines (separator lines line ++ (current ++ rest)) (text_at line index current ∷ segments)
   one_more rest segments h = record {
-    rise = (rises, h.rise);
+    rise = (rises lines line index at, h.rise);
     last_lines = h.last_lines;
     whole = rw h.whole (simp append_assoc refl);
   }
 
   at_end : IsJoined lines (separator lines line ++ (current ++ [])) (ending line index current)
-  at_end = elim (ends line index current) [
+  at_end = elim (ends lines line index current at) [
     | inl some ↦ rw some (one_more [] [] (record { rise = tt; last_lines = 0; whole = refl }))
     | inr none ↦
         rw (none.0, none.2) (record {
           rise = tt;
           last_lines = line + 1 - max lines 1;
-          whole = append-nil (separator lines line) ∙ separator-further lines line (at.first none.1);
+          whole = append-nil (separator lines line) ∙ separator-further lines line none.1;
         })
   ]
 
@@ -102,26 +104,20 @@ module _ (lines line index : ℕ) (current : List ℕ) (at : StandsAt lines line
       → ((before : ℕ) → before ≤ line + 1 → IsJoined before (separator before (line + 1) ++ rest) segments)
       → IsJoined lines (separator lines line ++ (current ++ 59 ∷ rest))
       (ending line index current ++ segments)
-  at_semicolon rest segments h = elim (ends line index current) [
+  at_semicolon rest segments h = elim (ends lines line index current at) [
     | inl some ↦
         rw some (one_more (59 ∷ rest) segments (rw (separator-next line) at (h (line + 1) (omega arith))))
     | inr none ↦
-        let le = at.first none.1 in
+        let le = none.1 in
         rw (none.0, none.2, ← separator-empty lines line rest le) (h lines (omega arith))
   ]
-
-line_begins : (lines line : ℕ) → lines ≤ line → StandsAt lines line 0
-line_begins lines line le = record { first = λ e. le; further = λ lt. absurd (omega arith) }
-
-line_goes_on : (line index : ℕ) → StandsAt (line + 1) line (index + 1)
-line_goes_on line index = record { first = λ e. absurd (omega arith); further = λ lt. refl }
 
 put_together : (lines line index : ℕ) (current text : List ℕ) → StandsAt lines line index
     → IsJoined lines (separator lines line ++ (current ++ text)) (walk line index current text)
 put_together lines line index current [] at = at_end lines line index current at
 put_together lines line index current (b ∷ bs) at =
-    by_byte (λ before le. put_together before (line + 1) 0 [] bs (line_begins before (line + 1) le))
-    (put_together (line + 1) line (index + 1) [] bs (line_goes_on line index))
+    by_byte (λ before le. put_together before (line + 1) 0 [] bs le)
+    (put_together (line + 1) line (index + 1) [] bs (rw (add-one index) refl))
     (put_together lines line index (current ++ b ∷ []) bs at)
   where
     by_byte : ((before : ℕ) → before ≤ line + 1
@@ -144,4 +140,4 @@ put_together lines line index current (b ∷ bs) at =
 -- Each text is its segments, put together, and semicolons.
 pub text_joined : (text : List ℕ) → IsJoined 0 text (segments_of text)
 text_joined text =
-    rw (segments_of-walk text) (put_together 0 0 0 [] text (line_begins 0 0 (omega arith)))
+    rw (segments_of-walk text) (put_together 0 0 0 [] text (omega arith))
