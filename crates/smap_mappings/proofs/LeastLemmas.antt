@@ -3,6 +3,7 @@ use Rattle.std.proofs.Common.{false, eqb, ◌≡◌, ℕ, zero, suc, ◌+◌, in
 use Rattle.std.proofs.Common.{replicate, Option, Some, None, Result, Ok, Err, ℤ, pos, negsuc, ◌+ℤ◌, refl, sym}
 use Rattle.std.proofs.Common.{ap, subst, ◌∙◌, arith}
 use Rattle.std.specs.Prelude.{flat_map, option_map, unwrap_or}
+use Rattle.std.proofs.lemmas.Bool.{cond-false}
 use Rattle.std.proofs.lemmas.Int.{ints}
 use Rattle.std.proofs.lemmas.List.{append-nil, length-append}
 use Rattle.smap_vlq.specs.declared.segment.SegmentFault.{SegmentFault}
@@ -66,7 +67,8 @@ numbers_there bounds r fields ns several is x e =
     let b : ℤ = field fields 1 in
     let c : ℤ = field fields 2 in
     let d : ℤ = field fields 3 in
-    let s = taken (below bounds.sources (pos r.source +ℤ b)) kind.Source _ x (rw several at e) in
+    let s = taken (below bounds.sources (pos r.source +ℤ b)) kind.Source _ x
+    (sym (cond-false (eqb fields.count 1) (good (r, None)) _ several) ∙ e) in
     let l = taken (below POSITIONS (pos r.original_line +ℤ c)) kind.OriginalLine _ x s.2 in
     let o = taken (below POSITIONS (pos r.original_column +ℤ d)) kind.OriginalColumn _ x l.2 in
     let n = bind_ok (name_step bounds r.name fields) _ x o.2 in
