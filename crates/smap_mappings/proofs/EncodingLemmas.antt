@@ -13,21 +13,17 @@ use Rattle.std.proofs.lemmas.List.Elements.{filter-append, filter_map-append}
 use Rattle.smap_mappings.specs.declared.token.Token.{Token}
 use Rattle.smap_mappings.specs.declared.token.Original.{Original}
 use Rattle.smap_mappings.specs.declared.running.Running.{Running}
-use Rattle.smap_mappings.specs.Text.{last_or, original_differences, segment_text, original_before}
-use Rattle.smap_mappings.specs.Text.{column_before, no_original, line_count, mappings_text, IsPlaced}
-use Rattle.smap_mappings.specs.Text.{IsOriginal, IsEncodable}
+use Rattle.smap_mappings.specs.Text.{last_or, segment_text, original_before, column_before, no_original}
+use Rattle.smap_mappings.specs.Text.{line_count, mappings_text, IsPlaced, IsOriginal, IsEncodable}
 use Rattle.smap_mappings.specs.Feeding.{Remembers, Encoded}
-use Rattle.smap_mappings.specs.Writing.{original_from, segment_from, running_after, original_after, IsRunning}
-use Rattle.smap_mappings.specs.Writing.{separator, at_line}
+use Rattle.smap_mappings.specs.Writing.{segment_from, running_after, original_after, IsRunning, separator}
+use Rattle.smap_mappings.specs.Writing.{at_line}
 use Rattle.smap_mappings.proofs.TextLemmas.{last_or-push, line_count-push, mappings_text-push}
-
-differences-from : (r : Running) (ts : List Token) (o : Option Original)
-    → Remembers r ts → original_differences ts o ≡ original_from r o
-differences-from r ts o h = grind (arith, h.source, h.original_line, h.original_column, h.name)
 
 segment_text-from : (r : Running) (ts : List Token) (t : Token) → column_before ts t.line ≡ r.column
     → Remembers r ts → segment_text ts t ≡ segment_from r t
-segment_text-from r ts t c h = rw (c, differences-from r ts t.original h) refl
+segment_text-from r ts t c h =
+    grind (arith, c, h.source, h.original_line, h.original_column, h.name)
 
 column_before-push : (ts : List Token) (t : Token) → column_before (ts ++ t ∷ []) t.line ≡ t.column
 column_before-push ts t =
@@ -123,8 +119,7 @@ column_running r n lt h = search rules
 
 name_running : (last : ℕ) (n : Option ℕ) → last < POSITIONS → IfSome n (λ m. m < POSITIONS)
     → unwrap_or n last < POSITIONS
-name_running last None lt h = lt
-name_running last (Some n) lt h = h
+name_running last n lt h = grind arith
 
 original_running : (r : Running) (o : Option Original) → IsRunning r → IfSome o IsOriginal
     → IsRunning (original_after r o)

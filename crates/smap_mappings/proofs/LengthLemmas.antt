@@ -33,12 +33,8 @@ separator_length : (lines line : ℕ) → lines ≤ line + 1 → length (separat
 separator_length lines line le =
     grind (arith, nat_tests, length-replicate {A = ℕ} (line + 1 - max lines 1) 59)
 
--- after the last of tokens, or so many lines
-abbrev lines_after : ℕ → List Token → ℕ
-lines_after lines ts = last_or lines (map (λ t. t.line + 1) ts)
-
 text_length : (r : Running) (lines : ℕ) (ts : List Token) → AreSegments r lines ts
-    → length (text_from r lines ts) + lines ≤ 36 * length ts + lines_after lines ts
+    → length (text_from r lines ts) + lines ≤ 36 * length ts + last_or lines (map (λ t. t.line + 1) ts)
 text_length r lines [] h = omega arith
 text_length r lines (t ∷ ts) h =
     let front : List ℕ = separator lines t.line in

@@ -13,8 +13,8 @@ use Rattle.smap_mappings.specs.declared.running.Running.{Running}
 use Rattle.smap_mappings.specs.declared.error.SegmentKind.{SegmentKind}
 use Rattle.smap_mappings.specs.Lines.{SegmentText}
 use Rattle.smap_mappings.specs.Tokens.{Segment, Fault, below, placed, read_in, tokens_after}
-use Rattle.smap_mappings.specs.Steps.{Sums, text_at, original_step, column_step, judge_step}
-use Rattle.smap_mappings.specs.Steps.{name_step, at_start}
+use Rattle.smap_mappings.specs.Steps.{Sums, text_at, original_step, column_step, judge_step, name_step}
+use Rattle.smap_mappings.specs.Steps.{at_start}
 use Rattle.smap_mappings.specs.Position.{POSITIONS}
 use Rattle.smap_mappings.specs.Text.{IsPlaced, IsOriginal, difference}
 use Rattle.smap_mappings.specs.Writing.{original_from, name_from, segment_from, original_after, running_after}
@@ -22,8 +22,8 @@ use Rattle.smap_mappings.specs.Writing.{at_line}
 use Rattle.smap_mappings.specs.Decoded.{IsWithin}
 use Rattle.smap_mappings.proofs.StepsLemmas.{StepAgrees, reads, placed-column}
 use Rattle.smap_mappings.proofs.ScanLemmas.{Sums-none, Sums-on}
-use Rattle.smap_mappings.proofs.RunningTextLemmas.{before_token, after_token, texts_from}
-use Rattle.smap_mappings.proofs.RunningTextLemmas.{index_on, IsSegment, AreSegments}
+use Rattle.smap_mappings.proofs.RunningTextLemmas.{before_token, after_token, texts_from, index_on, IsSegment}
+use Rattle.smap_mappings.proofs.RunningTextLemmas.{AreSegments}
 
 -- ---- one segment
 

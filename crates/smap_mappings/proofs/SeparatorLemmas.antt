@@ -1,7 +1,7 @@
 -- A mappings text is its segments, put together with the separators that they need, and semicolons at its
 -- end.
-use Rattle.std.proofs.Common.{add-one, ◌≡◌, ℕ, zero, suc, ◌+◌, ◌-◌, ◌≤◌, ◌⊎◌, inl, inr, max, eqb, List}
-use Rattle.std.proofs.Common.{[], ◌∷◌, ◌++◌, replicate, refl, ◌∙◌, arith, append_assoc}
+use Rattle.std.proofs.Common.{add-one, ◌≡◌, ℕ, zero, suc, ◌+◌, ◌-◌, ◌≤◌, ◌⊎◌, inl, inr, max, eqb, List, []}
+use Rattle.std.proofs.Common.{◌∷◌, ◌++◌, replicate, refl, ◌∙◌, arith, append_assoc}
 use Rattle.std.proofs.lemmas.Bool.{cond_both, eq-eqb, ne_eqb, eqb-true}
 use Rattle.std.proofs.lemmas.List.{append-nil, replicate_more}
 use Rattle.smap_mappings.specs.Lines.{SegmentText, segments_of}
