@@ -94,12 +94,6 @@ module _ (lines line index : ℕ) (current : List ℕ) (at : StandsAt lines line
         })
   ]
 
-  at_comma : (rest : List ℕ) (segments : List SegmentText)
-      → IsJoined (line + 1) (separator (line + 1) line ++ rest) segments
-      → IsJoined lines (separator lines line ++ (current ++ 44 ∷ rest))
-      (text_at line index current ∷ segments)
-  at_comma rest segments h = one_more (44 ∷ rest) segments (rw (separator-comma line) at h)
-
   at_semicolon : (rest : List ℕ) (segments : List SegmentText)
       → ((before : ℕ) → before ≤ line + 1 → IsJoined before (separator before (line + 1) ++ rest) segments)
       → IsJoined lines (separator lines line ++ (current ++ 59 ∷ rest))
@@ -133,8 +127,8 @@ put_together lines line index current (b ∷ bs) at =
         (at_semicolon lines line index current at bs (walk (line + 1) 0 [] bs) below))
         (λ _. cond_both (eqb b 44) (text_at line index current ∷ walk line (index + 1) [] bs)
         (walk line index (current ++ b ∷ []) bs) (IsJoined lines text)
-        (λ e. rw (eqb-true b 44 e)
-        (at_comma lines line index current at bs (walk line (index + 1) [] bs) after))
+        (λ e. rw (eqb-true b 44 e) (one_more lines line index current at (44 ∷ bs)
+        (walk line (index + 1) [] bs) (rw (separator-comma line) at after)))
         (λ _. rw (← append_assoc current (b ∷ []) bs) on))
 
 -- Each text is its segments, put together, and semicolons.
