@@ -1,6 +1,6 @@
 -- How long a mappings text is.
-use Rattle.std.proofs.Common.{ℕ, ◌+◌, ◌-◌, ◌*◌, ◌≤◌, max, List, [], ◌∷◌, length, map, Option, ℤ, ap}
-use Rattle.std.proofs.Common.{arith, length-append}
+use Rattle.std.proofs.Common.{ℕ, ◌+◌, ◌-◌, ◌*◌, ◌≤◌, max, List, [], ◌∷◌, length, map, Option, ℤ, ap, arith}
+use Rattle.std.proofs.Common.{length-append}
 use Rattle.std.specs.Prelude.{flat_map}
 use Rattle.std.proofs.lemmas.Bool.Decides.{nat_tests}
 use Rattle.std.proofs.lemmas.List.{length-replicate}
@@ -37,13 +37,12 @@ text_length : (r : Running) (lines : ℕ) (ts : List Token) → AreSegments r li
     → length (text_from r lines ts) + lines ≤ 36 * length ts + last_or lines (map (λ t. t.line + 1) ts)
 text_length r lines [] h = omega arith
 text_length r lines (t ∷ ts) h =
-    let more = text_length (after_token r lines t) (t.line + 1) ts h.2 in
     omega (
       arith,
       length-append {A = ℕ},
       separator_length lines t.line h.0,
       segment_length (before_token r lines t) t,
-      more,
+      text_length (after_token r lines t) (t.line + 1) ts h.2,
     )
 
 -- At most 36 bytes for a token and one for a line.

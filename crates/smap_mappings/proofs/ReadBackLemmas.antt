@@ -1,6 +1,6 @@
 -- The segments of tokens, read one after another.
-use Rattle.std.proofs.Common.{◌≡◌, ℕ, ◌+◌, ◌<◌, ◌≤◌, eqb, List, [], ◌∷◌, ◌++◌, Option, Some, None, Result, Ok}
-use Rattle.std.proofs.Common.{ℤ, pos, ◌+ℤ◌, refl, subst, arith}
+use Rattle.std.proofs.Common.{◌≡◌, ℕ, ◌+◌, ◌<◌, ◌≤◌, eqb, List, [], ◌∷◌, ◌++◌, Option, Some, None, Ok, ℤ, pos}
+use Rattle.std.proofs.Common.{◌+ℤ◌, refl, subst, arith}
 use Rattle.std.specs.Prelude.{IfSome, unwrap_or}
 use Rattle.std.specs.List.{AllByRecursion}
 use Rattle.std.proofs.lemmas.Bool.{cond_both, eqb-true, eqb-false, ne_eqb, lt-ltb}
@@ -10,9 +10,8 @@ use Rattle.smap_mappings.specs.declared.token.Bounds.{Bounds}
 use Rattle.smap_mappings.specs.declared.token.Token.{Token}
 use Rattle.smap_mappings.specs.declared.token.Original.{Original}
 use Rattle.smap_mappings.specs.declared.running.Running.{Running}
-use Rattle.smap_mappings.specs.declared.error.SegmentKind.{SegmentKind}
 use Rattle.smap_mappings.specs.Lines.{SegmentText}
-use Rattle.smap_mappings.specs.Tokens.{Segment, Fault, below, placed, read_in, tokens_after}
+use Rattle.smap_mappings.specs.Tokens.{Segment, below, placed, read_in, tokens_after}
 use Rattle.smap_mappings.specs.Steps.{Sums, text_at, original_step, column_step, judge_step, name_step}
 use Rattle.smap_mappings.specs.Steps.{at_start}
 use Rattle.smap_mappings.specs.Position.{POSITIONS}
@@ -66,9 +65,6 @@ original_again bounds r (Some o) is source name a = rw (
       (difference r.original_column o.column) name,
 ) refl
 
-abbrev both : Running → Token → Result (Running × Token) SegmentKind
-both r t = Ok (r, t)
-
 pub column_kept : (r : Running) (column : ℕ) (o : Option Original)
     → record (original_after r o) { column = column } ≡ original_after (record r { column = column }) o
 column_kept r column o = grind arith
@@ -76,7 +72,7 @@ column_kept r column o = grind arith
 -- The text of a token's segment gives the token, and the values after it.
 text_again : (bounds : Bounds) (r : Running) (t : Token) → bounds.start_line ≡ 0 → bounds.start_column ≡ 0
     → IsPlaced t → IsWithin bounds t → IsSegment r t
-    → judge_step bounds r t.line (segment_from r t) ≡ both (running_after r t) t
+    → judge_step bounds r t.line (segment_from r t) ≡ Ok (running_after r t, t)
 text_again bounds r t line_start column_start p w s =
     let line_is : bounds.start_line + t.line ≡ t.line = omega arith in
     rw (
@@ -107,14 +103,11 @@ stands_first line le = cond_both (eqb 0 (line + 1)) at_start (record at_start { 
 
 -- ---- all segments
 
-abbrev tokens_are : List Token → Result (List Token) Fault
-tokens_are ts = Ok ts
-
 -- The segments of tokens are read as these tokens.
 pub tokens_again : (bounds : Bounds) (r : Running) (lines count : ℕ) (before : List Segment) (ts : List Token)
     → bounds.start_line ≡ 0 → bounds.start_column ≡ 0
     → AllByRecursion IsPlaced ts → AllByRecursion (IsWithin bounds) ts → AreSegments r lines ts
-    → Stand r before lines → tokens_after bounds before (texts_from r lines count ts) ≡ tokens_are ts
+    → Stand r before lines → tokens_after bounds before (texts_from r lines count ts) ≡ Ok ts
 tokens_again bounds r lines count before [] line_start column_start placed within all stand = refl
 tokens_again bounds r lines count before (t ∷ ts) line_start column_start placed within all stand =
     let old : Running = before_token r lines t in
