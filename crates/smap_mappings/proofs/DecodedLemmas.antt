@@ -1,10 +1,10 @@
 -- What holds of the tokens of a mappings text.
-use Rattle.std.proofs.Common.{◌≡◌, ℕ, ◌+◌, ◌<◌, ◌∙◌, Bool, true, false, cond, ltb, eqb, List, [], ◌∷◌, ◌++◌}
-use Rattle.std.proofs.Common.{length, Option, Some, None, Result, Ok, Err, ℤ, pos, negsuc, refl, ap, subst}
-use Rattle.std.proofs.Common.{arith}
+use Rattle.std.proofs.Common.{◌≡◌, ℕ, ◌+◌, ◌<◌, ◌∙◌, Bool, false, cond, eqb, List, [], ◌∷◌, ◌++◌, length}
+use Rattle.std.proofs.Common.{Option, Some, None, Result, Ok, Err, ℤ, pos, negsuc, refl, subst, arith}
 use Rattle.std.specs.Prelude.{IfSome, ok_or}
 use Rattle.std.specs.List.{AllByRecursion}
-use Rattle.std.proofs.lemmas.Bool.{ltb-true, eqb-true, eqb-false}
+use Rattle.std.proofs.lemmas.Bool.{cond_both}
+use Rattle.std.proofs.lemmas.Option.{IfSome_then}
 use Rattle.std.proofs.lemmas.Bool.Decides.{nat_tests}
 use Rattle.smap_vlq.specs.Number.{◌>>=◌}
 use Rattle.smap_vlq.specs.Segment.{segment_of}
@@ -20,7 +20,7 @@ use Rattle.smap_mappings.specs.Tokens.{source_index, original_line, original_col
 use Rattle.smap_mappings.specs.Tokens.{original_in, token_of, numbers_in, read_in, at_place, tokens_after}
 use Rattle.smap_mappings.specs.Arrangement.{insert_token, arranged, IsArranged}
 use Rattle.smap_mappings.specs.Decoded.{AreBounds, IsWithin, IsFromStart, decoded}
-use Rattle.smap_mappings.specs.Text.{IsPlaced, IsOriginal, IsEncodable}
+use Rattle.smap_mappings.specs.Text.{IsPlaced, IsEncodable}
 use Rattle.smap_mappings.proofs.ArrangementLemmas.{is_arranged}
 use Rattle.smap_mappings.proofs.StepsLemmas.{below_is, placed-line, placed-column}
 
@@ -35,65 +35,19 @@ bind_ok (Err d) f y e = absurd cc
 pub good_is : {A F : Type 0} (x y : A) → good {F = F} x ≡ good y → x ≡ y
 good_is x y e = cc
 
-pub some_is : {A F : Type 0} (o : Option A) (k : F) (x : A) → ok_or o k ≡ good x → o ≡ Some x
-some_is None k x e = absurd cc
-some_is (Some y) k x e = ap (λ z. Some z) (good_is y x e)
+-- the same of a value that is there, or else a fault
+pub taken : {A B F : Type 0} (o : Option A) (k : F) (f : A → Result B F) (y : B)
+    → (ok_or o k >>= f) ≡ good y → (x : A) × (o ≡ Some x) × (f x ≡ good y)
+taken (Some x) k f y e = (x, refl, e)
+taken None k f y e = absurd cc
 
 below_limit : (limit : ℕ) (z : ℤ) (n : ℕ) → below limit z ≡ Some n → n < limit
-below_limit limit (pos m) n e = by_test (ltb m limit) refl e
-  where
-    same : (a b : ℕ) → Some a ≡ Some b → a ≡ b
-    same a b e = cc
+below_limit limit z n e = grind (arith, nat_tests)
 
-    by_test : (t : Bool) → ltb m limit ≡ t → cond t (Some m) None ≡ Some n → n < limit
-    by_test true is e = omega (arith, ltb-true m limit is, same m n e)
-    by_test false is e = absurd cc
-below_limit limit (negsuc m) n e = absurd cc
-
--- ---- the token of a segment
-
--- What is known of a segment's token.
-record TokenParts (bounds : Bounds) (before : List Segment) (s : Segment) (t : Token) : Type 0 where
-  line : t.line ≡ (placed bounds s.line 0).line
-  line_below : t.line < bounds.lines
-  own : ℕ
-  column : t.column ≡ (placed bounds s.line own).column
-  column_below : t.column < POSITIONS
-  original : original_in bounds (before ++ s ∷ []) (length s.numbers) ≡ good t.original
-
-number_is : (limit n m : ℕ) → below limit (pos n) ≡ Some m → m ≡ n
+pub number_is : (limit n m : ℕ) → below limit (pos n) ≡ Some m → m ≡ n
 number_is limit n m e = let z : pos n ≡ pos m = below_is limit (pos n) m e in cc
 
-column_parts : (bounds : Bounds) (line : ℕ) (z : ℤ) (n : ℕ) → column_in bounds line z ≡ Some n
-    → (own : ℕ) × (n ≡ (placed bounds line own).column) × (n < POSITIONS)
-column_parts bounds line (pos m) n e = (
-  m,
-  number_is POSITIONS (placed bounds line m).column n e,
-  below_limit POSITIONS (pos (placed bounds line m).column) n e,
-)
-column_parts bounds line (negsuc m) n e = absurd cc
-
-token_parts : (bounds : Bounds) (before : List Segment) (s : Segment) (t : Token)
-    → token_of bounds before s ≡ good t → TokenParts bounds before s t
-unfolding token_of
-token_parts bounds before s t e =
-    let l =
-    bind_ok (ok_or (below bounds.lines (pos (placed bounds s.line 0).line)) kind.GeneratedLine) _ t e in
-    let c = bind_ok (ok_or (column_in bounds s.line (generated_column (before ++ s ∷ []) s.line)) kind.Column)
-    _ t l.2 in
-    let o = bind_ok (original_in bounds (before ++ s ∷ []) (length s.numbers)) _ t c.2 in
-    let line = some_is (below bounds.lines (pos (placed bounds s.line 0).line)) kind.GeneratedLine l.0 l.1 in
-    let column = column_parts bounds s.line (generated_column (before ++ s ∷ []) s.line) c.0
-    (some_is (column_in bounds s.line (generated_column (before ++ s ∷ []) s.line)) kind.Column c.0 c.1) in
-    subst (TokenParts bounds before s) (good_is (record { line = l.0; column = c.0; original = o.0 }) t o.2)
-    (record {
-      line = number_is bounds.lines (placed bounds s.line 0).line l.0 line;
-      line_below = below_limit bounds.lines (pos (placed bounds s.line 0).line) l.0 line;
-      own = column.0;
-      column = column.1;
-      column_below = column.2;
-      original = o.1;
-    })
+-- ---- the original of a segment
 
 -- The original is within the bounds, and within all positions.
 record OriginalParts (bounds : Bounds) (o : Original) : Type 0 where
@@ -102,106 +56,101 @@ record OriginalParts (bounds : Bounds) (o : Original) : Type 0 where
   column : o.column < POSITIONS
   name : IfSome o.name (λ n. n < bounds.names)
 
+-- a result by a test, where the value isn't the one that the test gives
+by_other : {A F : Type 0} (b : Bool) (r : Result (Option A) F) (x : A) → cond b (good None) r ≡ good (Some x)
+    → r ≡ good (Some x)
+by_other b r x e = grind arith
+
 module _ (bounds : Bounds) where
   name_parts : (segments : List Segment) (count : ℕ) (name : Option ℕ)
       → name_in bounds segments count ≡ good name → IfSome name (λ n. n < bounds.names)
-  name_parts segments count name e = by_test (eqb count 5) e
+  name_parts segments count None e = tt
+  name_parts segments count (Some n) e = name_below (eqb count 5) (below bounds.names (name_index segments)) n
+      (below_limit bounds.names (name_index segments)) e
     where
-      by_test : (t : Bool)
-          → cond t (ok_or (below bounds.names (name_index segments)) kind.Name >>= λ n. Ok (Some n)) (Ok None)
-          ≡ good name → IfSome name (λ n. n < bounds.names)
-      by_test true e =
-          let b =
-          bind_ok (ok_or (below bounds.names (name_index segments)) kind.Name) (λ n. Ok (Some n)) name e in
-          subst (λ (o : Option ℕ). IfSome o (λ n. n < bounds.names)) (good_is (Some b.0) name b.2)
-          (below_limit bounds.names (name_index segments) b.0
-          (some_is (below bounds.names (name_index segments)) kind.Name b.0 b.1))
-      by_test false e = subst (λ (o : Option ℕ). IfSome o (λ n. n < bounds.names)) (good_is None name e) tt
+      name_below : (b : Bool) (o : Option ℕ) (n : ℕ) → ((m : ℕ) → o ≡ Some m → m < bounds.names)
+          → cond b (ok_or o kind.Name >>= λ m. Ok (Some m)) (Ok None) ≡ good (Some n) → n < bounds.names
+      name_below b o n below e = grind (arith, below)
 
   original_parts : (segments : List Segment) (count : ℕ) (o : Option Original)
       → original_in bounds segments count ≡ good o → IfSome o (OriginalParts bounds)
-  original_parts segments count o e = by_test (eqb count 1) e
-    where
-      by_test : (t : Bool)
-          → cond t (Ok None) (ok_or (below bounds.sources (source_index segments)) kind.Source >>= λ source.
-          ok_or (below POSITIONS (original_line segments)) kind.OriginalLine >>= λ line.
-          ok_or (below POSITIONS (original_column segments)) kind.OriginalColumn >>= λ column.
-          name_in bounds segments count >>= λ name.
-          Ok (Some (record { source = source; line = line; column = column; name = name }))) ≡ good o
-          → IfSome o (OriginalParts bounds)
-      by_test true e = subst (λ (x : Option Original). IfSome x (OriginalParts bounds)) (good_is None o e) tt
-      by_test false e =
-          let s = bind_ok (ok_or (below bounds.sources (source_index segments)) kind.Source) _ o e in
-          let l = bind_ok (ok_or (below POSITIONS (original_line segments)) kind.OriginalLine) _ o s.2 in
-          let c = bind_ok (ok_or (below POSITIONS (original_column segments)) kind.OriginalColumn) _ o l.2 in
-          let n = bind_ok (name_in bounds segments count) _ o c.2 in
-          subst (λ (x : Option Original). IfSome x (OriginalParts bounds))
-          (good_is (Some (record { source = s.0; line = l.0; column = c.0; name = n.0 })) o n.2)
-          (record {
-            source = below_limit bounds.sources (source_index segments) s.0
-                (some_is (below bounds.sources (source_index segments)) kind.Source s.0 s.1);
-            line = below_limit POSITIONS (original_line segments) l.0
-                (some_is (below POSITIONS (original_line segments)) kind.OriginalLine l.0 l.1);
-            column = below_limit POSITIONS (original_column segments) c.0
-                (some_is (below POSITIONS (original_column segments)) kind.OriginalColumn c.0 c.1);
-            name = name_parts segments count n.0 n.1;
-          })
+  original_parts segments count None e = tt
+  original_parts segments count (Some o) e =
+      let s = taken (below bounds.sources (source_index segments)) kind.Source _ (Some o)
+      (by_other (eqb count 1) _ o e) in
+      let l = taken (below POSITIONS (original_line segments)) kind.OriginalLine _ (Some o) s.2 in
+      let c = taken (below POSITIONS (original_column segments)) kind.OriginalColumn _ (Some o) l.2 in
+      let n = bind_ok (name_in bounds segments count) _ (Some o) c.2 in
+      let told : Original = record { source = s.0; line = l.0; column = c.0; name = n.0 } in
+      subst (λ (x : Option Original). IfSome x (OriginalParts bounds)) (good_is (Some told) (Some o) n.2)
+      (record {
+        source = below_limit bounds.sources (source_index segments) s.0 s.1;
+        line = below_limit POSITIONS (original_line segments) l.0 l.1;
+        column = below_limit POSITIONS (original_column segments) c.0 c.1;
+        name = name_parts segments count n.0 n.1;
+      })
 
-  token_within : (before : List Segment) (s : Segment) (t : Token) → TokenParts bounds before s t
-      → IsWithin bounds t
-  token_within before s t p =
-      record { line = p.line_below; source = sources t.original original; name = names t.original original }
-    where
-      original : IfSome t.original (OriginalParts bounds)
-      original = original_parts (before ++ s ∷ []) (length s.numbers) t.original p.original
+-- ---- the token of a segment
 
-      sources : (o : Option Original) → IfSome o (OriginalParts bounds)
-          → IfSome o (λ x. x.source < bounds.sources)
-      sources None h = tt
-      sources (Some o) h = h.source
-
-      names : (o : Option Original) → IfSome o (OriginalParts bounds)
-          → IfSome o (λ x. IfSome x.name (λ n. n < bounds.names))
-      names None h = tt
-      names (Some o) h = h.name
-
-  token_placed : AreBounds bounds → (before : List Segment) (s : Segment) (t : Token)
-      → TokenParts bounds before s t → IsPlaced t
-  token_placed are before s t p = record {
-    line = omega (arith, p.line_below, are.lines);
-    column = p.column_below;
-    original =
-        originals t.original (original_parts (before ++ s ∷ []) (length s.numbers) t.original p.original);
-  }
-    where
-      names : (n : Option ℕ) → IfSome n (λ n. n < bounds.names) → IfSome n (λ n. n < POSITIONS)
-      names None h = tt
-      names (Some n) h = omega (arith, h, are.names)
-
-      originals : (o : Option Original) → IfSome o (OriginalParts bounds) → IfSome o IsOriginal
-      originals None h = tt
-      originals (Some o) h = record {
-        source = omega (arith, h.source, are.sources);
-        line = h.line;
-        column = h.column;
-        name = names o.name h.name;
-      }
+-- What is known of a segment's token.
+record TokenParts (bounds : Bounds) (t : Token) : Type 0 where
+  line : t.line < bounds.lines
+  column : t.column < POSITIONS
+  from_start : IsFromStart bounds t
+  original : IfSome t.original (OriginalParts bounds)
 
 -- a position that is placed doesn't lie before the start
-after_start : (sl sc line own l c : ℕ) → l ≡ sl + line → c ≡ cond (eqb line 0) (sc + own) own
-    → is_before (record { line = l; column = c }) (record { line = sl; column = sc }) ≡ false
-after_start sl sc line own l c el ec = by_test (eqb line 0) refl ec
-  where
-    by_test : (t : Bool) → eqb line 0 ≡ t → c ≡ cond t (sc + own) own
-        → is_before (record { line = l; column = c }) (record { line = sl; column = sc }) ≡ false
-    by_test true e ec = let z : line ≡ 0 = eqb-true line 0 e in grind (arith, nat_tests)
-    by_test false e ec = let z = eqb-false line 0 e in grind (arith, nat_tests)
+after_start : (bounds : Bounds) (line own l c : ℕ) → l ≡ bounds.start_line + line
+    → c ≡ cond (eqb line 0) (bounds.start_column + own) own
+    → is_before (record { line = l; column = c }) (start_of bounds) ≡ false
+after_start bounds line own l c el ec = grind (arith, nat_tests)
 
-token_from_start : (bounds : Bounds) (before : List Segment) (s : Segment) (t : Token)
-    → TokenParts bounds before s t → is_before (position_of t) (start_of bounds) ≡ false
-token_from_start bounds before s t p =
-    after_start bounds.start_line bounds.start_column s.line p.own t.line t.column
-    (p.line ∙ placed-line bounds s.line 0) (p.column ∙ placed-column bounds s.line p.own)
+column_parts : (bounds : Bounds) (line l : ℕ) (z : ℤ) (c : ℕ) → l ≡ bounds.start_line + line
+    → column_in bounds line z ≡ Some c
+    → (c < POSITIONS) × (is_before (record { line = l; column = c }) (start_of bounds) ≡ false)
+column_parts bounds line l (pos own) c is e =
+    let at : ℕ = (placed bounds line own).column in (
+      below_limit POSITIONS (pos at) c e,
+      after_start bounds line own l c is (number_is POSITIONS at c e ∙ placed-column bounds line own),
+    )
+column_parts bounds line l (negsuc m) c is e = absurd cc
+
+token_parts : (bounds : Bounds) (before : List Segment) (s : Segment) (t : Token)
+    → token_of bounds before s ≡ good t → TokenParts bounds t
+unfolding token_of
+token_parts bounds before s t e =
+    let at : ℕ = (placed bounds s.line 0).line in
+    let z : ℤ = generated_column (before ++ s ∷ []) s.line in
+    let l = taken (below bounds.lines (pos at)) kind.GeneratedLine _ t e in
+    let c = taken (column_in bounds s.line z) kind.Column _ t l.2 in
+    let o = bind_ok (original_in bounds (before ++ s ∷ []) (length s.numbers)) _ t c.2 in
+    let line = number_is bounds.lines at l.0 l.1 ∙ placed-line bounds s.line 0 in
+    let column = column_parts bounds s.line l.0 z c.0 line c.1 in
+    rw (← good_is (record { line = l.0; column = c.0; original = o.0 }) t o.2) (record {
+      line = below_limit bounds.lines (pos at) l.0 l.1;
+      column = column.0;
+      from_start = column.1;
+      original = original_parts bounds (before ++ s ∷ []) (length s.numbers) o.0 o.1;
+    })
+
+token_within : (bounds : Bounds) (t : Token) → TokenParts bounds t → IsWithin bounds t
+token_within bounds t p = record {
+  line = p.line;
+  source = IfSome_then t.original p.original (λ o h. h.source);
+  name = IfSome_then t.original p.original (λ o h. h.name);
+}
+
+token_placed : (bounds : Bounds) → AreBounds bounds → (t : Token) → TokenParts bounds t → IsPlaced t
+token_placed bounds are t p = record {
+  line = omega (arith, p.line, are.lines);
+  column = p.column;
+  original = IfSome_then t.original p.original (λ o h. record {
+    source = omega (arith, h.source, are.sources);
+    line = h.line;
+    column = h.column;
+    name = IfSome_then o.name h.name (λ n lt. omega (arith, lt, are.names));
+  });
+}
 
 -- ---- all tokens
 
@@ -210,44 +159,48 @@ pub at_place_ok : {A : Type 0} (text : SegmentText) (r : Result A SegmentKind) (
 at_place_ok text (Ok y) x e = cc
 at_place_ok text (Err k) x e = absurd cc
 
-module _ (bounds : Bounds) (P : Token → Type 0)
-    (each : (before : List Segment) (s : Segment) (t : Token) → TokenParts bounds before s t → P t) where
+module _ (bounds : Bounds) where
+  one_read : (before : List Segment) (text : SegmentText) (x : Segment × Token)
+      → read_in bounds before text ≡ good x → TokenParts bounds x.1
+  one_read before text x e =
+      let n = bind_ok (numbers_in (segment_of text.text)) _ x e in
+      let s : Segment = record { line = text.line; numbers = n.0 } in
+      let t = bind_ok (token_of bounds before s) _ x n.2 in
+      rw (← good_is (s, t.0) x t.2) (token_parts bounds before s t.0 t.1)
+
   all_read : (before : List Segment) (texts : List SegmentText) (ts : List Token)
-      → tokens_after bounds before texts ≡ good ts → AllByRecursion P ts
-  all_read before [] ts e = subst (AllByRecursion P) (good_is [] ts e) tt
+      → tokens_after bounds before texts ≡ good ts → AllByRecursion (TokenParts bounds) ts
+  all_read before [] ts e = rw (← good_is [] ts e) tt
   all_read before (text ∷ texts) ts e =
       let x = bind_ok (at_place text (read_in bounds before text)) _ ts e in
       let r = bind_ok (tokens_after bounds (before ++ x.0.0 ∷ []) texts) _ ts x.2 in
-      let n = bind_ok (numbers_in (segment_of text.text)) _ x.0
-      (at_place_ok text (read_in bounds before text) x.0 x.1) in
-      let t = bind_ok (token_of bounds before (record { line = text.line; numbers = n.0 })) _ x.0 n.2 in
-      let p : P x.0.1 = subst P
-      (ap (λ (y : Segment × Token). y.1) (good_is (record { line = text.line; numbers = n.0 }, t.0) x.0 t.2))
-      (each before _ t.0 (token_parts bounds before (record { line = text.line; numbers = n.0 }) t.0 t.1)) in
-      subst (AllByRecursion P) (good_is (x.0.1 ∷ r.0) ts r.2)
-      (p, all_read (before ++ x.0.0 ∷ []) texts r.0 r.1)
+      rw (← good_is (x.0.1 ∷ r.0) ts r.2) (
+        one_read before text x.0 (at_place_ok text (read_in bounds before text) x.0 x.1),
+        all_read (before ++ x.0.0 ∷ []) texts r.0 r.1,
+      )
 
+module _ (P : Token → Type 0) where
   all_inserted : (t : Token) (us : List Token) → P t → AllByRecursion P us
       → AllByRecursion P (insert_token t us)
   all_inserted t [] p all = (p, tt)
   all_inserted t (u ∷ us) p all =
-      by_test (all_inserted t us p all.1) (is_before (position_of u) (position_of t))
-    where
-      by_test : AllByRecursion P (insert_token t us)
-          → (b : Bool) → AllByRecursion P (cond b (u ∷ insert_token t us) (t ∷ u ∷ us))
-      by_test rest true = (all.0, rest)
-      by_test rest false = (p, all)
+      cond_both (is_before (position_of u) (position_of t)) (u ∷ insert_token t us) (t ∷ u ∷ us)
+      (AllByRecursion P) (λ _. (all.0, all_inserted t us p all.1)) (λ _. (p, all))
 
-  all_arranged : (ts : List Token) → AllByRecursion P ts → AllByRecursion P (arranged ts)
-  all_arranged [] all = tt
-  all_arranged (t ∷ ts) all = all_inserted t (arranged ts) all.0 (all_arranged ts all.1)
+  -- what holds of each token holds of each that is arranged
+  all_arranged : {Q : Token → Type 0} → ((t : Token) → Q t → P t) → (ts : List Token)
+      → AllByRecursion Q ts → AllByRecursion P (arranged ts)
+  all_arranged holds [] all = tt
+  all_arranged holds (t ∷ ts) all =
+      all_inserted t (arranged ts) (holds t all.0) (all_arranged holds ts all.1)
 
-  all_decoded : (text : List ℕ) (ts : List Token) → decoded bounds text ≡ good ts → AllByRecursion P ts
-  unfolding decoded
-  all_decoded text ts e =
-      let b = bind_ok (tokens_after bounds [] (segments_of text)) (λ us. Ok (arranged us)) ts e in
-      subst (AllByRecursion P) (good_is (arranged b.0) ts b.2)
-      (all_arranged b.0 (all_read [] (segments_of text) b.0 b.1))
+all_decoded : (bounds : Bounds) (P : Token → Type 0) → ((t : Token) → TokenParts bounds t → P t)
+    → (text : List ℕ) (ts : List Token) → decoded bounds text ≡ good ts → AllByRecursion P ts
+unfolding decoded
+all_decoded bounds P holds text ts e =
+    let b = bind_ok (tokens_after bounds [] (segments_of text)) (λ us. Ok (arranged us)) ts e in
+    rw (← good_is (arranged b.0) ts b.2)
+    (all_arranged P holds b.0 (all_read bounds [] (segments_of text) b.0 b.1))
 
 -- The tokens are those of the text in their arrangement.
 pub decoded-arranged : (bounds : Bounds) (text : List ℕ) (ts : List Token) → decoded bounds text ≡ Ok ts
@@ -265,7 +218,7 @@ decoded-within bounds = all_decoded bounds (IsWithin bounds) (token_within bound
 -- No token lies before the start.
 pub decoded-from_start : (bounds : Bounds) (text : List ℕ) (ts : List Token)
     → decoded bounds text ≡ Ok ts → AllByRecursion (IsFromStart bounds) ts
-decoded-from_start bounds = all_decoded bounds (IsFromStart bounds) (token_from_start bounds)
+decoded-from_start bounds = all_decoded bounds (IsFromStart bounds) (λ t p. p.from_start)
 
 -- The tokens can be written.
 pub decoded-encodable : (bounds : Bounds) → AreBounds bounds → (text : List ℕ) (ts : List Token)

@@ -1,10 +1,6 @@
 -- The law of mappings texts.
-use Rattle.std.proofs.Common.{refl, Some, None, ℕ, List, [], ◌∷◌, Result, Ok, ap, ◌∙◌, arith}
-use Rattle.smap_vlq.specs.Number.{◌>>=◌}
+use Rattle.std.proofs.Common.{refl, Some, None, List, [], ◌∷◌, arith, rules}
 use Rattle.smap_mappings.specs.declared.token.Token.{Token}
-use Rattle.smap_mappings.specs.Lines.{segments_of}
-use Rattle.smap_mappings.specs.Tokens.{Fault, tokens_after}
-use Rattle.smap_mappings.specs.Arrangement.{arranged}
 use Rattle.smap_mappings.specs.Decoded.{decoded}
 use Rattle.smap_mappings.specs.Text.{IsEncodable, mappings_text}
 use Rattle.smap_mappings.specs.declared.token.Bounds.{Bounds}
@@ -15,35 +11,23 @@ use Rattle.smap_mappings.proofs.RunningTextLemmas.{segments_from}
 use Rattle.smap_mappings.proofs.ArrangementLemmas.{arranged-in_order}
 use Rattle.smap_mappings.proofs.ReadBackLemmas.{tokens_again, stands_first}
 
-abbrev tokens_are : List Token → Result (List Token) Fault
-tokens_are ts = Ok ts
-
-segments_there : (tokens : List Token) → IsEncodable tokens → AreSegments at_start 0 tokens
+pub segments_there : (tokens : List Token) → IsEncodable tokens → AreSegments at_start 0 tokens
 segments_there [] h = tt
-segments_there (t ∷ ts) h = are_segments at_start 0 t ts (omega arith) (record {
-  column = omega arith;
-  source = omega arith;
-  original_line = omega arith;
-  original_column = omega arith;
-  name = omega arith;
-}) h
+segments_there (t ∷ ts) h = are_segments at_start 0 t ts (omega arith) (search (rules, arith)) h
 
 -- The tokens of the text, in its order, are these.
 pub text_says : (bounds : Bounds) (tokens : List Token) → AreFor bounds tokens
     → Says bounds (mappings_text tokens) tokens
 text_says bounds tokens are =
-    let all : AreSegments at_start 0 tokens = segments_there tokens are.encodable in
-    ap (λ (text : List ℕ). tokens_after bounds [] (segments_of text))
-    (mappings_text-from tokens are.encodable)
-    ∙ ap (tokens_after bounds []) (segments_from at_start tokens all)
-    ∙ tokens_again bounds at_start 0 0 [] tokens are.line_start are.column_start are.encodable.1 are.within
-    all stands_first
+    let all = segments_there tokens are.encodable in
+    rw (mappings_text-from tokens are.encodable, segments_from at_start tokens all)
+    (tokens_again bounds at_start 0 0 [] tokens are.line_start are.column_start are.encodable.1 are.within
+    all stands_first)
 
 pub text_reads_back : TextReadsBack
 unfolding decoded
 text_reads_back bounds tokens are =
-    ap (λ (r : Result (List Token) Fault). r >>= λ ts. tokens_are (arranged ts)) (text_says bounds tokens are)
-    ∙ ap tokens_are (arranged-in_order tokens are.encodable.0)
+    rw (text_says bounds tokens are, arranged-in_order tokens are.encodable.0) refl
 
 -- ---- the premise is met: three tokens on two lines, with two sources and a name
 
@@ -62,36 +46,4 @@ tokens_there =
     { line = 1; column = 0; original = Some (record { source = 0; line = 2; column = 9; name = None }) } ∷ []
 
 some_are_for : AreFor bounds_there tokens_there
-some_are_for = record {
-  line_start = refl;
-  column_start = refl;
-  encodable = (
-    (refl, (refl, tt)),
-    (
-      record {
-        line = omega arith;
-        column = omega arith;
-        original =
-            record { source = omega arith; line = omega arith; column = omega arith; name = omega arith };
-      },
-      (
-        record { line = omega arith; column = omega arith; original = tt },
-        (
-          record {
-            line = omega arith;
-            column = omega arith;
-            original = record { source = omega arith; line = omega arith; column = omega arith; name = tt };
-          },
-          tt,
-        ),
-      ),
-    ),
-  );
-  within = (
-    record { line = omega arith; source = omega arith; name = omega arith },
-    (
-      record { line = omega arith; source = tt; name = tt },
-      (record { line = omega arith; source = omega arith; name = tt }, tt),
-    ),
-  );
-}
+some_are_for = search (rules, arith)

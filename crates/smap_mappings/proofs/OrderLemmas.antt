@@ -1,36 +1,20 @@
 -- Tokens in order, index by index.
-use Rattle.std.proofs.Common.{◌≡◌, ℕ, zero, suc, ◌+◌, ◌<◌, ◌≤◌, true, false, not, refl, List, []}
-use Rattle.std.proofs.Common.{◌∷◌, ◌++◌, length, map, get_or, sym, ◌∙◌, arith}
+use Rattle.std.proofs.Common.{◌≡◌, ℕ, zero, suc, ◌+◌, true, false, not, refl, List, [], ◌∷◌, ◌++◌, length}
+use Rattle.std.proofs.Common.{map, get_or, arith}
 use Rattle.std.proofs.lemmas.Bool.{and_parts, not-true}
 use Rattle.smap_mappings.specs.declared.token.Token.{Token}
 use Rattle.smap_mappings.specs.declared.position.Position.{Position}
 use Rattle.smap_mappings.specs.Position.{is_before, position_of, NeverFalls}
 use Rattle.smap_mappings.specs.Steps.{in_order}
-use Rattle.smap_mappings.proofs.ArrangementLemmas.{before}
+use Rattle.smap_mappings.proofs.ArrangementLemmas.{before, InOrderBelow}
 
--- None of the first tokens lies before the one in front of it.
-abbrev pub InOrderBelow : List Token → ℕ → Type 0
-InOrderBelow ts n = (j k : ℕ) (d : Token) → j ≡ k + 1 → j < n → before (get_or ts j d) (get_or ts k d) ≡ false
-
-pub never_falls_below : (ts : List Token) (n : ℕ) → length ts ≤ n → InOrderBelow ts n
-    → NeverFalls (map position_of ts)
-never_falls_below [] n le h = tt
-never_falls_below (t ∷ []) n le h = tt
-never_falls_below (t ∷ u ∷ us) zero le h = absurd (omega arith)
-never_falls_below (t ∷ u ∷ us) (suc n) le h = (
-  h 1 0 t (omega arith) (omega arith),
-  never_falls_below (u ∷ us) n (omega arith) (λ j k d e lt. h (suc j) (suc k) d (omega arith) (omega arith)),
-)
-
-pub one_falls : (ts : List Token) (j k : ℕ) (d : Token) → j ≡ suc k → j < length ts
-    → before (get_or ts j d) (get_or ts k d) ≡ true → NeverFalls (map position_of ts) → ⊥
-one_falls [] j k d is lt e h = absurd (omega arith)
-one_falls (t ∷ us) zero k d is lt e h = absurd (omega arith)
-one_falls (t ∷ []) (suc j) k d is lt e h = absurd (omega arith)
-one_falls (t ∷ u ∷ us) (suc zero) zero d is lt e h = absurd (let x = sym e ∙ h.0 in cc)
-one_falls (t ∷ u ∷ us) (suc (suc j)) zero d is lt e h = absurd (omega arith)
-one_falls (t ∷ u ∷ us) (suc j) (suc k) d is lt e h =
-    one_falls (u ∷ us) j k d (omega arith) (omega arith) e h.1
+pub never_falls_at : (ts : List Token) → NeverFalls (map position_of ts) → InOrderBelow ts (length ts)
+never_falls_at [] h j k d is lt = absurd (omega arith)
+never_falls_at (t ∷ []) h j k d is lt = absurd (omega arith)
+never_falls_at (t ∷ u ∷ us) h j zero d is lt = rw is h.0
+never_falls_at (t ∷ u ∷ us) h zero (suc k) d is lt = absurd (omega arith)
+never_falls_at (t ∷ u ∷ us) h (suc j) (suc k) d is lt =
+    never_falls_at (u ∷ us) h.1 j k d (omega arith) (omega arith)
 
 -- ---- the test of order
 

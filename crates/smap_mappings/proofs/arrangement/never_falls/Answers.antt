@@ -1,19 +1,15 @@
-use Rattle.std.proofs.Common.{◌≡◌, true, ◌-◌, arith, refl, None, get_or, rules}
-use Rattle.smap_mappings.specs.declared.token.Token.{Token}
-use Rattle.smap_mappings.proofs.ArrangementLemmas.{before}
-use Rattle.smap_mappings.proofs.OrderLemmas.{never_falls_below, one_falls}
+use Rattle.std.proofs.Common.{◌≡◌, true, ◌-◌, arith, refl, get_or, rules}
+use Rattle.smap_mappings.proofs.ArrangementLemmas.{before, never_falls_below, no_token}
+use Rattle.smap_mappings.proofs.OrderLemmas.{never_falls_at}
 use Rattle.smap_mappings.proofs.arrangement.never_falls.Goals as goal
-
-abbrev no_token : Token
-no_token = record { line = 0; column = 0; original = None }
 
 pub returns-then-lt : goal.returns-then-lt
 returns-then-lt c =
-    let falls : before (get_or c.args.tokens.now c.loop-i.i no_token)
-    (get_or c.args.tokens.now (c.loop-i.i - 1) no_token) ≡ true = search rules in (
+    let ts = c.args.tokens.now in
+    let i = c.loop-i.i in
+    let falls : before (get_or ts i no_token) (get_or ts (i - 1) no_token) ≡ true = search rules in (
       λ y. absurd cc,
-      λ h. absurd (one_falls c.args.tokens.now c.loop-i.i (c.loop-i.i - 1) no_token (omega arith)
-          (omega arith) falls h),
+      λ h. absurd (let rises = never_falls_at ts h i (i - 1) no_token (omega arith) (omega arith) in cc),
     )
 
 pub returns : goal.returns

@@ -1,4 +1,4 @@
-use Rattle.smap_mappings.proofs.OrderLemmas.{InOrderBelow}
+use Rattle.smap_mappings.proofs.ArrangementLemmas.{InOrderBelow}
 use Rattle.smap_mappings.proofs.arrangement.never_falls.Given as goal
 
 abbrev pub invariant-loop-i : goal.invariant-loop-i

@@ -1,7 +1,5 @@
-use Rattle.std.proofs.Common.{sym, subst}
-use Rattle.smap_mappings.specs.Arrangement.{IsArranged}
 use Rattle.smap_mappings.proofs.ArrangementLemmas.{is_arranged, one_arrangement}
 use Rattle.smap_mappings.proofs.laws.arrangement.Goals as goal
 
 pub returns : goal.returns
-returns c = λ old new. (λ e. subst (IsArranged old) (sym e) (is_arranged old), one_arrangement old new)
+returns c = λ old new. (λ e. rw e (is_arranged old), one_arrangement old new)

@@ -1,11 +1,8 @@
-use Rattle.std.proofs.Common.{rules, ◌-◌, length, arith, None}
+use Rattle.std.proofs.Common.{rules, ◌-◌, length, arith}
 use Rattle.std.proofs.lemmas.Bool.Decides.{nat_tests}
-use Rattle.smap_mappings.specs.declared.token.Token.{Token}
+use Rattle.smap_mappings.proofs.ArrangementLemmas.{no_token}
 use Rattle.smap_mappings.proofs.OrderLemmas.{in_order-more}
 use Rattle.smap_mappings.proofs.token_list.is_before_last.Goals as goal
-
-abbrev no_token : Token
-no_token = record { line = 0; column = 0; original = None }
 
 pub returns : goal.returns
 returns c = λ e h.
