@@ -1,6 +1,6 @@
 -- One step of a definition after the other.
 use Rattle.std.proofs.Common.{◌≡◌, ◌∙◌, ap, refl, sym, subst, Ok, Err}
-use Rattle.std.specs.Prelude.{Result}
+use Rattle.std.specs.Prelude.{Result, IfOk}
 use Rattle.smap_record.specs.declared.fault.ReadError.{ReadError}
 use Rattle.smap_record.specs.declared.fault.ReadError.TheVariants.{Refused, Memory}
 use Rattle.smap_record.specs.Results.{Fails}
@@ -11,6 +11,18 @@ pub bound : {A B F : Type 0} (r : Result A F) (f : A → Result B F) (y : B) →
     → (x : A) × (r ≡ Ok x) × (f x ≡ Ok y)
 bound (Ok x) f y h = (x, refl, h)
 bound (Err e) f y h = absurd cc
+
+-- what holds of each step's value holds at the end
+pub if_ok : {A B F : Type 0} (P : A → Type 0) (Q : B → Type 0) (r : Result A F) (f : A → Result B F)
+    → IfOk r P → ((x : A) → P x → IfOk (f x) Q) → IfOk (r >>= f) Q
+if_ok P Q (Ok x) f one other = other x one
+if_ok P Q (Err e) f one other = tt
+
+-- steps of steps are steps
+pub in_turn : {A B C F : Type 0} (r : Result A F) (f : A → Result B F) (g : B → Result C F)
+    → ((r >>= f) >>= g) ≡ (r >>= λ x. f x >>= g)
+in_turn (Ok x) f g = refl
+in_turn (Err e) f g = refl
 
 -- the first step has a value
 pub then_ok : {A B : Type 0} (r : Checked A) (x : A) (f : A → Checked B) (whole : Checked B)

@@ -1,7 +1,5 @@
-use Rattle.std.proofs.Common.{◌≡◌, ◌∙◌, ◌-◌, ◌≤◌, ap, sym, subst, Ok, Some, map, length}
-use Rattle.std.proofs.Common.{slice_get, arith}
+use Rattle.std.proofs.Common.{◌≡◌, ◌∙◌, ◌-◌, ap, sym, subst, refl, Ok, Some, map, slice_get, arith}
 use Rattle.std.specs.Prelude.{Result, option_map}
-use Rattle.std.proofs.Math.ListN.{drop_of_length-le}
 use Rattle.std.proofs.lemmas.List.{length-map}
 use Rattle.std.proofs.lemmas.Option.{slice_get-map}
 use Rattle.std.proofs.lemmas.Result.{err_from_is_err_and}
@@ -12,14 +10,13 @@ use Rattle.smap_shape.specs.declared.kinds.Shape.{Shape}
 use Rattle.smap_shape.specs.Members.{MapMembers, flat, index}
 use Rattle.smap_shape.specs.Reading.{shape_of}
 use Rattle.smap_shape.specs.Views.{index_members, shape_members}
-use Rattle.smap_record.specs.Record.{Listing}
 use Rattle.smap_record.specs.Results.{Fails, Returns}
-use Rattle.smap_record.specs.Faults.{Checked, of_shape}
-use Rattle.smap_record.specs.Sections.{section_map, listed_section, listed_sections}
+use Rattle.smap_record.specs.Faults.{of_shape, in_section}
+use Rattle.smap_record.specs.Sections.{section_map, listed_section}
 use Rattle.smap_record.specs.MapView.{listing_of}
-use Rattle.smap_record.specs.Building.{error_in, both, section_start}
+use Rattle.smap_record.specs.Building.{both, section_start}
 use Rattle.smap_record.proofs.StepLemmas.{then_ok, first_fails, then_fails}
-use Rattle.smap_record.proofs.SectionLemmas.{section_in_steps, sections_more, sections_fault, sections_all}
+use Rattle.smap_record.proofs.SectionLemmas.{section_in_steps, sections_next, sections_end, fails_within}
 use Rattle.smap_record.proofs.DepthLemmas.{section_depth, map_depth, has_room, map_of_flat, map_of_index}
 use Rattle.smap_record.proofs.DepthLemmas.{map_of_deepest}
 use Rattle.smap_record.proofs.sections.+nested.Goals as goal
@@ -76,8 +73,8 @@ with_section-returns-in_err-offset-clause-reads t c =
     rw (
       p.1,
       p.2,
-      section_in_steps (section_map c.args.base.now c.args.limits (8 - c.args.level)) c.args.outer
-          c.args.last before c.args.level (view c.args.tree.now),
+      section_in_steps c.args.level (section_map c.args.base.now c.args.limits (8 - c.args.level))
+          c.args.outer c.args.last before (view c.args.tree.now),
     )
     (then_fails _ _ _ _ c.in_ok-section.ensures (first_fails _ _ _
     (subst (λ own. Fails error (section_start c.args.outer c.args.last before own)) c.own_offset-own.ensures
@@ -101,12 +98,13 @@ with_sections-returns-in-Err-clause-reads t c =
     let all = map view c.args.shape.now.sections in
     let at : slice_get all c.loop-k.k ≡ Some (view c.section_value-tree.result.now) = slice_get-map view
     c.args.shape.now.sections c.loop-k.k ∙ ap (option_map view) c.section_value-tree.ensures in
-    rw c.in_section.ensures
-    (subst (λ (r : Checked Listing). Fails (error_in c.loop-k.k c.in-Err.error) r)
-    (sym c.loop-k.invariant.reads)
-    (sections_fault c.args.level (section_map c.args.base.now c.args.limits (8 - c.args.level)) c.args.outer
-    c.loop-k.k c.loop-k.last (listing_of c.loop-k.listed) all (view c.section_value-tree.result.now) at
-    c.in-Err.error c.in-Err.ensures.reads))
+    rw (
+      c.in_section.ensures,
+      c.loop-k.invariant.reads,
+      sections_next c.args.level (section_map c.args.base.now c.args.limits (8 - c.args.level)) c.args.outer
+          c.loop-k.k c.loop-k.last (listing_of c.loop-k.listed) all _ at,
+    )
+    (first_fails _ _ _ (fails_within c.loop-k.k c.in-Err.error _ c.in-Err.ensures.reads))
 
 pub with_sections-loop-k-preserved : goal.with_sections-loop-k-preserved
 with_sections-loop-k-preserved t c =
@@ -115,18 +113,17 @@ with_sections-loop-k-preserved t c =
     c.args.shape.now.sections c.loop-k.k ∙ ap (option_map view) c.section_value-tree.ensures in
     record {
       reads = c.loop-k.invariant.reads
-          ∙ sections_more c.args.level (section_map c.args.base.now c.args.limits (8 - c.args.level))
-          c.args.outer c.loop-k.k c.loop-k.last (listing_of c.loop-k.listed) all
-          (view c.section_value-tree.result.now) at (both (c.in-Ok.own, c.in-Ok.now)) c.in-Ok.ensures.reads;
+          ∙ sections_next c.args.level (section_map c.args.base.now c.args.limits (8 - c.args.level))
+          c.args.outer c.loop-k.k c.loop-k.last (listing_of c.loop-k.listed) all _ at
+          ∙ then_ok _ (both (c.in-Ok.own, c.in-Ok.now)) _ _ (ap (in_section c.loop-k.k) c.in-Ok.ensures.reads)
+          refl;
       fits = c.in-Ok.ensures.fits;
     }
 
 pub with_sections-returns-clause-reads : goal.with_sections-returns-clause-reads
 with_sections-returns-clause-reads t c =
     let all = map view c.args.shape.now.sections in
-    let end : length all ≤ c.loop-k.k = omega (arith, length-map c.args.shape.now.sections view) in
     c.loop-k.invariant.reads
-    ∙ ap (listed_sections c.args.level (section_map c.args.base.now c.args.limits (8 - c.args.level))
-    c.args.outer c.loop-k.k c.loop-k.last (listing_of c.loop-k.listed)) (drop_of_length-le all end)
-    ∙ sections_all c.args.level (section_map c.args.base.now c.args.limits (8 - c.args.level)) c.args.outer
-    c.loop-k.k c.loop-k.last (listing_of c.loop-k.listed)
+    ∙ sections_end c.args.level (section_map c.args.base.now c.args.limits (8 - c.args.level)) c.args.outer
+    c.loop-k.k c.loop-k.last (listing_of c.loop-k.listed) all
+    (omega (arith, length-map c.args.shape.now.sections view))
