@@ -72,16 +72,12 @@ module _ (base : Parts) (root : Option (List ℕ)) (ignored : List ℕ) where
   url n i None = tt
   url n i (Some source) = search (arith, then, at_source)
 
-  entry : (n i : ℕ) (source content : Option (List ℕ)) (flag : Bool)
-      → IsAtMost n (source_entry base root i source content flag)
-  entry n i source content flag = search (arith, then, url)
-
   entries : (n i : ℕ) (sources contents : List (Option (List ℕ)))
       → IsAtMost n (entries_from base root ignored i sources contents)
   unfolding entries_from
   entries n i [] contents = tt
   entries n i (s ∷ ss) [] = tt
-  entries n i (s ∷ ss) (c ∷ cs) = search (arith, then, entry, entries n (i + 1) ss cs)
+  entries n i (s ∷ ss) (c ∷ cs) = search (arith, then, url, entries n (i + 1) ss cs) depth 12
 
 pub flat_depth : (base : Parts) (limits : Allowed) (offset : Position) (before : Listing) (m : Flat) (n : ℕ)
     → IsAtMost n (listed_flat base limits offset before m)
@@ -122,7 +118,7 @@ pub has_room : {A : Type 0} (n : ℕ) (error : ReadError) (r : Checked A)
     → n < max_level → IsAtMost n r → Fails error r → HasRoom error
 has_room n (Refused fault) (Ok x) less h fails = absurd cc
 has_room n (Refused fault) (Err e) less h fails =
-    let same : e ≡ fault = cc in subst (λ (f : _). length f.section < max_level) same (omega (arith, h, less))
+    let same : e ≡ fault = cc in rw (← same) (omega (arith, h, less))
 has_room n Memory r less h fails = tt
 
 -- ---- the map of a section, by its level

@@ -23,10 +23,7 @@ use Rattle.smap_record.proofs.ListLemmas.{all_append, all_weaker}
 
 same_texts_of : (a b : Option (String Global))
     → option_eq string_eq a b ≡ same_text (option_map string_bytes a) (option_map string_bytes b)
-same_texts_of None None = refl
-same_texts_of None (Some b) = refl
-same_texts_of (Some a) None = refl
-same_texts_of (Some a) (Some b) = refl
+same_texts_of a b = grind arith
 
 same_key-entries : (a b : SourceEntry) → same_key a b ≡ same_entry (entry_of a) (entry_of b)
 same_key-entries a b = rw (same_texts_of a.url b.url, same_texts_of a.content b.content) refl

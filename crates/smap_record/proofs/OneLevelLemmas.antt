@@ -1,10 +1,11 @@
 -- Texts of the time when index maps couldn't nest are read as they were.
 use Rattle.std.proofs.Common.{◌≡◌, ℕ, ◌+◌, ◌<◌, ◌≤◌, List, [], ◌∷◌, Option, Some, None, Ok, Err, ap, refl}
 use Rattle.std.proofs.Common.{true, false, arith, inl, inr}
-use Rattle.std.specs.Prelude.{◌≢◌, Result, IfOk, codes, option_and_then}
+use Rattle.std.specs.Prelude.{◌≢◌, Result, IfOk, codes}
 use Rattle.std.proofs.lemmas.Bool.{cases_Bool, le-ltb}
 use Rattle.std.proofs.lemmas.Bool.Decides.{nat_tests}
 use Rattle.std.proofs.lemmas.List.{nil_from_length}
+use Rattle.std.proofs.lemmas.Option.{option_and_then_some}
 use Rattle.std.proofs.lemmas.Result.{IfOk-at_ok}
 use Rattle.url.specs.Parts.{Parts}
 use Rattle.serde_json.specs.Data.{Data}
@@ -60,22 +61,14 @@ number_within : (count : ℕ) (d : Data) (n : ℕ) → number_below count d ≡ 
 unfolding number_below
 number_within count d n h = grind (arith, nat_tests)
 
--- what holds of each number in range holds of what follows one that is read
-after_number : (Q : Section Data → Type 0) (key : List ℕ) (d : Data) (f : ℕ → Result (Section Data) ShapeFault)
-    → ((n : ℕ) → n ≤ max_position → IfOk (f n) Q)
-    → IfOk (shape_or_fault shape.Offset (position_member key d) >>= f) Q
-after_number Q key d f each = by (member_of key d)
-  where
-    read : (o : Option ℕ) → ((n : ℕ) → o ≡ Some n → n ≤ max_position)
-        → IfOk (shape_or_fault shape.Offset o >>= f) Q
-    read None low = tt
-    read (Some n) low = each n (low n refl)
+position_within : (key : List ℕ) (d : Data) (n : ℕ) → position_member key d ≡ Some n → n ≤ max_position
+position_within key d n h = option_and_then_some (number_below (max_position + 1)) (member_of key d) n h
+    (λ v at is. let less = number_within (max_position + 1) v n is in omega (arith, less))
 
-    by : (o : Option Data)
-        → IfOk (shape_or_fault shape.Offset (option_and_then (number_below (max_position + 1)) o) >>= f) Q
-    by None = tt
-    by (Some v) = read (number_below (max_position + 1) v)
-        (λ n is. let less = number_within (max_position + 1) v n is in omega (arith, less))
+after_some : {A B : Type 0} (Q : B → Type 0) (fault : ShapeFault) (o : Option A) (f : A → Result B ShapeFault)
+    → ((x : A) → o ≡ Some x → IfOk (f x) Q) → IfOk (shape_or_fault fault o >>= f) Q
+after_some Q fault None f each = tt
+after_some Q fault (Some x) f each = each x refl
 
 after_any : {A B : Type 0} (Q : B → Type 0) (r : Result A ShapeFault) (f : A → Result B ShapeFault)
     → ((x : A) → IfOk (f x) Q) → IfOk (r >>= f) Q
@@ -84,7 +77,7 @@ after_any Q (Err e) f each = tt
 
 module _ (tree : Data) where
   within : IfOk (offset_and_map tree) IsInPlace
-  within = search (arith, after_number, after_any) depth 12
+  within = search (arith, after_some, after_any, position_within) depth 12
 
   section_within : IfOk (section_of 8 tree) IsInPlace
   unfolding section_of
