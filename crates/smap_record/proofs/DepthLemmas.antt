@@ -1,31 +1,27 @@
 -- How many sections the path of a fault names, and how a section's map is read at its level.
 use Rattle.std.proofs.Common.{◌≡◌, ℕ, zero, suc, ◌+◌, ◌-◌, ◌≤◌, ◌<◌, List, [], ◌∷◌, length, Option, Some}
-use Rattle.std.proofs.Common.{None, Ok, Err, ◌∙◌, refl, Bool, true, false, arith, subst}
+use Rattle.std.proofs.Common.{None, Ok, Err, refl, Bool, true, false, arith}
 use Rattle.std.specs.Prelude.{Result}
 use Rattle.url.specs.Parts.{Parts}
 use Rattle.serde_json.specs.Data.{Data}
 use Rattle.smap_mappings.specs.declared.error.SegmentPlace.{SegmentPlace}
 use Rattle.smap_mappings.specs.declared.error.SegmentKind.{SegmentKind}
 use Rattle.smap_mappings.specs.declared.position.Position.{Position}
-use Rattle.smap_mappings.specs.Decoded.{decoded}
 use Rattle.smap_shape.specs.declared.fault.ShapeFault.{ShapeFault}
 use Rattle.smap_shape.specs.Limits.{max_level}
-use Rattle.smap_shape.specs.Members.{Flat, Index, MapMembers, flat, index, is_listed}
-use Rattle.smap_shape.specs.Reading.{shape_of, section_of}
+use Rattle.smap_shape.specs.Members.{Flat, Index, MapMembers, flat, index}
 use Rattle.smap_record.specs.declared.fault.Kind.{Kind}
-use Rattle.smap_record.specs.declared.fault.Kind.TheVariants.{Nested, Offset, Order, Overlap, TooMany}
+use Rattle.smap_record.specs.declared.fault.Kind.TheVariants.{Nested}
 use Rattle.smap_record.specs.declared.fault.ReadError.{ReadError}
 use Rattle.smap_record.specs.declared.fault.ReadError.TheVariants.{Refused, Memory}
 use Rattle.smap_record.specs.Record.{Listing, Allowed}
 use Rattle.smap_record.specs.Results.{Fails}
-use Rattle.smap_record.specs.Source.{Resolved, no_url, unstable, resolved, resolve}
+use Rattle.smap_record.specs.Source.{Resolved, no_url, unstable, resolved}
 use Rattle.smap_record.specs.Faults.{Checked, ◌>>=◌, refuse, refuse_if, or_fault, of_shape, of_segments}
 use Rattle.smap_record.specs.Faults.{in_section}
-use Rattle.smap_record.specs.Flat.{listed_flat, entries_from, source_entry, source_url, source_at}
-use Rattle.smap_record.specs.Flat.{is_too_many, bounds_of}
+use Rattle.smap_record.specs.Flat.{listed_flat, entries_from, source_url, source_at}
 use Rattle.smap_record.specs.Building.{HasRoom}
-use Rattle.smap_record.specs.Sections.{Inner, own_offset, combined, falls, overlaps, listed_section}
-use Rattle.smap_record.specs.Sections.{listed_sections, section_map}
+use Rattle.smap_record.specs.Sections.{Inner, listed_section, listed_sections, section_map}
 
 -- A fault names at most n sections.
 abbrev pub IsAtMost : {A : Type 0} → ℕ → Checked A → Type 0
@@ -91,7 +87,8 @@ module _ (level : ℕ) (inner : Inner) (n : ℕ)
   where
     pub section_depth : (outer : Position) (last : Option Position) (before : Listing) (tree : Data)
         → IsAtMost n (listed_section level inner outer last before tree)
-    section_depth outer last before tree = search (arith, then, by_shape, or_refused, if_refused, each) depth 20
+    section_depth outer last before tree =
+        search (arith, then, by_shape, or_refused, if_refused, each) depth 20
 
     sections_depth : (outer : Position) (k : ℕ) (last : Option Position) (before : Listing)
         (trees : List Data)

@@ -11,7 +11,6 @@ use Rattle.smap_record.specs.Faults.{Checked, ◌>>=◌}
 use Rattle.smap_record.specs.Flat.{source_entry, source_url, entries_from}
 use Rattle.smap_record.specs.Steps.{after, with_one, FollowsSource}
 use Rattle.smap_record.proofs.ListLemmas.{drop_next, get-end}
-use Rattle.smap_record.proofs.StepLemmas.{bound}
 
 entry_first : (front : List Entry) (read : Checked Entry) (rest : Checked (List Entry))
     → after front (read >>= λ entry. rest >>= λ entries. Ok (entry ∷ entries))
@@ -53,11 +52,12 @@ one_more front r all ok = let last = with_one_ok front r all ok in
 
 -- what one entry has to do with the source after it
 module _ (base : Parts) (root : Option (List ℕ)) where
-  -- a URL is the same at each index
-  url_at_each : (i k : ℕ) (source url : Option (List ℕ)) → source_url base root i source ≡ Ok url
-      → source_url base root k source ≡ Ok url
+  -- the URL of an entry is that of the source, at each index
+  url_at_each : (i k : ℕ) (source content : Option (List ℕ)) (ignored : Bool) (entry : Entry)
+      → source_entry base root i source content ignored ≡ Ok entry
+      → source_url base root k source ≡ Ok entry.url
   unfolding source_url
-  url_at_each i k source url is = grind arith
+  url_at_each i k source content ignored entry is = grind arith
 
   pub follows : (sources : List (Option (List ℕ))) (i : ℕ) (source content : Option (List ℕ))
       (ignored : Bool) (front all : List Entry) → slice_get sources i ≡ Some source
@@ -65,15 +65,12 @@ module _ (base : Parts) (root : Option (List ℕ)) where
       → FollowsSource base root sources (i + 1) all
   follows sources i source content ignored front all at ok _ =
       let last = with_one_ok front (source_entry base root i source content ignored) all ok in
-      let read = bound (source_url base root i source)
-      (λ url. Ok (record { url = url; content = content; ignored = ignored })) last.0 last.1 in
       let place : length all - 1 ≡ length front =
       omega (arith, one_more front (source_entry base root i source content ignored) all ok) in
       let back : i + 1 - 1 ≡ i = omega arith in (
         last.0,
         rw place (ap (λ es. slice_get es (length front)) last.2 ∙ get-end front last.0),
         λ other here k.
-            let url : source_url base root i source ≡ Ok last.0.url = let at = read.1 in let same = read.2 in cc in
             let same : source ≡ other = same_Some source other (sym at ∙ (rw back at here)) in
-            rw (← same) (url_at_each i k source last.0.url url),
+            rw (← same) (url_at_each i k source content ignored last.0 last.1),
       )

@@ -1,6 +1,6 @@
 -- The record of a listing fits where the listing keeps to the limits and each URL is its own.
-use Rattle.std.proofs.Common.{◌≡◌, ℕ, ◌<◌, ◌≤◌, List, [], ◌∷◌, length, map, Option, Some, None, slice_get, refl}
-use Rattle.std.proofs.Common.{true, arith}
+use Rattle.std.proofs.Common.{◌≡◌, ℕ, ◌<◌, ◌≤◌, List, [], ◌∷◌, length, map, Option, Some, None, slice_get}
+use Rattle.std.proofs.Common.{refl, true, arith}
 use Rattle.std.specs.Prelude.{IfSome, bytes_eq, unwrap_or, option_map, option_and_then, Contains}
 use Rattle.std.specs.List.{AllByRecursion, list_any, filter_map, cons_option}
 use Rattle.std.proofs.lemmas.List.Folds.{list_any_at}
@@ -9,7 +9,7 @@ use Rattle.std.proofs.lemmas.Option.{slice_get_within, unwrap_or-slice_get}
 use Rattle.url.specs.Parts.{Parts}
 use Rattle.smap_mappings.specs.declared.token.Token.{Token}
 use Rattle.smap_mappings.specs.declared.token.Original.{Original}
-use Rattle.smap_mappings.specs.Position.{position_of, NeverFalls}
+use Rattle.smap_mappings.specs.Position.{position_of}
 use Rattle.smap_mappings.specs.Text.{IsPlaced, IsOriginal}
 use Rattle.smap_record.specs.Record.{Entry, Origin, Mapping, Listing, ReadMap, Allowed, no_entry, same_entry}
 use Rattle.smap_record.specs.Record.{distinct, origin_of, mapping_of, record_of}

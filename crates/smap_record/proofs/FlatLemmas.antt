@@ -10,7 +10,7 @@ use Rattle.smap_mappings.specs.declared.token.Bounds.{Bounds}
 use Rattle.smap_mappings.specs.declared.position.Position.{Position}
 use Rattle.smap_mappings.specs.declared.error.SegmentPlace.{SegmentPlace}
 use Rattle.smap_mappings.specs.declared.error.SegmentKind.{SegmentKind}
-use Rattle.smap_mappings.specs.Position.{POSITIONS, LINES, IsPosition, is_before, position_of, NeverFalls}
+use Rattle.smap_mappings.specs.Position.{POSITIONS, LINES, IsPosition, is_before, position_of}
 use Rattle.smap_mappings.specs.Text.{IsOriginal, IsPlaced}
 use Rattle.smap_mappings.specs.Tokens.{start_of}
 use Rattle.smap_mappings.specs.Decoded.{AreBounds, IsWithin, IsFromStart, decoded}
@@ -20,8 +20,8 @@ use Rattle.smap_record.specs.declared.fault.Kind.TheVariants.{TooMany}
 use Rattle.smap_record.specs.Record.{Entry, Listing, Allowed}
 use Rattle.smap_record.specs.Source.{Resolved, no_url, unstable, resolved, resolve}
 use Rattle.smap_record.specs.Faults.{Checked, ◌>>=◌, refuse, of_segments}
-use Rattle.smap_record.specs.Flat.{is_too_many, bounds_of, listed_flat, shifted, shifted_original}
-use Rattle.smap_record.specs.Flat.{source_at, source_url, source_entry, entries_from}
+use Rattle.smap_record.specs.Flat.{is_too_many, bounds_of, listed_flat, shifted, shifted_original, source_at}
+use Rattle.smap_record.specs.Flat.{source_url, source_entry, entries_from}
 use Rattle.smap_record.specs.Listings.{IsListedOriginal, IsListedToken}
 use Rattle.smap_record.specs.Fitting.{IsOwnUrl, HasOwnUrl, ListingFits}
 use Rattle.smap_record.specs.Steps.{after, joined_tokens}
@@ -31,7 +31,7 @@ use Rattle.std.proofs.lemmas.List.{map-append}
 use Rattle.std.proofs.lemmas.Option.{IfSome_then}
 use Rattle.std.proofs.lemmas.Result.{IfOk-at_ok}
 use Rattle.smap_record.proofs.SourceLemmas.{resolve-own}
-use Rattle.smap_record.proofs.StepLemmas.{if_ok, in_turn}
+use Rattle.smap_record.proofs.StepLemmas.{if_ok, bind_assoc}
 use Rattle.smap_record.proofs.ListLemmas.{all_append, all_map, all_both, all_weaker}
 use Rattle.smap_record.proofs.JoinedLemmas.{none_after, join_NeverFalls}
 
@@ -79,7 +79,7 @@ module _ (base : Parts) (limits : Allowed) (offset : Position) (before : Listing
         joined_tokens before.tokens (length before.sources) (length before.names) (bounds_of limits offset m)
         m.mappings >>= λ tokens.
         Ok (record { sources = sources; names = before.names ++ m.names; tokens = tokens }))
-    flat_in_steps = rw few_listed (simp (after_is, in_turn))
+    flat_in_steps = rw few_listed (simp (after_is, bind_assoc))
 
     -- how much is listed
     few_each : (length before.sources + length m.sources ≤ limits.items)
@@ -122,7 +122,8 @@ module _ (bounds : Bounds) (sources names : ℕ) where
         source = (let below = k.source in omega (arith, below, few_sources));
         line = p.line;
         column = p.column;
-        name = IfSome_then (option_map (λ n. names + n) o.name) k.name (λ n below. omega (arith, below, few_names));
+        name = IfSome_then (option_map (λ n. names + n) o.name) k.name
+            (λ n below. omega (arith, below, few_names));
       }
 
 -- what is listed stays listed when more is
@@ -221,10 +222,10 @@ module _ (base : Parts) (limits : Allowed) (offset : Position) (before : Listing
               map-append position_of before.tokens (map moved ts),
               moved_positions (length before.sources) (length before.names) ts,
             )
-            (join_NeverFalls offset (map position_of before.tokens) (map position_of ts)
-            fits.listing.encodable.0 encodable.0 (none_after offset before.tokens none)
-            (all_map (IsFromStart bounds) (λ p. is_before p (start_of bounds) ≡ false) position_of (λ t h. h) ts
-            (decoded-from_start bounds m.mappings ts said))),
+                (join_NeverFalls offset (map position_of before.tokens) (map position_of ts)
+                fits.listing.encodable.0 encodable.0 (none_after offset before.tokens none)
+                (all_map (IsFromStart bounds) (λ p. is_before p (start_of bounds) ≡ false) position_of
+                (λ t h. h) ts (decoded-from_start bounds m.mappings ts said))),
             all_append IsPlaced before.tokens (map moved ts) fits.listing.encodable.1
                 (all_map (λ t. IsPlaced t × IsWithin bounds t) IsPlaced moved (λ t both. moved_placed bounds
                 (length before.sources) (length before.names) now below_sources below_names t both.0

@@ -1,6 +1,6 @@
 -- Sources that are numbered one by one.
-use Rattle.std.proofs.Common.{◌≡◌, ℕ, ◌<◌, List, [], ◌∷◌, ◌++◌, length, map, get_or, Option, Some, None, refl}
-use Rattle.std.proofs.Common.{◌∙◌, sym, true, false, not, arith, length-append, inl, inr}
+use Rattle.std.proofs.Common.{◌≡◌, ℕ, ◌<◌, List, [], ◌∷◌, ◌++◌, length, map, get_or, Option, refl, ◌∙◌, sym}
+use Rattle.std.proofs.Common.{true, false, not, arith, length-append, inl, inr}
 use Rattle.std.specs.Prelude.{option_map, string_bytes, String, string_eq}
 use Rattle.std.specs.Option.{option_eq}
 use Rattle.std.specs.declared.alloc.Global.{Global}
@@ -12,7 +12,7 @@ use Rattle.std.proofs.lemmas.List.Sums.{fails_before_first, passes_at_first, pre
 use Rattle.std.proofs.lemmas.Option.{unwrap_or-slice_get}
 use Rattle.indexmap.specs.IndexSet.{insert_key}
 use Rattle.smap_record.specs.declared.entry.SourceEntry.{SourceEntry}
-use Rattle.smap_record.specs.Record.{Entry, no_entry, distinct, same_entry, same_text}
+use Rattle.smap_record.specs.Record.{Entry, no_entry, same_entry, same_text}
 use Rattle.smap_record.specs.Entries.{entry_of, same_key}
 use Rattle.smap_record.specs.Numbered.{entry_at, IsNumbered, Numbers}
 use Rattle.smap_record.proofs.DistinctLemmas.{distinct-push}
@@ -77,7 +77,7 @@ numbers_inserted xs e = elim (cases_lt (position_or_len (same_key e) xs) (length
       let most = prefix_len-le-length (λ x. not (same_key e x)) xs in
       let last : position_or_len (same_key e) xs ≡ length xs = omega (arith, most, beyond) in
       rw last (numbers_added xs e (list_any_none (same_key e) xs (λ k d below.
-          fails_before_first (same_key e) xs k d (omega (arith, below, beyond)))))
+      fails_before_first (same_key e) xs k d (omega (arith, below, beyond)))))
 ]
 
 -- ---- one more is listed

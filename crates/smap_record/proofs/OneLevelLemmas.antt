@@ -1,6 +1,6 @@
 -- Texts of the time when index maps couldn't nest are read as they were.
 use Rattle.std.proofs.Common.{◌≡◌, ℕ, ◌+◌, ◌<◌, ◌≤◌, List, [], ◌∷◌, Option, Some, None, Ok, Err, ap, refl}
-use Rattle.std.proofs.Common.{true, false, arith, inl, inr}
+use Rattle.std.proofs.Common.{false, arith, inl, inr}
 use Rattle.std.specs.Prelude.{◌≢◌, Result, IfOk, codes}
 use Rattle.std.proofs.lemmas.Bool.{cases_Bool, le-ltb}
 use Rattle.std.proofs.lemmas.Bool.Decides.{nat_tests}
@@ -15,8 +15,7 @@ use Rattle.smap_shape.specs.declared.fault.ShapeFault.{ShapeFault}
 use Rattle.smap_shape.specs.declared.fault.ShapeFault.TheVariants as shape
 use Rattle.smap_shape.specs.Members.{Section, MapMembers, flat, index}
 use Rattle.smap_shape.specs.Reading.{shape_of, section_of, offset_and_map, number_below, position_member}
-use Rattle.smap_shape.specs.Reading.{member_of, has}
-use Rattle.smap_shape.specs.Reading.{or_fault as shape_or_fault, refuse_if as shape_refuse_if}
+use Rattle.smap_shape.specs.Reading.{member_of, has, or_fault as shape_or_fault, refuse_if as shape_refuse_if}
 use Rattle.smap_record.specs.declared.fault.Kind.TheVariants.{Nested, Order, Overlap}
 use Rattle.smap_record.specs.Record.{Listing, Allowed}
 use Rattle.smap_record.specs.Faults.{Checked, ◌>>=◌, refuse_if, of_shape, in_section}

@@ -7,7 +7,7 @@ use Rattle.smap_shape.specs.Contents.{with_contents}
 use Rattle.smap_record.specs.Owned.{texts_of}
 use Rattle.smap_record.specs.Flat.{listed_flat}
 use Rattle.smap_record.specs.MapView.{listing_of}
-use Rattle.smap_record.proofs.StepLemmas.{then_ok, first_fails, then_fails}
+use Rattle.smap_record.proofs.StepLemmas.{first_fails}
 use Rattle.smap_record.proofs.FlatLemmas.{too_many, flat_in_steps, flat_fits}
 use Rattle.smap_record.proofs.flat.with_contents.Goals as goal
 use Rattle.smap_record.proofs.flat.with_contents.Goals.{In_ok-names}
@@ -47,10 +47,11 @@ returns-in_err-tokens-clause-reads c =
       flat_in_steps c.args.base.now c.args.limits c.args.offset (listing_of c.args.before)
           (owned c.args.contents.items c.args.shape.now)
           (sym c.is_too_many.ensures.value ∙ c.if-is_too_many.false),
+      c.in_ok-sources.ensures.lists,
     )
-    (then_fails _ _ _ _ c.in_ok-sources.ensures.lists (first_fails _ _ _
+    (first_fails _ _ _
     (rw (c.listed_count-source_count.ensures, names, c.bounds-bounds.ensures.value, c.mappings.ensures) at
-    c.in_err-tokens.ensures)))
+    c.in_err-tokens.ensures))
 
 -- the definition gives what is listed then
 reads : (c : In_ok-names) → listed_flat c.args.base.now c.args.limits c.args.offset
@@ -65,12 +66,18 @@ reads c =
     let kept = c.args.before.names.ok in
     let names : c.len-name_count.result ≡ length (map string_bytes c.args.before.names.items) =
     omega (arith, len, kept, length-map c.args.before.names.items string_bytes) in
-    flat_in_steps c.args.base.now c.args.limits c.args.offset (listing_of c.args.before)
-    (owned c.args.contents.items c.args.shape.now) (sym c.is_too_many.ensures.value ∙ c.if-is_too_many.false)
-    ∙ then_ok _ _ _ _ c.in_ok-sources.ensures.lists (then_ok _ _ _ _
-    (rw (c.listed_count-source_count.ensures, names, c.bounds-bounds.ensures.value, c.mappings.ensures) at
-    c.in_ok-tokens.ensures)
-    (rw c.in_ok-names.ensures refl))
+    let tokens =
+    rw (c.listed_count-source_count.ensures, names, c.bounds-bounds.ensures.value, c.mappings.ensures) at
+    c.in_ok-tokens.ensures
+    in
+    rw (
+      flat_in_steps c.args.base.now c.args.limits c.args.offset (listing_of c.args.before)
+          (owned c.args.contents.items c.args.shape.now)
+          (sym c.is_too_many.ensures.value ∙ c.if-is_too_many.false),
+      c.in_ok-sources.ensures.lists,
+      tokens,
+      c.in_ok-names.ensures,
+    ) refl
 
 pub returns-clause-reads : goal.returns-clause-reads
 returns-clause-reads c = reads c

@@ -1,15 +1,11 @@
-use Rattle.std.proofs.Common.{◌≡◌, ◌∙◌, ◌-◌, ap, refl, Some, map, slice_get, arith}
-use Rattle.std.specs.Prelude.{option_map}
-use Rattle.std.proofs.lemmas.List.{length-map}
-use Rattle.std.proofs.lemmas.Option.{slice_get-map}
+use Rattle.std.proofs.Common.{◌∙◌, ◌-◌, refl, arith}
 use Rattle.std.proofs.lemmas.Result.{err_from_is_err_and}
 use Rattle.serde_json.specs.View.{view}
 use Rattle.smap_shape.specs.Views.{index_members}
 use Rattle.smap_record.specs.Faults.{in_section}
 use Rattle.smap_record.specs.Sections.{section_map, listed_section}
 use Rattle.smap_record.specs.MapView.{listing_of}
-use Rattle.smap_record.specs.Building.{both}
-use Rattle.smap_record.proofs.StepLemmas.{then_ok, first_fails, then_fails}
+use Rattle.smap_record.proofs.StepLemmas.{first_fails}
 use Rattle.smap_record.proofs.SectionLemmas.{section_in_steps, sections_next, sections_end, fails_within}
 use Rattle.smap_record.proofs.DepthLemmas.{section_depth, map_depth, has_room, map_of_flat, map_of_index}
 use Rattle.smap_record.proofs.DepthLemmas.{map_of_deepest}
@@ -59,9 +55,9 @@ with_section-returns-in_err-offset-clause-reads t c =
       p.2,
       section_in_steps c.args.level (section_map c.args.base.now c.args.limits (8 - c.args.level))
           c.args.outer c.args.last (listing_of c.args.before) (view c.args.tree.now),
+      c.in_ok-section.ensures,
     )
-    (then_fails _ _ _ _ c.in_ok-section.ensures
-    (first_fails _ _ _ (rw c.own_offset-own.ensures at c.in_err-offset.ensures.starts)))
+    (first_fails _ _ _ (rw c.own_offset-own.ensures at c.in_err-offset.ensures.starts))
 
 -- ---- all sections
 
@@ -78,35 +74,28 @@ with_sections-in_section-requires t c =
 
 pub with_sections-returns-in-Err-clause-reads : goal.with_sections-returns-in-Err-clause-reads
 with_sections-returns-in-Err-clause-reads t c =
-    let all = map view c.args.shape.now.sections in
-    let at : slice_get all c.loop-k.k ≡ Some (view c.section_value-tree.result.now) = slice_get-map view
-    c.args.shape.now.sections c.loop-k.k ∙ ap (option_map view) c.section_value-tree.ensures in
     rw (
       c.in_section.ensures,
       c.loop-k.invariant.reads,
       sections_next c.args.level (section_map c.args.base.now c.args.limits (8 - c.args.level)) c.args.outer
-          c.loop-k.k c.loop-k.last (listing_of c.loop-k.listed) all _ at,
+          c.loop-k.k c.loop-k.last (listing_of c.loop-k.listed) c.args.shape.now.sections _
+          c.section_value-tree.ensures,
     )
     (first_fails _ _ _ (fails_within c.loop-k.k c.in-Err.error _ c.in-Err.ensures.reads))
 
 pub with_sections-loop-k-preserved : goal.with_sections-loop-k-preserved
-with_sections-loop-k-preserved t c =
-    let all = map view c.args.shape.now.sections in
-    let at : slice_get all c.loop-k.k ≡ Some (view c.section_value-tree.result.now) = slice_get-map view
-    c.args.shape.now.sections c.loop-k.k ∙ ap (option_map view) c.section_value-tree.ensures in
-    record {
-      reads = c.loop-k.invariant.reads
-          ∙ sections_next c.args.level (section_map c.args.base.now c.args.limits (8 - c.args.level))
-          c.args.outer c.loop-k.k c.loop-k.last (listing_of c.loop-k.listed) all _ at
-          ∙ then_ok _ (both (c.in-Ok.own, c.in-Ok.now)) _ _ (ap (in_section c.loop-k.k) c.in-Ok.ensures.reads)
-          refl;
-      fits = c.in-Ok.ensures.fits;
-    }
+with_sections-loop-k-preserved t c = record {
+  reads = rw (
+    c.loop-k.invariant.reads,
+    sections_next c.args.level (section_map c.args.base.now c.args.limits (8 - c.args.level)) c.args.outer
+        c.loop-k.k c.loop-k.last (listing_of c.loop-k.listed) c.args.shape.now.sections _
+        c.section_value-tree.ensures,
+    c.in-Ok.ensures.reads,
+  ) refl;
+  fits = c.in-Ok.ensures.fits;
+}
 
 pub with_sections-returns-clause-reads : goal.with_sections-returns-clause-reads
-with_sections-returns-clause-reads t c =
-    let all = map view c.args.shape.now.sections in
-    c.loop-k.invariant.reads
+with_sections-returns-clause-reads t c = c.loop-k.invariant.reads
     ∙ sections_end c.args.level (section_map c.args.base.now c.args.limits (8 - c.args.level)) c.args.outer
-    c.loop-k.k c.loop-k.last (listing_of c.loop-k.listed) all
-    (omega (arith, length-map c.args.shape.now.sections view))
+    c.loop-k.k c.loop-k.last (listing_of c.loop-k.listed) c.args.shape.now.sections (omega arith)
