@@ -12,6 +12,7 @@ use Rattle.smap_record.specs.Flat.{source_entry, source_url, entries_from}
 use Rattle.smap_record.specs.Steps.{after, with_one, FollowsSource}
 use Rattle.smap_record.proofs.ListLemmas.{drop_next, get-end}
 
+-- the first entry goes behind those before it, and then the others
 entry_first : (front : List Entry) (read : Checked Entry) (rest : Checked (List Entry))
     → after front (read >>= λ entry. rest >>= λ entries. Ok (entry ∷ entries))
     ≡ (with_one front read >>= λ all. after all rest)

@@ -39,6 +39,7 @@ name_listed l None x named = absurd cc
 name_listed l (Some o) x named =
     option_and_then_some (slice_get l.names) o.name x named (λ n here at. one_at l.names n x at)
 
+-- one more, if there is one
 all_cons : {A : Type 0} (P : A → Type 0) (o : Option A) (xs : List A) → ((x : A) → o ≡ Some x → P x)
     → AllByRecursion P xs → AllByRecursion P (cons_option o xs)
 all_cons P None xs one rest = rest

@@ -119,7 +119,7 @@ module _ (bounds : Bounds) (sources names : ℕ) where
           → IfSome (option_map (shifted_original sources names) o) IsOriginal
       by None p k = tt
       by (Some o) p k = record {
-        source = (let below = k.source in omega (arith, below, few_sources));
+        source = omega (arith, k.source, few_sources);
         line = p.line;
         column = p.column;
         name = IfSome_then (option_map (λ n. names + n) o.name) k.name
@@ -129,8 +129,8 @@ module _ (bounds : Bounds) (sources names : ℕ) where
 -- what is listed stays listed when more is
 still_listed : (l k : Listing) → length l.sources ≤ length k.sources → length l.names ≤ length k.names
     → (t : Token) → IsListedToken l t → IsListedToken k t
-still_listed l k sources names t h = IfSome_then t.original h (λ o at. let below = at.source in record {
-  source = omega (arith, below, sources);
+still_listed l k sources names t h = IfSome_then t.original h (λ o at. record {
+  source = omega (arith, at.source, sources);
   name = IfSome_then o.name at.name (λ n below. omega (arith, below, names));
 })
 

@@ -38,6 +38,7 @@ any_key e (x ∷ xs) = rw (same_key-entries e x, any_key e xs) refl
 entry_at_is : (xs : List SourceEntry) (i : ℕ) → entry_at xs i ≡ get_or (map entry_of xs) i no_entry
 entry_at_is xs i = unwrap_or-slice_get (map entry_of xs) i no_entry
 
+-- one that is there has its index
 numbers_found : (xs : List SourceEntry) (e : SourceEntry) (i : ℕ) → i < length xs
     → same_key e (get_or xs i e) ≡ true → Numbers xs (entry_of e) (insert_key same_key xs e) i
 numbers_found xs e i below is =
@@ -52,6 +53,7 @@ numbers_found xs e i below is =
       once = rw (← any_key e xs, there) refl;
     })
 
+-- one that isn't there goes last
 numbers_added : (xs : List SourceEntry) (e : SourceEntry) → list_any (same_key e) xs ≡ false
     → Numbers xs (entry_of e) (insert_key same_key xs e) (length xs)
 numbers_added xs e none =

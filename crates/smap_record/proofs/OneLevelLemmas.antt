@@ -64,6 +64,7 @@ position_within : (key : List ℕ) (d : Data) (n : ℕ) → position_member key 
 position_within key d n h = option_and_then_some (number_below (max_position + 1)) (member_of key d) n h
     (λ v at is. let less = number_within (max_position + 1) v n is in omega (arith, less))
 
+-- what holds after each value that is read holds after reading
 after_some : {A B : Type 0} (Q : B → Type 0) (fault : ShapeFault) (o : Option A) (f : A → Result B ShapeFault)
     → ((x : A) → o ≡ Some x → IfOk (f x) Q) → IfOk (shape_or_fault fault o >>= f) Q
 after_some Q fault None f each = tt

@@ -37,10 +37,8 @@ pub returns-in_err-tokens-clause-reads : goal.returns-in_err-tokens-clause-reads
 returns-in_err-tokens-clause-reads c =
     let p = err_from_is_err_and c.from_residual-in_err-tokens.result
     c.from_residual-in_err-tokens.ensures.1 in
-    let len = c.len-name_count.ensures in
-    let kept = c.args.before.names.ok in
     let names : c.len-name_count.result ≡ length (map string_bytes c.args.before.names.items) =
-    omega (arith, len, kept, length-map c.args.before.names.items string_bytes) in
+    omega (arith, length-map c.args.before.names.items string_bytes) in
     rw (
       p.1,
       p.2,
@@ -62,10 +60,8 @@ reads : (c : In_ok-names) → listed_flat c.args.base.now c.args.limits c.args.o
       tokens = c.in_ok-tokens.tokens;
     }))
 reads c =
-    let len = c.len-name_count.ensures in
-    let kept = c.args.before.names.ok in
     let names : c.len-name_count.result ≡ length (map string_bytes c.args.before.names.items) =
-    omega (arith, len, kept, length-map c.args.before.names.items string_bytes) in
+    omega (arith, length-map c.args.before.names.items string_bytes) in
     let tokens =
     rw (c.listed_count-source_count.ensures, names, c.bounds-bounds.ensures.value, c.mappings.ensures) at
     c.in_ok-tokens.ensures

@@ -34,13 +34,11 @@ with_map-returns-then-level-eq-MAX_LEVEL-clause-reads t c =
 pub with_map-returns-else-level-eq-MAX_LEVEL-clause-reads :
     goal.with_map-returns-else-level-eq-MAX_LEVEL-clause-reads
 with_map-returns-else-level-eq-MAX_LEVEL-clause-reads t c =
-    let most = c.requires.last in
-    let other = c.if-level-eq-MAX_LEVEL.false in
     let read = rw c.in-Ok-Index.field-0-is at c.in-Ok-Index.ensures in
     rw (
       ← read,
       map_of_index c.args.base.now c.args.limits c.args.level c.args.offset (listing_of c.args.before)
-          (index_members c.in-Ok-Index.members) (omega (arith, most, other)),
+          (index_members c.in-Ok-Index.members) (omega (arith, c.requires.last, c.if-level-eq-MAX_LEVEL.false)),
     )
     c.with_sections.ensures.reads
 
@@ -65,9 +63,8 @@ pub with_sections-in_section-requires : goal.with_sections-in_section-requires
 with_sections-in_section-requires t c =
     let n = 8 - c.args.level in
     let inner = section_map c.args.base.now c.args.limits n in
-    let first = c.requires.first in
     has_room n c.in-Err.error (listed_section c.args.level inner c.args.outer c.loop-k.last
-    (listing_of c.loop-k.listed) (view c.section_value-tree.result.now)) (omega (arith, first))
+    (listing_of c.loop-k.listed) (view c.section_value-tree.result.now)) (omega (arith, c.requires.first))
     (section_depth c.args.level inner n (map_depth c.args.base.now c.args.limits n) c.args.outer c.loop-k.last
     (listing_of c.loop-k.listed) (view c.section_value-tree.result.now))
     c.in-Err.ensures.reads
