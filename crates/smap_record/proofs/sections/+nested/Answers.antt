@@ -2,7 +2,6 @@ use Rattle.std.proofs.Common.{◌∙◌, ◌-◌, refl, arith}
 use Rattle.std.proofs.lemmas.Result.{err_from_is_err_and}
 use Rattle.serde_json.specs.View.{view}
 use Rattle.smap_shape.specs.Views.{index_members}
-use Rattle.smap_record.specs.Faults.{in_section}
 use Rattle.smap_record.specs.Sections.{section_map, listed_section}
 use Rattle.smap_record.specs.MapView.{listing_of}
 use Rattle.smap_record.proofs.StepLemmas.{first_fails}
