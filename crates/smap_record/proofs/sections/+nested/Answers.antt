@@ -37,7 +37,8 @@ with_map-returns-else-level-eq-MAX_LEVEL-clause-reads t c =
     rw (
       ← read,
       map_of_index c.args.base.now c.args.limits c.args.level c.args.offset (listing_of c.args.before)
-          (index_members c.in-Ok-Index.members) (omega (arith, c.requires.last, c.if-level-eq-MAX_LEVEL.false)),
+          (index_members c.in-Ok-Index.members)
+          (omega (arith, c.requires.last, c.if-level-eq-MAX_LEVEL.false)),
     )
     c.with_sections.ensures.reads
 
