@@ -1,68 +1,45 @@
-use Rattle.std.proofs.Common.{◌≡◌, ◌∙◌, ◌-◌, ◌≤◌, ap, sym, subst, Ok, Some, map, length}
-use Rattle.std.proofs.Common.{slice_get, arith}
-use Rattle.std.specs.Prelude.{Result, option_map}
-use Rattle.std.proofs.Math.ListN.{drop_of_length-le}
-use Rattle.std.proofs.lemmas.List.{length-map}
-use Rattle.std.proofs.lemmas.Option.{slice_get-map}
+use Rattle.std.proofs.Common.{◌∙◌, ◌-◌, refl, arith}
 use Rattle.std.proofs.lemmas.Result.{err_from_is_err_and}
-use Rattle.serde_json.specs.Data.{Data}
 use Rattle.serde_json.specs.View.{view}
-use Rattle.smap_shape.specs.declared.fault.ShapeFault.{ShapeFault}
-use Rattle.smap_shape.specs.declared.kinds.Shape.{Shape}
-use Rattle.smap_shape.specs.Members.{MapMembers, flat, index}
-use Rattle.smap_shape.specs.Reading.{shape_of}
-use Rattle.smap_shape.specs.Views.{index_members, shape_members}
-use Rattle.smap_record.specs.Record.{Listing}
-use Rattle.smap_record.specs.Results.{Fails, Returns}
-use Rattle.smap_record.specs.Faults.{Checked, of_shape}
-use Rattle.smap_record.specs.Sections.{section_map, listed_section, listed_sections}
+use Rattle.smap_shape.specs.Views.{index_members}
+use Rattle.smap_record.specs.Sections.{section_map, listed_section}
 use Rattle.smap_record.specs.MapView.{listing_of}
-use Rattle.smap_record.specs.Building.{error_in, both, section_start}
-use Rattle.smap_record.proofs.StepLemmas.{then_ok, first_fails, then_fails}
-use Rattle.smap_record.proofs.SectionLemmas.{section_in_steps, sections_more, sections_fault, sections_all}
+use Rattle.smap_record.proofs.StepLemmas.{first_fails}
+use Rattle.smap_record.proofs.SectionLemmas.{section_in_steps, sections_next, sections_end, fails_within}
 use Rattle.smap_record.proofs.DepthLemmas.{section_depth, map_depth, has_room, map_of_flat, map_of_index}
 use Rattle.smap_record.proofs.DepthLemmas.{map_of_deepest}
 use Rattle.smap_record.proofs.sections.+nested.Goals as goal
-
-abbrev has : MapMembers Data → Result (MapMembers Data) ShapeFault
-has members = Ok members
 
 -- ---- the map of a section
 
 pub with_map-returns-in-Ok-Flat-clause-reads : goal.with_map-returns-in-Ok-Flat-clause-reads
 with_map-returns-in-Ok-Flat-clause-reads t c =
-    let m = c.in-Ok-Flat.members in
-    let read : shape_of (view c.args.tree.now) ≡ Ok (flat m) =
-    sym c.in-Ok-Flat.ensures ∙ ap (λ (x : Shape). has (shape_members x)) c.in-Ok-Flat.field-0-is in
-    subst (Returns listing_of c.with_flat.result)
-    (sym (then_ok _ (flat m) _ _ (ap of_shape read)
-    (map_of_flat c.args.base.now c.args.limits (8 - c.args.level) c.args.offset (listing_of c.args.before)
-    m)))
+    let read = rw c.in-Ok-Flat.field-0-is at c.in-Ok-Flat.ensures in
+    rw (
+      ← read,
+      map_of_flat c.args.base.now c.args.limits (8 - c.args.level) c.args.offset (listing_of c.args.before)
+          c.in-Ok-Flat.members,
+    )
     c.with_flat.ensures.reads
 
 pub with_map-returns-then-level-eq-MAX_LEVEL-clause-reads :
     goal.with_map-returns-then-level-eq-MAX_LEVEL-clause-reads
 with_map-returns-then-level-eq-MAX_LEVEL-clause-reads t c =
-    let i = index_members c.in-Ok-Index.members in
-    let read : shape_of (view c.args.tree.now) ≡ Ok (index i) =
-    sym c.in-Ok-Index.ensures ∙ ap (λ (x : Shape). has (shape_members x)) c.in-Ok-Index.field-0-is in
-    rw c.refused.ensures
-    (then_ok _ (index i) _ _ (ap of_shape read)
-    (map_of_deepest c.args.base.now c.args.limits c.args.level c.args.offset (listing_of c.args.before) i
-    c.if-level-eq-MAX_LEVEL.true))
+    let read = rw c.in-Ok-Index.field-0-is at c.in-Ok-Index.ensures in
+    rw (c.refused.ensures, ← read)
+    (map_of_deepest c.args.base.now c.args.limits c.args.level c.args.offset (listing_of c.args.before)
+    (index_members c.in-Ok-Index.members) c.if-level-eq-MAX_LEVEL.true)
 
 pub with_map-returns-else-level-eq-MAX_LEVEL-clause-reads :
     goal.with_map-returns-else-level-eq-MAX_LEVEL-clause-reads
 with_map-returns-else-level-eq-MAX_LEVEL-clause-reads t c =
-    let most = c.requires.last in
-    let other = c.if-level-eq-MAX_LEVEL.false in
-    let i = index_members c.in-Ok-Index.members in
-    let read : shape_of (view c.args.tree.now) ≡ Ok (index i) =
-    sym c.in-Ok-Index.ensures ∙ ap (λ (x : Shape). has (shape_members x)) c.in-Ok-Index.field-0-is in
-    subst (Returns listing_of c.with_sections.result)
-    (sym (then_ok _ (index i) _ _ (ap of_shape read)
-    (map_of_index c.args.base.now c.args.limits c.args.level c.args.offset (listing_of c.args.before) i
-    (omega (arith, most, other)))))
+    let read = rw c.in-Ok-Index.field-0-is at c.in-Ok-Index.ensures in
+    rw (
+      ← read,
+      map_of_index c.args.base.now c.args.limits c.args.level c.args.offset (listing_of c.args.before)
+          (index_members c.in-Ok-Index.members)
+          (omega (arith, c.requires.last, c.if-level-eq-MAX_LEVEL.false)),
+    )
     c.with_sections.ensures.reads
 
 -- ---- one section
@@ -71,17 +48,14 @@ pub with_section-returns-in_err-offset-clause-reads : goal.with_section-returns-
 with_section-returns-in_err-offset-clause-reads t c =
     let p = err_from_is_err_and c.from_residual-in_err-offset.result
     c.from_residual-in_err-offset.ensures.1 in
-    let error = c.in_err-offset.field-0.0 in
-    let before = listing_of c.args.before in
     rw (
       p.1,
       p.2,
-      section_in_steps (section_map c.args.base.now c.args.limits (8 - c.args.level)) c.args.outer
-          c.args.last before c.args.level (view c.args.tree.now),
+      section_in_steps c.args.level (section_map c.args.base.now c.args.limits (8 - c.args.level))
+          c.args.outer c.args.last (listing_of c.args.before) (view c.args.tree.now),
+      c.in_ok-section.ensures,
     )
-    (then_fails _ _ _ _ c.in_ok-section.ensures (first_fails _ _ _
-    (subst (λ own. Fails error (section_start c.args.outer c.args.last before own)) c.own_offset-own.ensures
-    c.in_err-offset.ensures.starts)))
+    (first_fails _ _ _ (rw c.own_offset-own.ensures at c.in_err-offset.ensures.starts))
 
 -- ---- all sections
 
@@ -89,44 +63,36 @@ pub with_sections-in_section-requires : goal.with_sections-in_section-requires
 with_sections-in_section-requires t c =
     let n = 8 - c.args.level in
     let inner = section_map c.args.base.now c.args.limits n in
-    let first = c.requires.first in
     has_room n c.in-Err.error (listed_section c.args.level inner c.args.outer c.loop-k.last
-    (listing_of c.loop-k.listed) (view c.section_value-tree.result.now)) (omega (arith, first))
+    (listing_of c.loop-k.listed) (view c.section_value-tree.result.now)) (omega (arith, c.requires.first))
     (section_depth c.args.level inner n (map_depth c.args.base.now c.args.limits n) c.args.outer c.loop-k.last
     (listing_of c.loop-k.listed) (view c.section_value-tree.result.now))
     c.in-Err.ensures.reads
 
 pub with_sections-returns-in-Err-clause-reads : goal.with_sections-returns-in-Err-clause-reads
 with_sections-returns-in-Err-clause-reads t c =
-    let all = map view c.args.shape.now.sections in
-    let at : slice_get all c.loop-k.k ≡ Some (view c.section_value-tree.result.now) = slice_get-map view
-    c.args.shape.now.sections c.loop-k.k ∙ ap (option_map view) c.section_value-tree.ensures in
-    rw c.in_section.ensures
-    (subst (λ (r : Checked Listing). Fails (error_in c.loop-k.k c.in-Err.error) r)
-    (sym c.loop-k.invariant.reads)
-    (sections_fault c.args.level (section_map c.args.base.now c.args.limits (8 - c.args.level)) c.args.outer
-    c.loop-k.k c.loop-k.last (listing_of c.loop-k.listed) all (view c.section_value-tree.result.now) at
-    c.in-Err.error c.in-Err.ensures.reads))
+    rw (
+      c.in_section.ensures,
+      c.loop-k.invariant.reads,
+      sections_next c.args.level (section_map c.args.base.now c.args.limits (8 - c.args.level)) c.args.outer
+          c.loop-k.k c.loop-k.last (listing_of c.loop-k.listed) c.args.shape.now.sections _
+          c.section_value-tree.ensures,
+    )
+    (first_fails _ _ _ (fails_within c.loop-k.k c.in-Err.error _ c.in-Err.ensures.reads))
 
 pub with_sections-loop-k-preserved : goal.with_sections-loop-k-preserved
-with_sections-loop-k-preserved t c =
-    let all = map view c.args.shape.now.sections in
-    let at : slice_get all c.loop-k.k ≡ Some (view c.section_value-tree.result.now) = slice_get-map view
-    c.args.shape.now.sections c.loop-k.k ∙ ap (option_map view) c.section_value-tree.ensures in
-    record {
-      reads = c.loop-k.invariant.reads
-          ∙ sections_more c.args.level (section_map c.args.base.now c.args.limits (8 - c.args.level))
-          c.args.outer c.loop-k.k c.loop-k.last (listing_of c.loop-k.listed) all
-          (view c.section_value-tree.result.now) at (both (c.in-Ok.own, c.in-Ok.now)) c.in-Ok.ensures.reads;
-      fits = c.in-Ok.ensures.fits;
-    }
+with_sections-loop-k-preserved t c = record {
+  reads = rw (
+    c.loop-k.invariant.reads,
+    sections_next c.args.level (section_map c.args.base.now c.args.limits (8 - c.args.level)) c.args.outer
+        c.loop-k.k c.loop-k.last (listing_of c.loop-k.listed) c.args.shape.now.sections _
+        c.section_value-tree.ensures,
+    c.in-Ok.ensures.reads,
+  ) refl;
+  fits = c.in-Ok.ensures.fits;
+}
 
 pub with_sections-returns-clause-reads : goal.with_sections-returns-clause-reads
-with_sections-returns-clause-reads t c =
-    let all = map view c.args.shape.now.sections in
-    let end : length all ≤ c.loop-k.k = omega (arith, length-map c.args.shape.now.sections view) in
-    c.loop-k.invariant.reads
-    ∙ ap (listed_sections c.args.level (section_map c.args.base.now c.args.limits (8 - c.args.level))
-    c.args.outer c.loop-k.k c.loop-k.last (listing_of c.loop-k.listed)) (drop_of_length-le all end)
-    ∙ sections_all c.args.level (section_map c.args.base.now c.args.limits (8 - c.args.level)) c.args.outer
-    c.loop-k.k c.loop-k.last (listing_of c.loop-k.listed)
+with_sections-returns-clause-reads t c = c.loop-k.invariant.reads
+    ∙ sections_end c.args.level (section_map c.args.base.now c.args.limits (8 - c.args.level)) c.args.outer
+    c.loop-k.k c.loop-k.last (listing_of c.loop-k.listed) c.args.shape.now.sections (omega arith)

@@ -1,14 +1,12 @@
-use Rattle.std.proofs.Common.{sym, subst, string_bytes}
+use Rattle.std.proofs.Common.{string_bytes}
 use Rattle.std.specs.Prelude.{option_map}
-use Rattle.smap_record.specs.Record.{ReadMap, record_of}
-use Rattle.smap_record.specs.Fitting.{Fits}
 use Rattle.smap_record.specs.MapView.{listing_of}
 use Rattle.smap_record.proofs.FitLemmas.{fits}
 use Rattle.smap_record.proofs.sections.index_map.Goals as goal
 
 pub returns-clause-fits : goal.returns-clause-fits
 returns-clause-fits c =
-    subst (λ (m : ReadMap). Fits c.args.base.now c.args.limits (record_of m)) (sym c.new.ensures)
+    rw c.new.ensures
     (fits c.args.base.now c.args.limits (record {
       file = option_map string_bytes c.in_ok-file.file;
       listing = listing_of c.in_ok-listed.listed;
