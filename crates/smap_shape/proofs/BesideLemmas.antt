@@ -1,18 +1,16 @@
 -- An index map's members, apart from its sections.
 use Rattle.std.proofs.Common.{◌≡◌, ℕ, List, [], ◌∷◌, Option, None, Some, Ok, Err, Result, ap, refl, sym}
-use Rattle.std.proofs.Common.{subst, ◌∙◌, Bool, true, false, true≢false, bytes_eq, codes, Bor}
-use Rattle.std.specs.Prelude.{option_and_then, option_map, option_copied, is_some, is_none, IfSome, ◌&&◌}
+use Rattle.std.proofs.Common.{subst, ◌∙◌, true, false, true≢false, bytes_eq, codes, Bor}
+use Rattle.std.specs.Prelude.{option_and_then, option_map, option_copied, is_some, is_none, IfSome}
 use Rattle.std.specs.Result.{result_ok}
 use Rattle.std.proofs.lemmas.Slice.Eq.{bytes_eq-Decides}
 use Rattle.serde_json.specs.Data.{Data, null, boolean, number, string, array, object, Members, put}
-use Rattle.serde_json.specs.Find.{as_object, get_member}
+use Rattle.serde_json.specs.Find.{as_object}
 use Rattle.serde_json.specs.View.{items_of}
 use Rattle.serde_json.proofs.Views.{get_member-put, get_member-put_other}
-use Rattle.smap_vlq.specs.Number.{◌>>=◌}
 use Rattle.smap_shape.specs.declared.fault.ShapeFault.{ShapeFault}
-use Rattle.smap_shape.specs.declared.fault.ShapeFault.TheVariants.{Both, Sections}
-use Rattle.smap_shape.specs.Members.{Index, MapMembers, index}
-use Rattle.smap_shape.specs.Reading.{file_of, flat_or_index, or_fault, refuse_if, if_present, member_of}
+use Rattle.smap_shape.specs.Members.{index}
+use Rattle.smap_shape.specs.Reading.{file_of, if_present, member_of}
 use Rattle.smap_shape.specs.Reading.{each_item, shape_of}
 use Rattle.smap_shape.specs.Beside.{with_sections}
 use Rattle.smap_shape.specs.Views.{map_value}

@@ -1,29 +1,27 @@
 -- A tree without its contents.
 use Rattle.std.proofs.Common.{BTreeMap, subst, ◌≡◌, ℕ, List, [], ◌∷◌, length, Option, Some, None, Ok, Err}
-use Rattle.std.proofs.Common.{Result, ap, refl, sym, ◌∙◌, Bool, true, false, true≢false, cond, String, Global}
-use Rattle.std.proofs.Common.{Ordering, Less, Equal, Greater, string_bytes, nat_cmp, is_eq, bytes_eq, codes}
+use Rattle.std.proofs.Common.{Result, ap, refl, sym, ◌∙◌, Bool, false, true≢false, String, Global}
+use Rattle.std.proofs.Common.{string_bytes, nat_cmp, is_eq, bytes_eq, codes}
 use Rattle.std.proofs.Common.{IfSome, option_map, unwrap_or, IsSome, arith}
-use Rattle.std.specs.Prelude.{option_and_then, not, ◌&&◌, ◌||◌, is_some, nat_eq}
-use Rattle.std.specs.Option.{option_eq, option_or}
+use Rattle.std.specs.Prelude.{option_and_then, ◌&&◌, ◌||◌, is_some}
 use Rattle.std.specs.Cmp.Lexicographic.{slice_cmp}
-use Rattle.std.specs.Ordering.{match_ordering}
 use Rattle.std.specs.Map.{remove_entry, lookup}
 use Rattle.std.specs.BTreeMap.{is_at}
 use Rattle.std.specs.List.{list_all}
 use Rattle.std.proofs.lemmas.Slice.Eq.{bytes_eq-Decides}
 use Rattle.std.proofs.lemmas.Map.Text.{is_eq-slice_cmp}
-use Rattle.serde_json.specs.Data.{Data, null, boolean, number, string, array, object, Members}
+use Rattle.serde_json.specs.Data.{Data, null, boolean, number, string, array, object}
 use Rattle.serde_json.specs.Find.{as_null, as_str, as_object, get_member}
 use Rattle.serde_json.specs.View.{view, items_view, members_view}
 use Rattle.serde_json.specs.declared.value.Value.{Value, Object}
 use Rattle.serde_json.proofs.Views.{Entry, member_later, view-lookup, view-Object}
 use Rattle.smap_vlq.specs.Number.{◌>>=◌}
 use Rattle.smap_shape.specs.declared.fault.ShapeFault.{ShapeFault}
-use Rattle.smap_shape.specs.declared.fault.ShapeFault.TheVariants.{Version, File, Both, SourceRoot, Sources}
-use Rattle.smap_shape.specs.declared.fault.ShapeFault.TheVariants.{SourcesContent, Names, IgnoreList}
+use Rattle.smap_shape.specs.declared.fault.ShapeFault.TheVariants.{Both, SourceRoot, Sources}
+use Rattle.smap_shape.specs.declared.fault.ShapeFault.TheVariants.{Names, IgnoreList}
 use Rattle.smap_shape.specs.declared.fault.ShapeFault.TheVariants.{Mappings}
-use Rattle.smap_shape.specs.Members.{Flat, MapMembers, flat, index, fitted}
-use Rattle.smap_shape.specs.Reading.{flat_or_index, or_fault, refuse_if, if_present, member_of, whole}
+use Rattle.smap_shape.specs.Members.{Flat, MapMembers, flat}
+use Rattle.smap_shape.specs.Reading.{flat_or_index, or_fault, refuse_if, if_present, member_of}
 use Rattle.smap_shape.specs.Reading.{optional, list_member, text_or_null, number_below, index_of, shape_of}
 use Rattle.smap_shape.specs.Contents.{contents_member, contents_of, with_contents, map_with_contents}
 use Rattle.smap_shape.specs.Inside.{texts}
@@ -85,12 +83,11 @@ module _ (own : List (Option (List ℕ))) (x y : Data)
     (same : (key : List ℕ) → bytes_eq key (codes "sourcesContent") ≡ false
     → member_of key x ≡ member_of key y)
   where
-    FlatsAre : Type 0
+    abbrev FlatsAre : Type 0
     FlatsAre = (file : Option (List ℕ)) → flat_of file x ≡ map_value (with_contents own) (flat_of file y)
 
     flats_read : (left : List (Option (List ℕ))) → contents_member x ≡ Some own
-        → contents_member y ≡ Some left        → FlatsAre
-    unfolding FlatsAre
+        → contents_member y ≡ Some left → FlatsAre
     flats_read left is_own is_left file =
         rw (
           same (codes "sourceRoot") refl,
@@ -112,16 +109,11 @@ module _ (own : List (Option (List ℕ))) (x y : Data)
         (λ _. refl))))))
 
     flats_unread : contents_member x ≡ None → contents_member y ≡ None → FlatsAre
-    unfolding FlatsAre
     flats_unread no_own no_left file =
-        rw (same (codes "sourceRoot") refl, same (codes "sources") refl, no_own, no_left)
-        (then_map_value _ (or_fault SourceRoot (optional as_str (member_of (codes "sourceRoot") y))) _ _ (λ _.
-        then_map_value _ (or_fault Sources (list_member text_or_null (member_of (codes "sources") y))) _ _
-        (λ _. refl)))
+        rw (same (codes "sourceRoot") refl, same (codes "sources") refl, no_own, no_left) (grind arith)
 
     maps_alike : FlatsAre → (file : Option (List ℕ)) (sections : Option Data)
         → flat_or_index file sections x ≡ map_value (map_with_contents own) (flat_or_index file sections y)
-    unfolding FlatsAre
     maps_alike flats file None = as_map own (flat_of file x) (flat_of file y) (flats file)
     maps_alike flats file (Some sections) = then_map_value _ (index_of file sections) _ _ (λ _. refl)
 

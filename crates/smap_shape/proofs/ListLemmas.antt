@@ -10,7 +10,7 @@ use Rattle.smap_shape.specs.Reading.{each_item, list_member, text_or_null, numbe
 use Rattle.smap_shape.specs.Inside.{sure_texts, numbers}
 use Rattle.std.specs.Prelude.{unwrap_or, nat_lt, All}
 use Rattle.std.proofs.Common.{arith, subst}
-use Rattle.std.proofs.lemmas.Bool.{and_parts, ltb-true}
+use Rattle.std.proofs.lemmas.Bool.{and_parts}
 use Rattle.std.proofs.lemmas.Bool.Decides.{nat_tests}
 use Rattle.std.proofs.lemmas.List.{get_or-map, length-map}
 use Rattle.std.proofs.lemmas.List.Elements.{All-nil, All-cons, All-get_or}
