@@ -1,15 +1,12 @@
 -- A loop over the digits of a number.
-use Rattle.std.proofs.Common.{◌≡◌, ◌≢◌, ℤ, ℕ, ◌+◌, ◌*◌, ◌%◌, ◌^◌, ◌<◌, ◌≤◌, min, List, [], ◌∷◌, ◌++◌, length}
-use Rattle.std.proofs.Common.{get_or, drop, Option, None, Some, Result, Ok, Err, refl, sym, ap, ◌∙◌, arith}
+use Rattle.std.proofs.Common.{◌≡◌, ℤ, ℕ, ◌+◌, ◌*◌, ◌%◌, ◌^◌, ◌<◌, ◌≤◌, min, List, [], ◌∷◌, ◌++◌, length}
+use Rattle.std.proofs.Common.{get_or, drop, Option, Some, Result, Ok, refl, sym, ◌∙◌, arith}
 use Rattle.std.proofs.Common.{length-append, drop-cons, add-one}
-use Rattle.std.proofs.Math.ListN.{drop_of_length-le}
 use Rattle.std.proofs.lemmas.Bool.{lt-ltb, le-ltb}
 use Rattle.smap_vlq.specs.declared.number.NumberFault.{NumberFault}
-use Rattle.smap_vlq.specs.declared.number.NumberFault.TheVariants.{Unfinished, Character}
-use Rattle.smap_vlq.specs.Number.{◌>>=◌, digit_of, then_digits, unsigned, signed, number_of, number_digits}
+use Rattle.smap_vlq.specs.Number.{◌>>=◌, digit_of, then_digits, unsigned, number_of, number_digits}
 use Rattle.smap_vlq.specs.Number.{number_at, without_place}
-use Rattle.smap_vlq.proofs.ListLemmas.{behind-nil, behind-push}
-use Rattle.smap_vlq.proofs.NumberLemmas.{number_of-is}
+use Rattle.smap_vlq.proofs.ListLemmas.{behind-push}
 use Rattle.smap_vlq.proofs.UnsignedLemmas.{Stands, Stands-push, number_of-min}
 
 abbrev pub with_digits : List ℕ → Result (List ℕ) NumberFault → Result (List ℕ) NumberFault
@@ -21,14 +18,6 @@ pub record Progress (text : List ℕ) (at place total weight : ℕ) : Type 0 whe
   pub stands : Stands total weight digits
   pub place_is : place ≡ at + length digits
   pub rest : number_digits (drop at text) ≡ with_digits digits (number_digits (drop place text))
-
-pub start : (text : List ℕ) (at : ℕ) → Progress text at at 0 1
-start text at = record {
-  digits = [];
-  stands = record { total_is = refl; weight_is = refl };
-  place_is = omega arith;
-  rest = behind-nil (number_digits (drop at text));
-}
 
 -- What the byte at the place makes of what is left.
 step : (text : List ℕ) (at place total weight : ℕ) (o : Option ℕ) (p : Progress text at place total weight)
@@ -65,39 +54,8 @@ ends text at place total weight d t p lt is small te =
     omega (arith, p.place_is, length-append p.digits (d ∷ [])) in
     rw (read, value, after) refl
 
-pub bad_character : (text : List ℕ) (at place total weight : ℕ) → Progress text at place total weight
-    → place < length text → digit_of (get_or text place 0) ≡ None → number_at text at ≡ Err Character
-bad_character text at place total weight p lt is = rw (step text at place total weight None p lt is) refl
-
-pub unfinished : (text : List ℕ) (at place total weight : ℕ) → Progress text at place total weight
-    → length text ≤ place → number_at text at ≡ Err Unfinished
-unfinished text at place total weight p le = rw (p.rest, drop_of_length-le text le) refl
-
 -- ---- a number and its place apart
-
-alone : (r : Result ℤ NumberFault) (after : ℕ) → without_place (r >>= λ n. Ok (n, after)) ≡ r
-alone (Ok n) after = refl
-alone (Err fault) after = refl
 
 pub number_alone : (text : List ℕ) (at after : ℕ) (r value : Result ℤ NumberFault)
     → number_at text at ≡ (value >>= λ n. Ok (n, after)) → r ≡ value → r ≡ without_place (number_at text at)
-number_alone text at after r value is same = same ∙ sym (ap without_place is ∙ alone value after)
-
--- a number of one digit
-pub one_digit : (text : List ℕ) (at d : ℕ) → at < length text → digit_of (get_or text at 0) ≡ Some d
-    → d < 32 → d ≢ 1 → number_at text at ≡ Ok (signed d, at + 1)
-one_digit text at d lt is small other =
-    ends text at at 0 1 d d (start text at) lt is small (omega arith)
-    ∙ rw (number_of-is d (omega arith) other) refl
-
--- a number of two digits
-pub two_digits : (text : List ℕ) (at d e u : ℕ) → at + 1 < length text
-    → digit_of (get_or text at 0) ≡ Some d → 32 ≤ d → digit_of (get_or text (at + 1) 0) ≡ Some e → e < 32
-    → u ≡ d % 32 + 32 * e → u ≢ 1
-    → number_at text at ≡ Ok (signed u, at + 2)
-two_digits text at d e u lt first large second small is other =
-    let p = goes_on text at at 0 1 d (d % 32) 32 (start text at) (omega arith) first large (omega arith)
-    (omega arith) in
-    let after : at + 1 + 1 ≡ at + 2 = omega arith in
-    ends text at (at + 1) (d % 32) 32 e u p lt second small (omega arith)
-    ∙ rw (number_of-is u (omega arith) other, after) refl
+number_alone text at after r value is same = rw (is, same) (grind arith)
