@@ -1,6 +1,6 @@
 -- An index map's members, apart from its sections.
 use Rattle.std.proofs.Common.{◌≡◌, ℕ, List, [], ◌∷◌, Option, None, Some, Ok, Err, Result, ap, refl, sym}
-use Rattle.std.proofs.Common.{subst, ◌∙◌, true, false, true≢false, bytes_eq, codes, Bor}
+use Rattle.std.proofs.Common.{◌∙◌, true, false, true≢false, bytes_eq, codes, Bor}
 use Rattle.std.specs.Prelude.{option_and_then, option_map, option_copied, is_some, is_none, IfSome}
 use Rattle.std.specs.Result.{result_ok}
 use Rattle.std.proofs.lemmas.Slice.Eq.{bytes_eq-Decides}
@@ -63,8 +63,7 @@ pub beside : (tree : Data) (file : Result (Option (Bor (List ℕ))) ShapeFault)
     → map_value option_copied file ≡ file_of tree → o ≡ result_ok file → IfSome o (Beside tree)
 unfolding whole
 beside tree file o is_object none is same =
-    subst (λ (o : Option (Option (Bor (List ℕ)))). IfSome o (Beside tree)) (sym same)
-    (by tree file is_object none is)
+    rw same (by tree file is_object none is)
   where
     by : (tree : Data) (file : Result (Option (Bor (List ℕ))) ShapeFault)
         → is_some (as_object tree) ≡ true → is_some (member_of (codes "mappings") tree) ≡ false

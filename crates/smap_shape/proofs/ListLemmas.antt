@@ -26,13 +26,8 @@ pub each_item-items_of : {A : Type 0} (read : Data → Option A) (p : Data → B
     → (vs : List Value) → each_item read (items_view vs)
     ≡ cond (list_all (λ v. p (view v)) vs) (Some (map (λ v. f (view v)) vs)) None
 each_item-items_of read p f reads [] = refl
-each_item-items_of read p f reads (v ∷ vs) = rw (reads (view v), each_item-items_of read p f reads vs)
-    (by (p (view v)) (list_all (λ v. p (view v)) vs) (f (view v)) (map (λ v. f (view v)) vs))
-  where
-    by : {A : Type 0} (b c : Bool) (x : A) (xs : List A)
-        → option_and_then (λ y. option_map (λ ys. y ∷ ys) (cond c (Some xs) None)) (cond b (Some x) None)
-        ≡ cond (b && c) (Some (x ∷ xs)) None
-    by b c x xs = grind arith
+each_item-items_of read p f reads (v ∷ vs) =
+    grind (arith, reads (view v), each_item-items_of read p f reads vs)
 
 pub text_or_null-cases : (d : Data)
     → text_or_null d ≡ cond (is_some (as_null d) || is_some (as_str d)) (Some (as_str d)) None
@@ -51,20 +46,12 @@ texts_read vs = each_item-items_of text_or_null (λ d. is_some (as_null d) || is
     text_or_null-cases vs
 
 sure_text_cases : (d : Data) → as_str d ≡ cond (is_some (as_str d)) (Some (unwrap_or (as_str d) [])) None
-sure_text_cases d = by (as_str d)
-  where
-    by : (o : Option (List ℕ)) → o ≡ cond (is_some o) (Some (unwrap_or o [])) None
-    by o = grind arith
+sure_text_cases d = grind arith
 
 number_below-cases : (count : ℕ) (d : Data)
     → number_below count d ≡ cond (is_some (number_below count d)) (Some (unwrap_or (whole d) 0)) None
 unfolding number_below
-number_below-cases count d = by (whole d)
-  where
-    by : (o : Option ℕ) → option_and_then (λ n. cond (nat_lt n count) (Some n) None) o
-        ≡ cond (is_some (option_and_then (λ n. cond (nat_lt n count) (Some n) None) o)) (Some (unwrap_or o 0))
-        None
-    by o = grind arith
+number_below-cases count d = grind arith
 
 pub sure_texts_read : (vs : List Value) → each_item as_str (items_view vs)
     ≡ cond (list_all (λ v. is_some (as_str (view v))) vs) (Some (sure_texts vs)) None
@@ -96,11 +83,7 @@ pub ruleset any_list = (each_item-any, refl)
 number_below-within : (count : ℕ) (d : Data) → is_some (number_below count d) ≡ true
     → unwrap_or (whole d) 0 < count
 unfolding number_below
-number_below-within count d = by (whole d)
-  where
-    by : (o : Option ℕ) → is_some (option_and_then (λ n. cond (nat_lt n count) (Some n) None) o) ≡ true
-        → unwrap_or o 0 < count
-    by o h = grind (arith, nat_tests)
+number_below-within count d h = grind (arith, nat_tests)
 
 -- the numbers of a list in which each entry is a whole number below the count are below the count
 pub numbers-within : (count : ℕ) (vs : List Value)
