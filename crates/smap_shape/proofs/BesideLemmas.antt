@@ -1,51 +1,36 @@
 -- An index map's members, apart from its sections.
 use Rattle.std.proofs.Common.{◌≡◌, ℕ, List, [], ◌∷◌, Option, None, Some, Ok, Err, Result, ap, refl, sym}
-use Rattle.std.proofs.Common.{subst, ◌∙◌, Bool, true, false, true≢false, bytes_eq, codes, Bor}
-use Rattle.std.specs.Prelude.{option_and_then, option_map, option_copied, is_some, IfSome, ◌&&◌}
+use Rattle.std.proofs.Common.{◌∙◌, true, false, true≢false, bytes_eq, codes, Bor}
+use Rattle.std.specs.Prelude.{option_and_then, option_map, option_copied, is_some, is_none, IfSome}
 use Rattle.std.specs.Result.{result_ok}
 use Rattle.std.proofs.lemmas.Slice.Eq.{bytes_eq-Decides}
 use Rattle.serde_json.specs.Data.{Data, null, boolean, number, string, array, object, Members, put}
-use Rattle.serde_json.specs.Find.{as_object, get_member}
+use Rattle.serde_json.specs.Find.{as_object}
 use Rattle.serde_json.specs.View.{items_of}
 use Rattle.serde_json.proofs.Views.{get_member-put, get_member-put_other}
-use Rattle.smap_vlq.specs.Number.{◌>>=◌}
 use Rattle.smap_shape.specs.declared.fault.ShapeFault.{ShapeFault}
-use Rattle.smap_shape.specs.declared.fault.ShapeFault.TheVariants.{Both, Sections}
-use Rattle.smap_shape.specs.Members.{Index, MapMembers, index}
-use Rattle.smap_shape.specs.Reading.{file_of, flat_or_index, or_fault, refuse_if, if_present, member_of}
+use Rattle.smap_shape.specs.Members.{index}
+use Rattle.smap_shape.specs.Reading.{file_of, if_present, member_of}
 use Rattle.smap_shape.specs.Reading.{each_item, shape_of}
 use Rattle.smap_shape.specs.Beside.{with_sections}
 use Rattle.smap_shape.specs.Views.{map_value}
-use Rattle.smap_shape.proofs.ContentsLemmas.{file_by, unread}
+use Rattle.smap_shape.proofs.ContentsLemmas.{file_alike, unread}
 
 each_one : (ds : List Data) → each_item Some (items_of ds) ≡ Some ds
 each_one [] = refl
 each_one (d ∷ ds) = ap (option_map (λ xs. d ∷ xs)) (each_one ds)
 
--- the members of a map, by its file and by whether it has sections and mappings
-abbrev shape_by : Result (Option (List ℕ)) ShapeFault → (sections mappings : Option Data) → Data
-    → Result (MapMembers Data) ShapeFault
-shape_by file sections mappings tree = do
-  file ← file
-  _ ← refuse_if Both (is_some sections && is_some mappings)
-  flat_or_index file sections tree
-
-abbrev indexed : Option (List ℕ) → Result (List Data) ShapeFault → Result (MapMembers Data) ShapeFault
-indexed file sections = (sections >>= λ ds. made (record { file = file; sections = ds })) >>= λ members. Ok
-    (index members)
-  where
-    made : Index Data → Result (Index Data) ShapeFault
-    made i = Ok i
+-- an index map by its file and its sections
+index_is : (tree : Data) (file : Option (List ℕ)) (ds : List Data) → is_none (as_object tree) ≡ false
+    → file_of tree ≡ Ok file → member_of (codes "sections") tree ≡ Some (array (items_of ds))
+    → member_of (codes "mappings") tree ≡ None
+    → shape_of tree ≡ Ok (index (record { file = file; sections = ds }))
+unfolding shape_of
+index_is tree file ds is_object is sections none = rw (is_object, is, sections, none, each_one ds) refl
 
 module _ (ms : Members) (ds : List Data) where
   whole : Members
   whole = put (codes "sections") (array (items_of ds)) ms
-
-  shape_is : shape_of (object whole)
-      ≡ shape_by (file_of (object whole)) (member_of (codes "sections") (object whole))
-      (member_of (codes "mappings") (object whole)) (object whole)
-  unfolding shape_of
-  shape_is = refl
 
   other : (key : List ℕ) → bytes_eq key (codes "sections") ≡ false
       → member_of key (object whole) ≡ member_of key (object ms)
@@ -53,9 +38,6 @@ module _ (ms : Members) (ds : List Data) where
   other key apart = ap (option_and_then if_present)
       (get_member-put_other key (codes "sections") (array (items_of ds)) ms
       (λ same. true≢false (sym ((bytes_eq-Decides key (codes "sections")).1 same) ∙ apart)))
-
-  file_same : file_of (object whole) ≡ file_of (object ms)
-  file_same = λ j. file_by (other (codes "version") refl j) (other (codes "file") refl j)
 
   sections_are : member_of (codes "sections") (object whole) ≡ Some (array (items_of ds))
   unfolding whole
@@ -65,10 +47,10 @@ module _ (ms : Members) (ds : List Data) where
       → member_of (codes "mappings") (object ms) ≡ None
       → shape_of (object whole) ≡ Ok (index (record { file = file; sections = ds }))
   shape_beside file is none =
+      let file_same = file_alike (object whole) (object ms) (other (codes "version") refl)
+      (other (codes "file") refl) in
       let no_mappings = other (codes "mappings") refl ∙ none in
-      shape_is
-      ∙ (λ j. shape_by ((file_same ∙ is) j) (sections_are j) (no_mappings j) (object whole))
-      ∙ ap (λ (r : Option (List Data)). indexed file (or_fault Sections r)) (each_one ds)
+      index_is (object whole) file ds refl (file_same ∙ is) sections_are no_mappings
 
 -- what is an object without mappings, whose file is read
 abbrev pub Beside : Data → Option (Bor (List ℕ)) → Type 0
@@ -81,8 +63,7 @@ pub beside : (tree : Data) (file : Result (Option (Bor (List ℕ))) ShapeFault)
     → map_value option_copied file ≡ file_of tree → o ≡ result_ok file → IfSome o (Beside tree)
 unfolding whole
 beside tree file o is_object none is same =
-    subst (λ (o : Option (Option (Bor (List ℕ)))). IfSome o (Beside tree)) (sym same)
-    (by tree file is_object none is)
+    rw same (by tree file is_object none is)
   where
     by : (tree : Data) (file : Result (Option (Bor (List ℕ))) ShapeFault)
         → is_some (as_object tree) ≡ true → is_some (member_of (codes "mappings") tree) ≡ false

@@ -10,7 +10,8 @@ use Rattle.smap_shape.specs.Reading.{each_item, list_member, text_or_null, numbe
 use Rattle.smap_shape.specs.Inside.{sure_texts, numbers}
 use Rattle.std.specs.Prelude.{unwrap_or, nat_lt, All}
 use Rattle.std.proofs.Common.{arith, subst}
-use Rattle.std.proofs.lemmas.Bool.{and_parts, ltb-true}
+use Rattle.std.proofs.lemmas.Bool.{and_parts}
+use Rattle.std.proofs.lemmas.Bool.Decides.{nat_tests}
 use Rattle.std.proofs.lemmas.List.{get_or-map, length-map}
 use Rattle.std.proofs.lemmas.List.Elements.{All-nil, All-cons, All-get_or}
 
@@ -25,15 +26,8 @@ pub each_item-items_of : {A : Type 0} (read : Data → Option A) (p : Data → B
     → (vs : List Value) → each_item read (items_view vs)
     ≡ cond (list_all (λ v. p (view v)) vs) (Some (map (λ v. f (view v)) vs)) None
 each_item-items_of read p f reads [] = refl
-each_item-items_of read p f reads (v ∷ vs) = rw (reads (view v), each_item-items_of read p f reads vs)
-    (by (p (view v)) (list_all (λ v. p (view v)) vs))
-  where
-    by : (b c : Bool)
-        → option_and_then (λ x. option_map (λ xs. x ∷ xs) (cond c (Some (map (λ v. f (view v)) vs)) None))
-        (cond b (Some (f (view v))) None) ≡ cond (b && c) (Some (f (view v) ∷ map (λ v. f (view v)) vs)) None
-    by true true = refl
-    by true false = refl
-    by false c = refl
+each_item-items_of read p f reads (v ∷ vs) =
+    grind (arith, reads (view v), each_item-items_of read p f reads vs)
 
 pub text_or_null-cases : (d : Data)
     → text_or_null d ≡ cond (is_some (as_null d) || is_some (as_str d)) (Some (as_str d)) None
@@ -52,26 +46,12 @@ texts_read vs = each_item-items_of text_or_null (λ d. is_some (as_null d) || is
     text_or_null-cases vs
 
 sure_text_cases : (d : Data) → as_str d ≡ cond (is_some (as_str d)) (Some (unwrap_or (as_str d) [])) None
-sure_text_cases d = by (as_str d)
-  where
-    by : (o : Option (List ℕ)) → o ≡ cond (is_some o) (Some (unwrap_or o [])) None
-    by None = refl
-    by (Some s) = refl
+sure_text_cases d = grind arith
 
 number_below-cases : (count : ℕ) (d : Data)
     → number_below count d ≡ cond (is_some (number_below count d)) (Some (unwrap_or (whole d) 0)) None
 unfolding number_below
-number_below-cases count d = by (whole d)
-  where
-    at : (n : ℕ) (b : Bool) → cond b (Some n) None ≡ cond (is_some (cond b (Some n) None)) (Some n) None
-    at n true = refl
-    at n false = refl
-
-    by : (o : Option ℕ) → option_and_then (λ n. cond (nat_lt n count) (Some n) None) o
-        ≡ cond (is_some (option_and_then (λ n. cond (nat_lt n count) (Some n) None) o)) (Some (unwrap_or o 0))
-        None
-    by None = refl
-    by (Some n) = at n (nat_lt n count)
+number_below-cases count d = grind arith
 
 pub sure_texts_read : (vs : List Value) → each_item as_str (items_view vs)
     ≡ cond (list_all (λ v. is_some (as_str (view v))) vs) (Some (sure_texts vs)) None
@@ -90,9 +70,7 @@ pub numbers_listed : (count : ℕ) (m : Option Data) (d : Data) (vs : List Value
     → m ≡ Some d → as_array d ≡ Some (items_view vs)
     → list_all (λ v. is_some (number_below count (view v))) vs ≡ b
     → list_member (number_below count) m ≡ cond b (Some (numbers vs)) None
-numbers_listed count m d vs b at lists all =
-    ap (list_member (number_below count)) at ∙ ap (option_and_then (each_item (number_below count))) lists
-    ∙ numbers_read count vs ∙ ap (λ c. cond c (Some (numbers vs)) None) all
+numbers_listed count m d vs b at lists all = rw (at, lists, numbers_read count vs, all) refl
 
 -- any list is read as its items
 pub each_item-any : (vs : List Value) → each_item Some (items_view vs) ≡ Some (map view vs)
@@ -105,16 +83,7 @@ pub ruleset any_list = (each_item-any, refl)
 number_below-within : (count : ℕ) (d : Data) → is_some (number_below count d) ≡ true
     → unwrap_or (whole d) 0 < count
 unfolding number_below
-number_below-within count d = by (whole d)
-  where
-    passes : (n : ℕ) (b : Bool) → is_some (cond b (Some n) None) ≡ true → b ≡ true
-    passes n true h = refl
-    passes n false h = h
-
-    by : (o : Option ℕ) → is_some (option_and_then (λ n. cond (nat_lt n count) (Some n) None) o) ≡ true
-        → unwrap_or o 0 < count
-    by None h = absurd (cc)
-    by (Some n) h = ltb-true n count (passes n (nat_lt n count) h)
+number_below-within count d h = grind (arith, nat_tests)
 
 -- the numbers of a list in which each entry is a whole number below the count are below the count
 pub numbers-within : (count : ℕ) (vs : List Value)

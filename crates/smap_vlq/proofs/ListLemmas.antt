@@ -1,5 +1,7 @@
 -- Lists, and lists that are read behind a front.
-use Rattle.std.proofs.Common.{◌≡◌, List, [], ◌∷◌, ◌++◌, Result, Ok, Err, refl, sym, ap, append_assoc}
+use Rattle.std.proofs.Common.{◌≡◌, ℕ, List, [], ◌∷◌, ◌++◌, Result, Ok, Err, refl, sym, ap, append_assoc}
+use Rattle.std.proofs.Common.{set, length, ◌∙◌}
+use Rattle.std.proofs.Math.Seq.{set-append_seam}
 use Rattle.std.specs.List.{AllByRecursion}
 use Rattle.smap_vlq.specs.Number.{◌>>=◌}
 
@@ -22,3 +24,12 @@ pub behind-push : {A F : Type 0} (front : List A) (x : A) (r : Result (List A) F
     → (r >>= λ xs. Ok (x ∷ xs)) >>= (λ ys. Ok (front ++ ys)) ≡ (r >>= λ xs. Ok ((front ++ x ∷ []) ++ xs))
 behind-push front x (Ok xs) = ap (λ l. Ok l) (sym (append_assoc front (x ∷ []) xs))
 behind-push front x (Err f) = refl
+
+pub behind-cons : {A F : Type 0} (x : A) (front : List A) (r : Result (List A) F)
+    → (r >>= λ xs. Ok (front ++ xs)) >>= (λ ys. Ok (x ∷ ys)) ≡ (r >>= λ xs. Ok (x ∷ (front ++ xs)))
+behind-cons x front (Ok xs) = refl
+behind-cons x front (Err f) = refl
+
+pub set_next : {A : Type 0} (xs rest : List A) (y z : A) (n : ℕ) → n ≡ length xs
+    → set (xs ++ y ∷ rest) n z ≡ (xs ++ z ∷ []) ++ rest
+set_next xs rest y z n e = rw e (set-append_seam xs y rest z ∙ sym (append_assoc xs (z ∷ []) rest))

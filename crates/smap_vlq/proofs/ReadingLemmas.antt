@@ -1,15 +1,12 @@
 -- A loop over the digits of a number.
-use Rattle.std.proofs.Common.{◌≡◌, ◌≢◌, ℤ, ℕ, ◌+◌, ◌*◌, ◌%◌, ◌^◌, ◌<◌, ◌≤◌, min, List, [], ◌∷◌, ◌++◌, length}
-use Rattle.std.proofs.Common.{get_or, drop, Option, None, Some, Result, Ok, Err, refl, sym, ap, ◌∙◌, arith}
+use Rattle.std.proofs.Common.{◌≡◌, ℤ, ℕ, ◌+◌, ◌*◌, ◌%◌, ◌^◌, ◌<◌, ◌≤◌, min, List, [], ◌∷◌, ◌++◌, length}
+use Rattle.std.proofs.Common.{get_or, drop, Option, Some, Result, Ok, refl, sym, ◌∙◌, arith}
 use Rattle.std.proofs.Common.{length-append, drop-cons, add-one}
-use Rattle.std.proofs.Math.ListN.{drop_of_length-le}
-use Rattle.std.proofs.lemmas.Bool.{lt-ltb, le-ltb, lt-leb, ne_eqb}
+use Rattle.std.proofs.lemmas.Bool.{lt-ltb, le-ltb}
 use Rattle.smap_vlq.specs.declared.number.NumberFault.{NumberFault}
-use Rattle.smap_vlq.specs.declared.number.NumberFault.TheVariants.{Unfinished, Character}
-use Rattle.smap_vlq.specs.Number.{◌>>=◌, digit_of, then_digits, unsigned, signed, number_of, number_digits}
+use Rattle.smap_vlq.specs.Number.{◌>>=◌, digit_of, then_digits, unsigned, number_of, number_digits}
 use Rattle.smap_vlq.specs.Number.{number_at, without_place}
-use Rattle.smap_vlq.proofs.ListLemmas.{behind-nil, behind-push}
-use Rattle.smap_vlq.proofs.NumberLemmas.{found}
+use Rattle.smap_vlq.proofs.ListLemmas.{behind-push}
 use Rattle.smap_vlq.proofs.UnsignedLemmas.{Stands, Stands-push, number_of-min}
 
 abbrev pub with_digits : List ℕ → Result (List ℕ) NumberFault → Result (List ℕ) NumberFault
@@ -22,27 +19,12 @@ pub record Progress (text : List ℕ) (at place total weight : ℕ) : Type 0 whe
   pub place_is : place ≡ at + length digits
   pub rest : number_digits (drop at text) ≡ with_digits digits (number_digits (drop place text))
 
-pub start : (text : List ℕ) (at : ℕ) → Progress text at at 0 1
-start text at = record {
-  digits = [];
-  stands = record { total_is = refl; weight_is = refl };
-  place_is = omega arith;
-  rest = behind-nil (number_digits (drop at text));
-}
-
-digits_there : (text : List ℕ) (place : ℕ) → place < length text
-    → number_digits (drop place text) ≡ then_digits (digit_of (get_or text place 0))
-    (number_digits (drop (place + 1) text))
-digits_there text place lt = rw (drop-cons text place 0 lt, add-one) refl
-
--- What the digit at the place makes of what is left.
-step : (text : List ℕ) (at place total weight d : ℕ) (p : Progress text at place total weight)
-    → place < length text → digit_of (get_or text place 0) ≡ Some d
-    → number_digits (drop at text) ≡ with_digits p.digits (then_digits (Some d)
-    (number_digits (drop (place + 1) text)))
-step text at place total weight d p lt is = p.rest ∙ ap (with_digits p.digits)
-    (digits_there text place lt ∙ ap (λ (o : Option ℕ). then_digits o
-    (number_digits (drop (place + 1) text))) is)
+-- What the byte at the place makes of what is left.
+step : (text : List ℕ) (at place total weight : ℕ) (o : Option ℕ) (p : Progress text at place total weight)
+    → place < length text → digit_of (get_or text place 0) ≡ o
+    → number_digits (drop at text)
+    ≡ with_digits p.digits (then_digits o (number_digits (drop (place + 1) text)))
+step text at place total weight o p lt is = p.rest ∙ rw (drop-cons text place 0 lt, add-one place, is) refl
 
 -- a continuation digit
 pub goes_on : (text : List ℕ) (at place total weight d t w : ℕ) → Progress text at place total weight
@@ -53,7 +35,7 @@ goes_on text at place total weight d t w p lt is large te we = record {
   digits = p.digits ++ d ∷ [];
   stands = rw (te, we) (Stands-push total weight p.digits d p.stands);
   place_is = omega (arith, p.place_is, length-append p.digits (d ∷ []));
-  rest = step text at place total weight d p lt is ∙ rw (le-ltb d 32 large)
+  rest = step text at place total weight (Some d) p lt is ∙ rw (le-ltb d 32 large)
       (behind-push p.digits d (number_digits (drop (place + 1) text)));
 }
 
@@ -63,58 +45,17 @@ pub ends : (text : List ℕ) (at place total weight d t : ℕ) → Progress text
     → t ≡ min (total + d % 32 * weight) (2 ^ 32)
     → number_at text at ≡ (number_of t >>= λ n. Ok (n, place + 1))
 ends text at place total weight d t p lt is small te =
-    let found : number_digits (drop at text) ≡ Ok (p.digits ++ d ∷ []) = step text at place total weight d p
-    lt is ∙ rw (lt-ltb d 32 small) refl in
-    let value : number_of (unsigned (p.digits ++ d ∷ [])) ≡ number_of t = rw
-    (te, (Stands-push total weight p.digits d p.stands).total_is)
+    let read : number_digits (drop at text) ≡ Ok (p.digits ++ d ∷ []) =
+    step text at place total weight (Some d) p lt is ∙ rw (lt-ltb d 32 small) refl in
+    let value : number_of (unsigned (p.digits ++ d ∷ [])) ≡ number_of t =
+    rw (te, (Stands-push total weight p.digits d p.stands).total_is)
     (sym (number_of-min (unsigned (p.digits ++ d ∷ [])))) in
-    let after : at + length (p.digits ++ d ∷ []) ≡ place + 1 = omega
-    (arith, p.place_is, length-append p.digits (d ∷ [])) in
-    rw (found, value, after) refl
-
-pub bad_character : (text : List ℕ) (at place total weight : ℕ) → Progress text at place total weight
-    → place < length text → digit_of (get_or text place 0) ≡ None → number_at text at ≡ Err Character
-bad_character text at place total weight p lt is =
-    let found : number_digits (drop at text) ≡ Err Character = p.rest
-    ∙ ap (with_digits p.digits) (digits_there text place lt
-    ∙ ap (λ (o : Option ℕ). then_digits o (number_digits (drop (place + 1) text))) is) in
-    rw found refl
-
-pub unfinished : (text : List ℕ) (at place total weight : ℕ) → Progress text at place total weight
-    → length text ≤ place → number_at text at ≡ Err Unfinished
-unfinished text at place total weight p le =
-    let found : number_digits (drop at text) ≡ Err Unfinished = p.rest
-    ∙ ap (λ (l : List ℕ). with_digits p.digits (number_digits l)) (drop_of_length-le text le) in
-    rw found refl
+    let after : at + length (p.digits ++ d ∷ []) ≡ place + 1 =
+    omega (arith, p.place_is, length-append p.digits (d ∷ [])) in
+    rw (read, value, after) refl
 
 -- ---- a number and its place apart
 
-alone : (r : Result ℤ NumberFault) (after : ℕ) → without_place (r >>= λ n. Ok (n, after)) ≡ r
-alone (Ok n) after = refl
-alone (Err fault) after = refl
-
 pub number_alone : (text : List ℕ) (at after : ℕ) (r value : Result ℤ NumberFault)
     → number_at text at ≡ (value >>= λ n. Ok (n, after)) → r ≡ value → r ≡ without_place (number_at text at)
-number_alone text at after r value is same = same ∙ sym (ap without_place is ∙ alone value after)
-
-number_of-is : (u : ℕ) → u < 2 ^ 32 → u ≢ 1 → number_of u ≡ Ok (signed u)
-number_of-is u lt other = rw (lt-leb (2 ^ 32) u lt, ne_eqb u 1 other) refl
-
--- a number of one digit
-pub one_digit : (text : List ℕ) (at d : ℕ) → at < length text → digit_of (get_or text at 0) ≡ Some d
-    → d < 32 → d ≢ 1 → number_at text at ≡ Ok (signed d, at + 1)
-one_digit text at d lt is small other =
-    ends text at at 0 1 d d (start text at) lt is small (omega arith)
-    ∙ ap (λ (r : Result ℤ NumberFault). r >>= λ n. Ok (n, at + 1)) (number_of-is d (omega arith) other)
-
--- a number of two digits
-pub two_digits : (text : List ℕ) (at d e u : ℕ) → at + 1 < length text
-    → digit_of (get_or text at 0) ≡ Some d → 32 ≤ d → digit_of (get_or text (at + 1) 0) ≡ Some e → e < 32
-    → u ≡ d % 32 + 32 * e → u ≢ 1
-    → number_at text at ≡ Ok (signed u, at + 2)
-two_digits text at d e u lt first large second small is other =
-    let p = goes_on text at at 0 1 d (d % 32) 32 (start text at) (omega arith) first large (omega arith)
-    (omega arith) in
-    ends text at (at + 1) (d % 32) 32 e u p lt second small (omega arith)
-    ∙ ap (λ (r : Result ℤ NumberFault). r >>= λ n. Ok (n, at + 1 + 1)) (number_of-is u (omega arith) other)
-    ∙ ap (λ (k : ℕ). found (signed u) k) (omega arith)
+number_alone text at after r value is same = rw (is, same) (grind arith)

@@ -1,8 +1,9 @@
 -- The unsigned value of digits, as it grows digit by digit.
 use Rattle.std.proofs.Common.{◌≡◌, ℕ, zero, suc, ◌+◌, ◌*◌, ◌^◌, ◌%◌, ◌<◌, ◌≤◌, min, List, [], ◌∷◌, ◌++◌}
-use Rattle.std.proofs.Common.{length, refl, ap, arith, inl, inr, length-append}
+use Rattle.std.proofs.Common.{length, arith, inl, inr, length-append}
 use Rattle.std.proofs.Math.Nat.{pow-succ'}
-use Rattle.std.proofs.lemmas.Bool.{cases_lt, le-leb}
+use Rattle.std.proofs.lemmas.Bool.{cases_lt}
+use Rattle.std.proofs.lemmas.Bool.Decides.{nat_tests}
 use Rattle.smap_vlq.specs.Number.{unsigned, number_of}
 
 -- What a total and a weight say of the digits so far: their unsigned value up to 2 ^ 32, and what the next
@@ -31,11 +32,7 @@ saturated u low w M N le =
         omega arith
 
 pub number_of-min : (u : ℕ) → number_of (min u (2 ^ 32)) ≡ number_of u
-number_of-min u =
-    elim (cases_lt u (2 ^ 32)) [
-      | inl small ↦ let e : min u (2 ^ 32) ≡ u = omega arith in ap number_of e
-      | inr large ↦ let e : min u (2 ^ 32) ≡ 2 ^ 32 = omega arith in rw (e, le-leb _ _ large) refl
-    ]
+number_of-min u = grind (arith, nat_tests)
 
 pub Stands-push : (total weight : ℕ) (digits : List ℕ) (d : ℕ) → Stands total weight digits
     → Stands (min (total + (d % 32) * weight) (2 ^ 32)) (min (weight * 32) (2 ^ 35)) (digits ++ d ∷ [])

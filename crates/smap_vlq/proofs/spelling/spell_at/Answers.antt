@@ -10,7 +10,7 @@ unfolding spelling
 returns-then-unsigned-lt32-clause-text c =
     let e = c.unsigned_value-unsigned.ensures ∙ ap unsigned_of (to_z-of_z w32 c.args.n c.ranges.n) in
     rw c.byte_of.ensures (one_digit c.args.out.now c.args.at c.unsigned_value-unsigned.result
-    c.requires.room c.if-unsigned-lt32.true).text_is
+    c.requires.room c.if-unsigned-lt32.true)
     ∙ ap (λ (u : ℕ). take c.args.at c.args.out.now ++ unsigned_spelling u) e
 
 pub returns-then-unsigned-lt1024-clause-text : goal.returns-then-unsigned-lt1024-clause-text
@@ -19,7 +19,7 @@ returns-then-unsigned-lt1024-clause-text c =
     let e = c.unsigned_value-unsigned.ensures ∙ ap unsigned_of (to_z-of_z w32 c.args.n c.ranges.n) in
     rw (c.byte_of-then-unsigned-lt1024.ensures, c.byte_of-then-unsigned-lt1024-2.ensures)
     (two_digits c.args.out.now c.args.at c.unsigned_value-unsigned.result c.requires.room
-    (omega (arith, c.if-unsigned-lt32.false)) c.if-unsigned-lt1024.true).text_is
+    (omega (arith, c.if-unsigned-lt32.false)) c.if-unsigned-lt1024.true)
     ∙ ap (λ (u : ℕ). take c.args.at c.args.out.now ++ unsigned_spelling u) e
 
 pub returns-clause-text : goal.returns-clause-text
