@@ -43,25 +43,15 @@ flat_only file (Some d) tree i none = absurd cc
 flat_only file None tree i none = by (flat_of file tree)
   where
     by : (r : Result Flat ShapeFault) → (r >>= λ m. members (flat m)) ≢ members (index i)
-    by (Ok m) e = absurd cc
-    by (Err f) e = absurd cc
-
-abbrev after_both : Data → Option (List ℕ) → Result (MapMembers Data) ShapeFault
-after_both d file = flat_or_index file (member_of (codes "sections") d) d
-
-abbrev after_file : Data → Option (List ℕ) → Result (MapMembers Data) ShapeFault
-after_file d file =
-    refuse_if Both (has (codes "sections") d && has (codes "mappings") d) >>= λ (u : Unit {0}).
-    after_both d file
+    by (Ok m) e = cc
+    by (Err f) e = cc
 
 pub none_below : (tree : Data) (s : Section Data) (i : Index Data) → section_of max_level tree ≡ Ok s
     → shape_of s.map ≢ Ok (index i)
 unfolding shape_of
 none_below tree s i h e =
-    let d = s.map in
-    let object = bound (refuse_if NotObject (is_none (as_object d)))
-    (λ (u : Unit {0}). file_of d >>= after_file d) (index i) e in
-    let file = bound (file_of d) (after_file d) (index i) object.2 in
-    let both = bound (refuse_if Both (has (codes "sections") d && has (codes "mappings") d))
-    (λ (u : Unit {0}). after_both d file.0) (index i) file.2 in
-    flat_only file.0 (member_of (codes "sections") d) d i (no_sections tree s h) both.2
+    let object = bound (refuse_if NotObject (is_none (as_object s.map))) _ (index i) e in
+    let file = bound (file_of s.map) _ (index i) object.2 in
+    let both = bound (refuse_if Both (has (codes "sections") s.map && has (codes "mappings") s.map)) _ (index i)
+    file.2 in
+    flat_only file.0 (member_of (codes "sections") s.map) s.map i (no_sections tree s h) both.2
