@@ -52,6 +52,6 @@ unfolding shape_of
 none_below tree s i h e =
     let object = bound (refuse_if NotObject (is_none (as_object s.map))) _ (index i) e in
     let file = bound (file_of s.map) _ (index i) object.2 in
-    let both = bound (refuse_if Both (has (codes "sections") s.map && has (codes "mappings") s.map)) _ (index i)
-    file.2 in
+    let both = bound (refuse_if Both (has (codes "sections") s.map && has (codes "mappings") s.map)) _
+    (index i) file.2 in
     flat_only file.0 (member_of (codes "sections") s.map) s.map i (no_sections tree s h) both.2

@@ -1,6 +1,6 @@
 -- What a list with each element once keeps of the list.
 use Rattle.std.proofs.Common.{◌≡◌, ℕ, zero, suc, ◌≤◌, List, [], ◌∷◌, length, filter, Some, slice_get, ap, ◌∙◌}
-use Rattle.std.proofs.Common.{sym, refl, inl, inr, Bool, true, false, cond, not, true≢false, subst, arith}
+use Rattle.std.proofs.Common.{refl, inl, inr, Bool, true, false, not, arith}
 use Rattle.std.specs.Prelude.{Contains}
 use Rattle.std.specs.List.{AllByRecursion, IsDistinct}
 use Rattle.std.proofs.lemmas.Bool.{cases_Bool, cond_both, not-true}

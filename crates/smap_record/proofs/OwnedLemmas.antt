@@ -1,6 +1,6 @@
 -- Contents that are handed over one by one.
 use Rattle.std.proofs.Common.{◌≡◌, ℕ, zero, suc, ◌+◌, ◌-◌, ◌<◌, List, [], ◌∷◌, ◌++◌, length, take, drop}
-use Rattle.std.proofs.Common.{replicate, Option, Some, None, Ok, slice_get, ap, refl, sym, ◌∙◌, arith}
+use Rattle.std.proofs.Common.{replicate, Option, Some, None, slice_get, ap, refl, sym, ◌∙◌, arith}
 use Rattle.std.proofs.Math.Seq.{drop-nil}
 use Rattle.std.proofs.lemmas.Option.{slice_get-get_or}
 use Rattle.std.proofs.lemmas.List.{drop-drop, get_or-replicate, length-replicate, take_at}
@@ -8,10 +8,8 @@ use Rattle.url.specs.Parts.{Parts}
 use Rattle.smap_mappings.specs.declared.position.Position.{Position}
 use Rattle.smap_shape.specs.Members.{Flat, fitted}
 use Rattle.smap_shape.specs.Contents.{with_contents}
-use Rattle.smap_record.specs.Record.{Entry, Listing, Allowed}
-use Rattle.smap_record.specs.Faults.{Checked, ◌>>=◌}
-use Rattle.smap_record.specs.Flat.{source_entry, entries_from, listed_flat}
-use Rattle.smap_shape.specs.Members.{is_listed}
+use Rattle.smap_record.specs.Record.{Listing, Allowed}
+use Rattle.smap_record.specs.Flat.{entries_from, listed_flat}
 use Rattle.smap_record.specs.Owned.{first_of}
 use Rattle.smap_record.proofs.FlatLemmas.{same_entries}
 
@@ -29,7 +27,8 @@ padded_at {A} [] k i h =
     let none : Option A = None in
     let long = length-replicate k none in
     slice_get-get_or (replicate k none) i none (omega (arith, h, long))
-    ∙ ap Some (get_or-replicate k i none none (omega (arith, h)) ∙ ap first_of (sym (drop-nil {A = Option A} i)))
+    ∙ ap Some (get_or-replicate k i none none (omega (arith, h))
+    ∙ ap first_of (sym (drop-nil {A = Option A} i)))
 padded_at (x ∷ xs) k zero h = refl
 padded_at (x ∷ xs) k (suc i) h = padded_at xs k i (omega (arith, h))
 
@@ -52,9 +51,7 @@ unfolding entries_from
 enough base root ignored i [] [] = refl
 enough base root ignored i [] (c ∷ cs) = refl
 enough base root ignored i (s ∷ ss) [] = refl
-enough base root ignored i (s ∷ ss) (c ∷ cs) =
-    ap (λ (more : Checked (List Entry)). source_entry base root i s c (is_listed i ignored) >>= λ entry.
-    more >>= λ entries. Ok (entry ∷ entries)) (enough base root ignored (i + 1) ss cs)
+enough base root ignored i (s ∷ ss) (c ∷ cs) = rw (enough base root ignored (i + 1) ss cs) refl
 
 fitted_whole : {A : Type 0} (n : ℕ) (xs : List (Option A)) → length xs ≡ n → fitted n xs ≡ xs
 fitted_whole n xs long = take_at xs (replicate (n - length xs) None) n long

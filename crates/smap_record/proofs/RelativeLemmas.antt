@@ -1,5 +1,5 @@
 -- What a relative spelling leads to.
-use Rattle.std.proofs.Common.{◌≡◌, ℕ, List, Option, Some, None, ap, sym, refl, Bool, true, false, cond}
+use Rattle.std.proofs.Common.{◌≡◌, ℕ, List, Option, Some, None, ap, Bool, true, false, cond}
 use Rattle.std.specs.Prelude.{unwrap_or}
 use Rattle.std.proofs.lemmas.Bool.{cond_both}
 use Rattle.std.proofs.lemmas.Slice.Eq.{bytes_eq-Decides}

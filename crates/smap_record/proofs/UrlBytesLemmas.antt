@@ -1,9 +1,9 @@
 -- How many bytes the URLs of sources take: one source after the other, and the URLs of what is listed.
-use Rattle.std.proofs.Common.{◌≡◌, ◌∙◌, ◌+◌, ◌-◌, ◌++◌, ◌≤◌, ◌<◌, ℕ, max, Bool, true, false, List, [], ◌∷◌}
+use Rattle.std.proofs.Common.{◌≡◌, ◌∙◌, ◌+◌, ◌++◌, ◌≤◌, ◌<◌, ℕ, max, true, false, List, []}
 use Rattle.std.proofs.Common.{map, Option, Some, None, Ok, Err, ap, arith, get_or, length, nat_le, refl}
 use Rattle.std.proofs.Common.{slice_get, subst, sym, take}
 use Rattle.std.proofs.Common.{if◌then◌else◌}
-use Rattle.std.specs.Prelude.{option_map, option_and_then, unwrap_or, sum_by}
+use Rattle.std.specs.Prelude.{option_map, unwrap_or, sum_by}
 use Rattle.std.proofs.lemmas.Bool.{cond-true, cond-false}
 use Rattle.std.proofs.lemmas.Bool.Decides.{nat_tests}
 use Rattle.std.proofs.lemmas.Option.{slice_get-get_or}
@@ -28,11 +28,6 @@ use Rattle.smap_record.proofs.StepLemmas.{first_fails}
 abbrev no_source : Spelling
 no_source = record { source = None; root = None }
 
--- what is left once one more has taken its own
-pub taken_from : (left so_far next most taken rest : ℕ) → left + so_far ≡ most → next ≡ so_far + taken
-    → taken ≤ left → rest ≡ left - taken → rest + next ≡ most
-taken_from left so_far next most taken rest before more enough is = omega arith
-
 -- too little is left, so all take too much
 pub none_left : (left so_far most taken all : ℕ) → left + so_far ≡ most → so_far + taken ≤ all
     → (taken ≤ left → ⊥) → false ≡ nat_le all most
@@ -54,7 +49,8 @@ module _ (base : Parts) where
     pub url_bytes_more : url_bytes base (take (i + 1) ws)
         ≡ url_bytes base (take i ws) + source_bytes base root source
     url_bytes_more =
-        rw (sum_by_more (λ (s : Spelling). source_bytes base s.root s.source) ws i no_source within, is_next) refl
+        let more = sum_by_more (λ (s : Spelling). source_bytes base s.root s.source) ws i no_source within in
+        rw (more, is_next) refl
 
     -- as many as all take
     pub url_bytes_at_least : url_bytes base (take i ws) + source_bytes base root source ≤ url_bytes base ws
@@ -74,7 +70,8 @@ sum_by-map f g xs =
     is_sum_by (λ xs. sum_by f (map g xs)) (λ x. f (g x)) refl (λ x xs. sum_by-cons f (g x) (map g xs)) xs
 
 module _ (base : Parts) where
-  stable_within : (o : Option (List ℕ)) (n : ℕ) → url_bytes_of (url_if (if_stable base o)) ≤ max n (url_bytes_of o)
+  stable_within : (o : Option (List ℕ)) (n : ℕ)
+      → url_bytes_of (url_if (if_stable base o)) ≤ max n (url_bytes_of o)
   stable_within o n = grind arith
 
   -- a URL is among the bytes that its source takes

@@ -16,7 +16,8 @@ use Rattle.smap_shape.specs.Reading.{shape_of}
 use Rattle.smap_record.specs.declared.written.NumberedSource.{NumberedSource}
 use Rattle.smap_record.specs.Written.{Spelling, if_read, of_flat, of_section, of_members, of_tree}
 use Rattle.smap_record.specs.WrittenView.{root_of, numbered_of, spelling_at, spellings, HaveRoots, with_root}
-use Rattle.smap_record.proofs.ListLemmas.{all_append, all_at, all_weaker, take_next, drop_next, get-end, map-push}
+use Rattle.smap_record.proofs.ListLemmas.{all_append, all_at, all_weaker, take_next, drop_next}
+use Rattle.smap_record.proofs.ListLemmas.{get-end, map-push}
 
 -- ---- with one more root
 
@@ -128,8 +129,8 @@ module _ (roots : List (Option (String Global))) (sources : List NumberedSource)
   module _ (have : HaveRoots (length roots) sources) where
     -- the index of a source's root is that of a root
     pub has_root : s.root < length roots
-    has_root =
-        all_at (λ (n : Numbered). n.1 < length roots) (map numbered_of sources) i (numbered_of s) have numbered_told
+    has_root = all_at (λ (n : Numbered). n.1 < length roots) (map numbered_of sources) i (numbered_of s) have
+        numbered_told
 
     -- the root of a source is the one with its index
     pub root_told : (root : Option (String Global)) → root ≡ get_or roots s.root root
@@ -155,10 +156,12 @@ module _ (roots rs : List (Option (String Global))) (ns vs : List NumberedSource
   pub flat_kept : spellings rs vs ≡ spellings roots ns ++ of_flat m
   flat_kept =
       rw (more, map-push root_of roots r, root, all)
-      (flat_added (map root_of roots) (length roots) (sym (length-map roots root_of)) (map numbered_of ns) m have)
+      (flat_added (map root_of roots) (length roots) (sym (length-map roots root_of)) (map numbered_of ns) m
+      have)
 
   pub flat_has_roots : HaveRoots (length rs) vs
-  flat_has_roots = rw (more, length_push roots r, all) (still_below (length roots) (map numbered_of ns) m.sources have)
+  flat_has_roots =
+      rw (more, length_push roots r, all) (still_below (length roots) (map numbered_of ns) m.sources have)
 
 -- ---- sections in turn
 

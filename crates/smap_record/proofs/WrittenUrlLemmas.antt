@@ -27,7 +27,7 @@ use Rattle.smap_record.specs.Flat.{is_too_many, source_at, source_url}
 use Rattle.smap_record.specs.Sections.{Inner, own_offset, combined, falls, overlaps, listed_section}
 use Rattle.smap_record.specs.Sections.{listed_sections, section_map}
 use Rattle.smap_record.specs.Reading.{map_of, tree_map}
-use Rattle.smap_record.specs.Written.{Spelling, if_read, of_flat, of_section, of_members, of_tree}
+use Rattle.smap_record.specs.Written.{Spelling, of_flat, of_section, of_members, of_tree}
 use Rattle.smap_record.specs.Written.{url_if, url_of}
 
 -- ---- one step after the other
@@ -75,13 +75,15 @@ length-fitted {A} n xs =
 flat_fits : (file : Option (List ℕ)) (tree : Data) → Gives (flat_of file tree) HasContents
 flat_fits file tree =
     then _ (or_shape_fault SourceRoot (optional as_str (member_of (codes "sourceRoot") tree))) _ (λ root _.
-    then _ (or_shape_fault Sources (list_member text_or_null (member_of (codes "sources") tree))) _ (λ sources _.
-    then _ (or_shape_fault SourcesContent (list_member text_or_null (member_of (codes "sourcesContent") tree))) _
-    (λ contents _.
+    then _ (or_shape_fault Sources (list_member text_or_null (member_of (codes "sources") tree))) _
+    (λ sources _.
+    then _ (or_shape_fault SourcesContent (list_member text_or_null (member_of (codes "sourcesContent") tree)))
+    _ (λ contents _.
     then _ (or_shape_fault Names (list_member as_str (member_of (codes "names") tree))) _ (λ names _.
     then _ (or_shape_fault IgnoreList (list_member (number_below (length sources)) (ignored_member tree))) _
     (λ ignored _.
-    then _ (or_shape_fault Mappings (option_and_then as_str (member_of (codes "mappings") tree))) _ (λ mappings _.
+    then _ (or_shape_fault Mappings (option_and_then as_str (member_of (codes "mappings") tree))) _
+    (λ mappings _.
     gives HasContents _ (length-fitted (length sources) contents)))))))
 
 shape_fits : (tree : Data) → Gives (shape_of tree) FlatHasContents
@@ -93,7 +95,8 @@ shape_fits tree =
     by file (member_of (codes "sections") tree))))
   where
     by : (file : Option (List ℕ)) (o : Option Data) → Gives (flat_or_index file o tree) FlatHasContents
-    by file None = then _ (flat_of file tree) _ (λ m ok. gives FlatHasContents (flat m) (flat_fits file tree m ok))
+    by file None = then _ (flat_of file tree) _
+        (λ m ok. gives FlatHasContents (flat m) (flat_fits file tree m ok))
     by file (Some sections) = then _ (index_of file sections) _ (λ i _. gives FlatHasContents (index i) tt)
 
 -- ---- a flat map
@@ -121,7 +124,8 @@ module _ (base : Parts) where
     entry_has : (i : ℕ) (s c : Option (List ℕ)) (flag : Bool) → Gives (source_entry base root i s c flag)
         (λ e. e.url ≡ url_of base (record { source = s; root = root }))
     entry_has i s c flag = then _ (source_url base root i s) _ (λ url ok.
-        gives (λ (e : Entry). e.url ≡ url_of base (record { source = s; root = root })) _ (source_has i s url ok))
+        gives (λ (e : Entry). e.url ≡ url_of base (record { source = s; root = root })) _
+        (source_has i s url ok))
 
     entries_have : (i : ℕ) (ss cs : List (Option (List ℕ))) → length cs ≡ length ss
         → Gives (entries_from base root ignored i ss cs) (λ es. urls es ≡ map (url_of base) (rooted root ss))
@@ -166,7 +170,8 @@ module _ (base : Parts) where
         then _ (refuse_if Overlap (overlaps before o)) _ (λ _ _.
         then_read _ (shape_of s.map) _ (λ m read.
         then _ (inner o before m) _ (λ now listed.
-        gives (λ (now : Position × Listing). Adds before (of_section level own tree) now.1) (own_offset s, now)
+        gives (λ (now : Position × Listing). Adds before (of_section level own tree) now.1)
+        (own_offset s, now)
         (rw (section, read) (each o before m (shape_fits s.map m read) now listed))))))))
 
     sections_add : (outer : Position) (k : ℕ) (last : Option Position) (before : Listing) (trees : List Data)
@@ -180,7 +185,8 @@ module _ (base : Parts) where
         let rest = sections_add outer (k + 1) (Some now.0) now.1 ts all others in
         let first = map (url_of base) (of_section level own t) in
         let more = map (url_of base) (flat_map (of_section level own) ts) in
-        rest ∙ ap (λ (us : List (Option (List ℕ))). us ++ more) one ∙ append_assoc (urls before.sources) first more
+        rest ∙ ap (λ (us : List (Option (List ℕ))). us ++ more) one
+        ∙ append_assoc (urls before.sources) first more
         ∙ ap (λ (us : List (Option (List ℕ))). urls before.sources ++ us)
         (sym (map-append (url_of base) (of_section level own t) (flat_map (of_section level own) ts))))
 
@@ -202,8 +208,8 @@ module _ (base : Parts) where
   members_listed : (limits : Allowed) (m : MapMembers Data) → FlatHasContents m
       → Gives (map_of base limits m) (Lists (of_members 8 m))
   unfolding of_members
-  members_listed limits (flat m) as_many = then _ (listed_flat base limits start nothing m) _ (λ listing ok. gives (Lists (of_flat m)) _
-      (flat_adds limits start nothing m as_many listing ok))
+  members_listed limits (flat m) as_many = then _ (listed_flat base limits start nothing m) _ (λ listing ok.
+      gives (Lists (of_flat m)) _ (flat_adds limits start nothing m as_many listing ok))
   members_listed limits (index i) as_many =
       then _ (listed_sections 1 (section_map base limits 7) start 0 None nothing i.sections) _ (λ listing ok.
       gives (Lists (flat_map (of_section 1 (of_members 7)) i.sections)) _
