@@ -36,18 +36,14 @@ kept : (roots more : List (Option (List ℕ))) (ns : List Numbered)
     → AllByRecursion (λ s. s.1 < length roots) ns
     → map (spelling_at (roots ++ more)) ns ≡ map (spelling_at roots) ns
 kept roots more [] all = refl
-kept roots more (n ∷ ns) all = (λ j. record {
-  source = n.0;
-  root = unwrap_or (root_kept roots more n.1 all.0 j) None;
-} ∷ kept roots more ns all.1 j)
+kept roots more (n ∷ ns) all = rw (root_kept roots more n.1 all.0, kept roots more ns all.1) refl
 
 -- sources with the index of the last root have that one
 own : (roots : List (Option (List ℕ))) (root : Option (List ℕ)) (ss : List (Option (List ℕ)))
     → map (spelling_at (roots ++ root ∷ [])) (with_root (length roots) ss)
     ≡ map (λ s. record { source = s; root = root }) ss
 own roots root [] = refl
-own roots root (s ∷ ss) =
-    (λ j. record { source = s; root = unwrap_or (get-end roots root j) None } ∷ own roots root ss j)
+own roots root (s ∷ ss) = rw (get-end roots root, own roots root ss) refl
 
 flat_added : (roots : List (Option (List ℕ))) (n : ℕ) → n ≡ length roots → (ns : List Numbered) (m : Flat)
     → AllByRecursion (λ s. s.1 < n) ns

@@ -1,6 +1,6 @@
 -- Each listed source has the URL that what is written resolves to.
 use Rattle.std.proofs.Common.{◌≡◌, ℕ, zero, suc, ◌+◌, ◌-◌, List, [], ◌∷◌, ◌++◌, length, replicate, codes}
-use Rattle.std.proofs.Common.{Option, Some, None, Ok, Err, ap, refl, sym, ◌∙◌, arith, subst, length-append}
+use Rattle.std.proofs.Common.{Option, Some, None, Ok, Err, ap, refl, sym, arith, subst, length-append}
 use Rattle.std.proofs.Common.{map, append-nil, Bool}
 use Rattle.std.specs.Prelude.{Result, flat_map, ◌&&◌, option_and_then, is_none}
 use Rattle.std.proofs.lemmas.List.{map-append, append_assoc, length-map, length-take-le, length-replicate}
@@ -150,10 +150,10 @@ module _ (base : Parts) where
       then _ (refuse_if TooMany (is_too_many limits before m)) _ (λ _ _.
       then _ (entries_from base m.root m.ignored 0 m.sources m.contents) _ (λ es ok.
       then _ (of_segments (decoded (bounds_of limits offset m) m.mappings)) _ (λ ts _.
-      gives (Adds before (of_flat m)) _
-      (map-append (λ (e : Entry). e.url) before.sources es
-      ∙ ap (λ (us : List (Option (List ℕ))). urls before.sources ++ us)
-      (entries_have m.root m.ignored 0 m.sources m.contents as_many es ok)))))
+      gives (Adds before (of_flat m)) _ (rw (
+        map-append (λ (e : Entry). e.url) before.sources es,
+        entries_have m.root m.ignored 0 m.sources m.contents as_many es ok,
+      ) refl))))
 
   -- ---- sections
 
@@ -185,10 +185,8 @@ module _ (base : Parts) where
         let rest = sections_add outer (k + 1) (Some now.0) now.1 ts all others in
         let first = map (url_of base) (of_section level own t) in
         let more = map (url_of base) (flat_map (of_section level own) ts) in
-        rest ∙ ap (λ (us : List (Option (List ℕ))). us ++ more) one
-        ∙ append_assoc (urls before.sources) first more
-        ∙ ap (λ (us : List (Option (List ℕ))). urls before.sources ++ us)
-        (sym (map-append (url_of base) (of_section level own t) (flat_map (of_section level own) ts))))
+        let both = map-append (url_of base) (of_section level own t) (flat_map (of_section level own) ts) in
+        rw (rest, one, both) (append_assoc (urls before.sources) first more))
 
   map_adds : (limits : Allowed) (n : ℕ) (offset : Position) (before : Listing) (m : MapMembers Data)
       → FlatHasContents m → Gives (section_map base limits n offset before m) (Adds before (of_members n m))
