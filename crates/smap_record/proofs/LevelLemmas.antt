@@ -26,8 +26,7 @@ no_sections : (tree : Data) (s : Section Data) → section_of 8 tree ≡ Ok s
     → has (codes "sections") s.map ≡ false
 unfolding section_of
 no_sections tree s h =
-    let parts = bound (offset_and_map tree)
-    (λ s. refuse_if Nested (has (codes "sections") s.map) >>= λ (u : Unit {0}). Ok s) s h in
+    let parts = bound (offset_and_map tree) _ s h in
     by parts.0 (has (codes "sections") parts.0.map) refl parts.2
   where
     by : (t : Section Data) (b : Bool) → has (codes "sections") t.map ≡ b
