@@ -40,14 +40,13 @@ change_next f xs i x at = map_over_more f xs (changed f i xs) i x (slice_get_wit
 -- what is after nothing keeps its indices
 originals_kept : (o : Option Original) → option_map (shifted_original 0 0) o ≡ o
 originals_kept None = refl
-originals_kept (Some o) = (λ i. Some (record o { source = source i; name = name o.name i }))
+originals_kept (Some o) = (λ i. Some (record o { source = source i; name = names o.name i }))
   where
     source : 0 + o.source ≡ o.source
     source = omega arith
 
-    name : (n : Option ℕ) → option_map (λ n. 0 + n) n ≡ n
-    name None = refl
-    name (Some n) = let same : 0 + n ≡ n = omega arith in ap Some same
+    names : (n : Option ℕ) → option_map (λ n. 0 + n) n ≡ n
+    names n = grind arith
 
 pub tokens_kept : (ts : List Token) → map (shifted 0 0) ts ≡ ts
 tokens_kept [] = refl

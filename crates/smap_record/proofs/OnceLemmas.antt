@@ -4,7 +4,8 @@ use Rattle.std.proofs.Common.{refl, inl, inr, Bool, true, false, not, arith}
 use Rattle.std.specs.Prelude.{Contains}
 use Rattle.std.specs.List.{AllByRecursion, IsDistinct}
 use Rattle.std.proofs.lemmas.Bool.{cases_Bool, cond_both, not-true}
-use Rattle.std.proofs.lemmas.List.Elements.{filter_passes as All-filter_passes, recursion_from_All}
+use Rattle.std.proofs.lemmas.List.Elements.{filter_passes as All-filter_passes, All-filter}
+use Rattle.std.proofs.lemmas.List.Elements.{recursion_from_All, All-from_recursion}
 use Rattle.std.proofs.lemmas.List.Sums.{length-filter, count_by-le-length}
 use Rattle.smap_record.specs.Record.{distinct}
 use Rattle.smap_record.proofs.ListLemmas.{all_weaker}
@@ -13,9 +14,7 @@ use Rattle.smap_record.proofs.ListLemmas.{all_weaker}
 
 pub all_filter : {A : Type 0} (P : A → Type 0) (p : A → Bool) (xs : List A)
     → AllByRecursion P xs → AllByRecursion P (filter p xs)
-all_filter P p [] all = tt
-all_filter P p (x ∷ xs) all = cond_both (p x) (x ∷ filter p xs) (filter p xs) (AllByRecursion P)
-    (λ _. (all.0, all_filter P p xs all.1)) (λ _. all_filter P p xs all.1)
+all_filter P p xs all = recursion_from_All P (filter p xs) (All-filter p P xs (All-from_recursion P xs all))
 
 filter_passes : {A : Type 0} (p : A → Bool) (xs : List A) → AllByRecursion (λ x. p x ≡ true) (filter p xs)
 filter_passes p xs = recursion_from_All (λ x. p x ≡ true) (filter p xs) (All-filter_passes p xs)

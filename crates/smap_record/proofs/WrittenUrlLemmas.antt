@@ -77,8 +77,9 @@ flat_fits file tree =
     then _ (or_shape_fault SourceRoot (optional as_str (member_of (codes "sourceRoot") tree))) _ (λ root _.
     then _ (or_shape_fault Sources (list_member text_or_null (member_of (codes "sources") tree))) _
     (λ sources _.
-    then _ (or_shape_fault SourcesContent (list_member text_or_null (member_of (codes "sourcesContent") tree)))
-    _ (λ contents _.
+    then _
+    (or_shape_fault SourcesContent (list_member text_or_null (member_of (codes "sourcesContent") tree))) _
+    (λ contents _.
     then _ (or_shape_fault Names (list_member as_str (member_of (codes "names") tree))) _ (λ names _.
     then _ (or_shape_fault IgnoreList (list_member (number_below (length sources)) (ignored_member tree))) _
     (λ ignored _.

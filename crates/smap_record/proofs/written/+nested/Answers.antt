@@ -38,7 +38,8 @@ with_sections-loop-k-preserved t c =
     let tree = view c.section_value.result.now in
     let at : slice_get all c.loop-k.k ≡ Some tree = slice_get-map view c.args.shape.now.sections c.loop-k.k
     ∙ ap (option_map view) c.section_value.ensures in
-    rw c.in_ok-written.ensures (section_added own c.loop-k.written all c.loop-k.k tree at ∙ c.loop-k.invariant)
+    rw c.in_ok-written.ensures
+    (section_added own c.loop-k.written all c.loop-k.k tree at ∙ c.loop-k.invariant)
 
 pub with_sections-returns : goal.with_sections-returns
 with_sections-returns t c =
