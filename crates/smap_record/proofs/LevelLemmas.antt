@@ -1,5 +1,5 @@
 -- Index maps end at the last level.
-use Rattle.std.proofs.Common.{◌≡◌, ℕ, List, Option, Some, None, Ok, Err, refl, Bool, true, false, subst}
+use Rattle.std.proofs.Common.{◌≡◌, ℕ, List, Option, Some, None, Ok, refl, Bool, true, false, subst}
 use Rattle.std.specs.Prelude.{◌≢◌, Result, ◌&&◌, codes, is_none, is_some}
 use Rattle.serde_json.specs.Data.{Data}
 use Rattle.serde_json.specs.Find.{as_object}
@@ -7,7 +7,7 @@ use Rattle.smap_vlq.specs.Number.{◌>>=◌}
 use Rattle.smap_shape.specs.declared.fault.ShapeFault.{ShapeFault}
 use Rattle.smap_shape.specs.declared.fault.ShapeFault.TheVariants.{NotObject, Both, Nested}
 use Rattle.smap_shape.specs.Limits.{max_level}
-use Rattle.smap_shape.specs.Members.{Flat, Index, Section, MapMembers, flat, index}
+use Rattle.smap_shape.specs.Members.{Index, Section, MapMembers, index}
 use Rattle.smap_shape.specs.Reading.{shape_of, section_of, offset_and_map, file_of, flat_of, flat_or_index}
 use Rattle.smap_shape.specs.Reading.{member_of, has, refuse_if}
 use Rattle.smap_record.proofs.StepLemmas.{bound}
@@ -38,12 +38,8 @@ no_sections tree s h =
 -- a map without sections is no index map
 flat_only : (file : Option (List ℕ)) (o : Option Data) (tree : Data) (i : Index Data) → is_some o ≡ false
     → flat_or_index file o tree ≢ members (index i)
-flat_only file (Some d) tree i none = absurd cc
-flat_only file None tree i none = by (flat_of file tree)
-  where
-    by : (r : Result Flat ShapeFault) → (r >>= λ m. members (flat m)) ≢ members (index i)
-    by (Ok m) e = cc
-    by (Err f) e = cc
+flat_only file (Some d) tree i none e = absurd cc
+flat_only file None tree i none e = let m = bound (flat_of file tree) _ (index i) e in let is = m.2 in cc
 
 pub none_below : (tree : Data) (s : Section Data) (i : Index Data) → section_of max_level tree ≡ Ok s
     → shape_of s.map ≢ Ok (index i)

@@ -10,14 +10,12 @@ use Rattle.serde_json.specs.Find.{as_object, as_str}
 use Rattle.smap_mappings.specs.declared.position.Position.{Position}
 use Rattle.smap_mappings.specs.Decoded.{decoded}
 use Rattle.smap_shape.specs.declared.fault.ShapeFault.{ShapeFault}
-use Rattle.smap_shape.specs.declared.fault.ShapeFault.TheVariants.{NotObject, Both, SourceRoot, Sources}
-use Rattle.smap_shape.specs.declared.fault.ShapeFault.TheVariants.{SourcesContent, Names, Mappings}
-use Rattle.smap_shape.specs.declared.fault.ShapeFault.TheVariants.{IgnoreList}
+use Rattle.smap_shape.specs.declared.fault.ShapeFault.TheVariants.{NotObject, Both, Names, SourcesContent}
+use Rattle.smap_shape.specs.declared.fault.ShapeFault.TheVariants.{SourceRoot, Sources, Mappings, IgnoreList}
 use Rattle.smap_shape.specs.Members.{Flat, MapMembers, flat, index, fitted, is_listed}
 use Rattle.smap_shape.specs.Reading.{shape_of, section_of, file_of, flat_of, index_of, flat_or_index}
 use Rattle.smap_shape.specs.Reading.{list_member, text_or_null, optional, number_below, ignored_member}
-use Rattle.smap_shape.specs.Reading.{member_of, has}
-use Rattle.smap_shape.specs.Reading.{or_fault as or_shape_fault, refuse_if as refuse_shape_if}
+use Rattle.smap_shape.specs.Reading.{or_fault as or_shape_fault, refuse_if as refuse_shape_if, member_of, has}
 use Rattle.smap_record.specs.declared.fault.Kind.TheVariants.{TooMany, Offset, Order, Overlap}
 use Rattle.smap_record.specs.Record.{Entry, Listing, ReadMap, Allowed}
 use Rattle.smap_record.specs.Source.{Resolved, no_url, unstable, resolved, resolve}
@@ -27,8 +25,7 @@ use Rattle.smap_record.specs.Flat.{is_too_many, source_at, source_url}
 use Rattle.smap_record.specs.Sections.{Inner, own_offset, combined, falls, overlaps, listed_section}
 use Rattle.smap_record.specs.Sections.{listed_sections, section_map}
 use Rattle.smap_record.specs.Reading.{map_of, tree_map}
-use Rattle.smap_record.specs.Written.{Spelling, of_flat, of_section, of_members, of_tree}
-use Rattle.smap_record.specs.Written.{url_if, url_of}
+use Rattle.smap_record.specs.Written.{Spelling, of_flat, of_section, of_members, of_tree, url_if, url_of}
 
 -- ---- one step after the other
 
