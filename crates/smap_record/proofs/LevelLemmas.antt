@@ -1,5 +1,5 @@
 -- Index maps end at the last level.
-use Rattle.std.proofs.Common.{◌≡◌, ℕ, List, Option, Some, None, Ok, Err, refl, Bool, true, false, subst}
+use Rattle.std.proofs.Common.{◌≡◌, ℕ, List, Option, Some, None, Ok, refl, Bool, true, false, subst}
 use Rattle.std.specs.Prelude.{◌≢◌, Result, ◌&&◌, codes, is_none, is_some}
 use Rattle.serde_json.specs.Data.{Data}
 use Rattle.serde_json.specs.Find.{as_object}
@@ -7,7 +7,7 @@ use Rattle.smap_vlq.specs.Number.{◌>>=◌}
 use Rattle.smap_shape.specs.declared.fault.ShapeFault.{ShapeFault}
 use Rattle.smap_shape.specs.declared.fault.ShapeFault.TheVariants.{NotObject, Both, Nested}
 use Rattle.smap_shape.specs.Limits.{max_level}
-use Rattle.smap_shape.specs.Members.{Flat, Index, Section, MapMembers, flat, index}
+use Rattle.smap_shape.specs.Members.{Index, Section, MapMembers, index}
 use Rattle.smap_shape.specs.Reading.{shape_of, section_of, offset_and_map, file_of, flat_of, flat_or_index}
 use Rattle.smap_shape.specs.Reading.{member_of, has, refuse_if}
 use Rattle.smap_record.proofs.StepLemmas.{bound}
@@ -26,8 +26,7 @@ no_sections : (tree : Data) (s : Section Data) → section_of 8 tree ≡ Ok s
     → has (codes "sections") s.map ≡ false
 unfolding section_of
 no_sections tree s h =
-    let parts = bound (offset_and_map tree)
-    (λ s. refuse_if Nested (has (codes "sections") s.map) >>= λ (u : Unit {0}). Ok s) s h in
+    let parts = bound (offset_and_map tree) _ s h in
     by parts.0 (has (codes "sections") parts.0.map) refl parts.2
   where
     by : (t : Section Data) (b : Bool) → has (codes "sections") t.map ≡ b
@@ -39,29 +38,15 @@ no_sections tree s h =
 -- a map without sections is no index map
 flat_only : (file : Option (List ℕ)) (o : Option Data) (tree : Data) (i : Index Data) → is_some o ≡ false
     → flat_or_index file o tree ≢ members (index i)
-flat_only file (Some d) tree i none = absurd cc
-flat_only file None tree i none = by (flat_of file tree)
-  where
-    by : (r : Result Flat ShapeFault) → (r >>= λ m. members (flat m)) ≢ members (index i)
-    by (Ok m) e = absurd cc
-    by (Err f) e = absurd cc
-
-abbrev after_both : Data → Option (List ℕ) → Result (MapMembers Data) ShapeFault
-after_both d file = flat_or_index file (member_of (codes "sections") d) d
-
-abbrev after_file : Data → Option (List ℕ) → Result (MapMembers Data) ShapeFault
-after_file d file =
-    refuse_if Both (has (codes "sections") d && has (codes "mappings") d) >>= λ (u : Unit {0}).
-    after_both d file
+flat_only file (Some d) tree i none e = absurd cc
+flat_only file None tree i none e = let m = bound (flat_of file tree) _ (index i) e in let is = m.2 in cc
 
 pub none_below : (tree : Data) (s : Section Data) (i : Index Data) → section_of max_level tree ≡ Ok s
     → shape_of s.map ≢ Ok (index i)
 unfolding shape_of
 none_below tree s i h e =
-    let d = s.map in
-    let object = bound (refuse_if NotObject (is_none (as_object d)))
-    (λ (u : Unit {0}). file_of d >>= after_file d) (index i) e in
-    let file = bound (file_of d) (after_file d) (index i) object.2 in
-    let both = bound (refuse_if Both (has (codes "sections") d && has (codes "mappings") d))
-    (λ (u : Unit {0}). after_both d file.0) (index i) file.2 in
-    flat_only file.0 (member_of (codes "sections") d) d i (no_sections tree s h) both.2
+    let object = bound (refuse_if NotObject (is_none (as_object s.map))) _ (index i) e in
+    let file = bound (file_of s.map) _ (index i) object.2 in
+    let both = bound (refuse_if Both (has (codes "sections") s.map && has (codes "mappings") s.map)) _
+    (index i) file.2 in
+    flat_only file.0 (member_of (codes "sections") s.map) s.map i (no_sections tree s h) both.2

@@ -1,9 +1,12 @@
 -- What a list with each element once keeps of the list.
 use Rattle.std.proofs.Common.{◌≡◌, ℕ, zero, suc, ◌≤◌, List, [], ◌∷◌, length, filter, Some, slice_get, ap, ◌∙◌}
-use Rattle.std.proofs.Common.{sym, refl, inl, inr, Bool, true, false, cond, not, true≢false, subst, arith}
+use Rattle.std.proofs.Common.{refl, inl, inr, Bool, true, false, not, arith}
 use Rattle.std.specs.Prelude.{Contains}
 use Rattle.std.specs.List.{AllByRecursion, IsDistinct}
 use Rattle.std.proofs.lemmas.Bool.{cases_Bool, cond_both, not-true}
+use Rattle.std.proofs.lemmas.List.Elements.{filter_passes as All-filter_passes, All-filter}
+use Rattle.std.proofs.lemmas.List.Elements.{recursion_from_All, All-from_recursion}
+use Rattle.std.proofs.lemmas.List.Sums.{length-filter, count_by-le-length}
 use Rattle.smap_record.specs.Record.{distinct}
 use Rattle.smap_record.proofs.ListLemmas.{all_weaker}
 
@@ -11,14 +14,10 @@ use Rattle.smap_record.proofs.ListLemmas.{all_weaker}
 
 pub all_filter : {A : Type 0} (P : A → Type 0) (p : A → Bool) (xs : List A)
     → AllByRecursion P xs → AllByRecursion P (filter p xs)
-all_filter P p [] all = tt
-all_filter P p (x ∷ xs) all = cond_both (p x) (x ∷ filter p xs) (filter p xs) (AllByRecursion P)
-    (λ _. (all.0, all_filter P p xs all.1)) (λ _. all_filter P p xs all.1)
+all_filter P p xs all = recursion_from_All P (filter p xs) (All-filter p P xs (All-from_recursion P xs all))
 
 filter_passes : {A : Type 0} (p : A → Bool) (xs : List A) → AllByRecursion (λ x. p x ≡ true) (filter p xs)
-filter_passes p [] = tt
-filter_passes p (x ∷ xs) = cond_both (p x) (x ∷ filter p xs) (filter p xs) (AllByRecursion (λ y. p y ≡ true))
-    (λ e. (e, filter_passes p xs)) (λ _. filter_passes p xs)
+filter_passes p xs = recursion_from_All (λ x. p x ≡ true) (filter p xs) (All-filter_passes p xs)
 
 IsDistinct-filter : {A : Type 0} (same : A → A → Bool) (p : A → Bool) (xs : List A)
     → IsDistinct same xs → IsDistinct same (filter p xs)
@@ -27,14 +26,6 @@ IsDistinct-filter same p [] once = once
 IsDistinct-filter same p (x ∷ xs) once = cond_both (p x) (x ∷ filter p xs) (filter p xs) (IsDistinct same)
     (λ _. (all_filter (λ y. same x y ≡ false) p xs once.0, IsDistinct-filter same p xs once.1))
     (λ _. IsDistinct-filter same p xs once.1)
-
-length-filter_le : {A : Type 0} (p : A → Bool) (xs : List A) → length (filter p xs) ≤ length xs
-length-filter_le p [] = omega arith
-length-filter_le p (x ∷ xs) = one p x (filter p xs) xs (length-filter_le p xs)
-  where
-    one : {A : Type 0} (p : A → Bool) (x : A) (ys xs : List A) → length ys ≤ length xs
-        → length (cond (p x) (x ∷ ys) ys) ≤ length (x ∷ xs)
-    one p x ys xs le = grind arith
 
 -- ---- each once
 
@@ -53,9 +44,9 @@ pub length-distinct : {A : Type 0} (same : A → A → Bool) (xs : List A) → l
 unfolding distinct
 length-distinct same [] = omega arith
 length-distinct same (x ∷ xs) =
-    let less = length-filter_le (λ y. not (same x y)) (distinct same xs) in
+    let less = count_by-le-length (λ y. not (same x y)) (distinct same xs) in
     let rest = length-distinct same xs in
-    omega (arith, less, rest)
+    omega (arith, less, rest, length-filter (λ y. not (same x y)) (distinct same xs))
 
 pub all_distinct : {A : Type 0} (P : A → Type 0) (same : A → A → Bool) (xs : List A)
     → AllByRecursion P xs → AllByRecursion P (distinct same xs)

@@ -1,18 +1,15 @@
 -- Contents that are handed over one by one.
 use Rattle.std.proofs.Common.{◌≡◌, ℕ, zero, suc, ◌+◌, ◌-◌, ◌<◌, List, [], ◌∷◌, ◌++◌, length, take, drop}
-use Rattle.std.proofs.Common.{replicate, Option, Some, None, Ok, slice_get, ap, refl, sym, ◌∙◌, arith}
-use Rattle.std.proofs.Common.{append-nil}
-use Rattle.std.proofs.Math.Seq.{take-length}
+use Rattle.std.proofs.Common.{replicate, Option, Some, None, slice_get, ap, refl, sym, ◌∙◌, arith}
+use Rattle.std.proofs.Math.Seq.{drop-nil}
 use Rattle.std.proofs.lemmas.Option.{slice_get-get_or}
-use Rattle.std.proofs.lemmas.List.{get_or-replicate, length-replicate}
+use Rattle.std.proofs.lemmas.List.{drop-drop, get_or-replicate, length-replicate, take_at}
 use Rattle.url.specs.Parts.{Parts}
 use Rattle.smap_mappings.specs.declared.position.Position.{Position}
 use Rattle.smap_shape.specs.Members.{Flat, fitted}
 use Rattle.smap_shape.specs.Contents.{with_contents}
-use Rattle.smap_record.specs.Record.{Entry, Listing, Allowed}
-use Rattle.smap_record.specs.Faults.{Checked, ◌>>=◌}
-use Rattle.smap_record.specs.Flat.{source_entry, entries_from, listed_flat}
-use Rattle.smap_shape.specs.Members.{is_listed}
+use Rattle.smap_record.specs.Record.{Listing, Allowed}
+use Rattle.smap_record.specs.Flat.{entries_from, listed_flat}
 use Rattle.smap_record.specs.Owned.{first_of}
 use Rattle.smap_record.proofs.FlatLemmas.{same_entries}
 
@@ -26,12 +23,12 @@ taken_at (x ∷ xs) (suc n) (suc i) h = taken_at xs n i (omega (arith, h))
 
 padded_at : {A : Type 0} (xs : List (Option A)) (k i : ℕ)
     → i < length xs + k → slice_get (xs ++ replicate k None) i ≡ Some (first_of (drop i xs))
-padded_at {A} [] k zero h = let none : Option A = None in
-    slice_get-get_or (replicate k None) zero None (omega (arith, h, length-replicate k none))
-    ∙ ap Some (get_or-replicate k zero None None (omega (arith, h)))
-padded_at {A} [] k (suc i) h = let none : Option A = None in
-    slice_get-get_or (replicate k None) (suc i) None (omega (arith, h, length-replicate k none))
-    ∙ ap Some (get_or-replicate k (suc i) None None (omega (arith, h)))
+padded_at {A} [] k i h =
+    let none : Option A = None in
+    let long = length-replicate k none in
+    slice_get-get_or (replicate k none) i none (omega (arith, h, long))
+    ∙ ap Some (get_or-replicate k i none none (omega (arith, h))
+    ∙ ap first_of (sym (drop-nil {A = Option A} i)))
 padded_at (x ∷ xs) k zero h = refl
 padded_at (x ∷ xs) k (suc i) h = padded_at xs k i (omega (arith, h))
 
@@ -41,16 +38,9 @@ pub fitted_at : {A : Type 0} (xs : List (Option A)) (n i : ℕ)
 fitted_at xs n i h =
     taken_at (xs ++ replicate (n - length xs) None) n i h ∙ padded_at xs (n - length xs) i (omega (arith, h))
 
-drop_one : {A : Type 0} (xs : List A) (i : ℕ) → drop 1 (drop i xs) ≡ drop (suc i) xs
-drop_one [] zero = refl
-drop_one [] (suc i) = refl
-drop_one (x ∷ xs) zero = refl
-drop_one (x ∷ xs) (suc i) = drop_one xs i
-
 -- one less is left
 pub one_less : {A : Type 0} (xs ys : List A) (i : ℕ) → ys ≡ drop i xs → drop 1 ys ≡ drop (i + 1) xs
-one_less xs ys i same = let next : suc i ≡ i + 1 = omega arith in
-    ap (drop 1) same ∙ drop_one xs i ∙ ap (λ n. drop n xs) next
+one_less xs ys i same = ap (drop 1) same ∙ drop-drop 1 i xs
 
 -- ---- contents that are copied
 
@@ -61,15 +51,10 @@ unfolding entries_from
 enough base root ignored i [] [] = refl
 enough base root ignored i [] (c ∷ cs) = refl
 enough base root ignored i (s ∷ ss) [] = refl
-enough base root ignored i (s ∷ ss) (c ∷ cs) =
-    ap (λ (more : Checked (List Entry)). source_entry base root i s c (is_listed i ignored) >>= λ entry.
-    more >>= λ entries. Ok (entry ∷ entries)) (enough base root ignored (i + 1) ss cs)
+enough base root ignored i (s ∷ ss) (c ∷ cs) = rw (enough base root ignored (i + 1) ss cs) refl
 
 fitted_whole : {A : Type 0} (n : ℕ) (xs : List (Option A)) → length xs ≡ n → fitted n xs ≡ xs
-fitted_whole n xs long =
-    let none : n - length xs ≡ zero = omega (arith, long) in
-    ap (λ k. take n (xs ++ replicate k None)) none ∙ ap (take n) (append-nil xs)
-    ∙ ap (λ k. take k xs) (sym long) ∙ take-length xs
+fitted_whole n xs long = take_at xs (replicate (n - length xs) None) n long
 
 -- A map with as many of its own contents as it has sources lists what the map lists.
 pub listed_copied : (base : Parts) (limits : Allowed) (offset : Position) (before : Listing)

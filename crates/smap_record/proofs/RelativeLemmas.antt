@@ -1,7 +1,7 @@
 -- What a relative spelling leads to.
-use Rattle.std.proofs.Common.{◌≡◌, ℕ, List, Option, Some, None, ap, sym, refl, Bool, true, false, cond}
-use Rattle.std.proofs.Common.{true≢false}
+use Rattle.std.proofs.Common.{◌≡◌, ℕ, List, Option, Some, None, ap, Bool, true, false, cond}
 use Rattle.std.specs.Prelude.{unwrap_or}
+use Rattle.std.proofs.lemmas.Bool.{cond_both}
 use Rattle.std.proofs.lemmas.Slice.Eq.{bytes_eq-Decides}
 use Rattle.url.specs.Parts.{Parts}
 use Rattle.url.specs.Parser.{parse_url}
@@ -14,27 +14,20 @@ leads : (base : Parts) (source url : List ℕ) → leads_to base source url ≡ 
 leads base source url h = by (resolve base None source) h
   where
     by : (r : Resolved) → is_resolved r url ≡ true → r ≡ resolved url
-    by no_url h = absurd (true≢false (sym h))
-    by unstable h = absurd (true≢false (sym h))
+    by no_url h = cc
+    by unstable h = cc
     by (resolved text) h = ap resolved ((bytes_eq-Decides text url).0 h)
 
 -- A URL that is its own is what its relative spelling leads to.
 pub relatively-leads : (base : Parts) (url : List ℕ) → resolve base None url ≡ resolved url
     → resolve base None (relatively base url) ≡ resolved url
 unfolding relative
-relatively-leads base url own = whole (leads_to base url url)
+relatively-leads base url own =
+    by (leads_to base url url) (relative_to base (parse_url (Some base) url))
   where
-    of : (text : List ℕ) (b : Bool) → leads_to base text url ≡ b
-        → resolve base None (unwrap_or (cond b (Some text) None) url) ≡ resolved url
-    of text true e = leads base text url e
-    of text false e = own
-
-    by : (o : Option (List ℕ)) → resolve base None (unwrap_or (if_leads_to base url o) url) ≡ resolved url
-    by None = own
-    by (Some text) = of text (leads_to base text url) refl
-
-    whole : (b : Bool) → resolve base None
-        (unwrap_or (cond b (if_leads_to base url (relative_to base (parse_url (Some base) url))) None) url)
-        ≡ resolved url
-    whole true = by (relative_to base (parse_url (Some base) url))
-    whole false = own
+    by : (b : Bool) (o : Option (List ℕ))
+        → resolve base None (unwrap_or (cond b (if_leads_to base url o) None) url) ≡ resolved url
+    by false o = own
+    by true None = own
+    by true (Some text) = cond_both (leads_to base text url) (Some text) None
+        (λ o. resolve base None (unwrap_or o url) ≡ resolved url) (leads base text url) (λ _. own)

@@ -1,35 +1,32 @@
 -- How many bytes the URLs of sources take: one source after the other, and the URLs of what is listed.
-use Rattle.std.proofs.Common.{◌≡◌, ◌∙◌, ◌+◌, ◌-◌, ◌++◌, ◌≤◌, ◌<◌, ℕ, max, Bool, true, false, List, [], ◌∷◌}
+use Rattle.std.proofs.Common.{◌≡◌, ◌∙◌, ◌+◌, ◌++◌, ◌≤◌, ◌<◌, ℕ, max, true, false, List, []}
 use Rattle.std.proofs.Common.{map, Option, Some, None, Ok, Err, ap, arith, get_or, length, nat_le, refl}
-use Rattle.std.proofs.Common.{slice_get, sym, take}
+use Rattle.std.proofs.Common.{slice_get, subst, sym, take}
 use Rattle.std.proofs.Common.{if◌then◌else◌}
-use Rattle.std.specs.Prelude.{option_map, option_and_then, unwrap_or, sum_by}
+use Rattle.std.specs.Prelude.{option_map, unwrap_or, sum_by}
+use Rattle.std.proofs.lemmas.Bool.{cond-true, cond-false}
 use Rattle.std.proofs.lemmas.Bool.Decides.{nat_tests}
 use Rattle.std.proofs.lemmas.Option.{slice_get-get_or}
-use Rattle.std.proofs.lemmas.List.Sums.{sum_by_more, sum_by_more_le, sum_by-cons}
+use Rattle.std.proofs.lemmas.List.Recursion.{is_sum_by}
+use Rattle.std.proofs.lemmas.List.Sums.{sum_by_more, sum_by_more_le, sum_by-cons, sum_by-le-sum_by}
 use Rattle.url.specs.Parts.{Parts}
 use Rattle.url.specs.Parser.{parse_url}
 use Rattle.serde_json.specs.Data.{Data}
-use Rattle.smap_record.specs.declared.fault.Fault.{Fault}
 use Rattle.smap_record.specs.declared.fault.ReadError.{ReadError}
 use Rattle.smap_record.specs.declared.fault.ReadError.TheVariants as errors
 use Rattle.smap_record.specs.Faults.{Checked, ◌>>=◌}
 use Rattle.smap_record.specs.Results.{Fails}
 use Rattle.smap_record.specs.Reading.{map_tree, tree_map, reading}
 use Rattle.smap_record.specs.Record.{Entry, Allowed, ReadMap}
-use Rattle.smap_record.specs.Source.{prefix_of, text_of, is_stable, if_stable, resolve, resolved, unstable}
+use Rattle.smap_record.specs.Source.{prefix_of, text_of, if_stable, resolve}
 use Rattle.smap_record.specs.Written.{Spelling, if_read, of_tree, url_if, url_of}
 use Rattle.smap_record.specs.UrlBytes.{source_bytes, url_bytes, are_within, listed_bytes}
 use Rattle.smap_record.specs.UrlBytes.{tree_map_within, reading_within}
+use Rattle.smap_record.proofs.StepLemmas.{first_fails}
 
 -- stands in for a source where there is none
 abbrev no_source : Spelling
 no_source = record { source = None; root = None }
-
--- what is left once one more has taken its own
-pub taken_from : (left so_far next most taken rest : ℕ) → left + so_far ≡ most → next ≡ so_far + taken
-    → taken ≤ left → rest ≡ left - taken → rest + next ≡ most
-taken_from left so_far next most taken rest before more enough is = omega arith
 
 -- too little is left, so all take too much
 pub none_left : (left so_far most taken all : ℕ) → left + so_far ≡ most → so_far + taken ≤ all
@@ -52,8 +49,8 @@ module _ (base : Parts) where
     pub url_bytes_more : url_bytes base (take (i + 1) ws)
         ≡ url_bytes base (take i ws) + source_bytes base root source
     url_bytes_more =
-        sum_by_more (λ (s : Spelling). source_bytes base s.root s.source) ws i no_source within
-        ∙ ap (λ (n : ℕ). url_bytes base (take i ws) + n) is_next
+        let more = sum_by_more (λ (s : Spelling). source_bytes base s.root s.source) ws i no_source within in
+        rw (more, is_next) refl
 
     -- as many as all take
     pub url_bytes_at_least : url_bytes base (take i ws) + source_bytes base root source ≤ url_bytes base ws
@@ -64,132 +61,72 @@ module _ (base : Parts) where
 
 -- ---- the URLs of what is listed
 
--- a URL is among the bytes that its source takes
-module _ (base : Parts) (root : Option (List ℕ)) where
-  url_within : (source : List ℕ) → length (unwrap_or (url_if (resolve base root source)) [])
-      ≤ source_bytes base root (Some source)
-  unfolding resolve
-  url_within source = by (text_of (parse_url (Some base) (prefix_of root ++ source)))
-    where
-      own : List ℕ
-      own = prefix_of root ++ source
+abbrev url_bytes_of : Option (List ℕ) → ℕ
+url_bytes_of url = length (unwrap_or url [])
 
-      stable : (b : Bool) (text : List ℕ)
-          → length (unwrap_or (url_if (if b then resolved text else unstable)) [])
-          ≤ max (length own) (length text)
-      stable true text = omega arith
-      stable false text = omega arith
-
-      by : (o : Option (List ℕ)) → length (unwrap_or (url_if (if_stable base o)) [])
-          ≤ max (length own) (length (unwrap_or o []))
-      by None = omega arith
-      by (Some text) = stable (is_stable base text) text
+sum_by-map : {A B : Type 0} (f : B → ℕ) (g : A → B) (xs : List A)
+    → sum_by f (map g xs) ≡ sum_by (λ x. f (g x)) xs
+sum_by-map f g xs =
+    is_sum_by (λ xs. sum_by f (map g xs)) (λ x. f (g x)) refl (λ x xs. sum_by-cons f (g x) (map g xs)) xs
 
 module _ (base : Parts) where
-  own_within : (s : Spelling) → length (unwrap_or (url_of base s) []) ≤ source_bytes base s.root s.source
-  own_within s = by s.source
-    where
-      by : (source : Option (List ℕ)) → length (unwrap_or (option_and_then (λ source.
-          url_if (resolve base s.root source)) source) []) ≤ source_bytes base s.root source
-      by None = omega arith
-      by (Some source) = url_within base s.root source
+  stable_within : (o : Option (List ℕ)) (n : ℕ)
+      → url_bytes_of (url_if (if_stable base o)) ≤ max n (url_bytes_of o)
+  stable_within o n = grind arith
 
-  all_within : (ws : List Spelling)
-      → sum_by (λ u. length (unwrap_or u [])) (map (url_of base) ws) ≤ url_bytes base ws
-  all_within [] = omega arith
-  all_within (s ∷ ws) =
-      let own = own_within s in
-      let rest = all_within ws in
-      let urls =
-      sum_by-cons (λ (u : Option (List ℕ)). length (unwrap_or u [])) (url_of base s) (map (url_of base) ws) in
-      let bytes = sum_by-cons (λ (s : Spelling). source_bytes base s.root s.source) s ws in
-      omega (arith, own, rest, urls, bytes)
-
-  of_urls : (es : List Entry) → listed_bytes es ≡ sum_by (λ u. length (unwrap_or u [])) (map (λ e. e.url) es)
-  of_urls [] = refl
-  of_urls (e ∷ es) =
-      sum_by-cons (λ (e : Entry). length (unwrap_or e.url [])) e es
-      ∙ ap (λ (n : ℕ). length (unwrap_or e.url []) + n) (of_urls es)
-      ∙ sym (sum_by-cons (λ (u : Option (List ℕ)). length (unwrap_or u [])) e.url (map (λ e. e.url) es))
+  -- a URL is among the bytes that its source takes
+  own_within : (root source : Option (List ℕ))
+      → url_bytes_of (url_of base (record { source = source; root = root })) ≤ source_bytes base root source
+  unfolding resolve
+  own_within root None = omega arith
+  own_within root (Some source) = stable_within (text_of (parse_url (Some base) (prefix_of root ++ source)))
+      (length (prefix_of root ++ source))
 
   -- the URLs of a listing take no more than its sources as they are written
   pub listed_within : (es : List Entry) (ws : List Spelling) (most : ℕ)
       → map (λ e. e.url) es ≡ map (url_of base) ws → are_within base most ws ≡ true → listed_bytes es ≤ most
   listed_within es ws most same few =
-      let all = all_within ws in
-      let urls =
-      of_urls es ∙ ap (λ (us : List (Option (List ℕ))). sum_by (λ u. length (unwrap_or u [])) us) same in
-      grind (arith, nat_tests, all, urls, few)
+      let urls : listed_bytes es ≡ sum_by (λ s. url_bytes_of (url_of base s)) ws =
+      sym (sum_by-map url_bytes_of (λ (e : Entry). e.url) es) ∙ ap (sum_by url_bytes_of) same
+      ∙ sum_by-map url_bytes_of (url_of base) ws in
+      let all = sum_by-le-sum_by (λ (s : Spelling). url_bytes_of (url_of base s))
+      (λ s. source_bytes base s.root s.source) ws (λ s. own_within s.root s.source) in
+      grind (arith, nat_tests, urls, all, few)
 
 -- ---- a map within its bytes
 
-none_beyond : (b : Bool) (r : Checked ReadMap) → b ≡ false
-    → (if b then (r >>= λ m. Ok (Some m)) else Ok None) ≡ Ok None
-none_beyond true r beyond = absurd cc
-none_beyond false r beyond = refl
-
-map_within : (b : Bool) (r : Checked ReadMap) (m : ReadMap) → b ≡ true → r ≡ Ok m
-    → (if b then (r >>= λ m. Ok (Some m)) else Ok None) ≡ Ok (Some m)
-map_within true r m few read = ap (λ (r : Checked ReadMap). r >>= λ m. Ok (Some m)) read
-map_within false r m few read = absurd cc
-
-fault_within : (b : Bool) (r : Checked ReadMap) (e : ReadError) → b ≡ true → Fails e r
-    → Fails e (if b then (r >>= λ m. Ok (Some m)) else Ok None)
-fault_within b r errors.Memory few fails = tt
-fault_within true r (errors.Refused f) few fails = ap (λ (r : Checked ReadMap). r >>= λ m. Ok (Some m)) fails
-fault_within false r (errors.Refused f) few fails = absurd cc
-
-refused : Fault → Checked (Option ReadMap)
-refused f = Err f
-
-none : Checked (Option ReadMap)
-none = Ok None
-
-refused_within : (b : Bool) (f : Fault) → b ≡ true → (if b then refused f else none) ≡ refused f
-refused_within true f few = refl
-refused_within false f few = absurd cc
-
 module _ (base : Parts) (limits : Allowed) (most : ℕ) where
   module _ (tree : Data) (ws : List Spelling) (written : ws ≡ of_tree tree) where
-    are : are_within base most (of_tree tree) ≡ are_within base most ws
-    are = ap (are_within base most) (sym written)
-
     pub tree_beyond : are_within base most ws ≡ false → tree_map_within base limits most tree ≡ Ok None
-    tree_beyond beyond =
-        none_beyond (are_within base most (of_tree tree)) (tree_map base limits tree) (are ∙ beyond)
+    tree_beyond beyond = cond-false _ _ _ (ap (are_within base most) (sym written) ∙ beyond)
+
+    within : are_within base most ws ≡ true
+        → tree_map_within base limits most tree ≡ (tree_map base limits tree >>= λ m. Ok (Some m))
+    within few = cond-true _ _ _ (ap (are_within base most) (sym written) ∙ few)
 
     pub tree_within : (m : ReadMap) → are_within base most ws ≡ true → tree_map base limits tree ≡ Ok m
         → tree_map_within base limits most tree ≡ Ok (Some m)
-    tree_within m few read =
-        map_within (are_within base most (of_tree tree)) (tree_map base limits tree) m (are ∙ few) read
+    tree_within m few read = within few ∙ ap (λ (r : Checked ReadMap). r >>= λ m. Ok (Some m)) read
 
     pub tree_refused : (e : ReadError) → are_within base most ws ≡ true → Fails e (tree_map base limits tree)
         → Fails e (tree_map_within base limits most tree)
     tree_refused e few fails =
-        fault_within (are_within base most (of_tree tree)) (tree_map base limits tree) e (are ∙ few) fails
+        subst (Fails e) (sym (within few)) (first_fails e (tree_map base limits tree) _ fails)
 
   -- the map of a tree, if there is one
-  at : Checked Data → Checked (Option ReadMap)
+  abbrev at : Checked Data → Checked (Option ReadMap)
   at r = if are_within base most (if_read of_tree r) then ((r >>= tree_map base limits) >>= λ m. Ok (Some m))
       else Ok None
 
-  is_at : (bytes : List ℕ) → reading_within base limits most bytes ≡ at (map_tree bytes)
-  unfolding reading at
-  is_at bytes = refl
-
-  at_none : (f : Fault) → at (Err f) ≡ Err f
-  unfolding at refused none
-  at_none f = refused_within (nat_le 0 most) f (grind (arith, nat_tests))
-
-  at_tree : (tree : Data) → at (Ok tree) ≡ tree_map_within base limits most tree
-  unfolding at
-  at_tree tree = refl
-
   pub read_within : (bytes : List ℕ) (tree : Data) → map_tree bytes ≡ Ok tree
       → reading_within base limits most bytes ≡ tree_map_within base limits most tree
-  read_within bytes tree same = is_at bytes ∙ ap at same ∙ at_tree tree
+  unfolding reading
+  read_within bytes tree same = ap at same
 
   pub not_read : (bytes : List ℕ) (e : ReadError) → Fails e (map_tree bytes)
       → Fails e (reading_within base limits most bytes)
+  unfolding reading
   not_read bytes errors.Memory fails = tt
-  not_read bytes (errors.Refused f) fails = is_at bytes ∙ ap at fails ∙ at_none f
+  not_read bytes (errors.Refused f) fails =
+      let none : nat_le 0 most ≡ true = grind (arith, nat_tests) in
+      ap at fails ∙ cond-true (nat_le 0 most) (Err f) (Ok None) none

@@ -1,5 +1,5 @@
 use Rattle.std.proofs.Common.{◌<◌, arith, length, option_copied}
-use Rattle.smap_record.proofs.UrlBytesLemmas.{url_bytes_more, url_bytes_at_least, taken_from, none_left}
+use Rattle.smap_record.proofs.UrlBytesLemmas.{url_bytes_more, url_bytes_at_least, none_left}
 use Rattle.smap_record.proofs.url_bytes.are_within.Goals as goal
 
 pub returns-in-None : goal.returns-in-None
@@ -18,4 +18,4 @@ loop-i-preserved c =
     let more = url_bytes_more c.args.base.now c.args.written.now c.loop-i.i (option_copied c.root.result)
     (option_copied c.source.result) within c.root.ensures c.source.ensures in
     let left = rw c.in-Some.is at c.in_ok-bytes.ensures in
-    taken_from c.loop-i.left _ _ _ _ _ c.loop-i.invariant more left.0 left.1
+    omega (arith, more, left.0, left.1)

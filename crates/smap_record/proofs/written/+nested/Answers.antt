@@ -1,7 +1,7 @@
-use Rattle.std.proofs.Common.{◌≡◌, ◌∙◌, ◌+◌, ◌-◌, ◌<◌, ◌≤◌, ◌++◌, ap, sym, subst, arith}
+use Rattle.std.proofs.Common.{◌≡◌, ◌∙◌, ◌-◌, ◌<◌, ◌≤◌, ◌++◌, ap, sym, arith}
 use Rattle.std.proofs.Common.{List, Ok, Some, map, length}
-use Rattle.std.proofs.Common.{drop, slice_get, append-nil}
-use Rattle.std.specs.Prelude.{Result, IfOk, option_map, flat_map}
+use Rattle.std.proofs.Common.{slice_get, append-nil}
+use Rattle.std.specs.Prelude.{Result, option_map, flat_map}
 use Rattle.std.proofs.Math.ListN.{drop_of_length-le}
 use Rattle.std.proofs.lemmas.List.{length-map}
 use Rattle.std.proofs.lemmas.Option.{slice_get-map}
@@ -12,7 +12,7 @@ use Rattle.smap_shape.specs.declared.kinds.Shape.{Shape}
 use Rattle.smap_shape.specs.Members.{MapMembers, flat}
 use Rattle.smap_shape.specs.Reading.{shape_of}
 use Rattle.smap_shape.specs.Views.{index_members, shape_members}
-use Rattle.smap_record.specs.Written.{Spelling, if_read, of_flat, of_section, of_members}
+use Rattle.smap_record.specs.Written.{of_section, of_members}
 use Rattle.smap_record.proofs.WrittenLemmas.{flat_members, no_level, one_level_more, section_added}
 use Rattle.smap_record.proofs.written.+nested.Goals as goal
 
@@ -24,16 +24,12 @@ with_map-returns-in-Ok-Flat t c =
     let m = c.in-Ok-Flat.members in
     let members : shape_of (view c.args.tree.now) ≡ Ok (flat m) = sym c.in-Ok-Flat.ensures
     ∙ ap (λ (x : Shape). has (shape_members x)) c.in-Ok-Flat.field-0-is in
-    let same : of_flat m ≡ if_read (of_members c.args.levels) (shape_of (view c.args.tree.now)) =
-    sym (ap (if_read (of_members c.args.levels)) members ∙ flat_members c.args.levels m) in
-    subst (λ (l : List Spelling). IfOk c.with_flat.result (λ w. w ≡ c.args.before ++ l)) same
-    c.with_flat.ensures
+    rw (members, flat_members c.args.levels m) c.with_flat.ensures
 
 pub with_sections-returns-then-levels-eq0 : goal.with_sections-returns-then-levels-eq0
 with_sections-returns-then-levels-eq0 t c =
-    sym (ap (λ (l : List Spelling). c.args.before ++ l)
-    (no_level c.args.levels (index_members c.args.shape.now) c.if-levels-eq0.true)
-    ∙ append-nil c.args.before)
+    rw (no_level c.args.levels (index_members c.args.shape.now) c.if-levels-eq0.true)
+    (sym (append-nil c.args.before))
 
 pub with_sections-loop-k-preserved : goal.with_sections-loop-k-preserved
 with_sections-loop-k-preserved t c =
@@ -42,9 +38,8 @@ with_sections-loop-k-preserved t c =
     let tree = view c.section_value.result.now in
     let at : slice_get all c.loop-k.k ≡ Some tree = slice_get-map view c.args.shape.now.sections c.loop-k.k
     ∙ ap (option_map view) c.section_value.ensures in
-    ap (λ (ws : List Spelling). ws ++ flat_map own (drop (c.loop-k.k + 1) all)) c.in_ok-written.ensures
-    ∙ section_added own c.loop-k.written all c.loop-k.k tree at
-    ∙ c.loop-k.invariant
+    rw c.in_ok-written.ensures
+    (section_added own c.loop-k.written all c.loop-k.k tree at ∙ c.loop-k.invariant)
 
 pub with_sections-returns : goal.with_sections-returns
 with_sections-returns t c =
@@ -53,8 +48,7 @@ with_sections-returns t c =
     let end : length all ≤ c.loop-k.k = omega (arith, length-map c.args.shape.now.sections view) in
     let other = c.if-levels-eq0.false in
     let some : 0 < c.args.levels = omega (arith, other) in
-    sym (append-nil c.loop-k.written)
+    rw (one_level_more c.args.levels (index_members c.args.shape.now) some)
+    (sym (append-nil c.loop-k.written)
     ∙ ap (λ (l : List Data). c.loop-k.written ++ flat_map own l) (sym (drop_of_length-le all end))
-    ∙ c.loop-k.invariant
-    ∙ ap (λ (l : List Spelling). c.args.before ++ l)
-    (sym (one_level_more c.args.levels (index_members c.args.shape.now) some))
+    ∙ c.loop-k.invariant)
