@@ -1,10 +1,10 @@
 //! From the arguments to what they name, as the file system has it.
-ghost use Rattle.std.specs.Prelude.{◌≡◌, ◌⊎◌, IfOk, IfSome, OnOk, option_map};
+ghost use Rattle.std.specs.Prelude.{◌≡◌, IfOk, IfSome, MatchOption, OnOk, option_map};
 ghost use Rattle.smap_pick.specs.PlaceView.{place_in};
 ghost use Rattle.smap_arguments.specs.Lists as spec;
 ghost use Rattle.smap_arguments.specs.Lists.{lists_of, no_lists, with_map, with_log};
-ghost use Rattle.smap_arguments.specs.Naming.{Names, NamesAll, NamesFolderAlone, NamesLog, NamesPlace};
-ghost use Rattle.smap_arguments.specs.Naming.{NamesWay};
+ghost use Rattle.smap_arguments.specs.Naming.{IsFirstThere, IsNotThere, IsReadable, Names, NamesAll, NamesPath};
+ghost use Rattle.smap_arguments.specs.Naming.{NamesPlace, NamesWay};
 
 use crate::folders::{add_folder, add_folder_alone};
 use crate::wanted::{Origin, Wanted};
@@ -16,7 +16,10 @@ use std::alloc::{AllocError, Global};
 
 /// What is there under the name of a file, if a map can be read from it or it is a folder. A pipe is let be:
 /// opening it might wait.
-fn kind_of<E: Eprint + AllocGlobal, D: Disk>(host: &Host<'_, E, D>, name: &str) -> Option<Kind> {
+fn kind_of<E: Eprint + AllocGlobal, D: Disk>(host: &Host<'_, E, D>, name: &str) -> Option<Kind>
+    ensures { MatchOption result (IsNotThere (D.tree host.now.disk.now) (D.held host.now.disk.now) name.now)
+        (λ kind. IsReadable (D.tree host.now.disk.now) (D.held host.now.disk.now) kind name.now) }
+{
     match host.disk.kind(name) {
         OnDisk::Folder => Some(Kind::Folder),
         OnDisk::Special => Some(Kind::File),
@@ -69,9 +72,8 @@ fn add_split<E: Eprint + AllocGlobal, D: Disk>(
     kind: Kind,
     wanted: &mut Wanted<'_>,
 ) -> Result<(), Stop>
-    ensures { OnOk result (NamesWay split.now.word.now split.now.url_end split.now.file_end
-        (lists_of wanted.old)
-        (lists_of wanted.new)) }
+    ensures { OnOk result (NamesWay (D.tree host.now.disk.now) kind split.now.word.now split.now.url_end
+        split.now.file_end (lists_of wanted.old) (lists_of wanted.new)) }
 {
     let alloc = host.alloc();
     if let Some(fault) = split.fault(kind) {
@@ -92,7 +94,9 @@ fn way_of<'a, E: Eprint + AllocGlobal, D: Disk>(
     host: &Host<'_, E, D>,
     word: &'a str,
 ) -> Option<(Split<'a>, Kind)>
-    ensures { IfSome result (λ p. p.0.word.now ≡ word.now) }
+    ensures word { IfSome result (λ p. p.0.word.now ≡ word.now) }
+    ensures first { IfSome result (λ p. IsFirstThere (D.tree host.now.disk.now) (D.held host.now.disk.now) p.1
+        word.now p.0.url_end p.0.file_end) }
 {
     let mut split = Split::first(word);
     for _ in 0..u64::MAX {
@@ -113,7 +117,8 @@ fn add_place<E: Eprint + AllocGlobal, D: Disk>(
     word: &str,
     wanted: &mut Wanted<'_>,
 ) -> Result<(), Stop>
-    ensures { OnOk result (NamesPlace word.now (lists_of wanted.old) (lists_of wanted.new)) }
+    ensures { OnOk result (NamesPlace (D.tree host.now.disk.now) (D.held host.now.disk.now) word.now
+        (lists_of wanted.old) (lists_of wanted.new)) }
 {
     match way_of(host, word) {
         Some((way, kind)) => add_split(host, &way, kind, wanted),
@@ -137,19 +142,20 @@ fn add_path<'a, E: Eprint + AllocGlobal, D: Disk>(
     word: &'a str,
     wanted: &mut Wanted<'a>,
 ) -> Result<(), Stop>
-    ensures { OnOk result (NamesLog word.now (lists_of wanted.old) (lists_of wanted.new)
-        ⊎ NamesFolderAlone word.now (lists_of wanted.old) (lists_of wanted.new)) }
+    ensures { OnOk result (NamesPath (D.tree host.now.disk.now) word.now (lists_of wanted.old)
+        (lists_of wanted.new)) }
 {
-    let kind = host.disk.kind(word);
-    if kind == OnDisk::Folder {
-        return add_folder_alone(host, word, wanted);
+    match host.disk.kind(word) {
+        OnDisk::Folder => add_folder_alone(host, word, wanted),
+        OnDisk::File | OnDisk::Special if !needs_url(word) => {
+            push_log(word, wanted)?;
+            Ok(())
+        }
+        OnDisk::File | OnDisk::Special | OnDisk::Missing => {
+            let text = path_message(host.alloc(), word)?;
+            Err(host.fail(2, text.as_str()))
+        }
     }
-    if kind == OnDisk::Missing || needs_url(word) {
-        let text = path_message(host.alloc(), word)?;
-        return Err(host.fail(2, text.as_str()));
-    }
-    push_log(word, wanted)?;
-    Ok(())
 }
 
 /// Adds what an argument names.
@@ -158,7 +164,8 @@ fn add_argument<'a, E: Eprint + AllocGlobal, D: Disk>(
     argument: Argument<'a>,
     wanted: &mut Wanted<'a>,
 ) -> Result<(), Stop>
-    ensures { OnOk result (Names argument.entry (lists_of wanted.old) (lists_of wanted.new)) }
+    ensures { OnOk result (Names (D.tree host.now.disk.now) (D.held host.now.disk.now) argument.entry
+        (lists_of wanted.old) (lists_of wanted.new)) }
 {
     match argument {
         Argument::Place(word) => add_place(host, word, wanted),
@@ -171,7 +178,8 @@ pub fn wanted_by<'a, E: Eprint + AllocGlobal, D: Disk>(
     host: &Host<'_, E, D>,
     arguments: &[Argument<'a>],
 ) -> Result<Wanted<'a>, Stop>
-    ensures { IfOk result (λ wanted. NamesAll arguments.now no_lists (lists_of wanted)) }
+    ensures { IfOk result (λ wanted. NamesAll (D.tree host.now.disk.now) (D.held host.now.disk.now) arguments.now
+        no_lists (lists_of wanted)) }
 {
     let mut wanted = Wanted::new(host.alloc());
     for i in 0..arguments.len() {

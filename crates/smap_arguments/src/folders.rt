@@ -152,7 +152,8 @@ fn names_in<E: Eprint + AllocGlobal, D: Disk>(
     given: &str,
     path: &str,
 ) -> Result<Vec<String>, Stop>
-    ensures { IfOk result (λ names. AreNames (texts names.items)) }
+    ensures { IfOk result (λ names. AreNames (D.tree host.now.disk.now) path.now
+        (texts names.items)) }
 {
     let alloc = host.alloc();
     let start = if path.is_empty() { "/" } else { path };
@@ -276,7 +277,8 @@ pub(crate) fn add_folder<E: Eprint + AllocGlobal, D: Disk>(
     given: &str,
     wanted: &mut Wanted<'_>,
 ) -> Result<(), Stop>
-    ensures { OnOk result (NamesFolder url.now given.now (lists_of wanted.old) (lists_of wanted.new)) }
+    ensures { OnOk result (NamesFolder (D.tree host.now.disk.now) url.now given.now
+        (lists_of wanted.old) (lists_of wanted.new)) }
 {
     let path = without_slashes(given);
     let names = names_in(host, given, path)?;
@@ -321,7 +323,8 @@ pub(crate) fn add_folder_alone<E: Eprint + AllocGlobal, D: Disk>(
     given: &str,
     wanted: &mut Wanted<'_>,
 ) -> Result<(), Stop>
-    ensures { OnOk result (NamesFolderAlone given.now (lists_of wanted.old) (lists_of wanted.new)) }
+    ensures { OnOk result (NamesFolderAlone (D.tree host.now.disk.now) given.now
+        (lists_of wanted.old) (lists_of wanted.new)) }
 {
     let alloc = host.alloc();
     let path = without_slashes(given);

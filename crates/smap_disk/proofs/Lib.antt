@@ -1,2 +1,3 @@
+pub mod ListingLemmas
 pub mod PathLemmas
 pub mod WalkLemmas

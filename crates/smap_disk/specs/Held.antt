@@ -10,10 +10,20 @@ abbrev pub IsHeld : Held → List ℕ → List ℕ → Type 0
 IsHeld None name bytes = ⊤
 IsHeld (Some held) name bytes = held name ≡ Some bytes
 
+-- No file has this name, where it is said what files hold.
+abbrev pub IsNotHeld : Held → List ℕ → Type 0
+IsNotHeld None name = ⊤
+IsNotHeld (Some held) name = held name ≡ None
+
 -- A reader knows what it has left.
 abbrev pub IsKnown : Option (List ℕ) → Type 0
 IsKnown None = ⊥
 IsKnown (Some bytes) = ⊤
+
+-- A file has this name, where it is said what files hold.
+abbrev pub IsOneHeld : Held → List ℕ → Type 0
+IsOneHeld None name = ⊤
+IsOneHeld (Some held) name = IsKnown (held name)
 
 -- A reader has all that the file with this name holds, where it is said what files hold.
 abbrev pub GivesHeld : Held → List ℕ → Option (List ℕ) → Type 0

@@ -1,6 +1,7 @@
 //! What a program asks of a file system. Paths are text, in UTF-8.
-ghost use Rattle.std.specs.Prelude.{List, Option, ℕ, IfOk};
-ghost use Rattle.smap_disk.specs.Held.{GivesHeld, HasSize};
+ghost use Rattle.std.specs.Prelude.{List, MatchResult, Option, ℕ, IfOk};
+ghost use Rattle.smap_disk.specs.Held.{GivesHeld, HasSize, IsNotHeld};
+ghost use Rattle.smap_disk.specs.Tree.{IsKind, IsListed, Told};
 
 use std::alloc::Global;
 use std::io::{self, Read, Write};
@@ -56,8 +57,12 @@ pub trait Disk {
     // what its files hold, by their names, where it says so
     ghost held: { Self → Option (List ℕ → Option (List ℕ)) };
 
+    // what stands under names and in folders, where it says so
+    ghost tree: { Self → Told };
+
     /// What can't be looked at is missing.
-    fn kind(&self, path: &str) -> Kind;
+    fn kind(&self, path: &str) -> Kind
+        ensures { IsKind (tree self.now) path.now result };
 
     /// A file to be read from its start.
     ///
@@ -65,7 +70,8 @@ pub trait Disk {
     ///
     /// The system's.
     fn open(&self, path: &str) -> io::Result<Self::Reader>
-        ensures { IfOk result (λ r. GivesHeld (held self.now) path.now (Self.Reader.remaining r)) };
+        ensures { MatchResult result (λ r. GivesHeld (held self.now) path.now (Self.Reader.remaining r))
+            (λ e. IsNotHeld (held self.now) path.now) };
 
     /// In bytes.
     ///
@@ -80,7 +86,8 @@ pub trait Disk {
     /// # Errors
     ///
     /// The system's.
-    fn list(&self, alloc: Global, path: &str) -> io::Result<Listing>;
+    fn list(&self, alloc: Global, path: &str) -> io::Result<Listing>
+        ensures { IfOk result (IsListed (tree self.now) path.now) };
 
     /// The absolute path once links are followed.
     ///

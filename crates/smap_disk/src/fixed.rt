@@ -1,9 +1,10 @@
-//! Files in memory that don't change, so that contracts can say what they hold.
-ghost use Rattle.std.specs.Prelude.{◌≡◌, IfOk, Some, option_map};
+//! Files and folders in memory that don't change, so that contracts can say what they hold.
+ghost use Rattle.std.specs.Prelude.{◌≡◌, IfOk, MatchResult, None, Some, map, option_map};
 ghost use Rattle.smap_disk.specs.Fixed as spec;
+ghost use Rattle.smap_disk.specs.Tree.{entries_in, entry_in};
 
-use crate::disk::{Disk, Kind, Listing};
-use std::alloc::Global;
+use crate::disk::{Disk, Entry, EntryKind, Kind, Listing};
+use std::alloc::{AllocError, Global};
 use std::io::{self, ErrorKind};
 
 /// A file's name, and what it holds.
@@ -13,11 +14,25 @@ pub struct FixedFile<'a> {
     pub bytes: &'a [u8],
 }
 
-/// Files in memory that don't change: nothing can be written, and there are no folders. Contracts know what
-/// they hold.
+/// An entry of a folder: its name there, and what it is.
+#[derive(Clone, Copy)]
+pub struct FixedEntry<'a> {
+    pub name: &'a str,
+    pub kind: EntryKind,
+}
+
+/// A folder's name, and its entries.
+#[derive(Clone, Copy)]
+pub struct FixedFolder<'a> {
+    pub name: &'a str,
+    pub entries: &'a [FixedEntry<'a>],
+}
+
+/// Files and folders in memory that don't change: nothing can be written. Contracts know what they hold.
 #[derive(Clone, Copy)]
 pub struct FixedDisk<'a> {
     pub files: &'a [FixedFile<'a>],
+    pub folders: &'a [FixedFolder<'a>],
 }
 
 /// What the first file with this name holds.
@@ -32,13 +47,50 @@ fn bytes_of<'a>(files: &[FixedFile<'a>], name: &str) -> Option<&'a [u8]>
     None
 }
 
+/// The entries of the first folder with this name.
+fn entries_of<'a>(folders: &[FixedFolder<'a>], name: &str) -> Option<&'a [FixedEntry<'a>]>
+    ensures { option_map (λ es. map spec.entry_of es.now) result ≡ spec.entries_by folders.now name.now }
+{
+    for folder in folders {
+        if folder.name == name {
+            return Some(folder.entries);
+        }
+    }
+    None
+}
+
+/// An entry as a folder lists it.
+fn entry_of(alloc: Global, entry: &FixedEntry<'_>) -> Result<Entry, AllocError>
+    ensures { IfOk result (λ e. entry_in e ≡ spec.entry_of entry.now) }
+{
+    Ok(Entry {
+        name: String::from_str(alloc, entry.name)?,
+        kind: entry.kind,
+    })
+}
+
+/// The entries as a folder lists them.
+fn listing_of(alloc: Global, entries: &[FixedEntry<'_>]) -> Result<Listing, AllocError>
+    ensures { IfOk result (λ l. entries_in l ≡ map spec.entry_of entries.now) }
+{
+    let mut listed = Vec::new(alloc);
+    for i in 0..entries.len() {
+        listed.push(entry_of(alloc, &entries[i])?)?;
+    }
+    Ok(Listing {
+        entries: listed,
+        unnamed: 0,
+    })
+}
+
 fn refused<T>() -> io::Result<T> {
     Err(io::Error::from(ErrorKind::ReadOnlyFilesystem))
 }
 
 impl<'a> FixedDisk<'a> {
     fn found(&self, path: &str) -> io::Result<&'a [u8]>
-        ensures { IfOk result (λ b. spec.held_by self.now.files.now path.now ≡ Some b.now) }
+        ensures { MatchResult result (λ b. spec.held_by self.now.files.now path.now ≡ Some b.now)
+            (λ e. spec.held_by self.now.files.now path.now ≡ None) }
     {
         match bytes_of(self.files, path) {
             Some(bytes) => Ok(bytes),
@@ -49,7 +101,7 @@ impl<'a> FixedDisk<'a> {
 
 impl<'a> Disk for FixedDisk<'a> {
     ghost use Rattle.std.specs.Prelude.{Some};
-    ghost use Rattle.smap_disk.specs.Fixed.{held_by};
+    ghost use Rattle.smap_disk.specs.Fixed.{held_by, tree_of};
 
     type Reader = &'a [u8];
 
@@ -57,10 +109,15 @@ impl<'a> Disk for FixedDisk<'a> {
 
     ghost held = { λ d. Some (held_by d.files.now) };
 
+    ghost tree = { λ d. Some (tree_of d.files.now d.folders.now) };
+
     fn kind(&self, path: &str) -> Kind {
-        match bytes_of(self.files, path) {
-            Some(_) => Kind::File,
-            None => Kind::Missing,
+        if bytes_of(self.files, path).is_some() {
+            Kind::File
+        } else if entries_of(self.folders, path).is_some() {
+            Kind::Folder
+        } else {
+            Kind::Missing
         }
     }
 
@@ -73,8 +130,11 @@ impl<'a> Disk for FixedDisk<'a> {
         Ok(bytes.len() as u64)
     }
 
-    fn list(&self, _alloc: Global, _path: &str) -> io::Result<Listing> {
-        Err(io::Error::from(ErrorKind::NotADirectory))
+    fn list(&self, alloc: Global, path: &str) -> io::Result<Listing> {
+        match entries_of(self.folders, path) {
+            Some(entries) => Ok(listing_of(alloc, entries)?),
+            None => Err(io::Error::from(ErrorKind::NotADirectory)),
+        }
     }
 
     fn real_path(&self, alloc: Global, path: &str) -> io::Result<String> {

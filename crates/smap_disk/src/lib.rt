@@ -1,19 +1,16 @@
-//! What a program asks of a file system ([`Disk`]), of the machine's ([`System`]) or, for tests, of one in
-//! memory ([`MemoryDisk`]): files that are read whole and only up to a limit ([`read_file`]), the names of
-//! the files below a folder ([`walk`]), and a file that is written beside its name and takes it at the end
-//! ([`create_beside`]). A writer can be asked why it failed ([`Watched`]), an error for its text ([`reason`]),
-//! and names become safe to print ([`printable`]).
+//! What a program asks of a file system ([`Disk`]), such as the machine's ([`System`]): files that are read whole
+//! and only up to a limit ([`read_file`]), the names of the files below a folder ([`walk`]), and a file that is
+//! written beside its name and takes it at the end ([`create_beside`]). A writer can be asked why it failed
+//! ([`Watched`]), an error for its text ([`reason`]), and names become safe to print ([`printable`]).
 //!
-//! Contracts say nothing of what a file of the machine holds, since that isn't the program's alone: only a disk
-//! whose files don't change ([`FixedDisk`]) tells it.
+//! Contracts say nothing of what the machine's files hold and of what stands in its folders, since they aren't the
+//! program's alone: only a disk that doesn't change ([`FixedDisk`]) tells it.
 #![tactic(auto)]
 
 mod beside;
 mod disk;
 mod fixed;
 mod found;
-mod held;
-mod memory;
 mod paths;
 mod printing;
 mod reading;
@@ -26,9 +23,9 @@ mod watched;
 
 pub use beside::{Beside, create_beside};
 pub use disk::{Disk, Entry, EntryKind, Kind, Listing};
-pub use fixed::{FixedDisk, FixedFile};
+pub use fixed::{FixedDisk, FixedEntry, FixedFile, FixedFolder};
 pub use found::{Walk, WalkFault};
-pub use memory::{MemoryDisk, MemoryReader, MemoryWriter};
+pub use paths::{joined, parted};
 pub use printing::printable;
 pub use reading::{FileFault, read_file};
 pub use reasons::reason;

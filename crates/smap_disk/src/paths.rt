@@ -12,7 +12,7 @@ fn is_open(folder: &[u8]) -> bool
 }
 
 /// The name of what is below a folder. An empty name of either adds nothing to the other.
-pub(crate) fn joined(alloc: Global, folder: &str, name: &str) -> Result<String, AllocError>
+pub fn joined(alloc: Global, folder: &str, name: &str) -> Result<String, AllocError>
     ensures { IfOk result (λ t. string_bytes t ≡ spec.joined folder.now name.now) }
 {
     let mut path = String::from_str(alloc, folder)?;
@@ -26,7 +26,7 @@ pub(crate) fn joined(alloc: Global, folder: &str, name: &str) -> Result<String, 
 }
 
 /// A path as its folder, which ends in a slash or is empty, and its name there.
-pub(crate) fn parted(path: &str) -> (&str, &str)
+pub fn parted(path: &str) -> (&str, &str)
     ensures { IsParted path.now result.0.now result.1.now }
 {
     match path.rfind('/') {

@@ -76,6 +76,8 @@ impl<R: Files + AllocGlobal + Clone + Drop> Disk for System<'_, R> {
 
     ghost held = { λ d. None };
 
+    ghost tree = { λ d. None };
+
     fn kind(&self, path: &str) -> Kind {
         match fs::metadata(self.rt, path) {
             Ok(metadata) => kind_of(&metadata),

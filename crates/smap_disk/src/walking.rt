@@ -1,9 +1,13 @@
 //! The files below a folder.
-ghost use Rattle.std.specs.Prelude.{◌≡◌, [], List, ℕ, true, IfOk, OnOk, ◌++◌, ◌∷◌, string_bytes, string_cmp};
+ghost use Rattle.std.specs.Prelude.{◌≡◌, [], List, ℕ, true, IfOk, OnOk, ◌++◌, ◌∷◌, map, string_bytes, string_cmp};
+ghost use Rattle.std.specs.Prelude.{◌≤◌, MatchOption, Some, length, ◌&&◌};
 ghost use Rattle.std.specs.Borrow.{Bor};
-ghost use Rattle.std.specs.List.Sorted.{IsSorted};
+ghost use Rattle.std.specs.List.{slice_get};
+ghost use Rattle.std.specs.List.Sorted.{IsPermutation, IsSorted};
 ghost use Rattle.smap_disk.specs.Walking as spec;
-ghost use Rattle.smap_disk.specs.Walking.{AreWanted};
+ghost use Rattle.smap_disk.specs.Walking.{AreFilesBelow, AreWanted, files_in, folders_in, texts};
+ghost use Rattle.smap_disk.specs.Paths.{joined as joined_path};
+ghost use Rattle.smap_disk.specs.Tree.{IsListed, Tree, entries_in, entry_in};
 
 use crate::disk::{Disk, Entry, EntryKind, Kind, Listing};
 use crate::found::{Walk, WalkFault};
@@ -16,7 +20,7 @@ use std::io::{self, ErrorKind};
 struct State {
     names: Vec<String>,
     unnamed: u64,
-    /// The folders that are still to be read.
+    /// The root and the folders below it, which are read one after another.
     folders: Vec<String>,
     links: bool,
     /// Whether there is anything but links and folders.
@@ -38,15 +42,36 @@ fn has_ending(name: &str, endings: &[&str]) -> bool
         .any(|ending| has_one(name.as_bytes(), ending.as_bytes()))
 }
 
+fn is_folder(kind: EntryKind) -> bool
+    ensures { result ≡ spec.is_folder kind }
+{
+    match kind {
+        EntryKind::Folder => true,
+        EntryKind::File | EntryKind::Link | EntryKind::Special => false,
+    }
+}
+
+fn is_file(kind: Kind) -> bool
+    ensures { result ≡ spec.is_file kind }
+{
+    match kind {
+        Kind::File => true,
+        Kind::Folder | Kind::Special | Kind::Missing => false,
+    }
+}
+
 /// Whether a link leads to a file.
 fn leads_to_file<D: Disk>(
     alloc: Global,
     disk: &D,
     root: &str,
     name: &str,
-) -> Result<bool, AllocError> {
+) -> Result<bool, AllocError>
+    ensures { (t : Tree) → D.tree disk.now ≡ Some t
+        → IfOk result (λ b. b ≡ spec.is_file (t.kinds (joined_path root.now name.now))) }
+{
     let path = joined(alloc, root, name)?;
-    Ok(disk.kind(&path) == Kind::File)
+    Ok(is_file(disk.kind(&path)))
 }
 
 /// Whether an entry with this name below the root counts.
@@ -58,8 +83,11 @@ fn is_wanted<D: Disk>(
     entry: &Entry,
     endings: &[&str],
 ) -> Result<bool, AllocError>
-    ensures { IfOk result (λ b. b ≡ true
+    ensures ending { IfOk result (λ b. b ≡ true
         → spec.has_ending endings.now (string_bytes entry.now.name) ≡ true) }
+    ensures counts { (t : Tree) → D.tree disk.now ≡ Some t → IfOk result (λ b.
+        b ≡ (spec.has_ending endings.now (string_bytes entry.now.name)
+        && spec.counts t (joined_path root.now name.now) entry.now.kind)) }
 {
     if !has_ending(&entry.name, endings) {
         return Ok(false);
@@ -74,7 +102,8 @@ fn is_wanted<D: Disk>(
 impl State {
     /// A walk that has the root to read.
     fn new(alloc: Global) -> Result<State, AllocError>
-        ensures { IfOk result (λ s. s.names.items ≡ []) }
+        ensures names { IfOk result (λ s. s.names.items ≡ []) }
+        ensures folders { IfOk result (λ s. texts s.folders.items ≡ [] ∷ []) }
     {
         Ok(State {
             names: Vec::new(alloc),
@@ -87,7 +116,8 @@ impl State {
 
     /// Notes what an entry is.
     fn note(&mut self, kind: EntryKind)
-        ensures { self.new.names ≡ self.old.names }
+        ensures names { self.new.names ≡ self.old.names }
+        ensures folders { self.new.folders ≡ self.old.folders }
     {
         match kind {
             EntryKind::Link => self.links = true,
@@ -98,7 +128,8 @@ impl State {
 
     /// Notes how many entries have no name.
     fn note_unnamed(&mut self, count: u64)
-        ensures { self.new.names ≡ self.old.names }
+        ensures names { self.new.names ≡ self.old.names }
+        ensures folders { self.new.folders ≡ self.old.folders }
     {
         self.unnamed = self.unnamed.saturating_add(count);
         if count > 0 {
@@ -107,14 +138,16 @@ impl State {
     }
 
     fn add_folder(&mut self, name: String) -> Result<(), AllocError>
-        ensures { self.new.names ≡ self.old.names }
+        ensures names { self.new.names ≡ self.old.names }
+        ensures folders { OnOk result (self.new.folders.items ≡ self.old.folders.items ++ name ∷ []) }
     {
         self.folders.push(name)?;
         Ok(())
     }
 
     fn add_name(&mut self, name: String) -> Result<(), AllocError>
-        ensures { OnOk result (self.new.names.items ≡ self.old.names.items ++ name ∷ []) }
+        ensures names { OnOk result (self.new.names.items ≡ self.old.names.items ++ name ∷ []) }
+        ensures folders { self.new.folders ≡ self.old.folders }
     {
         self.names.push(name)?;
         Ok(())
@@ -130,12 +163,16 @@ impl State {
         entry: &Entry,
         endings: &[&str],
     ) -> Result<(), AllocError>
-        ensures { AreWanted endings.now self.old.names.items
+        ensures wanted { AreWanted endings.now self.old.names.items
             → OnOk result (AreWanted endings.now self.new.names.items) }
+        ensures folders { OnOk result (texts self.new.folders.items
+            ≡ texts self.old.folders.items ++ folders_in folder.now (entry_in entry.now ∷ [])) }
+        ensures files { (t : Tree) → D.tree disk.now ≡ Some t → OnOk result (texts self.new.names.items
+            ≡ texts self.old.names.items ++ files_in t root.now (spec.has_ending endings.now) folder.now (entry_in entry.now ∷ [])) }
     {
         self.note(entry.kind);
         let name = joined(alloc, folder, &entry.name)?;
-        if entry.kind == EntryKind::Folder {
+        if is_folder(entry.kind) {
             return self.add_folder(name);
         }
         if is_wanted(alloc, disk, root, &name, entry, endings)? {
@@ -154,20 +191,36 @@ impl State {
         listing: &Listing,
         endings: &[&str],
     ) -> Result<(), AllocError>
-        ensures { AreWanted endings.now self.old.names.items
+        ensures wanted { AreWanted endings.now self.old.names.items
             → OnOk result (AreWanted endings.now self.new.names.items) }
+        ensures folders { OnOk result (texts self.new.folders.items
+            ≡ texts self.old.folders.items ++ folders_in folder.now (entries_in listing.now)) }
+        ensures files { (t : Tree) → D.tree disk.now ≡ Some t → OnOk result (texts self.new.names.items
+            ≡ texts self.old.names.items ++ files_in t root.now (spec.has_ending endings.now) folder.now (entries_in listing.now)) }
     {
         self.note_unnamed(listing.unnamed);
-        for entry in &listing.entries {
-            self.add(alloc, disk, root, folder, entry, endings)?;
+        for i in 0..listing.entries.len() {
+            self.add(alloc, disk, root, folder, &listing.entries[i], endings)?;
         }
         Ok(())
+    }
+
+    /// The folder with this number, by its name below the root.
+    fn folder(&self, alloc: Global, number: usize) -> Result<Option<String>, AllocError>
+        ensures { IfOk result (λ o. MatchOption o (length self.now.folders.items ≤ number)
+            (λ f. slice_get (texts self.now.folders.items) number ≡ Some (string_bytes f))) }
+    {
+        let Some(folder) = self.folders.get(number) else {
+            return Ok(None);
+        };
+        Ok(Some(String::from_str(alloc, folder)?))
     }
 
     fn finish(self) -> Result<Walk, AllocError>
         ensures order { IfOk result (λ w. IsSorted string_cmp w.names.items) }
         ensures wanted { (endings : List (Bor (List ℕ))) → AreWanted endings self.names.items
             → IfOk result (λ w. AreWanted endings w.names.items) }
+        ensures same { IfOk result (λ w. IsPermutation self.names.items w.names.items) }
     {
         let State {
             mut names,
@@ -199,7 +252,9 @@ fn listing_of<D: Disk>(
     disk: &D,
     root: &str,
     folder: &str,
-) -> Result<Listing, WalkFault> {
+) -> Result<Listing, WalkFault>
+    ensures { IfOk result (IsListed (D.tree disk.now) (joined_path root.now folder.now)) }
+{
     let path = joined(alloc, root, folder)?;
     match disk.list(alloc, &path) {
         Ok(listing) => Ok(listing),
@@ -221,14 +276,16 @@ pub fn walk<D: Disk>(
 ) -> Result<Walk, WalkFault>
     ensures order { IfOk result (λ w. IsSorted string_cmp w.names.items) }
     ensures wanted { IfOk result (λ w. AreWanted endings.now w.names.items) }
+    ensures below { IfOk result (λ w. AreFilesBelow (D.tree disk.now) folder.now
+        (spec.has_ending endings.now) w.names.items) }
 {
     let mut state = State::new(alloc)?;
-    for _ in 0..u64::MAX {
-        let Some(below) = state.folders.pop() else {
-            break;
+    for number in 0..usize::MAX {
+        let Some(below) = state.folder(alloc, number)? else {
+            return Ok(state.finish()?);
         };
         let listing = listing_of(alloc, disk, folder, &below)?;
         state.add_all(alloc, disk, folder, &below, &listing, endings)?;
     }
-    Ok(state.finish()?)
+    Err(WalkFault::Memory)
 }

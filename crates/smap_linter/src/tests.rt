@@ -1,7 +1,8 @@
 //! Runs over files in memory.
 use crate::{LintAsked, lint};
-use smap_disk::{MemoryDisk, Watched};
+use smap_disk::Watched;
 use smap_host::Host;
+use smap_memory_disk::MemoryDisk;
 use smap_report::Format;
 use std::test::Fail;
 

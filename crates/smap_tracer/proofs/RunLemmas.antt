@@ -1,6 +1,7 @@
 -- What a run answers to its words.
 use Rattle.std.proofs.Common.{◌≡◌, ◌∙◌, false, ℕ, List, Option, None, Result, Ok, Err, OnOk}
 use Rattle.smap_disk.specs.Held.{Held}
+use Rattle.smap_disk.specs.Tree.{Told}
 use Rattle.smap_arguments.specs.declared.wanted.Wanted.{Wanted}
 use Rattle.smap_tracer.specs.Runs.{AreFound, IsAnswered, IsJobOf, IsTracedAsked, IsTracedJob}
 use Rattle.smap_tracer.specs.declared.program.InputKind.{InputKind}
@@ -21,18 +22,19 @@ traced_asked held asked wanted job kind left before after (Ok a) is of traced = 
 }
 traced_asked held asked wanted job kind left before after (Err e) is of traced = tt
 
-pub wanted_traced : {A E : Type 0} (held : Held) (asked : TraceWords) (wanted : Wanted) (kind : InputKind)
-    (left before after : Option (List ℕ)) (result : Result A E) → AreFound asked wanted
+pub wanted_traced : {A E : Type 0} (told : Told) (held : Held) (asked : TraceWords) (wanted : Wanted)
+    (kind : InputKind) (left before after : Option (List ℕ)) (result : Result A E)
+    → AreFound told held asked wanted
     → OnOk result (asked.output ≡ None → asked.list ≡ false → IsTracedAsked held wanted asked kind left before after)
     → OnOk result (asked.output ≡ None → asked.list ≡ false
-    → (w : Wanted) × AreFound asked w × IsTracedAsked held w asked kind left before after)
-wanted_traced held asked wanted kind left before after (Ok a) found traced = λ none off.
+    → (w : Wanted) × AreFound told held asked w × IsTracedAsked held w asked kind left before after)
+wanted_traced told held asked wanted kind left before after (Ok a) found traced = λ none off.
     (wanted, found, traced none off)
-wanted_traced held asked wanted kind left before after (Err e) found traced = tt
+wanted_traced told held asked wanted kind left before after (Err e) found traced = tt
 
-pub answered : {A E : Type 0} (held : Held) (help version : List ℕ) (words : List (List ℕ)) (asked : Asked)
+pub answered : {A E : Type 0} (told : Told) (held : Held) (help version : List ℕ) (words : List (List ℕ)) (asked : Asked)
     (kind : InputKind) (left before after : Option (List ℕ)) (result : Result A E) → IsAsked words asked
-    → OnOk result (IsAnswered held help version asked kind left before after)
-    → OnOk result ((a : Asked) × IsAsked words a × IsAnswered held help version a kind left before after)
-answered held help version words asked kind left before after (Ok a) is done = (asked, is, done)
-answered held help version words asked kind left before after (Err e) is done = tt
+    → OnOk result (IsAnswered told held help version asked kind left before after)
+    → OnOk result ((a : Asked) × IsAsked words a × IsAnswered told held help version a kind left before after)
+answered told held help version words asked kind left before after (Ok a) is done = (asked, is, done)
+answered told held help version words asked kind left before after (Err e) is done = tt

@@ -3,6 +3,7 @@ use Rattle.std.specs.Prelude.{◌≡◌, ℕ, false, List, [], ◌∷◌, map, �
 use Rattle.std.specs.Borrow.{Bor}
 use Rattle.std.specs.Io.KnownBytes.{Appends}
 use Rattle.smap_disk.specs.Held.{Held}
+use Rattle.smap_disk.specs.Tree.{Told}
 use Rattle.smap_arguments.specs.Lists.{lists_of, no_lists}
 use Rattle.smap_arguments.specs.Naming.{NamesAll}
 use Rattle.smap_arguments.specs.Settling.{IsSettled}
@@ -57,9 +58,9 @@ pub record IsJobOf (asked : TraceWords) (job : Job) : Type 0 where
   pub prefixes : pairs_of job.style.prefixes.now ≡ prefixes_of asked.prefixes.items
 
 -- These are the maps and logs that the arguments of these words name, one map for each script.
-pub record AreFound (asked : TraceWords) (wanted : Wanted) : Type 0 where
+pub record AreFound (told : Told) (held : Held) (asked : TraceWords) (wanted : Wanted) : Type 0 where
   pub named : Wanted
-  pub names : NamesAll asked.arguments.items no_lists (lists_of named)
+  pub names : NamesAll told held asked.arguments.items no_lists (lists_of named)
   pub settled : IsSettled named wanted
 
 -- What is wanted was translated and written by a run that does what these words ask for.
@@ -70,10 +71,11 @@ pub record IsTracedAsked (held : Held) (wanted : Wanted) (asked : TraceWords) (k
   pub is_job : IsJobOf asked job
   pub traced : IsTracedJob held job kind left before after
 
--- The same of what the words name, where they ask for a translation on standard output; or the help or the version was written.
-abbrev pub IsAnswered : Held → List ℕ → List ℕ → Asked → InputKind → Option (List ℕ) → Option (List ℕ)
+-- The same of what the words name, where they ask for a translation on standard output; or the help or the
+-- version was written.
+abbrev pub IsAnswered : Told → Held → List ℕ → List ℕ → Asked → InputKind → Option (List ℕ) → Option (List ℕ)
     → Option (List ℕ) → Type 0
-IsAnswered held help version Help kind left before after = Appends before after help
-IsAnswered held help version Version kind left before after = Appends before after version
-IsAnswered held help version (Trace asked) kind left before after = asked.output ≡ None → asked.list ≡ false
-    → (wanted : Wanted) × AreFound asked wanted × IsTracedAsked held wanted asked kind left before after
+IsAnswered told held help version Help kind left before after = Appends before after help
+IsAnswered told held help version Version kind left before after = Appends before after version
+IsAnswered told held help version (Trace asked) kind left before after = asked.output ≡ None → asked.list ≡ false
+    → (wanted : Wanted) × AreFound told held asked wanted × IsTracedAsked held wanted asked kind left before after

@@ -279,7 +279,7 @@ fn found<'a, E: Eprint + AllocGlobal, D: Disk>(
     asked: &TraceWords<'a>,
     kind: InputKind,
 ) -> Result<Wanted<'a>, Stop>
-    ensures { IfOk result (AreFound asked.now) }
+    ensures { IfOk result (AreFound (D.tree host.now.disk.now) (D.held host.now.disk.now) asked.now) }
 {
     let mut wanted = wanted_by(host, &asked.arguments)?;
     settle(host, asked.skip_broken, &mut wanted)?;
@@ -356,8 +356,9 @@ fn trace<E: Eprint + AllocGlobal, D: Disk, I: Read, W: Write + Drop>(
 where
     I: Drop,
     ensures { OnOk result (asked.now.output ≡ None → asked.now.list ≡ false → (wanted : Wanted)
-        × AreFound asked.now wanted × IsTracedAsked (D.held host.now.disk.now) wanted asked.now input.kind
-        (I.remaining input.reader) (contents_of W.contents output.old) (contents_of W.contents output.new)) }
+        × AreFound (D.tree host.now.disk.now) (D.held host.now.disk.now) asked.now wanted
+        × IsTracedAsked (D.held host.now.disk.now) wanted asked.now input.kind (I.remaining input.reader)
+        (contents_of W.contents output.old) (contents_of W.contents output.new)) }
 {
     let wanted = found(host, asked, input.kind)?;
     trace_wanted(host, asked, wanted, input, output)
@@ -395,8 +396,8 @@ fn answer<E: Eprint + AllocGlobal, D: Disk, I: Read, W: Write + Drop>(
 where
     I: Drop,
     ensures { OnOk result ((asked : Asked) × IsAsked (map (λ w. w.now) words.now) asked
-        × IsAnswered (D.held host.now.disk.now) HELP.now VERSION.now asked input.kind (I.remaining input.reader)
-        (contents_of W.contents output.old) (contents_of W.contents output.new)) }
+        × IsAnswered (D.tree host.now.disk.now) (D.held host.now.disk.now) HELP.now VERSION.now asked
+        input.kind (I.remaining input.reader) (contents_of W.contents output.old) (contents_of W.contents output.new)) }
 {
     match trace_words(host.alloc(), words) {
         Ok(Asked::Help) => output.write(host, HELP.as_bytes()),
@@ -416,8 +417,8 @@ fn run_on<E: Eprint + AllocGlobal, D: Disk, I: Read, W: Write + Drop>(
 where
     I: Drop,
     ensures { result ≡ 0 → (asked : Asked) × IsAsked (map (λ w. w.now) words.now) asked
-        × IsAnswered (D.held host.now.disk.now) HELP.now VERSION.now asked input.kind (I.remaining input.reader)
-        (contents_of W.contents output.old) (contents_of W.contents output.new) }
+        × IsAnswered (D.tree host.now.disk.now) (D.held host.now.disk.now) HELP.now VERSION.now asked
+        input.kind (I.remaining input.reader) (contents_of W.contents output.old) (contents_of W.contents output.new) }
 {
     match answer(host, words, input, output) {
         Ok(()) => 0,

@@ -1,6 +1,6 @@
 //! Runs over files in memory: what is written, with which status, and what is left on the disk.
 use crate::{Input, InputKind, run};
-use smap_disk::MemoryDisk;
+use smap_memory_disk::MemoryDisk;
 use std::io::ErrorKind;
 use std::test::Fail;
 

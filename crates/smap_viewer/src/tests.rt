@@ -1,5 +1,5 @@
 use crate::run;
-use smap_disk::MemoryDisk;
+use smap_memory_disk::MemoryDisk;
 use std::io;
 use std::test::Fail;
 

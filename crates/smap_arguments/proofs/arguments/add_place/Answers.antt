@@ -9,7 +9,9 @@ returns-in-Some g c =
     on_ok c.add_split.result (λ h. (
       c.in-Some.way.url_end,
       c.in-Some.way.file_end,
-      subst (λ (w : List ℕ). NamesWay w c.in-Some.way.url_end c.in-Some.way.file_end
-          (lists_of c.args.wanted.now)
-          (lists_of c.add_split.new.wanted)) c.in-Some.ensures h,
+      c.in-Some.kind,
+      c.in-Some.ensures.first,
+      subst (λ (w : List ℕ). NamesWay (g.D.Disk.tree c.args.host.now.disk.now) c.in-Some.kind w
+          c.in-Some.way.url_end c.in-Some.way.file_end (lists_of c.args.wanted.now)
+          (lists_of c.add_split.new.wanted)) c.in-Some.ensures.word h,
     )) c.add_split.ensures

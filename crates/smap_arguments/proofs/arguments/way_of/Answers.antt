@@ -1,20 +1,29 @@
-use Rattle.std.proofs.Common.{◌≡◌, ◌∙◌}
-use Rattle.std.specs.Bool.{⊤}
-use Rattle.smap_words.specs.declared.splits.Split.{Split}
-use Rattle.smap_arguments.proofs.NamingLemmas.{kept_word, of_some}
+use Rattle.smap_arguments.proofs.NamingLemmas.{first_there, none_before_first, none_before_next, not_there, tried}
 use Rattle.smap_arguments.proofs.arguments.way_of.Goals as goal
 
 pub loop-init : goal.loop-init
-loop-init g c = kept_word _ c.first-split.result (λ s h. h.0) c.first-split.ensures
+loop-init g c = none_before_first (g.D.Disk.tree c.args.host.now.disk.now) (g.D.Disk.held c.args.host.now.disk.now)
+    c.args.word.now c.first-split.result c.first-split.ensures
 
 pub loop-preserved : goal.loop-preserved
 loop-preserved g c =
-    let is : c.in-Some.way.word.now ≡ c.args.word.now =
-    of_some ⊤ (λ (s : Split). s.word.now
-    ≡ c.args.word.now) c.loop.split c.in-Some.way c.in-Some.is c.loop.invariant in
-    kept_word _ c.following-split.result (λ s h. h.0 ∙ is) c.following-split.ensures
+    let told = g.D.Disk.tree c.args.host.now.disk.now in
+    let held = g.D.Disk.held c.args.host.now.disk.now in
+    let way = c.in-Some.way in
+    let before = tried told held c.args.word.now c.loop.split way c.in-Some.is c.loop.invariant in
+    none_before_next told held c.args.word.now way c.following-split.result before
+    (not_there told held c.args.word.now way c.file.result.now before.0 c.file.ensures c.in_default-kind_of.ensures)
+    c.following-split.ensures
 
-pub returns-in-Some-kind_of : goal.returns-in-Some-kind_of
-returns-in-Some-kind_of g c =
-    of_some ⊤ (λ (s : Split). s.word.now
-    ≡ c.args.word.now) c.loop.split c.in-Some.way c.in-Some.is c.loop.invariant
+pub returns-in-Some-kind_of-clause-word : goal.returns-in-Some-kind_of-clause-word
+returns-in-Some-kind_of-clause-word g c =
+    (tried (g.D.Disk.tree c.args.host.now.disk.now) (g.D.Disk.held c.args.host.now.disk.now) c.args.word.now
+    c.loop.split c.in-Some.way c.in-Some.is c.loop.invariant).0
+
+pub returns-in-Some-kind_of-clause-first : goal.returns-in-Some-kind_of-clause-first
+returns-in-Some-kind_of-clause-first g c =
+    let told = g.D.Disk.tree c.args.host.now.disk.now in
+    let held = g.D.Disk.held c.args.host.now.disk.now in
+    let before = tried told held c.args.word.now c.loop.split c.in-Some.way c.in-Some.is c.loop.invariant in
+    first_there told held c.args.word.now c.in-Some-kind_of.kind c.in-Some.way c.file.result.now before c.file.ensures
+    c.in-Some-kind_of.ensures

@@ -1,7 +1,7 @@
 //! A disk in memory, for tests.
 
-use crate::disk::{Disk, Kind, Listing};
 use crate::held::{Content, Shared, Step, Table};
+use smap_disk::{Disk, Kind, Listing};
 use std::alloc::Global;
 use std::cell::RefCell;
 use std::io::{self, ErrorKind, Read, Write};
@@ -134,6 +134,8 @@ impl Disk for MemoryDisk {
     type Writer = MemoryWriter;
 
     ghost held = { λ d. None };
+
+    ghost tree = { λ d. None };
 
     fn kind(&self, path: &str) -> Kind {
         match self.table.try_borrow() {

@@ -1,7 +1,6 @@
 //! What a disk in memory holds.
 
-use crate::disk::{Entry, EntryKind, Kind, Listing};
-use crate::paths::{joined, parted};
+use smap_disk::{Entry, EntryKind, Kind, Listing, joined, parted};
 use std::alloc::{AllocError, Global};
 use std::cell::RefCell;
 use std::io::{self, ErrorKind};

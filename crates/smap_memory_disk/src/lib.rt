@@ -1,0 +1,10 @@
+//! A file system in memory, for tests of what works over any [`smap_disk::Disk`]: folders, links, special files,
+//! names that aren't UTF-8, and calls that fail.
+#![tactic(auto)]
+
+mod held;
+mod memory;
+#[cfg(test)]
+mod tests;
+
+pub use memory::{MemoryDisk, MemoryReader, MemoryWriter};
