@@ -15,7 +15,8 @@ use Rattle.smap_words.specs.declared.splits.Kind.TheVariants.{File, Folder}
 use Rattle.smap_words.specs.declared.splits.Split.{Split}
 use Rattle.smap_words.specs.declared.argument.Argument.{Argument}
 use Rattle.smap_arguments.specs.Lists.{Lists, with_map}
-use Rattle.smap_arguments.specs.Naming.{IsFirstThere, IsNotThere, IsReadable, IsThere, Names, NamesAll, NamesFolder, NamesFolderAlone, NamesLog}
+use Rattle.smap_arguments.specs.Naming.{IsFirstThere, IsNotThere, IsReadable, IsThere, Names, NamesAll}
+use Rattle.smap_arguments.specs.Naming.{NamesFolder, NamesFolderAlone, NamesLog}
 use Rattle.smap_arguments.specs.Naming.{NamesPath, NamesWay, file_in}
 
 module _ (told : Told) (held : Held) where
@@ -105,7 +106,8 @@ module _ (told : Told) (held : Held) (word : List ℕ) where
   -- nothing is there for the ways before this one, or for all
   abbrev pub NoneBefore : Option Split → Type 0
   NoneBefore None = (v g : ℕ) → IsSplit word v g → IsNotThere told held (file_in word v g)
-  NoneBefore (Some s) = (s.word.now ≡ word) × ((v g : ℕ) → IsSplit word v g → ComesBefore v g s.url_end s.file_end
+  NoneBefore (Some s) = (s.word.now ≡ word) ×
+      ((v g : ℕ) → IsSplit word v g → ComesBefore v g s.url_end s.file_end
       → IsNotThere told held (file_in word v g))
 
   pub none_before_first : (first : Option Split) → IsFirst word first → NoneBefore first
@@ -113,8 +115,10 @@ module _ (told : Told) (held : Held) (word : List ℕ) where
   none_before_first (Some s) first = (first.0, λ v g split before. absurd (first.1 v g split before))
 
   -- each way up to this one
-  up_to : (s : Split) → NoneBefore (Some s) → IsNotThere told held (file_in word s.url_end s.file_end) → (v g : ℕ)
-      → IsSplit word v g → (ComesBefore s.url_end s.file_end v g → ⊥) → IsNotThere told held (file_in word v g)
+  up_to : (s : Split) → NoneBefore (Some s) → IsNotThere told held (file_in word s.url_end s.file_end) →
+      (v g : ℕ)
+      → IsSplit word v g → (ComesBefore s.url_end s.file_end v g → ⊥) → IsNotThere told held
+      (file_in word v g)
   up_to s before none v g split not_behind = elim (in_order v g s.url_end s.file_end) [
     | inl front ↦ before.1 v g split front
     | inr (inl same) ↦ subst (λ w. IsNotThere told held (file_in word w g)) (sym same.0)
@@ -136,7 +140,8 @@ module _ (told : Told) (held : Held) (word : List ℕ) where
   pub tried : (found : Option Split) (s : Split) → found ≡ Some s → NoneBefore found → NoneBefore (Some s)
   tried found s is h = subst NoneBefore is h
 
-  pub not_there : (s : Split) (file : List ℕ) → s.word.now ≡ word → file ≡ file_in s.word.now s.url_end s.file_end
+  pub not_there : (s : Split) (file : List ℕ) → s.word.now ≡ word → file
+      ≡ file_in s.word.now s.url_end s.file_end
       → IsNotThere told held file → IsNotThere told held (file_in word s.url_end s.file_end)
   not_there s file e f h = subst (λ w. IsNotThere told held (file_in w s.url_end s.file_end)) e
       (subst (IsNotThere told held) f h)

@@ -54,7 +54,8 @@ IsReadable (Some t) held Folder name = t.kinds name ≡ disk.Folder
 -- Nothing, or a file that can't be opened.
 abbrev pub IsNotThere : Told → Held → List ℕ → Type 0
 IsNotThere None held name = ⊤
-IsNotThere (Some t) held name = (t.kinds name ≡ disk.Missing) ⊎ ((t.kinds name ≡ disk.File) × IsNotHeld held name)
+IsNotThere (Some t) held name = (t.kinds name ≡ disk.Missing) ⊎
+    ((t.kinds name ≡ disk.File) × IsNotHeld held name)
 
 -- the name of the file, in a way to read an argument
 abbrev pub file_in : List ℕ → ℕ → ℕ → List ℕ
@@ -68,7 +69,8 @@ abbrev pub NamesLog : List ℕ → Lists → Lists → Type 0
 NamesLog word before after = (needs_url word ≡ false) × (after ≡ with_log word before)
 
 module _ (told : Told) where
-  -- Of the files in a folder and below it that have such names, in byte order, those beside which there is no map of
+  -- Of the files in a folder and below it that have such names, in byte order, those beside which there is no
+  -- map of
   -- their own.
   abbrev pub AreNames : List ℕ → List (List ℕ) → Type 0
   AreNames path names = (found : List (String Global)) × IsSorted string_cmp found
@@ -89,7 +91,8 @@ module _ (told : Told) where
       ⊎ (IsThere told Folder word × NamesFolderAlone word before after)
 
   abbrev pub NamesKind : Kind → List ℕ → ℕ → ℕ → Lists → Lists → Type 0
-  NamesKind File word u f before after = after ≡ with_map (take u word) (file_in word u f) (base_in word f) before
+  NamesKind File word u f before after = after ≡ with_map (take u word) (file_in word u f)
+      (base_in word f) before
   NamesKind Folder word u f before after = NamesFolder (take u word) (file_in word u f) before after
 
   -- A way to read an argument, with which nothing is wrong, as that of a file or of a folder.

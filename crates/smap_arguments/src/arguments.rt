@@ -3,7 +3,8 @@ ghost use Rattle.std.specs.Prelude.{◌≡◌, IfOk, IfSome, MatchOption, OnOk, 
 ghost use Rattle.smap_pick.specs.PlaceView.{place_in};
 ghost use Rattle.smap_arguments.specs.Lists as spec;
 ghost use Rattle.smap_arguments.specs.Lists.{lists_of, no_lists, with_map, with_log};
-ghost use Rattle.smap_arguments.specs.Naming.{IsFirstThere, IsNotThere, IsReadable, Names, NamesAll, NamesPath};
+ghost use Rattle.smap_arguments.specs.Naming.{IsFirstThere, IsNotThere, IsReadable, Names, NamesAll};
+ghost use Rattle.smap_arguments.specs.Naming.{NamesPath};
 ghost use Rattle.smap_arguments.specs.Naming.{NamesPlace, NamesWay};
 
 use crate::folders::{add_folder, add_folder_alone};
@@ -178,8 +179,8 @@ pub fn wanted_by<'a, E: Eprint + AllocGlobal, D: Disk>(
     host: &Host<'_, E, D>,
     arguments: &[Argument<'a>],
 ) -> Result<Wanted<'a>, Stop>
-    ensures { IfOk result (λ wanted. NamesAll (D.tree host.now.disk.now) (D.held host.now.disk.now) arguments.now
-        no_lists (lists_of wanted)) }
+    ensures { IfOk result (λ wanted. NamesAll (D.tree host.now.disk.now) (D.held host.now.disk.now)
+        arguments.now no_lists (lists_of wanted)) }
 {
     let mut wanted = Wanted::new(host.alloc());
     for i in 0..arguments.len() {

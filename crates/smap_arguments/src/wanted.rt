@@ -10,7 +10,8 @@ use std::alloc::Global;
 /// A folder.
 #[derive(Drop)]
 pub struct Root {
-    /// The URL of what is in it, or its path as the log has it, with a slash at the end. A folder that is given
+    /// The URL of what is in it, or its path as the log has it, with a slash at the end. A folder that is
+    /// given
     /// alone has a URL of its own, so that none leads out of it.
     pub url: Vec<u8>,
     /// Its name, without slashes at the end.

@@ -1,5 +1,7 @@
 -- What is gathered from the entries of folders, one after another.
-use Rattle.std.proofs.Common.{ℕ, Bool, ◌≡◌, ◌∙◌, ◌+◌, ◌≤◌, ◌<◌, List, [], ◌++◌, ◌∷◌, None, Some, String, ap, append-nil, append_assoc, arith, filter, flat_map, length, map, option_map, refl, slice_get, string_bytes, subst, sym, take, true}
+use Rattle.std.proofs.Common.{ℕ, Bool, ◌≡◌, ◌∙◌, ◌+◌, ◌≤◌, ◌<◌, List, [], ◌++◌, ◌∷◌, None, Some, String, ap}
+use Rattle.std.proofs.Common.{append-nil, append_assoc, arith, filter, flat_map, length, map, option_map}
+use Rattle.std.proofs.Common.{refl, slice_get, string_bytes, subst, sym, take, true}
 use Rattle.std.proofs.lemmas.Grind.{flat_map-append}
 use Rattle.std.proofs.lemmas.List.{length-append, length-map, map-append, take-append-le, take_all, take_more}
 use Rattle.std.proofs.lemmas.List.Elements.{All-push, filter-append}
@@ -9,7 +11,8 @@ use Rattle.std.specs.List.Sorted.{IsPermutation}
 use Rattle.std.specs.Option.{is_some}
 use Rattle.smap_disk.specs.Paths.{joined}
 use Rattle.smap_disk.specs.Tree.{IsListed, NamedEntry, Told, Tree, entries_in, entry_in}
-use Rattle.smap_disk.specs.Walking.{AreBelow, AreFilesBelow, entries_at, files_in, folders_in, is_folder, is_wanted, known, texts}
+use Rattle.smap_disk.specs.Walking.{AreBelow, AreFilesBelow, entries_at, files_in, folders_in, is_folder}
+use Rattle.smap_disk.specs.Walking.{is_wanted, known, texts}
 use Rattle.smap_disk.specs.declared.disk.Entry.{Entry}
 use Rattle.smap_disk.specs.declared.disk.Listing.{Listing}
 
@@ -19,7 +22,8 @@ take_at xs i x at = take_more xs i x (slice_get_within xs i x at)
     ∙ ap (λ y. take i xs ++ y ∷ []) (get_or_from_slice_get xs i x x at)
 
 -- one more of a list that is gone through
-pub mapped_more : {X Y Z : Type 0} (f : X → Z) (g : Y → Z) (made new : List X) (ys : List Y) (i : ℕ) (x : X) (y : Y)
+pub mapped_more : {X Y Z : Type 0} (f : X → Z) (g : Y → Z) (made new : List X) (ys : List Y) (i : ℕ) (x : X)
+    (y : Y)
     → slice_get ys i ≡ Some y → new ≡ made ++ x ∷ [] → f x ≡ g y → map f made ≡ map g (take i ys)
     → map f new ≡ map g (take (i + 1) ys)
 mapped_more f g made new ys i x y at is same done =
@@ -27,7 +31,8 @@ mapped_more f g made new ys i x y at is same done =
 
 -- The same of what is gathered.
 pub gathered : {E X : Type 0} (of : List E → List X) → ((xs ys : List E) → of (xs ++ ys) ≡ of xs ++ of ys)
-    → (es : List E) (i : ℕ) (e : E) (old now new : List X) → slice_get es i ≡ Some e → now ≡ old ++ of (take i es)
+    → (es : List E) (i : ℕ) (e : E) (old now new : List X) → slice_get es i ≡ Some e → now ≡ old ++ of
+    (take i es)
     → new ≡ now ++ of (e ∷ []) → new ≡ old ++ of (take (i + 1) es)
 gathered of parts es i e old now new at done more =
     more ∙ ap (λ xs. xs ++ of (e ∷ [])) done ∙ append_assoc old (of (take i es)) (of (e ∷ []))
@@ -82,15 +87,19 @@ module _ (t : Tree) (root : List ℕ) (ends : List ℕ → Bool) where
       ap (take (n + 1)) grown ∙ take-append-le (n + 1) folders (folders_in f es) (omega (arith, lt))
       ∙ take_at folders n f at in
       let last : (of : List ℕ → List (List ℕ)) → flat_map of (take (n + 1) more_folders)
-          ≡ flat_map of (take n folders) ++ of f = λ of. ap (flat_map of) front
-      ∙ flat_map-append of (take n folders) (f ∷ []) ∙ ap (λ xs. flat_map of (take n folders) ++ xs) (append-nil (of f)) in
+      ≡ flat_map of (take n folders) ++ of f = λ of. ap (flat_map of) front
+      ∙ flat_map-append of (take n folders) (f ∷ []) ∙ ap (λ xs. flat_map of (take n folders) ++ xs)
+      (append-nil (of f)) in
       record {
         within = omega (arith, lt, ap length grown, length-append folders (folders_in f es));
         all = grown ∙ ap (λ fs. fs ++ folders_in f es) w.all
-            ∙ ap (λ fs. [] ∷ fs) (ap (λ xs. flat_map below (take n folders) ++ folders_in f xs) (sym entries) ∙ sym (last below));
+            ∙ ap (λ fs. [] ∷ fs) (ap (λ xs. flat_map below (take n folders) ++ folders_in f xs)
+            (sym entries) ∙ sym (last below));
         names_are = named ∙ ap (λ ns. ns ++ files_in t root ends f es) w.names_are
-            ∙ ap (λ xs. flat_map own (take n folders) ++ files_in t root ends f xs) (sym entries) ∙ sym (last own);
-        can_be_read = subst (All IsReadable) (sym front) (All-push IsReadable (take n folders) f w.can_be_read (ap is_some listed));
+            ∙ ap (λ xs. flat_map own (take n folders) ++ files_in t root ends f xs) (sym entries) ∙ sym
+            (last own);
+        can_be_read = subst (All IsReadable) (sym front)
+            (All-push IsReadable (take n folders) f w.can_be_read (ap is_some listed));
       }
 
   pub walked_all : (n : ℕ) (folders names : List (List ℕ)) → length folders ≤ n → Walked n folders names

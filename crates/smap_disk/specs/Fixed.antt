@@ -20,7 +20,8 @@ entry_of e = (e.name.now, e.kind)
 -- the entries of the first folder with this name
 abbrev pub entries_by : List FixedFolder → List ℕ → Option (List NamedEntry)
 entries_by [] name = None
-entries_by (folder ∷ rest) name = cond (bytes_eq folder.name.now name) (Some (map entry_of folder.entries.now))
+entries_by (folder ∷ rest) name = cond (bytes_eq folder.name.now name)
+    (Some (map entry_of folder.entries.now))
     (entries_by rest name)
 
 -- a file, or else a folder with this name

@@ -1,4 +1,5 @@
--- What files hold, where a disk says so: that of the machine says nothing, since it isn't the program's alone.
+-- What files hold, where a disk says so: that of the machine says nothing, since it isn't the program's
+-- alone.
 use Rattle.std.specs.Prelude.{◌≡◌, ℕ, List, length, ⊤, Option, Some, None, option_map}
 
 -- What files hold, by their names: nothing is said, or what each holds.

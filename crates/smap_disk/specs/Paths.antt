@@ -1,5 +1,6 @@
 -- Names of files, made from others.
-use Rattle.std.specs.Prelude.{◌≡◌, ◌≢◌, ℕ, ◌-◌, ◌<◌, ◌≤◌, Bool, ◌==◌, ◌||◌, nat_eq, List, ◌++◌, codes, cond, length, slice_index}
+use Rattle.std.specs.Prelude.{◌≡◌, ◌≢◌, ℕ, ◌-◌, ◌<◌, ◌≤◌, Bool, ◌==◌, ◌||◌, nat_eq, List, ◌++◌, codes, cond}
+use Rattle.std.specs.Prelude.{length, slice_index}
 use Rattle.std.specs.Fmt.{decimal}
 use Rattle.std.specs.List.{All, ends_with}
 
@@ -9,7 +10,8 @@ is_open folder = (length folder == 0) || ends_with nat_eq folder (codes "/")
 
 -- The name of what is below a folder. An empty name of either adds nothing to the other.
 abbrev pub joined : List ℕ → List ℕ → List ℕ
-joined folder name = cond (is_open folder || (length name == 0)) (folder ++ name) ((folder ++ codes "/") ++ name)
+joined folder name = cond (is_open folder || (length name == 0)) (folder ++ name)
+    ((folder ++ codes "/") ++ name)
 
 -- A path is a folder, which is empty or ends in a slash, and a name without a slash.
 pub record IsParted (path folder name : List ℕ) : Type 0 where

@@ -1,4 +1,5 @@
--- What stands under names and in folders, where a disk says so: that of the machine says nothing, since it isn't
+-- What stands under names and in folders, where a disk says so: that of the machine says nothing, since it
+-- isn't
 -- the program's alone.
 use Rattle.std.specs.Prelude.{◌≡◌, ℕ, List, map, ⊤, Option, Some, None, string_bytes}
 use Rattle.smap_disk.specs.declared.disk.Entry.{Entry}

@@ -1,5 +1,6 @@
 -- Which names a walk over a folder gives.
-use Rattle.std.specs.Prelude.{◌≡◌, ℕ, Bool, true, false, ◌&&◌, nat_eq, nat_lt, List, [], ◌∷◌, length, map, filter}
+use Rattle.std.specs.Prelude.{◌≡◌, ℕ, Bool, true, false, ◌&&◌, nat_eq, nat_lt, List, [], ◌∷◌, length, map}
+use Rattle.std.specs.Prelude.{filter}
 use Rattle.std.specs.Prelude.{flat_map, ⊤, Option, Some, None, string_bytes, String}
 use Rattle.std.specs.Borrow.{Bor}
 use Rattle.std.specs.List.{All, ends_with, list_any}
@@ -71,7 +72,8 @@ known (Some es) = es
 abbrev pub entries_at : Tree → List ℕ → List ℕ → List NamedEntry
 entries_at t root folder = known (t.entries (joined root folder))
 
--- These are the files that count in a folder and below it: all that the folder has, and each folder that is an
+-- These are the files that count in a folder and below it: all that the folder has, and each folder that is
+-- an
 -- entry of one of them.
 pub record AreBelow (t : Tree) (root : List ℕ) (ends : List ℕ → Bool) (names : List (List ℕ)) : Type 0 where
   pub folders : List (List ℕ)

@@ -57,7 +57,8 @@ fn create_first<D: Disk>(
 }
 
 /// Begins a file that takes this name at the end. A link is followed to its file first, and the permissions
-/// of an existing file are copied, and its owner where the system allows that: until then nobody but the owner
+/// of an existing file are copied, and its owner where the system allows that: until then nobody but the
+/// owner
 /// may read the new one.
 ///
 /// # Errors

@@ -1,9 +1,12 @@
-//! What a program asks of a file system ([`Disk`]), such as the machine's ([`System`]): files that are read whole
-//! and only up to a limit ([`read_file`]), the names of the files below a folder ([`walk`]), and a file that is
+//! What a program asks of a file system ([`Disk`]), such as the machine's ([`System`]): files that are read
+//! whole
+//! and only up to a limit ([`read_file`]), the names of the files below a folder ([`walk`]), and a file that
+//! is
 //! written beside its name and takes it at the end ([`create_beside`]). A writer can be asked why it failed
 //! ([`Watched`]), an error for its text ([`reason`]), and names become safe to print ([`printable`]).
 //!
-//! Contracts say nothing of what the machine's files hold and of what stands in its folders, since they aren't the
+//! Contracts say nothing of what the machine's files hold and of what stands in its folders, since they
+//! aren't the
 //! program's alone: only a disk that doesn't change ([`FixedDisk`]) tells it.
 #![tactic(auto)]
 

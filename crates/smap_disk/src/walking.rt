@@ -1,5 +1,6 @@
 //! The files below a folder.
-ghost use Rattle.std.specs.Prelude.{◌≡◌, [], List, ℕ, true, IfOk, OnOk, ◌++◌, ◌∷◌, map, string_bytes, string_cmp};
+ghost use Rattle.std.specs.Prelude.{◌≡◌, [], List, ℕ, true, IfOk, OnOk, ◌++◌, ◌∷◌, map, string_bytes};
+ghost use Rattle.std.specs.Prelude.{string_cmp};
 ghost use Rattle.std.specs.Prelude.{◌≤◌, MatchOption, Some, length, ◌&&◌};
 ghost use Rattle.std.specs.Borrow.{Bor};
 ghost use Rattle.std.specs.List.{slice_get};
@@ -168,7 +169,8 @@ impl State {
         ensures folders { OnOk result (texts self.new.folders.items
             ≡ texts self.old.folders.items ++ folders_in folder.now (entry_in entry.now ∷ [])) }
         ensures files { (t : Tree) → D.tree disk.now ≡ Some t → OnOk result (texts self.new.names.items
-            ≡ texts self.old.names.items ++ files_in t root.now (spec.has_ending endings.now) folder.now (entry_in entry.now ∷ [])) }
+            ≡ texts self.old.names.items
+            ++ files_in t root.now (spec.has_ending endings.now) folder.now (entry_in entry.now ∷ [])) }
     {
         self.note(entry.kind);
         let name = joined(alloc, folder, &entry.name)?;
@@ -196,7 +198,8 @@ impl State {
         ensures folders { OnOk result (texts self.new.folders.items
             ≡ texts self.old.folders.items ++ folders_in folder.now (entries_in listing.now)) }
         ensures files { (t : Tree) → D.tree disk.now ≡ Some t → OnOk result (texts self.new.names.items
-            ≡ texts self.old.names.items ++ files_in t root.now (spec.has_ending endings.now) folder.now (entries_in listing.now)) }
+            ≡ texts self.old.names.items
+            ++ files_in t root.now (spec.has_ending endings.now) folder.now (entries_in listing.now)) }
     {
         self.note_unnamed(listing.unnamed);
         for i in 0..listing.entries.len() {

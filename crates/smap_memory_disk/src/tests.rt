@@ -1,9 +1,7 @@
 //! What the disk in memory shows of `smap_disk`.
 
 use crate::MemoryDisk;
-use smap_disk::{
-    Disk, FileFault, Kind, Walk, WalkFault, Watched, create_beside, read_file, walk,
-};
+use smap_disk::{Disk, FileFault, Kind, Walk, WalkFault, Watched, create_beside, read_file, walk};
 use std::alloc::{AllocError, Global};
 use std::io::{self, ErrorKind, Write};
 use std::test::Fail;

@@ -14,8 +14,10 @@ returns-in-Folder g c =
     (sym c.in-Folder.is)
     ∙ sym c.fault.ensures ∙ c.in_default.is in
     on_ok c.add_folder.result (λ h. subst (λ k. NamesWay told k s.word.now s.url_end s.file_end
-    (lists_of c.args.wanted.now) (lists_of c.add_folder.new.wanted)) (sym c.in-Folder.is) (way_to_folder told s.word.now c.url.result.now c.file.result.now s.url_end s.file_end
-    (lists_of c.args.wanted.now) (lists_of c.add_folder.new.wanted) s.parts c.url.ensures c.file.ensures fault h))
+    (lists_of c.args.wanted.now) (lists_of c.add_folder.new.wanted)) (sym c.in-Folder.is)
+    (way_to_folder told s.word.now c.url.result.now c.file.result.now s.url_end s.file_end
+    (lists_of c.args.wanted.now)
+    (lists_of c.add_folder.new.wanted) s.parts c.url.ensures c.file.ensures fault h))
     c.add_folder.ensures
 
 pub returns-in_ok-add_map-in-File : goal.returns-in_ok-add_map-in-File
@@ -26,7 +28,8 @@ returns-in_ok-add_map-in-File g c =
     (sym c.in-File.is)
     ∙ sym c.fault.ensures ∙ c.in_default.is in
     subst (λ k. NamesWay told k s.word.now s.url_end s.file_end (lists_of c.args.wanted.now)
-    (lists_of c.add_map.new.wanted)) (sym c.in-File.is) (way_to_file told s.word.now c.url-in-File.result.now c.file-in-File.result.now (option_map
+    (lists_of c.add_map.new.wanted)) (sym c.in-File.is)
+    (way_to_file told s.word.now c.url-in-File.result.now c.file-in-File.result.now (option_map
     (λ b. b.now) c.base.result)
     s.url_end s.file_end (lists_of c.args.wanted.now)
     (lists_of c.add_map.new.wanted) s.parts c.url-in-File.ensures

@@ -11,7 +11,9 @@ loop-i-init g c = c.new-wanted.ensures.lists
 
 pub loop-i-preserved : goal.loop-i-preserved
 loop-i-preserved g c =
-    argument_more (g.D.Disk.tree c.args.host.now.disk.now) (g.D.Disk.held c.args.host.now.disk.now) c.args.arguments.now c.loop-i.i _ no_lists (lists_of c.loop-i.wanted)
+    argument_more (g.D.Disk.tree c.args.host.now.disk.now)
+    (g.D.Disk.held c.args.host.now.disk.now) c.args.arguments.now c.loop-i.i _ no_lists
+    (lists_of c.loop-i.wanted)
     (lists_of c.add_argument.new.wanted) (omega (arith, c.loop-i-test.true)) c.loop-i.invariant
     c.in_ok-add_argument.ensures
 

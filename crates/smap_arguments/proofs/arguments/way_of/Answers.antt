@@ -1,8 +1,10 @@
-use Rattle.smap_arguments.proofs.NamingLemmas.{first_there, none_before_first, none_before_next, not_there, tried}
+use Rattle.smap_arguments.proofs.NamingLemmas.{first_there, none_before_first, none_before_next, not_there}
+use Rattle.smap_arguments.proofs.NamingLemmas.{tried}
 use Rattle.smap_arguments.proofs.arguments.way_of.Goals as goal
 
 pub loop-init : goal.loop-init
-loop-init g c = none_before_first (g.D.Disk.tree c.args.host.now.disk.now) (g.D.Disk.held c.args.host.now.disk.now)
+loop-init g c = none_before_first (g.D.Disk.tree c.args.host.now.disk.now)
+    (g.D.Disk.held c.args.host.now.disk.now)
     c.args.word.now c.first-split.result c.first-split.ensures
 
 pub loop-preserved : goal.loop-preserved

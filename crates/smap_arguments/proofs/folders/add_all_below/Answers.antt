@@ -21,4 +21,5 @@ pub returns : goal.returns
 returns g c =
     let root = c.args.root.now in
     below_all root.url.items (string_bytes root.path) c.args.number c.loop-i.i (texts c.args.names.now)
-    (lists_of c.loop-i.wanted) _ (past_texts c.args.names.now c.loop-i.i c.loop-i-test.false) c.loop-i.invariant
+    (lists_of c.loop-i.wanted) _
+    (past_texts c.args.names.now c.loop-i.i c.loop-i-test.false) c.loop-i.invariant

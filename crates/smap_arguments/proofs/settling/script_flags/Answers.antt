@@ -21,7 +21,8 @@ loop-i-preserved c =
     made_more (λ (f : OfFolder). may_name_map f.0)
     (zip names c.args.roots.now) c.loop-i.i _ c.loop-i.flags.items
     c.push.new.self.items _ c.may_name_map.result (zip_at names c.args.roots.now c.loop-i.i _ _ name root)
-    (c.may_name_map.ensures ∙ ap may_name_map c.deref.ensures.value) c.in_ok-push.ensures.items c.loop-i.invariant
+    (c.may_name_map.ensures
+    ∙ ap may_name_map c.deref.ensures.value) c.in_ok-push.ensures.items c.loop-i.invariant
 
 pub returns : goal.returns
 returns c =

@@ -13,4 +13,5 @@ loop-i-preserved c =
     c.in_ok-push.ensures.items c.in_ok-entry_of.ensures c.loop-i.invariant
 
 pub returns : goal.returns
-returns c = c.loop-i.invariant ∙ ap (λ es. map spec.entry_of es) (take_all c.loop-i.i c.args.entries.now c.loop-i-test.false)
+returns c = c.loop-i.invariant ∙ ap (λ es. map spec.entry_of es)
+    (take_all c.loop-i.i c.args.entries.now c.loop-i-test.false)

@@ -10,4 +10,5 @@ returns-in-Some c =
     c.split_at.ensures.front c.split_at.ensures.front_len c.split_at.ensures.back
 
 pub returns-in-None : goal.returns-in-None
-returns-in-None c = parted_whole c.args.path.now (rfind_char 47 c.args.path.now None c.in-None.ensures.cases (omega arith))
+returns-in-None c = parted_whole c.args.path.now
+    (rfind_char 47 c.args.path.now None c.in-None.ensures.cases (omega arith))

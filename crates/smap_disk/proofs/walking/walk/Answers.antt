@@ -1,7 +1,8 @@
 use Rattle.std.proofs.Common.{◌≡◌, ◌∙◌, ◌++◌, ◌≤◌, Some, ap, arith, length, rules, slice_get}
 use Rattle.smap_disk.specs.Tree.{entries_in}
 use Rattle.smap_disk.specs.Walking.{files_in, folders_in, has_ending, texts}
-use Rattle.smap_disk.proofs.ListingLemmas.{are_files_below, entries_listed, past_texts, walked_all, walked_more, walked_none}
+use Rattle.smap_disk.proofs.ListingLemmas.{are_files_below, entries_listed, past_texts, walked_all}
+use Rattle.smap_disk.proofs.ListingLemmas.{walked_more, walked_none}
 use Rattle.smap_disk.proofs.walking.walk.Goals as goal
 
 pub loop-number-init : goal.loop-number-init
@@ -12,7 +13,8 @@ loop-number-init g c = (
 )
 
 pub returns-in_default-clause-wanted : goal.returns-in_default-clause-wanted
-returns-in_default-clause-wanted g c = c.in_ok-finish.ensures.wanted c.args.endings.now c.loop-number.invariant.0
+returns-in_default-clause-wanted g c =
+    c.in_ok-finish.ensures.wanted c.args.endings.now c.loop-number.invariant.0
 
 pub returns-in_default-clause-below : goal.returns-in_default-clause-below
 returns-in_default-clause-below g c =
@@ -31,10 +33,12 @@ loop-number-preserved g c =
     let at : slice_get (texts state.folders.items) c.loop-number.number ≡ Some f = search rules in
     let same : c.deref-in-loop-number.result.now ≡ f = search rules in (
       c.in_ok-add_all.ensures.wanted c.loop-number.invariant.0,
-      λ t is. walked_more t c.args.folder.now (has_ending c.args.endings.now) c.loop-number.number (texts state.folders.items)
+      λ t is. walked_more t c.args.folder.now (has_ending c.args.endings.now) c.loop-number.number
+          (texts state.folders.items)
           (texts state.names.items) _ _ f es at
           (entries_listed (g.D.Disk.tree c.args.disk.now) t _ c.in_ok-listing.listing is c.in_ok-listing.ensures)
           (c.in_ok-add_all.ensures.folders ∙ ap (λ d. texts state.folders.items ++ folders_in d es) same)
           (c.in_ok-add_all.ensures.files t is ∙ ap (λ d. texts state.names.items
-          ++ files_in t c.args.folder.now (has_ending c.args.endings.now) d es) same) (c.loop-number.invariant.1 t is),
+          ++ files_in t c.args.folder.now (has_ending c.args.endings.now) d es) same)
+          (c.loop-number.invariant.1 t is),
     )

@@ -7,4 +7,5 @@ use Rattle.smap_disk.proofs.walking.walk.Given as goal
 abbrev pub invariant-loop-number : goal.invariant-loop-number
 invariant-loop-number g l = AreWanted l.endings l.state.names.items
     × ((t : Tree) → g.D.Disk.tree l.disk ≡ Some t
-    → Walked t l.folder (has_ending l.endings) l.number (texts l.state.folders.items) (texts l.state.names.items))
+    → Walked t l.folder (has_ending l.endings) l.number (texts l.state.folders.items)
+    (texts l.state.names.items))

@@ -8,4 +8,5 @@ invariant-loop-i g l = (AreWanted l.fn.endings l.fn.self.names.items → AreWant
     × (texts l.self.folders.items
     ≡ texts l.fn.self.folders.items ++ folders_in l.folder (take l.i (entries_in l.listing)))
     × ((t : Tree) → g.D.Disk.tree l.disk ≡ Some t → texts l.self.names.items
-    ≡ texts l.fn.self.names.items ++ files_in t l.root (has_ending l.endings) l.folder (take l.i (entries_in l.listing)))
+    ≡ texts l.fn.self.names.items ++ files_in t l.root (has_ending l.endings) l.folder
+    (take l.i (entries_in l.listing)))
