@@ -97,7 +97,11 @@ fn count_of(
 ) -> Option<usize> {
     for before in 0..most {
         if sections.take_end_array() {
-            return if ends_map(sections) { Some(before) } else { None };
+            return if ends_map(sections) {
+                Some(before)
+            } else {
+                None
+            };
         }
         if ample(rt, next_section(rt.alloc(), sections)).is_none() {
             return None;
