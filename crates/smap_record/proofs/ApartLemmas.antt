@@ -1,7 +1,9 @@
 -- An index map, section by section: what the sections read so far list, and the whole map.
-use Rattle.std.proofs.Common.{◌≡◌, ◌∙◌, ℕ, ◌+◌, ◌<◌, List, [], ◌∷◌, ◌++◌, length, arith, Option, None, Some}
-use Rattle.std.proofs.Common.{Ok, Bor, ap, sym, refl, subst, append_assoc}
+use Rattle.std.proofs.Common.{◌≡◌, ◌∙◌, ℕ, ◌+◌, List, [], ◌∷◌, ◌++◌, Option, None, Some}
+use Rattle.std.proofs.Common.{Ok, ap, sym, refl, append_assoc}
 use Rattle.std.specs.Prelude.{IsUtf8, IfSome, IfOk, Result, Err}
+use Rattle.json.specs.Token.{Token}
+use Rattle.json.specs.Json.{after_end_array, read_key}
 use Rattle.url.specs.Parts.{Parts}
 use Rattle.serde_json.specs.Data.{Data}
 use Rattle.serde_json.specs.Read.{read}
@@ -9,7 +11,7 @@ use Rattle.smap_mappings.specs.declared.position.Position.{Position}
 use Rattle.smap_shape.specs.Beside.{with_sections}
 use Rattle.smap_shape.specs.Members.{index}
 use Rattle.smap_shape.specs.Reading.{shape_of}
-use Rattle.smap_sections.specs.Sections.{AreSections, AreLeft}
+use Rattle.smap_sections.specs.Sections.{AreSections}
 use Rattle.smap_record.specs.Record.{Listing, ReadMap, Allowed}
 use Rattle.smap_record.specs.Faults.{Checked, ◌>>=◌, in_section, or_fault, of_shape}
 use Rattle.smap_record.specs.declared.fault.Kind.TheVariants.{Prefix, Json}
@@ -20,34 +22,22 @@ use Rattle.smap_record.specs.ReadApart.{Lists, ReadsAs}
 use Rattle.smap_record.proofs.StepLemmas.{then_ok}
 use Rattle.smap_record.proofs.TextLemmas.{tree_read}
 
--- how much is left
-abbrev pub left_len : Option (Bor (List ℕ)) → ℕ
-left_len None = 0
-left_len (Some text) = 1 + length text.now
-
-pub less_left : (before : ℕ) (left : Option (Bor (List ℕ))) → IfSome left (λ rest. length rest.now < before)
-    → left_len left < 1 + before
-less_left before None h = omega arith
-less_left before (Some text) h = omega (arith, h)
-
--- Sections of the text were read and listed, and those that are left are read and listed after them.
-pub record SoFar (inner : Inner) (text : List ℕ) (left : Option (Bor (List ℕ))) (last : Option Position)
-    (listing : Listing) : Type 0 where
+-- Sections were read and listed, and those that are left are read and listed after them.
+pub record SoFar (inner : Inner) (all left : List Token) (last : Option Position) (listing : Listing) : Type 0 where
   pub done : List Data
   pub k : ℕ
-  pub texts : (ds : List Data) → AreLeft left ds → AreSections text (done ++ ds)
+  pub reads : (ds : List Data) → AreSections left ds → AreSections all (done ++ ds)
   pub lists : (ds : List Data) → listed_sections 1 inner start 0 None nothing (done ++ ds)
       ≡ listed_sections 1 inner start k last listing ds
 
 module _ (inner : Inner) where
   -- before the first section
-  pub none_yet : (text : Bor (List ℕ)) (listing : Listing) → listing ≡ nothing
-      → SoFar inner text.now (Some text) None listing
-  none_yet text listing is = record {
+  pub none_yet : (all : List Token) (listing : Listing) → listing ≡ nothing → SoFar inner all all None listing
+  none_yet all listing is = record {
     done = [];
     k = 0;
-    texts = λ ds are. are;
-    lists = λ ds. ap (λ l. listed_sections 1 inner start 0 None l ds) (sym is);
+    reads = λ ds are. are;
+    lists = λ ds. rw is refl;
   }
 
   lists_one : (k : ℕ) (last : Option Position) (before : Listing) (d : Data) (ds : List Data)
@@ -61,43 +51,38 @@ module _ (inner : Inner) where
       listed_sections 1 inner start (k + 1) (Some now.0) now.1 ds) ok
 
   -- one section more
-  pub one_more : (text : List ℕ) (part : Bor (List ℕ)) (after : Option (Bor (List ℕ)))
-      (last : Option Position)
-      (before : Listing) (d : Data) (own : Position) (now : Listing)
-      → SoFar inner text (Some part) last before
-      → ((ds : List Data) → AreLeft after ds → AreSections part.now (d ∷ ds))
-      → listed_section 1 inner start last before d ≡ Ok (own, now) → SoFar inner text after (Some own) now
-  one_more text part after last before d own now so_far reads ok =
-      let joined : (ds : List Data) → so_far.done ++ d ∷ ds ≡ (so_far.done ++ d ∷ []) ++ ds =
-      λ ds. sym (append_assoc so_far.done (d ∷ []) ds) in
-      record {
-        done = so_far.done ++ d ∷ [];
-        k = so_far.k + 1;
-        texts = λ ds are. subst (AreSections text) (joined ds) (so_far.texts (d ∷ ds) (reads ds are));
-        lists = λ ds. ap (listed_sections 1 inner start 0 None nothing) (sym (joined ds))
-            ∙ so_far.lists (d ∷ ds) ∙ lists_one so_far.k last before d ds own now ok;
-      }
+  pub one_more : (all before_it after : List Token) (last : Option Position) (before : Listing) (d : Data)
+      (own : Position) (now : Listing) → SoFar inner all before_it last before
+      → ((ds : List Data) → AreSections after ds → AreSections before_it (d ∷ ds))
+      → listed_section 1 inner start last before d ≡ Ok (own, now) → SoFar inner all after (Some own) now
+  one_more all before_it after last before d own now so_far reads ok = record {
+    done = so_far.done ++ d ∷ [];
+    k = so_far.k + 1;
+    reads = λ ds are. rw (append_assoc so_far.done (d ∷ []) ds) (so_far.reads (d ∷ ds) (reads ds are));
+    lists = λ ds. rw (append_assoc so_far.done (d ∷ []) ds) (so_far.lists (d ∷ ds)
+        ∙ lists_one so_far.k last before d ds own now ok);
+  }
 
   nothing_left : (k : ℕ) (last : Option Position) (listing : Listing)
       → listed_sections 1 inner start k last listing [] ≡ Ok listing
   unfolding listed_sections
   nothing_left k last listing = refl
 
--- after the last section
-pub all_lists : (base : Parts) (limits : Allowed) (text : List ℕ) (last : Option Position) (listing : Listing)
-    → SoFar (map_at_level base limits 1) text None last listing → Lists base limits text listing
-all_lists base limits text last listing so_far = (
+-- after the last section, where the map ends
+pub all_lists : (base : Parts) (limits : Allowed) (all left rest : List Token) (last : Option Position)
+    (listing : Listing) → SoFar (map_at_level base limits 1) all left last listing
+    → after_end_array left ≡ Some rest → read_key rest ≡ Some (None, []) → Lists base limits all listing
+all_lists base limits all left rest last listing so_far closes ends = (
   so_far.done ++ [],
-  so_far.texts [] refl,
+  so_far.reads [] (rest, closes, ends),
   so_far.lists [] ∙ nothing_left (map_at_level base limits 1) so_far.k last listing,
 )
 
 -- ---- the whole map
 
 -- a text whose members besides the sections are those of an index map
-pub reads_as : (base : Parts) (limits : Allowed) (text sections : List ℕ) (tree : Data)
-    (file : Option (List ℕ))
-    (listing : Listing) (m : ReadMap)
+pub reads_as : (base : Parts) (limits : Allowed) (text : List ℕ) (sections : List Token) (tree : Data)
+    (file : Option (List ℕ)) (listing : Listing) (m : ReadMap)
     → ((ds : List Data) → AreSections sections ds → read text ≡ Some (with_sections ds tree))
     → ((ds : List Data) → shape_of (with_sections ds tree)
     ≡ Ok (index (record { file = file; sections = ds })))

@@ -16,71 +16,70 @@ use crate::map::SourceMap;
 use crate::sections::with_section;
 use crate::source::Base;
 use crate::text::after_prefix;
+use json::{Reader, Scratch};
 use smap_mappings::Position;
-use smap_sections::{cut_sections, next_section};
+use smap_sections::{cut_sections, ends_map, next_section};
 use smap_shape::file_beside_sections;
 use std::alloc::{AllocError, Global};
 
-/// What a section of an index map is read to: its own offset, what is listed once it is added, and what is
-/// left of the text, which is none after the last section.
-type Read<'t> = (Position, Listing, Option<&'t [u8]>);
+/// What a section of an index map is read to: its own offset, and what is listed once it is added.
+type Read = (Position, Listing);
 
-/// The first section of a text, added to what is listed before it; none if the text can't be cut after it, or
-/// if it isn't read or has a fault. `last` is the own offset of the previous section, and `room` is for the
-/// section's text.
-fn with_text<'t>(
+/// The next section of a map, added to what is listed before it; none if it isn't read or has a fault. `last`
+/// is the own offset of the previous section.
+fn with_next(
     alloc: Global,
-    room: &mut Vec<u8>,
     before: Listing,
     last: Option<Position>,
-    text: &'t [u8],
+    sections: &mut Reader<'_>,
     base: &Base,
     limits: Limits,
-) -> Result<Option<Read<'t>>, AllocError>
+) -> Result<Option<Read>, AllocError>
     requires fits { ListingFits base.now limits (listing_of before) }
     ensures reads { IfOk result (λ o. IfSome o (λ r.
-        AddsSection base.now limits text.now last (listing_of before) r.0 (listing_of r.1) r.2)) }
+        AddsSection base.now limits sections.old last (listing_of before) r.0 (listing_of r.1) sections.new)) }
     ensures fits { IfOk result (λ o. IfSome o (λ r. ListingFits base.now limits (listing_of r.1))) }
-    ensures shorter { IfOk result (λ o. IfSome o (λ r.
-        IfSome r.2 (λ rest. length rest.now < length text.now))) }
+    ensures shorter { IfOk result (λ o. IfSome o (λ _. length sections.new < length sections.old)) }
 {
     let start = Position { line: 0, column: 0 };
-    let Some((tree, left)) = next_section(alloc, room, text)? else {
+    let Some(tree) = next_section(alloc, sections)? else {
         return Ok(None);
     };
     match with_section(alloc, before, last, &tree, base, limits, start, 1) {
-        Ok((own, now)) => Ok(Some((own, now, left))),
+        Ok(read) => Ok(Some(read)),
         Err(ReadError::Refused(_)) => Ok(None),
         Err(ReadError::Memory) => Err(AllocError),
     }
 }
 
-/// What the sections of a text list; none if the text can't be cut at them, or if one isn't read or has a
-/// fault.
-fn listed_texts(
+/// What the sections of a map list; none if one isn't read or has a fault, or if the map doesn't end after
+/// them.
+fn sections_listed(
     alloc: Global,
-    text: &[u8],
+    sections: &mut Reader<'_>,
     base: &Base,
     limits: Limits,
 ) -> Result<Option<Listing>, AllocError>
-    ensures reads { IfOk result (λ o. IfSome o (λ g. Lists base.now limits text.now (listing_of g))) }
+    ensures reads { IfOk result (λ o. IfSome o (λ g.
+        Lists base.now limits sections.old (listing_of g))) }
     ensures fits { IfOk result (λ o. IfSome o (λ g. ListingFits base.now limits (listing_of g))) }
 {
-    let mut room = Vec::new(alloc);
     let mut listed = Listing::new(alloc);
     let mut last = None;
-    let mut left = Some(text);
-    'sections: while let Some(text) = left {
-        match with_text(alloc, &mut room, listed, last, text, base, limits)? {
-            Some((own, now, after)) => {
+    'sections: while !sections.take_end_array() {
+        match with_next(alloc, listed, last, sections, base, limits)? {
+            Some((own, now)) => {
                 last = Some(own);
                 listed = now;
-                left = after;
             }
             None => return Ok(None),
         }
     }
-    Ok(Some(listed))
+    if ends_map(sections) {
+        Ok(Some(listed))
+    } else {
+        Ok(None)
+    }
 }
 
 /// The map that a JSON text is, if it is an index map that can be read section by section, and has no fault.
@@ -94,16 +93,15 @@ fn text_map(
     ensures fits { IfOk result (λ o. IfSome o (λ m. Fits base.now limits (record_of m))) }
     ensures listing_fits { IfOk result (λ o. IfSome o (λ m. ListingFits base.now limits m.listing)) }
 {
-    let Some((tree, sections)) = cut_sections(alloc, text)? else {
+    let mut scratch = Scratch::new(alloc);
+    let Some((tree, sections)) = cut_sections(alloc, text, &mut scratch)? else {
         return Ok(None);
     };
     let Some(file) = file_beside_sections(&tree) else {
         return Ok(None);
     };
-    let Ok(_) = str::from_utf8(text) else {
-        return Ok(None);
-    };
-    let Some(listed) = listed_texts(alloc, sections, base, limits)? else {
+    let mut sections = sections;
+    let Some(listed) = sections_listed(alloc, &mut sections, base, limits)? else {
         return Ok(None);
     };
     let file = copied(alloc, file)?;

@@ -1,12 +1,2 @@
-mod Lexemes
-mod Words
-mod Apart
-mod Closed
-mod Placed
-mod Places
-mod Whole
-mod Elements
-mod Member
-mod CutLemmas
-mod NameLemmas
+mod ValueLemmas
 mod SectionLemmas

@@ -1,79 +1,105 @@
--- The sections of a text, put together from the first one and those after it, and the whole text from its
--- parts.
-use Rattle.std.proofs.Common.{◌≡◌, ℕ, suc, ◌+◌, ◌<◌, true, List, [], ◌∷◌, ◌++◌, length, take, drop, get_or}
-use Rattle.std.proofs.Common.{Some, codes, refl, sym, ap, ◌∙◌, arith, append_assoc, take-append-drop}
-use Rattle.std.proofs.Math.Seq.{drop-cons}
-use Rattle.std.proofs.lemmas.Bool.{false≢true}
-use Rattle.json.specs.Token.{string, begin_array, end_object}
-use Rattle.json.specs.Lex.{Mode, between, in_word, in_string, in_escape, lex, token, colon, class}
-use Rattle.serde_json.specs.Data.{Data}
-use Rattle.serde_json.specs.Read.{read}
-use Rattle.smap_shape.specs.Beside.{with_sections}
-use Rattle.smap_sections.specs.Cuts.{next, mode_after, is_outside}
-use Rattle.smap_sections.specs.Elements.{with_commas, in_two_arrays}
-use Rattle.smap_sections.specs.Sections.{AreSections, IsCut}
-use Rattle.smap_sections.specs.ObjectFront.{IsFront}
-use Rattle.smap_sections.proofs.Member.{member_apart}
+-- The members of an object, of which the last one is `sections`, taken one after another.
+use Rattle.std.proofs.Common.{◌≡◌, ℕ, ◌-◌, ◌<◌, ◌≤◌, List, [], ◌∷◌, length, None, Some, refl, ap, ◌∙◌, arith}
+use Rattle.json.specs.Token.{Token}
+use Rattle.json.specs.Lex.{tokens}
+use Rattle.json.specs.Json as json
+use Rattle.json.specs.Json.{value, items, members, parse_map, read_key}
+use Rattle.json.proofs.Grammar.{items_end, items_more, members_end, members_more}
+use Rattle.json.proofs.Grammar.{value-begin_array, value-begin_object}
+use Rattle.json.proofs.Grammar.{after_end_array-shorter, read_key-shorter}
+use Rattle.serde_json.specs.Data.{Data, Members, no_members, array, object, put}
+use Rattle.serde_json.specs.Read.{of_items, of_members, read}
+use Rattle.serde_json.specs.View.{items_of}
+use Rattle.smap_sections.specs.Sections.{Reads, AreSections}
+use Rattle.smap_sections.specs.ObjectFront.{AreMembers}
+use Rattle.smap_sections.proofs.ValueLemmas.{no_end}
 
--- a text, split at one of its bytes
-pub split_at : (text : List ℕ) (i x : ℕ) → i < length text → get_or text i 0 ≡ x
-    → text ≡ take i text ++ x ∷ drop (i + 1) text
-split_at text i x lt is =
-    let after : suc i ≡ i + 1 = omega arith in
-    sym (take-append-drop i text) ∙ ap (λ l. take i text ++ l) (drop-cons text i 0 lt
-    ∙ ap (λ y. y ∷ drop (suc i) text) is ∙ ap (λ n. x ∷ drop n text) after)
+-- sections are the items of their array
+record Listed (n : ℕ) (ts : List Token) (ds : List Data) : Type 0 where
+  js : json.Items
+  rest : List Token
+  taken : items (value 125) n ts ≡ Some (js, rest)
+  same : of_items js ≡ Some (items_of ds)
+  ends : read_key rest ≡ Some (None, [])
+  shorter : length rest < length ts
 
-pub at_comma : (m : Mode) (x : ℕ) → is_outside m ≡ true → x ≡ 44 → next m (class x) ≡ between
-at_comma m x outside is = ap (λ y. next m (class y)) is ∙ by m outside
-  where
-    by : (m : Mode) → is_outside m ≡ true → next m (class 44) ≡ between
-    by between h = refl
-    by in_word h = refl
-    by in_string h = absurd (false≢true h)
-    by in_escape h = absurd (false≢true h)
+listed : (n : ℕ) (ts : List Token) (ds : List Data) → length ts ≤ n → AreSections ts ds → Listed n ts ds
+listed n ts [] le are = record {
+  js = json.no_items;
+  rest = are.0;
+  taken = items_end (value 125) n ts are.0 le are.1;
+  same = refl;
+  ends = are.2;
+  shorter = after_end_array-shorter ts are.0 are.1;
+}
+listed n ts (d ∷ ds) le are =
+    let rest = are.0 in
+    let less = are.1 in
+    let reads = are.2 in
+    let more = listed (n - 1) rest ds (omega (arith, le, less)) are.3 in
+    let lesser = more.shorter in
+    record {
+      js = json.item reads.0 more.js;
+      rest = more.rest;
+      taken = items_more (value 125) n ts rest reads.0 (omega (arith, le, less))
+          (no_end 125 ts rest reads.0 reads.1) reads.1 ∙ ap (parse_map (json.item reads.0)) more.taken;
+      same = rw (reads.2, more.same) refl;
+      ends = more.ends;
+      shorter = omega (arith, less, lesser);
+    }
 
-one_more : (p : List ℕ) (ps : List (List ℕ)) (l : List ℕ) → (ps ≡ [] → ⊥)
-    → p ++ 44 ∷ (with_commas ps ++ l) ≡ with_commas (p ∷ ps) ++ l
-one_more p [] l some = absurd (some refl)
-one_more p (q ∷ ps) l some = sym (append_assoc p (44 ∷ with_commas (q ∷ ps)) l)
+-- Members of an object were taken and put together; what is left are the others.
+pub record SoFar (all left : List Token) (found : Members) : Type 0 where
+  pub n : ℕ
+  pub enough : length left ≤ n
+  pub then : (js : json.Members) (ms : Members) → members (value 126) n left ≡ Some (js, [])
+      → of_members js found ≡ Some ms → AreMembers all ms
 
-module _ (text : List ℕ) (i : ℕ) (d : Data) (within : i < length text)
-    (outside : is_outside (mode_after between (take i text)) ≡ true)
-    (reads : read (91 ∷ 91 ∷ (take i text ++ 93 ∷ 93 ∷ [])) ≡ Some (in_two_arrays d)) where
-  -- a section before a comma, and those after it
-  pub more_sections : get_or text i 0 ≡ 44 → (ds : List Data) → AreSections (drop (i + 1) text) ds
-      → AreSections text (d ∷ ds)
-  more_sections is ds rest = record {
-    pieces = take i text ∷ rest.pieces;
-    end = rest.end;
-    some = λ e. cc;
-    cut = split_at text i 44 within is ∙ ap (λ l. take i text ++ 44 ∷ l) rest.cut
-        ∙ one_more (take i text) rest.pieces (93 ∷ rest.end) rest.some;
-    closed = rest.closed;
-    reads = ((outside, reads), rest.reads);
-  }
+-- before the first member
+pub none_yet : (all : List Token) (found : Members) → found ≡ no_members → SoFar all all found
+none_yet all found none = record {
+  n = length all;
+  enough = omega arith;
+  then = λ js ms taken same. (js, taken, rw none at same);
+}
 
-  -- the last section, before the bracket
-  pub last_section : get_or text i 0 ≡ 93 → lex between (drop (i + 1) text) ≡ token end_object ∷ []
-      → AreSections text (d ∷ [])
-  last_section is closes = record {
-    pieces = take i text ∷ [];
-    end = drop (i + 1) text;
-    some = λ e. cc;
-    cut = split_at text i 93 within is;
-    closed = closes;
-    reads = ((outside, reads), tt);
-  }
+-- one member more
+pub one_more : (all left after rest : List Token) (found : Members) (k : List ℕ) (d : Data)
+    → SoFar all left found → read_key left ≡ Some (Some k, after) → Reads 126 after d rest
+    → length rest < length after → SoFar all rest (put k d found)
+one_more all left after rest found k d so_far key reads shorter =
+    let first = read_key-shorter left (Some k) after key in
+    let enough = so_far.enough in
+    record {
+      n = so_far.n - 1;
+      enough = omega (arith, enough, first, shorter);
+      then = λ js ms taken same. so_far.then (json.member k reads.0 js) ms
+          (members_more (value 126) so_far.n k left after rest reads.0 (omega (arith, enough, first)) key reads.1
+          ∙ ap (parse_map (json.member k reads.0)) taken) (rw reads.2 same);
+    }
 
--- the whole text, from its front and its sections
-pub whole_reads : (text front sections : List ℕ) (d : Data) (ds : List Data) → IsCut text front sections
-    → IsFront front d → AreSections sections ds → read text ≡ Some (with_sections ds d)
-whole_reads text front sections d ds cut object rest =
-    let named : lex between cut.tail ≡ token (string (codes "sections")) ∷ colon ∷ token begin_array
-    ∷ lex between (with_commas rest.pieces ++ 93 ∷ rest.end) = cut.named
-    ∙ ap (λ l. token (string (codes "sections")) ∷ colon ∷ token begin_array ∷ lex between l) rest.cut in
-    ap read cut.parts
-    ∙ member_apart front cut.tail rest.end (codes "sections") rest.pieces object.members ds cut.outside
-    object.reads
-    object.some named rest.closed rest.reads
-    ∙ ap (λ d. Some (with_sections ds d)) (sym object.same)
+-- the sections are the last member
+pub sections_last : (all left rest : List Token) (found : Members) (k : List ℕ) (ds : List Data)
+    → SoFar all left found → read_key left ≡ Some (Some k, Token.begin_array ∷ rest) → AreSections rest ds
+    → AreMembers all (put k (array (items_of ds)) found)
+sections_last all left rest found k ds so_far key are =
+    let first = read_key-shorter left (Some k) (Token.begin_array ∷ rest) key in
+    let enough = so_far.enough in
+    let l = listed (length rest) rest ds (omega arith) are in
+    let second = l.shorter in
+    let is : value 126 (Token.begin_array ∷ rest) ≡ Some (json.array l.js, l.rest) =
+    value-begin_array 126 rest (omega arith) ∙ ap (parse_map json.array) l.taken in
+    so_far.then (json.member k (json.array l.js) json.no_members) _
+    (members_more (value 126) so_far.n k left (Token.begin_array ∷ rest) l.rest (json.array l.js)
+    (omega (arith, enough, first)) key is
+    ∙ ap (parse_map (json.member k (json.array l.js))) (members_end (value 126) (so_far.n - 1) l.rest []
+    (omega (arith, enough, first, second)) l.ends))
+    (rw l.same refl)
+
+-- an object's members are the object
+pub whole : (text : List ℕ) (ts : List Token) (ms : Members) → tokens text ≡ Token.begin_object ∷ ts
+    → AreMembers ts ms → read text ≡ Some (object ms)
+whole text ts ms is are =
+    let tree : value 127 (tokens text) ≡ Some (json.object are.0, []) =
+    ap (value 127) is ∙ value-begin_object 127 ts (omega arith) ∙ ap (parse_map json.object) are.1 in
+    rw (tree, are.2) refl

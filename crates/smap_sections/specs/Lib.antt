@@ -1,4 +1,2 @@
-pub mod Cuts
-pub mod Elements
 pub mod Sections
 pub mod ObjectFront

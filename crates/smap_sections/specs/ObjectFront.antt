@@ -1,11 +1,17 @@
--- For private contracts: the members in front of the last one.
-use Rattle.std.specs.Prelude.{◌≡◌, ℕ, List, [], ◌∷◌, ◌++◌, Some}
-use Rattle.serde_json.specs.Data.{Data, Members, object, no_members}
-use Rattle.serde_json.specs.Read.{read}
+-- For private contracts: the members of an object, of which the last one is `sections`.
+use Rattle.std.specs.Prelude.{◌≡◌, List, [], length, codes, Some}
+use Rattle.json.specs.Token.{Token}
+use Rattle.json.specs.Json as json
+use Rattle.json.specs.Json.{members, value}
+use Rattle.serde_json.specs.Data.{Data, Members, no_members, array, put}
+use Rattle.serde_json.specs.Read.{of_members}
+use Rattle.serde_json.specs.View.{items_of}
 
--- The front of an object, closed by a brace, reads as this object with at least one member.
-pub record IsFront (front : List ℕ) (d : Data) : Type 0 where
-  pub members : Members
-  pub same : d ≡ object members
-  pub some : members ≡ no_members → ⊥
-  pub reads : read (front ++ 125 ∷ []) ≡ Some (object members)
+-- The tokens are those of an object's members, after its brace, up to the end of the text; they read as these.
+abbrev pub AreMembers : List Token → Members → Type 0
+AreMembers ts ms = (js : json.Members) × (members (value 126) (length ts) ts ≡ Some (js, []))
+    × (of_members js no_members ≡ Some ms)
+
+-- the members and then these sections
+abbrev pub with_sections_last : List Data → Members → Members
+with_sections_last ds ms = put (codes "sections") (array (items_of ds)) ms

@@ -1,8 +1,9 @@
 //! Index maps that are read section by section, beside the same maps read as one JSON tree: both ways must
 //! give the same. `from_slice` tries the first way, and `from_slice_as_written` goes the second alone.
 use super::{Row, ample, is_wanted, refusal, row_of, slice_is_answered, told, usual_base};
+use json::{Reader, Scratch};
 use smap_record::{Base, Limits, ReadError, SourceMap, WrittenSources};
-use smap_sections::{cut_sections, next_section};
+use smap_sections::{cut_sections, ends_map, next_section};
 use smap_testing::rows;
 use std::process::Abort;
 
@@ -32,8 +33,8 @@ a member after the sections
 members before the sections, one of them an object
     | {"version":3,"x_other":{"a":[1,{"sections":[]}]},"file":"o","sections":[{"offset":{"line":0,"column":0},
     "map":{"version":3,"mappings":"A"}}]} | 1
-no section | {"version":3,"sections":[]} | whole
-white space for a section | {"version":3,"sections":[ ]} | whole
+no section | {"version":3,"sections":[]} | 0
+white space for a section | {"version":3,"sections":[ ]} | 0
 a comma after the last section
     | {"version":3,"sections":[{"offset":{"line":0,"column":0},"map":{"version":3,"mappings":"A"}},]} | whole
 two commas
@@ -49,7 +50,7 @@ sections twice, last a number
 sections twice, first a number
     | {"version":3,"sections":1,"sections":[{"offset":{"line":1,"column":0},"map":{"version":3,
     "mappings":"C"}}]}
-    | 1
+    | whole
 the version twice
     | {"version":4,"version":3,"sections":[{"offset":{"line":0,"column":0},"map":{"version":3,
     "mappings":"A"}}]}
@@ -60,7 +61,7 @@ mappings beside the sections
     | {"version":3,"mappings":"A","sections":[{"offset":{"line":0,"column":0},"map":{"version":3,
     "mappings":"A"}}]}
     | 1
-no version | {"sections":[{"offset":{"line":0,"column":0},"map":{"version":3,"mappings":"A"}}]} | whole
+no version | {"sections":[{"offset":{"line":0,"column":0},"map":{"version":3,"mappings":"A"}}]} | 1
 a map in which sections are nested
     | {"version":3,"sections":[{"offset":{"line":0,"column":0},"map":{"version":3,"sections":[
     {"offset":{"line":0,"column":4},"map":{"version":3,"mappings":"A"}},
@@ -75,6 +76,10 @@ a fault in the first section, and then no JSON
     {"offset":{"line":1,"column":0},"map":{"version":3,"mappings":A}}]} | whole
 a word that goes on in quotes | {"version":3,"sections":[tru"e]",1]} | whole
 brackets that don't fit | {"version":3,"sections":[{"a":[1}],2]} | whole
+a number that is too large, before the sections
+    | {"version":3,"x_other":1e999,"sections":[{"offset":{"line":0,"column":0},"map":{"version":3,
+    "mappings":"A"}}]}
+    | whole
 more after the map
     | {"version":3,"sections":[{"offset":{"line":0,"column":0},"map":{"version":3,"mappings":"A"}}]}} | whole
 the map isn't ended
@@ -83,43 +88,36 @@ a string isn't ended
     | {"version":3,"sections":[{"offset":{"line":0,"column":0},"map":{"version":3,"mappings":"A}}]} | whole
 an array, and not a map | [{"version":3},"sections":[1]] | whole"#;
 
-/// What stands after the first section of a text, if that section is read by itself.
-fn after_section<'a>(
+/// How many sections a map has after the bracket that begins them, each read by itself; none if the map
+/// doesn't end after them, or if there are more than `most`.
+fn count_of(
     rt: &(impl Abort + AllocGlobal),
-    room: &mut Vec<u8>,
-    text: &'a [u8],
-) -> Option<Option<&'a [u8]>> {
-    match ample(rt, next_section(rt.alloc(), room, text)) {
-        Some((_, after)) => Some(after),
-        None => None,
-    }
-}
-
-/// How many sections a text has from its first section on, each read by itself.
-fn count_of(rt: &(impl Abort + AllocGlobal), room: &mut Vec<u8>, text: &[u8]) -> Option<usize> {
-    let mut left = text;
-    for before in 0..text.len() {
-        match after_section(rt, room, left)? {
-            Some(after) => left = after,
-            None => return Some(before + 1),
+    sections: &mut Reader<'_>,
+    most: usize,
+) -> Option<usize> {
+    for before in 0..most {
+        if sections.take_end_array() {
+            return if ends_map(sections) {
+                Some(before)
+            } else {
+                None
+            };
+        }
+        if ample(rt, next_section(rt.alloc(), sections)).is_none() {
+            return None;
         }
     }
     None
 }
 
-/// A map from its first section on, if it is cut there.
-fn sections_of<'a>(rt: &(impl Abort + AllocGlobal), text: &'a [u8]) -> Option<&'a [u8]> {
-    match ample(rt, cut_sections(rt.alloc(), text)) {
-        Some((_, sections)) => Some(sections),
-        None => None,
-    }
-}
-
 /// How many sections a map has, each read by itself.
 fn whole_count(rt: &(impl Abort + AllocGlobal), text: &[u8]) -> Option<usize> {
-    let mut room = Vec::new(rt.alloc());
-    match sections_of(rt, text) {
-        Some(sections) => count_of(rt, &mut room, sections),
+    let mut scratch = Scratch::new(rt.alloc());
+    match ample(rt, cut_sections(rt.alloc(), text, &mut scratch)) {
+        Some((_, sections)) => {
+            let mut sections = sections;
+            count_of(rt, &mut sections, text.len())
+        }
         None => None,
     }
 }

@@ -10,10 +10,11 @@ use Rattle.smap_record.proofs.section_texts.text_map.Goals as goal
 
 pub returns-clause-reads : goal.returns-clause-reads
 returns-clause-reads c =
+    let cut = rw c.in-Some.is at c.in_ok-tree.ensures in
     let listed = rw c.in-Some-2.is at c.in_ok-listed.ensures in
-    reads_as c.args.base.now c.args.limits c.args.text.now c.in-Some.sections.now (view c.in-Some.tree)
+    reads_as c.args.base.now c.args.limits c.args.text.now c.in-Some.sections (view c.in-Some.tree)
     (option_copied c.in-Some-file_beside_sections.file) (listing_of c.in-Some-2.listed) c.new.result
-    (rw c.in-Some.is at c.in_ok-tree.ensures) c.in-Some-file_beside_sections.ensures c.in-Ok.ensures.cases.1
+    cut.reads c.in-Some-file_beside_sections.ensures cut.utf8
     listed.reads
     (c.new.ensures ∙ ap with_file c.in_ok-file.ensures)
   where
