@@ -1,92 +1,75 @@
 -- What is a frame of a line is read as that frame.
-use Rattle.std.proofs.Common.{◌≡◌, ◌≢◌, ◌∙◌, ◌⊎◌, inl, inr, ℕ, suc, ◌+◌, ◌-◌, ◌<◌, ◌==◌, true, false}
-use Rattle.std.proofs.Common.{not, List, [], ◌∷◌, ◌++◌, length, take, drop, Some, refl, sym}
-use Rattle.std.proofs.Common.{ap, arith, append_assoc, append-nil, slice_range, slice_index, nat_eq}
-use Rattle.std.proofs.Common.{nat_lt, length-take, length-append, codes}
-use Rattle.std.specs.List.{starts_with, ends_with, after_last, prefix_len, position_or_len, list_all}
+use Rattle.std.proofs.Common.{◌≡◌, ◌≢◌, ◌∙◌, ◌⊎◌, inl, inr, ℕ, suc, ◌+◌, ◌-◌, ◌==◌, true, false, not, List}
+use Rattle.std.proofs.Common.{[], ◌∷◌, ◌++◌, length, take, drop, Some, refl, sym, ap, arith, append_assoc}
+use Rattle.std.proofs.Common.{append-nil, slice_index, nat_eq, nat_lt, length-take, length-append, codes}
+use Rattle.std.specs.List.{starts_with, after_last, prefix_len, position_or_len, list_all}
 use Rattle.std.specs.Str.Lines.{strip_carriage_return}
-use Rattle.std.proofs.Math.Seq.{take-append_seam, get_or-append_seam}
+use Rattle.std.proofs.Math.Seq.{get_or-append_seam}
 use Rattle.std.proofs.lemmas.Bool.{false_from_ne_true, lt-ltb, ne_eqb}
 use Rattle.std.proofs.lemmas.List.{take-append-drop}
-use Rattle.std.proofs.lemmas.Slice.Eq.{ends_is}
-use Rattle.std.proofs.lemmas.Bool.Decides.{Decides-eqb}
 use Rattle.smap_frames.specs.Frame.{FrameParts, AreSpaces, IsLineEnd, InParentheses, Alone, AfterAsync}
 use Rattle.smap_frames.specs.Frame.{BeginsWithAt, IsV8, IsFirefox, IsFrame, lacks, position_text}
-use Rattle.smap_frames.specs.Reading.{body_frame, frame_of, framed, in_parentheses, is_space, is_url, v8_frame}
-use Rattle.smap_frames.proofs.CutLemmas.{begins, begins_with, middle_part}
+use Rattle.smap_frames.specs.Reading.{body_frame, frame_of, framed, in_parentheses, is_space, is_url}
+use Rattle.smap_frames.specs.Reading.{v8_frame}
+use Rattle.smap_frames.proofs.CutLemmas.{begins, parts_at}
 use Rattle.smap_frames.proofs.ReadingLemmas.{after_mark, framed-position_text}
 use Rattle.smap_frames.proofs.BodyLemmas.{at_found, front_all, front_passes}
 use Rattle.smap_frames.proofs.TextLemmas.{EndsIn, ends_not, lacks_all, longer, no_async, position_text_ends}
 use Rattle.smap_frames.proofs.TextLemmas.{position_text_lacks}
 
--- ---- V8, step by step
+-- ---- V8, behind `at `
 
-v8_closed : (line : List ℕ) (start end : ℕ) → ends_with nat_eq (slice_range line start end) (codes ")") ≡ true
-    → v8_frame line start end ≡ in_parentheses line start (end - 1)
-v8_closed line start end h = rw h refl
-
-opens : (line last : List ℕ) (start end : ℕ) → after_last is_space (slice_range line start end) ≡ last
-    → starts_with nat_eq last (codes "(") ≡ true
-    → nat_lt (length last) (length (slice_range line start end)) ≡ true
-    → in_parentheses line start end ≡ framed line (end - length last + 1) end
-opens line last start end l h k = rw (l, h, k) refl
-
--- the middle of a line, by its places
-middle : (line a t b : List ℕ) (start end : ℕ) → line ≡ a ++ (t ++ b) → start ≡ length a
-    → end ≡ length a + length t → slice_range line start end ≡ t
-middle line a t b start end whole s e = rw (whole, s, e) (middle_part a t b)
-
--- What follows `at `, without the lead and what closes it, is read as a position.
-pub v8_alone : (line front pos last : List ℕ) (x : ℕ) → line ≡ front ++ (pos ++ last) → EndsIn pos x → x ≢ 41
+in_parens : (before inner name pos after : List ℕ) → inner ≡ name ++ 32 ∷ (40 ∷ pos)
     → list_all (λ b. not (b == 32)) pos ≡ true
-    → v8_frame line (length front) (length front + length pos)
-    ≡ framed line (length front) (length front + length pos)
-v8_alone line front pos last x whole ends ne free =
-    let text = middle line front pos last (length front) (length front + length pos) whole refl refl in
-    rw (text, ends_not pos x 41 ends ne, no_async pos free) refl
+    → in_parentheses before inner after ≡ framed (before ++ (name ++ codes " (")) pos after
+in_parens before inner name pos after e free =
+    let last : after_last is_space inner ≡ 40 ∷ pos = rw e (after_mark is_space name 32 (40 ∷ pos) free refl) in
+    let len : length inner ≡ length name + suc (suc (length pos)) =
+    ap length e ∙ length-append name (32 ∷ 40 ∷ pos) in
+    let shorter : nat_lt (suc (length pos)) (length inner) ≡ true =
+    lt-ltb (suc (length pos)) (length inner) (omega (arith, len)) in
+    let parts = parts_at inner (name ++ codes " (") pos (length inner - suc (length pos) + 1)
+    (e ∙ sym (append_assoc name (codes " (") pos)) (omega (arith, len, length-append name (codes " ("))) in
+    rw (last, shorter, parts.0, parts.1) refl
 
-pub v8_async : (line front pos last : List ℕ) (x : ℕ) → line ≡ front ++ ((codes "async " ++ pos) ++ last)
-    → EndsIn pos x → x ≢ 41
-    → v8_frame line (length front) (length front + length (codes "async " ++ pos))
-    ≡ framed line (length front + 6) (length front + length (codes "async " ++ pos))
-v8_async line front pos last x whole ends ne =
-    let text = middle line front (codes "async " ++ pos) last (length front)
-    (length front + length (codes "async " ++ pos)) whole refl refl in
-    let closed = ends_not (codes "async " ++ pos) x 41 (longer (codes "async ") pos x ends) ne in
-    rw (text, closed) refl
+closed : (before text inner after : List ℕ) → text ≡ inner ++ codes ")"
+    → v8_frame before text after ≡ in_parentheses before inner (codes ")" ++ after)
+closed before text inner after e =
+    let parts = parts_at text inner (codes ")") (length text - 1) e
+    (omega (arith, ap length e, length-append inner (codes ")"))) in
+    rw (parts.0, parts.1) refl
 
-pub v8_parens : (line front name pos last : List ℕ)
-    → line ≡ front ++ ((name ++ 32 ∷ (40 ∷ pos)) ++ (41 ∷ last)) → list_all (λ b. not (b == 32)) pos ≡ true
-    → (start end : ℕ) → start ≡ length front → end ≡ length front + length (name ++ 32 ∷ (40 ∷ pos)) + 1
-    → v8_frame line start end ≡ framed line (length front + (length name + 2))
-    (length front + (length name + 2) + length pos)
-v8_parens line front name pos last whole free start end s e =
-    let inner = name ++ 32 ∷ (40 ∷ pos) in
-    let whole' : line ≡ front ++ ((inner ++ 41 ∷ []) ++ last) =
-    rw (append_assoc inner (41 ∷ []) last) whole in
-    let closed_len : length (inner ++ 41 ∷ []) ≡ length inner + 1 = length-append inner (41 ∷ []) in
-    let text : slice_range line start end ≡ inner ++ 41 ∷ [] =
-    middle line front (inner ++ 41 ∷ []) last start end whole' s (omega (arith, e, closed_len)) in
-    let closed : ends_with nat_eq (slice_range line start end) (codes ")") ≡ true =
-    (ends_is Decides-eqb (slice_range line start end) (codes ")")
-    (ends_with nat_eq (slice_range line start end) (codes ")")) refl).1 inner text in
-    let end' : end - 1 ≡ length front + length inner = omega (arith, e) in
-    let inner_is : slice_range line start (end - 1) ≡ inner =
-    middle line front inner (41 ∷ last) start (end - 1) whole s end' in
-    let last_is : after_last is_space (slice_range line start (end - 1)) ≡ 40 ∷ pos =
-    rw inner_is (after_mark is_space name 32 (40 ∷ pos) free refl) in
-    let inner_len : length inner ≡ length name + suc (suc (length pos)) =
-    length-append name (32 ∷ 40 ∷ pos) in
-    let here_len : length (slice_range line start (end - 1)) ≡ length inner = ap length inner_is in
-    let shorter : suc (length pos) < length (slice_range line start (end - 1)) =
-    omega (arith, here_len, inner_len) in
-    let start' : end - 1 - suc (length pos) + 1 ≡ length front + (length name + 2) =
-    omega (arith, end', inner_len) in
-    let end'' : end - 1 ≡ length front + (length name + 2) + length pos = omega (arith, end', inner_len) in
-    v8_closed line start end closed
-    ∙ opens line (40 ∷ pos) start (end - 1) last_is refl
-    (lt-ltb (suc (length pos)) (length (slice_range line start (end - 1))) shorter)
-    ∙ ap (λ n. framed line n (end - 1)) start' ∙ rw end'' refl
+-- In each form the position is what is between the lead and what closes it.
+leads : (before pos after lead close : List ℕ) (x : ℕ) → EndsIn pos x → x ≢ 41
+    → list_all (λ b. not (b == 32)) pos ≡ true
+    → InParentheses lead close ⊎ (Alone lead close ⊎ AfterAsync lead close)
+    → v8_frame before (lead ++ (pos ++ close)) after ≡ framed (before ++ lead) pos (close ++ after)
+leads before pos after lead close x ends ne free (inl (name, e, d)) =
+    rw (e, d) (closed before ((name ++ codes " (") ++ (pos ++ codes ")")) ((name ++ codes " (") ++ pos) after
+    (sym (append_assoc (name ++ codes " (") pos (codes ")")))
+    ∙ in_parens before ((name ++ codes " (") ++ pos) name pos (codes ")" ++ after)
+    (append_assoc name (codes " (") pos) free)
+leads before pos after lead close x ends ne free (inr (inl (e, d))) =
+    rw (e, d, append-nil pos, append-nil before, ends_not pos x 41 ends ne, no_async pos free) refl
+leads before pos after lead close x ends ne free (inr (inr (e, d))) =
+    rw (e, d, append-nil pos, ends_not (codes "async " ++ pos) x 41 (longer (codes "async ") pos x ends) ne) refl
+
+-- What follows `at ` doesn't end in a carriage return.
+last_of : (pos lead close : List ℕ) (x : ℕ) → EndsIn pos x → x ≢ 13
+    → InParentheses lead close ⊎ (Alone lead close ⊎ AfterAsync lead close)
+    → (y : ℕ) × (y ≢ 13) × EndsIn (lead ++ (pos ++ close)) y
+last_of pos lead close x ends ne (inl (name, e, d)) = (
+  41,
+  (λ e. omega (arith, e)),
+  record {
+    front = lead ++ pos;
+    whole = rw d (sym (append_assoc lead pos (codes ")")));
+  },
+)
+last_of pos lead close x ends ne (inr (inl (e, d))) =
+    (x, ne, rw (d, append-nil pos) (longer lead pos x ends))
+last_of pos lead close x ends ne (inr (inr (e, d))) =
+    (x, ne, rw (d, append-nil pos) (longer lead pos x ends))
 
 -- ---- the body of a line
 
@@ -108,101 +91,24 @@ body_len line body last x whole ends ne (inr e) =
     let len : length line ≡ length body + 1 = ap length same ∙ length-append body (13 ∷ []) in
     rw is (omega (arith, len, length-take (length line - 1) line))
 
-one_line_frame : (line : List ℕ) (n : ℕ) → lacks 10 line ≡ true → length (strip_carriage_return line) ≡ n
-    → frame_of line ≡ body_frame line n
+-- A line that is this body and this end is read in these parts.
+frame_of_parts : (line body last : List ℕ) (x : ℕ) → lacks 10 line ≡ true → line ≡ body ++ last → EndsIn body x
+    → x ≢ 13 → IsLineEnd last → frame_of line ≡ body_frame body last
 unfolding frame_of
-one_line_frame line n h e = rw (h, e) refl
+frame_of_parts line body last x one whole ends ne line_end =
+    let parts = parts_at line body last (length (strip_carriage_return line)) whole
+    (body_len line body last x whole ends ne line_end) in
+    rw (one, parts.0, parts.1) refl
 
-to_v8 : (line spaces rest last : List ℕ) (x : ℕ) → AreSpaces spaces → IsLineEnd last → EndsIn rest x → x ≢ 13
-    → lacks 10 line ≡ true
-    → line ≡ (spaces ++ codes "at ") ++ (rest ++ last)
-    → frame_of line ≡ v8_frame line (length (spaces ++ codes "at "))
-    (length (spaces ++ codes "at ") + length rest)
-to_v8 line spaces rest last x are line_end ends ne one whole =
-    let front = spaces ++ codes "at " in
-    let body = front ++ rest in
-    let whole' : line ≡ body ++ last = whole ∙ sym (append_assoc front rest last) in
-    let len : length (strip_carriage_return line) ≡ length front + length rest =
-    body_len line body last x whole' (longer front rest x ends) ne line_end ∙ length-append front rest in
-    let taken : take (length front + length rest) line ≡ body =
-    rw (← length-append front rest, whole') (take-append_seam body last) in
+body_of_v8 : (spaces rest last : List ℕ) → AreSpaces spaces
+    → body_frame (spaces ++ codes "at " ++ rest) last ≡ v8_frame (spaces ++ codes "at ") rest last
+body_of_v8 spaces rest last are =
     let found = at_found spaces rest are in
-    let spaces_len : prefix_len is_space (take (length front + length rest) line) ≡ length spaces =
-    rw taken found.0 in
-    let starts : starts_with nat_eq (drop (length spaces) (take (length front + length rest) line))
-    (codes "at ") ≡ true = rw (taken, found.1) (begins_with (codes "at ") rest) in
-    let place : length spaces + 3 ≡ length front = sym (length-append spaces (codes "at ")) in
-    one_line_frame line (length front + length rest) one len ∙ rw (spaces_len, starts, place) refl
+    let parts = parts_at (spaces ++ codes "at " ++ rest) (spaces ++ codes "at ") rest (length spaces + 3) refl
+    (sym (length-append spaces (codes "at "))) in
+    rw (found.0, found.1, parts.0, parts.1) refl
 
--- ---- V8, from the line
-
--- The part of the line that is read as a position.
-abbrev LooksAt : List ℕ → List ℕ → List ℕ → Type 0
-LooksAt line before pos = frame_of line ≡ framed line (length before) (length before + length pos)
-
-looks_alone : (line spaces pos last : List ℕ) (x : ℕ) → AreSpaces spaces → IsLineEnd last → EndsIn pos x
-    → x ≢ 13 → x ≢ 41 → list_all (λ b. not (b == 32)) pos ≡ true
-    → lacks 10 line ≡ true → line ≡ (spaces ++ codes "at " ++ []) ++ (pos ++ ([] ++ last))
-    → LooksAt line (spaces ++ codes "at " ++ []) pos
-looks_alone line spaces pos last x are line_end ends no_cr no_paren free one whole =
-    let front = spaces ++ codes "at " in
-    let none : front ++ [] ≡ front = append-nil front in
-    let whole' : line ≡ front ++ (pos ++ last) = whole ∙ rw none refl in
-    to_v8 line spaces pos last x are line_end ends no_cr one whole'
-    ∙ v8_alone line front pos last x whole' ends no_paren free ∙ rw none refl
-
-looks_async : (line spaces pos last : List ℕ) (x : ℕ) → AreSpaces spaces → IsLineEnd last → EndsIn pos x
-    → x ≢ 13 → x ≢ 41
-    → lacks 10 line ≡ true → line ≡ (spaces ++ codes "at " ++ codes "async ") ++ (pos ++ ([] ++ last))
-    → LooksAt line (spaces ++ codes "at " ++ codes "async ") pos
-looks_async line spaces pos last x are line_end ends no_cr no_paren one whole =
-    let front = spaces ++ codes "at " in
-    let rest = codes "async " ++ pos in
-    let whole' : line ≡ front ++ (rest ++ last) = whole ∙ append_assoc front (codes "async ") (pos ++ last) in
-    let start : length front + 6 ≡ length (front ++ codes "async ") =
-    sym (length-append front (codes "async ")) in
-    let rest_len : length rest ≡ 6 + length pos = length-append (codes "async ") pos in
-    let end : length front + length rest ≡ length (front ++ codes "async ") + length pos =
-    omega (arith, start, rest_len) in
-    to_v8 line spaces rest last x are line_end (longer (codes "async ") pos x ends) no_cr one whole'
-    ∙ v8_async line front pos last x whole' ends no_paren
-    ∙ rw (start, end) refl
-
-looks_parens : (line spaces name pos last : List ℕ) → AreSpaces spaces → IsLineEnd last
-    → list_all (λ b. not (b == 32)) pos ≡ true
-    → lacks 10 line ≡ true → line ≡ (spaces ++ codes "at " ++ (name ++ codes " ("))
-    ++ (pos ++ (codes ")" ++ last)) → LooksAt line (spaces ++ codes "at " ++ (name ++ codes " (")) pos
-looks_parens line spaces name pos last are line_end free one whole =
-    let front = spaces ++ codes "at " in
-    let lead = name ++ codes " (" in
-    let inner = name ++ 32 ∷ (40 ∷ pos) in
-    let whole' : line ≡ front ++ (inner ++ (41 ∷ last)) = whole ∙ simp append_assoc in
-    let rest = inner ++ 41 ∷ [] in
-    let whole'' : line ≡ front ++ (rest ++ last) = rw (append_assoc inner (41 ∷ []) last) whole' in
-    let rest_len : length rest ≡ length inner + 1 = length-append inner (41 ∷ []) in
-    let lead_len : length lead ≡ length name + 2 = length-append name (codes " (") in
-    let before_len : length (front ++ lead) ≡ length front + length lead = length-append front lead in
-    let place : length front + (length name + 2) ≡ length (front ++ lead) =
-    omega (arith, lead_len, before_len) in
-    let ends : EndsIn rest 41 = record { front = inner; whole = refl } in
-    to_v8 line spaces rest last 41 are line_end ends (λ e. omega (arith, e)) one whole''
-    ∙ v8_parens line front name pos last whole' free (length front) (length front + length rest) refl
-    (omega (arith, rest_len))
-    ∙ ap (λ n. framed line n (n + length pos)) place
-
-looks_v8 : (line spaces lead pos close last : List ℕ) (x : ℕ) → AreSpaces spaces
-    → InParentheses lead close ⊎ (Alone lead close ⊎ AfterAsync lead close) → IsLineEnd last
-    → EndsIn pos x → x ≢ 13 → x ≢ 41 → list_all (λ b. not (b == 32)) pos ≡ true → lacks 10 line ≡ true
-    → line ≡ (spaces ++ codes "at " ++ lead) ++ (pos ++ (close ++ last))
-    → LooksAt line (spaces ++ codes "at " ++ lead) pos
-looks_v8 line spaces lead pos close last x are (inl (name, e, d)) line_end ends no_cr no_paren free one =
-    rw (e, d) (looks_parens line spaces name pos last are line_end free one)
-looks_v8 line spaces lead pos close last x are (inr (inl (e, d))) line_end ends no_cr no_paren free one =
-    rw (e, d) (looks_alone line spaces pos last x are line_end ends no_cr no_paren free one)
-looks_v8 line spaces lead pos close last x are (inr (inr (e, d))) line_end ends no_cr no_paren free one =
-    rw (e, d) (looks_async line spaces pos last x are line_end ends no_cr no_paren one)
-
--- ---- Firefox, from the line
+-- ---- Firefox
 
 -- If a line doesn't begin as V8's do, neither does its body.
 no_start : (line body last : List ℕ) → line ≡ body ++ last → (BeginsWithAt line → ⊥)
@@ -226,57 +132,52 @@ no_start line body last whole not_at = false_from_ne_true (starts_with nat_eq (d
               ∙ simp append_assoc;
         }
 
-looks_firefox : (line name pos last : List ℕ) (x : ℕ) → (BeginsWithAt line → ⊥) → lacks 64 name ≡ true
-    → IsLineEnd last → EndsIn pos x → x ≢ 13
-    → lacks 10 line ≡ true → line ≡ (name ++ codes "@") ++ (pos ++ last)
-    → LooksAt line (name ++ codes "@") pos
-looks_firefox line name pos last x not_at lacks_at line_end ends no_cr one whole =
-    let front = name ++ codes "@" in
-    let body = front ++ pos in
-    let whole' : line ≡ body ++ last = whole ∙ sym (append_assoc front pos last) in
-    let end = length front + length pos in
-    let len : length (strip_carriage_return line) ≡ end =
-    body_len line body last x whole' (longer front pos x ends) no_cr line_end ∙ length-append front pos in
-    let taken : take end line ≡ body =
-    rw (← length-append front pos, whole') (take-append_seam body last) in
-    let at : position_or_len (λ b. b == 64) (take end line) ≡ length name =
-    rw (taken, append_assoc name (codes "@") pos)
+body_of_firefox : (name pos last : List ℕ) → lacks 64 name ≡ true
+    → starts_with nat_eq (drop (prefix_len is_space (name ++ codes "@" ++ pos)) (name ++ codes "@" ++ pos))
+    (codes "at ") ≡ false → body_frame (name ++ codes "@" ++ pos) last ≡ framed (name ++ codes "@") pos last
+body_of_firefox name pos last lacks_at other =
+    let body = name ++ codes "@" ++ pos in
+    let at : position_or_len (λ b. b == 64) body ≡ length name = rw (append_assoc name (codes "@") pos)
     (front_passes (λ b. not (b == 64)) name 64 pos (lacks_all 64 name lacks_at) refl) in
-    let front_len : length front ≡ length name + 1 = length-append name (codes "@") in
-    let below : length name < end = omega (arith, front_len) in
-    one_line_frame line end one len
-    ∙ rw (
-      no_start line (take end line) last (rw taken whole') not_at,
-      at,
-      lt-ltb (length name) end below,
-      ← front_len,
-    ) refl
+    let below : nat_lt (length name) (length body) ≡ true = lt-ltb (length name) (length body)
+    (omega (arith, length-append (name ++ codes "@") pos, length-append name (codes "@"))) in
+    let parts = parts_at body (name ++ codes "@") pos (length name + 1) refl
+    (sym (length-append name (codes "@"))) in
+    rw (other, at, below, parts.0, parts.1) refl
 
 -- ---- the frame
 
+regroup : (front lead pos close last : List ℕ) → front ++ lead ++ pos ++ (close ++ last)
+    ≡ front ++ (lead ++ (pos ++ close)) ++ last
+regroup front lead pos close last = simp append_assoc
+
 pub complete : (line : List ℕ) (f : FrameParts) → IsFrame line f → frame_of line ≡ Some f
 complete line f is =
-    let pos = position_text f.url f.line f.column in
     let d = position_text_ends f.url f.line f.column is.column_place in
-    let no_cr : d.0 ≢ 13 = λ e. omega (arith, e, d.1) in
-    let no_paren : d.0 ≢ 41 = λ e. omega (arith, e, d.1) in
-    let free = position_text_lacks f.url f.line f.column is.no_space is.line_place is.column_place in
     let url : is_url f.url ≡ true = rw (lt-ltb 0 (length f.url) is.some_url) is.no_space in
-    let whole : line ≡ f.before ++ (pos ++ f.after) = is.whole ∙ append_assoc f.before pos f.after in
-    looks f.before whole is.form d.0 d.3 no_cr no_paren free
-    ∙ rw is.whole
-    (framed-position_text f.before f.url f.after f.line f.column url is.line_place is.column_place)
+    looks is.form d.0 d.3 (λ e. omega (arith, e, d.1)) (λ e. omega (arith, e, d.1))
+    (position_text_lacks f.url f.line f.column is.no_space is.line_place is.column_place)
+    ∙ framed-position_text f.before f.url f.after f.line f.column url is.line_place is.column_place
   where
-    looks : (before : List ℕ) → line ≡ f.before ++ (position_text f.url f.line f.column ++ f.after)
-        → IsV8 f ⊎ ((BeginsWithAt line → ⊥) × IsFirefox f)
+    looks : IsV8 f ⊎ ((BeginsWithAt line → ⊥) × IsFirefox f)
         → (x : ℕ) → EndsIn (position_text f.url f.line f.column) x → x ≢ 13 → x ≢ 41
         → list_all (λ b. not (b == 32)) (position_text f.url f.line f.column) ≡ true
-        → LooksAt line f.before (position_text f.url f.line f.column)
-    looks before whole (inl v) x ends no_cr no_paren free =
-        let whole' = rw (v.before_is, v.after_is) at whole in
+        → frame_of line ≡ framed f.before (position_text f.url f.line f.column) f.after
+    looks (inl v) x ends no_cr no_paren free =
+        let pos = position_text f.url f.line f.column in
+        let front = v.spaces ++ codes "at " in
+        let rest = v.lead ++ (pos ++ v.close) in
+        let y = last_of pos v.lead v.close x ends no_cr v.form in
+        let whole : line ≡ front ++ rest ++ v.line_end = is.whole
+        ∙ rw (v.before_is, v.after_is) (regroup front v.lead pos v.close v.line_end) in
+        rw (v.before_is, v.after_is)
+        (frame_of_parts line (front ++ rest) v.line_end y.0 is.one_line whole (longer front rest y.0 y.2) y.1 v.ends
+        ∙ body_of_v8 v.spaces rest v.line_end v.are_spaces
+        ∙ leads front pos v.line_end v.lead v.close x ends no_paren free v.form)
+    looks (inr (not_at, v)) x ends no_cr no_paren free =
+        let pos = position_text f.url f.line f.column in
+        let body = v.name ++ codes "@" ++ pos in
+        let whole : line ≡ body ++ f.after = is.whole ∙ rw v.before_is refl in
         rw v.before_is
-        (looks_v8 line v.spaces v.lead (position_text f.url f.line f.column) v.close v.line_end x v.are_spaces
-        v.form v.ends ends no_cr no_paren free is.one_line whole')
-    looks before whole (inr (not_at, v)) x ends no_cr no_paren free =
-        rw v.before_is (looks_firefox line v.name (position_text f.url f.line f.column) f.after x not_at
-        v.no_at v.ends ends no_cr is.one_line (rw v.before_is at whole))
+        (frame_of_parts line body f.after x is.one_line whole (longer (v.name ++ codes "@") pos x ends) no_cr v.ends
+        ∙ body_of_firefox v.name pos f.after v.no_at (no_start line body f.after whole not_at))

@@ -1,23 +1,18 @@
 -- Lines cut into parts.
-use Rattle.std.proofs.Common.{◌≡◌, ◌∙◌, ℕ, suc, ◌+◌, ◌-◌, ◌<◌, ◌≤◌, ◌==◌, Bool, true, false, not}
-use Rattle.std.proofs.Common.{List, ◌∷◌, ◌++◌, length, take, drop, reverse, get_or, refl, sym, ap, arith}
-use Rattle.std.proofs.Common.{slice_range, nat_eq, length-take}
+use Rattle.std.proofs.Common.{◌≡◌, ◌∙◌, ℕ, suc, ◌+◌, ◌-◌, ◌<◌, ◌==◌, Bool, true, false, not, List, ◌∷◌, ◌++◌}
+use Rattle.std.proofs.Common.{length, take, drop, reverse, get_or, refl, sym, ap, arith, slice_range, nat_eq}
+use Rattle.std.proofs.Common.{length-take}
 use Rattle.std.specs.List.{starts_with, suffix_len, before_last, after_last}
 use Rattle.std.proofs.Math.Seq.{split_at, take-append_seam, drop-append_seam}
 use Rattle.std.proofs.lemmas.Bool.{not-false}
 use Rattle.std.proofs.lemmas.Bool.Decides.{Decides-eqb}
-use Rattle.std.proofs.lemmas.List.{take-append-drop, drop-drop, get_or-reverse, length-reverse}
+use Rattle.std.proofs.lemmas.List.{get_or-reverse, length-reverse}
 use Rattle.std.proofs.lemmas.List.Sums.{prefix_len_stops}
 use Rattle.std.proofs.lemmas.Slice.Eq.{starts_is}
 
-pub rest_at : (xs : List ℕ) (s e : ℕ) → s ≤ e → drop s xs ≡ slice_range xs s e ++ drop e xs
-rest_at xs s e le =
-    let more : s + (e - s) ≡ e = omega arith in
-    let last : drop (e - s) (drop s xs) ≡ drop e xs = drop-drop (e - s) s xs ∙ ap (λ n. drop n xs) more in
-    rw (← last) (sym (take-append-drop (e - s) (drop s xs)))
-
-pub cut_at : (xs : List ℕ) (s e : ℕ) → s ≤ e → xs ≡ take s xs ++ (slice_range xs s e ++ drop e xs)
-cut_at xs s e le = sym (take-append-drop s xs) ∙ ap (λ (ys : List ℕ). take s xs ++ ys) (rest_at xs s e le)
+-- a text in two parts, cut where they meet
+pub parts_at : (xs a b : List ℕ) (n : ℕ) → xs ≡ a ++ b → n ≡ length a → (take n xs ≡ a) × (drop n xs ≡ b)
+parts_at xs a b n e k = (rw (k, e) (take-append_seam a b), rw (k, e) (drop-append_seam a b))
 
 -- a line in three parts, cut where they meet
 pub middle_part : (a t b : List ℕ) → slice_range (a ++ (t ++ b)) (length a) (length a + length t) ≡ t

@@ -1,7 +1,7 @@
 -- What is written as a frame is read as that frame.
-use Rattle.std.proofs.Common.{◌≡◌, ◌≢◌, ◌∙◌, ℕ, ◌+◌, ◌-◌, ◌≤◌, ◌==◌, Bool, true, false, not, List}
-use Rattle.std.proofs.Common.{[], ◌∷◌, ◌++◌, length, take, drop, reverse, Some, refl, sym, ap, arith}
-use Rattle.std.proofs.Common.{append_assoc, length-append, decimal, codes, slice_range}
+use Rattle.std.proofs.Common.{◌≡◌, ◌≢◌, ◌∙◌, ℕ, ◌-◌, ◌≤◌, ◌==◌, Bool, true, false, not, List, [], ◌∷◌}
+use Rattle.std.proofs.Common.{◌++◌, length, reverse, Some, refl, sym, ap, arith, append_assoc, length-append}
+use Rattle.std.proofs.Common.{decimal, codes}
 use Rattle.std.specs.List.{list_all, suffix_len, before_last, after_last}
 use Rattle.std.specs.Str.Parse.{AllDigits}
 use Rattle.std.proofs.lemmas.Bool.{and_parts, ne_eqb}
@@ -9,13 +9,12 @@ use Rattle.std.proofs.lemmas.List.{length-reverse, reverse-append}
 use Rattle.std.proofs.lemmas.List.Folds.{list_all-append}
 use Rattle.std.proofs.lemmas.Fmt.{decimal_is_IsNumeral}
 use Rattle.std.proofs.lemmas.Str.Parse.{digit_from_value}
+use Rattle.std.proofs.Math.Seq.{take-append_seam, drop-append_seam}
 use Rattle.smap_frames.specs.Frame.{IsPlace, position_text}
 use Rattle.smap_frames.specs.Reading.{framed, is_colon, is_url}
 use Rattle.smap_frames.proofs.PlaceLemmas.{place_of-decimal}
 use Rattle.smap_frames.proofs.FrameLemmas.{framed_is}
-use Rattle.std.proofs.Math.Seq.{take-append_seam, drop-append_seam}
 use Rattle.smap_frames.proofs.BodyLemmas.{front_passes}
-use Rattle.smap_frames.proofs.CutLemmas.{middle_part}
 
 -- ---- the last mark
 
@@ -78,19 +77,15 @@ decimal_lacks n x is ne = digits_lack (decimal n) x (decimal_is_IsNumeral n (ome
 -- ---- the position
 
 pub framed-position_text : (before url after : List ℕ) (l c : ℕ) → is_url url ≡ true → IsPlace l → IsPlace c
-    → framed (before ++ position_text url l c ++ after) (length before)
-    (length before + length (position_text url l c))
+    → framed before (position_text url l c) after
     ≡ Some (record { before = before; url = url; line = l; column = c; after = after })
 framed-position_text before url after l c is lp cp =
     let pos = position_text url l c in
-    let line = before ++ pos ++ after in
     let no_colon : (n : ℕ) → IsPlace n → list_all (λ b. not (is_colon b)) (decimal n) ≡ true =
     λ n p. decimal_lacks n 58 p (λ d low high e. omega arith) in
     let first = url ++ codes ":" ++ decimal l in
     let cut : pos ≡ first ++ 58 ∷ decimal c = append_assoc first (codes ":") (decimal c) in
     let cut' : first ≡ url ++ 58 ∷ decimal l = append_assoc url (codes ":") (decimal l) in
-    let text : slice_range line (length before) (length before + length pos) ≡ pos =
-    rw (append_assoc before pos after) (middle_part before pos after) in
     let rest : before_last is_colon pos ≡ first =
     ap (before_last is_colon) cut ∙ before_mark is_colon first 58 (decimal c) (no_colon c cp) refl in
     let column : after_last is_colon pos ≡ decimal c =
@@ -99,14 +94,5 @@ framed-position_text before url after l c is lp cp =
     ap (before_last is_colon) cut' ∙ before_mark is_colon url 58 (decimal l) (no_colon l lp) refl in
     let number : after_last is_colon first ≡ decimal l =
     ap (after_last is_colon) cut' ∙ after_mark is_colon url 58 (decimal l) (no_colon l lp) refl in
-    let front : take (length before) line ≡ before =
-    rw (append_assoc before pos after) (take-append_seam before (pos ++ after)) in
-    let end : drop (length before + length pos) line ≡ after =
-    rw (← length-append before pos) (drop-append_seam (before ++ pos) after) in
-    sym (framed_is line (length before) (length before + length pos) l c first (decimal c) url (decimal l)
-    after (sym end)
-    (sym rest ∙ ap (before_last is_colon) (sym text)) (sym column ∙ ap (after_last is_colon) (sym text))
-    (sym address) (sym number)
-    is (place_of-decimal l lp) (place_of-decimal c cp))
-    ∙ ap (λ (b : List ℕ). Some (record { before = b; url = url; line = l; column = c; after = after }))
-    front
+    sym (framed_is before pos after after first (decimal c) url (decimal l) l c refl (sym rest) (sym column)
+    (sym address) (sym number) is (place_of-decimal l lp) (place_of-decimal c cp))

@@ -1,6 +1,7 @@
 //! The frames of a stack trace. The position of a frame follows leading spaces and `at `, or the first `@`;
 //! its line and its column follow the last two colons.
-ghost use Rattle.std.specs.Prelude.{◌≡◌, ℕ, ◌≤◌, ◌==◌, length, option_map, MatchOption, decimal};
+ghost use Rattle.std.specs.Prelude.{◌≡◌, ℕ, ◌≤◌, ◌==◌, drop, length, option_map, take};
+ghost use Rattle.std.specs.Prelude.{MatchOption, decimal};
 ghost use Rattle.std.specs.List.{prefix_len, before_last, after_last};
 ghost use Rattle.std.specs.Str.Lines.{strip_carriage_return};
 ghost use Rattle.smap_frames.specs.Frame.{IsFrame, IsPlace, FrameParts};
@@ -56,7 +57,7 @@ fn is_url(text: &[u8]) -> bool
 /// The frame whose position is from `start` up to `end`.
 fn framed<'a>(line: &'a [u8], start: usize, end: usize) -> Option<Frame<'a>>
     requires { (start ≤ end) × (end ≤ length line.now) }
-    ensures { option_map parts_in result ≡ spec.framed line.now start end }
+    ensures { option_map parts_in result ≡ spec.between spec.framed line.now start end }
 {
     let (rest, column) = split_at_last(&line[start..end], b':');
     let (url, line_number) = split_at_last(rest, b':');
@@ -85,7 +86,7 @@ fn space_count(text: &[u8]) -> usize
 /// The frame whose position follows the last ` (` between `at ` and `)`.
 fn in_parentheses<'a>(line: &'a [u8], start: usize, end: usize) -> Option<Frame<'a>>
     requires { (start ≤ end) × (end ≤ length line.now) }
-    ensures { option_map parts_in result ≡ spec.in_parentheses line.now start end }
+    ensures { option_map parts_in result ≡ spec.between spec.in_parentheses line.now start end }
 {
     let text = &line[start..end];
     let (_, last) = split_at_last(text, b' ');
@@ -99,7 +100,7 @@ fn in_parentheses<'a>(line: &'a [u8], start: usize, end: usize) -> Option<Frame<
 /// The frame whose `at ` ends at `start`.
 fn v8_frame<'a>(line: &'a [u8], start: usize, end: usize) -> Option<Frame<'a>>
     requires { (start ≤ end) × (end ≤ length line.now) }
-    ensures { option_map parts_in result ≡ spec.v8_frame line.now start end }
+    ensures { option_map parts_in result ≡ spec.between spec.v8_frame line.now start end }
 {
     let text = &line[start..end];
     if text.ends_with(b")") {
@@ -114,7 +115,7 @@ fn v8_frame<'a>(line: &'a [u8], start: usize, end: usize) -> Option<Frame<'a>>
 /// The frame whose position follows the first `@`.
 fn firefox_frame<'a>(line: &'a [u8], end: usize) -> Option<Frame<'a>>
     requires { end ≤ length line.now }
-    ensures { option_map parts_in result ≡ spec.firefox_frame line.now end }
+    ensures { option_map parts_in result ≡ spec.firefox_frame (take end line.now) (drop end line.now) }
 {
     let at = memchr(b'@', &line[..end])?;
     framed(line, at + 1, end)
@@ -123,7 +124,7 @@ fn firefox_frame<'a>(line: &'a [u8], end: usize) -> Option<Frame<'a>>
 /// The frame of the line up to `end`, in the form of V8 where the line begins so, else in that of Firefox.
 fn body_frame<'a>(line: &'a [u8], end: usize) -> Option<Frame<'a>>
     requires { end ≤ length line.now }
-    ensures { option_map parts_in result ≡ spec.body_frame line.now end }
+    ensures { option_map parts_in result ≡ spec.body_frame (take end line.now) (drop end line.now) }
 {
     let body = &line[..end];
     let spaces = space_count(body);

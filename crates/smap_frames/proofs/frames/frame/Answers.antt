@@ -1,6 +1,7 @@
-use Rattle.std.proofs.Common.{◌≡◌, option_map, rules}
+use Rattle.std.proofs.Common.{option_map, rules}
 use Rattle.smap_frames.specs.FrameView.{parts_in}
 use Rattle.smap_frames.specs.Reading.{frame_of}
+use Rattle.smap_frames.proofs.FrameLemmas.{frame_read}
 use Rattle.smap_frames.proofs.LawLemmas.{is_reading}
 use Rattle.smap_frames.proofs.frames.frame.Goals as goal
 
@@ -9,10 +10,10 @@ unfolding frame_of
 returns-then-contains-clause-value c = search rules
 
 pub returns-else-contains-clause-is : goal.returns-else-contains-clause-is
-unfolding frame_of
-returns-else-contains-clause-is c = let value : option_map parts_in c.body_frame.result
-    ≡ frame_of c.args.line.now = search rules in is_reading c.args.line.now c.body_frame.result value
+returns-else-contains-clause-is c = is_reading c.args.line.now c.body_frame.result
+    (frame_read c.args.line.now c.body_len.result (option_map parts_in c.body_frame.result) (search rules)
+    c.body_len.ensures.value c.body_frame.ensures)
 
 pub returns-else-contains-clause-value : goal.returns-else-contains-clause-value
-unfolding frame_of
-returns-else-contains-clause-value c = search rules
+returns-else-contains-clause-value c = frame_read c.args.line.now c.body_len.result
+    (option_map parts_in c.body_frame.result) (search rules) c.body_len.ensures.value c.body_frame.ensures
