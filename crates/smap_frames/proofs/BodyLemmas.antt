@@ -1,16 +1,16 @@
 -- A line without its carriage return, and whether it begins with spaces and `at `.
 use Rattle.std.proofs.Common.{◌≡◌, ◌∙◌, inl, inr, ℕ, suc, ◌+◌, ◌-◌, ◌<◌, ◌≤◌, ◌==◌, Bool, true, false, not}
-use Rattle.std.proofs.Common.{List, [], ◌∷◌, ◌++◌, length, take, drop, refl, sym, ap, arith, append_assoc}
-use Rattle.std.proofs.Common.{slice_index, nat_eq, length-take, length-append, codes, get_or}
+use Rattle.std.proofs.Common.{List, [], ◌∷◌, ◌++◌, length, take, drop, refl, ap, arith, append_assoc}
+use Rattle.std.proofs.Common.{slice_index, nat_eq, length-drop, length-take, length-append, codes, get_or}
 use Rattle.std.specs.List.{starts_with, prefix_len, position_or_len, list_all}
 use Rattle.std.specs.Str.Lines.{strip_carriage_return}
 use Rattle.std.proofs.lemmas.Bool.{and_parts, cases_lt, cond_both, not-true}
-use Rattle.std.proofs.lemmas.List.{take-append-drop, take-take, drop_more}
-use Rattle.std.proofs.Math.Seq.{take-append_seam, drop-append_seam, drop-length, get_or-append_seam}
+use Rattle.std.proofs.lemmas.List.{drop_more}
+use Rattle.std.proofs.Math.Seq.{take-append-add, drop-append_seam, drop-length}
 use Rattle.std.proofs.lemmas.Bool.Decides.{Decides-eqb}
 use Rattle.smap_frames.specs.Frame.{AreSpaces, IsLineEnd, BeginsWithAt, lacks}
 use Rattle.smap_frames.specs.Reading.{is_space}
-use Rattle.smap_frames.proofs.CutLemmas.{begins_with}
+use Rattle.smap_frames.proofs.CutLemmas.{begins_with, parts_at}
 
 -- The body, and the carriage return at the line's end if there is one.
 pub body_cut : (line : List ℕ) → IsLineEnd (drop (length (strip_carriage_return line)) line)
@@ -79,49 +79,38 @@ pub begins_at : (line : List ℕ) → BeginsWithAt line
     × (take (length (strip_carriage_return line)) line ≡ spaces ++ codes "at " ++ rest)
 begins_at line b =
     let end = length (strip_carriage_return line) in
-    let bc = body_cut line in
-    let body = take end line in
     let front = b.spaces ++ codes "at " in
-    let split : line ≡ body ++ drop end line = sym (take-append-drop end line) in
-    let len : length body ≡ end = omega (arith, bc.1, length-take end line) in
-    let lines : length line ≡ length front + length b.rest = ap length b.whole ∙ length-append front b.rest in
     elim (cases_lt end (length front)) [
       | inr ge ↦
-          let within : length front ≤ end = omega arith in
-          let same : take (length front) body ≡ front = take-take (length front) end line within
-          ∙ ap (take (length front)) b.whole ∙ take-append_seam front b.rest in (
-            drop (length front) body,
-            b.spaces,
-            b.are_spaces,
-            sym (take-append-drop (length front) body)
-                ∙ ap (λ (xs : List ℕ). xs ++ drop (length front) body) same,
-          )
-      | inl lt ↦
-          absurd (no_return line body b.spaces b.rest (drop end line) split b.whole (omega (arith, lt, len))
-          bc.0)
+          let more = end - length front in
+          let count : end ≡ length front + more = omega (arith, ge) in
+          let cut : take (length front + more) line ≡ front ++ take more b.rest =
+          ap (take (length front + more)) b.whole ∙ take-append-add front b.rest more in
+          (take more b.rest, b.spaces, b.are_spaces, ap (λ n. take n line) count ∙ cut)
+      | inl lt ↦ absurd (no_return line b.spaces b.rest end b.whole lt (body_cut line).0)
     ]
   where
-    no_return : (line body spaces rest last : List ℕ) → line ≡ body ++ last
-        → line ≡ spaces ++ codes "at " ++ rest → length body < length (spaces ++ codes "at ") → IsLineEnd last
-        → ⊥
-    no_return line body spaces rest last split whole lt (inl e) =
-        let l1 = ap length split ∙ length-append body last in
-        let l2 = ap length whole ∙ length-append (spaces ++ codes "at ") rest in
-        let l3 = ap length e in
-        omega (arith, l1, l2, l3, lt)
-    no_return line body spaces rest last split whole lt (inr e) =
-        let l1 = ap length split ∙ length-append body last in
-        let l2 = ap length whole ∙ length-append (spaces ++ codes "at ") rest in
-        let l3 = ap length e in
-        let l4 = length-append spaces (codes "at ") in
-        let l5 = length-append spaces (codes "at") in
-        let last_is : get_or line (length body) 0 ≡ 13 =
-        ap (λ (xs : List ℕ). get_or xs (length body) 0) (split ∙ ap (λ (xs : List ℕ). body ++ xs) e)
-        ∙ get_or-append_seam body 13 [] 0 in
-        let place : length body ≡ length (spaces ++ codes "at") = omega (arith, l1, l2, l3, l4, l5, lt) in
-        let whole' : line ≡ (spaces ++ codes "at") ++ 32 ∷ rest =
-        whole ∙ append_assoc spaces (codes "at ") rest ∙ sym (append_assoc spaces (codes "at") (32 ∷ rest)) in
-        let space_is : get_or line (length body) 0 ≡ 32 = ap (λ n. get_or line n 0) place
-        ∙ ap (λ (xs : List ℕ). get_or xs (length (spaces ++ codes "at")) 0) whole'
-        ∙ get_or-append_seam (spaces ++ codes "at") 32 rest 0 in
-        omega (arith, sym last_is ∙ space_is)
+    short : (text : List ℕ) → IsLineEnd text → length text ≤ 1
+    short text (inl e) = omega (arith, ap length e)
+    short text (inr e) = omega (arith, ap length e)
+
+    no_space : (rest : List ℕ) → IsLineEnd (32 ∷ rest) → ⊥
+    no_space rest (inl e) = cc
+    no_space rest (inr e) = cc
+
+    -- The end of the line would begin with a space.
+    no_return : (line spaces rest : List ℕ) (end : ℕ) → line ≡ spaces ++ codes "at " ++ rest
+        → end < length (spaces ++ codes "at ") → IsLineEnd (drop end line) → ⊥
+    no_return line spaces rest end whole lt line_end =
+        let split : line ≡ (spaces ++ codes "at") ++ 32 ∷ rest = whole ∙ simp append_assoc in
+        let place : end ≡ length (spaces ++ codes "at") = omega (
+          arith,
+          lt,
+          short (drop end line) line_end,
+          length-drop end line,
+          ap length split,
+          length-append (spaces ++ codes "at") (32 ∷ rest),
+          length-append spaces (codes "at "),
+          length-append spaces (codes "at"),
+        ) in
+        no_space rest (rw (parts_at line (spaces ++ codes "at") (32 ∷ rest) end split place).1 at line_end)

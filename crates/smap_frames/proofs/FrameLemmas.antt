@@ -1,12 +1,13 @@
 -- The code reads frames at places of a line, `frame_of` in its parts.
-use Rattle.std.proofs.Common.{◌≡◌, ◌∙◌, ℕ, ◌+◌, ◌-◌, ◌<◌, ◌≤◌, ◌==◌, true, false, List, [], ◌∷◌, ◌++◌}
-use Rattle.std.proofs.Common.{length, take, drop, slice_range, Option, Some, refl, sym, ap, arith, codes}
-use Rattle.std.proofs.Common.{nat_eq, length-drop, length-take}
+use Rattle.std.proofs.Common.{◌≡◌, ◌∙◌, ℕ, ◌+◌, ◌-◌, ◌<◌, ◌≤◌, ◌==◌, true, false, List, ◌++◌, length, take}
+use Rattle.std.proofs.Common.{drop, slice_range, Option, Some, refl, sym, ap, arith, codes, nat_eq}
+use Rattle.std.proofs.Common.{length-drop, length-take}
 use Rattle.std.specs.List.{after_last, before_last, ends_with, position_or_len, prefix_len, starts_with}
 use Rattle.std.specs.Str.Lines.{strip_carriage_return}
 use Rattle.std.proofs.lemmas.Bool.{lt-ltb}
 use Rattle.std.proofs.Math.Seq.{take-add}
 use Rattle.std.proofs.lemmas.List.{drop-append-le, drop-drop, drop-take, take-append-drop, take-take}
+use Rattle.std.proofs.lemmas.Slice.Eq.{bytes_eq-Decides}
 use Rattle.smap_frames.specs.Frame.{FrameParts, lacks}
 use Rattle.smap_frames.specs.Reading.{between, body_frame, firefox_frame, frame_of, framed, framed_behind}
 use Rattle.smap_frames.specs.Reading.{in_parentheses, is_colon, is_space, is_url, place_of, v8_frame}
@@ -78,15 +79,11 @@ parens_read line last start end le within is opening shorter =
     let len : length text ≡ end - start =
     omega (arith, length-take (end - start) (drop start line), length-drop start line) in
     let at : end - length last + 1 ≡ start + k = omega (arith, len, shorter) in
-    let some = opening_there last opening in
+    let some = ap length (begins last (codes "(") opening) in
     let read : between in_parentheses line start end ≡ framed_behind k (take start line) text (drop end line) =
     opens (take start line) text (drop end line) last is opening shorter in
     ap (λ n. between framed line n end) at ∙ later framed line start k end (omega (arith, len, some)) ∙ sym read
   where
-    opening_there : (xs : List ℕ) → starts_with nat_eq xs (codes "(") ≡ true → 0 < length xs
-    opening_there [] h = cc
-    opening_there (x ∷ xs) h = omega arith
-
     opens : (before text after last : List ℕ) → last ≡ after_last is_space text
         → starts_with nat_eq last (codes "(") ≡ true → length last < length text
         → in_parentheses before text after ≡ framed_behind (length text - length last + 1) before text after
@@ -100,12 +97,9 @@ closed_read line start end le within e =
     let text = slice_range line start end in
     let len : length text ≡ end - start =
     omega (arith, length-take (end - start) (drop start line), length-drop start line) in
-    let lt : start < end = omega (arith, len, some text e) in
+    let some = ap length ((bytes_eq-Decides (codes ")") (drop (length text - 1) text)).0 e) in
+    let lt : start < end = omega (arith, len, some, length-drop (length text - 1) text) in
     rw e (closed in_parentheses line start end (length text - 1) lt within refl)
-  where
-    some : (xs : List ℕ) → ends_with nat_eq xs (codes ")") ≡ true → 0 < length xs
-    some [] h = cc
-    some (x ∷ xs) h = omega arith
 
 pub async_read : (line : List ℕ) (start end : ℕ) → start ≤ end → end ≤ length line
     → ends_with nat_eq (slice_range line start end) (codes ")") ≡ false

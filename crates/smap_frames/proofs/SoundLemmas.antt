@@ -10,7 +10,7 @@ use Rattle.std.proofs.lemmas.Bool.{and_parts, cases_Bool, ltb-true}
 use Rattle.std.proofs.lemmas.List.{take-append-drop, take_more}
 use Rattle.std.proofs.Math.Seq.{take-add}
 use Rattle.std.proofs.lemmas.List.Sums.{passes_at_first, suffix_len-le-length}
-use Rattle.std.proofs.lemmas.Slice.Eq.{bytes_eq-Decides, ends_is}
+use Rattle.std.proofs.lemmas.Slice.Eq.{bytes_eq-Decides}
 use Rattle.std.proofs.lemmas.Bool.Decides.{nat_tests, Decides-eqb}
 use Rattle.smap_frames.specs.Frame.{FrameParts, IsPlace, IsLineEnd, InParentheses, Alone, AfterAsync}
 use Rattle.smap_frames.specs.Frame.{BeginsWithAt, IsFirefox, IsFrame, IsV8, lacks, position_text}
@@ -151,10 +151,6 @@ v8_leads before text after f h = elim (cases_Bool (ends_with nat_eq text (codes 
   where
     alone : framed before text after ≡ Some f → framed (before ++ []) text after ≡ Some f
     alone h = rw (append-nil before) h
-
-pub ends : (xs : List ℕ) (c : ℕ) → ends_with nat_eq xs (c ∷ []) ≡ true
-    → xs ≡ take (length xs - 1) xs ++ c ∷ []
-ends xs c h = (ends_is Decides-eqb xs (c ∷ []) (ends_with nat_eq xs (c ∷ [])) refl).0 h
 
 -- ---- the frame
 

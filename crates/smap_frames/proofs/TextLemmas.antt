@@ -1,18 +1,15 @@
 -- What the text of a position ends in, and which bytes it lacks.
-use Rattle.std.proofs.Common.{◌≡◌, ◌≢◌, ◌∙◌, ℕ, ◌+◌, ◌-◌, ◌<◌, ◌≤◌, ◌==◌, Bool, true, false, not}
-use Rattle.std.proofs.Common.{List, [], ◌∷◌, ◌++◌, length, take, drop, refl, sym, ap, arith}
-use Rattle.std.proofs.Common.{append_assoc, nat_eq, length-take, length-append, decimal, codes, get_or}
+use Rattle.std.proofs.Common.{◌≡◌, ◌≢◌, ◌∙◌, ℕ, ◌-◌, ◌<◌, ◌≤◌, ◌==◌, Bool, true, false, not, List, []}
+use Rattle.std.proofs.Common.{◌∷◌, ◌++◌, length, drop, refl, sym, ap, arith, append_assoc, nat_eq}
+use Rattle.std.proofs.Common.{length-append, decimal, codes}
 use Rattle.std.specs.List.{starts_with, ends_with, list_all, list_any}
 use Rattle.std.specs.Str.Parse.{AllDigits}
-use Rattle.std.proofs.Math.Seq.{get_or-append_seam}
-use Rattle.std.proofs.lemmas.Bool.{false_from_ne_true, not-true, or_parts}
+use Rattle.std.proofs.lemmas.Bool.{ne_eqb, false_from_ne_true, not-true, or_parts}
 use Rattle.std.proofs.lemmas.Fmt.{decimal_is_IsNumeral}
 use Rattle.std.proofs.lemmas.List.Folds.{list_all-append}
-use Rattle.std.proofs.lemmas.Slice.Eq.{ends_is}
 use Rattle.std.proofs.lemmas.Str.Parse.{digit_from_value}
-use Rattle.std.proofs.lemmas.Bool.Decides.{Decides-eqb}
 use Rattle.smap_frames.specs.Frame.{IsPlace, lacks, position_text}
-use Rattle.smap_frames.proofs.CutLemmas.{begins}
+use Rattle.smap_frames.proofs.CutLemmas.{begins, parts_at}
 use Rattle.smap_frames.proofs.ReadingLemmas.{decimal_lacks}
 use Rattle.smap_frames.proofs.SoundLemmas.{not_both}
 
@@ -51,20 +48,10 @@ position_text_ends url l c is =
     (d.0, d.1, d.2, longer (url ++ codes ":" ++ decimal l ++ codes ":") (decimal c) d.0 d.3)
 
 pub ends_not : (xs : List ℕ) (x c : ℕ) → EndsIn xs x → x ≢ c → ends_with nat_eq xs (c ∷ []) ≡ false
-ends_not xs x c e ne = false_from_ne_true (ends_with nat_eq xs (c ∷ []))
-    (λ h. ne (same ((ends_is Decides-eqb xs (c ∷ []) (ends_with nat_eq xs (c ∷ [])) refl).0 h)))
-  where
-    same : xs ≡ take (length xs - 1) xs ++ c ∷ [] → x ≡ c
-    same cut =
-        let len : length xs ≡ length e.front + 1 = ap length e.whole ∙ length-append e.front (x ∷ []) in
-        let len' : length (take (length xs - 1) xs) ≡ length e.front =
-        omega (arith, len, length-take (length xs - 1) xs) in
-        let one : get_or xs (length e.front) 0 ≡ x = ap (λ (ys : List ℕ). get_or ys (length e.front) 0)
-        e.whole ∙ get_or-append_seam e.front x [] 0 in
-        let two : get_or xs (length (take (length xs - 1) xs)) 0 ≡ c =
-        ap (λ (ys : List ℕ). get_or ys (length (take (length xs - 1) xs)) 0) cut
-        ∙ get_or-append_seam (take (length xs - 1) xs) c [] 0 in
-        sym one ∙ ap (λ n. get_or xs n 0) (sym len') ∙ two
+ends_not xs x c e ne =
+    let last = (parts_at xs e.front (x ∷ []) (length xs - 1) e.whole
+    (omega (arith, ap length e.whole, length-append e.front (x ∷ [])))).1 in
+    rw (last, ne_eqb c x (λ h. ne (sym h))) refl
 
 -- ---- bytes that a text lacks
 
