@@ -12,25 +12,22 @@ use Rattle.smap_frames.specs.Frame.{AreSpaces, IsLineEnd, BeginsWithAt, lacks}
 use Rattle.smap_frames.specs.Reading.{is_space}
 use Rattle.smap_frames.proofs.CutLemmas.{begins_with, parts_at}
 
--- The body, and the carriage return at the line's end if there is one.
+-- Behind the body is the carriage return at the line's end, if there is one.
 pub body_cut : (line : List ℕ) → IsLineEnd (drop (length (strip_carriage_return line)) line)
-    × (length (strip_carriage_return line) ≤ length line)
 body_cut line = cond_both (slice_index line (length line - 1) == 13) (take (length line - 1) line) line
-    (λ (body : List ℕ). IsLineEnd (drop (length body) line) × (length body ≤ length line))
-    (λ e. let c = cut_at_last line e in (inr (ap (λ n. drop n line) c.1 ∙ c.0), omega (arith, c.1)))
-    (λ e. (inl (drop-length line), omega arith))
+    (λ (body : List ℕ). IsLineEnd (drop (length body) line)) (λ e. inr (last_of line e))
+    (λ e. inl (drop-length line))
   where
-    cut_at_last : (xs : List ℕ) → (slice_index xs (length xs - 1) == 13) ≡ true
-        → (drop (length xs - 1) xs ≡ 13 ∷ []) × (length (take (length xs - 1) xs) ≡ length xs - 1)
-    cut_at_last [] e = cc
-    cut_at_last (x ∷ more) e =
+    last_of : (xs : List ℕ) → (slice_index xs (length xs - 1) == 13) ≡ true
+        → drop (length (take (length xs - 1) xs)) xs ≡ 13 ∷ []
+    last_of [] e = cc
+    last_of (x ∷ more) e =
         let xs = x ∷ more in
-        let below : length xs - 1 < length xs = omega arith in
+        let len : length (take (length xs - 1) xs) ≡ length xs - 1 =
+        omega (arith, length-take (length xs - 1) xs) in
         let is : get_or xs (length xs - 1) 0 ≡ 13 = (Decides-eqb (get_or xs (length xs - 1) 0) 13).0 e in
-        let next : length xs - 1 + 1 ≡ length xs = omega arith in (
-          drop_more xs (length xs - 1) 0 below ∙ rw (is, next, drop-length xs) refl,
-          omega (arith, length-take (length xs - 1) xs),
-        )
+        let next : length xs - 1 + 1 ≡ length xs = omega arith in
+        rw len (drop_more xs (length xs - 1) 0 (omega arith) ∙ rw (is, next, drop-length xs) refl)
 
 pub front_passes : (q : ℕ → Bool) (front : List ℕ) (x : ℕ) (rest : List ℕ) → list_all q front ≡ true
     → q x ≡ false → prefix_len q (front ++ x ∷ rest) ≡ length front
@@ -87,7 +84,7 @@ begins_at line b =
           let cut : take (length front + more) line ≡ front ++ take more b.rest =
           ap (take (length front + more)) b.whole ∙ take-append-add front b.rest more in
           (take more b.rest, b.spaces, b.are_spaces, ap (λ n. take n line) count ∙ cut)
-      | inl lt ↦ absurd (no_return line b.spaces b.rest end b.whole lt (body_cut line).0)
+      | inl lt ↦ absurd (no_return line b.spaces b.rest end b.whole lt (body_cut line))
     ]
   where
     short : (text : List ℕ) → IsLineEnd text → length text ≤ 1

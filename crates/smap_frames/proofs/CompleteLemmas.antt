@@ -23,7 +23,8 @@ in_parens : (before inner name pos after : List ℕ) → inner ≡ name ++ 32 �
     → list_all (λ b. not (b == 32)) pos ≡ true
     → in_parentheses before inner after ≡ framed (before ++ (name ++ codes " (")) pos after
 in_parens before inner name pos after e free =
-    let last : after_last is_space inner ≡ 40 ∷ pos = rw e (after_mark is_space name 32 (40 ∷ pos) free refl) in
+    let last : after_last is_space inner ≡ 40 ∷ pos =
+    rw e (after_mark is_space name 32 (40 ∷ pos) free refl) in
     let len : length inner ≡ length name + suc (suc (length pos)) =
     ap length e ∙ length-append name (32 ∷ 40 ∷ pos) in
     let shorter : nat_lt (suc (length pos)) (length inner) ≡ true =
@@ -52,7 +53,8 @@ leads before pos after lead close x ends ne free (inl (name, e, d)) =
 leads before pos after lead close x ends ne free (inr (inl (e, d))) =
     rw (e, d, append-nil pos, append-nil before, ends_not pos x 41 ends ne, no_async pos free) refl
 leads before pos after lead close x ends ne free (inr (inr (e, d))) =
-    rw (e, d, append-nil pos, ends_not (codes "async " ++ pos) x 41 (longer (codes "async ") pos x ends) ne) refl
+    let unclosed = ends_not (codes "async " ++ pos) x 41 (longer (codes "async ") pos x ends) ne in
+    rw (e, d, append-nil pos, unclosed) refl
 
 -- What follows `at ` doesn't end in a carriage return.
 last_of : (pos lead close : List ℕ) (x : ℕ) → EndsIn pos x → x ≢ 13
@@ -92,8 +94,8 @@ body_len line body last x whole ends ne (inr e) =
     rw is (omega (arith, len, length-take (length line - 1) line))
 
 -- A line that is this body and this end is read in these parts.
-frame_of_parts : (line body last : List ℕ) (x : ℕ) → lacks 10 line ≡ true → line ≡ body ++ last → EndsIn body x
-    → x ≢ 13 → IsLineEnd last → frame_of line ≡ body_frame body last
+frame_of_parts : (line body last : List ℕ) (x : ℕ) → lacks 10 line ≡ true → line ≡ body ++ last
+    → EndsIn body x → x ≢ 13 → IsLineEnd last → frame_of line ≡ body_frame body last
 unfolding frame_of
 frame_of_parts line body last x one whole ends ne line_end =
     let parts = parts_at line body last (length (strip_carriage_return line)) whole
@@ -171,7 +173,8 @@ complete line f is =
         let whole : line ≡ front ++ rest ++ v.line_end = is.whole
         ∙ rw (v.before_is, v.after_is) (regroup front v.lead pos v.close v.line_end) in
         rw (v.before_is, v.after_is)
-        (frame_of_parts line (front ++ rest) v.line_end y.0 is.one_line whole (longer front rest y.0 y.2) y.1 v.ends
+        (frame_of_parts line (front ++ rest) v.line_end y.0 is.one_line whole (longer front rest y.0 y.2) y.1
+        v.ends
         ∙ body_of_v8 v.spaces rest v.line_end v.are_spaces
         ∙ leads front pos v.line_end v.lead v.close x ends no_paren free v.form)
     looks (inr (not_at, v)) x ends no_cr no_paren free =
@@ -179,5 +182,6 @@ complete line f is =
         let body = v.name ++ codes "@" ++ pos in
         let whole : line ≡ body ++ f.after = is.whole ∙ rw v.before_is refl in
         rw v.before_is
-        (frame_of_parts line body f.after x is.one_line whole (longer (v.name ++ codes "@") pos x ends) no_cr v.ends
+        (frame_of_parts line body f.after x is.one_line whole (longer (v.name ++ codes "@") pos x ends) no_cr
+        v.ends
         ∙ body_of_firefox v.name pos f.after v.no_at (no_start line body f.after whole not_at))

@@ -58,7 +58,8 @@ closed read line start end n lt within is =
     let len : length (take (end - start) xs) ≡ end - start =
     omega (arith, length-take (end - start) xs, length-drop start line) in
     let inner : take (end - 1 - start) xs ≡ take n (take (end - start) xs) =
-    ap (λ k. take k xs) (omega (arith, is, len)) ∙ sym (take-take n (end - start) xs (omega (arith, is, len))) in
+    ap (λ k. take k xs) (omega (arith, is, len))
+    ∙ sym (take-take n (end - start) xs (omega (arith, is, len))) in
     let split : xs ≡ take (end - start) xs ++ drop end line = sym (take-append-drop (end - start) xs)
     ∙ ap (λ (ys : List ℕ). take (end - start) xs ++ ys)
     (drop-drop (end - start) start line ∙ ap (λ k. drop k line) (omega arith)) in
@@ -80,9 +81,11 @@ parens_read line last start end le within is opening shorter =
     omega (arith, length-take (end - start) (drop start line), length-drop start line) in
     let at : end - length last + 1 ≡ start + k = omega (arith, len, shorter) in
     let some = ap length (begins last (codes "(") opening) in
-    let read : between in_parentheses line start end ≡ framed_behind k (take start line) text (drop end line) =
+    let read : between in_parentheses line start end
+    ≡ framed_behind k (take start line) text (drop end line) =
     opens (take start line) text (drop end line) last is opening shorter in
-    ap (λ n. between framed line n end) at ∙ later framed line start k end (omega (arith, len, some)) ∙ sym read
+    ap (λ n. between framed line n end) at ∙ later framed line start k end (omega (arith, len, some))
+    ∙ sym read
   where
     opens : (before text after last : List ℕ) → last ≡ after_last is_space text
         → starts_with nat_eq last (codes "(") ≡ true → length last < length text
@@ -108,7 +111,8 @@ pub async_read : (line : List ℕ) (start end : ℕ) → start ≤ end → end �
 async_read line start end le within e a =
     let text = slice_range line start end in
     let long = ap length (begins text (codes "async ") a) in
-    rw (e, a) (later framed line start 6 end (omega (arith, long, le, length-take (end - start) (drop start line))))
+    rw (e, a) (later framed line start 6 end
+    (omega (arith, long, le, length-take (end - start) (drop start line))))
 
 pub v8_read : (line : List ℕ) (end n : ℕ) → n ≡ prefix_len is_space (take end line)
     → starts_with nat_eq (drop n (take end line)) (codes "at ") ≡ true
@@ -119,7 +123,8 @@ v8_read line end n is e =
     rw (← is, e) (from_start v8_frame line (n + 3) end within)
 
 pub firefox_is : (body after : List ℕ) (n : ℕ) → n ≡ prefix_len is_space body
-    → starts_with nat_eq (drop n body) (codes "at ") ≡ false → firefox_frame body after ≡ body_frame body after
+    → starts_with nat_eq (drop n body) (codes "at ") ≡ false
+    → firefox_frame body after ≡ body_frame body after
 firefox_is body after n is e = rw (← is, e) refl
 
 pub firefox_read : (line : List ℕ) (end at : ℕ) → position_or_len (λ b. b == 64) (take end line) ≡ at

@@ -19,6 +19,7 @@ use Rattle.smap_frames.specs.Frame.{IsPlace, position_text}
 use Rattle.smap_frames.specs.Reading.{place_of}
 use Rattle.smap_frames.specs.declared.places.Place.{Place}
 use Rattle.smap_frames.proofs.BodyLemmas.{front_all, front_passes}
+use Rattle.smap_frames.proofs.CutLemmas.{parts_at}
 use Rattle.smap_frames.proofs.PlaceLemmas.{IsNoPlace, place_is, place_of-decimal, place_of-some}
 
 pub some_of : {X Y : Type 0} (f : X → Y) (m : Option X) (y : Y) → option_map f m ≡ Some y
@@ -112,13 +113,10 @@ pub place_here : (l c : ℕ) (t : List ℕ) → IsPlace l → IsPlace c → list
     ≡ Some (record { line = l; column = c; width = length (decimal l) + 1 + (length (decimal c) + 1) })
 place_here l c t lp cp stop =
     let first = number_here l (58 ∷ (decimal c ++ t)) lp refl in
-    let rest : drop (length (decimal l) + 1) (58 ∷ (decimal l ++ (58 ∷ (decimal c ++ t))))
-    ≡ 58 ∷ (decimal c ++ t) = behind (decimal l) (58 ∷ (decimal c ++ t)) in
+    let rest = (parts_at (58 ∷ (decimal l ++ (58 ∷ (decimal c ++ t)))) (58 ∷ decimal l)
+    (58 ∷ (decimal c ++ t)) (length (decimal l) + 1) refl (omega arith)).1 in
     let second = number_here c t cp stop in
     rw (first, rest, second) refl
-  where
-    behind : (ds t : List ℕ) → drop (length ds + 1) (58 ∷ (ds ++ t)) ≡ t
-    behind ds t = let one : length ds + 1 ≡ suc (length ds) = omega arith in rw one (drop-append_seam ds t)
 
 -- The text is what is ignored, this place, and a rest that no digit begins.
 pub record IsPlacedThen (ignore : Bool) (text : List ℕ) (p : Place) : Type 0 where
@@ -134,9 +132,8 @@ pub record IsPlacedThen (ignore : Bool) (text : List ℕ) (p : Place) : Type 0 w
 two_numbers : (text : List ℕ) (l m c n : ℕ) → IsNumberThen text l m → number_after (drop m text) ≡ Some (c, n)
     → IsPlacedThen false text (record { line = l; column = c; width = m + n })
 two_numbers text l m c n first h =
-    let one : m ≡ suc (length (decimal l)) = omega (arith, first.width_is) in
-    let behind : drop m text ≡ first.rest = ap (λ n. drop n text) one
-    ∙ ap (drop (suc (length (decimal l)))) first.whole ∙ drop-append_seam (decimal l) first.rest in
+    let behind : drop m text ≡ first.rest = (parts_at text (58 ∷ decimal l) first.rest m first.whole
+    (omega (arith, first.width_is))).1 in
     let second = number_found first.rest c n (sym (ap number_after behind) ∙ h) in
     record {
       query = [];

@@ -207,7 +207,7 @@ sound_v8 line f n one is e h =
       line_end = end_of line;
       are_spaces = rw is (front_all is_space body);
       form = l.form;
-      ends = (body_cut line).0;
+      ends = body_cut line;
       before_is = p.before_is ∙ ap (λ (xs : List ℕ). xs ++ l.lead) begins_so;
       after_is = p.after_is;
     }))
@@ -238,7 +238,7 @@ sound_firefox line f one e h =
         name = take at body;
         no_at = before_lacks 64 body;
         before_is = s.before_is ∙ take_more body at 0 k.0 ∙ ap (λ x. take at body ++ x ∷ []) mark;
-        ends = subst IsLineEnd (sym s.after_is) (body_cut line).0;
+        ends = subst IsLineEnd (sym s.after_is) (body_cut line);
       },
     ))
   where

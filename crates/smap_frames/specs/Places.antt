@@ -1,5 +1,5 @@
--- What stands before and behind a URL where a position `U:L:C` is found anywhere in a line. This project's own
--- rules.
+-- What stands before and behind a URL where a position `U:L:C` is found anywhere in a line. This project's
+-- own rules.
 use Rattle.std.specs.Prelude.{◌≡◌, ◌⊎◌, ℕ, ◌+◌, ◌-◌, ◌==◌, ◌&&◌, ◌||◌, Bool, true, false, not, nat_eq, nat_le}
 use Rattle.std.specs.Prelude.{nat_lt, if◌then◌else◌, List, [], ◌∷◌, ◌++◌, length, take, drop, codes, Option}
 use Rattle.std.specs.Prelude.{None, option_map, option_and_then}

@@ -66,8 +66,8 @@ firefox_frame text after =
 abbrev pub body_frame : List ℕ → List ℕ → Option FrameParts
 body_frame body after =
     let n = prefix_len is_space body in
-    if starts_with nat_eq (drop n body) (codes "at ") then v8_frame (take (n + 3) body) (drop (n + 3) body) after
-    else firefox_frame body after
+    if starts_with nat_eq (drop n body) (codes "at ")
+    then v8_frame (take (n + 3) body) (drop (n + 3) body) after else firefox_frame body after
 
 -- The frame that the line is, if it is one.
 unfoldable pub frame_of : List ℕ → Option FrameParts

@@ -8,4 +8,5 @@ returns-then-ends_with c = c.in_parentheses.ensures
 
 pub returns-then-starts_with : goal.returns-then-starts_with
 returns-then-starts_with c = c.framed.ensures
-    ∙ async_read c.args.line.now c.args.start c.args.end (search rules) (search rules) (search rules) (search rules)
+    ∙ async_read c.args.line.now c.args.start c.args.end (search rules) (search rules) (search rules)
+    (search rules)
