@@ -1,16 +1,16 @@
 -- What the calls on the lines of a trace come to.
 use Rattle.std.specs.Prelude.{◌≡◌, ℕ, ◌==◌, Bool, List, [], ◌∷◌, ◌⊎◌, length, Option, Some, None, IsUtf8}
 use Rattle.std.specs.Int.RustNames.{bit_and}
-use Rattle.smap_trace.specs.Translation.{Fate, Script, fate, fate_by, kept, translated, dropped}
-use Rattle.smap_trace.specs.Translation.{line_translation_by}
-use Rattle.smap_trace.specs.declared.finding.Finding.{Finding}
-use Rattle.smap_record.specs.Record.{ReadMap, record_of}
-use Rattle.smap_trace.specs.Frame.{FrameParts}
-use Rattle.smap_trace.specs.Reading.{frame_of}
 use Rattle.smap_c.specs.Strings.{copied}
 use Rattle.smap_c.specs.declared.opened.Opened.{Opened}
 use Rattle.smap_c.specs.declared.traces.SmapFrame.{SmapFrame}
 use Rattle.smap_c.specs.Codes as codes
+use Rattle.smap_frames.specs.Frame.{FrameParts}
+use Rattle.smap_frames.specs.Reading.{frame_of}
+use Rattle.smap_record.specs.Record.{ReadMap, record_of}
+use Rattle.smap_trace.specs.Translation.{Fate, Script, fate, fate_by, kept, translated, dropped}
+use Rattle.smap_trace.specs.Translation.{line_translation_by}
+use Rattle.smap_trace.specs.declared.finding.Finding.{Finding}
 
 -- ---- what they are asked to do, by the bits that `smap.h` names
 

@@ -10,11 +10,12 @@ use Rattle.std.proofs.lemmas.List.Elements.{All-head, All-map, All-more, All-tai
 use Rattle.std.proofs.lemmas.List.Elements.{Decides-contains}
 use Rattle.std.proofs.lemmas.List.Folds.{list_any-append}
 use Rattle.std.proofs.lemmas.Slice.Eq.{bytes_eq-Decides}
+use Rattle.smap_frames.specs.Places.{place_after}
+use Rattle.smap_frames.specs.declared.places.Place.{Place}
 use Rattle.smap_record.specs.Record.{Record}
-use Rattle.smap_trace.specs.Anywhere.{Occurrence, longer, longest, occurrence_of, place_after}
+use Rattle.smap_trace.specs.Anywhere.{Occurrence, longer, longest, occurrence_of}
 use Rattle.smap_trace.specs.ByLength.{AreFirstsOf, AreLengthsOf, at_length, is_among}
 use Rattle.smap_trace.specs.Scripts.{Script, map_of}
-use Rattle.smap_trace.specs.declared.places.Place.{Place}
 use Rattle.smap_trace.specs.Views.{script_in, scripts_in}
 use Rattle.smap_trace.proofs.ScriptLemmas.{Given}
 

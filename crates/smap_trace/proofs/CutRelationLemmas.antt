@@ -8,11 +8,12 @@ use Rattle.std.proofs.Math.Seq.{drop-append_seam, take-append_seam}
 use Rattle.std.proofs.lemmas.Bool.{cases_Bool, cond_both, ltb-false, ltb-true}
 use Rattle.std.proofs.lemmas.List.{take-append-drop}
 use Rattle.std.proofs.lemmas.Slice.Eq.{bytes_eq-Decides}
+use Rattle.smap_frames.specs.Places.{may_begin}
+use Rattle.smap_frames.specs.Frame.{position_text}
 use Rattle.smap_record.specs.Record.{Record}
 use Rattle.smap_trace.specs.Anywhere.{Occurrence, Piece, byte, bytes_of, cut, found, longer, longest}
-use Rattle.smap_trace.specs.Anywhere.{may_begin, occurrence_between, occurrence_of, pieces_of}
+use Rattle.smap_trace.specs.Anywhere.{occurrence_between, occurrence_of, pieces_of}
 use Rattle.smap_trace.specs.Cuts.{IsCut, IsPieceBetween, IsOccurrence, StandsBetween}
-use Rattle.smap_trace.specs.Frame.{position_text}
 use Rattle.smap_trace.specs.Laws.{CutIsComputed, OneCut}
 use Rattle.smap_trace.specs.Scripts.{AreDistinct, Script, map_of}
 use Rattle.smap_trace.proofs.CuttingLemmas.{cut_found}

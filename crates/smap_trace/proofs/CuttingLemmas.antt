@@ -1,27 +1,24 @@
 -- Lines cut from left to right into bytes and occurrences.
-use Rattle.std.proofs.Common.{◌≡◌, ◌≢◌, ◌∙◌, ℕ, zero, suc, ◌+◌, ◌-◌, ◌<◌, ◌≤◌, ◌==◌, Bool, true, false}
-use Rattle.std.proofs.Common.{◌&&◌, ◌||◌, List, [], ◌∷◌, ◌++◌, length, take, drop, get_or, map, flat_map}
-use Rattle.std.proofs.Common.{Option, Some, None, MatchOption, option_map, codes, decimal, nat_eq}
-use Rattle.std.proofs.Common.{refl, sym, ap, arith, append_assoc, append-nil, slice_range}
+use Rattle.std.proofs.Common.{◌≡◌, ◌≢◌, ◌∙◌, ℕ, zero, suc, ◌+◌, ◌-◌, ◌<◌, ◌≤◌, ◌==◌, Bool, true, false, ◌&&◌}
+use Rattle.std.proofs.Common.{◌||◌, List, [], ◌∷◌, ◌++◌, length, take, drop, get_or, map, flat_map, Option}
+use Rattle.std.proofs.Common.{Some, None, refl, sym, ap, arith, append_assoc, append-nil, slice_range}
 use Rattle.std.specs.Char.{is_ascii_digit}
-use Rattle.std.specs.List.{list_any, prefix_len, starts_with}
+use Rattle.std.specs.List.{list_any}
 use Rattle.std.proofs.Math.Seq.{drop-cons, take-add, take-suc}
 use Rattle.std.proofs.lemmas.Bool.{or_parts}
 use Rattle.std.proofs.lemmas.Bool.Decides.{nat_tests}
 use Rattle.std.proofs.lemmas.List.{drop-drop, drop_all, get_or-drop, length-drop, take_more, map-append}
 use Rattle.std.proofs.lemmas.List.Folds.{list_any-append}
 use Rattle.std.proofs.lemmas.Grind.{flat_map-append}
-use Rattle.smap_trace.specs.Anywhere.{Occurrence, Piece, byte, cut, found, longest, line_and_column}
-use Rattle.smap_trace.specs.Anywhere.{number_after, occurrence_between, occurrence_of, place_after, query_len}
+use Rattle.smap_frames.specs.Places.{line_and_column, number_after, place_after, query_len}
+use Rattle.smap_frames.proofs.PositionLemmas.{no_digit_first}
+use Rattle.smap_trace.specs.Anywhere.{Occurrence, Piece, byte, cut, found, longest, occurrence_between}
+use Rattle.smap_trace.specs.Anywhere.{occurrence_of}
 use Rattle.smap_trace.specs.Cutting.{has_place, pieces_from}
-use Rattle.smap_trace.specs.Frame.{IsPlace}
 use Rattle.smap_trace.specs.OccurrenceView.{IsWithin, occurrence_in}
 use Rattle.smap_trace.specs.Scripts.{Script}
 use Rattle.smap_trace.specs.Translation.{is_replaced, written_for}
 use Rattle.smap_trace.specs.declared.occurrences.Occurrence.{Occurrence as CodeOccurrence}
-use Rattle.smap_trace.proofs.LineLemmas.{left_is}
-use Rattle.smap_trace.proofs.PlaceLemmas.{IsNoPlace, place_is}
-use Rattle.smap_trace.proofs.PositionLemmas.{no_digit_first}
 
 -- ---- a colon and a digit
 
@@ -59,17 +56,6 @@ no_number (b ∷ bs) h = none b bs h
   where
     none : (b : ℕ) (bs : List ℕ) → has_place (b ∷ bs) ≡ false → number_after (b ∷ bs) ≡ None
     none b bs h = grind (arith, nat_tests, no_digit_first bs)
-
--- what the code finds behind a colon
-pub number_is : (text : List ℕ) (n : ℕ) (r : Option ℕ) → starts_with nat_eq text (codes ":") ≡ true
-    → n ≡ prefix_len is_ascii_digit (take (length text - 1) (drop 1 text))
-    → MatchOption r (IsNoPlace (take n (take (length text - 1) (drop 1 text))))
-    (λ m. IsPlace m × (take n (take (length text - 1) (drop 1 text)) ≡ decimal m))
-    → option_map (λ v. (v, n + 1)) r ≡ number_after text
-number_is text n r starts count is =
-    let left : take (length text - 1) (drop 1 text) ≡ drop 1 text = left_is text 1 in
-    let place = place_is (take n (drop 1 text)) r (rw left at is) in
-    rw (place, starts, rw left at count) refl
 
 no_line : (t : List ℕ) → has_place t ≡ false → line_and_column t ≡ None
 no_line t h = rw (no_number t h) refl

@@ -11,27 +11,28 @@ use Rattle.std.proofs.lemmas.Bool.Decides.{nat_tests, Decides-eqb}
 use Rattle.std.proofs.lemmas.Grind.{flat_map-append}
 use Rattle.std.proofs.lemmas.List.{append_cancel_right, nil_from_length}
 use Rattle.std.proofs.lemmas.List.Folds.{list_any-append}
+use Rattle.smap_frames.specs.Places.{continues, may_begin}
+use Rattle.smap_frames.specs.Frame.{AfterAsync, Alone, FrameParts, InParentheses, IsFrame, IsLineEnd, IsV8}
+use Rattle.smap_frames.specs.Frame.{position_text}
+use Rattle.smap_frames.proofs.CompleteLemmas.{complete}
+use Rattle.smap_frames.proofs.PositionLemmas.{both_of, length_position}
+use Rattle.smap_frames.proofs.SoundLemmas.{position_there}
+use Rattle.smap_frames.proofs.TextLemmas.{EndsIn}
 use Rattle.smap_record.specs.Record.{Origin, Record}
-use Rattle.smap_trace.specs.Anywhere.{Occurrence, Piece, byte, bytes_of, continues, cut, found, longest}
-use Rattle.smap_trace.specs.Anywhere.{may_begin, occurrence_between, piece_at, pieces_of}
+use Rattle.smap_trace.specs.Anywhere.{Occurrence, Piece, byte, bytes_of, cut, found, longest}
+use Rattle.smap_trace.specs.Anywhere.{occurrence_between, piece_at, pieces_of}
 use Rattle.smap_trace.specs.Cuts.{IsPieceBetween}
-use Rattle.smap_trace.specs.Frame.{AfterAsync, Alone, FrameParts, InParentheses}
-use Rattle.smap_trace.specs.Frame.{IsFrame, IsLineEnd, IsV8, position_text}
 use Rattle.smap_trace.specs.Laws.{FramesAreFoundAnywhere, HoldsOwnAlone}
 use Rattle.smap_trace.specs.Scripts.{AreDistinct, Script, map_of}
 use Rattle.smap_trace.specs.Translation.{anywhere_fate, dropped, Fate, fate_at, fate_in, fate_of_pieces}
 use Rattle.smap_trace.specs.Translation.{frame_fate, is_dropped, is_replaced, kept, map_for, origin_at}
 use Rattle.smap_trace.specs.Translation.{replaced, translated, written_for}
-use Rattle.smap_trace.proofs.CompleteLemmas.{complete}
 use Rattle.smap_trace.proofs.CutRelationLemmas.{begins_there, is_occurrence, longest_covers, one_there}
 use Rattle.smap_trace.proofs.CutRelationLemmas.{pieces_stand}
 use Rattle.smap_trace.proofs.CuttingLemmas.{bytes_kept, bytes_written}
 use Rattle.smap_trace.proofs.KnownLemmas.{known_longest}
 use Rattle.smap_trace.proofs.PieceLemmas.{longest_of}
-use Rattle.smap_trace.proofs.PositionLemmas.{BeginsWithPosition, both_of, length_position, position_found}
-use Rattle.smap_trace.proofs.PositionLemmas.{position_here}
-use Rattle.smap_trace.proofs.SoundLemmas.{position_there}
-use Rattle.smap_trace.proofs.TextLemmas.{EndsIn}
+use Rattle.smap_trace.proofs.PositionLemmas.{BeginsWithPosition, position_found, position_here}
 
 -- ---- a line of bytes holds no occurrence
 

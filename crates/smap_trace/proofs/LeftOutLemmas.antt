@@ -10,15 +10,17 @@ use Rattle.std.proofs.lemmas.Bool.{cases_Bool, or_right}
 use Rattle.std.proofs.lemmas.Bool.Decides.{nat_tests}
 use Rattle.std.proofs.lemmas.List.Sums.{sum_by-cons}
 use Rattle.std.proofs.lemmas.Slice.Eq.{bytes_eq-Decides}
+use Rattle.smap_frames.specs.Places.{may_begin}
+use Rattle.smap_frames.specs.Frame.{FrameParts, IsFrame, position_text}
+use Rattle.smap_frames.specs.Reading.{frame_of}
+use Rattle.smap_frames.proofs.SoundLemmas.{position_there, sound}
 use Rattle.smap_record.specs.Record.{Record}
-use Rattle.smap_trace.specs.Anywhere.{Occurrence, Piece, cut, found, longer, longest, may_begin, more_of}
+use Rattle.smap_trace.specs.Anywhere.{Occurrence, Piece, cut, found, longer, longest, more_of}
 use Rattle.smap_trace.specs.Anywhere.{occurrence_between, occurrence_of, piece_at}
-use Rattle.smap_trace.specs.Frame.{FrameParts, IsFrame, position_text}
 use Rattle.smap_trace.specs.Naming.{named_in}
-use Rattle.smap_trace.specs.Reading.{frame_of}
 use Rattle.smap_trace.specs.Scripts.{Script, map_of}
-use Rattle.smap_trace.specs.TraceLaws.{AreAlike, Finds, IsFoundIn, IsInFrame, IsOfFrame, NamedSuffice}
-use Rattle.smap_trace.specs.TraceLaws.{Names, UnfoundAreLeftOut, UnnamedAreLeftOut, is_named}
+use Rattle.smap_trace.specs.TraceLaws.{AreAlike, Finds, IsFoundIn, IsInFrame, IsOfFrame, NamedSuffice, Names}
+use Rattle.smap_trace.specs.TraceLaws.{UnfoundAreLeftOut, UnnamedAreLeftOut, is_named}
 use Rattle.smap_trace.specs.Translation.{Fate, fate_found, fate_in, frame_fate, is_dropped, is_translated}
 use Rattle.smap_trace.specs.Translation.{kept, line_translation_by, lines_of, map_for, without_line_feed}
 use Rattle.smap_trace.specs.Views.{at_most_u64}
@@ -28,7 +30,6 @@ use Rattle.smap_trace.proofs.CountLemmas.{same_counts}
 use Rattle.smap_trace.proofs.KnownLemmas.{names_script}
 use Rattle.smap_trace.proofs.MemberLemmas.{contains_first, contains_later, first_or_later}
 use Rattle.smap_trace.proofs.NamedUrlLemmas.{named_of_frames}
-use Rattle.smap_trace.proofs.SoundLemmas.{position_there, sound}
 
 -- ---- traces whose lines become the same
 

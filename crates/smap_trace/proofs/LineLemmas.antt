@@ -74,10 +74,6 @@ pub none_there : (bytes : List ℕ) → ((i : ℕ) → i < length bytes → (get
     → HasNoFeed bytes
 none_there bytes none = subst HasNoFeed (take-length bytes) (none_passed bytes (length bytes) none)
 
--- what is left of a piece
-pub left_is : (piece : List ℕ) (at : ℕ) → take (length piece - at) (drop at piece) ≡ drop at piece
-left_is piece at = ap (λ n. take n (drop at piece)) (sym (length-drop at piece)) ∙ take-length (drop at piece)
-
 -- the bytes up to and including a line feed
 pub line_end : (piece : List ℕ) (at feed : ℕ) → feed < length (drop at piece)
     → get_or (drop at piece) feed 0 ≡ 10

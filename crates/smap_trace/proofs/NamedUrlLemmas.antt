@@ -7,17 +7,17 @@ use Rattle.std.specs.Map.{keys_of}
 use Rattle.std.proofs.lemmas.List.Elements.{All-contains, All-contains_itself, All-from_recursion}
 use Rattle.std.proofs.lemmas.List.Elements.{recursion_from_All}
 use Rattle.std.proofs.lemmas.Option.{slice_get-get_or}
+use Rattle.smap_frames.specs.Frame.{FrameParts}
+use Rattle.smap_frames.specs.Reading.{frame_of}
+use Rattle.smap_frames.proofs.CompleteLemmas.{complete}
+use Rattle.smap_frames.proofs.SoundLemmas.{some_is, sound}
 use Rattle.smap_record.specs.Record.{distinct}
 use Rattle.smap_record.proofs.EqualLemmas.{same_bytes}
 use Rattle.smap_record.proofs.OnceLemmas.{Contains-distinct, all_distinct}
-use Rattle.smap_trace.specs.Frame.{FrameParts}
 use Rattle.smap_trace.specs.Naming.{named_in, url_of, urls_of}
-use Rattle.smap_trace.specs.Reading.{frame_of}
 use Rattle.smap_trace.specs.TraceLaws.{NamedAreOfFrames, Names}
 use Rattle.smap_trace.specs.Translation.{lines_of, without_line_feed}
-use Rattle.smap_trace.proofs.CompleteLemmas.{complete}
 use Rattle.smap_trace.proofs.MemberLemmas.{contains_first, contains_later, first_or_later}
-use Rattle.smap_trace.proofs.SoundLemmas.{some_is, sound}
 
 -- ---- each URL once
 

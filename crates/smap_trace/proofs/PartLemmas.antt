@@ -1,14 +1,15 @@
 -- A trace in two parts.
 use Rattle.std.proofs.Common.{◌≡◌, inl, inr, ℕ, ◌+◌, ◌-◌, ◌^◌, Bool, cond, List, ◌++◌}
-use Rattle.std.proofs.Common.{arith, count_by, length, length-append, min, take}
+use Rattle.std.proofs.Common.{[], ◌∷◌, ◌∙◌, ap, arith, count_by, drop, length, length-append, min, sym, take}
+use Rattle.std.proofs.lemmas.List.{take-append-drop}
 use Rattle.std.proofs.lemmas.List.Sums.{sum_by-append}
+use Rattle.std.proofs.lemmas.Slice.Eq.{bytes_eq-Decides}
 use Rattle.smap_trace.specs.Pieces.{IsWhole}
 use Rattle.smap_trace.specs.TraceLaws.{EndsItsLine, PartsAreTranslated, sum_of}
 use Rattle.smap_trace.specs.Translation.{is_dropped, is_translated, lines_of}
 use Rattle.smap_trace.specs.Views.{at_most_u64, counts_by}
 use Rattle.smap_trace.proofs.CountLemmas.{same_counts}
 use Rattle.smap_trace.proofs.LineLemmas.{lines_of-append, translation-append}
-use Rattle.smap_trace.proofs.SoundLemmas.{ends}
 
 capped_sum : (a b : ℕ) → at_most_u64 (a + b) ≡ at_most_u64 (at_most_u64 a + at_most_u64 b)
 capped_sum a b = step a b (2 ^ 64 - 1)
@@ -29,7 +30,10 @@ both_long lines xs ys e =
 
 ended_is_whole : (text : List ℕ) → EndsItsLine text → IsWhole text
 ended_is_whole text (inl e) = inl e
-ended_is_whole text (inr e) = inr (take (length text - 1) text, ends text 10 e)
+ended_is_whole text (inr e) =
+    let front = take (length text - 1) text in
+    let feed = (bytes_eq-Decides (10 ∷ []) (drop (length text - 1) text)).0 e in
+    inr (front, sym (ap (λ (last : List ℕ). front ++ last) feed ∙ take-append-drop (length text - 1) text))
 
 pub parts_translated : PartsAreTranslated
 parts_translated fates first rest ended =

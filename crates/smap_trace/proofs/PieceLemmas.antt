@@ -7,13 +7,14 @@ use Rattle.std.proofs.lemmas.Bool.{or_parts}
 use Rattle.std.proofs.lemmas.Bool.Decides.{Decides-eqb}
 use Rattle.std.proofs.lemmas.List.{take-append-drop}
 use Rattle.std.proofs.lemmas.Slice.Eq.{ends_is}
-use Rattle.smap_trace.specs.Anywhere.{Occurrence, Piece, bytes_of, cut, longer, longest}
-use Rattle.smap_trace.specs.Anywhere.{more_of, occurrence_between, occurrence_of, piece_at, pieces_of}
+use Rattle.smap_frames.proofs.PositionLemmas.{length_position}
+use Rattle.smap_trace.specs.Anywhere.{Occurrence, Piece, bytes_of, cut, longer, longest, more_of}
+use Rattle.smap_trace.specs.Anywhere.{occurrence_between, occurrence_of, piece_at, pieces_of}
 use Rattle.smap_trace.specs.Laws.{PiecesAreTheLine}
 use Rattle.smap_trace.specs.Scripts.{Script}
 use Rattle.smap_trace.specs.Translation.{anywhere_fate, feed_of, frame_fate, has_line_feed, is_dropped}
 use Rattle.smap_trace.specs.Translation.{is_replaced, without_line_feed, written, written_for}
-use Rattle.smap_trace.proofs.PositionLemmas.{length_position, position_found}
+use Rattle.smap_trace.proofs.PositionLemmas.{position_found}
 
 -- ---- an occurrence takes bytes
 

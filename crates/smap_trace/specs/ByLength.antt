@@ -3,10 +3,11 @@ use Rattle.std.specs.Prelude.{ℕ, Bool, ◌+◌, ◌&&◌, ◌||◌, ◌≡◌,
 use Rattle.std.specs.Prelude.{nat_le, nat_lt}
 use Rattle.std.specs.Prelude.{if◌then◌else◌, Option, None, option_map, option_and_then}
 use Rattle.std.specs.List.{All, list_any}
+use Rattle.smap_frames.specs.Places.{place_after}
+use Rattle.smap_frames.specs.declared.places.Place.{Place}
 use Rattle.smap_record.specs.Record.{Record}
-use Rattle.smap_trace.specs.Anywhere.{Occurrence, place_after}
+use Rattle.smap_trace.specs.Anywhere.{Occurrence}
 use Rattle.smap_trace.specs.Scripts.{Script, map_of}
-use Rattle.smap_trace.specs.declared.places.Place.{Place}
 
 -- the occurrence of this URL and this place behind it
 abbrev pub found_at : List ℕ → Place → Record → Occurrence

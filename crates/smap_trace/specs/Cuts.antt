@@ -1,24 +1,13 @@
 -- A line cut into bytes and positions, as a relation. `pieces_of` in `Anywhere.antt` computes it: by the law
 -- `CutIsComputed`, both say the same. This project's own rules.
-use Rattle.std.specs.Prelude.{◌≡◌, ◌⊎◌, ◌<◌, ◌≤◌, ℕ, Bool, true, false, List, [], ◌∷◌, ◌++◌, length, take}
-use Rattle.std.specs.Prelude.{flat_map, Some}
+use Rattle.std.specs.Prelude.{◌≡◌, ◌<◌, ◌≤◌, ℕ, Bool, true, false, List, ◌∷◌, ◌++◌, length, take, flat_map}
+use Rattle.std.specs.Prelude.{Some}
 use Rattle.std.specs.Char.{is_ascii_digit}
-use Rattle.std.specs.List.{list_all, list_any}
-use Rattle.smap_trace.specs.Anywhere.{Occurrence, Piece, byte, bytes_of, found, is_query_byte, may_begin}
-use Rattle.smap_trace.specs.Frame.{IsPlace, position_text}
+use Rattle.std.specs.List.{list_any}
+use Rattle.smap_frames.specs.Places.{IsIgnored, may_begin}
+use Rattle.smap_frames.specs.Frame.{IsPlace, position_text}
+use Rattle.smap_trace.specs.Anywhere.{Occurrence, Piece, byte, bytes_of, found}
 use Rattle.smap_trace.specs.Scripts.{Script, map_of}
-
--- nothing, or a mark and bytes of a query behind it
-abbrev pub IsMarked : ℕ → List ℕ → Type 0
-IsMarked mark text = (text ≡ [])
-    ⊎ ((rest : List ℕ) × (text ≡ mark ∷ rest) × (list_all is_query_byte rest ≡ true))
-
--- What may stand between the URL and `:L:C`: nothing, or, where these are ignored, a query, which `?` begins,
--- and a fragment, which `#` begins.
-abbrev pub IsIgnored : Bool → List ℕ → Type 0
-IsIgnored false text = text ≡ []
-IsIgnored true text = (query fragment : List ℕ) × (text ≡ query ++ fragment) × IsMarked 63 query
-    × IsMarked 35 fragment
 
 -- The text is a position `U:L:C` of a script with the URL U, where line and column are written as in frames.
 pub record IsOccurrence (ignore : Bool) (scripts : List Script) (o : Occurrence) (text : List ℕ)

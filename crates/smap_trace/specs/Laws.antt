@@ -1,25 +1,16 @@
 -- Laws about the definitions.
 use Rattle.std.specs.Prelude.{◌≡◌, ◌↔◌, ◌⊎◌, ℕ, ◌+◌, ◌<◌, ◌==◌, Bool, List, ◌∷◌, ◌++◌, count_by, flat_map}
-use Rattle.std.specs.Prelude.{length, map, Option, slice_index, Some}
+use Rattle.std.specs.Prelude.{length, map, Option, slice_index}
+use Rattle.smap_frames.specs.Frame.{IsFrame, FrameParts, position_text}
 use Rattle.smap_mappings.specs.Position.{NeverFalls}
 use Rattle.smap_record.specs.Fitting.{mapping_position}
 use Rattle.smap_record.specs.Record.{Mapping}
 use Rattle.smap_trace.specs.Anywhere.{Occurrence, Piece, byte, bytes_of, found, pieces_of}
 use Rattle.smap_trace.specs.Cuts.{IsCut}
-use Rattle.smap_trace.specs.Frame.{IsFrame, FrameParts, position_text}
 use Rattle.smap_trace.specs.LineStarts.{line_starts}
 use Rattle.smap_trace.specs.Lookup.{FallsTo, mapping_at}
-use Rattle.smap_trace.specs.Reading.{frame_of}
 use Rattle.smap_trace.specs.Scripts.{AreDistinct, Script}
 use Rattle.smap_trace.specs.Translation.{anywhere_fate, frame_fate}
-
--- `frame_of` computes exactly the frame that a line is.
-abbrev pub FrameIsComputed : Type 0
-FrameIsComputed = (line : List ℕ) (f : FrameParts) → (frame_of line ≡ Some f) ↔ IsFrame line f
-
--- A line is a frame in at most one way.
-abbrev pub OneReading : Type 0
-OneReading = (line : List ℕ) (f g : FrameParts) → IsFrame line f → IsFrame line g → f ≡ g
 
 -- `mapping_at` computes exactly the mapping that a position has, in any list of mappings.
 abbrev pub LookupIsComputed : Type 0

@@ -3,8 +3,6 @@ pub mod ByLength
 pub mod Counting
 pub mod Cuts
 pub mod Cutting
-pub mod Frame
-pub mod FrameView
 pub mod Laws
 pub mod LineStarts
 pub mod Lookup
@@ -12,7 +10,6 @@ pub mod Naming
 pub mod OccurrenceView
 pub mod Pieces
 pub mod Positions
-pub mod Reading
 pub mod Scripts
 pub mod Streaming
 pub mod TraceLaws

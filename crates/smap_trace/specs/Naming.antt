@@ -3,12 +3,12 @@ use Rattle.std.specs.Prelude.{◌≡◌, ◌⊎◌, ℕ, ◌+◌, ◌≤◌, Lis
 use Rattle.std.specs.Prelude.{option_map}
 use Rattle.std.specs.Prelude.{Result, Ok, Err}
 use Rattle.std.specs.List.{filter_map}
+use Rattle.smap_frames.specs.Reading.{frame_of}
 use Rattle.smap_io.specs.declared.device.Device.{Device}
 use Rattle.smap_io.specs.Device.{device_failures}
 use Rattle.smap_io.specs.Limits.{most_calls}
 use Rattle.smap_io.specs.Reading.{Gave, IsAtItsEnd}
 use Rattle.smap_record.specs.Record.{distinct}
-use Rattle.smap_trace.specs.Reading.{frame_of}
 use Rattle.smap_trace.specs.Translation.{lines_of, without_line_feed}
 use Rattle.smap_trace.specs.Views.{at_most_u64}
 use Rattle.smap_trace.specs.declared.error.TraceError.{TraceError}

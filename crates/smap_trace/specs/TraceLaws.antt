@@ -3,8 +3,8 @@ use Rattle.std.specs.Prelude.{◌≡◌, ◌↔◌, ◌⊎◌, ℕ, ◌+◌, Boo
 use Rattle.std.specs.Prelude.{bytes_eq, Some}
 use Rattle.std.specs.List.{list_any}
 use Rattle.std.specs.Map.{keys_of}
+use Rattle.smap_frames.specs.Frame.{FrameParts, IsFrame, position_text}
 use Rattle.smap_trace.specs.Anywhere.{Occurrence, found, longest, pieces_of}
-use Rattle.smap_trace.specs.Frame.{FrameParts, IsFrame, position_text}
 use Rattle.smap_trace.specs.Naming.{named_in}
 use Rattle.smap_trace.specs.Scripts.{Script}
 use Rattle.smap_trace.specs.Translation.{Fate, fate, fate_by, has_line_feed, lines_of, translation_by}

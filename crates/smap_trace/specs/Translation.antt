@@ -5,11 +5,11 @@ use Rattle.std.specs.Prelude.{List, [], ◌∷◌, ◌++◌, length, take, flat_
 use Rattle.std.specs.Prelude.{Option, Some, None, option_map, option_and_then, unwrap_or}
 use Rattle.std.specs.List.{onto_first, ends_with, list_any}
 use Rattle.std.specs.Option.{is_some, option_map_or}
+use Rattle.smap_frames.specs.Frame.{FrameParts, position_text}
+use Rattle.smap_frames.specs.Reading.{frame_of}
 use Rattle.smap_record.specs.Record.{Origin, Record}
 use Rattle.smap_trace.specs.Anywhere.{Piece, byte, bytes_of, found, longest, pieces_of}
 use Rattle.smap_trace.specs.Lookup.{mapping_at}
-use Rattle.smap_trace.specs.Frame.{FrameParts, position_text}
-use Rattle.smap_trace.specs.Reading.{frame_of}
 pub use Rattle.smap_trace.specs.Scripts.{Script, AreDistinct, map_of}
 use Rattle.smap_trace.specs.declared.finding.Finding.{Finding}
 

@@ -11,10 +11,9 @@ ghost use Rattle.smap_trace.specs.Translation.{is_replaced, written_for};
 
 use crate::lookups::origin_at;
 use crate::occurrences::Occurrence;
-use crate::places::may_begin;
-use crate::position_text::push_position;
 use crate::scripts::Maps;
 use memchr::memchr;
+use smap_frames::{may_begin, push_position};
 use std::alloc::AllocError;
 
 /// The occurrence at this place of a line.

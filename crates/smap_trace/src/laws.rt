@@ -1,17 +1,8 @@
 //! Laws about the definitions. Each is the contract of a function that does nothing.
-ghost use Rattle.smap_trace.specs.Laws.{CutIsComputed, FrameIsComputed, FramesAreFoundAnywhere};
-ghost use Rattle.smap_trace.specs.Laws.{LinesAreCounted, LookupIsComputed, OneCut, OneReading};
-ghost use Rattle.smap_trace.specs.Laws.{PiecesAreTheLine};
+ghost use Rattle.smap_trace.specs.Laws.{CutIsComputed, FramesAreFoundAnywhere, LinesAreCounted};
+ghost use Rattle.smap_trace.specs.Laws.{LookupIsComputed, OneCut, PiecesAreTheLine};
 
-/// The function that finds frames finds exactly those of the grammar.
-pub fn frames_are_computed()
-    ensures { FrameIsComputed }
-{}
-
-/// A line is a frame in at most one way.
-pub fn one_reading()
-    ensures { OneReading }
-{}
+pub use smap_frames::laws::{frames_are_computed, one_reading};
 
 /// The function that looks a position up finds exactly the mapping that the definition gives it, so there
 /// is at most one.

@@ -11,9 +11,9 @@ ghost use Rattle.smap_trace.specs.Pieces.{HasNoFeed};
 ghost use Rattle.smap_trace.specs.Translation.{without_line_feed};
 
 use crate::error::TraceError;
-use crate::frames::frame;
 use indexmap::IndexMap;
 use memchr::memchr;
+use smap_frames::frame;
 use smap_io::{Device, MOST_CALLS};
 use std::alloc::{AllocError, Global};
 use std::io::Read;

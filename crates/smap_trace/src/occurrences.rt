@@ -4,7 +4,7 @@ ghost use Rattle.smap_record.specs.Record.{record_of};
 ghost use Rattle.smap_trace.specs.Anywhere as spec;
 ghost use Rattle.smap_trace.specs.OccurrenceView.{IsWithin, occurrence_in};
 
-use crate::places::place_after;
+use smap_frames::place_after;
 use smap_record::SourceMap;
 
 /// The position of a script at the beginning of a text.

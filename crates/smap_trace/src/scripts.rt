@@ -8,8 +8,8 @@ ghost use Rattle.smap_trace.specs.Scripts.{AreDistinct, Script, map_of};
 ghost use Rattle.smap_trace.specs.Views.{scripts_in};
 
 use crate::occurrences::{Occurrence, longer, occurrence_of};
-use crate::places::place_after;
 use indexmap::IndexMap;
+use smap_frames::place_after;
 use smap_record::SourceMap;
 use std::alloc::{AllocError, Global};
 

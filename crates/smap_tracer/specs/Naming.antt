@@ -1,14 +1,15 @@
 -- The names that lines of a log have.
-use Rattle.std.specs.Prelude.{◌==◌, ◌<◌, ℕ, not, Option, get_or, Bool, List, [], ◌++◌, bytes_eq, cond, drop, filter, flat_map, length, map, slice_range}
+use Rattle.std.specs.Prelude.{◌==◌, ◌<◌, ℕ, not, Option, get_or, Bool, List, [], ◌++◌, bytes_eq, cond, drop}
+use Rattle.std.specs.Prelude.{filter, flat_map, length, map, slice_range}
 use Rattle.std.specs.Borrow.{Bor}
 use Rattle.std.specs.List.{Contains, list_any, slice_split}
 use Rattle.indexmap.specs.IndexMap.{keys}
 use Rattle.smap_disk.specs.Held.{GivesHeld, Held}
+use Rattle.smap_frames.specs.Places.{query_len}
 use Rattle.smap_lines.specs.Lines.{is_feed}
 use Rattle.smap_lines.specs.Spans.{spans}
 use Rattle.smap_lines.specs.declared.spans.Span.{Span}
 use Rattle.smap_link.specs.Paths.{bare_size}
-use Rattle.smap_trace.specs.Anywhere.{query_len}
 use Rattle.smap_trace.specs.Naming.{urls_of}
 use Rattle.smap_tracer.specs.Written.{IsAll}
 use Rattle.smap_tracer.specs.declared.naming.Names.{Names}

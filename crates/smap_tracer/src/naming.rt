@@ -2,7 +2,7 @@
 ghost use Rattle.std.specs.Prelude.{◌≡◌, ◌++◌, ◌≤◌, [], ◌∷◌, IfOk, OnOk, filter, length, map};
 ghost use Rattle.std.specs.List.{prefix_len};
 ghost use Rattle.std.specs.Map.{keys_of};
-ghost use Rattle.smap_trace.specs.Anywhere.{is_query_byte, marked_len};
+ghost use Rattle.smap_frames.specs.Places.{is_query_byte, marked_len};
 ghost use Rattle.smap_trace.specs.Naming.{urls_of};
 ghost use Rattle.smap_tracer.specs.Naming as spec;
 ghost use Rattle.smap_tracer.specs.Naming.{AreNamesOf, AreSame, frames_of, others_in, others_of};

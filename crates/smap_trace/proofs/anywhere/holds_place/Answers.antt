@@ -2,14 +2,14 @@ use Rattle.std.proofs.Common.{◌≡◌, ◌∙◌, ◌+◌, ◌<◌, true, leng
 use Rattle.std.specs.Char.{is_ascii_digit}
 use Rattle.std.proofs.lemmas.Bool.{eqb-true}
 use Rattle.smap_trace.proofs.CuttingLemmas.{behind_colon, no_colon}
-use Rattle.smap_trace.proofs.LineLemmas.{left_is}
+use Rattle.std.proofs.lemmas.List.{take_rest}
 use Rattle.smap_trace.proofs.anywhere.holds_place.Goals as goal
 
 pub returns-then-is_ascii_digit : goal.returns-then-is_ascii_digit
 returns-then-is_ascii_digit c =
     let text = c.args.text.now in
     let at = c.colons.at in
-    let met = rw (left_is text at) at c.in-Some.ensures in
+    let met = rw (take_rest text at) at c.in-Some.ensures in
     let is : get_or (drop at text) c.in-Some.colon 0 ≡ 58 = eqb-true _ 58 met.1 in
     let digit : is_ascii_digit (get_or text (at + c.in-Some.colon + 1) 0) ≡ true = search rules in
     sym (c.colons.invariant.rest ∙ (behind_colon text at c.in-Some.colon met.0.high
@@ -19,7 +19,7 @@ pub colons-preserved : goal.colons-preserved
 colons-preserved c =
     let text = c.args.text.now in
     let at = c.colons.at in
-    let met = rw (left_is text at) at c.in-Some.ensures in
+    let met = rw (take_rest text at) at c.in-Some.ensures in
     let is : get_or (drop at text) c.in-Some.colon 0 ≡ 58 = eqb-true _ 58 met.1 in
     let behind = behind_colon text at c.in-Some.colon met.0.high
     (λ i below. met.0.before i (omega arith) below) is in
@@ -35,6 +35,6 @@ colons-preserved c =
 
 pub returns : goal.returns
 returns c =
-    let none = rw (left_is c.args.text.now c.colons.at) at c.in_default.ensures in
+    let none = rw (take_rest c.args.text.now c.colons.at) at c.in_default.ensures in
     sym (c.colons.invariant.rest ∙ no_colon (drop c.colons.at c.args.text.now)
     (λ i below. none i (omega arith) below))

@@ -1,12 +1,12 @@
 use Rattle.std.proofs.Common.{drop, take, sym}
 use Rattle.smap_trace.proofs.CuttingLemmas.{all_bytes, byte_next, found_next}
-use Rattle.smap_trace.proofs.LineLemmas.{left_is}
+use Rattle.std.proofs.lemmas.List.{take_rest}
 use Rattle.smap_trace.proofs.anywhere.next_occurrence.Goals as goal
 
 pub returns-then-not-holds_place : goal.returns-then-not-holds_place
 returns-then-not-holds_place g c =
     let text = c.args.text.now in
-    let none = rw (left_is text c.args.at) at c.if-not-holds_place.ensures in
+    let none = rw (take_rest text c.args.at) at c.if-not-holds_place.ensures in
     all_bytes c.args.ignore_query (g.M.Maps.scripts c.args.maps.now) (take c.args.at text)
     (drop c.args.at text) (sym none)
 

@@ -6,7 +6,7 @@ use Rattle.smap_trace.specs.Cutting.{pieces_from}
 use Rattle.smap_trace.specs.OccurrenceView.{occurrence_in}
 use Rattle.smap_trace.specs.Translation.{is_replaced, written_for}
 use Rattle.smap_trace.proofs.CuttingLemmas.{replaced_all, replaced_on, written_all, written_on}
-use Rattle.smap_trace.proofs.LineLemmas.{left_is}
+use Rattle.std.proofs.lemmas.List.{take_rest}
 use Rattle.smap_trace.proofs.StartsLemmas.{on_err, starts_append, starts_trans}
 use Rattle.smap_trace.proofs.anywhere.push_pieces.Goals as goal
 
@@ -56,7 +56,7 @@ returns-clause-ok g c =
     written_all pieces (drop c.positions.at text) c.positions.out.items c.extend_from_slice-2.new.self.items
     (c.args.out.now.items ++ flat_map written_for (pieces_of c.args.ignore_query (g.M.Maps.scripts
     c.args.maps.now) text)) c.in_default.ensures
-    (rw (left_is text c.positions.at) at c.in_ok-extend_from_slice-2.ensures.items)
+    (rw (take_rest text c.positions.at) at c.in_ok-extend_from_slice-2.ensures.items)
     c.positions.invariant.written
 
 pub returns-clause-replaced : goal.returns-clause-replaced

@@ -2,7 +2,7 @@ use Rattle.std.proofs.Common.{◌≡◌, ◌+◌, ◌<◌, length, take, drop, g
 use Rattle.std.proofs.lemmas.Bool.{eqb-true}
 use Rattle.std.proofs.lemmas.List.{take-append-drop}
 use Rattle.smap_trace.proofs.LineLemmas.{feed_step, rest_step, none_passed, none_there, line_end, line_taken}
-use Rattle.smap_trace.proofs.LineLemmas.{left_is}
+use Rattle.std.proofs.lemmas.List.{take_rest}
 use Rattle.smap_trace.proofs.streaming.take_piece.Goals as goal
 
 pub lines-preserved : goal.lines-preserved
@@ -11,7 +11,7 @@ lines-preserved g c =
     let piece = c.args.piece.now in
     let at = c.lines.at in
     let feed = c.in-Some.feed in
-    let found = rw (left_is piece at) at c.in-Some.ensures in
+    let found = rw (take_rest piece at) at c.in-Some.ensures in
     let lt : feed < length (drop at piece) = found.0.high in
     let is : get_or (drop at piece) feed 0 ≡ 10 = eqb-true _ 10 found.1 in
     let end = line_end piece at feed lt is in
@@ -30,7 +30,7 @@ returns g c =
     let fates = g.T.Translator.fates c.args.lines.now in
     let piece = c.args.piece.now in
     let at = c.lines.at in
-    let left = left_is piece at in
+    let left = take_rest piece at in
     let none = rw left at c.in_default.ensures in
     let step = rest_step fates c.args.line.now.items (take at piece) piece c.lines.line.items
     c.extend_from_slice.new.self.items c.args.out.now.items c.lines.out.items

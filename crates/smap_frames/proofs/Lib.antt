@@ -1,0 +1,12 @@
+pub mod BodyLemmas
+pub mod CompleteLemmas
+pub mod CutLemmas
+pub mod Examples
+pub mod FrameLemmas
+pub mod LawLemmas
+pub mod MarkLemmas
+pub mod PlaceLemmas
+pub mod PositionLemmas
+pub mod ReadingLemmas
+pub mod SoundLemmas
+pub mod TextLemmas

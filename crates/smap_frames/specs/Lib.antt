@@ -1,0 +1,5 @@
+pub mod Frame
+pub mod FrameView
+pub mod Laws
+pub mod Places
+pub mod Reading

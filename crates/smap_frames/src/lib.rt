@@ -1,0 +1,18 @@
+//! The frames of stack traces, and the text of positions.
+//!
+//! [`frame`] recognizes a line of a stack trace of V8 (Chrome, Edge, Node), Firefox or Safari.
+//! [`place_after`] reads a line and a column behind a URL, and [`may_begin`] says whether a URL may begin
+//! behind a text; [`push_position`] writes a position. Lines and columns count from 1. Nothing here knows of
+//! maps.
+#![tactic(auto)]
+
+mod frames;
+pub mod laws;
+mod parts;
+mod places;
+mod position_text;
+
+pub use frames::frame;
+pub use parts::Frame;
+pub use places::{Place, may_begin, place_after};
+pub use position_text::push_position;

@@ -1,9 +1,0 @@
-use Rattle.std.proofs.Common.{drop, ◌≤◌}
-use Rattle.smap_trace.proofs.PlaceLemmas.{IsReadTo}
-use Rattle.smap_trace.proofs.frames.place.Given as goal
-
-abbrev pub invariant-loop-digit : goal.invariant-loop-digit
-invariant-loop-digit l = record {
-  read : IsReadTo l.text l.number (drop l.digit-index l.text);
-  fits : l.number ≤ 2147483649;
-}
