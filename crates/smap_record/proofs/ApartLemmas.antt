@@ -23,7 +23,8 @@ use Rattle.smap_record.proofs.StepLemmas.{then_ok}
 use Rattle.smap_record.proofs.TextLemmas.{tree_read}
 
 -- Sections were read and listed, and those that are left are read and listed after them.
-pub record SoFar (inner : Inner) (all left : List Token) (last : Option Position) (listing : Listing) : Type 0 where
+pub record SoFar (inner : Inner) (all left : List Token) (last : Option Position)
+    (listing : Listing) : Type 0 where
   pub done : List Data
   pub k : ℕ
   pub reads : (ds : List Data) → AreSections left ds → AreSections all (done ++ ds)

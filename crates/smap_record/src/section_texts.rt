@@ -37,7 +37,8 @@ fn with_next(
 ) -> Result<Option<Read>, AllocError>
     requires fits { ListingFits base.now limits (listing_of before) }
     ensures reads { IfOk result (λ o. IfSome o (λ r.
-        AddsSection base.now limits sections.old last (listing_of before) r.0 (listing_of r.1) sections.new)) }
+        AddsSection base.now limits sections.old last (listing_of before) r.0 (listing_of r.1)
+        sections.new)) }
     ensures fits { IfOk result (λ o. IfSome o (λ r. ListingFits base.now limits (listing_of r.1))) }
     ensures shorter { IfOk result (λ o. IfSome o (λ _. length sections.new < length sections.old)) }
 {

@@ -74,8 +74,8 @@ one_more all left after rest found k d so_far key reads shorter =
       n = so_far.n - 1;
       enough = omega (arith, enough, first, shorter);
       then = λ js ms taken same. so_far.then (json.member k reads.0 js) ms
-          (members_more (value 126) so_far.n k left after rest reads.0 (omega (arith, enough, first)) key reads.1
-          ∙ ap (parse_map (json.member k reads.0)) taken) (rw reads.2 same);
+          (members_more (value 126) so_far.n k left after rest reads.0 (omega (arith, enough, first)) key
+          reads.1 ∙ ap (parse_map (json.member k reads.0)) taken) (rw reads.2 same);
     }
 
 -- the sections are the last member

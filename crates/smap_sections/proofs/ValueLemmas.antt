@@ -2,7 +2,8 @@
 use Rattle.std.proofs.Common.{◌≡◌, ℕ, ◌≤◌, List, [], ◌++◌, None, Some, refl, sym, ◌∙◌, append-nil}
 use Rattle.json.specs.Token.{Token}
 use Rattle.json.specs.Lex.{tokens}
-use Rattle.json.specs.Json.{Json, null, boolean, number, string, array, object, value, document, after_end_array}
+use Rattle.json.specs.Json.{Json, null, boolean, number, string, array, object}
+use Rattle.json.specs.Json.{value, document, after_end_array}
 use Rattle.json.specs.Tree.{json_tokens, depth}
 use Rattle.json.proofs.Printed.Trees.{value-json_tokens}
 use Rattle.json.proofs.Unique.Spelling.{value-json_tokens_back, tokens-document}
@@ -24,5 +25,6 @@ begins (array js) ts = refl
 begins (object ms) ts = refl
 
 -- where a value is next, no array ends
-pub no_end : (d : ℕ) (ts rest : List Token) (j : Json) → value d ts ≡ Some (j, rest) → after_end_array ts ≡ None
+pub no_end : (d : ℕ) (ts rest : List Token) (j : Json) → value d ts ≡ Some (j, rest)
+    → after_end_array ts ≡ None
 no_end d ts rest j is = rw (value-json_tokens_back d ts rest j is) (begins j rest)

@@ -7,7 +7,8 @@ use Rattle.serde_json.specs.Data.{Data, Members, no_members, array, put}
 use Rattle.serde_json.specs.Read.{of_members}
 use Rattle.serde_json.specs.View.{items_of}
 
--- The tokens are those of an object's members, after its brace, up to the end of the text; they read as these.
+-- The tokens are those of an object's members, after its brace, up to the end of the text; they read as
+-- these.
 abbrev pub AreMembers : List Token → Members → Type 0
 AreMembers ts ms = (js : json.Members) × (members (value 126) (length ts) ts ≡ Some (js, []))
     × (of_members js no_members ≡ Some ms)

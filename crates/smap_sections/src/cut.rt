@@ -56,9 +56,9 @@ fn members_in_front(
 /// The members of a map besides `sections`, and a reader of its sections; none if the text can't be cut
 /// there.
 ///
-/// Once each section has been read by [`next_section`], up to a bracket and [`ends_map`], the text is known to
-/// be those members with these sections. Texts that are cut are objects whose last member is `sections`, an
-/// array; that member begins in the first few thousand bytes.
+/// Once each section has been read by [`next_section`], up to a bracket and [`ends_map`], the text is known
+/// to be those members with these sections. Texts that are cut are objects whose last member is `sections`,
+/// an array; that member begins in the first few thousand bytes.
 ///
 /// # Errors
 ///

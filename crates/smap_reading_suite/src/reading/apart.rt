@@ -5,6 +5,7 @@ use json::{Reader, Scratch};
 use smap_record::{Base, Limits, ReadError, SourceMap, WrittenSources};
 use smap_sections::{cut_sections, ends_map, next_section};
 use smap_testing::rows;
+use std::alloc::AllocError;
 use std::process::Abort;
 
 /// What a row shows, a map, and how many of its sections are read by themselves up to the end of the map;
@@ -111,20 +112,21 @@ fn count_of(
 }
 
 /// How many sections a map has, each read by itself.
-fn whole_count(rt: &(impl Abort + AllocGlobal), text: &[u8]) -> Option<usize> {
+fn whole_count(
+    rt: &(impl Abort + AllocGlobal),
+    text: &[u8],
+) -> Result<Option<usize>, AllocError> {
     let mut scratch = Scratch::new(rt.alloc());
-    match ample(rt, cut_sections(rt.alloc(), text, &mut scratch)) {
-        Some((_, sections)) => {
-            let mut sections = sections;
-            count_of(rt, &mut sections, text.len())
-        }
-        None => None,
-    }
+    let Some((_members, sections)) = cut_sections(rt.alloc(), text, &mut scratch)? else {
+        return Ok(None);
+    };
+    let mut sections = sections;
+    Ok(count_of(rt, &mut sections, text.len()))
 }
 
 /// The number of sections as a row has it.
 fn count_told(rt: &(impl Abort + AllocGlobal), text: &[u8]) -> String {
-    let told = match whole_count(rt, text) {
+    let told = match ample(rt, whole_count(rt, text)) {
         Some(count) => format!(in rt.alloc(); "{count}"),
         None => String::from_str(rt.alloc(), "whole"),
     };

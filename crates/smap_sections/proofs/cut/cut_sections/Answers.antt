@@ -12,4 +12,5 @@ returns-in-Some-clause-reads c = λ ds are.
     let members = c.in-Some.members in
     let opens : tokens c.args.text.now ≡ Token.begin_object ∷ c.next.new.self = grind arith in
     rw (view-Object members) (whole c.args.text.now c.next.new.self
-    (with_sections_last ds (members_view members.entries)) opens (rw c.in-Some.is at c.in_ok-members.ensures ds are))
+    (with_sections_last ds (members_view members.entries)) opens
+    (rw c.in-Some.is at c.in_ok-members.ensures ds are))

@@ -10,16 +10,17 @@ returns-in-Some-BeginArray c = λ ds are.
     let found = members_view c.members.found.entries in
     let opens : c.next_key.new.self ≡ Token.begin_array ∷ c.next.new.self = grind arith in
     let name : c.in-Ok-Some.name.now ≡ codes "sections" = search rules in
-    let key : read_key c.members.reader ≡ Some (Some (codes "sections"), Token.begin_array ∷ c.next.new.self) =
-    grind arith in
+    let array = Token.begin_array ∷ c.next.new.self in
+    let key : read_key c.members.reader ≡ Some (Some (codes "sections"), array) = grind arith in
     sections_last c.args.reader.now c.members.reader c.next.new.self found (codes "sections") ds
     c.members.invariant key are
 
 pub members-preserved : goal.members-preserved
 members-preserved c =
     let found = members_view c.members.found.entries in
-    let key : read_key c.members.reader ≡ Some (Some c.in-Ok-Some.name.now, c.next_key.new.self) = grind arith in
+    let key : read_key c.members.reader ≡ Some (Some c.in-Ok-Some.name.now, c.next_key.new.self) =
+    grind arith in
     let read = rw c.in-Some.is at c.in_ok-member.ensures in
     rw c.in_ok-put.ensures.ok (one_more c.args.reader.now c.members.reader c.next_key.new.self
-    c.next_value.new.reader found c.in-Ok-Some.name.now (view c.in-Some.member) c.members.invariant key read.reads
-    read.shorter)
+    c.next_value.new.reader found c.in-Ok-Some.name.now (view c.in-Some.member) c.members.invariant key
+    read.reads read.shorter)
