@@ -88,23 +88,23 @@ def main():
     print("| map | from | opens/s | rising lookups/s | random lookups/s | lines/s |")
     print("|---|---|---|---|---|---|")
     with tempfile.TemporaryDirectory() as folder:
-        room = Path(folder)
+        temp = Path(folder)
         source = TOP / "bench" / "capi.c"
         subprocess.run(
-            ["cc", "-O2", f"-I{words.lib}", "-o", room / "timer", source, words.lib / "libsmap.a"], check=True
+            ["cc", "-O2", f"-I{words.lib}", "-o", temp / "timer", source, words.lib / "libsmap.a"], check=True
         )
         for size in SIZES:
-            with open(room / "bundle", "w", encoding="utf-8") as out:
+            with open(temp / "bundle", "w", encoding="utf-8") as out:
                 given = ["--bundle", "--segments", str(size), "--frames", "100000", "--content", "0"]
                 make_map.write(out, given + ["--sources", "40", "--names", "2000"])
-            url, base, text, log = bundle_parts((room / "bundle").read_bytes())
-            (room / "map").write_bytes(text)
-            (room / "log").write_bytes(log)
+            url, base, text, log = bundle_parts((temp / "bundle").read_bytes())
+            (temp / "map").write_bytes(text)
+            (temp / "log").write_bytes(log)
             lines = log.count(b"\n")
             rows = {
-                "C": c_rates(room / "timer", words.lib, [room / "map", base, room / "log", url]),
+                "C": c_rates(temp / "timer", words.lib, [temp / "map", base, temp / "log", url]),
                 "Python": python_rates(smap, text, base, log, url),
-                "the program": program_rates(words.program, base, room / "map", room / "bundle", lines),
+                "the program": program_rates(words.program, base, temp / "map", temp / "bundle", lines),
             }
             for name, rates in rows.items():
                 cells = [rates.get(key) for key in ("opens", "rising lookups", "random lookups", "lines")]

@@ -119,13 +119,13 @@ def main():
     dice = random.Random(1)
     scripts = ["a.js", "b.js"]
     columns = [dice.randrange(1, 5 * MAPPINGS) for _ in range(POSITIONS)]
-    with tempfile.TemporaryDirectory() as room:
-        dist = Path(room, "dist")
+    with tempfile.TemporaryDirectory() as temp:
+        dist = Path(temp, "dist")
         dist.mkdir()
         for name in scripts:
             (dist / f"{name}.map").write_text(json.dumps(map_of(dice, name)))
         words = [sys.executable, str(PROGRAM), f"{FOLDER}={dist}/"]
-        empty, file = Path(room, "empty"), Path(room, "events")
+        empty, file = Path(temp, "empty"), Path(temp, "events")
         print("shape     bytes     json     bare      all    again      new  events a second of a processor")
         for shape in (sentry, bugsnag, rollbar, ecs, otlp):
 

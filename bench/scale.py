@@ -31,22 +31,22 @@ TOP = Path(__file__).resolve().parent.parent
 URL = "http://h/m/"
 
 
-def put_on_path(program, room):
+def put_on_path(program, temp):
     """Makes the program the one that is called by the name smap-trace."""
-    (room / "bin").mkdir()
-    (room / "bin" / "smap-trace").symlink_to(program.resolve())
-    os.environ["PATH"] = f"{room / 'bin'}:{os.environ['PATH']}"
+    (temp / "bin").mkdir()
+    (temp / "bin" / "smap-trace").symlink_to(program.resolve())
+    os.environ["PATH"] = f"{temp / 'bin'}:{os.environ['PATH']}"
 
 
-def make_maps(room, many, segments):
+def make_maps(temp, many, segments):
     """A folder of maps, all links to one file: its text is what a bundler writes for so many mappings."""
-    folder = room / "dist"
+    folder = temp / "dist"
     folder.mkdir()
     sizes = ["--segments", str(segments), "--sources", "40", "--names", "2000", "--content", "0"]
-    with open(room / "map", "w", encoding="utf-8") as out:
+    with open(temp / "map", "w", encoding="utf-8") as out:
         make_map.write(out, sizes)
     for number in range(many):
-        os.link(room / "map", folder / f"{number}.js.map")
+        os.link(temp / "map", folder / f"{number}.js.map")
     return folder
 
 
@@ -105,13 +105,13 @@ def by_trace(folder, log):
     return after.ru_utime + after.ru_stime - before.ru_utime - before.ru_stime
 
 
-def table_of_maps(room, folder, words, size):
+def table_of_maps(temp, folder, words, size):
     out = io.StringIO()
     out.write("| maps that the log names | store: to open a map, ms | memory of an open map, MB ")
     out.write("| of a mapping, bytes | lines a second, maps open | `smap-trace`: lines a second |\n")
     out.write("|---|---|---|---|---|---|\n")
     for maps in words.maps:
-        log = write_log(room / "log", maps, words.lines, words.segments // 50)
+        log = write_log(temp / "log", maps, words.lines, words.segments // 50)
         opened, memory, seconds = in_store(folder, log, maps)
         traced = by_trace(folder, log)
         out.write(f"| {maps:,} | {opened * 1e3:.1f} | {memory / 1e6:.2f} | {memory / words.segments:.0f} ")
@@ -159,14 +159,14 @@ Client(scheduler_file=sys.argv[1]).wait_for_workers(int(sys.argv[2]))
 """
 
 
-def by_cluster(room, folder, logs, workers):
+def by_cluster(temp, folder, logs, workers):
     """Seconds of the example cluster.py, with its start, once the workers run; None without Dask."""
     python = python_with_dask()
     if python is None:
         return None
-    file = room / f"scheduler{workers}.json"
+    file = temp / f"scheduler{workers}.json"
     common = ["--no-dashboard", "--scheduler-file", str(file)]
-    quiet = {"stdout": subprocess.DEVNULL, "stderr": subprocess.DEVNULL, "cwd": room}
+    quiet = {"stdout": subprocess.DEVNULL, "stderr": subprocess.DEVNULL, "cwd": temp}
     words = [python, "-m", "distributed.cli.dask_scheduler", "--host", "127.0.0.1", "--port", "0", *common]
     running = [subprocess.Popen(words, **quiet)]
     try:
@@ -175,12 +175,12 @@ def by_cluster(room, folder, logs, workers):
                 raise SystemExit("the scheduler ended")
             time.sleep(0.1)
         for number in range(workers):
-            own = ["--no-nanny", "--nthreads", "1", "--local-directory", str(room / f"{workers}.{number}")]
+            own = ["--no-nanny", "--nthreads", "1", "--local-directory", str(temp / f"{workers}.{number}")]
             words = [python, "-m", "distributed.cli.dask_worker", *own, *common]
             running.append(subprocess.Popen(words, **quiet))
         subprocess.run([python, "-c", WAIT, str(file), str(workers)], check=True, **quiet)
         example = [python, str(TOP / "capi" / "examples" / "cluster.py"), "--scheduler-file", str(file)]
-        example += ["--out", str(room / f"out{workers}"), "--map", f"{URL}={folder}", "--block", "10000000"]
+        example += ["--out", str(temp / f"out{workers}"), "--map", f"{URL}={folder}", "--block", "10000000"]
         return timed([*example, *map(str, logs)])
     finally:
         for process in running:
@@ -188,19 +188,19 @@ def by_cluster(room, folder, logs, workers):
             process.wait()
 
 
-def table_of_workers(room, folder, words):
+def table_of_workers(temp, folder, words):
     out = io.StringIO()
     out.write("| workers | GNU `parallel`: MB a second | lines a second ")
     out.write("| cluster: MB a second | lines a second | lines a day |\n|---|---|---|---|---|---|\n")
     logs = []
     for number in range(words.files):
         lines = words.megabytes * 1_000_000 // words.files // 44
-        logs.append(write_log(room / f"{number}.log", min(100, max(words.maps)), lines, words.segments // 50))
+        logs.append(write_log(temp / f"{number}.log", min(100, max(words.maps)), lines, words.segments // 50))
     size = sum(log.stat().st_size for log in logs)
     lines = sum(log.read_bytes().count(b"\n") for log in logs)
     for workers in words.workers:
         cells = []
-        for seconds in (by_parallel(folder, logs, workers), by_cluster(room, folder, logs, workers)):
+        for seconds in (by_parallel(folder, logs, workers), by_cluster(temp, folder, logs, workers)):
             cells += [f"{size / 1e6 / seconds:.1f}", f"{lines / seconds:,.0f}"] if seconds else ["", ""]
         day = f"{lines / seconds * 86_400 / 1e9:,.1f} billion" if seconds else ""
         out.write(f"| {workers} | {' | '.join(cells)} | {day} |\n")
@@ -228,11 +228,11 @@ def main():
     os.environ["SMAP_LIBRARY"] = str(words.lib.resolve() / "libsmap.so")
     os.environ["PYTHONPATH"] = str(TOP / "capi" / "python")
     with tempfile.TemporaryDirectory() as folder:
-        room = Path(folder)
-        put_on_path(words.program, room)
-        dist = make_maps(room, max(words.maps), words.segments)
-        text = table_of_maps(room, dist, words, (room / "map").stat().st_size)
-        text += "\n" + table_of_workers(room, dist, words)
+        temp = Path(folder)
+        put_on_path(words.program, temp)
+        dist = make_maps(temp, max(words.maps), words.segments)
+        text = table_of_maps(temp, dist, words, (temp / "map").stat().st_size)
+        text += "\n" + table_of_workers(temp, dist, words)
     if words.into:
         put_into(words.into, "figures of scale.py", text)
 

@@ -216,49 +216,49 @@ def ways_of(before):
 # ---- what is measured
 
 
-def different(runner, room, program, ways):
+def different(runner, temp, program, ways):
     """The ways that write otherwise than `smap translate` does."""
-    folder = make_maps(room / "same", 3, 2_000)
+    folder = make_maps(temp / "same", 3, 2_000)
     lines = list(log_lines(3, 20_000, 2_000))
-    bundle = write_log(room / "bundle", lines, head=bundle_of(folder, 3))
-    log = write_log(room / "log", lines)
-    runner.once([program, "translate"], bundle, sink=room / "wanted")
-    wanted = (room / "wanted").read_bytes()
+    bundle = write_log(temp / "bundle", lines, head=bundle_of(folder, 3))
+    log = write_log(temp / "log", lines)
+    runner.once([program, "translate"], bundle, sink=temp / "wanted")
+    wanted = (temp / "wanted").read_bytes()
     if wanted == log.read_bytes():
         raise SystemExit("smap translates nothing")
     for way in ways:
-        runner.once(way.words(folder), log, way.piped, room / "written")
-        if (room / "written").read_bytes() != wanted:
+        runner.once(way.words(folder), log, way.piped, temp / "written")
+        if (temp / "written").read_bytes() != wanted:
             yield way.name
 
 
-def starts(runner, room, ways, sizes):
+def starts(runner, temp, ways, sizes):
     """For each number of maps, what each way takes for a log that names three of their scripts."""
     for maps in sizes.maps:
-        folder = make_maps(room / f"start{maps}", maps, START_SEGMENTS)
-        log = write_log(room / "log", log_lines(min(3, maps), 20, START_SEGMENTS))
+        folder = make_maps(temp / f"start{maps}", maps, START_SEGMENTS)
+        log = write_log(temp / "log", log_lines(min(3, maps), 20, START_SEGMENTS))
         yield maps, [runner.median(way.words(folder), log, way.piped) for way in ways]
 
 
-def large(runner, room, program, ways, sizes):
+def large(runner, temp, program, ways, sizes):
     """The MB of the log, and what each way takes for it; first `smap translate`."""
-    folder = make_maps(room / "large", MAPS_OF_LOG, sizes.segments)
+    folder = make_maps(temp / "large", MAPS_OF_LOG, sizes.segments)
     size = sizes.megabytes * 1_000_000
     # a line has 38 bytes or more
     lines = list(log_lines(MAPS_OF_LOG, min(LINES, size // 38), sizes.segments))
-    bundle = write_log(room / "bundle", lines, size, head=bundle_of(folder, MAPS_OF_LOG))
+    bundle = write_log(temp / "bundle", lines, size, head=bundle_of(folder, MAPS_OF_LOG))
     seen = [runner.median([program, "translate"], bundle)]
     bundle.unlink()
-    log = write_log(room / "log", lines, size)
+    log = write_log(temp / "log", lines, size)
     seen += [runner.median(way.words(folder), log, way.piped) for way in ways]
     return log.stat().st_size / 1e6, seen
 
 
-def memories(runner, room, ways, sizes):
+def memories(runner, temp, ways, sizes):
     """For each number of maps that a log names, what each way takes."""
-    folder = make_maps(room / "many", max(sizes.named), sizes.segments)
+    folder = make_maps(temp / "many", max(sizes.named), sizes.segments)
     for named in sizes.named:
-        log = write_log(room / "log", log_lines(named, max(20_000, 2 * named), sizes.segments))
+        log = write_log(temp / "log", log_lines(named, max(20_000, 2 * named), sizes.segments))
         yield named, [runner.median(way.words(folder), log, way.piped) for way in ways]
 
 
@@ -282,9 +282,9 @@ def in_seconds(used):
     return f"{used.passed:.3f} ({used.processors:.3f})"
 
 
-def table_of_starts(runner, room, ways, sizes):
+def table_of_starts(runner, temp, ways, sizes):
     out = head_of(["maps", *(way.name for way in ways)])
-    for maps, seen in starts(runner, room, ways, sizes):
+    for maps, seen in starts(runner, temp, ways, sizes):
         out += row_of([f"{maps:,}", *map(in_seconds, seen)])
     return out + (
         "\nSeconds as they pass, and in brackets those of the processors, user and system. "
@@ -292,8 +292,8 @@ def table_of_starts(runner, room, ways, sizes):
     )
 
 
-def table_of_large(runner, room, program, ways, sizes):
-    megabytes, seen = large(runner, room, program, ways, sizes)
+def table_of_large(runner, temp, program, ways, sizes):
+    megabytes, seen = large(runner, temp, program, ways, sizes)
     out = head_of(["the log", "seconds", "of the processors", "MB a second", "memory, MB"])
     for name, used in zip(["`smap translate`", *(way.name for way in ways)], seen):
         speed = f"{megabytes / used.passed:,.0f}"
@@ -304,11 +304,11 @@ def table_of_large(runner, room, program, ways, sizes):
     )
 
 
-def table_of_memory(runner, room, ways, sizes):
+def table_of_memory(runner, temp, ways, sizes):
     out = head_of(["maps that the log names", *(f"{way.name}, MB" for way in ways)])
-    for named, seen in memories(runner, room, ways, sizes):
+    for named, seen in memories(runner, temp, ways, sizes):
         out += row_of([f"{named:,}", *(f"{used.memory:.1f}" for used in seen)])
-    size = (room / "many" / "0.js.map").stat().st_size
+    size = (temp / "many" / "0.js.map").stat().st_size
     return out + (
         f"\nThe folder has {max(sizes.named):,} maps, each of {size / 1e3:,.0f} KB "
         f"with {sizes.segments:,} mappings and no contents.\n"
@@ -344,19 +344,19 @@ class Checks:
         self.failed += bool(wrong)
 
 
-def check(runner, room, program, sizes):
+def check(runner, temp, program, sizes):
     """Makes each run once, and holds it to its bounds."""
     checks, ways = Checks(), ways_of(None)
-    other = list(different(runner, room, program, ways))
+    other = list(different(runner, temp, program, ways))
     checks.tell("each way writes what smap translate does", ", ".join(other))
-    for maps, seen in starts(runner, room, ways, sizes):
+    for maps, seen in starts(runner, temp, ways, sizes):
         for way, used in zip(ways, seen):
             checks.hold(f"a start with {maps} maps: {way.name}", used, MOST_SECONDS, min(3, maps))
-    megabytes, [translated, *seen] = large(runner, room, program, ways, sizes)
+    megabytes, [translated, *seen] = large(runner, temp, program, ways, sizes)
     most = MOST_TIMES * translated.processors + MOST_SECONDS
     for way, used in zip(ways, seen):
         checks.hold(f"a log of {megabytes:.0f} MB: {way.name}", used, most, MAPS_OF_LOG)
-    for named, seen in memories(runner, room, ways, sizes):
+    for named, seen in memories(runner, temp, ways, sizes):
         for way, used in zip(ways, seen):
             checks.hold(f"{named} of {max(sizes.named)} maps: {way.name}", used, most, named)
     print(f"{checks.passed} passed, {checks.failed} failed")
@@ -366,11 +366,11 @@ def check(runner, room, program, sizes):
 # ---- the programs
 
 
-def put_on_path(program, room):
+def put_on_path(program, temp):
     """Makes the program the one that is called by the name smap-trace."""
-    (room / "bin").mkdir()
-    (room / "bin" / "smap-trace").symlink_to(program)
-    os.environ["PATH"] = f"{room / 'bin'}:{os.environ['PATH']}"
+    (temp / "bin").mkdir()
+    (temp / "bin" / "smap-trace").symlink_to(program)
+    os.environ["PATH"] = f"{temp / 'bin'}:{os.environ['PATH']}"
     # by which the scripts of --before find it
     os.environ["SMAP"] = str(program)
 
@@ -384,14 +384,14 @@ def put_scripts_into(folder):
         (folder / name).chmod(0o755)
 
 
-def measure(runner, room, program, ways, sizes):
+def measure(runner, temp, program, ways, sizes):
     """The tables."""
-    other = list(different(runner, room, program, ways))
+    other = list(different(runner, temp, program, ways))
     if other:
         raise SystemExit(f"not what smap translate writes: {', '.join(other)}")
-    tables = [table_of_starts(runner, room, ways, sizes)]
-    tables.append(table_of_large(runner, room, program, ways, sizes))
-    tables.append(table_of_memory(runner, room, ways, sizes))
+    tables = [table_of_starts(runner, temp, ways, sizes)]
+    tables.append(table_of_large(runner, temp, program, ways, sizes))
+    tables.append(table_of_memory(runner, temp, ways, sizes))
     return "\n".join(tables)
 
 
@@ -413,13 +413,13 @@ def main():
     if before:
         put_scripts_into(before)
     with tempfile.TemporaryDirectory() as folder:
-        room, program = Path(folder), words.program.resolve()
-        put_on_path(program, room)
+        temp, program = Path(folder), words.program.resolve()
+        put_on_path(program, temp)
         if words.once:
             sizes = replace(ONCE, megabytes=words.megabytes or ONCE.megabytes)
-            return check(Runner(1), room, program, sizes)
+            return check(Runner(1), temp, program, sizes)
         sizes = Sizes(words.megabytes or 1000, words.runs, words.maps, words.named, words.segments)
-        text = measure(Runner(sizes.runs), room, program, ways_of(before), sizes)
+        text = measure(Runner(sizes.runs), temp, program, ways_of(before), sizes)
     if words.into:
         put_into(words.into, "figures of trace.py", text)
     return 0

@@ -43,33 +43,33 @@ class HasStore(WorkerPlugin):
 
 
 @contextlib.contextmanager
-def written_whole(path, room):
+def written_whole(path, temp):
     """A file that is written elsewhere first, so that it is there whole or not at all.
 
     Who may read it is what the umask says, as for any new file.
     """
-    made = os.path.join(room, uuid.uuid4().hex)
+    made = os.path.join(temp, uuid.uuid4().hex)
     with open(made, "xb") as out:
         yield out
     os.replace(made, path)
 
 
 @dask.delayed
-def translate_block(block, part, room):
+def translate_block(block, part, temp):
     """Translates whole lines into a file. Returns the counts of the lines, and the faults of maps so far."""
     store = get_worker().smap_store
-    with written_whole(part, room) as out:
+    with written_whole(part, temp) as out:
         counts = store.translate_file(io.BytesIO(block), out)
     return counts, {script: str(fault) for script, fault in store.broken.items()}
 
 
 @dask.delayed
-def join_blocks(told, parts, path, room):
+def join_blocks(told, parts, path, temp):
     """Puts the files of blocks together. Returns the sum of the counts, and all faults.
 
     The files of blocks stay until all is done: if the worker ends now, another one needs them.
     """
-    with written_whole(path, room) as out:
+    with written_whole(path, temp) as out:
         for part in parts:
             with open(part, "rb") as block:
                 shutil.copyfileobj(block, out)
@@ -87,23 +87,23 @@ def shown(text):
     return "".join(char if char.isprintable() else ascii(char)[1:-1] for char in text)
 
 
-def tasks(logs, out, room, block):
+def tasks(logs, out, temp, block):
     """For each log what translates it."""
     _, blocks, paths = read_bytes(logs, delimiter=b"\n", blocksize=block, sample=False, include_path=True)
     for log, path in zip(blocks, paths):
         name = Path(path).name
-        parts = [f"{room}/{name}.{number}" for number in range(len(log))]
-        told = [translate_block(one, part, room) for one, part in zip(log, parts)]
-        yield join_blocks(told, parts, str(out / name), room)
+        parts = [f"{temp}/{name}.{number}" for number in range(len(log))]
+        told = [translate_block(one, part, temp) for one, part in zip(log, parts)]
+        yield join_blocks(told, parts, str(out / name), temp)
 
 
 def translate(words, client):
     """Translates the logs, and shows how far it is."""
     logs = [os.path.abspath(log) for log in words.logs]
-    with tempfile.TemporaryDirectory(dir=words.out, prefix=".blocks-") as room:
+    with tempfile.TemporaryDirectory(dir=words.out, prefix=".blocks-") as temp:
         # a block is read by the task that translates it, so that blocks don't wait in memory
         with dask.config.set({"optimization.fuse.delayed": True}):
-            futures = client.compute(list(tasks(logs, words.out, room, words.block)))
+            futures = client.compute(list(tasks(logs, words.out, temp, words.block)))
         progress(futures)
         return added(client.gather(futures))
 

@@ -235,22 +235,22 @@ def log_like(dice, scripts):
 class Shop:
     """Maps of scripts, in a folder and behind a function, and what is open of them for one thread."""
 
-    def __init__(self, dice, room):
+    def __init__(self, dice, temp):
         names = ("a.js", "b/c.js", "d.js", "d.js?v=3", "e.js", "e.js.b")
         self.models = {f"http://h/m/{name}": Model(dice, 60) for name in names}
         self.scripts = [*self.models, "http://h/m/none.js", "http://h/"]
         self.opened = {script: smap.Map.open(made.text, made.base) for script, made in self.models.items()}
         self.size = max(opened.held() for opened in self.opened.values())
         for script, made in self.models.items():
-            file = room / (script[len("http://h/m/") :].replace("?", "%3F") + ".map")
+            file = temp / (script[len("http://h/m/") :].replace("?", "%3F") + ".map")
             file.parent.mkdir(exist_ok=True, parents=True)
             file.write_bytes(made.text)
         self.linked = {"http://h/m/linked.js": self.models["http://h/m/b/c.js"]}
-        (room / "linked.js").write_bytes(b"f()\n//# sourceMappingURL=./x/../b/c.js.map?v=3\n\n")
+        (temp / "linked.js").write_bytes(b"f()\n//# sourceMappingURL=./x/../b/c.js.map?v=3\n\n")
         self.linked["http://h/m/b/inline.js"] = made
         data = b"data:application/json;base64," + base64.b64encode(made.text)
-        (room / "b" / "inline.js").write_bytes(b"f() //@ sourceMappingURL=" + data + b"\n// end")
-        (room / "outside.js").write_bytes(b"//# sourceMappingURL=../x.map")
+        (temp / "b" / "inline.js").write_bytes(b"f() //@ sourceMappingURL=" + data + b"\n// end")
+        (temp / "outside.js").write_bytes(b"//# sourceMappingURL=../x.map")
         self.asked = threading.local()
 
     def again(self):
@@ -337,9 +337,9 @@ def ask_what_it_knows(dice, shop, store):
     same(copy.copy(store).cache_bytes, store.cache_bytes)
 
 
-def ask_folders(dice, shop, room):
+def ask_folders(dice, shop, temp):
     script = url_like(dice, shop.scripts)
-    find = smap.Folders({"http://h/m/": room}, dice.choice([0, 1 << 28]))
+    find = smap.Folders({"http://h/m/": temp}, dice.choice([0, 1 << 28]))
     found = raised(find, script)
     made = shop.models.get(script) if "?" not in script else None
     if made is None:
@@ -350,9 +350,9 @@ def ask_folders(dice, shop, room):
         same(found.data, made.text, script)
     text = log_like(dice, shop.scripts)
     named = {script for script in shop.scripts[:-1] if script.encode() in text}
-    of_files = smap.Folders({script: room / "a.js.map" for script in shop.scripts[:-1]})
+    of_files = smap.Folders({script: temp / "a.js.map" for script in shop.scripts[:-1]})
     same(set(of_files.named_in(text)), named, text)
-    in_folder = smap.Folders({"http://h/m/": room})
+    in_folder = smap.Folders({"http://h/m/": temp})
     same(set(in_folder.named_in(text)), {at for at in named if at in shop.models and "?" not in at}, text)
 
 
@@ -366,13 +366,13 @@ def name_like(dice, script):
     return begin + path + end, is_alike and has_end
 
 
-def ask_alike(dice, shop, room):
+def ask_alike(dice, shop, temp):
     """Names that mean scripts with maps beside them, or which name their maps."""
     scripts = {script: made for script, made in shop.models.items() if "?" not in script}
     scripts.update(shop.linked)
     script = dice.choice(list(scripts))
     name, is_alike = name_like(dice, script)
-    find = smap.Folders({"http://h/m/": room})
+    find = smap.Folders({"http://h/m/": temp})
     same(find.meant_by(name), script if is_alike else None, name)
     line, column = number_like(dice, 4), number_like(dice, 60)
     store = smap.Store(find, dice.choice([0, shop.size, 1 << 30]))
@@ -416,7 +416,7 @@ class Run:
         taken = time.thread_time() - start
         assert taken < MOST_SECONDS, f"{call.__name__} took {taken:.1f} s"
 
-    def rounds(self, name, shop, common, room):
+    def rounds(self, name, shop, common, temp):
         dice = random.Random(f"{self.seed} {name}")
         while time.monotonic() < self.until and not self.wrong:
             made = Model(dice)
@@ -428,8 +428,8 @@ class Run:
                 self.timed(call, dice, shop, dice.choice([own, common]))
             own.close()
             same(own.kept_bytes, 0)
-            self.timed(ask_folders, dice, shop, room)
-            self.timed(ask_alike, dice, shop, room)
+            self.timed(ask_folders, dice, shop, temp)
+            self.timed(ask_alike, dice, shop, temp)
             self.timed(text_calls, dice)
             for call in LINK_CALLS:
                 self.timed(call, dice)
@@ -465,11 +465,11 @@ def main():
     run = Run(words.seed, words.seconds)
     dice = random.Random(words.seed)
     with tempfile.TemporaryDirectory() as folder:
-        room = Path(folder)
-        shop = Shop(dice, room)
+        temp = Path(folder)
+        shop = Shop(dice, temp)
         common = smap.Store(Finder(shop), 3 * shop.size)
         threads = [
-            threading.Thread(target=run.guarded, args=(number, shop.again(), common, room))
+            threading.Thread(target=run.guarded, args=(number, shop.again(), common, temp))
             for number in range(words.threads)
         ]
         for thread in threads:

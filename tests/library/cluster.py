@@ -34,16 +34,16 @@ def pieces(random_numbers):
         yield "".join(lines).encode()
 
 
-def write_inputs(room, megabytes):
+def write_inputs(temp, megabytes):
     """The maps and the logs; how many lines these have."""
     for number in range(26):
         text = MAP if number < 25 else b"{}"
-        (room / "dist" / f"{number}.js.map").write_bytes(text)
+        (temp / "dist" / f"{number}.js.map").write_bytes(text)
     random_numbers = random.Random(1)
     some = list(pieces(random_numbers))
     lines = 0
     for number in range(FILES):
-        path = room / "logs" / f"{number}.log"
+        path = temp / "logs" / f"{number}.log"
         with open(path, "wb") as out:
             while number and out.tell() < megabytes * 1_000_000 // (FILES - 1):
                 out.write(LONG if random_numbers.random() < 0.002 else random_numbers.choice(some))
@@ -54,44 +54,44 @@ def write_inputs(room, megabytes):
     return lines
 
 
-def started(room, name, *words):
+def started(temp, name, *words):
     """A program of dask.distributed, in a group of processes of its own."""
-    with open(room / f"{name}.said", "wb") as said:
+    with open(temp / f"{name}.said", "wb") as said:
         return subprocess.Popen(
             [sys.executable, "-B", "-m", f"distributed.cli.dask_{name.rstrip('12')}", *words],
-            stdout=said, stderr=said, cwd=room, start_new_session=True, umask=0o027,
+            stdout=said, stderr=said, cwd=temp, start_new_session=True, umask=0o027,
             env={**os.environ, "PYTHONPATH": str(TOP / "capi" / "python")},
         )
 
 
-def begin_cluster(room):
-    file = room / "scheduler.json"
+def begin_cluster(temp):
+    file = temp / "scheduler.json"
     words = ["--no-dashboard", "--scheduler-file", str(file)]
-    yield started(room, "scheduler", "--host", "127.0.0.1", "--port", "0", *words)
+    yield started(temp, "scheduler", "--host", "127.0.0.1", "--port", "0", *words)
     for _ in range(600):
         if file.exists() and file.stat().st_size:
             break
         time.sleep(0.1)
     for name in ("worker1", "worker2"):
-        own = ["--no-nanny", "--nthreads", "1", "--name", name, "--local-directory", str(room / name)]
-        yield started(room, name, *own, *words)
+        own = ["--no-nanny", "--nthreads", "1", "--name", name, "--local-directory", str(temp / name)]
+        yield started(temp, name, *own, *words)
 
 
-def run_example(room):
+def run_example(temp):
     words = ["--scheduler-file", "scheduler.json", "--out", "out", "--map", "http://h/m/=dist"]
     words += ["--block", "1000000"]
-    logs = sorted(str(path) for path in (room / "logs").iterdir())
+    logs = sorted(str(path) for path in (temp / "logs").iterdir())
     return subprocess.Popen(
         [sys.executable, "-B", str(TOP / "capi" / "examples" / "cluster.py"), *words, *logs],
-        stdout=subprocess.PIPE, stderr=subprocess.PIPE, text=True, cwd=room,
+        stdout=subprocess.PIPE, stderr=subprocess.PIPE, text=True, cwd=temp,
     )
 
 
-def end_worker_in_the_middle(room, worker, running):
+def end_worker_in_the_middle(temp, worker, running):
     """Ends a worker once a file is done. Says how many were done; fails if none was for a long time."""
     deadline = time.time() + PATIENCE
     while running.poll() is None and time.time() < deadline:
-        done = len(list((room / "out").glob("*.log")))
+        done = len(list((temp / "out").glob("*.log")))
         if done:
             os.kill(worker.pid, signal.SIGKILL)
             return done
@@ -101,37 +101,37 @@ def end_worker_in_the_middle(room, worker, running):
     sys.exit(f"no file was done: {'too slow' if ended is None else ended} {running.communicate()}")
 
 
-def differing(room):
+def differing(temp):
     """The logs whose result isn't what smap-trace writes."""
-    for path in sorted((room / "logs").iterdir()):
-        with open(path, "rb") as log, open(room / "wanted", "wb") as wanted:
-            words = ["smap-trace", "--skip-broken", f"http://h/m/={room / 'dist'}/"]
+    for path in sorted((temp / "logs").iterdir()):
+        with open(path, "rb") as log, open(temp / "wanted", "wb") as wanted:
+            words = ["smap-trace", "--skip-broken", f"http://h/m/={temp / 'dist'}/"]
             subprocess.run(words, stdin=log, stdout=wanted, stderr=subprocess.DEVNULL, check=True)
-        if (room / "wanted").read_bytes() != (room / "out" / path.name).read_bytes():
+        if (temp / "wanted").read_bytes() != (temp / "out" / path.name).read_bytes():
             yield path.name
 
 
-def check(room, lines):
+def check(temp, lines):
     processes = []
     try:
-        for process in begin_cluster(room):
+        for process in begin_cluster(temp):
             processes.append(process)
-        running = run_example(room)
+        running = run_example(temp)
         processes.append(running)
-        done = end_worker_in_the_middle(room, processes[1], running)
+        done = end_worker_in_the_middle(temp, processes[1], running)
         told, said = running.communicate(timeout=PATIENCE)
     finally:
         for process in processes:
             process.kill()
             process.wait()
-    problems = [f"{name} differs" for name in differing(room)]
+    problems = [f"{name} differs" for name in differing(temp)]
     if done >= FILES:
         problems.append("all was done before the worker ended")
     if running.returncode != 1 or "cluster: http://h/m/25.js: version" not in said:
         problems.append(f"the broken map isn't told of: {running.returncode} {said[-2000:]}")
     if f"StoreCounts(lines={lines}, " not in told:
         problems.append(f"not {lines} lines: {told[-300:]}")
-    results = list((room / "out").iterdir())
+    results = list((temp / "out").iterdir())
     if len(results) != FILES:
         problems.append("there are other files than the results")
     if {path.stat().st_mode & 0o777 for path in results} != {0o640}:
@@ -144,12 +144,12 @@ def main():
     signal.signal(signal.SIGTERM, lambda *_: sys.exit("ended from outside"))
     megabytes = int(sys.argv[1]) if len(sys.argv) > 1 else 200
     with tempfile.TemporaryDirectory() as folder:
-        room = Path(folder)
+        temp = Path(folder)
         for name in ("dist", "logs", "out"):
-            (room / name).mkdir()
-        lines = write_inputs(room, megabytes)
+            (temp / name).mkdir()
+        lines = write_inputs(temp, megabytes)
         start = time.time()
-        done, problems = check(room, lines)
+        done, problems = check(temp, lines)
         seconds = time.time() - start
         print(f"{lines} lines, {seconds:.1f} s with smap-trace; a worker ended after {done} of {FILES} files")
         sys.exit("\n".join(problems) or 0)

@@ -158,16 +158,16 @@ class SaidTest(EventsCase):
     def test_files_are_read_in_turn(self):
         line = json.dumps(ECS).encode() + b"\n"
         for name in ("one", "two"):
-            (self.room / name).write_bytes(line)
-        done = self.run_program([str(self.room / "one"), *self.places, str(self.room / "two")], b"{}")
+            (self.temp / name).write_bytes(line)
+        done = self.run_program([str(self.temp / "one"), *self.places, str(self.temp / "two")], b"{}")
         self.assertEqual((done.stdout.count(SOURCE.encode()), done.returncode), (4, 0))
-        done = self.run_program([str(self.room / "one"), *self.places, str(self.room / "none")])
+        done = self.run_program([str(self.temp / "one"), *self.places, str(self.temp / "none")])
         self.assertEqual((done.stdout.count(SOURCE.encode()), done.returncode), (2, 3))
         self.assertRegex(done.stderr.decode(), r"smap-events: /.*/none: No such file or directory\n")
 
     def test_options_stand_anywhere(self):
-        (self.room / "one").write_bytes(json.dumps(ECS).encode())
-        for words in itertools.permutations(["--no-raw", *self.places, str(self.room / "one")]):
+        (self.temp / "one").write_bytes(json.dumps(ECS).encode())
+        for words in itertools.permutations(["--no-raw", *self.places, str(self.temp / "one")]):
             done = self.run_program(words)
             self.assertEqual((done.stdout.count(SOURCE.encode()), done.returncode), (2, 0), words)
             self.assertNotIn(b"raw_", done.stdout)
@@ -202,7 +202,7 @@ class SaidTest(EventsCase):
         wanted = "".join(line for line in lines if not line.startswith("$ "))
         env = {**ENVIRONMENT, "PATH": f"{PROGRAM.parent}:{os.environ['PATH']}"}
         words = ["sh", "-c", commands]
-        done = subprocess.run(words, cwd=self.room, env=env, capture_output=True, check=False)
+        done = subprocess.run(words, cwd=self.temp, env=env, capture_output=True, check=False)
         self.assertEqual((done.stdout.decode(), done.stderr), (wanted, b""))
 
     def test_the_completions_have_its_options(self):
@@ -221,10 +221,10 @@ class SaidTest(EventsCase):
         block, wanted = re.findall(r"^```(?:sh)?\n(.*?)^```$", of_events, flags=re.M | re.S)[:2]
         (counts,) = re.findall(r"`(events: .*?)`", of_events)
         text = '{"version":3,"sources":["a.js"],"mappings":"AAUE,IAEA"}'
-        (self.room / "dist").mkdir()
-        (self.room / "dist" / "out.js.map").write_text(text)
+        (self.temp / "dist").mkdir()
+        (self.temp / "dist" / "out.js.map").write_text(text)
         env = {**ENVIRONMENT, "PATH": f"{PROGRAM.parent}:{os.environ['PATH']}"}
-        done = subprocess.run(["sh", "-c", block], cwd=self.room, env=env, capture_output=True, check=False)
+        done = subprocess.run(["sh", "-c", block], cwd=self.temp, env=env, capture_output=True, check=False)
         self.assertEqual((done.stdout.decode(), done.stderr.decode()), (wanted, f"smap-events: {counts}\n"))
 
     def test_a_wrong_command_line_is_told_of(self):

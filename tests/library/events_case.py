@@ -155,8 +155,8 @@ class EventsCase(unittest.TestCase):
     def setUp(self):
         made = tempfile.TemporaryDirectory()
         self.addCleanup(made.cleanup)
-        self.room = Path(made.name)
-        self.dist = self.room / "some" / "dist"
+        self.temp = Path(made.name)
+        self.dist = self.temp / "some" / "dist"
         self.dist.mkdir(parents=True)
         (self.dist / "cart.js.map").write_text(json.dumps(MAP))
         (self.dist / "broken.js.map").write_text("{}")

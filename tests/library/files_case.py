@@ -25,19 +25,19 @@ class FilesCase(unittest.TestCase):
     def setUp(self):
         made = tempfile.TemporaryDirectory()
         self.addCleanup(made.cleanup)
-        self.room = Path(made.name)
+        self.temp = Path(made.name)
         self.dist = self.put("dist/out.js").parent
 
     def put(self, name, data=MAP):
         return self.write(name + ".map", data)
 
     def write(self, name, data):
-        file = self.room / name
+        file = self.temp / name
         file.parent.mkdir(parents=True, exist_ok=True)
         file.write_bytes(data)
         return file
 
     def found(self, key, script, folder="dist"):
         """The base of the map that is found for a script, or None."""
-        found = smap.Folders({key: self.room / folder})(script)
+        found = smap.Folders({key: self.temp / folder})(script)
         return found and found.base

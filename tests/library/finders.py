@@ -43,18 +43,18 @@ class FoldersTest(FilesCase):
     def test_nothing_outside_the_folder_is_found(self):
         self.put("secret.js")
         self.put("other/three.js")
-        (self.dist / "linked").symlink_to(self.room / "other")
-        (self.dist / "four.js.map").symlink_to(self.room / "other" / "three.js.map")
+        (self.dist / "linked").symlink_to(self.temp / "other")
+        (self.dist / "four.js.map").symlink_to(self.temp / "other" / "three.js.map")
         key = "http://h/"
         for script in [
             "../secret.js", "%2E%2E/secret.js", "..%2Fsecret.js", "./out.js", "lazy/../out.js", "/out.js",
-            "linked/three.js", "out.js%00", str(self.room / "secret.js"), "x" * 100_000, ".", "..",
+            "linked/three.js", "out.js%00", str(self.temp / "secret.js"), "x" * 100_000, ".", "..",
         ]:
             self.assertIsNone(self.found(key, key + script), script)
         self.assertEqual(self.found(key, key + "four.js"), "http://h/four.js.map")
 
     def test_the_folder_itself_may_be_a_link(self):
-        (self.room / "current").symlink_to(self.dist)
+        (self.temp / "current").symlink_to(self.dist)
         self.assertEqual(self.found("http://h/", "http://h/out.js", "current"), "http://h/out.js.map")
 
     def test_scripts_may_be_paths(self):
@@ -83,7 +83,7 @@ class FoldersTest(FilesCase):
 
     def test_two_maps_of_one_script_are_told_of(self):
         other = self.put("other/m/out.js")
-        store = smap.Store({"http://h/": self.room / "other", "http://h/m/": self.dist})
+        store = smap.Store({"http://h/": self.temp / "other", "http://h/m/": self.dist})
         line = "@http://h/m/out.js:1:1"
         self.assertEqual(store.translate(line), line)
         fault = store.broken["http://h/m/out.js"]
@@ -97,7 +97,7 @@ class FoldersTest(FilesCase):
 
     def test_what_is_no_folder_is_refused(self):
         with self.assertRaisesRegex(NotADirectoryError, "no such folder: .*none"):
-            smap.Store({"http://h/": self.room / "none"})
+            smap.Store({"http://h/": self.temp / "none"})
         with self.assertRaisesRegex(ValueError, "is a folder, so its URL ends in a slash: http://h/$"):
             smap.Store({"http://h": self.dist})
 
@@ -148,8 +148,8 @@ class FoldersTest(FilesCase):
             smap.Folders(places, map_bytes=-1)
 
     def test_what_is_no_file_is_neither_waited_for_nor_read(self):
-        os.mkfifo(self.room / "pipe")
-        for place in (self.room / "pipe", "/dev/zero"):
+        os.mkfifo(self.temp / "pipe")
+        for place in (self.temp / "pipe", "/dev/zero"):
             store = smap.Store({"http://h/out.js": place})
             thread = threading.Thread(target=store.lookup, args=("http://h/out.js", 0, 0), daemon=True)
             thread.start()
@@ -193,7 +193,7 @@ class FoldersTest(FilesCase):
     def test_positions_anywhere_are_those_of_scripts_with_a_map(self):
         self.put("dist/out.js/deep.js")
         self.put("one")
-        store = smap.Store({"http://h/m/": self.dist, "http://x/one": self.room / "one.map"})
+        store = smap.Store({"http://h/m/": self.dist, "http://x/one": self.temp / "one.map"})
         log = '9:00 "http://h/m/out.js:1:1", http://h/m/out.js/deep.js:1:5 {\nx http://h/m/none.js:1:1\n'
         told = '9:00 "http://h/m/a.js:11:3", http://h/m/out.js/a.js:13:3 {\nx http://h/m/none.js:1:1\n'
         self.assertEqual(store.translate(log), log)

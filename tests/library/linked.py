@@ -127,13 +127,13 @@ class NamedTest(FilesCase):
     def test_nothing_outside_the_folder_is_read(self):
         self.put("secret", b"secret")
         self.put("dist/b/in", b"in")
-        (self.dist / "link.map").symlink_to(self.room / "secret.map")
+        (self.dist / "link.map").symlink_to(self.temp / "secret.map")
         (self.dist / "zero.map").symlink_to("/dev/zero")
-        (self.dist / "away").symlink_to(self.room)
-        whole = quote(str(self.room / "secret.map"), "").encode()
+        (self.dist / "away").symlink_to(self.temp)
+        whole = quote(str(self.temp / "secret.map"), "").encode()
         rows = [
             b"../secret.map", b"..%2fsecret.map", b"%2e%2e/secret.map", b"b/../../secret.map",
-            b"..\\secret.map", b"%2e%2e%2fsecret.map", whole, str(self.room / "secret.map").encode(),
+            b"..\\secret.map", b"%2e%2e%2fsecret.map", whole, str(self.temp / "secret.map").encode(),
             b"link.map", b"zero.map",
             b"away/secret.map", b"http://h/m/b/in.map", b"//h/m/b/in.map", b"/b/in.map", b"file:///b/in.map",
             b"file://" + str(self.dist / "b/in.map").encode(), b"b//in.map", b"b/in.map%00", b"C:/b/in.map",
@@ -153,12 +153,12 @@ class NamedTest(FilesCase):
 
     def test_no_spelling_leads_outside(self):
         self.put("secret", b"secret")
-        (self.dist / "away").symlink_to(self.room)
-        (self.dist / "away.map").symlink_to(self.room / "secret.map")
+        (self.dist / "away").symlink_to(self.temp)
+        (self.dist / "away.map").symlink_to(self.temp / "secret.map")
         dice, seen = random.Random(1), Counter()
         pieces = ["..", "..", ".", "%2e", "%2E%2e", "/", "/", "/", "\\", "%2f", "%5c", "away", "secret.map"]
         pieces += ["dist", "out.js.map", "x.js", "%00", "?", "#", "file:", "//", "C:", "C|", "away.map"]
-        pieces += ["out.js.map", str(self.room)]
+        pieces += ["out.js.map", str(self.temp)]
         for _ in range(3_000):
             url = "".join(dice.choices(pieces, k=dice.randrange(1, 7))).encode()
             text = self.script("x.js", url).read_bytes()
@@ -234,7 +234,7 @@ class NamedTest(FilesCase):
     def test_two_scripts_that_name_maps_are_told_of(self):
         self.put("dist/a")
         one, other = self.script("x.js", b"a.map"), self.write("other/m/x.js", b"f()")
-        places = {"http://h/m/": self.dist, "http://h/": self.room / "other"}
+        places = {"http://h/m/": self.dist, "http://h/": self.temp / "other"}
         self.assertEqual(smap.Folders(places)("http://h/m/x.js").base, "http://h/m/a.map")
         other.write_bytes(b"//# sourceMappingURL=a.map")
         fault = self.raised("http://h/m/x.js", places)
@@ -376,19 +376,19 @@ class AlikeTest(FilesCase):
         for name in ("very", "first", "second", "bare"):
             self.put(name + "/out.js", MAP.replace(b"a.js", name.encode()))
         keys = {"HTTP://H/": "first", "http://H/": "second", "http://h/": "very"}
-        places = {key: self.room / name for key, name in keys.items()}
+        places = {key: self.temp / name for key, name in keys.items()}
         told = {name: f"@http://h/{name}:11:3" for name in keys.values()}
         self.assertEqual(self.told(places, "http://h/out.js"), told["very"])
         self.assertEqual(self.told(places, "http://H/out.js"), told["second"])
         self.assertEqual(self.told(places, "http://h:80/out.js"), told["first"])
-        (self.room / "very" / "out.js.map").unlink()
+        (self.temp / "very" / "out.js.map").unlink()
         self.assertEqual(self.told(places, "http://h/out.js"), told["first"])
         # a script of its own comes before those in folders
-        places = {"http://H/": self.room / "second", "HTTP://h/out.js": self.room / "bare" / "out.js.map"}
+        places = {"http://H/": self.temp / "second", "HTTP://h/out.js": self.temp / "bare" / "out.js.map"}
         self.assertEqual(self.told(places, "http://h/out.js"), "@http://h/bare:11:3")
         # and what is alike before what lacks the query
         self.put("query/q?x.js", MAP.replace(b"a.js", b"query"))
-        places = {"file:///s/": self.room / "query", "/s/q": self.room / "bare" / "out.js.map"}
+        places = {"file:///s/": self.temp / "query", "/s/q": self.temp / "bare" / "out.js.map"}
         self.assertEqual(self.told(places, "/s/q?x.js", ignore_query=True), "@file:///s/query:11:3")
         self.assertEqual(self.told(places, "/s/q?y.js", ignore_query=True), "@file:///s/bare:11:3")
 
@@ -405,7 +405,7 @@ class AlikeTest(FilesCase):
 
     def test_names_below_a_folder_stay_below_it(self):
         self.put("secret.js")
-        (self.dist / "away").symlink_to(self.room)
+        (self.dist / "away").symlink_to(self.temp)
         for key, script in [
             ("/s/", "file:///s/..%2Fsecret.js"), ("/s/", "file:///s/%2e%2e/secret.js"),
             ("/s/", "/s/../secret.js"), ("/s/", "file:///s/away/secret.js"),
@@ -416,7 +416,7 @@ class AlikeTest(FilesCase):
 
     def test_no_name_leads_outside(self):
         self.put("secret.js", MAP.replace(b"a.js", b"secret"))
-        (self.dist / "away").symlink_to(self.room)
+        (self.dist / "away").symlink_to(self.temp)
         dice, seen = random.Random(1), Counter()
         begins = ["http://h/m/", "HTTP://H:80/m/", "/s/", "file:///s/", "c:\\s\\", "file:///C:/s/", "C:/s/"]
         places = {key: self.dist for key in ("http://h/m/", "/s/", "C:\\s\\")}

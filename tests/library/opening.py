@@ -127,7 +127,7 @@ class LoadTest(unittest.TestCase):
     def setUp(self):
         made = tempfile.TemporaryDirectory()
         self.addCleanup(made.cleanup)
-        self.room = Path(made.name)
+        self.temp = Path(made.name)
 
     def said(self, package, **more):
         """What the import of a package says, which has to fail."""
@@ -141,7 +141,7 @@ class LoadTest(unittest.TestCase):
 
     def copied(self):
         """A copy of the module, beside which no library is."""
-        package = self.room / "any" / "where" / "here" / "smap"
+        package = self.temp / "any" / "where" / "here" / "smap"
         package.mkdir(parents=True)
         for file in PACKAGE.glob("*.py"):
             (package / file.name).write_bytes(file.read_bytes())
@@ -184,12 +184,12 @@ class PageTest(unittest.TestCase):
         blocks = dict(re.findall(r"^```(\w*)\n(.*?)^```$", page, flags=re.M | re.S))
         program, wanted = blocks["python"], blocks[""]
         text = re.search(r"With the map `(.*?)`", page)[1]
-        with tempfile.TemporaryDirectory() as room:
-            Path(room, "dist").mkdir()
-            Path(room, "dist", "cart.js.map").write_text(text)
+        with tempfile.TemporaryDirectory() as temp:
+            Path(temp, "dist").mkdir()
+            Path(temp, "dist", "cart.js.map").write_text(text)
             env = {**os.environ, "PYTHONPATH": str(PACKAGE.parent)}
             words = [sys.executable, "-B", "-c", program]
-            done = subprocess.run(words, cwd=room, env=env, capture_output=True, check=False)
+            done = subprocess.run(words, cwd=temp, env=env, capture_output=True, check=False)
         self.assertEqual((done.stdout.decode(), done.stderr), (wanted, b""))
 
 

@@ -15,7 +15,7 @@ MAP = '{"version":3,"sources":["%s"],"mappings":"AAUE"}'
 WORDS = "section row file map link pipe folder give option < > stays says leaves differs without =".split()
 ESCAPE = re.compile(r"\\(?:([nrtvfs\\])|x([0-9a-f]{2})|u([0-9a-f]{4})|(.?))", re.DOTALL)
 PLAIN = {"n": "\n", "r": "\r", "t": "\t", "v": "\v", "f": "\f", "s": " ", "\\": "\\"}
-PLACEHOLDER = re.compile(r"<(room|times (\d+) (.*?)|base64|[a-z][a-z0-9]*(?:-[a-z0-9]+)+)>", re.DOTALL)
+PLACEHOLDER = re.compile(r"<(temp|times (\d+) (.*?)|base64|[a-z][a-z0-9]*(?:-[a-z0-9]+)+)>", re.DOTALL)
 
 
 class Wrong(Exception):
@@ -54,15 +54,15 @@ class Row:
     def answer_of(self, tool):
         return self.own.get(tool, self.answer)
 
-    def written(self, tool, room):
+    def written(self, tool, temp):
         """What the tool has to write."""
         answer = self.answer_of(tool)
-        return joined(self.log if answer.stays else answer.lines, room)
+        return joined(self.log if answer.stays else answer.lines, temp)
 
 
-def joined(lines, room):
+def joined(lines, temp):
     """Lines of the table as those of a log."""
-    return b"".join(text(line, room) + b"\n" for line in lines)
+    return b"".join(text(line, temp) + b"\n" for line in lines)
 
 
 # ---- maps inside comments
@@ -128,12 +128,12 @@ BODIES = {
 
 # ---- words
 
-def filled(match, room):
+def filled(match, temp):
     """What a placeholder stands for."""
     if match[2]:
         return match[3] * int(match[2])
-    if match[1] == "room":
-        return room.decode("utf-8", "surrogateescape")
+    if match[1] == "temp":
+        return temp.decode("utf-8", "surrogateescape")
     if match[1] not in BODIES:
         raise Wrong(f"no such placeholder: {match[0]}")
     return BODIES[match[1]]()
@@ -149,9 +149,9 @@ def unescaped(match):
     return chr(0xDC00 + code if match[2] and code > 127 else code)
 
 
-def text(words, room):
+def text(words, temp):
     """The bytes that words of the table stand for, in the folder of a row."""
-    words = PLACEHOLDER.sub(lambda match: filled(match, room), words)
+    words = PLACEHOLDER.sub(lambda match: filled(match, temp), words)
     return ESCAPE.sub(unescaped, words).encode("utf-8", "surrogateescape")
 
 
@@ -285,12 +285,12 @@ class Made:
 
 # ---- folders
 
-def lay_out(row, room):
+def lay_out(row, temp):
     """Makes the files of a row in its folder. Of two of one name the later one counts, which is the row's."""
     for kind, name, *rest in {name: (kind, name, *rest) for kind, name, *rest in row.files}.values():
-        path = os.path.join(room, text(name, room))
+        path = os.path.join(temp, text(name, temp))
         os.makedirs(os.path.dirname(path), exist_ok=True)
-        words = text(rest[0], room) if rest else b""
+        words = text(rest[0], temp) if rest else b""
         if kind == "link":
             os.symlink(words, path)
         elif kind == "pipe":

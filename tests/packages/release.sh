@@ -35,11 +35,11 @@ counts_python() {
 # Makes them once more out of the source package, in another folder, at another time, with other settings.
 makes_the_same() {
     dpkg-source --no-check -x "$dist/smap_$version.dsc" "$work/a copy" && rm -r "$work/a copy/debian" || return 1
-    mkdir "$work/a room" && cp "$SMAP" "$work/a room/program" && cp -r "$lib" "$work/a room/library" || return 1
+    mkdir "$work/a folder" && cp "$SMAP" "$work/a folder/program" && cp -r "$lib" "$work/a folder/library" || return 1
     (
         umask 077
-        cd / && TZ=Asia/Kolkata LC_ALL=C.UTF-8 TMPDIR="$work/a room" SMAP="$work/a room/program" \
-            SMAP_CAPI="$work/a room/library" "$work/a copy/tools/build-packages" "$work/again"
+        cd / && TZ=Asia/Kolkata LC_ALL=C.UTF-8 TMPDIR="$work/a folder" SMAP="$work/a folder/program" \
+            SMAP_CAPI="$work/a folder/library" "$work/a copy/tools/build-packages" "$work/again"
     ) || return 1
     diff -r "$dist" "$work/again"
 }

@@ -1,13 +1,13 @@
 # shellcheck shell=sh disable=SC2154
 # What the rows about pages use, read by `.` after work.sh.
 
-# Runs the blocks of sh of a page as they are pasted, one after the other, in the folder $work/room, but for those
+# Runs the blocks of sh of a page as they are pasted, one after the other, in the folder $work/temp, but for those
 # below the headings that are named besides. Writes the name and the status of each, and then, if the page shows
 # what the block writes, how that differs, or else what it writes; line feeds at the end don't count.
 run_blocks() {
     python3 -B "$rows/pages.py" blocks "$rows/$1" blocks >names || return
     shift
-    mkdir -p bin room
+    mkdir -p bin temp
     ln -sf "$SMAP" bin/smap
     ln -sf smap bin/smap-trace
     ln -sf smap bin/smap-maps
@@ -17,7 +17,7 @@ run_blocks() {
     done
     while IFS= read -r name; do
         case " $* " in *" ${name%-*} "*) continue ;; esac
-        written=$(cd room && PATH=$work/bin:$PATH sh "../blocks/$name.sh" 2>&1)
+        written=$(cd temp && PATH=$work/bin:$PATH sh "../blocks/$name.sh" 2>&1)
         echo "$name $?"
         if [ -e "blocks/$name.out" ]; then
             printf '%s\n' "$written" | diff "blocks/$name.out" -
@@ -37,20 +37,20 @@ END
     chmod +x bin/rt
 }
 
-# Puts what tools/install installs into the folder $work/room, with stand-ins for what takes long: `rt`, and
+# Puts what tools/install installs into the folder $work/temp, with stand-ins for what takes long: `rt`, and
 # the scripts that build the library and the packages.
 stand_in_for_repository() {
     stand_in_for_rt
-    mkdir -p room/crates/smap room/crates/smap_viewer room/capi room/packaging
-    cp -R "$rows/../../tools" "$rows/../../docs" room
-    cp "$rows/../../crates/smap_viewer/smap-view.html" room/crates/smap_viewer
-    cp -R "$rows/../../packaging/completion" "$rows/../../packaging/man" room/packaging
+    mkdir -p temp/crates/smap temp/crates/smap_viewer temp/capi temp/packaging
+    cp -R "$rows/../../tools" "$rows/../../docs" temp
+    cp "$rows/../../crates/smap_viewer/smap-view.html" temp/crates/smap_viewer
+    cp -R "$rows/../../packaging/completion" "$rows/../../packaging/man" temp/packaging
     for name in cpp python rust examples; do
-        cp -R "$rows/../../capi/$name" room/capi
+        cp -R "$rows/../../capi/$name" temp/capi
     done
-    cat >room/tools/build-capi <<'END'
+    cat >temp/tools/build-capi <<'END'
 #!/bin/sh
 mkdir -p capi/out && cd capi/out && touch libsmap.a libsmap.so.0 smap.h smap.pc
 END
-    printf '#!/bin/sh\nmkdir -p dist\n' >room/tools/build-packages
+    printf '#!/bin/sh\nmkdir -p dist\n' >temp/tools/build-packages
 }

@@ -44,7 +44,7 @@ class Browser:
     driver = None
 
     def __init__(self):
-        self.room = tempfile.mkdtemp()
+        self.temp = tempfile.mkdtemp()
 
     def __enter__(self):
         try:
@@ -60,7 +60,7 @@ class Browser:
 
     def close(self):
         self.end()
-        shutil.rmtree(self.room, ignore_errors=True)
+        shutil.rmtree(self.temp, ignore_errors=True)
 
     def open(self, url):
         self.driver.get(url)
@@ -122,7 +122,7 @@ class Chromium(Browser):
         options = webdriver.ChromeOptions()
         options.binary_location = shutil.which("chromium")
         for word in ("--headless=new", "--no-sandbox", "--disable-gpu", "--disable-dev-shm-usage",
-                     "--disable-background-networking", f"--user-data-dir={self.room}/profile"):
+                     "--disable-background-networking", f"--user-data-dir={self.temp}/profile"):
             options.add_argument(word)
         options.unhandled_prompt_behavior = "ignore"
         options.set_capability("goog:loggingPrefs", {"browser": "ALL", "performance": "ALL"})
@@ -206,7 +206,7 @@ class Firefox(Browser):
         with socket.socket() as probe:
             probe.bind(("127.0.0.1", 0))
             port = probe.getsockname()[1]
-        os.mkdir(f"{self.room}/profile")
+        os.mkdir(f"{self.temp}/profile")
         settings = {
             "marionette.port": port, "browser.shell.checkDefaultBrowser": False,
             "app.update.enabled": False, "datareporting.policy.dataSubmissionEnabled": False,
@@ -214,12 +214,12 @@ class Firefox(Browser):
             "browser.aboutwelcome.enabled": False, "network.captive-portal-service.enabled": False,
             "network.connectivity-service.enabled": False, "services.settings.server": "data:,x",
         }
-        with open(f"{self.room}/profile/user.js", "w") as file:
+        with open(f"{self.temp}/profile/user.js", "w") as file:
             for name, value in settings.items():
                 file.write(f"user_pref({json.dumps(name)}, {json.dumps(value)});\n")
         command = ["firefox-esr", "--headless", "--marionette", "--remote-allow-system-access", "--no-remote",
-                   "--profile", f"{self.room}/profile"]
-        with open(f"{self.room}/log", "wb") as log:
+                   "--profile", f"{self.temp}/profile"]
+        with open(f"{self.temp}/log", "wb") as log:
             self.process = subprocess.Popen(command, stdin=subprocess.DEVNULL, stdout=log, stderr=log,
                                             start_new_session=True)
         options = webdriver.FirefoxOptions()
@@ -234,7 +234,7 @@ class Firefox(Browser):
                 return socket.create_connection(("127.0.0.1", port), timeout=300)
             except OSError:
                 time.sleep(0.1)
-        with open(f"{self.room}/log", errors="replace") as log:
+        with open(f"{self.temp}/log", errors="replace") as log:
             raise DriverError(f"Firefox doesn't start: {log.read()[-500:]}")
 
     def end(self):

@@ -83,8 +83,8 @@ def main():
     # so that the browsers end too
     signal.signal(signal.SIGTERM, lambda *_: sys.exit(1))
     left_out = []
-    with tempfile.TemporaryDirectory() as room:
-        folder = pathlib.Path(room)
+    with tempfile.TemporaryDirectory() as temp:
+        folder = pathlib.Path(temp)
         made = pages.small(folder)
         (folder / "refused.map").write_text('{"version":3,"sources":["a.js"],"mappings":"AAAA,CCAA"}')
         url = make_page(folder, "small.js.map", "--base", "http://h/m", "small.js.map")

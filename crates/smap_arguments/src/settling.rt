@@ -260,10 +260,10 @@ fn leave_kept(alloc: Global, kept: &[bool], wanted: &mut Wanted<'_>) -> Result<(
 /// A script that is named twice ends the run, unless broken maps are skipped.
 fn end_if_repeated(repeated: bool, skip: bool) -> Result<(), Stop>
     ensures once { skip ≡ false → OnOk result (repeated ≡ false) }
-    ensures stops { IfErr result (λ s. (s ≡ Stop.Said 1) × (skip ≡ false) × (repeated ≡ true)) }
+    ensures stops { IfErr result (λ s. (s ≡ Stop.Reported 1) × (skip ≡ false) × (repeated ≡ true)) }
 {
     if repeated && !skip {
-        return Err(Stop::Said(1));
+        return Err(Stop::Reported(1));
     }
     Ok(())
 }
@@ -278,7 +278,7 @@ pub fn settle<E: Eprint + AllocGlobal, D: Disk>(
     ensures settled { OnOk result (spec.IsSettled wanted.old wanted.new) }
     ensures once { skip ≡ false → OnOk result (spec.has_repeated (view.named_in wanted.old) ≡ false) }
     ensures stops { IfErr result (λ s. (s ≡ Stop.Memory)
-        ⊎ ((s ≡ Stop.Said 1) × (skip ≡ false) × (spec.has_repeated (view.named_in wanted.old) ≡ true))) }
+        ⊎ ((s ≡ Stop.Reported 1) × (skip ≡ false) × (spec.has_repeated (view.named_in wanted.old) ≡ true))) }
 {
     let alloc = host.alloc();
     let decided = decide(alloc, wanted.places.as_slice(), wanted.origins.as_slice())?;

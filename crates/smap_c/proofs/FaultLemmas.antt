@@ -11,8 +11,8 @@ use Rattle.smap_mappings.specs.declared.error.SegmentPlace.{SegmentPlace}
 use Rattle.smap_record.specs.declared.fault.Fault.{Fault}
 use Rattle.smap_record.specs.declared.fault.Kind.{Kind}
 use Rattle.smap_record.specs.declared.fault.Kind.TheVariants as kind
-use Rattle.smap_record.specs.Words.{fault_words, inner_words, kind_words, number_words, place_words}
-use Rattle.smap_record.specs.Words.{section_words}
+use Rattle.smap_record.specs.Messages.{fault_message, inner_text, kind_message, number_message, place_message}
+use Rattle.smap_record.specs.Messages.{section_message}
 use Rattle.smap_c.specs.Faults.{FaultFits, KindFits, PathFits, PlaceFits}
 
 -- ---- numbers
@@ -33,30 +33,30 @@ exact a n e = omega (arith, e)
 
 -- ---- the section
 
-inner : (ns : List ℕ) → All (λ (n : ℕ). n < 2 ^ 64) ns → length (inner_words ns) ≤ 21 * length ns
+inner : (ns : List ℕ) → All (λ (n : ℕ). n < 2 ^ 64) ns → length (inner_text ns) ≤ 21 * length ns
 inner [] all = omega arith
 inner (n ∷ ns) all =
     let head : n < 2 ^ 64 = all 0 n (omega arith) in
     let more = inner ns (All-tail (λ (n : ℕ). n < 2 ^ 64) n ns all) in
     let one = two (codes ".") (decimal n) 1 20 (exact (codes ".") 1 refl) (digits n head) in
-    let both = two (codes "." ++ decimal n) (inner_words ns) 21 (21 * length ns) one more in
+    let both = two (codes "." ++ decimal n) (inner_text ns) 21 (21 * length ns) one more in
     omega (arith, both)
 
-section : (ns : List ℕ) → PathFits ns → length (section_words ns) ≤ 177
+section : (ns : List ℕ) → PathFits ns → length (section_message ns) ≤ 177
 section [] fits = omega arith
 section (n ∷ ns) fits =
     let head : n < 2 ^ 64 = fits.1 0 n (omega arith) in
     let few : length ns ≤ 7 = omega (arith, fits.0) in
     let inside = inner ns (All-tail (λ (n : ℕ). n < 2 ^ 64) n ns fits.1) in
-    let most : length (inner_words ns) ≤ 147 = omega (arith, inside, few) in
-    two (codes "section ") (decimal n ++ (inner_words ns ++ codes ": ")) 8 169 (exact
+    let most : length (inner_text ns) ≤ 147 = omega (arith, inside, few) in
+    two (codes "section ") (decimal n ++ (inner_text ns ++ codes ": ")) 8 169 (exact
     (codes "section ") 8 refl)
-    (two (decimal n) (inner_words ns ++ codes ": ") 20 149 (digits n head)
-    (two (inner_words ns) (codes ": ") 147 2 most (exact (codes ": ") 2 refl)))
+    (two (decimal n) (inner_text ns ++ codes ": ") 20 149 (digits n head)
+    (two (inner_text ns) (codes ": ") 147 2 most (exact (codes ": ") 2 refl)))
 
 -- ---- the place
 
-place : (p : Option SegmentPlace) → PlaceFits p → length (place_words p) ≤ 36
+place : (p : Option SegmentPlace) → PlaceFits p → length (place_message p) ≤ 36
 place None fits = omega arith
 place (Some p) fits =
     two (codes "line ") (decimal p.line ++ (codes " segment " ++ (decimal p.segment ++ codes ": "))) 5 31
@@ -68,13 +68,13 @@ place (Some p) fits =
 
 -- ---- the kind
 
-spelled : (f : NumberFault) → length (number_words f) ≤ 13
+spelled : (f : NumberFault) → length (number_message f) ≤ 13
 spelled number.Unfinished = let h : 10 ≤ 13 = omega arith in h
 spelled number.Character = let h : 13 ≤ 13 = omega arith in h
 spelled number.TooLarge = let h : 9 ≤ 13 = omega arith in h
 spelled number.NegativeZero = let h : 13 ≤ 13 = omega arith in h
 
-kind_length : (k : Kind) → KindFits k → length (kind_words k) ≤ 47
+kind_length : (k : Kind) → KindFits k → length (kind_message k) ≤ 47
 kind_length kind.Prefix fits = let h : 24 ≤ 47 = omega arith in h
 kind_length kind.Json fits = let h : 8 ≤ 47 = omega arith in h
 kind_length kind.NotObject fits = let h : 13 ≤ 47 = omega arith in h
@@ -104,10 +104,10 @@ kind_length (kind.UnstableUrl i) fits =
     (exact (codes " has an unstable URL") 20 refl))
 kind_length kind.Empty fits = let h : 13 ≤ 47 = omega arith in h
 kind_length (kind.Number which f) fits =
-    let most = two (codes "number ") (decimal which ++ (codes ": " ++ number_words f)) 7 35
+    let most = two (codes "number ") (decimal which ++ (codes ": " ++ number_message f)) 7 35
     (exact (codes "number ") 7 refl)
-    (two (decimal which) (codes ": " ++ number_words f) 20 15 (digits which fits)
-    (two (codes ": ") (number_words f) 2 13 (exact (codes ": ") 2 refl) (spelled f))) in
+    (two (decimal which) (codes ": " ++ number_message f) 20 15 (digits which fits)
+    (two (codes ": ") (number_message f) 2 13 (exact (codes ": ") 2 refl) (spelled f))) in
     omega (arith, most)
 kind_length (kind.Count n) fits =
     let most = two (decimal n) (codes " numbers") 20 8 (digits n fits) (exact (codes " numbers") 8 refl) in
@@ -119,10 +119,11 @@ kind_length kind.OriginalLine fits = let h : 13 ≤ 47 = omega arith in h
 kind_length kind.OriginalColumn fits = let h : 15 ≤ 47 = omega arith in h
 kind_length kind.Name fits = let h : 10 ≤ 47 = omega arith in h
 
--- the words of a fault are at most 260 bytes long
-pub words_are_short : (f : Fault) → FaultFits f → length (fault_words f) ≤ 260
-unfolding fault_words
-words_are_short f fits =
-    two (section_words f.section) (place_words f.place ++ kind_words f.kind) 177 83 (section f.section fits.0)
-    (two (place_words f.place) (kind_words f.kind) 36 47 (place f.place fits.1)
+-- the message of a fault is at most 260 bytes long
+pub message_is_short : (f : Fault) → FaultFits f → length (fault_message f) ≤ 260
+unfolding fault_message
+message_is_short f fits =
+    two (section_message f.section) (place_message f.place ++ kind_message f.kind) 177 83
+    (section f.section fits.0)
+    (two (place_message f.place) (kind_message f.kind) 36 47 (place f.place fits.1)
     (kind_length f.kind fits.2))

@@ -5,7 +5,7 @@ use Rattle.smap_vlq.specs.declared.number.NumberFault.{NumberFault}
 use Rattle.smap_mappings.specs.declared.error.SegmentPlace.{SegmentPlace}
 use Rattle.smap_record.specs.declared.fault.Kind.{Kind}
 use Rattle.smap_record.specs.declared.fault.Fault.{Fault}
-use Rattle.smap_record.specs.Words.{fault_words}
+use Rattle.smap_record.specs.Messages.{fault_message}
 use Rattle.smap_c.specs.Strings.{copied}
 use Rattle.smap_c.specs.Codes.{MEMORY, REFUSED}
 use Rattle.smap_c.specs.declared.faults.SmapFault.{SmapFault}
@@ -54,8 +54,8 @@ code_and_number kind.OriginalColumn = (codes.ORIGINAL_COLUMN, 0)
 code_and_number kind.Name = (codes.NAME, 0)
 
 -- as much of the text as the field takes, and then zeros
-abbrev pub padded_words : List ℕ → List ℕ
-padded_words words = copied words (replicate 264 0)
+abbrev pub padded_text : List ℕ → List ℕ
+padded_text words = copied words (replicate 264 0)
 
 -- the numbers of a path, and then zeros, eight together
 abbrev pub padded_path : List ℕ → List ℕ
@@ -80,12 +80,12 @@ told_with words fault = record {
   depth = length fault.section;
   section = padded_path fault.section;
   text_len = length words;
-  text = padded_words words;
+  text = padded_text words;
 }
 
 -- A fault as C sees it.
 abbrev pub fault_told : Fault → SmapFault
-fault_told fault = told_with (fault_words fault) fault
+fault_told fault = told_with (fault_message fault) fault
 
 -- The fault is told, or memory ran out and nothing is.
 abbrev pub TellsFault : Fault → SmapFault → SmapFault → ℕ → Type 0

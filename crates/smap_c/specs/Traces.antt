@@ -10,7 +10,7 @@ use Rattle.smap_frames.specs.Reading.{frame_of}
 use Rattle.smap_record.specs.Record.{ReadMap, record_of}
 use Rattle.smap_trace.specs.Translation.{Fate, Script, fate, fate_by, kept, translated, dropped}
 use Rattle.smap_trace.specs.Translation.{line_translation_by}
-use Rattle.smap_trace.specs.declared.finding.Finding.{Finding}
+use Rattle.smap_trace.specs.declared.match_mode.MatchMode.{MatchMode}
 
 -- ---- what they are asked to do, by the bits that `smap.h` names
 
@@ -32,12 +32,12 @@ abbrev pub hides : ℕ → Bool
 hides how = has_bit how HIDE_IGNORED
 
 -- how positions are found
-abbrev pub finding_in : ℕ → Finding
-finding_in how = record { anywhere = has_bit how ANYWHERE; ignore_query = has_bit how IGNORE_QUERY }
+abbrev pub mode_in : ℕ → MatchMode
+mode_in how = record { anywhere = has_bit how ANYWHERE; ignore_query = has_bit how IGNORE_QUERY }
 
 -- what becomes of a line
 abbrev pub fates : ℕ → List Script → List ℕ → Fate
-fates how scripts = fate_by (finding_in how) scripts (hides how)
+fates how scripts = fate_by (mode_in how) scripts (hides how)
 
 -- A caller that passes a `bool`, which C makes 0 or 1, asks for frames alone, and whether to hide.
 abbrev pub AsksByBool : ℕ → Bool → Type 0

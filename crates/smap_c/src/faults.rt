@@ -1,10 +1,10 @@
 //! Faults, as C sees them.
 ghost use Rattle.std.specs.Prelude.{◌≡◌, ◌<◌, ◌≤◌, ◌^◌, All, length, string_bytes, IfOk};
-ghost use Rattle.smap_record.specs.Words.{fault_words};
+ghost use Rattle.smap_record.specs.Messages.{fault_message};
 ghost use Rattle.smap_c.specs.FaultCodes.{fault_name};
 ghost use Rattle.smap_c.specs.Strings.{copied};
 ghost use Rattle.smap_c.specs.Faults.{FaultFits, KindFits, PlaceFits, code_and_number, padded_path};
-ghost use Rattle.smap_c.specs.Faults.{padded_words, spelling_code, told_with, IsWhole, TellsFault};
+ghost use Rattle.smap_c.specs.Faults.{padded_text, spelling_code, told_with, IsWhole, TellsFault};
 
 use crate::codes::{MEMORY, REFUSED};
 use crate::strings::copy_out;
@@ -117,10 +117,10 @@ fn fault_fits(fault: &Fault)
 }
 
 /// The words of a fault.
-#[tactic(auto, using(crate::proofs::FaultLemmas::words_are_short))]
+#[tactic(auto, using(crate::proofs::FaultLemmas::message_is_short))]
 fn fault_text(alloc: Global, fault: &Fault) -> Result<String, Memory>
-    ensures words { IfOk result (λ text. string_bytes text ≡ fault_words fault.now) }
-    ensures short { length (fault_words fault.now) ≤ 260 }
+    ensures words { IfOk result (λ text. string_bytes text ≡ fault_message fault.now) }
+    ensures short { length (fault_message fault.now) ≤ 260 }
 {
     fault_fits(fault);
     format!(in alloc; "{fault}")
@@ -128,7 +128,7 @@ fn fault_text(alloc: Global, fault: &Fault) -> Result<String, Memory>
 
 /// The words, followed by zeros.
 fn padded(words: &[u8]) -> [u8; ROOM]
-    ensures { result ≡ padded_words words.now }
+    ensures { result ≡ padded_text words.now }
 {
     let mut text = [0; ROOM];
     copy_out(words, &mut text);

@@ -12,7 +12,7 @@ ghost use Rattle.smap_c.specs.Traces.{fates};
 use crate::codes::{CLOSED, MEMORY, NOT_URL, OK};
 use crate::handles::{Held, SmapBytes, SmapMap, SmapScripts};
 use crate::maps::Shared;
-use crate::traces::{finding_in, hides};
+use crate::traces::{hides, mode_in};
 use indexmap::IndexMap;
 use smap_io::Device;
 use smap_mappings::Memory;
@@ -199,7 +199,7 @@ fn translated(
         alloc,
         &mut reader,
         pairs.as_slice(),
-        finding_in(how),
+        mode_in(how),
         hides(how),
         &mut writer,
     ) {

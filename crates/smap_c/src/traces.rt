@@ -1,13 +1,13 @@
 //! The calls on the lines of a trace.
 ghost use Rattle.std.specs.Prelude.{◌≡◌};
-ghost use Rattle.smap_c.specs.Traces.{finding_in, hides, FrameTold, LineTold, LineBy, TellsLine};
+ghost use Rattle.smap_c.specs.Traces.{mode_in, hides, FrameTold, LineTold, LineBy, TellsLine};
 ghost use Rattle.smap_c.specs.Handles.{held_map};
 
 use crate::codes::{CLOSED, MEMORY, NONE, NOT_URL, OK};
 use crate::handles::SmapMap;
 use crate::strings::copy_out;
 use smap_record::SourceMap;
-use smap_trace::{Finding, LineOutcome, frame, translate_line_by};
+use smap_trace::{LineOutcome, MatchMode, frame, translate_line_by};
 use std::alloc::Global;
 use std::{mem, str};
 
@@ -57,10 +57,10 @@ pub(crate) fn hides(how: u8) -> bool
 }
 
 /// How positions are found.
-pub(crate) fn finding_in(how: u8) -> Finding
-    ensures { result ≡ finding_in how }
+pub(crate) fn mode_in(how: u8) -> MatchMode
+    ensures { result ≡ mode_in how }
 {
-    Finding {
+    MatchMode {
         anywhere: how & ANYWHERE == ANYWHERE,
         ignore_query: how & IGNORE_QUERY == IGNORE_QUERY,
     }
@@ -80,7 +80,7 @@ fn line_of(
     ensures { LineTold url.now map.now line.now how out.old out.new len.new outcome.old outcome.new result }
 {
     let mut text = Vec::new(alloc);
-    match translate_line_by(line, &[(url, map)], finding_in(how), hides(how), &mut text) {
+    match translate_line_by(line, &[(url, map)], mode_in(how), hides(how), &mut text) {
         Ok(became) => {
             *outcome = match became {
                 LineOutcome::Kept => 0,

@@ -13,7 +13,7 @@ ghost use Rattle.smap_canon.specs.Writing.{contents_tree, ignored_tree, flat_tre
 
 use crate::listing_to_write::ListingToWrite;
 use crate::numbering::{listed_mappings, numbered_mappings};
-use crate::sources::{source_at, source_count};
+use crate::sources_to_write::{source_at, source_count};
 use crate::spelling::{SpelledUrl, Spelling};
 use serde::{Described, Serialize, Serializer};
 use smap_mappings::Memory;

@@ -18,7 +18,7 @@ mod listing_to_write;
 mod numbering;
 pub mod round_trips;
 mod sameness;
-mod sources;
+mod sources_to_write;
 mod spelling;
 mod writing;
 

@@ -14,9 +14,9 @@ use Rattle.smap_finder.specs.Choice.{places_of}
 use Rattle.smap_finder.specs.Given.{Folder, IsFollowed, Names, folder_for}
 use Rattle.smap_finder.specs.declared.following.Followed.TheVariants as followed
 use Rattle.smap_arguments.specs.declared.wanted.Wanted.{Wanted}
-use Rattle.smap_pick.specs.Finding.{IsPick}
+use Rattle.smap_pick.specs.Picks.{IsPick}
 use Rattle.smap_pick.specs.Places.{MapPlace, scripts_of}
-use Rattle.smap_pick.specs.declared.finding.Pick.{Pick}
+use Rattle.smap_pick.specs.declared.picks.Pick.{Pick}
 use Rattle.smap_pick.specs.declared.places.Place.{Place}
 
 pub one_of : {X : Type 0} (P : X → Type 0) (xs : List X) (x : X) (i : ℕ) → All P xs → slice_get xs i ≡ Some x → P x

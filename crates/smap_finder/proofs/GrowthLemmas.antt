@@ -6,9 +6,9 @@ use Rattle.std.specs.List.{All, Contains}
 use Rattle.std.proofs.lemmas.List.Elements.{All-contains}
 use Rattle.smap_arguments.specs.declared.wanted.Wanted.{Wanted}
 use Rattle.smap_disk.specs.Held.{Held}
-use Rattle.smap_pick.specs.declared.finding.Found.{Found}
-use Rattle.smap_pick.specs.declared.finding.Found.TheVariants.{Given, ByEnd, Unclear, Missing}
-use Rattle.smap_pick.specs.declared.finding.Pick.{Pick}
+use Rattle.smap_pick.specs.declared.picks.Found.{Found}
+use Rattle.smap_pick.specs.declared.picks.Found.TheVariants.{Given, ByEnd, Unclear, Missing}
+use Rattle.smap_pick.specs.declared.picks.Pick.{Pick}
 use Rattle.smap_record.specs.Record.{ReadMap}
 use Rattle.smap_finder.proofs.ChoiceLemmas.{one_of}
 use Rattle.smap_finder.specs.Choice.{IsOpenedAs, IsUnopened, has_base, opening_name, root_of}

@@ -1,8 +1,8 @@
 -- The map that is kept for a name of a log is the one that the name has.
 use Rattle.std.proofs.Common.{◌≡◌, sym, ℕ, Bool, true, false, cond, List, subst, refl}
 use Rattle.smap_disk.specs.Held.{Held}
-use Rattle.smap_pick.specs.declared.finding.Found.{Found}
-use Rattle.smap_pick.specs.declared.finding.Found.TheVariants.{Given, ByEnd, Unclear, Missing}
+use Rattle.smap_pick.specs.declared.picks.Found.{Found}
+use Rattle.smap_pick.specs.declared.picks.Found.TheVariants.{Given, ByEnd, Unclear, Missing}
 use Rattle.smap_record.specs.Record.{ReadMap}
 use Rattle.smap_finder.proofs.ChoiceLemmas.{one_of}
 use Rattle.smap_finder.specs.Choice.{IsChoice, IsMapOf, IsOpenedFor, IsPicked, may_end_alike, within_ends}

@@ -8,13 +8,13 @@ use Rattle.smap_disk.specs.Held.{Held}
 use Rattle.smap_link.specs.Alike.{own_url}
 use Rattle.smap_link.specs.Paths.{bare}
 use Rattle.smap_link.specs.Urls.{is_path}
-use Rattle.smap_pick.specs.Finding.{ArePicks, IsFound}
+use Rattle.smap_pick.specs.Picks.{ArePicks, IsFound}
 use Rattle.smap_pick.specs.Opening.{found_place}
 use Rattle.smap_pick.specs.PlaceView.{places_in}
 use Rattle.smap_pick.specs.Places.{MapPlace, scripts_of, usual_place}
-use Rattle.smap_pick.specs.declared.finding.Found.{Found}
-use Rattle.smap_pick.specs.declared.finding.Found.TheVariants.{Given, ByEnd, Unclear, Missing}
-use Rattle.smap_pick.specs.declared.finding.Pick.{Pick}
+use Rattle.smap_pick.specs.declared.picks.Found.{Found}
+use Rattle.smap_pick.specs.declared.picks.Found.TheVariants.{Given, ByEnd, Unclear, Missing}
+use Rattle.smap_pick.specs.declared.picks.Pick.{Pick}
 use Rattle.smap_record.specs.Record.{ReadMap}
 use Rattle.smap_finder.specs.Given.{Folder, Names, folder_for}
 use Rattle.smap_finder.specs.Opened.{GivesNone, IsOpened}

@@ -8,8 +8,8 @@ use Rattle.smap_disk.specs.Held.{Held}
 use Rattle.smap_link.specs.Paths.{bare}
 use Rattle.smap_link.specs.Table.{IsTable}
 use Rattle.smap_pick.specs.Places.{scripts_of}
-use Rattle.smap_pick.specs.declared.finding.Found.{Found}
-use Rattle.smap_pick.specs.declared.finding.Found.TheVariants.{Given, ByEnd, Unclear, Missing}
+use Rattle.smap_pick.specs.declared.picks.Found.{Found}
+use Rattle.smap_pick.specs.declared.picks.Found.TheVariants.{Given, ByEnd, Unclear, Missing}
 use Rattle.smap_record.specs.Record.{ReadMap}
 use Rattle.smap_finder.specs.Choice.{IsOpenedFor, IsPicked, IsWithout, places_of}
 use Rattle.smap_finder.specs.declared.giving.TheConstants.{MOST_AGAIN}

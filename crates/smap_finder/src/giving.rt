@@ -7,7 +7,7 @@ ghost use Rattle.smap_finder.specs.ChosenView.{AreChosen, Choices, Grows, IsFind
 ghost use Rattle.smap_finder.specs.ChosenView.{IsOver};
 ghost use Rattle.smap_finder.specs.ChosenView.{IsNotOpened, IsServedBy, IsSettledIn, IsTried, choices_of};
 ghost use Rattle.smap_finder.specs.declared.chosen.Opening.{Opening};
-ghost use Rattle.smap_pick.specs.declared.finding.Found.{Found};
+ghost use Rattle.smap_pick.specs.declared.picks.Found.{Found};
 
 use crate::chosen::{Chosen, How};
 use crate::loading::FileStore;
@@ -300,7 +300,7 @@ pub(crate) fn judge(how: How, chosen: &Chosen) -> Result<(), Stop>
     ensures { OnOk result (IsJudged how.skip (choices_of chosen.now)) }
 {
     if chosen.worst > 0 && !how.skip {
-        return Err(Stop::Said(chosen.worst));
+        return Err(Stop::Reported(chosen.worst));
     }
     Ok(())
 }

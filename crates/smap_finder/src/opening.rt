@@ -45,7 +45,7 @@ impl<'a, D> Opener<'a, D> {
                 store: FileStore::new(alloc, disk),
             }),
             Err(ChoiceFault::Memory) => Err(Stop::Memory),
-            Err(_) => Err(Stop::Said(1)),
+            Err(_) => Err(Stop::Reported(1)),
         }
     }
 }

@@ -5,14 +5,14 @@ use crate::{codec, maps, runs, traces, words};
 use smap_mappings::{Memory, WIDEST};
 use smap_record::Fault;
 use smap_tool::fault_text;
-use smap_trace::Finding;
+use smap_trace::MatchMode;
 use std::alloc::Global;
 
 /// The answer of a call, as a string of bytes.
 pub(crate) type Answer = Result<Vec<u8>, Memory>;
 
 /// Positions anywhere in a line.
-const ANYWHERE: Finding = Finding {
+const ANYWHERE: MatchMode = MatchMode {
     anywhere: true,
     ignore_query: false,
 };
@@ -57,7 +57,7 @@ fn answer_on_map(alloc: Global, call: &str, text: &[u8]) -> Option<Answer> {
 fn answer_on_trace(alloc: Global, call: &str, text: &[u8]) -> Option<Answer> {
     match call {
         "line_starts" => Some(traces::by_table(alloc, text)),
-        "translate_line" => Some(traces::line(alloc, text, Finding::FRAMES)),
+        "translate_line" => Some(traces::line(alloc, text, MatchMode::FRAMES)),
         "translate_line_by" => Some(traces::line(alloc, text, ANYWHERE)),
         "translate" => Some(traces::trace(alloc, text)),
         _ => answer_on_nothing(alloc, call, text),

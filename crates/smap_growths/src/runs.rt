@@ -5,7 +5,7 @@ use crate::maps::BASE;
 use smap_io::Device;
 use smap_mappings::Memory;
 use smap_tool::{RunFault, Task, run};
-use smap_trace::Finding;
+use smap_trace::MatchMode;
 use std::alloc::Global;
 
 /// The run with this name.
@@ -30,7 +30,7 @@ pub(crate) fn task_named(name: &str) -> Option<Task<'static>> {
         }),
         "run_scripts" => Some(Task::Scripts),
         "run_translate" => Some(Task::Translate {
-            finding: Finding::FRAMES,
+            mode: MatchMode::FRAMES,
             hide: false,
         }),
         _ => None,

@@ -6,7 +6,7 @@ use smap_io::Device;
 use smap_mappings::Memory;
 use smap_record::{Base, Limits, ReadError, SourceMap};
 use smap_trace::{
-    Finding, LineStarts, TraceError, distinct_scripts, find_in, translate, translate_line_by,
+    LineStarts, MatchMode, TraceError, distinct_scripts, find_in, translate, translate_line_by,
 };
 use std::alloc::Global;
 
@@ -63,10 +63,10 @@ pub(crate) fn by_table(alloc: Global, text: &[u8]) -> Answer {
 }
 
 /// Writes the line by the map.
-fn write_line(map: &SourceMap, finding: Finding, out: &mut Vec<u8>) -> Result<(), Memory> {
+fn write_line(map: &SourceMap, mode: MatchMode, out: &mut Vec<u8>) -> Result<(), Memory> {
     let scripts = [("http://h/m/out.js", map)];
     if distinct_scripts(&scripts) {
-        translate_line_by(LINE, &scripts, finding, false, out)?;
+        translate_line_by(LINE, &scripts, mode, false, out)?;
     }
     Ok(())
 }
@@ -80,18 +80,18 @@ fn given_up(alloc: Global, out: &[u8]) -> Answer {
 }
 
 /// The line by a map, after bytes that have to stay where memory runs out.
-fn line_of(alloc: Global, map: &SourceMap, finding: Finding) -> Answer {
+fn line_of(alloc: Global, map: &SourceMap, mode: MatchMode) -> Answer {
     let mut out = said(alloc, b"front: ")?;
-    match write_line(map, finding, &mut out) {
+    match write_line(map, mode, &mut out) {
         Ok(()) => Ok(out),
         Err(_) => given_up(alloc, out.as_slice()),
     }
 }
 
 /// The line by the map that was read.
-pub(crate) fn line(alloc: Global, text: &[u8], finding: Finding) -> Answer {
+pub(crate) fn line(alloc: Global, text: &[u8], mode: MatchMode) -> Answer {
     match map(alloc, text) {
-        Ok(map) => line_of(alloc, &map, finding),
+        Ok(map) => line_of(alloc, &map, mode),
         Err(error) => no_map(alloc, error),
     }
 }

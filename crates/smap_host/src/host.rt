@@ -57,7 +57,7 @@ impl<E: Eprint + AllocGlobal, D: Disk> Host<'_, E, D> {
     /// Says why the run ends, with this status.
     pub fn fail(&self, status: u8, text: &str) -> Stop {
         self.say(text);
-        Stop::Said(status)
+        Stop::Reported(status)
     }
 
     /// Says what can't be done and why, with this status.

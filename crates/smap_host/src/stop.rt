@@ -8,7 +8,7 @@ use std::alloc::{AllocError, AllocFailed};
 #[derive(Clone, Copy, Debug, PartialEq, Eq)]
 pub enum Stop {
     /// With this status; why was said.
-    Said(u8),
+    Reported(u8),
     /// Nobody reads the output any more.
     Unread,
     /// Out of memory.
@@ -21,7 +21,7 @@ impl Stop {
         ensures { result ≡ status_of self }
     {
         match self {
-            Stop::Said(status) => status,
+            Stop::Reported(status) => status,
             Stop::Unread => 141,
             Stop::Memory => 4,
         }

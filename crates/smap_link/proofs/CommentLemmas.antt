@@ -4,17 +4,17 @@ use Rattle.std.proofs.Common.{nat_lt, ap, sym, arith}
 use Rattle.std.proofs.lemmas.Bool.{cond-true, cond-false}
 use Rattle.std.proofs.lemmas.List.{drop_more}
 use Rattle.smap_link.specs.Comment as spec
-use Rattle.smap_link.specs.Comment.{Effect, closes, effect, said, url_in}
+use Rattle.smap_link.specs.Comment.{Effect, closes, effect, with_link, url_in}
 
 pub ends_comment : (two : Bool) (line : List ℕ) (i start k : ℕ) (e found : Effect) → i < length line
     → closes (drop start line) (i - start) (get_or line i 0) ≡ true → k ≡ i - start - 1
-    → found ≡ said (url_in (take k (drop start line))) e
+    → found ≡ with_link (url_in (take k (drop start line))) e
     → effect two (spec.Block (drop start line) (i - start)) e (drop i line)
     ≡ effect two (spec.Code 0) found (drop (i + 1) line)
 ends_comment two line i start k e found lt closed len is =
     ap (λ rest. effect two (spec.Block (drop start line) (i - start)) e rest) (drop_more line i 0 lt)
     ∙ cond-true _ _ _ closed
-    ∙ ap (λ n. effect two (spec.Code 0) (said (url_in (take n (drop start line))) e) (drop (i + 1) line))
+    ∙ ap (λ n. effect two (spec.Code 0) (with_link (url_in (take n (drop start line))) e) (drop (i + 1) line))
     (sym len)
     ∙ ap (λ f. effect two (spec.Code 0) f (drop (i + 1) line)) (sym is)
 

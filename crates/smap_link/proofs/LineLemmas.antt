@@ -8,7 +8,7 @@ use Rattle.std.proofs.Math.Seq.{take-append_seam}
 use Rattle.std.proofs.lemmas.List.{drop-take, drop_more, get_or-append-add, get_or-drop, take-append-drop}
 use Rattle.std.proofs.lemmas.List.{take-take}
 use Rattle.smap_link.specs.Comment.{Effect, cut, effect_of, ends_line, ends_separator, is_newline, later}
-use Rattle.smap_link.specs.Comment.{link_said, map_url_in, settled}
+use Rattle.smap_link.specs.Comment.{link_of_effect, map_url_in, settled}
 use Rattle.smap_link.specs.CommentView.{IsSeparatorAt, StartsLastLine}
 
 -- no terminator ends within the text, behind this line
@@ -182,8 +182,8 @@ said_last : (two : Bool) (text : List ℕ) (start size : ℕ) (link : Option (Li
 said_last two text start size link s is =
     let cases : (start ≡ 0) ⊎ (0 < start) = grind arith in
     ⊎_elim
-    (λ none. ap link_said (in_one two text start size s none ∙ ap (later None) is))
-    (λ some. ap link_said (in_two two text start size s some
+    (λ none. ap link_of_effect (in_one two text start size s none ∙ ap (later None) is))
+    (λ some. ap link_of_effect (in_two two text start size s some
     ∙ ap (later (settled two None [] (take (start - size) text))) is))
     cases
 
@@ -191,12 +191,12 @@ said_last two text start size link s is =
 nothing_last : (two : Bool) (text : List ℕ) (start size : ℕ) → StartsLastLine text start size → 0 < start
     → effect_of two (drop start text) ≡ None → map_url_in two text ≡ map_url_in two (take (start - size) text)
 nothing_last two text start size s some is =
-    ap link_said (in_two two text start size s some
+    ap link_of_effect (in_two two text start size s some
     ∙ ap (later (settled two None [] (take (start - size) text))) is)
 
 nothing_at_all : (two : Bool) (text : List ℕ) (start size : ℕ) → StartsLastLine text start size → start ≡ 0
     → effect_of two (drop start text) ≡ None → map_url_in two text ≡ None
-nothing_at_all two text start size s none is = ap link_said
+nothing_at_all two text start size s none is = ap link_of_effect
     (in_one two text start size s none ∙ ap (later None) is)
 
 -- ---- a line of a longer text

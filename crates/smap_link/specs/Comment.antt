@@ -34,9 +34,9 @@ abbrev pub Effect : Type 0
 Effect = Option (Option (List ℕ))
 
 -- a comment
-abbrev pub said : Option (List ℕ) → Effect → Effect
-said None e = e
-said (Some url) e = Some (Some url)
+abbrev pub with_link : Option (List ℕ) → Effect → Effect
+with_link None e = e
+with_link (Some url) e = Some (Some url)
 
 -- the slash ends the comment of which so many bytes were read
 abbrev pub closes : List ℕ → ℕ → ℕ → Bool
@@ -68,11 +68,11 @@ effect two (Code n) e (b ∷ rest) = cond (nat_lt 0 n) (effect two (Code (n - 1)
     (effect two (Code 0) (Some None) rest)))
 effect two Slash e [] = Some None
 effect two Slash e (b ∷ rest) = cond (b == 47)
-    (cond two (said (url_in rest) e) (effect two Slash (Some None) rest))
+    (cond two (with_link (url_in rest) e) (effect two Slash (Some None) rest))
     (cond (b == 42) (effect two (Block rest 0) e rest) (effect two (Code 0) (Some None) rest))
 effect two (Block comment n) e [] = cond (ends_white comment) e (Some None)
 effect two (Block comment n) e (b ∷ rest) = cond (closes comment n b)
-    (effect two (Code 0) (said (url_in (take (n - 1) comment)) e) rest)
+    (effect two (Code 0) (with_link (url_in (take (n - 1) comment)) e) rest)
     (effect two (Block comment (n + 1)) e rest)
 effect two Done e [] = e
 effect two Done e (b ∷ rest) = e
@@ -112,12 +112,12 @@ settled two e line (b ∷ rest) = cond (ends_line line b)
     (settled two (later e (effect_of two (cut line b))) [] rest)
     (settled two e (line ++ b ∷ []) rest)
 
-abbrev pub link_said : Effect → Option (List ℕ)
-link_said None = None
-link_said (Some link) = link
+abbrev pub link_of_effect : Effect → Option (List ℕ)
+link_of_effect None = None
+link_of_effect (Some link) = link
 
 abbrev pub map_url_in : Bool → List ℕ → Option (List ℕ)
-map_url_in two text = link_said (settled two None [] text)
+map_url_in two text = link_of_effect (settled two None [] text)
 
 -- The URL of the map that a script names, relative to the script's, if it names one.
 abbrev pub map_url : List ℕ → Option (List ℕ)

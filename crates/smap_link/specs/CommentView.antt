@@ -6,11 +6,11 @@ use Rattle.smap_link.specs.Comment.{Effect, Place, effect, ends_line, is_newline
 use Rattle.smap_link.specs.Comment as spec
 use Rattle.smap_link.specs.declared.comment.Mode.{Mode}
 use Rattle.smap_link.specs.declared.comment.Mode.TheVariants as m
-use Rattle.smap_link.specs.declared.comment.Said.{Said}
-use Rattle.smap_link.specs.declared.comment.Said.TheVariants as v
+use Rattle.smap_link.specs.declared.comment.Link.{Link}
+use Rattle.smap_link.specs.declared.comment.Link.TheVariants as v
 use Rattle.smap_link.specs.declared.comment.Scan.{Scan}
 
-abbrev pub effect_in : Said → Effect
+abbrev pub effect_in : Link → Effect
 effect_in v.Nothing = None
 effect_in v.Missing = Some None
 effect_in (v.Url url) = Some (Some url.now)
@@ -24,7 +24,7 @@ place_in m.Done comment n = spec.Done
 -- what the line says, if so much of it was read
 abbrev pub effect_from : Bool → List ℕ → ℕ → Scan → Effect
 effect_from two line i scan =
-    effect two (place_in scan.mode (drop scan.start line) (i - scan.start)) (effect_in scan.said)
+    effect two (place_in scan.mode (drop scan.start line) (i - scan.start)) (effect_in scan.link)
     (drop i line)
 
 -- U+2028 or U+2029 begins here.

@@ -28,7 +28,7 @@ enum Mode {
 
 /// What a line says of the script's map.
 #[derive(Clone, Copy)]
-enum Said<'a> {
+enum Link<'a> {
     Nothing,
     /// There is none, since the line has code.
     Missing,
@@ -40,7 +40,7 @@ struct Scan<'a> {
     mode: Mode,
     /// Where the comment begins.
     start: usize,
-    said: Said<'a>,
+    link: Link<'a>,
 }
 
 /// A URL with nothing but white space behind it.
@@ -74,12 +74,12 @@ fn url_in<'a>(comment: &'a [u8]) -> Option<&'a [u8]>
 }
 
 /// What is said once this comment was read.
-fn after_comment<'a>(comment: &'a [u8], said: Said<'a>) -> Said<'a>
-    ensures { effect_in result ≡ spec.said (spec.url_in comment.now) (effect_in said.entry) }
+fn after_comment<'a>(comment: &'a [u8], link: Link<'a>) -> Link<'a>
+    ensures { effect_in result ≡ spec.with_link (spec.url_in comment.now) (effect_in link.entry) }
 {
     match url_in(comment) {
-        Some(url) => Said::Url(url),
-        None => said,
+        Some(url) => Link::Url(url),
+        None => link,
     }
 }
 
@@ -104,55 +104,55 @@ fn ends_white(text: &[u8]) -> bool
 }
 
 /// Reads the byte at `i`, in code or white space.
-fn code_step<'a>(line: &'a [u8], i: usize, left: usize, said: Said<'a>) -> (Mode, Said<'a>)
+fn code_step<'a>(line: &'a [u8], i: usize, left: usize, link: Link<'a>) -> (Mode, Link<'a>)
     requires { i < length line.now }
     ensures { (two : Bool) (comment : List ℕ) (n : ℕ) →
-        spec.effect two (spec.Code left) (effect_in said.entry) (drop i line.now)
+        spec.effect two (spec.Code left) (effect_in link.entry) (drop i line.now)
         ≡ spec.effect two (place_in result.0 comment n) (effect_in result.1) (drop (i + 1) line.now) }
 {
     if left > 0 {
-        return (Mode::Code(left - 1), said);
+        return (Mode::Code(left - 1), link);
     }
     if line[i] == b'/' {
-        return (Mode::Slash, said);
+        return (Mode::Slash, link);
     }
     let size = white_size(&line[i..]);
     if size > 0 {
-        (Mode::Code(size - 1), said)
+        (Mode::Code(size - 1), link)
     } else {
-        (Mode::Code(0), Said::Missing)
+        (Mode::Code(0), Link::Missing)
     }
 }
 
 /// Reads the byte behind a slash.
-fn slash_step<'a>(line: &'a [u8], i: usize, two: bool, said: Said<'a>) -> (Mode, Said<'a>)
+fn slash_step<'a>(line: &'a [u8], i: usize, two: bool, link: Link<'a>) -> (Mode, Link<'a>)
     requires { i < length line.now }
-    ensures { spec.effect two spec.Slash (effect_in said.entry) (drop i line.now)
+    ensures { spec.effect two spec.Slash (effect_in link.entry) (drop i line.now)
         ≡ spec.effect two (place_in result.0 (drop (i + 1) line.now) 0) (effect_in result.1)
         (drop (i + 1) line.now) }
 {
     match line[i] {
-        b'/' if two => (Mode::Done, after_comment(&line[i + 1..], said)),
-        b'/' => (Mode::Slash, Said::Missing),
-        b'*' => (Mode::Block, said),
-        _ => (Mode::Code(0), Said::Missing),
+        b'/' if two => (Mode::Done, after_comment(&line[i + 1..], link)),
+        b'/' => (Mode::Slash, Link::Missing),
+        b'*' => (Mode::Block, link),
+        _ => (Mode::Code(0), Link::Missing),
     }
 }
 
 /// Reads a byte within a comment that begins at `start`.
-fn block_step<'a>(line: &'a [u8], i: usize, start: usize, said: Said<'a>) -> (Mode, Said<'a>)
+fn block_step<'a>(line: &'a [u8], i: usize, start: usize, link: Link<'a>) -> (Mode, Link<'a>)
     requires within { i < length line.now }
     requires started { start ≤ i }
     ensures { (two : Bool) →
-        spec.effect two (spec.Block (drop start line.now) (i - start)) (effect_in said.entry)
+        spec.effect two (spec.Block (drop start line.now) (i - start)) (effect_in link.entry)
         (drop i line.now)
         ≡ spec.effect two (place_in result.0 (drop start line.now) (i + 1 - start)) (effect_in result.1)
         (drop (i + 1) line.now) }
 {
     if closes(line, start, i) {
-        (Mode::Code(0), after_comment(&line[start..i - 1], said))
+        (Mode::Code(0), after_comment(&line[start..i - 1], link))
     } else {
-        (Mode::Block, said)
+        (Mode::Block, link)
     }
 }
 
@@ -165,27 +165,27 @@ fn step<'a>(line: &'a [u8], i: usize, two: bool, scan: Scan<'a>) -> Scan<'a>
 {
     match scan.mode {
         Mode::Code(left) => {
-            let (mode, said) = code_step(line, i, left, scan.said);
+            let (mode, link) = code_step(line, i, left, scan.link);
             Scan {
                 mode,
                 start: 0,
-                said,
+                link,
             }
         }
         Mode::Slash => {
-            let (mode, said) = slash_step(line, i, two, scan.said);
+            let (mode, link) = slash_step(line, i, two, scan.link);
             Scan {
                 mode,
                 start: i + 1,
-                said,
+                link,
             }
         }
         Mode::Block => {
-            let (mode, said) = block_step(line, i, scan.start, scan.said);
+            let (mode, link) = block_step(line, i, scan.start, scan.link);
             Scan {
                 mode,
                 start: scan.start,
-                said,
+                link,
             }
         }
         Mode::Done => scan,
@@ -193,31 +193,31 @@ fn step<'a>(line: &'a [u8], i: usize, two: bool, scan: Scan<'a>) -> Scan<'a>
 }
 
 /// What a line says that was read to its end.
-fn at_end<'a>(line: &'a [u8], scan: Scan<'a>) -> Said<'a>
+fn at_end<'a>(line: &'a [u8], scan: Scan<'a>) -> Link<'a>
     requires { scan.start ≤ length line.now }
     ensures { (two : Bool) → effect_in result ≡ effect_from two line.now (length line.now) scan.entry }
 {
     match scan.mode {
-        Mode::Code(_) | Mode::Done => scan.said,
-        Mode::Slash => Said::Missing,
+        Mode::Code(_) | Mode::Done => scan.link,
+        Mode::Slash => Link::Missing,
         Mode::Block => {
             if ends_white(&line[scan.start..]) {
-                scan.said
+                scan.link
             } else {
-                Said::Missing
+                Link::Missing
             }
         }
     }
 }
 
 /// What a line says.
-fn said_by<'a>(line: &'a [u8], two: bool) -> Said<'a>
+fn link_of_line<'a>(line: &'a [u8], two: bool) -> Link<'a>
     ensures { effect_in result ≡ spec.effect_of two line.now }
 {
     let mut scan = Scan {
         mode: Mode::Code(0),
         start: 0,
-        said: Said::Nothing,
+        link: Link::Nothing,
     };
     for i in 0..line.len() {
         scan = step(line, i, two, scan);
@@ -263,10 +263,10 @@ fn map_url_in<'a>(text: &'a [u8], two: bool) -> Option<&'a [u8]>
     let mut end = text.len();
     'lines: loop {
         let (start, size) = line_start(&text[..end]);
-        match said_by(&text[start..end], two) {
-            Said::Nothing => {}
-            Said::Missing => return None,
-            Said::Url(url) => return Some(url),
+        match link_of_line(&text[start..end], two) {
+            Link::Nothing => {}
+            Link::Missing => return None,
+            Link::Url(url) => return Some(url),
         }
         if start == 0 {
             return None;

@@ -12,7 +12,7 @@ mod pairs;
 mod positions;
 mod program;
 mod scripts;
-mod sources;
+mod source_files;
 #[cfg(test)]
 mod tests;
 mod wording;

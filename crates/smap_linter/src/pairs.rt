@@ -3,7 +3,7 @@ use crate::book::Book;
 use crate::folder::Folder;
 use crate::maps::{lint_lists, lint_members};
 use crate::positions::{lint_generated, lint_originals};
-use crate::sources::lint_sources;
+use crate::source_files::lint_sources;
 use smap_disk::Disk;
 use smap_host::{Host, Stop};
 use smap_link::script_url;

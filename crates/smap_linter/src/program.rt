@@ -125,10 +125,10 @@ pub fn lint<E: Eprint + AllocGlobal, D: Disk, W: Write>(
     let text = report_text(host.alloc(), &report, asked.format)?;
     host.write(text.as_str().as_bytes(), writer)?;
     if book.unread {
-        return Err(Stop::Said(3));
+        return Err(Stop::Reported(3));
     }
     if has_error(report.findings) {
-        return Err(Stop::Said(1));
+        return Err(Stop::Reported(1));
     }
     Ok(())
 }

@@ -1,6 +1,6 @@
 -- What is said of a map on standard error.
 use Rattle.std.specs.Prelude.{ℕ, List, ◌++◌, codes, decimal, Option, Some, None}
-use Rattle.smap_record.specs.Words.{fault_words}
+use Rattle.smap_record.specs.Messages.{fault_message}
 use Rattle.smap_record.specs.declared.fault.Kind.{Kind}
 use Rattle.smap_record.specs.declared.fault.Kind.TheVariants as kinds
 use Rattle.smap_mapper.specs.declared.outcome.Refusal.{Refusal}

@@ -13,7 +13,7 @@ use std::alloc::{AllocError, Global};
 
 /// What a failure is called.
 pub(crate) fn failure_text(failure: Failure) -> &'static str
-    ensures { result.now ≡ spec.failure_words failure }
+    ensures { result.now ≡ spec.failure_text failure }
 {
     match failure {
         Failure::Unread => "cannot read it",
@@ -34,8 +34,8 @@ fn json_text(alloc: Global, text: &str) -> Result<String, AllocError>
 }
 
 /// What is wrong with a map, without its place.
-fn fault_words(alloc: Global, verdict: &Verdict) -> Result<Option<String>, AllocError>
-    ensures { IfOk result (λ o. option_map string_bytes o ≡ spec.fault_words verdict.now) }
+fn fault_message(alloc: Global, verdict: &Verdict) -> Result<Option<String>, AllocError>
+    ensures { IfOk result (λ o. option_map string_bytes o ≡ spec.fault_message verdict.now) }
 {
     match verdict {
         Verdict::Refused(why) => {
@@ -51,7 +51,7 @@ fn fault_words(alloc: Global, verdict: &Verdict) -> Result<Option<String>, Alloc
 fn fault_text(alloc: Global, verdict: &Verdict) -> Result<String, AllocError>
     ensures { IfOk result (λ t. string_bytes t ≡ spec.fault_text verdict.now) }
 {
-    match fault_words(alloc, verdict)? {
+    match fault_message(alloc, verdict)? {
         Some(words) => json_text(alloc, words.as_str()),
         None => String::from_str(alloc, "null"),
     }

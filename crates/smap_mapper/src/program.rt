@@ -118,7 +118,7 @@ fn work_on<E: Eprint + AllocGlobal + Clock, D: Disk, W: Write>(
         write_counts(host, tally, writer)?;
     }
     if tally.worst > 0 {
-        return Err(Stop::Said(tally.worst));
+        return Err(Stop::Reported(tally.worst));
     }
     Ok(())
 }
@@ -165,7 +165,7 @@ fn refuse<E: Eprint + AllocGlobal, D: Disk>(host: &Host<'_, E, D>, fault: &WordF
         WordFault::Memory => Stop::Memory,
         WordFault::Nothing => {
             let _ = eprint!(rt; "{HELP}");
-            Stop::Said(2)
+            Stop::Reported(2)
         }
         _ => match message(host.alloc(), fault) {
             Ok(text) => host.fail(2, text.as_str()),

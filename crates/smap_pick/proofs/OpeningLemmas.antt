@@ -1,12 +1,14 @@
 -- The maps of one pick more.
-use Rattle.std.proofs.Common.{◌≡◌, ◌∙◌, inl, inr, ⊎_elim, ℕ, ◌+◌, ◌<◌, List, [], ◌∷◌, ◌++◌, length, get_or, take, ap, sym, subst, append_assoc, append-nil}
+use Rattle.std.proofs.Common.{◌≡◌, ◌∙◌, inl, inr, ⊎_elim, ℕ, ◌+◌, ◌<◌, List, [], ◌∷◌, ◌++◌, length, get_or}
+use Rattle.std.proofs.Common.{take, ap, sym, subst, append_assoc, append-nil}
 use Rattle.std.specs.List.{AllZip}
 use Rattle.std.proofs.lemmas.List.Elements.{filter_map-append}
 use Rattle.std.proofs.lemmas.List.{map-append, take_more}
 use Rattle.std.proofs.lemmas.Slice.Zip.{all_zipped_more}
-use Rattle.smap_pick.specs.Opening.{IsLogged, IsStoppedAt, KeepsMade, chosen, files_of, opened_for, picked_place}
+use Rattle.smap_pick.specs.Opening.{IsLogged, IsStoppedAt, KeepsMade, chosen, files_of, opened_for}
+use Rattle.smap_pick.specs.Opening.{picked_place}
 use Rattle.smap_pick.specs.Places.{MapPlace}
-use Rattle.smap_pick.specs.declared.finding.Pick.{Pick}
+use Rattle.smap_pick.specs.declared.picks.Pick.{Pick}
 use Rattle.smap_pick.specs.declared.opening.OpenFault.{OpenFault}
 use Rattle.smap_pick.specs.declared.opening.OpenFault.TheVariants.{Refused, Memory}
 

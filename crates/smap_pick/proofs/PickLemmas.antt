@@ -1,12 +1,13 @@
 -- Lists of places and of picks that grow by one.
-use Rattle.std.proofs.Common.{◌≡◌, ◌∙◌, ℕ, ◌+◌, ◌<◌, Bool, Bor, List, [], ◌∷◌, ◌++◌, length, get_or, map, take, ap, sym, subst, append_assoc}
+use Rattle.std.proofs.Common.{◌≡◌, ◌∙◌, ℕ, ◌+◌, ◌<◌, Bool, Bor, List, [], ◌∷◌, ◌++◌, length, get_or, map}
+use Rattle.std.proofs.Common.{take, ap, sym, subst, append_assoc}
 use Rattle.std.specs.List.{All}
 use Rattle.std.proofs.lemmas.List.Elements.{All-push}
 use Rattle.std.proofs.lemmas.List.{map-append, take_more}
-use Rattle.smap_pick.specs.Finding.{ArePicks, IsFound, IsPick}
+use Rattle.smap_pick.specs.Picks.{ArePicks, IsFound, IsPick}
 use Rattle.smap_pick.specs.PlaceView.{place_in, places_in}
 use Rattle.smap_pick.specs.Places.{MapPlace, folder_place, folder_places, scripts_of}
-use Rattle.smap_pick.specs.declared.finding.Pick.{Pick}
+use Rattle.smap_pick.specs.declared.picks.Pick.{Pick}
 use Rattle.smap_pick.specs.declared.places.Place.{Place}
 
 pub one_more_place : (url folder : List ℕ) (names : List (List ℕ)) (i : ℕ) → i < length names

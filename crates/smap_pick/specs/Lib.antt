@@ -1,4 +1,4 @@
-pub mod Finding
+pub mod Picks
 pub mod Linked
 pub mod Memory
 pub mod Opening

@@ -3,9 +3,9 @@ use Rattle.std.specs.Prelude.{◌≡◌, ◌⊎◌, ◌+◌, ℕ, List, [], ◌+
 use Rattle.std.specs.Prelude.{Option, Some, None, option_map}
 use Rattle.std.specs.List.{AllZip, cons_option, filter_map, slice_get}
 use Rattle.smap_pick.specs.Places.{MapPlace, usual_place}
-use Rattle.smap_pick.specs.declared.finding.Found.{Found}
-use Rattle.smap_pick.specs.declared.finding.Found.TheVariants.{Given, ByEnd, Unclear, Missing}
-use Rattle.smap_pick.specs.declared.finding.Pick.{Pick}
+use Rattle.smap_pick.specs.declared.picks.Found.{Found}
+use Rattle.smap_pick.specs.declared.picks.Found.TheVariants.{Given, ByEnd, Unclear, Missing}
+use Rattle.smap_pick.specs.declared.picks.Pick.{Pick}
 use Rattle.smap_pick.specs.declared.opening.OpenFault.{OpenFault}
 use Rattle.smap_pick.specs.declared.opening.OpenFault.TheVariants.{Refused, Memory}
 

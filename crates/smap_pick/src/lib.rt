@@ -1,21 +1,21 @@
 //! Which maps are opened for a log: those of the scripts that it names, in the order in which it names them,
 //! from whatever holds them. What a user names becomes a list of places (`places`), each name of a log finds
-//! its place (`finding`), and the maps of what was found are opened, and no other file (`opening`). What
+//! its place (`picks`), and the maps of what was found are opened, and no other file (`opening`). What
 //! reads the files is a [`Store`]; here no file is opened, and no map is read.
 #![tactic(auto)]
 
-mod finding;
 mod linked;
 mod memory;
 mod opening;
+mod picks;
 mod places;
 mod table;
 #[cfg(test)]
 mod tests;
 
-pub use finding::{Found, Pick, pick_all};
 pub use linked::{LinkedFault, linked_name};
 pub use memory::{HeldFile, MemoryStore, NoFile};
 pub use opening::{Failure, OpenFault, Opened, Store, open_named, open_picks};
+pub use picks::{Found, Pick, pick_all};
 pub use places::{Place, add_folder, below, usual_place};
 pub use table::table_of;

@@ -2,7 +2,7 @@
 ghost use Rattle.std.specs.Prelude.{◌≡◌, ◌++◌, ◌∷◌, [], List, ℕ, Option, IfErr, IfOk, OnOk, map, option_map};
 ghost use Rattle.std.specs.List.{AllZip, slice_get};
 ghost use Rattle.smap_link.specs.Table.{IsTable};
-ghost use Rattle.smap_pick.specs.Finding.{ArePicks};
+ghost use Rattle.smap_pick.specs.Picks.{ArePicks};
 ghost use Rattle.smap_pick.specs.Opening.{
   IsFailure,
   IsLogged,
@@ -18,7 +18,7 @@ ghost use Rattle.smap_pick.specs.Opening.{
 ghost use Rattle.smap_pick.specs.PlaceView.{place_in, places_in};
 ghost use Rattle.smap_pick.specs.Places.{MapPlace, scripts_of, usual_place as spec_place};
 
-use crate::finding::{Found, Pick, pick_all};
+use crate::picks::{Found, Pick, pick_all};
 use crate::places::{Place, usual_place};
 use smap_link::ScriptTable;
 use std::alloc::Global;

@@ -4,9 +4,9 @@
 mod apart;
 mod limits;
 mod maps;
+mod messages;
 mod sections;
 mod urls;
-mod words;
 mod written;
 
 use crate::asserted::holds;

@@ -16,7 +16,7 @@ use Rattle.smap_record.specs.declared.fault.ReadError.{ReadError}
 use Rattle.smap_record.specs.declared.fault.ReadError.TheVariants.{Refused, Memory}
 use Rattle.smap_record.specs.Record.{Listing, Allowed}
 use Rattle.smap_record.specs.Results.{Fails}
-use Rattle.smap_record.specs.Source.{Resolved, no_url, unstable, resolved}
+use Rattle.smap_record.specs.SourceUrls.{Resolved, no_url, unstable, resolved}
 use Rattle.smap_record.specs.Faults.{Checked, ◌>>=◌, refuse, refuse_if, or_fault, of_shape, of_segments}
 use Rattle.smap_record.specs.Faults.{in_section}
 use Rattle.smap_record.specs.Flat.{listed_flat, entries_from, source_url, source_at}

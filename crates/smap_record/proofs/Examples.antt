@@ -17,7 +17,7 @@ use Rattle.smap_shape.specs.Reading.{shape_of, section_of, number_below}
 use Rattle.smap_record.specs.declared.fault.Kind.{Kind}
 use Rattle.smap_record.specs.declared.fault.Kind.TheVariants as kinds
 use Rattle.smap_record.specs.Record.{Entry, Mapping, Record, Allowed, usual, record_of, distinct}
-use Rattle.smap_record.specs.Source.{Resolved, no_url, resolved, resolve}
+use Rattle.smap_record.specs.SourceUrls.{Resolved, no_url, resolved, resolve}
 use Rattle.smap_record.specs.Relative.{relative, relatively}
 use Rattle.smap_record.specs.Faults.{Checked, ◌>>=◌, refuse, in_section}
 use Rattle.smap_record.specs.Flat.{source_url, entries_from, listed_flat}

@@ -18,7 +18,7 @@ use Rattle.smap_mappings.proofs.DecodedLemmas.{decoded-encodable, decoded-within
 use Rattle.smap_shape.specs.Members.{Flat, is_listed}
 use Rattle.smap_record.specs.declared.fault.Kind.TheVariants.{TooMany}
 use Rattle.smap_record.specs.Record.{Entry, Listing, Allowed}
-use Rattle.smap_record.specs.Source.{Resolved, no_url, unstable, resolved, resolve}
+use Rattle.smap_record.specs.SourceUrls.{Resolved, no_url, unstable, resolved, resolve}
 use Rattle.smap_record.specs.Faults.{Checked, ◌>>=◌, refuse, of_segments}
 use Rattle.smap_record.specs.Flat.{is_too_many, bounds_of, listed_flat, shifted, shifted_original, source_at}
 use Rattle.smap_record.specs.Flat.{source_url, source_entry, entries_from}
@@ -30,7 +30,7 @@ use Rattle.std.proofs.lemmas.Bool.Decides.{nat_tests}
 use Rattle.std.proofs.lemmas.List.{map-append}
 use Rattle.std.proofs.lemmas.Option.{IfSome_then}
 use Rattle.std.proofs.lemmas.Result.{IfOk-at_ok}
-use Rattle.smap_record.proofs.SourceLemmas.{resolve-own}
+use Rattle.smap_record.proofs.SourceUrlLemmas.{resolve-own}
 use Rattle.smap_record.proofs.StepLemmas.{if_ok, bind_assoc}
 use Rattle.smap_record.proofs.ListLemmas.{all_append, all_map, all_both, all_weaker}
 use Rattle.smap_record.proofs.JoinedLemmas.{none_after, join_NeverFalls}

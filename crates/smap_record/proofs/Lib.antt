@@ -2,7 +2,7 @@ pub mod DistinctLemmas
 pub mod ListLemmas
 pub mod TextLemmas
 pub mod EqualLemmas
-pub mod SourceLemmas
+pub mod SourceUrlLemmas
 pub mod RelativeLemmas
 pub mod FewerLemmas
 pub mod NumberedLemmas

@@ -5,7 +5,7 @@ use Rattle.std.proofs.lemmas.Bool.{cond_both}
 use Rattle.std.proofs.lemmas.Slice.Eq.{bytes_eq-Decides}
 use Rattle.url.specs.Parts.{Parts}
 use Rattle.url.specs.Parser.{parse_url}
-use Rattle.smap_record.specs.Source.{Resolved, no_url, unstable, resolved, resolve}
+use Rattle.smap_record.specs.SourceUrls.{Resolved, no_url, unstable, resolved, resolve}
 use Rattle.smap_record.specs.Relative.{relative_to, is_resolved, leads_to}
 use Rattle.smap_record.specs.Relative.{if_leads_to, relative, relatively}
 

@@ -9,9 +9,9 @@ use Rattle.url.proofs.Theorems.{parse_url_idempotent}
 use Rattle.smap_record.specs.Flat.{source_at}
 use Rattle.smap_record.specs.Resolving.{GivesSource, IsMade, LeadsToItself, url_or_error}
 use Rattle.smap_record.specs.Results.{Returns}
-use Rattle.smap_record.specs.Source.{Resolved}
-use Rattle.smap_record.specs.declared.source.resolve.SourceFault.{SourceFault}
-use Rattle.smap_record.specs.declared.source.resolve.SourceFault.TheVariants.{NoUrl, Unstable, Memory}
+use Rattle.smap_record.specs.SourceUrls.{Resolved}
+use Rattle.smap_record.specs.declared.source_urls.resolve.SourceFault.{SourceFault}
+use Rattle.smap_record.specs.declared.source_urls.resolve.SourceFault.TheVariants.{NoUrl, Unstable, Memory}
 
 pub is_made : (text : List ℕ) (base : Parts) → IsValid base → parse_url None text ≡ Ok base → IsMade base
 is_made text base valid made = (valid, parse_url_canonical None text base tt valid made)

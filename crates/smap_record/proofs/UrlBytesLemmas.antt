@@ -18,7 +18,7 @@ use Rattle.smap_record.specs.Faults.{Checked, ◌>>=◌}
 use Rattle.smap_record.specs.Results.{Fails}
 use Rattle.smap_record.specs.Reading.{map_tree, tree_map, reading}
 use Rattle.smap_record.specs.Record.{Entry, Allowed, ReadMap}
-use Rattle.smap_record.specs.Source.{prefix_of, text_of, if_stable, resolve}
+use Rattle.smap_record.specs.SourceUrls.{prefix_of, text_of, if_stable, resolve}
 use Rattle.smap_record.specs.Written.{Spelling, if_read, of_tree, url_if, url_of}
 use Rattle.smap_record.specs.UrlBytes.{source_bytes, url_bytes, are_within, listed_bytes}
 use Rattle.smap_record.specs.UrlBytes.{tree_map_within, reading_within}

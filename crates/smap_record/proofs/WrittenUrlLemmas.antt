@@ -18,7 +18,7 @@ use Rattle.smap_shape.specs.Reading.{list_member, text_or_null, optional, number
 use Rattle.smap_shape.specs.Reading.{or_fault as or_shape_fault, refuse_if as refuse_shape_if, member_of, has}
 use Rattle.smap_record.specs.declared.fault.Kind.TheVariants.{TooMany, Offset, Order, Overlap}
 use Rattle.smap_record.specs.Record.{Entry, Listing, ReadMap, Allowed}
-use Rattle.smap_record.specs.Source.{Resolved, no_url, unstable, resolved, resolve}
+use Rattle.smap_record.specs.SourceUrls.{Resolved, no_url, unstable, resolved, resolve}
 use Rattle.smap_record.specs.Faults.{Checked, ◌>>=◌, refuse_if, or_fault, of_shape, of_segments, in_section}
 use Rattle.smap_record.specs.Flat.{start, nothing, source_entry, entries_from, listed_flat, bounds_of}
 use Rattle.smap_record.specs.Flat.{is_too_many, source_at, source_url}

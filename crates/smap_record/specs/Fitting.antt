@@ -8,7 +8,7 @@ use Rattle.smap_mappings.specs.declared.position.Position.{Position}
 use Rattle.smap_mappings.specs.Position.{POSITIONS, NeverFalls}
 use Rattle.smap_record.specs.Record.{Entry, Origin, Mapping, Record, Listing, Allowed, same_entry, distinct}
 use Rattle.smap_record.specs.Listings.{IsListing}
-use Rattle.smap_record.specs.Source.{resolve, resolved}
+use Rattle.smap_record.specs.SourceUrls.{resolve, resolved}
 
 -- The names that the mappings use, each once, in order of first use.
 abbrev pub names_used : List Mapping → List (List ℕ)

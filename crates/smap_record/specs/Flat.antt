@@ -10,7 +10,7 @@ use Rattle.smap_mappings.specs.Decoded.{decoded}
 use Rattle.smap_shape.specs.Members.{Flat, is_listed}
 use Rattle.smap_record.specs.declared.fault.Kind.TheVariants.{TooMany, SourceUrl, UnstableUrl}
 use Rattle.smap_record.specs.Record.{Entry, Listing, ReadMap, Allowed}
-use Rattle.smap_record.specs.Source.{Resolved, no_url, unstable, resolved, resolve}
+use Rattle.smap_record.specs.SourceUrls.{Resolved, no_url, unstable, resolved, resolve}
 use Rattle.smap_record.specs.Faults.{Checked, ◌>>=◌, refuse_if, refuse, of_segments}
 
 -- ---- its sources

@@ -1,5 +1,5 @@
 pub mod Record
-pub mod Source
+pub mod SourceUrls
 pub mod Relative
 pub mod Faults
 pub mod Flat
@@ -22,7 +22,7 @@ pub mod Steps
 pub mod Building
 pub mod Owned
 pub mod WrittenView
-pub mod Words
 pub mod Messages
+pub mod MessageView
 pub mod ReadApart
 pub mod Scripts

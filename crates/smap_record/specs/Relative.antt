@@ -7,7 +7,7 @@ use Rattle.url.specs.Host.{host_text}
 use Rattle.url.specs.Parts.{Parts, cannot_be_a_base, host_or_empty}
 use Rattle.url.specs.Parser.{Parsed, parse_url}
 use Rattle.url.specs.Relative.{relative_text}
-use Rattle.smap_record.specs.Source.{Resolved, no_url, unstable, resolved, resolve}
+use Rattle.smap_record.specs.SourceUrls.{Resolved, no_url, unstable, resolved, resolve}
 
 -- whether both URLs have the same scheme, host and port
 abbrev pub same_host : Parts → Parts → Bool

@@ -10,9 +10,9 @@ use Rattle.smap_record.specs.declared.fault.Kind.TheVariants.{SourceUrl, Unstabl
 use Rattle.smap_record.specs.declared.fault.ReadError.{ReadError}
 use Rattle.smap_record.specs.declared.fault.ReadError.TheVariants as errors
 use Rattle.smap_record.specs.Faults.{plain}
-use Rattle.smap_record.specs.declared.source.resolve.SourceFault.{SourceFault}
-use Rattle.smap_record.specs.declared.source.resolve.SourceFault.TheVariants.{NoUrl, Unstable, Memory}
-use Rattle.smap_record.specs.Source.{Resolved, no_url, unstable, resolved}
+use Rattle.smap_record.specs.declared.source_urls.resolve.SourceFault.{SourceFault}
+use Rattle.smap_record.specs.declared.source_urls.resolve.SourceFault.TheVariants.{NoUrl, Unstable, Memory}
+use Rattle.smap_record.specs.SourceUrls.{Resolved, no_url, unstable, resolved}
 
 -- What every URL is that was parsed.
 abbrev pub IsMade : Parts → Type 0

@@ -6,7 +6,7 @@ use Rattle.url.specs.Parts.{Parts}
 use Rattle.url.specs.Parser.{parse_url}
 use Rattle.serde_json.specs.Data.{Data}
 use Rattle.smap_record.specs.Record.{Entry, ReadMap, Allowed}
-use Rattle.smap_record.specs.Source.{prefix_of, text_of}
+use Rattle.smap_record.specs.SourceUrls.{prefix_of, text_of}
 use Rattle.smap_record.specs.Faults.{Checked, ◌>>=◌}
 use Rattle.smap_record.specs.Reading.{tree_map, reading}
 use Rattle.smap_record.specs.Written.{Spelling, of_tree, as_written}

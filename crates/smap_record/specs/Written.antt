@@ -7,7 +7,7 @@ use Rattle.serde_json.specs.Data.{Data}
 use Rattle.smap_shape.specs.Limits.{max_level}
 use Rattle.smap_shape.specs.Members.{Flat, MapMembers, flat, index}
 use Rattle.smap_shape.specs.Reading.{shape_of, section_of}
-use Rattle.smap_record.specs.Source.{Resolved, no_url, unstable, resolved, resolve}
+use Rattle.smap_record.specs.SourceUrls.{Resolved, no_url, unstable, resolved, resolve}
 use Rattle.smap_record.specs.Reading.{map_tree}
 
 -- A source as it is written: its entry of `sources`, None for a null; and the `sourceRoot` of the flat map

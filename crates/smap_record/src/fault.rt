@@ -1,9 +1,10 @@
 //! Why a map is refused: every kind of fault with its section, its place and its message. Whoever prints a
 //! fault adds words such as `refused: ` before the message.
 ghost use Rattle.std.specs.Prelude.{◌≡◌, ◌++◌, Some, codes};
-ghost use Rattle.smap_record.specs.Messages.{said};
+ghost use Rattle.smap_record.specs.MessageView.{said};
 ghost use Rattle.smap_record.specs.Faults.{plain, segment_fault};
-ghost use Rattle.smap_record.specs.Words.{fault_words, kind_words, number_words, place_words, section_words};
+ghost use Rattle.smap_record.specs.Messages.{fault_message, kind_message, number_message, place_message};
+ghost use Rattle.smap_record.specs.Messages.{section_message};
 
 use crate::path::Path;
 use itoa::Buffer;
@@ -217,8 +218,8 @@ enum Message {
 }
 
 /// What is wrong with a number, after its number in the segment.
-fn number_words(fault: NumberFault) -> &'static str
-    ensures { result.now ≡ codes ": " ++ number_words fault }
+fn number_message(fault: NumberFault) -> &'static str
+    ensures { result.now ≡ codes ": " ++ number_message fault }
 {
     match fault {
         NumberFault::Unfinished => ": unfinished",
@@ -230,7 +231,7 @@ fn number_words(fault: NumberFault) -> &'static str
 
 /// What a kind says.
 fn message_of(kind: Kind) -> Message
-    ensures { said result ≡ kind_words kind }
+    ensures { message_bytes result ≡ kind_message kind }
 {
     match kind {
         Kind::Prefix => Message::Plain("prefix without line feed"),
@@ -256,7 +257,7 @@ fn message_of(kind: Kind) -> Message
         Kind::UnstableUrl(i) => Message::Numbered("source ", i, " has an unstable URL"),
         Kind::Empty => Message::Plain("empty segment"),
         Kind::Number(which, fault) => {
-            Message::Numbered("number ", which as usize, number_words(fault))
+            Message::Numbered("number ", which as usize, number_message(fault))
         }
         Kind::Count(count) => Message::Numbered("", count as usize, " numbers"),
         Kind::GeneratedLine => Message::Plain("generated line"),
@@ -269,7 +270,7 @@ fn message_of(kind: Kind) -> Message
 }
 
 impl fmt::Display for Kind {
-    ghost output = { λ kind. Some (kind_words kind) };
+    ghost output = { λ kind. Some (kind_message kind) };
 
     fn fmt<W: fmt::Write>(&self, f: &mut fmt::Formatter<W>) -> fmt::Result {
         match message_of(*self) {
@@ -286,7 +287,7 @@ impl fmt::Display for Kind {
 struct InSection<'a>(&'a Path);
 
 impl fmt::Display for InSection<'_> {
-    ghost output = { λ section. Some (section_words section.0.now) };
+    ghost output = { λ section. Some (section_message section.0.now) };
 
     fn fmt<W: fmt::Write>(&self, f: &mut fmt::Formatter<W>) -> fmt::Result {
         let path = self.0;
@@ -302,7 +303,7 @@ impl fmt::Display for InSection<'_> {
 struct InSegment(Option<SegmentPlace>);
 
 impl fmt::Display for InSegment {
-    ghost output = { λ segment. Some (place_words segment.0) };
+    ghost output = { λ segment. Some (place_message segment.0) };
 
     fn fmt<W: fmt::Write>(&self, f: &mut fmt::Formatter<W>) -> fmt::Result {
         match self.0 {
@@ -319,9 +320,9 @@ impl fmt::Display for InSegment {
 
 /// Lines, segments, sections and sources count from 0, and the numbers of a segment from 1.
 impl fmt::Display for Fault {
-    ghost output = { λ fault. Some (fault_words fault) };
+    ghost output = { λ fault. Some (fault_message fault) };
 
-    #[tactic(auto, unfolding(crate::specs::Words::fault_words))]
+    #[tactic(auto, unfolding(crate::specs::Messages::fault_message))]
     fn fmt<W: fmt::Write>(&self, f: &mut fmt::Formatter<W>) -> fmt::Result {
         write!(
             f,

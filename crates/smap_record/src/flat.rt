@@ -20,7 +20,7 @@ use crate::fault::{Kind, ReadError, refused};
 use crate::limits::Limits;
 use crate::listing::Listing;
 use crate::map::SourceMap;
-use crate::source::Base;
+use crate::source_urls::Base;
 use smap_mappings::Position;
 use smap_shape::FlatShape;
 pub(crate) use sources::copied;

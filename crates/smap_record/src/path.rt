@@ -4,7 +4,7 @@ ghost use Rattle.std.specs.Cmp.{partial_equiv_from_equiv};
 ghost use Rattle.std.specs.Cmp.Lexicographic.{nat_list_eq_equiv, pointwise};
 ghost use Rattle.smap_shape.specs.Limits.{max_level};
 ghost use Rattle.smap_record.specs.Faults.{outside};
-ghost use Rattle.smap_record.specs.Words.{path_words};
+ghost use Rattle.smap_record.specs.Messages.{path_text};
 
 use arrayvec::ArrayVec;
 use itoa::Buffer;
@@ -97,7 +97,7 @@ impl fmt::Debug for Path {
 /// Joins the indices from the outermost to the innermost with dots, as in `0.2`; writes nothing for the empty
 /// path.
 impl fmt::Display for Path {
-    ghost output = { λ path. Some (path_words path) };
+    ghost output = { λ path. Some (path_text path) };
 
     fn fmt<W: fmt::Write>(&self, f: &mut fmt::Formatter<W>) -> fmt::Result {
         let numbers = self.numbers();

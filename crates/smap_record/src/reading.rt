@@ -20,7 +20,7 @@ use crate::limits::Limits;
 use crate::map::SourceMap;
 use crate::section_texts::sectioned_map;
 use crate::sections::index_map;
-use crate::source::Base;
+use crate::source_urls::Base;
 use crate::text::map_tree_of;
 use serde_json::Value;
 use smap_shape::{Shape, shape, split_contents};

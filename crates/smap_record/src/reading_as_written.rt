@@ -11,7 +11,7 @@ use crate::fault::ReadError;
 use crate::limits::Limits;
 use crate::map::SourceMap;
 use crate::reading::split_map_of;
-use crate::source::Base;
+use crate::source_urls::Base;
 use crate::text::map_tree_of;
 use crate::written::{WrittenSources, written_sources};
 use serde_json::Value;

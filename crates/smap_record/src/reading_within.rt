@@ -14,7 +14,7 @@ use crate::fault::ReadError;
 use crate::limits::Limits;
 use crate::map::SourceMap;
 use crate::reading::split_map_of;
-use crate::source::Base;
+use crate::source_urls::Base;
 use crate::text::map_tree_of;
 use crate::url_bytes::are_within;
 use crate::written::{WrittenSources, written_sources};

@@ -14,7 +14,7 @@ use crate::limits::Limits;
 use crate::listing::Listing;
 use crate::map::SourceMap;
 use crate::sections::with_section;
-use crate::source::Base;
+use crate::source_urls::Base;
 use crate::text::after_prefix;
 use json::{Reader, Scratch};
 use smap_mappings::Position;

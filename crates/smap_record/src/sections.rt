@@ -23,7 +23,7 @@ use crate::flat::{copied, with_flat};
 use crate::limits::Limits;
 use crate::listing::{Listing, falls, overlaps};
 use crate::map::SourceMap;
-use crate::source::Base;
+use crate::source_urls::Base;
 use serde_json::Value;
 use smap_mappings::Position;
 use smap_shape::{IndexShape, MAX_LEVEL, SectionShape, Shape, section, shape};

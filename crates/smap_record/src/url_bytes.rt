@@ -3,7 +3,7 @@
 ghost use Rattle.std.specs.Prelude.{◌≡◌, ◌-◌, ◌≤◌, IfOk, SomeIff, option_copied};
 ghost use Rattle.smap_record.specs.UrlBytes.{url_length, source_bytes, are_within};
 
-use crate::source::{Base, prefixed};
+use crate::source_urls::{Base, prefixed};
 use crate::written::WrittenSources;
 use std::alloc::{AllocError, Global};
 use url::ParseError;

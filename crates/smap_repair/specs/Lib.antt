@@ -2,5 +2,5 @@ pub mod Halves
 pub mod Leading
 pub mod Listed
 pub mod Repairing
-pub mod Words
+pub mod Messages
 pub mod Unmarking

@@ -6,7 +6,7 @@ use crate::mending::Edit;
 use crate::places::Place;
 use crate::repair::Change;
 use crate::scanning::parts;
-use crate::sources::add_sources;
+use crate::source_repairs::add_sources;
 use smap_record::{Base, Path};
 use std::alloc::{AllocError, Global};
 use url::{ParseError, Url};

@@ -19,7 +19,7 @@ mod places;
 mod repair;
 mod repairing;
 mod scanning;
-mod sources;
+mod source_repairs;
 mod spelling;
 #[cfg(test)]
 mod tests;

@@ -1,6 +1,6 @@
 //! One repair of a map's text, and what is said of it.
 ghost use Rattle.std.specs.Prelude.{Some, Ok, IfOk, ◌≡◌, string_bytes};
-ghost use Rattle.smap_repair.specs.Words.{subject_words, replaced_words, repair_words};
+ghost use Rattle.smap_repair.specs.Messages.{subject_text, replaced_text, repair_message};
 
 use itoa::Buffer;
 use smap_record::Path;
@@ -51,7 +51,7 @@ pub struct Repair {
 struct Subject<'a>(&'a Repair);
 
 impl fmt::Display for Subject<'_> {
-    ghost output = { λ subject. Some (subject_words subject.0.now) };
+    ghost output = { λ subject. Some (subject_text subject.0.now) };
 
     fn fmt<W: fmt::Write>(&self, f: &mut fmt::Formatter<W>) -> fmt::Result {
         let repair = self.0;
@@ -72,9 +72,9 @@ impl fmt::Display for Subject<'_> {
 struct OfSection<'a>(&'a Path);
 
 impl fmt::Display for OfSection<'_> {
-    ghost use Rattle.smap_repair.specs.Words.{section_words};
+    ghost use Rattle.smap_repair.specs.Messages.{section_text};
 
-    ghost output = { λ section. Some (section_words section.0.now) };
+    ghost output = { λ section. Some (section_text section.0.now) };
 
     fn fmt<W: fmt::Write>(&self, f: &mut fmt::Formatter<W>) -> fmt::Result {
         let path = self.0;
@@ -90,7 +90,7 @@ impl fmt::Display for OfSection<'_> {
 struct Replaced<'a>(&'a Repair);
 
 impl fmt::Display for Replaced<'_> {
-    ghost output = { λ replaced. Some (replaced_words replaced.0.now) };
+    ghost output = { λ replaced. Some (replaced_text replaced.0.now) };
 
     fn fmt<W: fmt::Write>(&self, f: &mut fmt::Formatter<W>) -> fmt::Result {
         let repair = self.0;
@@ -111,9 +111,9 @@ impl fmt::Display for Replaced<'_> {
 
 /// Sources and sections count from 0. What stood in the text is shown as it stood there.
 impl fmt::Display for Repair {
-    ghost output = { λ repair. Some (repair_words repair) };
+    ghost output = { λ repair. Some (repair_message repair) };
 
-    #[tactic(auto, unfolding(crate::specs::Words::repair_words))]
+    #[tactic(auto, unfolding(crate::specs::Messages::repair_message))]
     fn fmt<W: fmt::Write>(&self, f: &mut fmt::Formatter<W>) -> fmt::Result {
         write!(
             f,
@@ -134,7 +134,7 @@ impl fmt::Display for Repair {
 ///
 /// `AllocError`.
 pub fn sentence(alloc: Global, repair: &Repair) -> Result<String, AllocError>
-    ensures { IfOk result (λ s. string_bytes s ≡ repair_words repair.now) }
+    ensures { IfOk result (λ s. string_bytes s ≡ repair_message repair.now) }
 {
     format!(in alloc; "{repair}")
 }

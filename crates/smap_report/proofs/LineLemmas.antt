@@ -1,6 +1,8 @@
 -- No file and no message puts a line feed into a line.
 use lib.Utf8.{encode, next}
-use Rattle.std.proofs.Common.{◌≡◌, ℕ, ◌+◌, ◌/◌, ◌%◌, ◌<◌, ◌≤◌, ◌^◌, ◌==◌, Bool, true, false, cond, List, [], ◌∷◌, ◌++◌, append_assoc, arith, chars, codes, decimal, nat_lt, Option, Some, None, option_map, refl, string_bytes, subst, sym}
+use Rattle.std.proofs.Common.{◌≡◌, ℕ, ◌+◌, ◌/◌, ◌%◌, ◌<◌, ◌≤◌, ◌^◌, ◌==◌, Bool, true, false, cond, List, []}
+use Rattle.std.proofs.Common.{◌∷◌, ◌++◌, append_assoc, arith, chars, codes, decimal, nat_lt, Option, Some}
+use Rattle.std.proofs.Common.{None, option_map, refl, string_bytes, subst, sym}
 use Rattle.std.specs.Char.{digit_char}
 use Rattle.std.specs.List.{flat_map}
 use Rattle.std.specs.Prelude.{MatchOption, encode_utf8, if◌then◌else◌}
@@ -23,10 +25,11 @@ use Rattle.smap_report.specs.declared.findings.Rule.{Rule}
 use Rattle.smap_report.specs.Escapes.{escape, escaped, escaped_char, xml}
 use Rattle.smap_report.specs.Findings.{level_word, rule_name}
 use Rattle.smap_report.specs.Laws.{AreNamed, FindingsAreLines, holds_byte, IsLine, IsPlace}
-use Rattle.smap_report.specs.Lines.{command, github_line, github_place, gnu_line, json_line, json_tree, number_or_null}
+use Rattle.smap_report.specs.Lines.{command, github_line, github_place, gnu_line, json_line, json_tree}
+use Rattle.smap_report.specs.Lines.{number_or_null}
 use Rattle.smap_report.specs.Junit.{case_line}
 use Rattle.smap_report.specs.Text.{level_column, row}
-use Rattle.smap_report.specs.Words.{place_words}
+use Rattle.smap_report.specs.Phrases.{place_text}
 
 -- no line feed stands in a text
 record IsPlain (text : List ℕ) : Type 0 where
@@ -128,7 +131,7 @@ decimal_plain n h = decimal_by_steps (λ (k : ℕ) (ds : List ℕ). IsPlain ds)
     (above (48 + k % 10) [] (omega arith) (fixed [] refl))) n h
 
 place_plain : (before behind : List ℕ) (point : Option Point) → IsPlace point → IsPlain before
-    → IsPlain behind → IsPlain (place_words before point behind)
+    → IsPlain behind → IsPlain (place_text before point behind)
 place_plain before behind None h p q = fixed [] refl
 place_plain before behind (Some at) h p q = joined before _ p (joined (decimal at.line) _
     (decimal_plain at.line h.0) (after (codes ":") _ refl
@@ -219,7 +222,7 @@ json_members rules f = member (codes "column") (number_or_null (option_map (λ p
 
 -- the lines without their ends
 abbrev gnu_body : List Rule → Finding → List ℕ
-gnu_body rules f = printable (string_bytes f.file) ++ (place_words (codes ":") f.point [] ++ (codes ": "
+gnu_body rules f = printable (string_bytes f.file) ++ (place_text (codes ":") f.point [] ++ (codes ": "
     ++ (level_word f.level ++ (codes ": " ++ (printable (string_bytes f.message) ++ (codes " ["
     ++ (rule_name rules f.rule ++ codes "]")))))))
 
@@ -230,11 +233,11 @@ github_body rules f = codes "::" ++ (command f.level ++ (codes " file="
     ++ escaped message_data (string_bytes f.message))))))))
 
 abbrev row_body : List Rule → Finding → List ℕ
-row_body rules f = codes "  " ++ (level_column f.level ++ (codes "  " ++ (place_words [] f.point (codes "  ")
+row_body rules f = codes "  " ++ (level_column f.level ++ (codes "  " ++ (place_text [] f.point (codes "  ")
     ++ (printable (string_bytes f.message) ++ (codes "  " ++ rule_name rules f.rule)))))
 
 abbrev case_body : List Rule → Finding → List ℕ
-case_body rules f = place_words [] f.point (codes ": ") ++ (level_word f.level ++ (codes ": "
+case_body rules f = place_text [] f.point (codes ": ") ++ (level_word f.level ++ (codes ": "
     ++ (xml (string_bytes f.message) ++ (codes " [" ++ (xml (rule_name rules f.rule) ++ codes "]")))))
 
 ended : (body text : List ℕ) → text ≡ body ++ codes "\n" → IsPlain body → IsLine text

@@ -1,5 +1,6 @@
 -- A report as JUnit's XML, which CI servers read: a test case for each file.
-use Rattle.std.specs.Prelude.{ℕ, ◌==◌, ◌&&◌, Bool, bytes_eq, cond, decimal, filter, List, [], ◌∷◌, ◌++◌, codes, length, not, String, string_bytes}
+use Rattle.std.specs.Prelude.{ℕ, ◌==◌, ◌&&◌, Bool, bytes_eq, cond, decimal, filter, List, [], ◌∷◌, ◌++◌}
+use Rattle.std.specs.Prelude.{codes, length, not, String, string_bytes}
 use Rattle.std.specs.List.{flat_map, list_any}
 use Rattle.smap_report.specs.declared.findings.Finding.{Finding}
 use Rattle.smap_report.specs.declared.findings.Level.{Level}
@@ -9,7 +10,7 @@ use Rattle.smap_report.specs.declared.junit.Listed.{Listed}
 use Rattle.smap_report.specs.declared.junit.Listed.TheVariants.{Failures, Notes}
 use Rattle.smap_report.specs.Escapes.{xml}
 use Rattle.smap_report.specs.Findings.{level_word, rule_name}
-use Rattle.smap_report.specs.Words.{counts, is_level, place_words}
+use Rattle.smap_report.specs.Phrases.{counts, is_level, place_text}
 
 abbrev pub is_in : Finding → List ℕ → Bool
 is_in f file = bytes_eq (string_bytes f.file) file
@@ -24,7 +25,7 @@ is_listed f file listed = is_in f file && is_of listed f.level
 
 -- the line of a finding
 abbrev pub case_line : List Rule → Finding → List ℕ
-case_line rules f = place_words [] f.point (codes ": ") ++ (level_word f.level ++ (codes ": "
+case_line rules f = place_text [] f.point (codes ": ") ++ (level_word f.level ++ (codes ": "
     ++ (xml (string_bytes f.message) ++ (codes " [" ++ (xml (rule_name rules f.rule) ++ codes "]\n")))))
 
 abbrev pub case_lines : List Rule → List Finding → List ℕ → Listed → List ℕ
@@ -35,31 +36,31 @@ abbrev pub count_in : List Finding → List ℕ → Level → ℕ
 count_in findings file level = length (filter (λ f. is_in f file && is_level f.level level) findings)
 
 -- what says that a test case fails, unless there are no lines
-abbrev pub failure_words : List ℕ → ℕ → ℕ → List ℕ
-failure_words lines errors warnings = cond (length lines == 0) [] (codes "<failure message=\""
+abbrev pub failure_text : List ℕ → ℕ → ℕ → List ℕ
+failure_text lines errors warnings = cond (length lines == 0) [] (codes "<failure message=\""
     ++ (counts errors warnings 0 ++ (codes "\" type=\"lint\">" ++ (lines ++ codes "</failure>\n"))))
 
 -- what makes the test case of a file fail
 unfoldable pub failure : List Rule → List Finding → List ℕ → List ℕ
-failure rules findings file = failure_words (case_lines rules findings file Failures)
+failure rules findings file = failure_text (case_lines rules findings file Failures)
     (count_in findings file Error) (count_in findings file Warning)
 
 -- what says notes in a test case, unless there are no lines
-abbrev pub note_words : List ℕ → List ℕ
-note_words lines = cond (length lines == 0) [] (codes "<system-out>" ++ (lines ++ codes "</system-out>\n"))
+abbrev pub note_text : List ℕ → List ℕ
+note_text lines = cond (length lines == 0) [] (codes "<system-out>" ++ (lines ++ codes "</system-out>\n"))
 
 -- the notes on a file
 unfoldable pub notes : List Rule → List Finding → List ℕ → List ℕ
-notes rules findings file = note_words (case_lines rules findings file Notes)
+notes rules findings file = note_text (case_lines rules findings file Notes)
 
-abbrev pub case_words : List ℕ → List ℕ → List ℕ → List ℕ → List ℕ
-case_words name class failure notes = codes "<testcase name=\"" ++ (name ++ (codes "\" classname=\"" ++ (class
+abbrev pub case_text : List ℕ → List ℕ → List ℕ → List ℕ → List ℕ
+case_text name class failure notes = codes "<testcase name=\"" ++ (name ++ (codes "\" classname=\"" ++ (class
     ++ (codes "\">\n" ++ (failure ++ (notes ++ codes "</testcase>\n"))))))
 
 -- the test case of a file
 unfoldable pub case : List ℕ → List Rule → List Finding → List ℕ → List ℕ
 case tool rules findings file =
-    case_words (xml file) (xml tool) (failure rules findings file) (notes rules findings file)
+    case_text (xml file) (xml tool) (failure rules findings file) (notes rules findings file)
 
 abbrev pub holds : List (List ℕ) → List ℕ → Bool
 holds files file = list_any (λ one. bytes_eq one file) files

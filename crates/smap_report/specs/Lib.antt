@@ -1,6 +1,6 @@
 pub mod Findings
 pub mod Formats
-pub mod Words
+pub mod Phrases
 pub mod Escapes
 pub mod Lines
 pub mod Text

@@ -14,11 +14,11 @@ use Rattle.smap_report.specs.declared.lines.LineForm.{LineForm}
 use Rattle.smap_report.specs.declared.lines.LineForm.TheVariants.{Gnu, Github, Json}
 use Rattle.smap_report.specs.Escapes.{escaped}
 use Rattle.smap_report.specs.Findings.{level_word, rule_name}
-use Rattle.smap_report.specs.Words.{place_words}
+use Rattle.smap_report.specs.Phrases.{place_text}
 
 -- `FILE:LINE:COLUMN: level: message [rule]`: GNU Coding Standards, "Formatting Error Messages".
 abbrev pub gnu_line : List Rule → Finding → List ℕ
-gnu_line rules f = printable (string_bytes f.file) ++ (place_words (codes ":") f.point [] ++ (codes ": "
+gnu_line rules f = printable (string_bytes f.file) ++ (place_text (codes ":") f.point [] ++ (codes ": "
     ++ (level_word f.level ++ (codes ": " ++ (printable (string_bytes f.message) ++ (codes " ["
     ++ (rule_name rules f.rule ++ codes "]\n")))))))
 

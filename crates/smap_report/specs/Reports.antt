@@ -11,7 +11,7 @@ use Rattle.smap_report.specs.Junit.{suite, case_files}
 use Rattle.smap_report.specs.Lines.{line}
 use Rattle.smap_report.specs.Sarif.{sarif_tree}
 use Rattle.smap_report.specs.Text.{rows}
-use Rattle.smap_report.specs.Words.{summary}
+use Rattle.smap_report.specs.Phrases.{summary}
 
 -- for people: the findings below the names of their files, and how many there are
 abbrev pub text : Report → List ℕ

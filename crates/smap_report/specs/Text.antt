@@ -8,7 +8,7 @@ use Rattle.smap_report.specs.declared.findings.Level.{Level}
 use Rattle.smap_report.specs.declared.findings.Level.TheVariants.{Note, Warning, Error}
 use Rattle.smap_report.specs.declared.findings.Rule.{Rule}
 use Rattle.smap_report.specs.Findings.{rule_name}
-use Rattle.smap_report.specs.Words.{place_words}
+use Rattle.smap_report.specs.Phrases.{place_text}
 
 -- a level in a column of seven characters
 abbrev pub level_column : Level → List ℕ
@@ -18,7 +18,7 @@ level_column Error = codes "error  "
 
 -- the line of a finding
 abbrev pub row : List Rule → Finding → List ℕ
-row rules f = codes "  " ++ (level_column f.level ++ (codes "  " ++ (place_words [] f.point (codes "  ")
+row rules f = codes "  " ++ (level_column f.level ++ (codes "  " ++ (place_text [] f.point (codes "  ")
     ++ (printable (string_bytes f.message) ++ (codes "  " ++ (rule_name rules f.rule ++ codes "\n"))))))
 
 -- whether the finding before the one with this number is in this file

@@ -6,7 +6,7 @@ ghost use Rattle.smap_report.specs.Reports as whole;
 
 use crate::escapes::xml;
 use crate::findings::{Finding, Level, Report, Rule, level_word, rule_name};
-use crate::words::{counts, place_words};
+use crate::phrases::{counts, place_text};
 use std::alloc::{AllocError, Global};
 
 /// What a list of a test case has: notes, or what makes it fail.
@@ -39,7 +39,7 @@ fn is_listed(finding: &Finding, file: &str, listed: Listed) -> bool
 fn case_line(alloc: Global, rules: &[Rule], finding: &Finding) -> Result<String, AllocError>
     ensures { IfOk result (λ t. string_bytes t ≡ spec.case_line rules.now finding.now) }
 {
-    let place = place_words(alloc, "", finding.point, ": ")?;
+    let place = place_text(alloc, "", finding.point, ": ")?;
     let level = level_word(finding.level);
     let message = xml(alloc, &finding.message)?;
     let rule = xml(alloc, rule_name(rules, finding.rule))?;
@@ -76,13 +76,13 @@ fn count_in(findings: &[Finding], file: &str, level: Level) -> usize
 }
 
 /// What says in a test case that it fails, unless there are no lines.
-fn failure_words(
+fn failure_text(
     alloc: Global,
     lines: String,
     errors: usize,
     warnings: usize,
 ) -> Result<String, AllocError>
-    ensures { IfOk result (λ t. string_bytes t ≡ spec.failure_words (string_bytes lines) errors warnings) }
+    ensures { IfOk result (λ t. string_bytes t ≡ spec.failure_text (string_bytes lines) errors warnings) }
 {
     if lines.is_empty() {
         return Ok(lines);
@@ -104,12 +104,12 @@ fn failure(
     let lines = case_lines(alloc, rules, findings, file, Listed::Failures)?;
     let errors = count_in(findings, file, Level::Error);
     let warnings = count_in(findings, file, Level::Warning);
-    failure_words(alloc, lines, errors, warnings)
+    failure_text(alloc, lines, errors, warnings)
 }
 
 /// What says notes in a test case, unless there are none.
-fn note_words(alloc: Global, lines: String) -> Result<String, AllocError>
-    ensures { IfOk result (λ t. string_bytes t ≡ spec.note_words (string_bytes lines)) }
+fn note_text(alloc: Global, lines: String) -> Result<String, AllocError>
+    ensures { IfOk result (λ t. string_bytes t ≡ spec.note_text (string_bytes lines)) }
 {
     if lines.is_empty() {
         return Ok(lines);
@@ -128,11 +128,11 @@ fn notes(
     ensures { IfOk result (λ t. string_bytes t ≡ spec.notes rules.now findings.now file.now) }
 {
     let lines = case_lines(alloc, rules, findings, file, Listed::Notes)?;
-    note_words(alloc, lines)
+    note_text(alloc, lines)
 }
 
 /// A test case of these parts.
-fn case_words(
+fn case_text(
     alloc: Global,
     name: &str,
     class: &str,
@@ -140,7 +140,7 @@ fn case_words(
     notes: &str,
 ) -> Result<String, AllocError>
     ensures { IfOk result (λ t. string_bytes t
-        ≡ spec.case_words name.now class.now failure.now notes.now) }
+        ≡ spec.case_text name.now class.now failure.now notes.now) }
 {
     format!(in alloc;
         "<testcase name=\"{name}\" classname=\"{class}\">\n{failure}{notes}</testcase>\n"
@@ -157,7 +157,7 @@ fn case(alloc: Global, report: &Report<'_>, file: &str) -> Result<String, AllocE
     let class = xml(alloc, report.tool)?;
     let failure = failure(alloc, report.rules, report.findings, file)?;
     let notes = notes(alloc, report.rules, report.findings, file)?;
-    case_words(alloc, &name, &class, &failure, &notes)
+    case_text(alloc, &name, &class, &failure, &notes)
 }
 
 /// The test cases of these files.

@@ -8,12 +8,12 @@ mod formats;
 mod junit;
 pub mod laws;
 mod lines;
+mod phrases;
 mod reports;
 mod sarif;
 #[cfg(test)]
 mod tests;
 mod text;
-mod words;
 
 pub use findings::{Finding, LEVEL_WORDS, Level, Point, Report, Rule, has_error, level_named};
 pub use formats::{FORMAT_WORDS, Format, format_named};

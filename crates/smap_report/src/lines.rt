@@ -6,7 +6,7 @@ ghost use Rattle.smap_report.specs.Reports as whole;
 
 use crate::escapes::{Place, escaped};
 use crate::findings::{Finding, Level, Point, Report, Rule, level_word, rule_name};
-use crate::words::place_words;
+use crate::phrases::place_text;
 use serde_json::{Value, json};
 use smap_disk::printable;
 use std::alloc::{AllocError, Global};
@@ -24,7 +24,7 @@ fn gnu_line(alloc: Global, rules: &[Rule], finding: &Finding) -> Result<String, 
     ensures { IfOk result (λ t. string_bytes t ≡ spec.gnu_line rules.now finding.now) }
 {
     let file = printable(alloc, finding.file.as_bytes())?;
-    let place = place_words(alloc, ":", finding.point, "")?;
+    let place = place_text(alloc, ":", finding.point, "")?;
     let level = level_word(finding.level);
     let message = printable(alloc, finding.message.as_bytes())?;
     let rule = rule_name(rules, finding.rule);

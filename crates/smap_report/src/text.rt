@@ -4,7 +4,7 @@ ghost use Rattle.smap_report.specs.Reports as whole;
 ghost use Rattle.smap_report.specs.Text as spec;
 
 use crate::findings::{Finding, Level, Report, Rule, rule_name};
-use crate::words::{place_words, summary};
+use crate::phrases::{place_text, summary};
 use smap_disk::printable;
 use std::alloc::{AllocError, Global};
 
@@ -24,7 +24,7 @@ fn row(alloc: Global, rules: &[Rule], finding: &Finding) -> Result<String, Alloc
     ensures { IfOk result (λ t. string_bytes t ≡ spec.row rules.now finding.now) }
 {
     let level = level_column(finding.level);
-    let place = place_words(alloc, "", finding.point, "  ")?;
+    let place = place_text(alloc, "", finding.point, "  ")?;
     let message = printable(alloc, finding.message.as_bytes())?;
     let rule = rule_name(rules, finding.rule);
     format!(in alloc; "  {level}  {place}{message}  {rule}\n")

@@ -2,7 +2,7 @@
 //! arguments that the program refuses are in the tables of `tests/rows/`.
 use crate::asserted::{equal, holds};
 use smap_tool::{Task, WordsFault, task_of};
-use smap_trace::Finding;
+use smap_trace::MatchMode;
 use std::alloc::{AllocError, Global};
 use std::process::Abort;
 
@@ -82,11 +82,11 @@ fn a_translation_has_three_flags(rt: HostRuntime) {
             true,
         ),
     ] {
-        let finding = Finding {
+        let mode = MatchMode {
             anywhere,
             ignore_query,
         };
-        is_task(&rt, line, Task::Translate { finding, hide });
+        is_task(&rt, line, Task::Translate { mode, hide });
     }
 }
 

@@ -13,8 +13,8 @@ mod bundles;
 #[cfg(test)]
 mod command_lines;
 #[cfg(test)]
+mod messages;
+#[cfg(test)]
 mod round_trips;
 #[cfg(test)]
 mod runs;
-#[cfg(test)]
-mod words;

@@ -26,6 +26,6 @@ all_equal (s ∷ ss) (t ∷ ts) h =
     λ i. (h.0 i, head i) ∷ tail i
 
 pub same : SameTranslation
-same scripts others distinct also agree finding hide trace =
-    ap (λ (xs : List Script). translation_by (fate_by finding xs hide) trace)
+same scripts others distinct also agree mode hide trace =
+    ap (λ (xs : List Script). translation_by (fate_by mode xs hide) trace)
     (all_equal scripts others agree)

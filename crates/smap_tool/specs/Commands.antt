@@ -89,9 +89,9 @@ IsTaskOf m (Tidy base relative) = (m.0 ≡ codes "tidy") × HasText m.1 (codes "
 IsTaskOf m (Flatten base) = (m.0 ≡ codes "flatten") × HasText m.1 (codes "BASE") base.now
 IsTaskOf m (Lookup base line column) = (m.0 ≡ codes "lookup") × HasText m.1 (codes "BASE") base.now
     × HasNumber m.1 (codes "LINE") line × HasNumber m.1 (codes "COLUMN") column
-IsTaskOf m (Translate finding hide) = (m.0 ≡ codes "translate")
-    × HasFlag m.1 (codes "anywhere") finding.anywhere
-    × HasFlag m.1 (codes "ignore-query") finding.ignore_query
+IsTaskOf m (Translate mode hide) = (m.0 ≡ codes "translate")
+    × HasFlag m.1 (codes "anywhere") mode.anywhere
+    × HasFlag m.1 (codes "ignore-query") mode.ignore_query
     × HasFlag m.1 (codes "hide-ignored") hide
 IsTaskOf m Scripts = m.0 ≡ codes "scripts"
 
@@ -170,31 +170,31 @@ flatten_output = map_output (λ base m. flat_text m)
 -- ---- what `lookup` writes for a map and a generated position; all numbers count from 0
 
 -- a source's URL, or `null` if it has none
-abbrev pub url_words : Option (List ℕ) → List ℕ
-url_words None = codes "null"
-url_words (Some url) = url
+abbrev pub url_text : Option (List ℕ) → List ℕ
+url_text None = codes "null"
+url_text (Some url) = url
 
 -- a space and the name as a JSON string (RFC 8259), if there is a name
-abbrev pub name_words : Option (List ℕ) → List ℕ
-name_words None = []
-name_words (Some name) = codes " " ++ compact_text (string name)
+abbrev pub name_text : Option (List ℕ) → List ℕ
+name_text None = []
+name_text (Some name) = codes " " ++ compact_text (string name)
 
 -- a mapping's original: source, line and column, and the name
-abbrev pub origin_words : Option Origin → List ℕ
-origin_words None = codes "unmapped"
-origin_words (Some o) =
-    url_words o.source.url ++ (codes ":" ++ (decimal o.line ++ (codes ":" ++ (decimal o.column
-    ++ name_words o.name))))
+abbrev pub origin_text : Option Origin → List ℕ
+origin_text None = codes "unmapped"
+origin_text (Some o) =
+    url_text o.source.url ++ (codes ":" ++ (decimal o.line ++ (codes ":" ++ (decimal o.column
+    ++ name_text o.name))))
 
 -- the mapping's own line and column, and its original; `none` if there is no mapping
-unfoldable pub mapping_words : Option Mapping → List ℕ
-mapping_words None = codes "none"
-mapping_words (Some m) =
-    decimal m.line ++ (codes ":" ++ (decimal m.column ++ (codes " " ++ origin_words m.origin)))
+unfoldable pub mapping_text : Option Mapping → List ℕ
+mapping_text None = codes "none"
+mapping_text (Some m) =
+    decimal m.line ++ (codes ":" ++ (decimal m.column ++ (codes " " ++ origin_text m.origin)))
 
 -- The line for the mapping that the position has.
 abbrev pub lookup_text : ℕ → ℕ → ReadMap → List ℕ
-lookup_text line column m = mapping_words (mapping_at (record_of m).mappings line column) ++ 10 ∷ []
+lookup_text line column m = mapping_text (mapping_at (record_of m).mappings line column) ++ 10 ∷ []
 
 -- What is written for an input: that line if the map is accepted, and else its error line.
 abbrev pub lookup_output : ℕ → ℕ → Parts → List ℕ → List ℕ × Outcome
@@ -210,7 +210,7 @@ RunsTask (Tidy base relative) = Runs (WritesOutputAgainst (parse_url None base.n
 RunsTask (Flatten base) = Runs (WritesOutputAgainst (parse_url None base.now) flatten_output)
 RunsTask (Lookup base line column) =
     Runs (WritesOutputAgainst (parse_url None base.now) (lookup_output line column))
-RunsTask (Translate finding hide) = RunsTranslate (fates_asked finding hide)
+RunsTask (Translate mode hide) = RunsTranslate (fates_asked mode hide)
 RunsTask Scripts = RunsScripts
 
 -- How many reads its run makes at most: one for each byte that an input may have, and one more. A trace has
@@ -221,5 +221,5 @@ most_reads (Check base) = longest_input + 1
 most_reads (Tidy base relative) = longest_input + 1
 most_reads (Flatten base) = longest_input + 1
 most_reads (Lookup base line column) = longest_input + 1
-most_reads (Translate finding hide) = 2 * most_calls
+most_reads (Translate mode hide) = 2 * most_calls
 most_reads Scripts = most_calls

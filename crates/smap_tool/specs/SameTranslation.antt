@@ -6,7 +6,7 @@ use Rattle.smap_canon.specs.Canonical.{canonical_map, canonical_text_in}
 use Rattle.smap_canon.specs.Laws.{AreLimits, ReadAs}
 use Rattle.smap_canon.specs.Layout.{Form, spelling_in, layout, ReadsBack}
 use Rattle.smap_trace.specs.Translation.{AreDistinct, Script, fate_by, translation_by}
-use Rattle.smap_trace.specs.declared.finding.Finding.{Finding}
+use Rattle.smap_trace.specs.declared.match_mode.MatchMode.{MatchMode}
 
 -- The second record is read from the canonical bytes of the first in a form, under a base and limits that the
 -- first fits.
@@ -33,5 +33,5 @@ Agree (s ∷ ss) (t ∷ ts) = (s.0 ≡ t.0) × StandFor s.1 t.1 × Agree ss ts
 -- Scripts that agree translate every trace alike, in whatever way positions are found.
 abbrev pub SameTranslation : Type 0
 SameTranslation = (scripts others : List Script) → AreDistinct scripts → AreDistinct others
-    → Agree scripts others → (finding : Finding) (hide : Bool) (trace : List ℕ)
-    → translation_by (fate_by finding scripts hide) trace ≡ translation_by (fate_by finding others hide) trace
+    → Agree scripts others → (mode : MatchMode) (hide : Bool) (trace : List ℕ)
+    → translation_by (fate_by mode scripts hide) trace ≡ translation_by (fate_by mode others hide) trace

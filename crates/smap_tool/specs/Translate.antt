@@ -11,7 +11,7 @@ use Rattle.smap_record.specs.Faults.{◌>>=◌}
 use Rattle.smap_trace.specs.Streaming.{WritesComplete, WritesPrefix, complete_of, most_of_one_read}
 use Rattle.smap_trace.specs.Streaming.{read_lines}
 use Rattle.smap_trace.specs.Translation.{Fate, Script, fate, fate_by, translation_by}
-use Rattle.smap_trace.specs.declared.finding.Finding.{Finding}
+use Rattle.smap_trace.specs.declared.match_mode.MatchMode.{MatchMode}
 use Rattle.smap_tool.specs.Run.{is_read, is_write}
 use Rattle.smap_tool.specs.declared.outcome.Outcome.{Outcome}
 use Rattle.smap_tool.specs.declared.outcome.Outcome.TheVariants.{Done, Refused}
@@ -29,8 +29,8 @@ abbrev pub fates_in_frames : Bool → List Script → List ℕ → Fate
 fates_in_frames hide scripts = fate scripts hide
 
 -- What becomes of a line by some scripts, with these flags.
-abbrev pub fates_asked : Finding → Bool → List Script → List ℕ → Fate
-fates_asked finding hide scripts = fate_by finding scripts hide
+abbrev pub fates_asked : MatchMode → Bool → List Script → List ℕ → Fate
+fates_asked mode hide scripts = fate_by mode scripts hide
 
 -- What `translate` writes for a bundle, where this becomes of a line by some scripts; or its first fault.
 abbrev pub translated : (List Script → List ℕ → Fate) → List ℕ → Checked (List ℕ)

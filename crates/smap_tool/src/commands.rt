@@ -17,7 +17,7 @@ use crate::outcome::{Outcome, RunFault};
 use crate::words::{WordsFault, is_set, position_in, refusal, text_in, with};
 use clap::{ArgMatches, Command};
 use smap_io::Device;
-use smap_trace::Finding;
+use smap_trace::MatchMode;
 use std::alloc::{AllocError, Global};
 use std::io::{Read, Write};
 
@@ -79,7 +79,7 @@ pub enum Task<'a> {
     /// positions.
     Translate {
         /// How positions are found in a line.
-        finding: Finding,
+        mode: MatchMode,
         /// Whether frames in ignored sources are left out.
         hide: bool,
     },
@@ -138,7 +138,7 @@ fn task_named<'a>(name: &str, inner: &ArgMatches<'a>) -> Option<Task<'a>>
             column: position_in(inner, "COLUMN")?,
         }),
         "translate" => Some(Task::Translate {
-            finding: Finding {
+            mode: MatchMode {
                 anywhere: is_set(inner, "anywhere"),
                 ignore_query: is_set(inner, "ignore-query"),
             },
@@ -240,7 +240,7 @@ pub fn run<R: Read, W: Write>(
         Task::Lookup { base, line, column } => run_lookup(
             alloc, base, line, column, reader, writer,
         ),
-        Task::Translate { finding, hide } => run_translate_by(alloc, finding, hide, reader, writer),
+        Task::Translate { mode, hide } => run_translate_by(alloc, mode, hide, reader, writer),
         Task::Scripts => run_scripts(alloc, reader, writer),
     }
 }

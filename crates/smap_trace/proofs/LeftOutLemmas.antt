@@ -24,7 +24,7 @@ use Rattle.smap_trace.specs.TraceLaws.{UnfoundAreLeftOut, UnnamedAreLeftOut, is_
 use Rattle.smap_trace.specs.Translation.{Fate, fate_found, fate_in, frame_fate, is_dropped, is_translated}
 use Rattle.smap_trace.specs.Translation.{kept, line_translation_by, lines_of, map_for, without_line_feed}
 use Rattle.smap_trace.specs.Views.{at_most_u64}
-use Rattle.smap_trace.specs.declared.finding.Finding.{Finding}
+use Rattle.smap_trace.specs.declared.match_mode.MatchMode.{MatchMode}
 use Rattle.smap_trace.proofs.ByLengthLemmas.{either, url_length}
 use Rattle.smap_trace.proofs.CountLemmas.{same_counts}
 use Rattle.smap_trace.proofs.KnownLemmas.{names_script}
@@ -208,23 +208,23 @@ module _ (keeps : Script → Bool) (ignore : Bool) (ss : List Script) where
 
 -- ---- a trace
 
-module _ (finding : Finding) (keeps : Script → Bool) (ss : List Script) (hide : Bool) where
+module _ (mode : MatchMode) (keeps : Script → Bool) (ss : List Script) (hide : Bool) where
   same_line : (text : List ℕ)
-      → ((s : Script) → Contains ss s → keeps s ≡ false → IsFoundIn finding ss text s.0 → ⊥)
-      → fate_found finding (filter keeps ss) hide text ≡ fate_found finding ss hide text
+      → ((s : Script) → Contains ss s → keeps s ≡ false → IsFoundIn mode ss text s.0 → ⊥)
+      → fate_found mode (filter keeps ss) hide text ≡ fate_found mode ss hide text
   same_line text none =
-      let framed = same_frame keeps finding.ignore_query ss hide text (λ s c lost h. none s c lost (inl h)) in
-      elim (cases_Bool finding.anywhere) [
+      let framed = same_frame keeps mode.ignore_query ss hide text (λ s c lost h. none s c lost (inl h)) in
+      elim (cases_Bool mode.anywhere) [
         | inl e ↦
-            let pieces = same_cut keeps finding.ignore_query ss [] 0 text
+            let pieces = same_cut keeps mode.ignore_query ss [] 0 text
             (λ o bytes c s d lost u. none s d lost (inr (e, (o, bytes, c, sym u)))) in
             rw (e, framed, pieces) refl
         | inr e ↦ rw e framed
       ]
 
 pub unfound_left_out : UnfoundAreLeftOut
-unfound_left_out finding keeps ss hide trace none = alike _ _ trace
-    (λ line c. sym (same_line finding keeps ss hide (without_line_feed line)
+unfound_left_out mode keeps ss hide trace none = alike _ _ trace
+    (λ line c. sym (same_line mode keeps ss hide (without_line_feed line)
     (λ s d lost h. none s d lost (line, c, h))))
 
 pub unnamed_left_out : UnnamedAreLeftOut

@@ -10,7 +10,7 @@ use Rattle.smap_trace.specs.Scripts.{Script}
 use Rattle.smap_trace.specs.Translation.{Fate, fate, fate_by, has_line_feed, lines_of, translation_by}
 use Rattle.smap_trace.specs.Translation.{without_line_feed}
 use Rattle.smap_trace.specs.Views.{at_most_u64, counts_by}
-use Rattle.smap_trace.specs.declared.finding.Finding.{Finding}
+use Rattle.smap_trace.specs.declared.match_mode.MatchMode.{MatchMode}
 use Rattle.smap_trace.specs.declared.outcome.Counts.{Counts}
 
 -- ---- a trace in two parts
@@ -89,18 +89,18 @@ IsAmongPieces ignore scripts text url = (o : Occurrence) × (bytes : List ℕ)
     × Contains (pieces_of ignore scripts text) (found o bytes) × (o.url ≡ url)
 
 -- The script with this URL is found in the line: in its frame, or anywhere if positions are found so.
-abbrev pub IsFoundIn : Finding → List Script → List ℕ → List ℕ → Type 0
-IsFoundIn finding scripts text url = IsInFrame finding.ignore_query scripts text url
-    ⊎ ((finding.anywhere ≡ true) × IsAmongPieces finding.ignore_query scripts text url)
+abbrev pub IsFoundIn : MatchMode → List Script → List ℕ → List ℕ → Type 0
+IsFoundIn mode scripts text url = IsInFrame mode.ignore_query scripts text url
+    ⊎ ((mode.anywhere ≡ true) × IsAmongPieces mode.ignore_query scripts text url)
 
 -- It is found in a line of the trace.
-abbrev pub Finds : Finding → List Script → List ℕ → List ℕ → Type 0
-Finds finding scripts trace url = (line : List ℕ) × Contains (lines_of trace) line
-    × IsFoundIn finding scripts (without_line_feed line) url
+abbrev pub Finds : MatchMode → List Script → List ℕ → List ℕ → Type 0
+Finds mode scripts trace url = (line : List ℕ) × Contains (lines_of trace) line
+    × IsFoundIn mode scripts (without_line_feed line) url
 
 -- The scripts that a choice doesn't keep can be left out if none of them is found in the trace.
 abbrev pub UnfoundAreLeftOut : Type 0
-UnfoundAreLeftOut = (finding : Finding) (keeps : Script → Bool) (scripts : List Script) (hide : Bool)
+UnfoundAreLeftOut = (mode : MatchMode) (keeps : Script → Bool) (scripts : List Script) (hide : Bool)
     (trace : List ℕ)
-    → ((s : Script) → Contains scripts s → keeps s ≡ false → Finds finding scripts trace s.0 → ⊥)
-    → AreAlike (fate_by finding scripts hide) (fate_by finding (filter keeps scripts) hide) trace
+    → ((s : Script) → Contains scripts s → keeps s ≡ false → Finds mode scripts trace s.0 → ⊥)
+    → AreAlike (fate_by mode scripts hide) (fate_by mode (filter keeps scripts) hide) trace

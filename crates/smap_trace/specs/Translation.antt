@@ -11,7 +11,7 @@ use Rattle.smap_record.specs.Record.{Origin, Record}
 use Rattle.smap_trace.specs.Anywhere.{Piece, byte, bytes_of, found, longest, pieces_of}
 use Rattle.smap_trace.specs.Lookup.{mapping_at}
 pub use Rattle.smap_trace.specs.Scripts.{Script, AreDistinct, map_of}
-use Rattle.smap_trace.specs.declared.finding.Finding.{Finding}
+use Rattle.smap_trace.specs.declared.match_mode.MatchMode.{MatchMode}
 
 -- The original of the mapping that a position has. A trace counts from 1, a map from 0.
 abbrev pub origin_at : Record → ℕ → ℕ → Option Origin
@@ -93,10 +93,10 @@ anywhere_fate ignore scripts hide text = if is_dropped (frame_fate ignore script
     else fate_of_pieces (pieces_of ignore scripts text)
 
 -- of a line without its line feed, by that way of finding
-abbrev pub fate_found : Finding → List Script → Bool → List ℕ → Fate
-fate_found finding scripts hide text = if finding.anywhere
-    then anywhere_fate finding.ignore_query scripts hide text
-    else frame_fate finding.ignore_query scripts hide text
+abbrev pub fate_found : MatchMode → List Script → Bool → List ℕ → Fate
+fate_found mode scripts hide text = if mode.anywhere
+    then anywhere_fate mode.ignore_query scripts hide text
+    else frame_fate mode.ignore_query scripts hide text
 
 -- ---- a line has its line feed, except perhaps the last
 
@@ -127,8 +127,8 @@ abbrev pub line_translation : List Script → Bool → List ℕ → List ℕ
 line_translation scripts hide line = written (fate scripts hide line) line
 
 -- The same by a way of finding.
-abbrev pub fate_by : Finding → List Script → Bool → List ℕ → Fate
-fate_by finding scripts hide line = fate_found finding scripts hide (without_line_feed line)
+abbrev pub fate_by : MatchMode → List Script → Bool → List ℕ → Fate
+fate_by mode scripts hide line = fate_found mode scripts hide (without_line_feed line)
 
 -- The translation of a line that becomes this.
 abbrev pub line_translation_by : (List ℕ → Fate) → List ℕ → List ℕ

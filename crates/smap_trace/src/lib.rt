@@ -9,11 +9,11 @@
 
 mod anywhere;
 mod error;
-mod finding;
 pub mod laws;
 mod line_starts;
 mod lines;
 mod lookups;
+mod match_mode;
 mod naming;
 mod occurrences;
 mod outcome;
@@ -23,10 +23,10 @@ mod streaming;
 pub mod trace_laws;
 
 pub use error::TraceError;
-pub use finding::Finding;
 pub use line_starts::LineStarts;
 pub use lines::{translate_line, translate_line_by};
 pub use lookups::{find, find_in, lookup, lookup_in};
+pub use match_mode::MatchMode;
 pub use naming::{NamedScripts, named_scripts};
 pub use outcome::{Counts, LineOutcome};
 pub use scripts::distinct_scripts;

@@ -12,8 +12,8 @@ ghost use Rattle.smap_trace.specs.Translation.{AreDistinct, Fate};
 ghost use Rattle.smap_trace.specs.Views.{outcome_of, scripts_in};
 
 use crate::anywhere::push_pieces;
-use crate::finding::Finding;
 use crate::lookups::origin_at;
+use crate::match_mode::MatchMode;
 use crate::outcome::LineOutcome;
 use crate::scripts::{Listed, Maps};
 use smap_frames::{Frame, frame, push_position};
@@ -263,16 +263,16 @@ pub(crate) trait Translator {
 #[derive(Drop)]
 pub(crate) struct ByMaps<'a, M> {
     pub(crate) maps: &'a M,
-    pub(crate) finding: Finding,
+    pub(crate) mode: MatchMode,
     pub(crate) hide: bool,
 }
 
 impl<M: Maps> Translator for ByMaps<'_, M> {
-    ghost fates = { λ s. spec.fate_by s.finding (M.scripts s.maps.now) s.hide };
+    ghost fates = { λ s. spec.fate_by s.mode (M.scripts s.maps.now) s.hide };
 
     fn translate(&self, line: &[u8], out: &mut Vec<u8>) -> Result<LineOutcome, AllocError> {
-        let ignore_query = self.finding.ignore_query;
-        if self.finding.anywhere {
+        let ignore_query = self.mode.ignore_query;
+        if self.mode.anywhere {
             translate_anywhere(line, self.maps, ignore_query, self.hide, out)
         } else {
             translate_framed(line, self.maps, ignore_query, self.hide, out)
@@ -315,7 +315,7 @@ pub fn translate_line(
     ensures err { OnErr result (out.new.items ≡ out.old.items) }
     ensures outcome { IfOk result (λ o. o ≡ outcome_of (spec.fate (scripts_in scripts.now) hide line.now)) }
 {
-    translate_line_by(line, scripts, Finding::FRAMES, hide, out)
+    translate_line_by(line, scripts, MatchMode::FRAMES, hide, out)
 }
 
 /// Appends the translation of one line to `out`, as [`translate_line`] does, where positions are found in
@@ -334,29 +334,29 @@ pub fn translate_line(
 /// # Examples
 ///
 /// ```
-/// let finding = Finding { anywhere: true, ignore_query: false };
+/// let mode = MatchMode { anywhere: true, ignore_query: false };
 /// let line = b"12:00 at f (http://h/m/out.js:1:2) {\n";
-/// let outcome = translate_line_by(line, &scripts, finding, false, &mut out)?;
+/// let outcome = translate_line_by(line, &scripts, mode, false, &mut out)?;
 /// // LineOutcome::Translated; `out` has `12:00 at f (http://h/m/a.js:11:3) {` and the line feed
 /// ```
 pub fn translate_line_by(
     line: &[u8],
     scripts: &[(&str, &SourceMap)],
-    finding: Finding,
+    mode: MatchMode,
     hide: bool,
     out: &mut Vec<u8>,
 ) -> Result<LineOutcome, Memory>
     requires { AreDistinct (scripts_in scripts.now) }
     ensures ok { OnOk result (out.new.items ≡ out.old.items
-        ++ spec.line_translation_by (spec.fate_by finding (scripts_in scripts.now) hide) line.now) }
+        ++ spec.line_translation_by (spec.fate_by mode (scripts_in scripts.now) hide) line.now) }
     ensures err { OnErr result (out.new.items ≡ out.old.items) }
     ensures outcome { IfOk result (λ o. o
-        ≡ outcome_of (spec.fate_by finding (scripts_in scripts.now) hide line.now)) }
+        ≡ outcome_of (spec.fate_by mode (scripts_in scripts.now) hide line.now)) }
 {
     let maps = Listed { scripts };
     match (ByMaps {
         maps: &maps,
-        finding,
+        mode,
         hide,
     })
     .translate(line, out)

@@ -13,8 +13,8 @@ ghost use Rattle.smap_trace.specs.Translation.{translation_by};
 ghost use Rattle.smap_trace.specs.Views.{outcome_of, scripts_in};
 
 use crate::error::TraceError;
-use crate::finding::Finding;
 use crate::lines::{ByMaps, Translator};
+use crate::match_mode::MatchMode;
 use crate::outcome::{Counts, LineOutcome};
 use crate::scripts::{Listed, by_url};
 use memchr::memchr;
@@ -252,7 +252,7 @@ pub fn translate<R: Read, W: Write>(
     ensures writes_in_time { StopsInTime writer.old writer.new }
     ensures flushed { OnOk result (is_over writer.new ≡ true) }
 {
-    translate_by(alloc, reader, scripts, Finding::FRAMES, hide, writer)
+    translate_by(alloc, reader, scripts, MatchMode::FRAMES, hide, writer)
 }
 
 /// Reads a stack trace to its end and writes its translation, as [`translate`] does, where positions are
@@ -267,14 +267,14 @@ pub fn translate<R: Read, W: Write>(
 /// # Examples
 ///
 /// ```
-/// let finding = Finding { anywhere: true, ignore_query: true };
-/// let counts = translate_by(alloc, &mut reader, scripts.as_slice(), finding, false, &mut writer)?;
+/// let mode = MatchMode { anywhere: true, ignore_query: true };
+/// let counts = translate_by(alloc, &mut reader, scripts.as_slice(), mode, false, &mut writer)?;
 /// ```
 pub fn translate_by<R: Read, W: Write>(
     alloc: Global,
     reader: &mut Device<R>,
     scripts: &[(&str, &SourceMap)],
-    finding: Finding,
+    mode: MatchMode,
     hide: bool,
     writer: &mut Device<W>,
 ) -> Result<Counts, TraceError>
@@ -284,7 +284,7 @@ pub fn translate_by<R: Read, W: Write>(
     requires distinct { AreDistinct (scripts_in scripts.now) }
 
     // As for `translate`, with what becomes of a line by this way of finding.
-    ensures translates { TranslatesBy (fate_by finding (scripts_in scripts.now) hide)
+    ensures translates { TranslatesBy (fate_by mode (scripts_in scripts.now) hide)
         (streams R.remaining reader.old reader.new W.contents writer.old writer.new) result }
     ensures calls { MakesAtMost most_calls reader.old reader.new }
     ensures reads_in_time { StopsInTime reader.old reader.new }
@@ -297,7 +297,7 @@ pub fn translate_by<R: Read, W: Write>(
             alloc,
             &ByMaps {
                 maps: &maps,
-                finding,
+                mode,
                 hide,
             },
             reader,
@@ -311,7 +311,7 @@ pub fn translate_by<R: Read, W: Write>(
         alloc,
         &ByMaps {
             maps: &maps,
-            finding,
+            mode,
             hide,
         },
         reader,

@@ -51,8 +51,8 @@ pub record IsJobOf (asked : TraceWords) (job : Job) : Type 0 where
   pub check_all : job.check_all ≡ asked.check_all
   pub skip : job.how.skip ≡ asked.skip_broken
   pub verbose : job.how.verbose ≡ asked.verbose
-  pub found_anywhere : job.style.finding.anywhere ≡ asked.anywhere
-  pub queries : job.style.finding.ignore_query ≡ false
+  pub found_anywhere : job.style.mode.anywhere ≡ asked.anywhere
+  pub queries : job.style.mode.ignore_query ≡ false
   pub hide : job.style.hide ≡ asked.hide_ignored
   pub context : job.style.context ≡ asked.context
   pub prefixes : pairs_of job.style.prefixes.now ≡ prefixes_of asked.prefixes.items

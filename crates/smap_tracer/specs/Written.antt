@@ -1,5 +1,6 @@
 -- What is written of a log.
-use Rattle.std.specs.Prelude.{◌≡◌, ◌⊎◌, ℕ, ◌<◌, ◌==◌, ◌&&◌, Bool, not, true, List, [], ◌∷◌, get_or, length, map, slice_index, take, ⊤}
+use Rattle.std.specs.Prelude.{◌≡◌, ◌⊎◌, ℕ, ◌<◌, ◌==◌, ◌&&◌, Bool, not, true, List, [], ◌∷◌, get_or, length}
+use Rattle.std.specs.Prelude.{map, slice_index, take, ⊤}
 use Rattle.std.specs.Prelude.{Option, Some, None, option_map}
 use Rattle.std.specs.List.{All, Contains, concat}
 use Rattle.std.specs.Borrow.{Bor}
@@ -8,13 +9,14 @@ use Rattle.std.specs.Io.{IsEmptyOrEndsWith}
 use Rattle.std.specs.Io.KnownBytes.{Appends}
 use Rattle.smap_disk.specs.Held.{GivesHeld, HasSize, Held}
 use Rattle.smap_finder.specs.Choice.{IsMapOf}
-use Rattle.smap_finder.specs.ChosenView.{AreChosen, Choices, Has, HasMap, IsJudged, IsLeft, IsSettledIn, choices_of}
+use Rattle.smap_finder.specs.ChosenView.{AreChosen, Choices, Has, HasMap, IsJudged, IsLeft, IsSettledIn}
+use Rattle.smap_finder.specs.ChosenView.{choices_of}
 use Rattle.smap_finder.specs.declared.chosen.Chosen.{Chosen}
 use Rattle.smap_arguments.specs.declared.wanted.Wanted.{Wanted}
 use Rattle.smap_record.specs.Record.{ReadMap, record_of}
 use Rattle.smap_trace.specs.Naming.{urls_of}
 use Rattle.smap_trace.specs.Translation.{Fate, Script, fate_by, translation_by}
-use Rattle.smap_trace.specs.declared.finding.Finding.{Finding}
+use Rattle.smap_trace.specs.declared.match_mode.MatchMode.{MatchMode}
 use Rattle.smap_tracer.specs.declared.decorating.Style.{Style}
 use Rattle.smap_tracer.specs.declared.tracing.Job.{Job}
 
@@ -46,17 +48,17 @@ abbrev pub AreAll : Choices → List Script → Type 0
 AreAll choices scripts = (name : List ℕ) → HasMap choices name → IsNameIn scripts name
 
 -- The same, by all scripts with these maps.
-pub record IsTranslatedBy (choices : Choices) (finding : Finding) (hide : Bool)
+pub record IsTranslatedBy (choices : Choices) (mode : MatchMode) (hide : Bool)
     (left before after : Option (List ℕ)) : Type 0 where
   pub scripts : List Script
   pub have_maps : All (HasMapOf choices) scripts
   pub are_all : AreAll choices scripts
-  pub translated : IsTranslated (fate_by finding scripts hide) left before after
+  pub translated : IsTranslated (fate_by mode scripts hide) left before after
 
 -- The same in a plain style; of another nothing is said.
 abbrev pub IsTranslatedIn : Choices → Style → Option (List ℕ) → Option (List ℕ) → Option (List ℕ) → Type 0
 IsTranslatedIn choices style left before after = is_plain_style style.prefixes.now style.context ≡ true
-    → IsTranslatedBy choices style.finding style.hide left before after
+    → IsTranslatedBy choices style.mode style.hide left before after
 
 -- Each name of the log has, of the maps that the arguments name, the one that it has by the definition.
 abbrev pub AreNamed : Held → Wanted → Chosen → Type 0
@@ -82,7 +84,7 @@ pub record IsTraced (held : Held) (job : Job) (Sought : List ℕ → Type 0) (le
     : Type 0 where
   pub scripts : List Script
   pub have_maps : All (HasNamedMap held job.wanted) scripts
-  pub translated : IsTranslated (fate_by job.style.finding scripts job.style.hide) left before after
+  pub translated : IsTranslated (fate_by job.style.mode scripts job.style.hide) left before after
   pub choices : Choices
   pub given : AreGiven held job.wanted choices scripts Sought translated.text
   pub judged : IsJudged job.how.skip choices

@@ -9,13 +9,13 @@ use crate::scripts::Scripts;
 use smap_finder::Chosen;
 use smap_lines::{Span, add_context, add_spans, with_prefix};
 use smap_record::SourceMap;
-use smap_trace::{Counts, Finding, LineOutcome, frame, lookup, translate_line_by};
+use smap_trace::{Counts, LineOutcome, MatchMode, frame, lookup, translate_line_by};
 use std::alloc::{AllocError, Global};
 
 /// How lines are translated.
 #[derive(Clone, Copy)]
 pub(crate) struct Style<'a> {
-    pub(crate) finding: Finding,
+    pub(crate) mode: MatchMode,
     pub(crate) hide: bool,
     /// What is written for the beginnings of source URLs.
     pub(crate) prefixes: &'a [(&'a str, &'a str)],
@@ -71,7 +71,7 @@ fn decorate_line(
         None => (line, b"".as_slice()),
     };
     let mut plain = Vec::new(alloc);
-    let outcome = translated_line(text, &scripts.list, style.finding, style.hide, &mut plain)?;
+    let outcome = translated_line(text, &scripts.list, style.mode, style.hide, &mut plain)?;
     match outcome {
         LineOutcome::Dropped => {}
         LineOutcome::Kept => {
@@ -91,13 +91,13 @@ fn decorate_line(
 fn translated_line(
     line: &[u8],
     scripts: &[(&str, &SourceMap)],
-    finding: Finding,
+    mode: MatchMode,
     hide: bool,
     out: &mut Vec<u8>,
 ) -> Result<LineOutcome, AllocError>
     requires { AreDistinct (scripts_in scripts.now) }
 {
-    match translate_line_by(line, scripts, finding, hide, out) {
+    match translate_line_by(line, scripts, mode, hide, out) {
         Ok(outcome) => Ok(outcome),
         Err(_) => Err(AllocError),
     }
@@ -111,7 +111,7 @@ fn spans_of(
     style: &Style<'_>,
 ) -> Result<Vec<Span>, AllocError> {
     let mut spans = Vec::new(alloc);
-    if style.finding.anywhere {
+    if style.mode.anywhere {
         let mut all = Vec::new(alloc);
         add_spans(line, &mut all)?;
         for span in &all {
@@ -188,12 +188,12 @@ fn piece_of(
         return Ok(None);
     };
     let scripts = [(name, map)];
-    let finding = Finding {
+    let mode = MatchMode {
         anywhere: true,
         ignore_query: false,
     };
     let mut out = Vec::new(alloc);
-    match translated_line(text, scripts.as_slice(), finding, false, &mut out)? {
+    match translated_line(text, scripts.as_slice(), mode, false, &mut out)? {
         LineOutcome::Translated => Ok(Some(out)),
         _ => Ok(None),
     }

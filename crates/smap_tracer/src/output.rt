@@ -64,7 +64,7 @@ impl<W: Write + Drop> Output<W> {
         style: &Style<'_>,
     ) -> (Heeded<R>, Result<Counts, TraceError>)
         ensures { OnOk result.1 (IsTranslated
-            (fate_by style.now.finding (scripts_in scripts.now.list.items) style.now.hide)
+            (fate_by style.now.mode (scripts_in scripts.now.list.items) style.now.hide)
             (R.remaining reader.reader) (contents_of W.contents self.old) (contents_of W.contents self.new)) }
     {
         let Some(writer) = self.writer.take() else {
@@ -72,8 +72,8 @@ impl<W: Write + Drop> Output<W> {
         };
         let mut reader = Device::new(reader);
         let mut writer = Device::new(writer);
-        let (list, finding, hide) = (&scripts.list, style.finding, style.hide);
-        let answer = translate_by(alloc, &mut reader, list, finding, hide, &mut writer);
+        let (list, mode, hide) = (&scripts.list, style.mode, style.hide);
+        let answer = translate_by(alloc, &mut reader, list, mode, hide, &mut writer);
         self.writer = Some(writer.into_inner());
         (reader.into_inner(), answer)
     }

@@ -2,7 +2,8 @@
 ghost use Rattle.std.specs.Prelude.{◌≡◌, false, IfOk, OnOk, map};
 ghost use Rattle.smap_finder.specs.ChosenView.{IsOver};
 ghost use Rattle.smap_tracer.specs.OutputView.{contents_of};
-ghost use Rattle.smap_tracer.specs.Runs.{AreFound, IsAnswered, IsJobOf, IsTracedAsked, IsTracedInput, IsTracedJob};
+ghost use Rattle.smap_tracer.specs.Runs.{AreFound, IsAnswered, IsJobOf, IsTracedAsked, IsTracedInput};
+ghost use Rattle.smap_tracer.specs.Runs.{IsTracedJob};
 ghost use Rattle.smap_tracer.specs.Runs.{pairs_of, prefixes_of};
 ghost use Rattle.smap_tracer.specs.Written.{AreNamed};
 ghost use Rattle.smap_words.specs.Request.{IsAsked};
@@ -18,7 +19,7 @@ use smap_arguments::{Wanted, settle, wanted_by};
 use smap_disk::{Disk, Kind, create_beside};
 use smap_finder::{How, Opener, check_all, tell_count};
 use smap_host::{Host, Stop};
-use smap_trace::Finding;
+use smap_trace::MatchMode;
 use smap_words::{
     Asked, HELP, Prefix, TRY_HELP, TraceWords, VERSION, WordFault, message, trace_words,
 };
@@ -313,7 +314,7 @@ fn job_of<'a>(
             verbose: asked.verbose,
         },
         style: Style {
-            finding: Finding {
+            mode: MatchMode {
                 anywhere: asked.anywhere,
                 ignore_query: false,
             },
@@ -371,7 +372,7 @@ fn refuse<E: Eprint + AllocGlobal, D: Disk>(host: &Host<'_, E, D>, fault: &WordF
         WordFault::Memory => Stop::Memory,
         WordFault::Nothing => {
             let _ = eprint!(rt; "{HELP}");
-            Stop::Said(2)
+            Stop::Reported(2)
         }
         _ => match message(host.alloc(), fault) {
             Ok(text) => {

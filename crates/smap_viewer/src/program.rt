@@ -205,7 +205,7 @@ fn refuse<E: Eprint + AllocGlobal, D: Disk>(host: &Host<'_, E, D>, fault: &WordF
         WordFault::Memory => Stop::Memory,
         WordFault::Nothing => {
             let _ = eprint!(rt; "{HELP}");
-            Stop::Said(2)
+            Stop::Reported(2)
         }
         _ => match message(host.alloc(), fault) {
             Ok(text) => host.fail(2, text.as_str()),

@@ -112,10 +112,7 @@ fn count_of(
 }
 
 /// How many sections a map has, each read by itself.
-fn whole_count(
-    rt: &(impl Abort + AllocGlobal),
-    text: &[u8],
-) -> Result<Option<usize>, AllocError> {
+fn whole_count(rt: &(impl Abort + AllocGlobal), text: &[u8]) -> Result<Option<usize>, AllocError> {
     let mut scratch = Scratch::new(rt.alloc());
     let Some((_members, sections)) = cut_sections(rt.alloc(), text, &mut scratch)? else {
         return Ok(None);

@@ -13,7 +13,7 @@ ghost use Rattle.smap_record.specs.Steps.{after, with_one, AreFlags, FollowsSour
 
 use crate::entry::SourceEntry;
 use crate::fault::{Kind, ReadError, refused};
-use crate::source::{Base, SourceFault, resolve};
+use crate::source_urls::{Base, SourceFault, resolve};
 use crate::sources::Sources;
 use smap_shape::FlatShape;
 use std::alloc::{AllocError, Global};

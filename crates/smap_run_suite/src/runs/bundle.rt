@@ -3,7 +3,7 @@ use super::{fails_to_write, run_over, writes};
 use crate::asserted::{equal, holds};
 use smap_testing::{SlowReader, SlowWriter};
 use smap_tool::{Outcome, RunFault, Task};
-use smap_trace::Finding;
+use smap_trace::MatchMode;
 use std::alloc::AllocError;
 use std::process::Abort;
 use std::test::Fail;
@@ -24,7 +24,7 @@ const TOLD: &str = "Error: x\n    at f (http://h/m/a.js:11:3)\n    at async http
 
 /// A translation of the frames alone.
 const TRANSLATE: Task<'static> = Task::Translate {
-    finding: Finding::FRAMES,
+    mode: MatchMode::FRAMES,
     hide: false,
 };
 

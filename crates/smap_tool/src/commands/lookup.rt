@@ -9,8 +9,8 @@ ghost use Rattle.smap_io.specs.Limits.{longest_input};
 ghost use Rattle.smap_io.specs.Streams.{streams};
 ghost use Rattle.smap_record.specs.Views.{mapping_of_view, origin_of_view};
 ghost use Rattle.smap_tool.specs.Run.{WritesOutputAgainst, Runs};
-ghost use Rattle.smap_tool.specs.Commands.{lookup_output, lookup_text, mapping_words, name_words};
-ghost use Rattle.smap_tool.specs.Commands.{origin_words, url_words};
+ghost use Rattle.smap_tool.specs.Commands.{lookup_output, lookup_text, mapping_text, name_text};
+ghost use Rattle.smap_tool.specs.Commands.{origin_text, url_text};
 ghost use Rattle.url.specs.Parser.{parse_url};
 ghost use Rattle.clap.specs.Words.{app_of};
 ghost use Rattle.clap.specs.declared.builder.command.Command.TheViews.{out-Command as fields_of};
@@ -45,7 +45,7 @@ pub(crate) fn lookup_command<'a>(alloc: Global) -> Result<Command<'a>, AllocErro
 
 /// A source's URL, or `null` where it has none.
 fn url_text(url: Option<&str>) -> &str
-    ensures { result.now ≡ url_words (option_copied url.entry) }
+    ensures { result.now ≡ url_text (option_copied url.entry) }
 {
     match url {
         Some(url) => url,
@@ -63,7 +63,7 @@ fn json_text(alloc: Global, name: &str) -> Result<String, Memory>
 
 /// Appends a space and the name as a JSON string, if there is a name.
 fn push_name(alloc: Global, text: &mut Vec<u8>, name: Option<&str>) -> Result<(), Memory>
-    ensures { OnOk result (text.new.items ≡ text.old.items ++ name_words (option_copied name.entry)) }
+    ensures { OnOk result (text.new.items ≡ text.old.items ++ name_text (option_copied name.entry)) }
 {
     let Some(name) = name else {
         return Ok(());
@@ -79,7 +79,7 @@ fn push_origin(
     original: Option<OriginalView<'_>>,
 ) -> Result<(), Memory>
     ensures { OnOk result (text.new.items
-        ≡ text.old.items ++ origin_words (option_map origin_of_view original.entry)) }
+        ≡ text.old.items ++ origin_text (option_map origin_of_view original.entry)) }
 {
     let Some(original) = original else {
         return text.extend_from_slice(b"unmapped");
@@ -91,14 +91,14 @@ fn push_origin(
 }
 
 /// Appends a mapping's own position, and its original.
-#[tactic(auto, unfolding(crate::specs::Commands::mapping_words))]
+#[tactic(auto, unfolding(crate::specs::Commands::mapping_text))]
 fn push_mapping(
     alloc: Global,
     text: &mut Vec<u8>,
     token: Option<TokenView<'_>>,
 ) -> Result<(), Memory>
     ensures { OnOk result (text.new.items
-        ≡ text.old.items ++ mapping_words (option_map mapping_of_view token.entry)) }
+        ≡ text.old.items ++ mapping_text (option_map mapping_of_view token.entry)) }
 {
     let Some(token) = token else {
         return text.extend_from_slice(b"none");

@@ -19,7 +19,7 @@ use crate::words::with_flag;
 use clap::Command;
 use smap_bundle::{Bundle, BundleFault, Refusal, read_bundle};
 use smap_io::Device;
-use smap_trace::{Finding, TraceError, translate_by};
+use smap_trace::{MatchMode, TraceError, translate_by};
 use std::alloc::{AllocError, Global};
 use std::io::{Read, Write};
 
@@ -71,7 +71,7 @@ fn refuse<W: Write>(
 /// Translates the trace, up to the end of the input.
 fn translate_trace<R: Read, W: Write>(
     alloc: Global,
-    finding: Finding,
+    mode: MatchMode,
     hide: bool,
     bundle: &Bundle,
     reader: &mut Device<R>,
@@ -80,7 +80,7 @@ fn translate_trace<R: Read, W: Write>(
     requires reader { device_failures reader.old < 2 ^ 64 - 1 }
     requires writer { device_failures writer.old < 2 ^ 64 - 1 }
     requires not_ended { has_ended reader.old ≡ false }
-    ensures translates { TranslatesTrace (fates_asked finding hide bundle.now)
+    ensures translates { TranslatesTrace (fates_asked mode hide bundle.now)
         (streams R.remaining reader.old reader.new W.contents writer.old writer.new) result }
     ensures reader_failures { ReaderFailsOrTires is_read
         (streams R.remaining reader.old reader.new W.contents writer.old writer.new) result }
@@ -94,7 +94,7 @@ fn translate_trace<R: Read, W: Write>(
     let Ok(scripts) = bundle.scripts(alloc) else {
         return Err(RunFault::Memory);
     };
-    match translate_by(alloc, reader, scripts.as_slice(), finding, hide, writer) {
+    match translate_by(alloc, reader, scripts.as_slice(), mode, hide, writer) {
         Ok(_) => Ok(Outcome::Done),
         Err(TraceError::Read) => Err(RunFault::Read),
         Err(TraceError::Write) => Err(RunFault::Write),
@@ -142,7 +142,7 @@ pub fn run_translate<R: Read, W: Write>(
     ensures writes_in_time { StopsInTime writer.old writer.new }
     ensures flushed { OnOk result (is_over writer.new ≡ true) }
 {
-    run_translate_by(alloc, Finding::FRAMES, hide, reader, writer)
+    run_translate_by(alloc, MatchMode::FRAMES, hide, reader, writer)
 }
 
 /// Reads a bundle, and writes the translation of its trace, as [`run_translate`] does, where positions are
@@ -153,7 +153,7 @@ pub fn run_translate<R: Read, W: Write>(
 /// Those of [`run_translate`], with what was written then.
 pub fn run_translate_by<R: Read, W: Write>(
     alloc: Global,
-    finding: Finding,
+    mode: MatchMode,
     hide: bool,
     reader: &mut Device<R>,
     writer: &mut Device<W>,
@@ -165,7 +165,7 @@ pub fn run_translate_by<R: Read, W: Write>(
     // What was written is the translation of the bundle's trace, or the line of its first fault; nothing
     // was read past what shows this fault. Read and Write come with a failure of their device, and no other
     // answer does.
-    ensures answers { RunsTranslate (fates_asked finding hide)
+    ensures answers { RunsTranslate (fates_asked mode hide)
         (streams R.remaining reader.old reader.new W.contents writer.old writer.new) result }
 
     // The bundle's entries are read by at most 4,294,967,296 calls, and so is the trace.
@@ -178,7 +178,7 @@ pub fn run_translate_by<R: Read, W: Write>(
     ensures flushed { OnOk result (is_over writer.new ≡ true) }
 {
     match read_bundle(alloc, reader) {
-        Ok(bundle) => translate_trace(alloc, finding, hide, &bundle, reader, writer),
+        Ok(bundle) => translate_trace(alloc, mode, hide, &bundle, reader, writer),
         Err(BundleFault::Refused(refusal)) => refuse(alloc, &refusal, writer),
         Err(BundleFault::TooLong) => Err(RunFault::TooLong),
         Err(BundleFault::Read) => Err(RunFault::Read),

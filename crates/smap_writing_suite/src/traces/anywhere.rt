@@ -3,12 +3,12 @@ use crate::asserted::equal;
 use crate::reading::read;
 use smap_io::Device;
 use smap_record::SourceMap;
-use smap_trace::{Counts, Finding, distinct_scripts, translate_by};
+use smap_trace::{Counts, MatchMode, distinct_scripts, translate_by};
 use std::process::Abort;
 
 const MAP: &str = r#"{"version":3,"sources":["a.js"],"mappings":"AAUE,IAEA"}"#;
 
-const ANYWHERE: Finding = Finding {
+const ANYWHERE: MatchMode = MatchMode {
     anywhere: true,
     ignore_query: false,
 };

@@ -4,8 +4,8 @@ use Rattle.std.proofs.lemmas.List.Elements.{All-more}
 use Rattle.smap_disk.specs.Held.{Held}
 use Rattle.smap_finder.specs.ChosenView.{AreChosen, IsSettledIn, choices_of}
 use Rattle.smap_finder.proofs.GrowthLemmas.{all_grown, grows_on}
-use Rattle.smap_pick.specs.declared.finding.Found.TheVariants.{Given}
-use Rattle.smap_pick.specs.declared.finding.Pick.{Pick}
+use Rattle.smap_pick.specs.declared.picks.Found.TheVariants.{Given}
+use Rattle.smap_pick.specs.declared.picks.Pick.{Pick}
 use Rattle.smap_finder.proofs.giving.give_all.Goals as goal
 
 pub loop-i-preserved : goal.loop-i-preserved

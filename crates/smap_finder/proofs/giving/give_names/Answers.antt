@@ -4,7 +4,7 @@ use Rattle.std.proofs.lemmas.List.Elements.{All-map}
 use Rattle.smap_disk.specs.Held.{Held}
 use Rattle.smap_finder.specs.ChosenView.{IsSettledIn, choices_of}
 use Rattle.smap_finder.proofs.GrowthLemmas.{on_ok}
-use Rattle.smap_pick.specs.declared.finding.Pick.{Pick}
+use Rattle.smap_pick.specs.declared.picks.Pick.{Pick}
 use Rattle.smap_finder.proofs.giving.give_names.Goals as goal
 
 pub returns-clause-settled : goal.returns-clause-settled

@@ -1,5 +1,5 @@
 use Rattle.std.proofs.Common.{◌+◌, refl, sym, subst, map, take}
-use Rattle.smap_pick.specs.declared.finding.Pick.{Pick}
+use Rattle.smap_pick.specs.declared.picks.Pick.{Pick}
 use Rattle.smap_finder.specs.Choice.{ArePicksOf, IsPickedBy}
 use Rattle.smap_finder.proofs.ChoiceLemmas.{all_of, one_more}
 use Rattle.smap_finder.proofs.picking.all_within.Goals as goal

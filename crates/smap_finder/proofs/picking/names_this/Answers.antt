@@ -3,7 +3,7 @@ use Rattle.std.proofs.lemmas.Option.{slice_get_read}
 use Rattle.smap_disk.specs.Held.{IsHeld}
 use Rattle.smap_pick.specs.PlaceView.{place_in}
 use Rattle.smap_pick.specs.Places.{MapPlace, usual_place}
-use Rattle.smap_pick.specs.declared.finding.Found.TheVariants.{ByEnd}
+use Rattle.smap_pick.specs.declared.picks.Found.TheVariants.{ByEnd}
 use Rattle.smap_finder.specs.Choice.{root_of}
 use Rattle.smap_finder.specs.Given.{IsFollowed, folder_for}
 use Rattle.smap_finder.specs.declared.following.Followed.TheVariants as followed

@@ -1,5 +1,5 @@
 use Rattle.std.proofs.Common.{rules, ◌≡◌, ◌+◌, inr, ap}
-use Rattle.smap_pick.specs.declared.finding.Found.TheVariants.{ByEnd}
+use Rattle.smap_pick.specs.declared.picks.Found.TheVariants.{ByEnd}
 use Rattle.smap_finder.specs.Choice.{Links, map_count_of}
 use Rattle.smap_finder.proofs.picking.script_or_map.Goals as goal
 

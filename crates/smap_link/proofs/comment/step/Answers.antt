@@ -9,7 +9,7 @@ returns-in-Code-clause-same c =
     let i = c.args.i in
     let two = c.args.two in
     ap (λ m. spec.effect two (place_in m (drop c.args.scan.start line) (i - c.args.scan.start))
-    (effect_in c.args.scan.said)
+    (effect_in c.args.scan.link)
     (drop i line)) c.in-Code.is
     ∙ c.code_step-mode.ensures two (drop 0 line) (i + 1 - 0)
 
@@ -20,7 +20,7 @@ returns-in-Slash-clause-same c =
     let two = c.args.two in
     let made = c.slash_step-mode.result in
     ap (λ m. spec.effect two (place_in m (drop c.args.scan.start line) (i - c.args.scan.start))
-    (effect_in c.args.scan.said)
+    (effect_in c.args.scan.link)
     (drop i line)) c.in-Slash.is
     ∙ c.slash_step-mode.ensures
     ∙ ap (λ n. spec.effect two (place_in made.0 (drop (i + 1) line) n) (effect_in made.1) (drop (i + 1) line))

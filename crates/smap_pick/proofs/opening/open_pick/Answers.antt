@@ -1,7 +1,7 @@
 use Rattle.std.proofs.Common.{ℕ, List, Bor, OnOk, map, subst, sym}
 use Rattle.smap_pick.specs.Opening.{IsMadeOf, KeepsMade, found_place, listed}
 use Rattle.smap_pick.specs.PlaceView.{places_in}
-use Rattle.smap_pick.specs.declared.finding.Found.{Found}
+use Rattle.smap_pick.specs.declared.picks.Found.{Found}
 use Rattle.smap_pick.proofs.opening.open_pick.Goals as goal
 
 pub returns-in-ByEnd-clause-made : goal.returns-in-ByEnd-clause-made

@@ -1,8 +1,8 @@
 //! Which map a script has that a log names.
 ghost use Rattle.std.specs.Prelude.{◌≡◌, List, ℕ, IfOk, get_or, map};
 ghost use Rattle.smap_link.specs.Table.{IsTable};
-ghost use Rattle.smap_pick.specs.Finding as spec;
-ghost use Rattle.smap_pick.specs.Finding.{ArePicks, IsMapOf, IsPick};
+ghost use Rattle.smap_pick.specs.Picks as spec;
+ghost use Rattle.smap_pick.specs.Picks.{ArePicks, IsMapOf, IsPick};
 
 use smap_link::{Likeness, ScriptTable, maps_of_scripts};
 use std::alloc::{AllocError, Global};

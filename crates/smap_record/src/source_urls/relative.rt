@@ -3,7 +3,7 @@ ghost use Rattle.std.specs.Prelude.{◌≡◌, IfOk, Some, option_map, string_by
 ghost use Rattle.url.specs.Parser.{parse_url};
 ghost use Rattle.smap_record.specs.Relative.{relative, relative_to, leads_to};
 
-use crate::source::{Base, SourceFault, resolve};
+use crate::source_urls::{Base, SourceFault, resolve};
 use std::alloc::{AllocError, Global};
 use url::ParseError;
 

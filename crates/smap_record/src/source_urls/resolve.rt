@@ -1,11 +1,11 @@
 //! The URL of one source: the prefix and the source parsed against the base, and the text of that URL parsed
 //! once more, to see that it is its own URL.
 ghost use Rattle.std.specs.Prelude.{◌≡◌, ◌++◌, string_bytes, option_copied, IfOk};
-ghost use Rattle.smap_record.specs.Source.{prefix_of, resolve as url_of};
+ghost use Rattle.smap_record.specs.SourceUrls.{prefix_of, resolve as url_of};
 ghost use Rattle.smap_record.specs.Resolving.{GivesSource, IsNotUnstable, if_same_again, unless_out_of_room};
 ghost use Rattle.url.specs.Parts.{serialize};
 
-use crate::source::Base;
+use crate::source_urls::Base;
 use std::alloc::{AllocError, Global};
 use url::{ParseError, ParseResult, Url};
 
@@ -60,7 +60,7 @@ fn same_again(url: &Url, again: ParseResult<Url>) -> Result<(), SourceFault>
 }
 
 /// The text of the source's URL.
-#[tactic(auto, unfolding(crate::specs::Source::resolve))]
+#[tactic(auto, unfolding(crate::specs::SourceUrls::resolve))]
 pub(crate) fn resolve(
     alloc: Global,
     base: &Base,

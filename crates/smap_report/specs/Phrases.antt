@@ -1,5 +1,6 @@
--- What is said of places and numbers.
-use Rattle.std.specs.Prelude.{ℕ, ◌==◌, Bool, true, false, cond, filter, List, [], ◌++◌, codes, length, decimal, Option}
+-- Places and numbers as reports write them.
+use Rattle.std.specs.Prelude.{ℕ, ◌==◌, Bool, true, false, cond, filter, List, [], ◌++◌, codes, length}
+use Rattle.std.specs.Prelude.{decimal, Option}
 use Rattle.std.specs.Option.{option_map_or}
 use Rattle.smap_report.specs.declared.findings.Finding.{Finding}
 use Rattle.smap_report.specs.declared.findings.Level.{Level}
@@ -7,19 +8,19 @@ use Rattle.smap_report.specs.declared.findings.Level.TheVariants.{Note, Warning,
 use Rattle.smap_report.specs.declared.findings.Point.{Point}
 
 -- `LINE:COLUMN` between these, or nothing where there is no place
-abbrev pub place_words : List ℕ → Option Point → List ℕ → List ℕ
-place_words before point behind =
+abbrev pub place_text : List ℕ → Option Point → List ℕ → List ℕ
+place_text before point behind =
     option_map_or (λ p. before ++ (decimal p.line ++ (codes ":" ++ (decimal p.column ++ behind)))) point []
 
 -- `1 error`, `2 errors`
-abbrev pub count_words : ℕ → List ℕ → List ℕ
-count_words count word = cond (count == 1) (decimal count ++ (codes " " ++ word))
+abbrev pub count_text : ℕ → List ℕ → List ℕ
+count_text count word = cond (count == 1) (decimal count ++ (codes " " ++ word))
     (decimal count ++ (codes " " ++ (word ++ codes "s")))
 
 -- a text and a count behind it, unless that is 0
 abbrev pub with_count : List ℕ → ℕ → List ℕ → List ℕ
 with_count text count word = cond (count == 0) text
-    (cond (length text == 0) (count_words count word) (text ++ (codes ", " ++ count_words count word)))
+    (cond (length text == 0) (count_text count word) (text ++ (codes ", " ++ count_text count word)))
 
 abbrev pub is_level : Level → Level → Bool
 is_level Note Note = true
@@ -47,5 +48,5 @@ all_counts findings = counts (count_of findings Error) (count_of findings Warnin
 -- the last line for people
 abbrev pub summary : List Finding → ℕ → List ℕ
 summary findings files = cond (length findings == 0)
-    (codes "nothing found in " ++ (count_words files (codes "file") ++ codes "\n"))
-    (all_counts findings ++ (codes " in " ++ (count_words files (codes "file") ++ codes "\n")))
+    (codes "nothing found in " ++ (count_text files (codes "file") ++ codes "\n"))
+    (all_counts findings ++ (codes " in " ++ (count_text files (codes "file") ++ codes "\n")))

@@ -1,5 +1,5 @@
 use Rattle.smap_record.proofs.StabilityLemmas.{leads_to_itself}
-use Rattle.smap_record.proofs.source.base.Base.join.Goals as goal
+use Rattle.smap_record.proofs.source_urls.base.Base.join.Goals as goal
 
 pub returns-in-Ok-clause-itself : goal.returns-in-Ok-clause-itself
 returns-in-Ok-clause-itself c =

@@ -1,7 +1,7 @@
 use Rattle.std.proofs.Common.{ℕ, List, map, take}
 use Rattle.smap_link.specs.Table.{IsTable}
-use Rattle.smap_pick.specs.Finding.{ArePicks}
-use Rattle.smap_pick.proofs.finding.pick_all.Given as goal
+use Rattle.smap_pick.specs.Picks.{ArePicks}
+use Rattle.smap_pick.proofs.picks.pick_all.Given as goal
 
 abbrev pub invariant-loop-i : goal.invariant-loop-i
 invariant-loop-i l = (scripts : List (List ℕ)) → IsTable l.initial.table scripts

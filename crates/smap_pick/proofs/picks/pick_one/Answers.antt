@@ -1,6 +1,6 @@
 use Rattle.std.proofs.Common.{◌∙◌, ℕ, Option, ap}
-use Rattle.smap_pick.specs.Finding.{found_of}
-use Rattle.smap_pick.proofs.finding.pick_one.Goals as goal
+use Rattle.smap_pick.specs.Picks.{found_of}
+use Rattle.smap_pick.proofs.picks.pick_one.Goals as goal
 
 pub returns-clause-found : goal.returns-clause-found
 returns-clause-found c = λ scripts files t is. (

@@ -1,6 +1,6 @@
 use Rattle.std.proofs.Common.{◌≡◌, ◌∙◌, ap, sym, length, arith}
 use Rattle.smap_link.specs.CommentView.{effect_from}
-use Rattle.smap_link.proofs.comment.said_by.Goals as goal
+use Rattle.smap_link.proofs.comment.link_of_line.Goals as goal
 
 pub returns : goal.returns
 returns c =

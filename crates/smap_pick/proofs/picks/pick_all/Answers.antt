@@ -1,13 +1,14 @@
-use Rattle.std.proofs.Common.{◌≡◌, ◌∙◌, ◌<◌, ◌++◌, ◌∷◌, [], ℕ, List, Bor, ap, sym, subst, get_or, map, length, ◌≤◌, arith, rules}
+use Rattle.std.proofs.Common.{◌≡◌, ◌∙◌, ◌<◌, ◌++◌, ◌∷◌, [], ℕ, List, Bor, ap, sym, subst, get_or, map, length}
+use Rattle.std.proofs.Common.{◌≤◌, arith, rules}
 use Rattle.std.proofs.lemmas.List.{length-map, take_all}
 use Rattle.smap_link.specs.Ends.{script_path, stem}
 use Rattle.smap_link.specs.Likeness.{IsMostAlike}
 use Rattle.smap_link.specs.declared.likeness.Likeness.{Likeness}
 use Rattle.smap_link.specs.declared.likeness.Likeness.TheVariants.{Unlike}
 use Rattle.smap_link.proofs.TableLemmas.{mapped_at, read_at}
-use Rattle.smap_pick.specs.Finding.{ArePicks}
+use Rattle.smap_pick.specs.Picks.{ArePicks}
 use Rattle.smap_pick.proofs.PickLemmas.{one_more_pick}
-use Rattle.smap_pick.proofs.finding.pick_all.Goals as goal
+use Rattle.smap_pick.proofs.picks.pick_all.Goals as goal
 
 pub loop-i-preserved : goal.loop-i-preserved
 loop-i-preserved c = λ scripts given.

@@ -6,9 +6,9 @@ use Rattle.smap_link.specs.Ends.{script_path, stem}
 use Rattle.smap_link.specs.Likeness.{IsMostAlike}
 use Rattle.smap_link.specs.declared.likeness.Likeness.{Likeness}
 use Rattle.smap_link.specs.declared.likeness.Likeness.TheVariants as ends
-use Rattle.smap_pick.specs.declared.finding.Found.{Found}
-use Rattle.smap_pick.specs.declared.finding.Found.TheVariants.{Given, ByEnd, Unclear, Missing}
-use Rattle.smap_pick.specs.declared.finding.Pick.{Pick}
+use Rattle.smap_pick.specs.declared.picks.Found.{Found}
+use Rattle.smap_pick.specs.declared.picks.Found.TheVariants.{Given, ByEnd, Unclear, Missing}
+use Rattle.smap_pick.specs.declared.picks.Pick.{Pick}
 
 -- Of these scripts the one that a log means by a name: that of this very name; or else the first that is
 -- alike and has the same query; or else, if queries are ignored, the first that is alike to the name without

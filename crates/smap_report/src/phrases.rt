@@ -1,18 +1,18 @@
-//! What is said of places and numbers.
+//! Places and numbers as reports write them.
 ghost use Rattle.std.specs.Prelude.{◌≡◌, IfOk, string_bytes};
-ghost use Rattle.smap_report.specs.Words as spec;
+ghost use Rattle.smap_report.specs.Phrases as spec;
 
 use crate::findings::{Finding, Level, Point};
 use std::alloc::{AllocError, Global};
 
 /// `LINE:COLUMN` between these, or nothing where there is no place.
-pub(crate) fn place_words(
+pub(crate) fn place_text(
     alloc: Global,
     before: &str,
     point: Option<Point>,
     behind: &str,
 ) -> Result<String, AllocError>
-    ensures { IfOk result (λ t. string_bytes t ≡ spec.place_words before.now point behind.now) }
+    ensures { IfOk result (λ t. string_bytes t ≡ spec.place_text before.now point behind.now) }
 {
     let Some(point) = point else {
         return Ok(String::new(alloc));
@@ -23,8 +23,8 @@ pub(crate) fn place_words(
 }
 
 /// A number and what is counted, as `1 error` or `2 errors`.
-fn count_words(alloc: Global, count: usize, word: &str) -> Result<String, AllocError>
-    ensures { IfOk result (λ t. string_bytes t ≡ spec.count_words count word.now) }
+fn count_text(alloc: Global, count: usize, word: &str) -> Result<String, AllocError>
+    ensures { IfOk result (λ t. string_bytes t ≡ spec.count_text count word.now) }
 {
     if count == 1 {
         format!(in alloc; "{count} {word}")
@@ -40,7 +40,7 @@ fn with_count(alloc: Global, text: String, count: usize, word: &str) -> Result<S
     if count == 0 {
         return Ok(text);
     }
-    let words = count_words(alloc, count, word)?;
+    let words = count_text(alloc, count, word)?;
     if text.is_empty() {
         return Ok(words);
     }
@@ -58,7 +58,7 @@ fn count_of(findings: &[Finding], level: Level) -> usize
 }
 
 /// How many there are of each level, as `2 errors, 1 note`; nothing where there is none.
-#[tactic(auto, unfolding(crate::specs::Words::counts))]
+#[tactic(auto, unfolding(crate::specs::Phrases::counts))]
 pub(crate) fn counts(
     alloc: Global,
     errors: usize,
@@ -92,7 +92,7 @@ pub(crate) fn summary(
 ) -> Result<String, AllocError>
     ensures { IfOk result (λ t. string_bytes t ≡ spec.summary findings.now files) }
 {
-    let files = count_words(alloc, files, "file")?;
+    let files = count_text(alloc, files, "file")?;
     if findings.is_empty() {
         return format!(in alloc; "nothing found in {files}\n");
     }
