@@ -1,7 +1,7 @@
 //! Why a map is refused: every kind of fault with its section, its place and its message. Whoever prints a
 //! fault adds words such as `refused: ` before the message.
 ghost use Rattle.std.specs.Prelude.{◌≡◌, ◌++◌, Some, codes};
-ghost use Rattle.smap_record.specs.MessageView.{said};
+ghost use Rattle.smap_record.specs.MessageView.{message_bytes};
 ghost use Rattle.smap_record.specs.Faults.{plain, segment_fault};
 ghost use Rattle.smap_record.specs.Messages.{fault_message, kind_message, number_message, place_message};
 ghost use Rattle.smap_record.specs.Messages.{section_message};
