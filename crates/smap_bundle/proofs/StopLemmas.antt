@@ -27,12 +27,6 @@ pub says_any : (P Q : BundleFault → Type 0) → ((found : BundleFault) → Q f
     → Says Q s
 says_any P Q f s h = says_as P Q (λ found p. f found) s h
 
--- The same of a result that may have none.
-pub if_stops : {A : Type 0} (r : Result A BundleFault) (P Q : BundleFault → Type 0)
-    → ((s : BundleFault) → P s → Q s) → IfErr r P → IfErr r Q
-if_stops (Ok x) P Q f h = tt
-if_stops (Err s) P Q f h = f s h
-
 -- one more failure, or too many bytes, after these
 blamed_after : (old mid new calls left n m : ℕ) → mid ≡ old → calls ≤ left + n → (new ≡ mid + 1)
     ⊎ ((new ≡ mid) × (left ≤ m)) → (new ≡ old + 1) ⊎ ((new ≡ old) × (calls ≤ n + m))
