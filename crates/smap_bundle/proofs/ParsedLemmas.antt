@@ -3,7 +3,7 @@ use Rattle.std.proofs.lemmas.Bool.{and_parts}
 use Rattle.std.proofs.lemmas.List.{same_from_push}
 use Rattle.std.proofs.Common.{◌≡◌, ◌≢◌, ◌∙◌, inl, inr, ℕ, ◌+◌, ◌-◌, ◌^◌, ◌<◌, ◌≤◌, Bool, true}
 use Rattle.std.proofs.Common.{List, [], ◌∷◌, ◌++◌, length, min, codes, get_or, Option, Some, Err, MatchOption}
-use Rattle.std.proofs.Common.{Bor, refl, sym, arith, lit<, IsTrue, ◌↔◌, true≢false, false}
+use Rattle.std.proofs.Common.{Bor, sym, arith, lit<, IsTrue, ◌↔◌, true≢false, false}
 use Rattle.std.specs.Prelude.{IsUtf8}
 use Rattle.std.specs.Char.{digit_value, is_ascii_digit}
 use Rattle.std.specs.Int.{IsInRange}

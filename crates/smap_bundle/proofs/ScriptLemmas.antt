@@ -9,7 +9,7 @@ use Rattle.std.specs.Map.{lookup}
 use Rattle.std.proofs.lemmas.List.{map-append}
 use Rattle.indexmap.specs.IndexMap.{insert_entry}
 use Rattle.smap_record.specs.Record.{ReadMap, record_of}
-use Rattle.smap_record.specs.Scripts.{Script, script_in, scripts_in}
+use Rattle.smap_record.specs.Scripts.{script_in, scripts_in}
 use Rattle.smap_bundle.specs.Bundle.{has_script}
 use Rattle.smap_bundle.specs.Entries.{IsNew}
 use Rattle.smap_bundle.specs.Scripts.{script_of, scripts_of}
