@@ -83,60 +83,54 @@ uint32_t copied(Call call, std::string &out)
     return len ? call(&out[0], len, &len) : code;
 }
 
+/* The same of a call on a map. */
+template <typename Call, typename... Which>
+uint32_t copied_of(Map &map, std::string &out, Call call, Which... which)
+{
+    smap_map *handle = map.handle();
+    return copied([=](char *at, size_t n, size_t *len) { return call(handle, which..., at, n, len); }, out);
+}
+
 /* The name of the generated file. */
 inline uint32_t file(Map &map, std::string &out)
 {
-    smap_map *handle = map.handle();
-    return copied([=](char *at, size_t n, size_t *len) { return smap_file(handle, at, n, len); }, out);
+    return copied_of(map, out, smap_file);
 }
 
 /* The name of the mapping that a generated position falls to. */
 inline uint32_t name_at(Map &map, uint32_t line, uint32_t column, std::string &out)
 {
-    smap_map *handle = map.handle();
-    return copied(
-        [=](char *at, size_t n, size_t *len) { return smap_name_at(handle, line, column, at, n, len); }, out);
+    return copied_of(map, out, smap_name_at, line, column);
 }
 
 /* The URL of a source. */
 inline uint32_t source_url(Map &map, size_t source, std::string &out)
 {
-    smap_map *handle = map.handle();
-    return copied(
-        [=](char *at, size_t n, size_t *len) { return smap_source_url(handle, source, at, n, len); }, out);
+    return copied_of(map, out, smap_source_url, source);
 }
 
 /* The text of a source. */
 inline uint32_t source_content(Map &map, size_t source, std::string &out)
 {
-    smap_map *handle = map.handle();
-    return copied(
-        [=](char *at, size_t n, size_t *len) { return smap_source_content(handle, source, at, n, len); },
-        out);
+    return copied_of(map, out, smap_source_content, source);
 }
 
 /* The i-th source that the map lists, as its text writes it. */
 inline uint32_t written_source(Map &map, size_t i, std::string &out)
 {
-    smap_map *handle = map.handle();
-    return copied(
-        [=](char *at, size_t n, size_t *len) { return smap_written_source(handle, i, at, n, len); }, out);
+    return copied_of(map, out, smap_written_source, i);
 }
 
 /* The `sourceRoot` that applies to it. */
 inline uint32_t written_root(Map &map, size_t i, std::string &out)
 {
-    smap_map *handle = map.handle();
-    return copied(
-        [=](char *at, size_t n, size_t *len) { return smap_written_root(handle, i, at, n, len); }, out);
+    return copied_of(map, out, smap_written_root, i);
 }
 
 /* The i-th name that the map lists. */
 inline uint32_t listed_name(Map &map, size_t i, std::string &out)
 {
-    smap_map *handle = map.handle();
-    return copied(
-        [=](char *at, size_t n, size_t *len) { return smap_listed_name(handle, i, at, n, len); }, out);
+    return copied_of(map, out, smap_listed_name, i);
 }
 
 /* Adds a script, as smap_add_script does. The map may be closed afterwards. */

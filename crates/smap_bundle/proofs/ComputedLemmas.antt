@@ -41,6 +41,12 @@ cut_there b (x ∷ xs) rest free =
     let parts = or_parts (x == b) (list_any (λ c. c == b) xs) (not-true _ free) in
     rw (parts.0, cut_there b xs rest (not_from_false _ parts.1)) refl
 
+-- Two texts that are cut at the first place of a byte are cut alike.
+pub one_cut : (c : ℕ) (a b xs ys : List ℕ) → lacks c a ≡ true → lacks c b ≡ true → a ++ c ∷ xs ≡ b ++ c ∷ ys
+    → (a ≡ b) × (xs ≡ ys)
+one_cut c a b xs ys free other same =
+    same_parts a b xs ys (sym (cut_there c a xs free) ∙ ap (cut c) same ∙ cut_there c b ys other)
+
 abbrev CutAt : ℕ → List ℕ → List ℕ × List ℕ → Type 0
 CutAt b text c = (text ≡ c.0 ++ b ∷ c.1) × (lacks b c.0 ≡ true)
 

@@ -39,9 +39,9 @@ use Rattle.smap_bundle.specs.Bundle.{map_read, or_fault, refuse_if, sized, usual
 use Rattle.smap_bundle.specs.Entries.{IsFaultAt, IsNew, TakesEntry, TakesMap, refusal}
 use Rattle.smap_bundle.specs.Reach.{EndsWithinEntry, IsWithinEntry, IsWithinMap, ReadsNoMore}
 use Rattle.smap_bundle.specs.Reading.{IsLine, MayFollow}
-use Rattle.smap_bundle.proofs.TextLemmas.{lacks_rest, no_end_within, one_cut}
+use Rattle.smap_bundle.proofs.TextLemmas.{lacks_rest, no_end_within}
 use Rattle.smap_bundle.proofs.HeaderLemmas.{begun, inside, inside_lacks, line_is, no_header_of_trace}
-use Rattle.smap_bundle.proofs.ComputedLemmas.{after_is, header_is, header_there}
+use Rattle.smap_bundle.proofs.ComputedLemmas.{after_is, header_is, header_there, one_cut}
 
 -- ---- the map of an entry
 

@@ -1,18 +1,19 @@
 -- What the parts of a header say of the line.
 use Rattle.std.proofs.lemmas.Bool.{and_parts}
 use Rattle.std.proofs.lemmas.List.{same_from_push}
-use Rattle.std.proofs.Common.{◌≡◌, ◌≢◌, ◌∙◌, inl, inr, ℕ, zero, suc, ◌+◌, ◌-◌, ◌^◌, ◌<◌, ◌≤◌, Bool, true}
+use Rattle.std.proofs.Common.{◌≡◌, ◌≢◌, ◌∙◌, inl, inr, ℕ, ◌+◌, ◌-◌, ◌^◌, ◌<◌, ◌≤◌, Bool, true}
 use Rattle.std.proofs.Common.{List, [], ◌∷◌, ◌++◌, length, min, codes, get_or, Option, Some, Err, MatchOption}
 use Rattle.std.proofs.Common.{Bor, sym, arith, lit<, IsTrue, ◌↔◌, true≢false, false}
 use Rattle.std.specs.Prelude.{IsUtf8}
 use Rattle.std.specs.Char.{digit_value, is_ascii_digit}
 use Rattle.std.specs.Int.{IsInRange}
 use Rattle.std.specs.List.{list_all}
-use Rattle.std.specs.Str.{IsAscii}
 use Rattle.std.specs.Str.Parse.{AllDigits, ParsesUnsigned}
 use Rattle.std.proofs.lemmas.Bool.{cases_lt, leb-true}
 use Rattle.std.proofs.lemmas.List.{append_cancel_left}
 use Rattle.std.proofs.lemmas.Str.{IsUtf8-append, IsUtf8-from_ascii, digit_value_digit}
+use Rattle.std.proofs.lemmas.Fmt.{IsAscii-from_digits}
+use Rattle.std.proofs.lemmas.Str.Ascii.{IsAscii-cons, IsAscii-nil}
 use Rattle.std.proofs.lemmas.Str.Parse.{without_leading_plus_none}
 use Rattle.std.proofs.lemmas.Str.Pattern.{IsSplitOnceResult, split_after, split_parts}
 use Rattle.smap_record.specs.Scripts.{lacks}
@@ -32,13 +33,6 @@ digits_are (d ∷ ds) h =
     let range = digit_is d parts.0 in
     let value : digit_value d + 48 ≡ d = digit_value_digit d range in
     (omega (arith, value, range.1), digits_are ds parts.1)
-
-digits_ascii : (ds : List ℕ) → list_all is_ascii_digit ds ≡ true → IsAscii ds
-digits_ascii [] h i = omega arith
-digits_ascii (d ∷ ds) h zero = let range =
-    digit_is d (and_parts (is_ascii_digit d) (list_all is_ascii_digit ds) h).0 in omega (arith, range.1)
-digits_ascii (d ∷ ds) h (suc i) =
-    digits_ascii ds (and_parts (is_ascii_digit d) (list_all is_ascii_digit ds) h).1 i
 
 no_plus : (text : List ℕ) (n : ℕ) → IsNumber text n → get_or text 0 0 ≢ 43
 no_plus [] n is e = omega (arith, is.some)
@@ -61,15 +55,11 @@ too_large text n e is p = elim (cases_lt n (2 ^ 64)) [
 words_utf8 : (line script base : List ℕ) (n : ℕ) (h : IsHeader line script base n)
     → IsUtf8 (words script base h.digits)
 words_utf8 line script base n h =
-    let space = IsUtf8-from_ascii (codes " ") digits_space in
+    let space = IsUtf8-from_ascii (codes " ") (IsAscii-cons 32 [] (lit< tt) IsAscii-nil) in
     IsUtf8-append script _ h.script_word.utf8 (IsUtf8-append (codes " ") _ space
     (IsUtf8-append base _ h.base_word.utf8
     (IsUtf8-append (codes " ") _ space
-    (IsUtf8-from_ascii h.digits (digits_ascii h.digits h.number.digits)))))
-  where
-    digits_space : IsAscii (codes " ")
-    digits_space zero = omega arith
-    digits_space (suc i) = omega arith
+    (IsUtf8-from_ascii h.digits (IsAscii-from_digits h.digits (digits_are h.digits h.number.digits))))))
 
 -- no words, no header
 pub no_words : (line script base : List ℕ) (n : ℕ)

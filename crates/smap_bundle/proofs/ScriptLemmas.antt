@@ -2,44 +2,26 @@
 use Rattle.std.proofs.lemmas.Bool.{or_parts, cases_Bool}
 use Rattle.std.proofs.Common.{inl, inr}
 use Rattle.smap_record.proofs.ListLemmas.{take_next}
-use Rattle.std.proofs.Common.{◌≡◌, ◌∙◌, ℕ, ◌+◌, true, false, List, []}
-use Rattle.std.proofs.Common.{◌∷◌, ◌++◌, map, take, Bor, String, Some, refl, sym, bytes_eq}
+use Rattle.std.proofs.Common.{◌≡◌, ℕ, ◌+◌, List, [], ◌∷◌, ◌++◌, take, Bor, String, Some, refl, bytes_eq}
 use Rattle.std.proofs.Common.{string_bytes}
 use Rattle.std.specs.Prelude.{is_some, slice_get}
-use Rattle.std.specs.List.{list_any}
 use Rattle.std.specs.Map.{lookup}
 use Rattle.std.proofs.lemmas.List.{map-append}
 use Rattle.indexmap.specs.IndexMap.{insert_entry}
 use Rattle.smap_record.specs.Record.{ReadMap, record_of}
-use Rattle.smap_record.specs.Scripts.{Script, script_in, scripts_in}
+use Rattle.smap_record.specs.Scripts.{script_in, scripts_in}
 use Rattle.smap_bundle.specs.Bundle.{has_script}
 use Rattle.smap_bundle.specs.Entries.{IsNew}
 use Rattle.smap_bundle.specs.Scripts.{script_of, scripts_of}
 
-abbrev pub urls : List Script → List (List ℕ)
-urls ss = map (λ (s : Script). s.0) ss
-
--- what the table finds
+-- whether the table has a URL
 pub found_in : {A : Type 0} (q : List ℕ) (es : List (String A × ReadMap))
-    → is_some (lookup (λ (k : String A). bytes_eq q (string_bytes k)) es) ≡ list_any (bytes_eq q)
-    (urls (scripts_of es))
+    → has_script (scripts_of es) q ≡ is_some (lookup (λ (k : String A). bytes_eq q (string_bytes k)) es)
 found_in q [] = refl
 found_in q (e ∷ es) = elim (cases_Bool (bytes_eq q (string_bytes e.0))) [
   | inl is ↦ rw is refl
   | inr is ↦ rw is (found_in q es)
 ]
-
--- the table has the URL
-pub is_known : {A : Type 0} (q : List ℕ) (es : List (String A × ReadMap))
-    → is_some (lookup (λ (k : String A). bytes_eq q (string_bytes k)) es) ≡ true
-    → has_script (scripts_of es) q ≡ true
-is_known q es h = sym (found_in q es) ∙ h
-
--- the table lacks the URL
-pub is_unknown : {A : Type 0} (q : List ℕ) (es : List (String A × ReadMap))
-    → is_some (lookup (λ (k : String A). bytes_eq q (string_bytes k)) es) ≡ false
-    → IsNew (scripts_of es) q
-is_unknown q es h = sym (found_in q es) ∙ h
 
 -- a script whose URL is new goes last
 pub insert_new : {A : Type 0} (k : String A) (v : ReadMap) (es : List (String A × ReadMap))
@@ -49,7 +31,7 @@ pub insert_new : {A : Type 0} (k : String A) (v : ReadMap) (es : List (String A 
 insert_new k v [] new = refl
 insert_new k v (e ∷ es) new =
     let parts = or_parts (bytes_eq (string_bytes k) (string_bytes e.0))
-    (list_any (bytes_eq (string_bytes k)) (urls (scripts_of es))) new in
+    (has_script (scripts_of es) (string_bytes k)) new in
     rw (parts.0, insert_new k v es parts.1) refl
 
 -- ---- the pairs of URL and map

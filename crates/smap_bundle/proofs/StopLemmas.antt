@@ -1,6 +1,6 @@
 -- Reading stops after what was read before.
-use Rattle.std.proofs.Common.{◌≡◌, ◌∙◌, ◌⊎◌, inl, inr, ℕ, ◌+◌, ◌≤◌, List, ◌++◌, length, Option, Result}
-use Rattle.std.proofs.Common.{Ok, Err, IfErr, refl, sym, subst, append_assoc, length-append}
+use Rattle.std.proofs.Common.{◌≡◌, ◌∙◌, ◌⊎◌, inl, inr, ℕ, ◌+◌, ◌≤◌, List, ◌++◌, length, Option}
+use Rattle.std.proofs.Common.{refl, sym, subst, append_assoc, length-append}
 use Rattle.std.proofs.Common.{arith}
 use Rattle.smap_io.specs.declared.device.Device.{Device}
 use Rattle.smap_io.specs.Device.{device_failures, has_ended}
@@ -26,12 +26,6 @@ says_as P Q f fault.Read h = absurd h
 pub says_any : (P Q : BundleFault → Type 0) → ((found : BundleFault) → Q found) → (s : BundleFault) → Says P s
     → Says Q s
 says_any P Q f s h = says_as P Q (λ found p. f found) s h
-
--- The same of a result that may have none.
-pub if_stops : {A : Type 0} (r : Result A BundleFault) (P Q : BundleFault → Type 0)
-    → ((s : BundleFault) → P s → Q s) → IfErr r P → IfErr r Q
-if_stops (Ok x) P Q f h = tt
-if_stops (Err s) P Q f h = f s h
 
 -- one more failure, or too many bytes, after these
 blamed_after : (old mid new calls left n m : ℕ) → mid ≡ old → calls ≤ left + n → (new ≡ mid + 1)

@@ -6,7 +6,7 @@ use Rattle.std.proofs.Math.ListN.{get_or-append}
 use Rattle.std.proofs.Math.Seq.{get_or-append_seam}
 use Rattle.std.proofs.Common.{append_assoc}
 use Rattle.std.proofs.Common.{◌≡◌, ◌≢◌, ◌∙◌, ℕ, ◌<◌, ◌≤◌, ◌==◌, true, false, not}
-use Rattle.std.proofs.Common.{List, [], ◌∷◌, ◌++◌, length, get_or, refl, sym, ap, arith}
+use Rattle.std.proofs.Common.{List, [], ◌∷◌, ◌++◌, length, get_or, sym, ap, arith}
 use Rattle.std.proofs.Common.{length-append}
 use Rattle.std.proofs.lemmas.Bool.Decides.{Decides-eqb}
 use Rattle.std.proofs.lemmas.List.Folds.{list_any-append, list_any_at}
@@ -35,17 +35,6 @@ pub lacks_rest : (c : ℕ) (xs ys : List ℕ) → lacks c (xs ++ ys) ≡ true �
 lacks_rest c xs ys h = grind (arith, list_any-append (λ b. b == c) xs ys)
 
 -- ---- cuts
-
--- Two texts that are cut at the first place of a byte are cut alike.
-pub one_cut : (c : ℕ) (a b xs ys : List ℕ) → lacks c a ≡ true → lacks c b ≡ true → a ++ c ∷ xs ≡ b ++ c ∷ ys
-    → (a ≡ b) × (xs ≡ ys)
-one_cut c [] [] xs ys free other same = (refl, cc)
-one_cut c [] (y ∷ b) xs ys free other same = absurd (lacks_at c (y ∷ b) other 0 (omega arith) cc)
-one_cut c (x ∷ a) [] xs ys free other same = absurd (lacks_at c (x ∷ a) free 0 (omega arith) cc)
-one_cut c (x ∷ a) (y ∷ b) xs ys free other same =
-    let first : x ≡ y = cc in
-    let cut = one_cut c a b xs ys (lacks_rest c (x ∷ []) a free) (lacks_rest c (y ∷ []) b other) cc in
-    (rw (first, cut.0) refl, cut.1)
 
 -- No line ends within a text that has no line feed.
 pub no_end_within : (line more front rest : List ℕ) → lacks 10 line ≡ true

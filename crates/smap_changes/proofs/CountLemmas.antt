@@ -1,15 +1,15 @@
 -- Tables of how often texts stand in a list.
-use Rattle.std.proofs.Common.{◌≡◌, ◌∙◌, ◌+◌, ◌-◌, ◌^◌, ◌<◌, ◌≤◌, ◌==◌, ◌&&◌, ℕ, zero, suc, Bool, true, false}
-use Rattle.std.proofs.Common.{cond, Bor, List, [], ◌∷◌, ◌++◌}
+use Rattle.std.proofs.Common.{◌≡◌, ◌∙◌, ◌+◌, ◌-◌, ◌^◌, ◌<◌, ◌≤◌, ◌==◌, ◌&&◌, ℕ, zero, suc, Bool}
+use Rattle.std.proofs.Common.{cond, Bor, inl, inr, List, [], ◌∷◌, ◌++◌}
 use Rattle.std.proofs.Common.{Option, Some, None, ap, append-nil, arith, drop, fold, get_or, length, map}
 use Rattle.std.proofs.Common.{refl, sym, take, unwrap_or}
 use Rattle.std.specs.List.{filter, list_all, slice_range}
 use Rattle.std.specs.Map.{keys_of, lookup}
 use Rattle.std.specs.Str.{bytes_eq}
-use Rattle.std.proofs.lemmas.List.{append_assoc, drop_more, length-drop, length-map, take_more}
+use Rattle.std.proofs.lemmas.List.{append_assoc, drop_more, length-drop}
 use Rattle.std.proofs.lemmas.List.Elements.{filter_agree}
-use Rattle.std.proofs.lemmas.List.Sums.{fold-append}
-use Rattle.std.proofs.lemmas.Grind.{flat_map-append}
+use Rattle.std.proofs.lemmas.List.Sums.{count_by-le-length, fold-append, length-filter}
+use Rattle.std.proofs.lemmas.Bool.{cases_Bool}
 use Rattle.std.proofs.lemmas.Slice.Eq.{bytes_eq-Decides}
 use Rattle.indexmap.specs.IndexMap.{insert_entry}
 use Rattle.indexmap.specs.IndexSet.{insert_all, insert_key}
@@ -23,20 +23,17 @@ use Rattle.smap_changes.specs.Changes.{are_reordered, is_none, texts_change, tex
 use Rattle.smap_changes.specs.Counts.{Row, counted, fewer_in, is_fewer, keys, missing_in, rows_of, table_of}
 use Rattle.smap_changes.specs.Counts.{times}
 use Rattle.smap_changes.specs.Lists.{is_text_or_null, count, fewer, if_any, missing, once, text_of, texts_of}
-use Rattle.smap_drops.proofs.DropLemmas.{Text, view_at}
+use Rattle.smap_drops.proofs.DropLemmas.{Text, one_more as one_more_value}
 
 -- ---- the map's words
-
-found : (b : Bool) (n : ℕ) (rest : Option ℕ) → unwrap_or (cond b (Some n) rest) 0 ≡ cond b n (unwrap_or rest 0)
-found true n rest = refl
-found false n rest = refl
 
 times_is : (text : Text) (es : List (Bor Text × ℕ))
     → unwrap_or (lookup (λ (k : Bor Text). bytes_eq text k.now) es) 0 ≡ times (rows_of es) text
 times_is text [] = refl
-times_is text (e ∷ es) =
-    found (bytes_eq text e.0.now) e.1 (lookup (λ (k : Bor Text). bytes_eq text k.now) es)
-    ∙ ap (λ n. cond (bytes_eq text e.0.now) e.1 n) (times_is text es)
+times_is text (e ∷ es) = elim (cases_Bool (bytes_eq text e.0.now)) [
+  | inl is ↦ rw is refl
+  | inr is ↦ rw is (times_is text es)
+]
 
 pub times_found : (o : Option ℕ) (text : Text) (es : List (Bor Text × ℕ))
     → o ≡ lookup (λ (k : Bor Text). bytes_eq text k.now) es → unwrap_or o 0 ≡ times (rows_of es) text
@@ -46,15 +43,13 @@ inserted : (es : List (Bor Text × ℕ)) (k : Bor Text) (n : ℕ)
     → rows_of (insert_entry (λ (a b : Bor Text). bytes_eq a.now b.now) es k n)
     ≡ insert_entry bytes_eq (rows_of es) k.now n
 inserted [] k n = refl
-inserted (e ∷ es) k n =
-    either (bytes_eq k.now e.0.now) ((e.0, n) ∷ es) (e ∷ insert_entry (λ (a b : Bor Text). bytes_eq a.now b.now) es k n)
-    ∙ ap (λ rs. cond (bytes_eq k.now e.0.now) ((e.0.now, n) ∷ rows_of es) ((e.0.now, e.1) ∷ rs)) (inserted es k n)
-  where
-    either : (b : Bool) (xs ys : List (Bor Text × ℕ)) → rows_of (cond b xs ys) ≡ cond b (rows_of xs) (rows_of ys)
-    either true xs ys = refl
-    either false xs ys = refl
+inserted (e ∷ es) k n = elim (cases_Bool (bytes_eq k.now e.0.now)) [
+  | inl is ↦ rw is refl
+  | inr is ↦ rw (is, inserted es k n) refl
+]
 
-pub one_more : (es new : List (Bor Text × ℕ)) (k : Bor Text) (n m : ℕ) → n ≡ times (rows_of es) k.now → m ≡ n + 1
+pub one_more : (es new : List (Bor Text × ℕ)) (k : Bor Text) (n m : ℕ)
+    → n ≡ times (rows_of es) k.now → m ≡ n + 1
     → new ≡ insert_entry (λ (a b : Bor Text). bytes_eq a.now b.now) es k m
     → rows_of new ≡ counted (rows_of es) k.now
 one_more es new k n m was more is =
@@ -71,7 +66,8 @@ inserted_times (r ∷ rows) t u n = one r rows t u n (inserted_times rows t u n)
     one : (r : Row) (rows : List Row) (t u : Text) (n : ℕ)
         → times (insert_entry bytes_eq rows t n) u ≡ cond (bytes_eq u t) n (times rows u)
         → times (insert_entry bytes_eq (r ∷ rows) t n) u ≡ cond (bytes_eq u t) n (times (r ∷ rows) u)
-    one r rows t u n rest = grind (arith, bytes_eq-Decides t r.0, bytes_eq-Decides u r.0, bytes_eq-Decides u t)
+    one r rows t u n rest =
+        grind (arith, bytes_eq-Decides t r.0, bytes_eq-Decides u r.0, bytes_eq-Decides u t)
 
 counted_times : (rows : List Row) (t u : Text) → times (counted rows t) u ≡ times rows u + count (t ∷ []) u
 counted_times rows t u = rw (inserted_times rows t u (times rows t + 1)) (grind (arith, bytes_eq-Decides u t))
@@ -79,7 +75,8 @@ counted_times rows t u = rw (inserted_times rows t u (times rows t + 1)) (grind 
 count_more : (t : Text) (ts : List Text) (u : Text) → count (t ∷ ts) u ≡ count (t ∷ []) u + count ts u
 count_more t ts u = grind arith
 
-times_all : (rows : List Row) (ts : List Text) (u : Text) → times (fold counted rows ts) u ≡ times rows u + count ts u
+times_all : (rows : List Row) (ts : List Text) (u : Text)
+    → times (fold counted rows ts) u ≡ times rows u + count ts u
 times_all rows [] u = omega arith
 times_all rows (t ∷ ts) u =
     times_all (counted rows t) ts u ∙ ap (λ n. n + count ts u) (counted_times rows t u)
@@ -95,7 +92,8 @@ inserted_keys (r ∷ rows) t n = one r rows t n (inserted_keys rows t n)
         → keys (insert_entry bytes_eq (r ∷ rows) t n) ≡ insert_key bytes_eq (keys (r ∷ rows)) t
     one r rows t n rest = grind arith
 
-keys_all : (rows : List Row) (ts : List Text) → keys (fold counted rows ts) ≡ insert_all bytes_eq (keys rows) ts
+keys_all : (rows : List Row) (ts : List Text)
+    → keys (fold counted rows ts) ≡ insert_all bytes_eq (keys rows) ts
 keys_all rows [] = refl
 keys_all rows (t ∷ ts) =
     keys_all (counted rows t) ts
@@ -127,39 +125,21 @@ keys_are ks es is = ap (map (λ (k : Bor Text). k.now)) is ∙ texts_are es
 
 -- ---- texts of entries
 
-texts_more : (entries : List Value) (i : ℕ) (x : Value) → i < length entries → x ≡ get_or entries i x
-    → texts_of (take (i + 1) (map view entries)) ≡ texts_of (take i (map view entries)) ++ text_of (view x)
-texts_more entries i x lt at =
-    let inside : i < length (map view entries) = simp length-map (omega (arith, lt)) in
-    ap texts_of (take_more (map view entries) i (view x) inside)
-    ∙ flat_map-append text_of (take i (map view entries)) (get_or (map view entries) i (view x) ∷ [])
-    ∙ ap (λ (ts : List Text). texts_of (take i (map view entries)) ++ ts)
-    (ap (λ d. texts_of (d ∷ [])) (sym (ap view at ∙ view_at entries i x (view x) lt)) ∙ append-nil (text_of (view x)))
-
 pub no_text : (entries : List Value) (i : ℕ) (x : Value) (rows : List Row) → i < length entries
     → x ≡ get_or entries i x → None ≡ as_str (view x)
     → rows ≡ table_of (texts_of (take i (map view entries)))
     → rows ≡ table_of (texts_of (take (i + 1) (map view entries)))
 no_text entries i x rows lt at none so_far =
-    so_far
-    ∙ ap table_of (sym (append-nil (texts_of (take i (map view entries))))
-    ∙ ap (λ o. texts_of (take i (map view entries)) ++ if_any o) none ∙ sym (texts_more entries i x lt at))
+    rw (so_far, one_more_value text_of entries i x lt at, ← none)
+    (ap table_of (sym (append-nil (texts_of (take i (map view entries))))))
 
 pub a_text : (entries : List Value) (i : ℕ) (x : Value) (t : Text) (old new : List Row) → i < length entries
     → x ≡ get_or entries i x → Some t ≡ as_str (view x)
     → old ≡ table_of (texts_of (take i (map view entries))) → new ≡ counted old t
     → new ≡ table_of (texts_of (take (i + 1) (map view entries)))
 a_text entries i x t old new lt at is so_far more =
-    let before = texts_of (take i (map view entries)) in
-    more ∙ ap (λ rows. counted rows t) so_far ∙ sym (fold-append counted [] before (t ∷ []))
-    ∙ ap table_of (ap (λ o. before ++ if_any o) is ∙ sym (texts_more entries i x lt at))
-
-count_most : (ts : List Text) (u : Text) → count ts u ≤ length ts
-count_most [] u = omega arith
-count_most (t ∷ ts) u = one t ts u (count_most ts u)
-  where
-    one : (t : Text) (ts : List Text) (u : Text) → count ts u ≤ length ts → count (t ∷ ts) u ≤ length (t ∷ ts)
-    one t ts u le = grind arith
+    rw (more, so_far, one_more_value text_of entries i x lt at, ← is)
+    (sym (fold-append counted [] (texts_of (take i (map view entries))) (t ∷ [])))
 
 few_texts : (ds : List Data) (i : ℕ) → length (texts_of (take i ds)) ≤ i
 few_texts [] zero = omega arith
@@ -175,7 +155,10 @@ pub fits : (ds : List Data) (i n : ℕ) (t : Text) (rows : List Row) → rows �
     → i < n → n < 2 ^ 64 → times rows t + 1 < 2 ^ 64
 fits ds i n t rows is lt most =
     let all = ap (λ (rs : List Row). times rs t) is ∙ times_of (texts_of (take i ds)) t in
-    omega (arith, all, count_most (texts_of (take i ds)) t, few_texts ds i, lt, most)
+    let few : count (texts_of (take i ds)) t ≤ length (texts_of (take i ds)) =
+    rw (length-filter (bytes_eq t) (texts_of (take i ds)))
+    (count_by-le-length (bytes_eq t) (texts_of (take i ds))) in
+    omega (arith, all, few, few_texts ds i, lt, most)
 
 -- ---- two lists
 
@@ -203,7 +186,8 @@ told_by as_long reordered before now olds news old new is =
 
 -- ---- digits
 
-pub grouped_more : (old new digit digits : Text) (i : ℕ) → i < length digits → digit ≡ slice_range digits i (i + 1)
+pub grouped_more : (old new digit digits : Text) (i : ℕ) → i < length digits
+    → digit ≡ slice_range digits i (i + 1)
     → new ≡ old ++ (digit ++ separator (length digits - i - 1))
     → old ++ grouped (drop i digits) ≡ grouped digits → new ++ grouped (drop (i + 1) digits) ≡ grouped digits
 grouped_more old new digit digits i lt is more so_far =

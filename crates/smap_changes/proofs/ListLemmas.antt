@@ -1,14 +1,14 @@
 -- Entries as a list, and texts that are told.
 use Rattle.std.proofs.Common.{◌≡◌, ◌∙◌, ◌≤◌, ℕ, Bor, List, [], ◌∷◌, ◌++◌}
-use Rattle.std.proofs.Common.{Option, Some, ap, length, map, refl, sym, take}
+use Rattle.std.proofs.Common.{Some, ap, length, map, refl, sym, take}
 use Rattle.std.specs.List.{flat_map}
 use Rattle.std.proofs.lemmas.List.{length-map, take_all}
-use Rattle.serde_json.specs.Data.{Data, Items}
-use Rattle.serde_json.specs.Find.{as_array, as_str}
+use Rattle.serde_json.specs.Data.{Data}
+use Rattle.serde_json.specs.Find.{as_array}
 use Rattle.serde_json.specs.View.{items_view, view}
 use Rattle.serde_json.specs.declared.value.Value.{Value}
-use Rattle.smap_changes.specs.Changes.{array_change, if_arrays, other_change, value_change}
-use Rattle.smap_changes.specs.Showing.{entries_size, size, size_if}
+use Rattle.smap_changes.specs.Changes.{array_change, value_change}
+use Rattle.smap_changes.specs.Showing.{entries_size, size}
 use Rattle.smap_drops.specs.Drops.{items_of}
 use Rattle.smap_drops.proofs.DropLemmas.{Text, back, texts}
 
@@ -20,22 +20,18 @@ counted vs = ap length (back (map view vs)) ∙ length-map vs view
 pub sized : (d : Data) (vs ws : List Value) → vs ≡ ws → Some (items_view ws) ≡ as_array d
     → entries_size (length vs) ≡ size d
 sized d vs ws same is =
-    ap (λ (xs : List Value). entries_size (length xs)) same ∙ ap entries_size (sym (counted ws))
-    ∙ ap (λ (x : Option Items). size_if x (as_str d)) is
+    rw (same, ← is) (ap entries_size (sym (counted ws)))
 
 of_lists : (name : Text) (vs ws : List Value)
-    → array_change name (map view vs) (map view ws) ≡ array_change name (items_of (items_view vs)) (items_of (items_view ws))
+    → array_change name (map view vs) (map view ws)
+    ≡ array_change name (items_of (items_view vs)) (items_of (items_view ws))
 of_lists name vs ws = rw (back (map view vs), back (map view ws)) refl
 
 pub arrays : (name : Text) (before now : Data) (xs ys vs ws : List Value) → xs ≡ vs → ys ≡ ws
     → Some (items_view vs) ≡ as_array before → Some (items_view ws) ≡ as_array now
     → array_change name (map view xs) (map view ys) ≡ value_change name before now
 arrays name before now xs ys vs ws same_before same_now is_before is_now =
-    ap (λ (zs : List Value). array_change name (map view zs) (map view ys)) same_before
-    ∙ ap (λ (zs : List Value). array_change name (map view vs) (map view zs)) same_now
-    ∙ of_lists name vs ws
-    ∙ ap (λ (x : Option Items). if_arrays name x (Some (items_view ws)) (other_change name before now)) is_before
-    ∙ ap (λ (x : Option Items). if_arrays name (as_array before) x (other_change name before now)) is_now
+    rw (same_before, same_now, ← is_before, ← is_now) (of_lists name vs ws)
 
 -- ---- texts that are told
 

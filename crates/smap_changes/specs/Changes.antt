@@ -57,8 +57,8 @@ abbrev pub texts_told : Bool → Bool → List (List ℕ) → List (List ℕ) �
 texts_told is_as_long are_reordered before now =
     texts_change is_as_long are_reordered (fewer now before) (missing now before) (missing before now)
 
--- None stands there more often now, and what isn't a text is null. So these are the same entries in another order
--- where there are as many, and none is merged, gone or new.
+-- None stands there more often now, and what isn't a text is null. So these are the same entries in another
+-- order where there are as many, and none is merged, gone or new.
 abbrev pub are_reordered : List Data → List Data → Bool
 are_reordered before now = is_none (fewer (texts_of before) (texts_of now))
     && (list_all is_text_or_null before && list_all is_text_or_null now)
@@ -77,8 +77,8 @@ array_change name before now = cond (is_list_of_texts name) (list_change before 
     (entry_counts (length before) (length now) ++ codes ", other ones")
 
 abbrev pub string_change : List ℕ → List ℕ → List ℕ → List ℕ
-string_change name before now = cond (bytes_eq name (codes "mappings")) (byte_counts (length before) (length now))
-    (text_change before now)
+string_change name before now = cond (bytes_eq name (codes "mappings"))
+    (byte_counts (length before) (length now)) (text_change before now)
 
 abbrev pub if_arrays : List ℕ → Option Items → Option Items → List ℕ → List ℕ
 if_arrays name None o else_this = else_this

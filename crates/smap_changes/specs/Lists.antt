@@ -38,4 +38,5 @@ missing others texts = filter (λ t. count others t == 0) (once texts)
 
 -- the texts that are among others, but less often, each once
 abbrev pub fewer : List (List ℕ) → List (List ℕ) → List (List ℕ)
-fewer others texts = filter (λ t. nat_lt 0 (count others t) && nat_lt (count others t) (count texts t)) (once texts)
+fewer others texts =
+    filter (λ t. nat_lt 0 (count others t) && nat_lt (count others t) (count texts t)) (once texts)

@@ -53,11 +53,13 @@ byte_count n = count_text n ++ (codes " " ++ bytes_word n)
 
 -- so many bytes before, and so many now
 abbrev pub byte_counts : ℕ → ℕ → List ℕ
-byte_counts m n = cond (m == n) (byte_count n ++ codes ", other ones") (count_text m ++ (codes " to " ++ byte_count n))
+byte_counts m n = cond (m == n) (byte_count n ++ codes ", other ones")
+    (count_text m ++ (codes " to " ++ byte_count n))
 
 -- how a text becomes another: both, where they are short, and else their lengths
 abbrev pub text_change : List ℕ → List ℕ → List ℕ
-text_change before now = cond (is_short before && is_short now) (quoted before ++ (codes " to " ++ quoted now))
+text_change before now = cond (is_short before && is_short now)
+    (quoted before ++ (codes " to " ++ quoted now))
     (byte_counts (length before) (length now))
 
 abbrev pub behind_comma : List ℕ → List ℕ

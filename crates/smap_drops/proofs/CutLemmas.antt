@@ -22,7 +22,8 @@ pub last : (text : List ℕ) (n r : ℕ) → r ≤ n → IsCharBoundary text r
 unfolding last_boundary
 last text zero r le is none = omega (arith, le)
 last text (suc n) r le is none =
-    go (is_boundary text (suc n)) refl (λ below. last text n r below is (λ i lt most. none i lt (omega (arith, most))))
+    go (is_boundary text (suc n)) refl
+    (λ below. last text n r below is (λ i lt most. none i lt (omega (arith, most))))
   where
     go : (b : Bool) → is_boundary text (suc n) ≡ b → (r ≤ n → r ≡ last_boundary text n)
         → r ≡ last_boundary text (suc n)

@@ -1,6 +1,6 @@
 -- How a member's name is shown.
-use Rattle.std.specs.Prelude.{ℕ, zero, suc, ◌-◌, ◌&&◌, ◌||◌, Bool, cond, List, length, nat_le, nat_lt, slice_index}
-use Rattle.std.specs.Prelude.{slice_range, take}
+use Rattle.std.specs.Prelude.{ℕ, zero, suc, ◌-◌, ◌&&◌, ◌||◌, Bool, cond, List, length, nat_le, nat_lt}
+use Rattle.std.specs.Prelude.{slice_index, slice_range, take}
 use Rattle.serde_json.specs.Data.{string}
 use Rattle.serde_json.specs.Written.{compact_text}
 

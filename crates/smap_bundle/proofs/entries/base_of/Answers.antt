@@ -6,7 +6,7 @@ use Rattle.smap_bundle.specs.Bundle.{entry_with}
 use Rattle.smap_bundle.specs.Entries.{refusal}
 use Rattle.smap_bundle.specs.Scripts.{script_of, scripts_of}
 use Rattle.smap_bundle.proofs.EntryLemmas.{no_base, refused_at, repeated}
-use Rattle.smap_bundle.proofs.ScriptLemmas.{is_known, is_unknown}
+use Rattle.smap_bundle.proofs.ScriptLemmas.{found_in}
 use Rattle.smap_bundle.proofs.StopLemmas.{says_as}
 use Rattle.smap_bundle.proofs.entries.base_of.Goals as goal
 
@@ -17,16 +17,16 @@ returns-then-contains_key-clause-stops c = λ n more e.
     let base = c.args.header.now.base.now in
     let fits : n ≤ longest_input = omega (arith, e) in
     let at = c.len.ensures.len ∙ sym (length-map c.args.scripts.now.entries script_of) in
-    let known = is_known script c.args.scripts.now.entries (sym c.contains_key.ensures
-    ∙ c.if-contains_key.true) in
+    let known = found_in script c.args.scripts.now.entries ∙ sym c.contains_key.ensures
+    ∙ c.if-contains_key.true in
     says_as (λ found. found ≡ refusal c.len.result wrong.Repeated)
     (λ found. entry_with seen (record { script = script; base = base; bytes = n }) more ≡ Err found)
     (λ found is. refused_at seen c.len.result wrong.Repeated found at is
     (repeated seen script base n more fits known)) c.refused.result c.refused.ensures
 
 pub returns-in-Ok-clause-new : goal.returns-in-Ok-clause-new
-returns-in-Ok-clause-new c = is_unknown c.args.header.now.script.now c.args.scripts.now.entries
-    (sym c.contains_key.ensures ∙ c.if-contains_key.false)
+returns-in-Ok-clause-new c = found_in c.args.header.now.script.now c.args.scripts.now.entries
+    ∙ sym c.contains_key.ensures ∙ c.if-contains_key.false
 
 pub returns-in-Err-NotUrl-clause-stops : goal.returns-in-Err-NotUrl-clause-stops
 returns-in-Err-NotUrl-clause-stops c = λ n more e.
@@ -35,8 +35,8 @@ returns-in-Err-NotUrl-clause-stops c = λ n more e.
     let base = c.args.header.now.base.now in
     let fits : n ≤ longest_input = omega (arith, e) in
     let at = c.len-in-Err-NotUrl.ensures.len ∙ sym (length-map c.args.scripts.now.entries script_of) in
-    let new = is_unknown script c.args.scripts.now.entries (sym c.contains_key.ensures
-    ∙ c.if-contains_key.false) in
+    let new = found_in script c.args.scripts.now.entries ∙ sym c.contains_key.ensures
+    ∙ c.if-contains_key.false in
     let bad = rw c.in-Err-NotUrl.field-0-is at c.in-Err-NotUrl.ensures in
     says_as (λ found. found ≡ refusal c.len-in-Err-NotUrl.result wrong.Base)
     (λ found. entry_with seen (record { script = script; base = base; bytes = n }) more ≡ Err found)

@@ -10,7 +10,8 @@ use Rattle.smap_bundle.specs.Reach.{IsWithinEntry, IsWithinMap}
 use Rattle.smap_bundle.specs.Scripts.{script_of, scripts_of}
 use Rattle.smap_bundle.specs.Stopping.{Stops}
 use Rattle.smap_bundle.proofs.EntryLemmas.{entry_taken, fault_of_entry, no_entry}
-use Rattle.smap_bundle.proofs.StopLemmas.{if_stops, refusal_stops, stops_after}
+use Rattle.smap_bundle.proofs.StopLemmas.{refusal_stops, stops_after}
+use Rattle.std.proofs.lemmas.Result.{IfErr-weaker}
 use Rattle.smap_bundle.proofs.entries.take_entry.Goals as goal
 
 pub returns-in_default-clause-stops : goal.returns-in_default-clause-stops
@@ -39,7 +40,7 @@ returns-clause-stops g c =
     let script = c.in-Some.header.script.now in
     let base = c.in-Some.header.base.now in
     let n = c.in-Some.ensures.0 in
-    if_stops c.take_map.result (Stops g.R.Read.remaining c.args.reader.now c.take_map.new.reader
+    IfErr-weaker c.take_map.result (Stops g.R.Read.remaining c.args.reader.now c.take_map.new.reader
     c.args.calls.now
     (λ more found. entry_with seen (record { script = script; base = base; bytes = n }) more ≡ Err found)
     (IsWithinMap n))

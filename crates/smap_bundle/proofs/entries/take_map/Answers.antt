@@ -16,7 +16,8 @@ use Rattle.smap_bundle.specs.Reach.{IsFaultOfMap, IsWithinMap}
 use Rattle.smap_bundle.specs.Scripts.{script_of, scripts_of}
 use Rattle.smap_bundle.specs.Stopping.{Stops}
 use Rattle.smap_bundle.proofs.EntryLemmas.{bad_map, cut_entry, is_len, refused_at, within_map}
-use Rattle.smap_bundle.proofs.StopLemmas.{if_stops, memory_stops, says_any, says_as, says_stops, stops_after}
+use Rattle.std.proofs.lemmas.Result.{IfErr-weaker}
+use Rattle.smap_bundle.proofs.StopLemmas.{memory_stops, says_any, says_as, says_stops, stops_after}
 use Rattle.smap_bundle.proofs.entries.take_map.Goals as goal
 
 -- the faults of the entry with a header
@@ -90,7 +91,7 @@ pub returns-clause-stops : goal.returns-clause-stops
 returns-clause-stops g c = λ n e.
     let fault = Faults (scripts_of c.args.scripts.now.entries) c.args.header.now.script.now
     c.args.header.now.base.now n in
-    if_stops c.add.result (λ s. s ≡ stop.Memory)
+    IfErr-weaker c.add.result (λ s. s ≡ stop.Memory)
     (Stops g.R.Read.remaining c.args.reader.now c.bytes_of.new.reader c.args.calls.now fault
     (IsWithinMap n))
     (λ s is. memory_stops g.R.Read.remaining c.args.reader.now c.bytes_of.new.reader

@@ -6,8 +6,8 @@ use Rattle.smap_changes.proofs.counting.counts_of.Goals as goal
 
 pub loop-i-preserved-in_default : goal.loop-i-preserved-in_default
 loop-i-preserved-in_default c =
-    no_text c.args.entries.now c.loop-i.i c.index-entries-i.result (rows_of c.loop-i.counts.entries) c.loop-i-test.true
-    c.index-entries-i.is c.in_default.ensures c.loop-i.invariant
+    no_text c.args.entries.now c.loop-i.i c.index-entries-i.result (rows_of c.loop-i.counts.entries)
+    c.loop-i-test.true c.index-entries-i.is c.in_default.ensures c.loop-i.invariant
 
 pub add_text-requires : goal.add_text-requires
 add_text-requires c =
@@ -17,6 +17,6 @@ add_text-requires c =
 
 pub loop-i-preserved : goal.loop-i-preserved
 loop-i-preserved c =
-    a_text c.args.entries.now c.loop-i.i c.index-entries-i.result c.in-Some.text.now (rows_of c.loop-i.counts.entries)
-    (rows_of c.add_text.new.counts.entries) c.loop-i-test.true c.index-entries-i.is c.in-Some.ensures c.loop-i.invariant
-    c.in_ok-add_text.ensures
+    a_text c.args.entries.now c.loop-i.i c.index-entries-i.result c.in-Some.text.now
+    (rows_of c.loop-i.counts.entries) (rows_of c.add_text.new.counts.entries) c.loop-i-test.true
+    c.index-entries-i.is c.in-Some.ensures c.loop-i.invariant c.in_ok-add_text.ensures

@@ -10,5 +10,6 @@ pub returns : goal.returns
 returns c =
     let all : map deref c.loop-text.yielded ≡ keys_of c.args.counts.now.entries = search (rules, iter_end) in
     c.loop-text.invariant
-    ∙ ap (filter (λ t. is_fewer (times (rows_of c.args.others.now.entries) t) (times (rows_of c.args.counts.now.entries) t)))
+    ∙ ap (filter (λ t. is_fewer (times (rows_of c.args.others.now.entries) t)
+    (times (rows_of c.args.counts.now.entries) t)))
     (keys_are (map deref c.loop-text.yielded) c.args.counts.now.entries all)

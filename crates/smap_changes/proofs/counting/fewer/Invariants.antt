@@ -6,4 +6,6 @@ use Rattle.smap_changes.proofs.counting.fewer.Given as goal
 
 abbrev pub invariant-loop-text : goal.invariant-loop-text
 invariant-loop-text l =
-    texts l.fewer.items ≡ filter (λ t. is_fewer (times (rows_of l.others.entries) t) (times (rows_of l.counts.entries) t)) (texts (map deref l.yielded))
+    texts l.fewer.items
+    ≡ filter (λ t. is_fewer (times (rows_of l.others.entries) t) (times (rows_of l.counts.entries) t))
+    (texts (map deref l.yielded))

@@ -6,4 +6,5 @@ use Rattle.smap_changes.proofs.counting.missing.Given as goal
 
 abbrev pub invariant-loop-text : goal.invariant-loop-text
 invariant-loop-text l =
-    texts l.missing.items ≡ filter (λ t. times (rows_of l.others.entries) t == 0) (texts (map deref l.yielded))
+    texts l.missing.items
+    ≡ filter (λ t. times (rows_of l.others.entries) t == 0) (texts (map deref l.yielded))

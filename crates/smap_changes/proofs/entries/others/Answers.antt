@@ -4,5 +4,5 @@ use Rattle.smap_changes.proofs.ListLemmas.{told_of}
 use Rattle.smap_changes.proofs.entries.others.Goals as goal
 
 pub returns : goal.returns
-returns c = told_of other (string_bytes c.loop-text.line) c.args.texts.now c.loop-text.text-index c.loop-text-test.false
-    c.loop-text.invariant
+returns c = told_of other (string_bytes c.loop-text.line) c.args.texts.now c.loop-text.text-index
+    c.loop-text-test.false c.loop-text.invariant

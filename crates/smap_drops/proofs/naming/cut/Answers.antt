@@ -6,4 +6,5 @@ pub returns : goal.returns
 returns c =
     c.split_at.ensures.front
     ∙ ap (λ n. take n c.args.text.now) (last c.args.text.now c.args.most c.floor_char_boundary.result
-    c.floor_char_boundary.ensures.bound c.floor_char_boundary.ensures.boundary c.floor_char_boundary.ensures.nearest)
+    c.floor_char_boundary.ensures.bound c.floor_char_boundary.ensures.boundary
+    c.floor_char_boundary.ensures.nearest)
