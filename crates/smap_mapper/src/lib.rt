@@ -7,11 +7,8 @@
 
 mod deciding;
 mod forms;
-mod json_lines;
 mod linting;
 mod looking;
-mod outcome;
-mod placing;
 mod program;
 mod progress;
 mod repairing;

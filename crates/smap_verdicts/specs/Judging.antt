@@ -7,11 +7,11 @@ use Rattle.smap_record.specs.declared.fault.ReadError.{ReadError}
 use Rattle.smap_record.specs.declared.fault.ReadError.TheVariants as error
 use Rattle.smap_places.specs.Points.{point_at}
 use Rattle.smap_ranges.specs.FaultRanges.{IsFaultRange}
-use Rattle.smap_mapper.specs.declared.outcome.Failure.TheVariants.{Memory}
-use Rattle.smap_mapper.specs.declared.outcome.Refusal.{Refusal}
-use Rattle.smap_mapper.specs.declared.outcome.TextPlace.{TextPlace}
-use Rattle.smap_mapper.specs.declared.outcome.Verdict.{Verdict}
-use Rattle.smap_mapper.specs.declared.outcome.Verdict.TheVariants as verdict
+use Rattle.smap_verdicts.specs.declared.outcome.Failure.TheVariants.{Memory}
+use Rattle.smap_verdicts.specs.declared.outcome.Refusal.{Refusal}
+use Rattle.smap_verdicts.specs.declared.outcome.TextPlace.{TextPlace}
+use Rattle.smap_verdicts.specs.declared.outcome.Verdict.{Verdict}
+use Rattle.smap_verdicts.specs.declared.outcome.Verdict.TheVariants as verdict
 
 -- This is a place of the fault in the text of a map: the line and the column are those where its range begins.
 abbrev pub IsPlaceOf : List ℕ → Fault → TextPlace → Type 0

@@ -7,13 +7,13 @@ use Rattle.serde_json.specs.View.{items_of}
 use Rattle.serde_json.specs.Written.{compact_text}
 use Rattle.smap_mappings.specs.declared.error.SegmentPlace.{SegmentPlace}
 use Rattle.smap_record.specs.Words.{kind_words, path_words}
-use Rattle.smap_mapper.specs.declared.outcome.Failure.{Failure}
-use Rattle.smap_mapper.specs.declared.outcome.Failure.TheVariants as failure
-use Rattle.smap_mapper.specs.declared.outcome.Outcome.{Outcome}
-use Rattle.smap_mapper.specs.declared.outcome.TextPlace.{TextPlace}
-use Rattle.smap_mapper.specs.declared.outcome.Verdict.{Verdict}
-use Rattle.smap_mapper.specs.declared.outcome.Verdict.TheVariants as verdict
-use Rattle.smap_mapper.specs.Outcomes.{name}
+use Rattle.smap_verdicts.specs.declared.outcome.Failure.{Failure}
+use Rattle.smap_verdicts.specs.declared.outcome.Failure.TheVariants as failure
+use Rattle.smap_verdicts.specs.declared.outcome.Outcome.{Outcome}
+use Rattle.smap_verdicts.specs.declared.outcome.TextPlace.{TextPlace}
+use Rattle.smap_verdicts.specs.declared.outcome.Verdict.{Verdict}
+use Rattle.smap_verdicts.specs.declared.outcome.Verdict.TheVariants as verdict
+use Rattle.smap_verdicts.specs.Outcomes.{name}
 
 -- what a failure is called
 abbrev pub failure_words : Failure → List ℕ

@@ -3,12 +3,12 @@ use Rattle.std.specs.Prelude.{ℕ, List, ◌++◌, codes, decimal, Option, Some,
 use Rattle.smap_record.specs.Words.{fault_words}
 use Rattle.smap_record.specs.declared.fault.Kind.{Kind}
 use Rattle.smap_record.specs.declared.fault.Kind.TheVariants as kinds
-use Rattle.smap_mapper.specs.declared.outcome.Refusal.{Refusal}
-use Rattle.smap_mapper.specs.declared.outcome.Start.{Start}
-use Rattle.smap_mapper.specs.declared.outcome.Start.TheVariants as start
-use Rattle.smap_mapper.specs.declared.outcome.TextPlace.{TextPlace}
-use Rattle.smap_mapper.specs.declared.outcome.Verdict.{Verdict}
-use Rattle.smap_mapper.specs.declared.outcome.Verdict.TheVariants as verdict
+use Rattle.smap_verdicts.specs.declared.outcome.Refusal.{Refusal}
+use Rattle.smap_verdicts.specs.declared.outcome.Start.{Start}
+use Rattle.smap_verdicts.specs.declared.outcome.Start.TheVariants as start
+use Rattle.smap_verdicts.specs.declared.outcome.TextPlace.{TextPlace}
+use Rattle.smap_verdicts.specs.declared.outcome.Verdict.{Verdict}
+use Rattle.smap_verdicts.specs.declared.outcome.Verdict.TheVariants as verdict
 
 -- `FILE:LINE:COLUMN`, as compilers and editors have it (GNU Coding Standards, "Formatting Error Messages")
 abbrev pub placed_name : List ℕ → TextPlace → List ℕ

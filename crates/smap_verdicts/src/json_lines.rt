@@ -3,7 +3,7 @@
 ghost use Rattle.std.specs.Prelude.{◌≡◌, IfOk, map, option_map, string_bytes};
 ghost use Rattle.serde_json.specs.Data.{array, string};
 ghost use Rattle.serde_json.specs.View.{items_of, view};
-ghost use Rattle.smap_mapper.specs.JsonLines as spec;
+ghost use Rattle.smap_verdicts.specs.JsonLines as spec;
 
 use crate::outcome::{Failure, Outcome, TextPlace, Verdict};
 use serde_json::Value;
@@ -181,7 +181,7 @@ fn places(alloc: Global, verdict: &Verdict) -> Result<String, AllocError>
 }
 
 /// The line of JSON for a map, without its line feed; with what is dropped, if the command can rewrite.
-pub(crate) fn json_line(
+pub fn json_line(
     alloc: Global,
     file: &str,
     outcome: &Outcome,

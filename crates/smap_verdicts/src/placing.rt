@@ -1,6 +1,6 @@
 //! Where in its text a map is refused.
 ghost use Rattle.std.specs.Prelude.{IfOk, IfSome};
-ghost use Rattle.smap_mapper.specs.Judging.{IsJudgedFor, IsPlaceOf, IsRefusedFor};
+ghost use Rattle.smap_verdicts.specs.Judging.{IsJudgedFor, IsPlaceOf, IsRefusedFor};
 
 use crate::outcome::{Failure, Refusal, Start, TextPlace, Verdict};
 use smap_ranges::{point_of, range_of};
@@ -31,7 +31,7 @@ fn place_in(alloc: Global, bytes: &[u8], fault: &Fault) -> Result<Option<TextPla
 }
 
 /// What a map with these bytes is that is refused for this fault.
-pub(crate) fn refused_for(alloc: Global, bytes: &[u8], fault: Fault) -> Verdict
+pub fn refused_for(alloc: Global, bytes: &[u8], fault: Fault) -> Verdict
     ensures { IsRefusedFor bytes.now fault result }
 {
     match place_in(alloc, bytes, &fault) {
@@ -45,7 +45,7 @@ pub(crate) fn refused_for(alloc: Global, bytes: &[u8], fault: Fault) -> Verdict
 }
 
 /// What a map with these bytes is that isn't read.
-pub(crate) fn unread(alloc: Global, bytes: &[u8], error: ReadError) -> Verdict
+pub fn unread(alloc: Global, bytes: &[u8], error: ReadError) -> Verdict
     ensures { IsJudgedFor bytes.now error result }
 {
     match error {
