@@ -1,1 +1,2 @@
+mod JoiningLemmas
 mod WholeLemmas

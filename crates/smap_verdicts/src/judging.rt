@@ -16,7 +16,8 @@ fn map_of(alloc: Global, base: &Base, bytes: &[u8]) -> Result<SourceMap, ReadErr
     SourceMap::from_slice(alloc, bytes, base, Limits::usual())
 }
 
-/// What a map is that these bytes should be.
+/// What a map is that these bytes should be, read against its own URL within the usual limits: accepted,
+/// refused, or failed with [`Failure::Memory`](crate::Failure::Memory).
 pub fn judged(alloc: Global, base: &Base, bytes: &[u8]) -> Verdict
     ensures { IsJudged (reading base.now usual bytes.now) bytes.now result }
 {

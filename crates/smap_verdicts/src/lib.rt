@@ -1,6 +1,6 @@
 //! What becomes of a source map that `smap-maps` looks at, and what is said of that: a map's bytes are judged
-//! ([`judged`]), and an [`Outcome`] is a line of JSON ([`json_line`]) or a remark ([`remark`]) under the name of
-//! the map's file ([`said_name`]). A [`Tally`] counts maps by their statuses.
+//! ([`judged`]), and an [`Outcome`] is a line of JSON ([`json_line`]) or a remark ([`remark`]) under the name
+//! of the map's file ([`said_name`]). A [`Tally`] counts maps by their statuses.
 #![tactic(auto)]
 
 mod json_lines;

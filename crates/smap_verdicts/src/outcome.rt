@@ -12,6 +12,7 @@ pub enum Start {
     Mark,
     /// That it is compressed by gzip.
     Gzip,
+    /// Neither.
     Other,
 }
 
@@ -35,15 +36,18 @@ pub enum Failure {
 /// A place in the text of a map.
 #[derive(Clone, Copy, Debug, PartialEq, Eq)]
 pub struct TextPlace {
+    /// Its bytes, which count from 0. The range may be empty.
     pub range: TextRange,
-    /// The line and the column of its first byte, or of what is behind an empty range.
+    /// The line and the column, both from 1, of its first byte, or of what is behind an empty range.
     pub point: Point,
 }
 
 /// Why a map is refused.
 #[derive(Debug, Drop)]
 pub struct Refusal {
+    /// The first fault that is met.
     pub fault: Fault,
+    /// What its file shows at its beginning.
     pub start: Start,
     /// Where in its text, if the fault has a place there.
     pub place: Option<TextPlace>,
@@ -60,10 +64,13 @@ pub enum Verdict {
     Changed,
     /// It would lose members, and wasn't rewritten.
     Kept,
+    /// It was rewritten.
     Rewritten,
+    /// It is refused.
     Refused(Refusal),
     /// Its own URL is none.
     NotUrl,
+    /// It is neither accepted nor refused, or can't be replaced.
     Failed(Failure),
 }
 
@@ -83,7 +90,9 @@ impl Verdict {
         }
     }
 
-    /// The exit status of a run over this map alone.
+    /// The exit status of a run over this map alone: 0 where it is accepted, as it would be written, or
+    /// rewritten; 1 where it is refused, would change, or would lose a member; 3 where a file can't be read
+    /// or written; 4 where memory ran out.
     pub fn status(&self) -> u8
         ensures { result ≡ spec.status self.now }
     {
@@ -99,6 +108,7 @@ impl Verdict {
 /// What became of a map, and what a rewrite of it drops and changes.
 #[derive(Debug, Drop)]
 pub struct Outcome {
+    /// What became of it.
     pub verdict: Verdict,
     /// The names of the members that a rewrite drops, those of sections behind `sections.`.
     pub drops: Vec<String>,
@@ -106,17 +116,19 @@ pub struct Outcome {
     pub changes: Vec<String>,
 }
 
-/// The maps that were looked at.
+/// The maps that were looked at. A count stays at 2^64 - 1 once it is there.
 #[derive(Clone, Copy, Debug, PartialEq, Eq)]
 pub struct Tally {
+    /// Those with status 0.
     pub accepted: usize,
     /// Those with another status than 0.
     pub refused: usize,
-    /// The greatest status of all.
+    /// The greatest status of all, 0 where there is none.
     pub worst: u8,
 }
 
 impl Tally {
+    /// No map yet.
     pub fn new() -> Tally
         ensures { result ≡ spec.none }
     {
@@ -127,7 +139,7 @@ impl Tally {
         }
     }
 
-    /// The same with one map more.
+    /// The same with one map more, which has this status.
     pub fn with(self, status: u8) -> Tally
         ensures { result ≡ spec.with_map self status }
     {

@@ -1,5 +1,5 @@
 //! What is said of a map on standard error, and under which name.
-ghost use Rattle.std.specs.Prelude.{◌≡◌, IfOk, string_bytes};
+ghost use Rattle.std.specs.Prelude.{◌≡◌, IfOk, option_copied, option_map, string_bytes};
 ghost use Rattle.smap_verdicts.specs.Remarks as spec;
 
 use crate::json_lines::failure_text;
@@ -9,7 +9,9 @@ use smap_record::{Fault, Kind};
 use std::alloc::{AllocError, Global};
 
 /// What may help with a map that isn't accepted.
-fn hint(fault: &Fault, start: Start) -> &'static str {
+fn hint(fault: &Fault, start: Start) -> &'static str
+    ensures { result.now ≡ spec.hint fault.now.kind start }
+{
     match start {
         Start::Mark if fault.kind == Kind::Json => {
             " (it begins with a byte order mark: remove that)"
@@ -20,7 +22,9 @@ fn hint(fault: &Fault, start: Start) -> &'static str {
 }
 
 /// The names of members, as JSON writes them.
-fn names_text(alloc: Global, names: &[String]) -> Result<String, AllocError> {
+fn names_text(alloc: Global, names: &[String]) -> Result<String, AllocError>
+    ensures { IfOk result (λ t. string_bytes t ≡ spec.names_text names.now) }
+{
     let mut text = String::new(alloc);
     for (i, name) in names.iter().enumerate() {
         let name = shown_name(alloc, name.as_str())?;
@@ -33,7 +37,9 @@ fn names_text(alloc: Global, names: &[String]) -> Result<String, AllocError> {
 }
 
 /// What is said of a refused map, with the fault that repairs would leave, if that is told.
-fn refusal_text(alloc: Global, why: &Refusal, left: Option<&String>) -> Result<String, AllocError> {
+fn refusal_text(alloc: Global, why: &Refusal, left: Option<&String>) -> Result<String, AllocError>
+    ensures { IfOk result (λ t. string_bytes t ≡ spec.refusal_text why.now (option_copied left.entry)) }
+{
     let fault = &why.fault;
     match left {
         Some(left) => {
@@ -58,7 +64,12 @@ fn name_with(alloc: Global, file: &str, place: Option<TextPlace>) -> Result<Stri
     format!(in alloc; "{file}:{line}:{column}")
 }
 
-/// The name under which something is said of a map.
+/// The name under which something is said of a map: its file, with the line and the column of the fault that
+/// it is refused for (`FILE:LINE:COLUMN`, both from 1), if that has a place.
+///
+/// # Errors
+///
+/// `AllocError`.
 pub fn said_name(alloc: Global, file: &str, verdict: &Verdict) -> Result<String, AllocError>
     ensures { IfOk result (λ t. string_bytes t ≡ spec.said_name file.now verdict.now) }
 {
@@ -69,7 +80,13 @@ pub fn said_name(alloc: Global, file: &str, verdict: &Verdict) -> Result<String,
 }
 
 /// What is said of a map on standard error, if there is something to be said.
-pub fn remark(alloc: Global, outcome: &Outcome) -> Result<Option<String>, AllocError> {
+///
+/// # Errors
+///
+/// `AllocError`.
+pub fn remark(alloc: Global, outcome: &Outcome) -> Result<Option<String>, AllocError>
+    ensures { IfOk result (λ o. option_map string_bytes o ≡ spec.remark outcome.now) }
+{
     match &outcome.verdict {
         Verdict::Refused(why) => Ok(Some(refusal_text(alloc, why, outcome.changes.first())?)),
         Verdict::NotUrl => Ok(Some(String::from_str(alloc, "base is no URL")?)),
@@ -91,6 +108,8 @@ pub fn remark(alloc: Global, outcome: &Outcome) -> Result<Option<String>, AllocE
 }
 
 /// Whether a map is named on the output.
-pub fn is_named(verdict: &Verdict) -> bool {
+pub fn is_named(verdict: &Verdict) -> bool
+    ensures { result ≡ spec.is_named verdict.now }
+{
     matches!(verdict, Verdict::Changed | Verdict::Rewritten)
 }
