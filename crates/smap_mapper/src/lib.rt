@@ -1,17 +1,15 @@
-//! `smap-maps`: a run of it, from the words of its command line to its status ([`run`]). What the words say is
-//! read by `smap_maps_words`, which members a rewrite drops is told by `smap_drops`, what it changes by
-//! `smap_changes`; maps are read by `smap_record` and written by `smap_canon`, as by `smap` itself. One map is
-//! looked at after the other, so that one is in memory at a time. What is repaired is told by `smap_repair`, and
-//! `lint` is a run of `smap_linter`.
+//! `smap-maps`: a run of it, from the words of its command line to its status ([`run`]). What the words say
+//! is read by `smap_maps_words`, which members a rewrite drops is told by `smap_drops`, what it changes by
+//! `smap_changes`; maps are read by `smap_record` and written by `smap_canon`, as by `smap` itself. One map
+//! is looked at after the other, so that one is in memory at a time. What becomes of a map, and what is said
+//! of that, is told by `smap_verdicts`, and what is repaired by `smap_repair`; `lint` is a run of
+//! `smap_linter`.
 #![tactic(auto)]
 
 mod deciding;
 mod forms;
-mod json_lines;
 mod linting;
 mod looking;
-mod outcome;
-mod placing;
 mod program;
 mod progress;
 mod repairing;

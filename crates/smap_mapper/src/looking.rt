@@ -1,13 +1,7 @@
 //! One map: read, checked, and rewritten if it would change.
-ghost use Rattle.smap_record.specs.Reading.{reading};
-ghost use Rattle.smap_record.specs.Record.{usual};
-ghost use Rattle.smap_record.specs.Results.{Returns};
-ghost use Rattle.smap_mapper.specs.Judging.{IsJudged};
 
 use crate::deciding::{Deed, decided};
 use crate::forms::{Form, formed};
-use crate::outcome::{Failure, Outcome, Verdict};
-use crate::placing::unread;
 use crate::replacing::replace;
 use crate::targets::Target;
 use serde_json::Value;
@@ -15,7 +9,8 @@ use smap_changes::changes;
 use smap_disk::{Disk, FileFault, read_file};
 use smap_drops::{Drops, dropped, tree_of};
 use smap_maps_words::Rewrite;
-use smap_record::{Base, BaseFault, Limits, ReadError, SourceMap};
+use smap_record::{Base, BaseFault};
+use smap_verdicts::{Failure, Outcome, Verdict, judged, unread};
 use std::alloc::{AllocError, Global};
 
 /// The most bytes that a map may have.
@@ -48,26 +43,6 @@ pub(crate) fn base_of(alloc: Global, url: &[u8]) -> Result<Base, Verdict> {
         Ok(base) => Ok(base),
         Err(BaseFault::NotUrl) => Err(Verdict::NotUrl),
         Err(BaseFault::Memory) => Err(Verdict::Failed(Failure::Memory)),
-    }
-}
-
-/// The map that these bytes are.
-fn map_of(alloc: Global, base: &Base, bytes: &[u8]) -> Result<SourceMap, ReadError>
-    ensures { Returns (λ m. m) result (reading base.now usual bytes.now) }
-{
-    SourceMap::from_slice(alloc, bytes, base, Limits::usual())
-}
-
-/// What a map is that these bytes should be.
-fn judged(alloc: Global, base: &Base, bytes: &[u8]) -> Verdict
-    ensures { IsJudged (reading base.now usual bytes.now) bytes.now result }
-{
-    match map_of(alloc, base, bytes) {
-        Ok(map) => {
-            drop(map);
-            Verdict::Accepted
-        }
-        Err(error) => unread(alloc, bytes, error),
     }
 }
 

@@ -4,7 +4,6 @@ use crate::deciding::wants_json;
 use crate::forms::Form;
 use crate::linting::lint_asked;
 use crate::looking::{check, compare};
-use crate::outcome::{Outcome, Tally};
 use crate::progress::Progress;
 use crate::repairing::repair;
 use crate::reporting::{Style, report, says_something, write_line};
@@ -15,6 +14,7 @@ use smap_linter::lint;
 use smap_maps_words::{
     Asked, HELP, MapsWords, Rewrite, TRY_HELP, Task, VERSION, WordFault, maps_words, message,
 };
+use smap_verdicts::{Outcome, Tally};
 use std::alloc::Global;
 use std::io::Write;
 use std::rt::Clock;

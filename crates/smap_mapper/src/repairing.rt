@@ -2,12 +2,11 @@
 
 use crate::deciding::Deed;
 use crate::looking::{base_of, bytes_of, change, plain};
-use crate::outcome::{Failure, Outcome, Verdict};
-use crate::placing::refused_for;
 use crate::targets::Target;
 use smap_disk::Disk;
 use smap_record::{Base, Fault, Limits};
 use smap_repair::{Repair, Repaired, repair_text, sentence};
+use smap_verdicts::{Failure, Outcome, Verdict, refused_for};
 use std::alloc::{AllocError, Global};
 
 fn sentences(alloc: Global, repairs: &[Repair]) -> Result<Vec<String>, AllocError> {

@@ -1,7 +1,7 @@
 //! A file that gets other bytes.
 
-use crate::outcome::Failure;
 use smap_disk::{Disk, create_beside};
+use smap_verdicts::Failure;
 use std::alloc::Global;
 use std::io::{self, Write};
 

@@ -1,14 +1,8 @@
 //! What is said of a map, and written.
-ghost use Rattle.std.specs.Prelude.{◌≡◌, IfOk, string_bytes};
-ghost use Rattle.smap_mapper.specs.Remarks as spec;
 
-use crate::json_lines::{failure_text, json_line};
-use crate::outcome::{Outcome, Refusal, Start, TextPlace, Verdict};
 use smap_disk::{Disk, Watched, printable};
-use smap_drops::shown_name;
 use smap_host::{Host, Stop};
-use smap_record::{Fault, Kind};
-use std::alloc::{AllocError, Global};
+use smap_verdicts::{Outcome, Verdict, is_named, json_line, remark, said_name};
 use std::io::Write;
 
 /// How the outcomes are written.
@@ -29,93 +23,6 @@ pub(crate) fn write_line<E: Eprint + AllocGlobal, D: Disk, W: Write>(
     let mut line = printable(host.alloc(), text.as_bytes())?;
     line.push_str("\n")?;
     host.write(line.as_str().as_bytes(), writer)
-}
-
-/// What may help with a map that isn't accepted.
-fn hint(fault: &Fault, start: Start) -> &'static str {
-    match start {
-        Start::Mark if fault.kind == Kind::Json => {
-            " (it begins with a byte order mark: remove that)"
-        }
-        Start::Gzip if fault.kind == Kind::Json => " (it is compressed: gunzip it)",
-        _ => "",
-    }
-}
-
-/// The names of members, as JSON writes them.
-fn names_text(alloc: Global, names: &[String]) -> Result<String, AllocError> {
-    let mut text = String::new(alloc);
-    for (i, name) in names.iter().enumerate() {
-        let name = shown_name(alloc, name.as_str())?;
-        if i > 0 {
-            text.push_str(", ")?;
-        }
-        text.push_str(name.as_str())?;
-    }
-    Ok(text)
-}
-
-/// What is said of a refused map, with the fault that repairs would leave, if that is told.
-fn refusal_text(alloc: Global, why: &Refusal, left: Option<&String>) -> Result<String, AllocError> {
-    let fault = &why.fault;
-    match left {
-        Some(left) => {
-            let left = left.as_str();
-            format!(in alloc; "{fault}; once that is repaired: {left}")
-        }
-        None => {
-            let hint = hint(fault, why.start);
-            format!(in alloc; "{fault}{hint}")
-        }
-    }
-}
-
-/// The name of a file with a place in it.
-fn name_with(alloc: Global, file: &str, place: Option<TextPlace>) -> Result<String, AllocError>
-    ensures { IfOk result (λ t. string_bytes t ≡ spec.name_with file.now place) }
-{
-    let Some(place) = place else {
-        return String::from_str(alloc, file);
-    };
-    let (line, column) = (place.point.line, place.point.column);
-    format!(in alloc; "{file}:{line}:{column}")
-}
-
-/// The name under which something is said of a map.
-fn said_name(alloc: Global, file: &str, verdict: &Verdict) -> Result<String, AllocError>
-    ensures { IfOk result (λ t. string_bytes t ≡ spec.said_name file.now verdict.now) }
-{
-    match verdict {
-        Verdict::Refused(why) => name_with(alloc, file, why.place),
-        _ => String::from_str(alloc, file),
-    }
-}
-
-/// What is said of a map on standard error, if there is something to be said.
-fn remark(alloc: Global, outcome: &Outcome) -> Result<Option<String>, AllocError> {
-    match &outcome.verdict {
-        Verdict::Refused(why) => Ok(Some(refusal_text(alloc, why, outcome.changes.first())?)),
-        Verdict::NotUrl => Ok(Some(String::from_str(alloc, "base is no URL")?)),
-        Verdict::Failed(failure) => { Ok(Some(String::from_str(alloc, failure_text(*failure))?)) }
-        Verdict::Kept => {
-            let names = names_text(alloc, &outcome.drops)?;
-            let names = names.as_str();
-            Ok(Some(format!(in alloc;
-                "not rewritten, since that drops {names} (--drop allows it)"
-            )?))
-        }
-        Verdict::Changed | Verdict::Rewritten if !outcome.drops.is_empty() => {
-            let names = names_text(alloc, &outcome.drops)?;
-            let names = names.as_str();
-            Ok(Some(format!(in alloc; "drops {names}")?))
-        }
-        _ => Ok(None),
-    }
-}
-
-/// Whether a map is named on the output.
-fn is_named(verdict: &Verdict) -> bool {
-    matches!(verdict, Verdict::Changed | Verdict::Rewritten)
 }
 
 /// Whether a line is written for a map.

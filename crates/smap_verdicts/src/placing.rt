@@ -1,13 +1,16 @@
 //! Where in its text a map is refused.
-ghost use Rattle.std.specs.Prelude.{IfOk, IfSome};
-ghost use Rattle.smap_mapper.specs.Judging.{IsJudgedFor, IsPlaceOf, IsRefusedFor};
+ghost use Rattle.std.specs.Prelude.{◌≡◌, IfOk, IfSome};
+ghost use Rattle.smap_verdicts.specs.Judging as spec;
+ghost use Rattle.smap_verdicts.specs.Judging.{IsJudgedFor, IsPlaceOf, IsRefusedFor};
 
 use crate::outcome::{Failure, Refusal, Start, TextPlace, Verdict};
 use smap_ranges::{point_of, range_of};
 use smap_record::{Fault, ReadError};
 use std::alloc::{AllocError, Global};
 
-fn start_of(bytes: &[u8]) -> Start {
+fn start_of(bytes: &[u8]) -> Start
+    ensures { result ≡ spec.start_of bytes.now }
+{
     if bytes.starts_with(b"\xef\xbb\xbf") {
         Start::Mark
     } else if bytes.starts_with(b"\x1f\x8b") {
@@ -30,8 +33,9 @@ fn place_in(alloc: Global, bytes: &[u8], fault: &Fault) -> Result<Option<TextPla
     }
 }
 
-/// What a map with these bytes is that is refused for this fault.
-pub(crate) fn refused_for(alloc: Global, bytes: &[u8], fault: Fault) -> Verdict
+/// What a map with these bytes is that is refused for this fault: refused, with the fault's place in them, or
+/// failed with [`Failure::Memory`].
+pub fn refused_for(alloc: Global, bytes: &[u8], fault: Fault) -> Verdict
     ensures { IsRefusedFor bytes.now fault result }
 {
     match place_in(alloc, bytes, &fault) {
@@ -44,8 +48,9 @@ pub(crate) fn refused_for(alloc: Global, bytes: &[u8], fault: Fault) -> Verdict
     }
 }
 
-/// What a map with these bytes is that isn't read.
-pub(crate) fn unread(alloc: Global, bytes: &[u8], error: ReadError) -> Verdict
+/// What a map with these bytes is that isn't read: refused as by [`refused_for`], or failed with
+/// [`Failure::Memory`].
+pub fn unread(alloc: Global, bytes: &[u8], error: ReadError) -> Verdict
     ensures { IsJudgedFor bytes.now error result }
 {
     match error {

@@ -1,9 +1,9 @@
-//! The line of JSON for a map. `docs/OUTPUT.md`, "smap-maps", has its members; what is text there is written by
-//! `serde_json`.
+//! The line of JSON for a map. `docs/OUTPUT.md`, "smap-maps", has its members; what is text there is written
+//! by `serde_json`.
 ghost use Rattle.std.specs.Prelude.{◌≡◌, IfOk, map, option_map, string_bytes};
 ghost use Rattle.serde_json.specs.Data.{array, string};
 ghost use Rattle.serde_json.specs.View.{items_of, view};
-ghost use Rattle.smap_mapper.specs.JsonLines as spec;
+ghost use Rattle.smap_verdicts.specs.JsonLines as spec;
 
 use crate::outcome::{Failure, Outcome, TextPlace, Verdict};
 use serde_json::Value;
@@ -181,7 +181,12 @@ fn places(alloc: Global, verdict: &Verdict) -> Result<String, AllocError>
 }
 
 /// The line of JSON for a map, without its line feed; with what is dropped, if the command can rewrite.
-pub(crate) fn json_line(
+/// `file` is the map's file, as it was given or found below a folder.
+///
+/// # Errors
+///
+/// `AllocError`.
+pub fn json_line(
     alloc: Global,
     file: &str,
     outcome: &Outcome,

@@ -1,51 +1,50 @@
 -- The line of JSON for a map. Its members come in the order of `docs/OUTPUT.md`.
-use Rattle.std.specs.Prelude.{ℕ, ◌==◌, Bool, List, [], ◌++◌, codes, cond, decimal, length, map, Option, Some}
-use Rattle.std.specs.Prelude.{None}
-use Rattle.std.specs.Prelude.{string_bytes}
+use Rattle.std.specs.Prelude.{ℕ, ◌==◌, Bool, List, [], ◌++◌, codes, cond, decimal, length, map}
+use Rattle.std.specs.Prelude.{Option, Some, None, string_bytes}
 use Rattle.std.specs.Option.{option_map_or}
 use Rattle.serde_json.specs.Data.{array, string}
 use Rattle.serde_json.specs.View.{items_of}
 use Rattle.serde_json.specs.Written.{compact_text}
 use Rattle.smap_mappings.specs.declared.error.SegmentPlace.{SegmentPlace}
-use Rattle.smap_record.specs.Messages.{kind_message, path_text}
-use Rattle.smap_mapper.specs.declared.outcome.Failure.{Failure}
-use Rattle.smap_mapper.specs.declared.outcome.Failure.TheVariants as failure
-use Rattle.smap_mapper.specs.declared.outcome.Outcome.{Outcome}
-use Rattle.smap_mapper.specs.declared.outcome.TextPlace.{TextPlace}
-use Rattle.smap_mapper.specs.declared.outcome.Verdict.{Verdict}
-use Rattle.smap_mapper.specs.declared.outcome.Verdict.TheVariants as verdict
-use Rattle.smap_mapper.specs.Outcomes.{name}
+use Rattle.smap_record.specs.Words.{kind_words, path_words}
+use Rattle.smap_verdicts.specs.declared.outcome.Failure.{Failure}
+use Rattle.smap_verdicts.specs.declared.outcome.Failure.TheVariants as failure
+use Rattle.smap_verdicts.specs.declared.outcome.Outcome.{Outcome}
+use Rattle.smap_verdicts.specs.declared.outcome.TextPlace.{TextPlace}
+use Rattle.smap_verdicts.specs.declared.outcome.Verdict.{Verdict}
+use Rattle.smap_verdicts.specs.declared.outcome.Verdict.TheVariants as verdict
+use Rattle.smap_verdicts.specs.Outcomes.{name}
 
 -- what a failure is called
-abbrev pub failure_text : Failure → List ℕ
-failure_text failure.Unread = codes "cannot read it"
-failure_text failure.TooLong = codes "input too long"
-failure_text failure.Unwritable = codes "cannot write it"
-failure_text failure.Folder = codes "cannot write in its folder"
-failure_text failure.NotWritten = codes "write failed"
-failure_text failure.Memory = codes "out of memory"
+abbrev pub failure_words : Failure → List ℕ
+failure_words failure.Unread = codes "cannot read it"
+failure_words failure.TooLong = codes "input too long"
+failure_words failure.Unwritable = codes "cannot write it"
+failure_words failure.Folder = codes "cannot write in its folder"
+failure_words failure.NotWritten = codes "write failed"
+failure_words failure.Memory = codes "out of memory"
 
 -- a text as JSON, as `serde_json` writes it
 abbrev pub json_text : List ℕ → List ℕ
 json_text text = compact_text (string text)
 
 -- what is wrong with a map, without its place
-abbrev pub fault_message : Verdict → Option (List ℕ)
-fault_message (verdict.Refused why) = Some (kind_message why.fault.kind)
-fault_message verdict.NotUrl = Some (codes "base is no URL")
-fault_message (verdict.Failed why) = Some (failure_text why)
-fault_message verdict.Accepted = None
-fault_message verdict.Unchanged = None
-fault_message verdict.Changed = None
-fault_message verdict.Kept = None
-fault_message verdict.Rewritten = None
+abbrev pub fault_words : Verdict → Option (List ℕ)
+fault_words (verdict.Refused why) = Some (kind_words why.fault.kind)
+fault_words verdict.NotUrl = Some (codes "base is no URL")
+fault_words (verdict.Failed why) = Some (failure_words why)
+fault_words verdict.Accepted = None
+fault_words verdict.Unchanged = None
+fault_words verdict.Changed = None
+fault_words verdict.Kept = None
+fault_words verdict.Rewritten = None
 
 abbrev pub fault_text : Verdict → List ℕ
-fault_text v = option_map_or json_text (fault_message v) (codes "null")
+fault_text v = option_map_or json_text (fault_words v) (codes "null")
 
 -- the section that a fault is in, and the segment
 abbrev pub section_text : List ℕ → List ℕ
-section_text section = codes "\"section\":" ++ json_text (path_text section)
+section_text section = codes "\"section\":" ++ json_text (path_words section)
 
 abbrev pub segment_text : SegmentPlace → List ℕ
 segment_text place =

@@ -1,10 +1,10 @@
 -- What became of a map, and the status of that.
 use Rattle.std.specs.Prelude.{ℕ, ◌+◌, ◌^◌, ◌-◌, ◌==◌, List, codes, if◌then◌else◌, max, min}
-use Rattle.smap_mapper.specs.declared.outcome.Failure.{Failure}
-use Rattle.smap_mapper.specs.declared.outcome.Failure.TheVariants as failure
-use Rattle.smap_mapper.specs.declared.outcome.Tally.{Tally}
-use Rattle.smap_mapper.specs.declared.outcome.Verdict.{Verdict}
-use Rattle.smap_mapper.specs.declared.outcome.Verdict.TheVariants as verdict
+use Rattle.smap_verdicts.specs.declared.outcome.Failure.{Failure}
+use Rattle.smap_verdicts.specs.declared.outcome.Failure.TheVariants as failure
+use Rattle.smap_verdicts.specs.declared.outcome.Tally.{Tally}
+use Rattle.smap_verdicts.specs.declared.outcome.Verdict.{Verdict}
+use Rattle.smap_verdicts.specs.declared.outcome.Verdict.TheVariants as verdict
 
 -- the name in a line of JSON
 abbrev pub name : Verdict → List ℕ

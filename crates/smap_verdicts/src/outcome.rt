@@ -1,23 +1,24 @@
 //! What became of a map, and the status of that.
 ghost use Rattle.std.specs.Prelude.{◌≡◌};
-ghost use Rattle.smap_mapper.specs.Outcomes as spec;
+ghost use Rattle.smap_verdicts.specs.Outcomes as spec;
 
 use smap_ranges::{Point, TextRange};
 use smap_record::Fault;
 
 /// What a file shows at its beginning that is no map.
 #[derive(Clone, Copy, Debug, PartialEq, Eq)]
-pub(crate) enum Start {
+pub enum Start {
     /// A byte order mark.
     Mark,
     /// That it is compressed by gzip.
     Gzip,
+    /// Neither.
     Other,
 }
 
 /// Why a map is neither accepted nor refused, or can't be replaced.
 #[derive(Clone, Copy, Debug, PartialEq, Eq)]
-pub(crate) enum Failure {
+pub enum Failure {
     /// The file can't be read.
     Unread,
     /// It has more than 268,435,456 bytes.
@@ -34,24 +35,27 @@ pub(crate) enum Failure {
 
 /// A place in the text of a map.
 #[derive(Clone, Copy, Debug, PartialEq, Eq)]
-pub(crate) struct TextPlace {
-    pub(crate) range: TextRange,
-    /// The line and the column of its first byte, or of what is behind an empty range.
-    pub(crate) point: Point,
+pub struct TextPlace {
+    /// Its bytes, which count from 0. The range may be empty.
+    pub range: TextRange,
+    /// The line and the column, both from 1, of its first byte, or of what is behind an empty range.
+    pub point: Point,
 }
 
 /// Why a map is refused.
 #[derive(Debug, Drop)]
-pub(crate) struct Refusal {
-    pub(crate) fault: Fault,
-    pub(crate) start: Start,
+pub struct Refusal {
+    /// The first fault that is met.
+    pub fault: Fault,
+    /// What its file shows at its beginning.
+    pub start: Start,
     /// Where in its text, if the fault has a place there.
-    pub(crate) place: Option<TextPlace>,
+    pub place: Option<TextPlace>,
 }
 
 /// What became of a map.
 #[derive(Debug, Drop)]
-pub(crate) enum Verdict {
+pub enum Verdict {
     /// It is a map: nothing more was asked.
     Accepted,
     /// It is as it would be written.
@@ -60,16 +64,19 @@ pub(crate) enum Verdict {
     Changed,
     /// It would lose members, and wasn't rewritten.
     Kept,
+    /// It was rewritten.
     Rewritten,
+    /// It is refused.
     Refused(Refusal),
     /// Its own URL is none.
     NotUrl,
+    /// It is neither accepted nor refused, or can't be replaced.
     Failed(Failure),
 }
 
 impl Verdict {
     /// Its name in a line of JSON.
-    pub(crate) fn name(&self) -> &'static str
+    pub fn name(&self) -> &'static str
         ensures { result.now ≡ spec.name self.now }
     {
         match self {
@@ -83,8 +90,10 @@ impl Verdict {
         }
     }
 
-    /// The exit status of a run over this map alone.
-    pub(crate) fn status(&self) -> u8
+    /// The exit status of a run over this map alone: 0 where it is accepted, as it would be written, or
+    /// rewritten; 1 where it is refused, would change, or would lose a member; 3 where a file can't be read
+    /// or written; 4 where memory ran out.
+    pub fn status(&self) -> u8
         ensures { result ≡ spec.status self.now }
     {
         match self {
@@ -98,26 +107,29 @@ impl Verdict {
 
 /// What became of a map, and what a rewrite of it drops and changes.
 #[derive(Debug, Drop)]
-pub(crate) struct Outcome {
-    pub(crate) verdict: Verdict,
+pub struct Outcome {
+    /// What became of it.
+    pub verdict: Verdict,
     /// The names of the members that a rewrite drops, those of sections behind `sections.`.
-    pub(crate) drops: Vec<String>,
+    pub drops: Vec<String>,
     /// What a rewrite changes, if that is asked for; of a map that stays refused, what repairs would leave.
-    pub(crate) changes: Vec<String>,
+    pub changes: Vec<String>,
 }
 
-/// The maps that were looked at.
+/// The maps that were looked at. A count stays at 2^64 - 1 once it is there.
 #[derive(Clone, Copy, Debug, PartialEq, Eq)]
-pub(crate) struct Tally {
-    pub(crate) accepted: usize,
+pub struct Tally {
+    /// Those with status 0.
+    pub accepted: usize,
     /// Those with another status than 0.
-    pub(crate) refused: usize,
-    /// The greatest status of all.
-    pub(crate) worst: u8,
+    pub refused: usize,
+    /// The greatest status of all, 0 where there is none.
+    pub worst: u8,
 }
 
 impl Tally {
-    pub(crate) fn new() -> Tally
+    /// No map yet.
+    pub fn new() -> Tally
         ensures { result ≡ spec.none }
     {
         Tally {
@@ -127,8 +139,8 @@ impl Tally {
         }
     }
 
-    /// The same with one map more.
-    pub(crate) fn with(self, status: u8) -> Tally
+    /// The same with one map more, which has this status.
+    pub fn with(self, status: u8) -> Tally
         ensures { result ≡ spec.with_map self status }
     {
         let worst = self.worst.max(status);

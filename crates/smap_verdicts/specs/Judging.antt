@@ -1,0 +1,51 @@
+-- What is said of a map that was read.
+use Rattle.std.specs.Prelude.{◌≡◌, ℕ, List, [], ◌∷◌, Ok, Err, IfSome, if◌then◌else◌, nat_eq}
+use Rattle.std.specs.List.{starts_with}
+use Rattle.smap_record.specs.Faults.{Checked}
+use Rattle.smap_record.specs.Record.{ReadMap}
+use Rattle.smap_record.specs.declared.fault.Fault.{Fault}
+use Rattle.smap_record.specs.declared.fault.ReadError.{ReadError}
+use Rattle.smap_record.specs.declared.fault.ReadError.TheVariants as error
+use Rattle.smap_places.specs.Points.{point_at}
+use Rattle.smap_ranges.specs.FaultRanges.{IsFaultRange}
+use Rattle.smap_verdicts.specs.declared.outcome.Failure.TheVariants.{Memory}
+use Rattle.smap_verdicts.specs.declared.outcome.Refusal.{Refusal}
+use Rattle.smap_verdicts.specs.declared.outcome.Start.{Start}
+use Rattle.smap_verdicts.specs.declared.outcome.Start.TheVariants as start
+use Rattle.smap_verdicts.specs.declared.outcome.TextPlace.{TextPlace}
+use Rattle.smap_verdicts.specs.declared.outcome.Verdict.{Verdict}
+use Rattle.smap_verdicts.specs.declared.outcome.Verdict.TheVariants as verdict
+
+-- This is a place of the fault in the text of a map: the line and the column are those where its range
+-- begins.
+abbrev pub IsPlaceOf : List ℕ → Fault → TextPlace → Type 0
+IsPlaceOf bytes fault place =
+    IsFaultRange bytes fault place.range × (place.point ≡ point_at bytes place.range.start)
+
+-- what a file shows at its beginning: a byte order mark (EF BB BF), or the two bytes of gzip (1F 8B)
+abbrev pub start_of : List ℕ → Start
+start_of bytes =
+    if starts_with nat_eq bytes (239 ∷ 187 ∷ 191 ∷ []) then start.Mark
+    else (if starts_with nat_eq bytes (31 ∷ 139 ∷ []) then start.Gzip else start.Other)
+
+-- What is told of a refused map is so: what it shows at its beginning, and the place of its fault.
+abbrev pub IsTold : List ℕ → Refusal → Type 0
+IsTold bytes why = (why.start ≡ start_of bytes) × IfSome why.place (IsPlaceOf bytes why.fault)
+
+-- The fault that is told is the map's first one, and it is accepted where it has none. That memory ran out
+-- says nothing about the map.
+abbrev pub IsJudged : Checked ReadMap → List ℕ → Verdict → Type 0
+IsJudged expected bytes verdict.Accepted = (m : ReadMap) × (expected ≡ Ok m)
+IsJudged expected bytes (verdict.Refused why) = (expected ≡ Err why.fault) × IsTold bytes why
+IsJudged expected bytes (verdict.Failed Memory) = Unit {0}
+IsJudged expected bytes v = ⊥
+
+abbrev pub IsRefusedFor : List ℕ → Fault → Verdict → Type 0
+IsRefusedFor bytes fault (verdict.Refused why) = (why.fault ≡ fault) × IsTold bytes why
+IsRefusedFor bytes fault (verdict.Failed Memory) = Unit {0}
+IsRefusedFor bytes fault v = ⊥
+
+abbrev pub IsJudgedFor : List ℕ → ReadError → Verdict → Type 0
+IsJudgedFor bytes (error.Refused fault) v = IsRefusedFor bytes fault v
+IsJudgedFor bytes error.Memory (verdict.Failed Memory) = Unit {0}
+IsJudgedFor bytes error.Memory v = ⊥

@@ -1,0 +1,4 @@
+pub mod JsonLines
+pub mod Judging
+pub mod Outcomes
+pub mod Remarks
