@@ -6,7 +6,7 @@ use Rattle.serde_json.specs.Data.{array, string}
 use Rattle.serde_json.specs.View.{items_of}
 use Rattle.serde_json.specs.Written.{compact_text}
 use Rattle.smap_mappings.specs.declared.error.SegmentPlace.{SegmentPlace}
-use Rattle.smap_record.specs.Words.{kind_words, path_words}
+use Rattle.smap_record.specs.Messages.{kind_message, path_text}
 use Rattle.smap_verdicts.specs.declared.outcome.Failure.{Failure}
 use Rattle.smap_verdicts.specs.declared.outcome.Failure.TheVariants as failure
 use Rattle.smap_verdicts.specs.declared.outcome.Outcome.{Outcome}
@@ -29,22 +29,22 @@ abbrev pub json_text : List ℕ → List ℕ
 json_text text = compact_text (string text)
 
 -- what is wrong with a map, without its place
-abbrev pub fault_words : Verdict → Option (List ℕ)
-fault_words (verdict.Refused why) = Some (kind_words why.fault.kind)
-fault_words verdict.NotUrl = Some (codes "base is no URL")
-fault_words (verdict.Failed why) = Some (failure_words why)
-fault_words verdict.Accepted = None
-fault_words verdict.Unchanged = None
-fault_words verdict.Changed = None
-fault_words verdict.Kept = None
-fault_words verdict.Rewritten = None
+abbrev pub fault_message : Verdict → Option (List ℕ)
+fault_message (verdict.Refused why) = Some (kind_message why.fault.kind)
+fault_message verdict.NotUrl = Some (codes "base is no URL")
+fault_message (verdict.Failed why) = Some (failure_words why)
+fault_message verdict.Accepted = None
+fault_message verdict.Unchanged = None
+fault_message verdict.Changed = None
+fault_message verdict.Kept = None
+fault_message verdict.Rewritten = None
 
 abbrev pub fault_text : Verdict → List ℕ
-fault_text v = option_map_or json_text (fault_words v) (codes "null")
+fault_text v = option_map_or json_text (fault_message v) (codes "null")
 
 -- the section that a fault is in, and the segment
 abbrev pub section_text : List ℕ → List ℕ
-section_text section = codes "\"section\":" ++ json_text (path_words section)
+section_text section = codes "\"section\":" ++ json_text (path_text section)
 
 abbrev pub segment_text : SegmentPlace → List ℕ
 segment_text place =

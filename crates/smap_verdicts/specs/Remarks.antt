@@ -4,7 +4,7 @@ use Rattle.std.specs.Prelude.{Option, Some, None, slice_get, String, string_byte
 use Rattle.std.specs.List.{join_by}
 use Rattle.std.specs.declared.alloc.Global.{Global}
 use Rattle.smap_drops.specs.Naming.{shown_name}
-use Rattle.smap_record.specs.Words.{fault_words}
+use Rattle.smap_record.specs.Messages.{fault_message}
 use Rattle.smap_record.specs.declared.fault.Kind.{Kind}
 use Rattle.smap_record.specs.declared.fault.Kind.TheVariants as kinds
 use Rattle.smap_verdicts.specs.JsonLines.{failure_words}
@@ -42,9 +42,9 @@ names_text = join_by (λ name. shown_name (string_bytes name)) (codes ", ")
 
 -- what is said of a refused map, with the fault that repairs would leave, if that is told
 abbrev pub refusal_text : Refusal → Option (String Global) → List ℕ
-refusal_text why None = fault_words why.fault ++ hint why.fault.kind why.start
+refusal_text why None = fault_message why.fault ++ hint why.fault.kind why.start
 refusal_text why (Some left) =
-    fault_words why.fault ++ (codes "; once that is repaired: " ++ string_bytes left)
+    fault_message why.fault ++ (codes "; once that is repaired: " ++ string_bytes left)
 
 -- what is said of a map that loses members by a rewrite
 abbrev pub drops_text : List (String Global) → Option (List ℕ)
