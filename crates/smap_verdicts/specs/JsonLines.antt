@@ -16,13 +16,13 @@ use Rattle.smap_verdicts.specs.declared.outcome.Verdict.TheVariants as verdict
 use Rattle.smap_verdicts.specs.Outcomes.{name}
 
 -- what a failure is called
-abbrev pub failure_words : Failure → List ℕ
-failure_words failure.Unread = codes "cannot read it"
-failure_words failure.TooLong = codes "input too long"
-failure_words failure.Unwritable = codes "cannot write it"
-failure_words failure.Folder = codes "cannot write in its folder"
-failure_words failure.NotWritten = codes "write failed"
-failure_words failure.Memory = codes "out of memory"
+abbrev pub failure_text : Failure → List ℕ
+failure_text failure.Unread = codes "cannot read it"
+failure_text failure.TooLong = codes "input too long"
+failure_text failure.Unwritable = codes "cannot write it"
+failure_text failure.Folder = codes "cannot write in its folder"
+failure_text failure.NotWritten = codes "write failed"
+failure_text failure.Memory = codes "out of memory"
 
 -- a text as JSON, as `serde_json` writes it
 abbrev pub json_text : List ℕ → List ℕ
@@ -32,7 +32,7 @@ json_text text = compact_text (string text)
 abbrev pub fault_message : Verdict → Option (List ℕ)
 fault_message (verdict.Refused why) = Some (kind_message why.fault.kind)
 fault_message verdict.NotUrl = Some (codes "base is no URL")
-fault_message (verdict.Failed why) = Some (failure_words why)
+fault_message (verdict.Failed why) = Some (failure_text why)
 fault_message verdict.Accepted = None
 fault_message verdict.Unchanged = None
 fault_message verdict.Changed = None
