@@ -15,9 +15,9 @@ use Rattle.smap_finder.specs.Choice.{IsOpenedAs, IsUnopened, has_base, opening_n
 use Rattle.smap_finder.specs.Given.{Folder}
 use Rattle.smap_finder.specs.Opened.{GivesNone}
 use Rattle.smap_pick.specs.Places.{MapPlace}
-use Rattle.smap_finder.specs.ChosenView.{AreChosen, Choices, IsWithoutMap, Grows, HasMap, HasNone, IsFor}
-use Rattle.smap_finder.specs.ChosenView.{IsLeft, IsNotOpened}
-use Rattle.smap_finder.specs.ChosenView.{IsFind, IsServedBy, IsSettledIn, IsTried, Serves, further}
+use Rattle.smap_finder.specs.ChosenView.{AreChosen, Choices, Ends, IsCrowded, IsWithoutMap, Grows, HasMap, HasNone}
+use Rattle.smap_finder.specs.ChosenView.{IsFor, IsLeft, IsNotOpened}
+use Rattle.smap_finder.specs.ChosenView.{IsFind, IsServedBy, IsSettledIn, IsTried, Serves}
 use Rattle.smap_finder.specs.declared.chosen.Opening.{Opening}
 
 refused_worse : (held : Held) (root : Option Folder) (has_base : Bool) (place : MapPlace) (worst worse : ℕ)
@@ -60,28 +60,55 @@ gives_worse held w worst worse name found le g = record {
   without = unopened_worse held w (opening_name w g.opened g.opened_for) g.opened_for worst worse le g.without;
 }
 
-none_worse : (held : Held) (w : Wanted) (c d : Choices) (name : List ℕ) (found : Found) → c.again ≤ d.again
+-- what is crowded stays so
+abbrev pub StayCrowded : Ends → Ends → Type 0
+StayCrowded old new = (file : ℕ) → IsCrowded old file → IsCrowded new file
+
+none_worse : (held : Held) (w : Wanted) (c d : Choices) (name : List ℕ) (found : Found) → StayCrowded c.ends d.ends
     → c.worst ≤ d.worst → HasNone held w c name found → HasNone held w d name found
 none_worse held w c d name (Given i) a le h = gives_worse held w c.worst d.worst name (Given i) le h
-none_worse held w c d name (ByEnd i) a le (inl crowded) = inl (omega (arith, crowded, a))
+none_worse held w c d name (ByEnd i) a le (inl crowded) = inl (a i crowded)
 none_worse held w c d name (ByEnd i) a le (inr gives) = inr (gives_worse held w c.worst d.worst name (ByEnd i) le gives)
 none_worse held w c d name (Unclear i j) a le h = h
 none_worse held w c d name Missing a le h = h
 
-pub left_worse : (held : Held) (w : Wanted) (in_frames : Bool) (c d : Choices) (name : List ℕ) → c.again ≤ d.again
-    → c.worst ≤ d.worst → IsLeft held w in_frames c name → IsLeft held w in_frames d name
+pub left_worse : (held : Held) (w : Wanted) (in_frames : Bool) (c d : Choices) (name : List ℕ)
+    → StayCrowded c.ends d.ends → c.worst ≤ d.worst → IsLeft held w in_frames c name → IsLeft held w in_frames d name
 left_worse held w in_frames c d name a le (inl no_text) = inl no_text
 left_worse held w in_frames c d name a le (inr (found, picked, none)) =
     inr (found, picked, none_worse held w c d name found a le none)
 
-pub chosen_further : (held : Held) (w : Wanted) (c : Choices) (again worst : ℕ) → c.again ≤ again → c.worst ≤ worst
-    → AreChosen held w c → AreChosen held w (further c again worst)
-chosen_further held w c again worst a le chosen = record {
+-- the same choices, once files were opened for more names and worse maps refused
+abbrev pub further : Choices → Ends → ℕ → Choices
+further c ends worst = record {
+  mapped = c.mapped;
+  openings = c.openings;
+  left = c.left;
+  ends = ends;
+  worst = worst;
+}
+
+pub chosen_further : (held : Held) (w : Wanted) (c : Choices) (ends : Ends) (worst : ℕ) → StayCrowded c.ends ends
+    → c.worst ≤ worst → AreChosen held w c → AreChosen held w (further c ends worst)
+chosen_further held w c ends worst a le chosen = record {
   names = chosen.names;
   openings = λ k d lt. let o : Opening = get_or c.openings k d in
       tried_worse held w c.worst worst o.name.items o.found o.map le (chosen.openings k d lt);
-  left = λ k d lt. left_worse held w (get_or c.left k d).1 c (further c again worst) (get_or c.left k d).0.items a le
+  left = λ k d lt. left_worse held w (get_or c.left k d).1 c (further c ends worst) (get_or c.left k d).0.items a le
       (chosen.left k d lt);
+}
+
+pub chosen_worse : (held : Held) (w : Wanted) (c : Choices) (worst : ℕ) → c.worst ≤ worst → AreChosen held w c
+    → AreChosen held w (further c c.ends worst)
+chosen_worse held w c worst le chosen = chosen_further held w c c.ends worst (λ i is. is) le chosen
+
+pub grows_further : (c : Choices) (ends : Ends) (worst : ℕ) → StayCrowded c.ends ends → c.worst ≤ worst
+    → Grows c (further c ends worst)
+grows_further c ends worst a le = record {
+  mapped = λ i n is. is;
+  openings = λ i o is. is;
+  crowded = a;
+  worst = le;
 }
 
 pub serves_self : (name : List ℕ) (found : Found) → IsFind found → Serves name found name found
@@ -94,7 +121,7 @@ pub grows_self : (c : Choices) → Grows c c
 grows_self c = record {
   mapped = λ i n is. is;
   openings = λ i o is. is;
-  again = omega arith;
+  crowded = λ i is. is;
   worst = omega arith;
 }
 
@@ -102,7 +129,7 @@ pub grows_on : (a b c : Choices) → Grows a b → Grows b c → Grows a c
 grows_on a b c p q = record {
   mapped = λ i n is. q.mapped i n (p.mapped i n is);
   openings = λ i o is. q.openings i o (p.openings i o is);
-  again = omega (arith, p.again, q.again);
+  crowded = λ i is. q.crowded i (p.crowded i is);
   worst = omega (arith, p.worst, q.worst);
 }
 
@@ -123,7 +150,7 @@ has_grown c d name g (m, has) = (
 pub settled_grown : (held : Held) (w : Wanted) (in_frames : Bool) (c d : Choices) (name : List ℕ) → Grows c d
     → IsSettledIn held w in_frames c name → IsSettledIn held w in_frames d name
 settled_grown held w in_frames c d name g (inl has) = inl (has_grown c d name g has)
-settled_grown held w in_frames c d name g (inr left) = inr (left_worse held w in_frames c d name g.again g.worst left)
+settled_grown held w in_frames c d name g (inr left) = inr (left_worse held w in_frames c d name g.crowded g.worst left)
 
 -- names that were settled before, and those that are now
 pub all_settled : (held : Held) (w : Wanted) (in_frames : Bool) (c d : Choices) (names : List (Bor (List ℕ)))

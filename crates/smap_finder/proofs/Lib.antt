@@ -1,5 +1,6 @@
 pub mod ChoiceLemmas
 pub mod ChosenLemmas
+pub mod EndLemmas
 pub mod FolderLemmas
 pub mod FollowingLemmas
 pub mod GrowthLemmas

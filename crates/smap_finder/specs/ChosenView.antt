@@ -1,9 +1,10 @@
 -- What contracts say of the maps that were opened for a log.
-use Rattle.std.specs.Prelude.{◌≡◌, ◌⊎◌, ◌<◌, ◌≤◌, ℕ, Bool, List, [], Option, None, Some, string_bytes, true}
-use Rattle.std.specs.Prelude.{⊤}
+use Rattle.std.specs.Prelude.{◌≡◌, ◌⊎◌, ◌≤◌, ℕ, Bool, List, [], Option, None, Some, bytes_eq, is_some, length}
+use Rattle.std.specs.Prelude.{nat_eq, string_bytes, true, ⊤}
 use Rattle.std.specs.Global.{Vec}
 use Rattle.std.specs.Str.{IsUtf8}
-use Rattle.std.specs.List.{All, slice_get}
+use Rattle.std.specs.List.{All, Contains, IsDistinct, slice_get}
+use Rattle.std.specs.Map.{lookup}
 use Rattle.smap_disk.specs.Held.{Held}
 use Rattle.smap_link.specs.Paths.{bare}
 use Rattle.smap_link.specs.Table.{IsTable}
@@ -19,13 +20,19 @@ use Rattle.smap_finder.specs.declared.chosen.Opening.{Opening}
 use Rattle.smap_finder.specs.declared.opening.Opener.{Opener}
 use Rattle.smap_arguments.specs.declared.wanted.Wanted.{Wanted}
 
--- What was chosen: the names that have maps, the openings, the names that are left without maps, how often a file
--- was opened for a further name, and the greatest status of a map that was refused.
+-- The names for which files of folders without a URL were opened, without their queries and fragments: the
+-- first of each file, and the further ones.
+pub record Ends : Type 0 where
+  pub firsts : List (ℕ × Vec ℕ)
+  pub further : List (Vec ℕ)
+
+-- What was chosen: the names that have maps, the openings, the names that are left without maps, those for
+-- which files were opened that end as they do, and the greatest status of a map that was refused.
 pub record Choices : Type 0 where
   pub mapped : List MappedName
   pub openings : List Opening
   pub left : List (Vec ℕ × Bool)
-  pub again : ℕ
+  pub ends : Ends
   pub worst : ℕ
 
 abbrev pub choices_of : Chosen → Choices
@@ -33,12 +40,15 @@ choices_of c = record {
   mapped = c.mapped.items;
   openings = c.openings.items;
   left = c.left.entries;
-  again = c.again;
+  ends = record { firsts = c.files.entries; further = c.again.keys };
   worst = c.worst;
 }
 
+abbrev pub no_ends : Ends
+no_ends = record { firsts = []; further = [] }
+
 abbrev pub no_choices : Choices
-no_choices = record { mapped = []; openings = []; left = []; again = 0; worst = 0 }
+no_choices = record { mapped = []; openings = []; left = []; ends = no_ends; worst = 0 }
 
 -- what the files of its disk hold
 abbrev pub held_of : {D : Type 0} → (D → Held) → Opener D → Held
@@ -83,9 +93,9 @@ HasMap c name = (m : ReadMap) × Has c name m
 
 -- ---- names without a map
 
--- Files of folders without a URL were opened for further names as often as they may be.
-abbrev pub IsCrowded : Choices → Type 0
-IsCrowded c = MOST_AGAIN < c.again
+-- The file was opened, and such files were opened for as many further names as they may be.
+abbrev pub IsCrowded : Ends → ℕ → Type 0
+IsCrowded ends file = (is_some (lookup (nat_eq file) ends.firsts) ≡ true) × (MOST_AGAIN ≤ length ends.further)
 
 -- An opening that serves the name gave no map.
 pub record IsWithoutMap (held : Held) (w : Wanted) (worst : ℕ) (name : List ℕ) (found : Found) : Type 0 where
@@ -97,14 +107,14 @@ pub record IsWithoutMap (held : Held) (w : Wanted) (worst : ℕ) (name : List �
 -- What was found for a name gives no map.
 abbrev pub HasNone : Held → Wanted → Choices → List ℕ → Found → Type 0
 HasNone held w c name (Given i) = IsWithoutMap held w c.worst name (Given i)
-HasNone held w c name (ByEnd i) = IsCrowded c ⊎ IsWithoutMap held w c.worst name (ByEnd i)
+HasNone held w c name (ByEnd i) = IsCrowded c.ends i ⊎ IsWithoutMap held w c.worst name (ByEnd i)
 HasNone held w c name (Unclear i j) = ⊤
 HasNone held w c name Missing = ⊤
 
 -- What was found is not opened: nothing was, or its file was opened for other names too often.
 abbrev pub IsNotOpened : Choices → Found → Type 0
 IsNotOpened c (Given i) = ⊥
-IsNotOpened c (ByEnd i) = IsCrowded c
+IsNotOpened c (ByEnd i) = IsCrowded c.ends i
 IsNotOpened c (Unclear i j) = ⊤
 IsNotOpened c Missing = ⊤
 
@@ -121,6 +131,36 @@ IsLeft held w in_frames c name = (IsUtf8 name → ⊥)
 -- A name has its map, or is left without one.
 abbrev pub IsSettledIn : Held → Wanted → Bool → Choices → List ℕ → Type 0
 IsSettledIn held w in_frames c name = HasMap c name ⊎ IsLeft held w in_frames c name
+
+-- ---- names that end as files
+
+-- This is a name of a log, without its query and its fragment, which has this file, for that ends as it does.
+pub record IsEndOf (held : Held) (w : Wanted) (Asked : List ℕ → Type 0) (file : ℕ) (name : List ℕ)
+    : Type 0 where
+  pub whole : List ℕ
+  pub asked : Asked whole
+  pub name_is : bare whole ≡ name
+  pub in_frames : Bool
+  pub picked : IsPicked held w in_frames whole (ByEnd file)
+
+-- The file was first opened for another name.
+abbrev pub IsOther : List (ℕ × Vec ℕ) → ℕ → List ℕ → Type 0
+IsOther firsts file name =
+    (first : Vec ℕ) × (lookup (nat_eq file) firsts ≡ Some first) × (first.items ≡ name → ⊥)
+
+-- A name has a file that was first opened for another.
+abbrev pub IsFurther : (ℕ → List ℕ → Type 0) → List (ℕ × Vec ℕ) → Vec ℕ → Type 0
+IsFurther IsOf firsts name = (file : ℕ) × IsOf file name.items × IsOther firsts file name.items
+
+-- Each of these names has its file in this way, and no two further ones are the same.
+pub record AreEnds (IsOf : ℕ → List ℕ → Type 0) (ends : Ends) : Type 0 where
+  pub firsts : All (λ f. IsOf f.0 f.1.items) ends.firsts
+  pub further : All (IsFurther IsOf ends.firsts) ends.further
+  pub apart : IsDistinct (λ a b. bytes_eq a.items b.items) ends.further
+
+-- They are names of a log that have files that end as they do.
+abbrev pub AreEndsOf : Held → Wanted → (List ℕ → Type 0) → Choices → Type 0
+AreEndsOf held w Asked c = AreEnds (IsEndOf held w Asked) c.ends
 
 -- ---- all of them
 
@@ -145,22 +185,28 @@ pub record AreChosen (held : Held) (w : Wanted) (c : Choices) : Type 0 where
   pub openings : All (IsFor held w c.worst) c.openings
   pub left : All (IsLeftName held w c) c.left
 
--- The same, once more files were opened again and worse maps refused.
-abbrev pub further : Choices → ℕ → ℕ → Choices
-further c again worst = record {
-  mapped = c.mapped;
-  openings = c.openings;
-  left = c.left;
-  again = again;
-  worst = worst;
-}
-
 -- What was chosen stays, and more may be.
 pub record Grows (old new : Choices) : Type 0 where
   pub mapped : (i : ℕ) (n : MappedName) → slice_get old.mapped i ≡ Some n → slice_get new.mapped i ≡ Some n
   pub openings : (i : ℕ) (o : Opening) → slice_get old.openings i ≡ Some o → slice_get new.openings i ≡ Some o
-  pub again : old.again ≤ new.again
+  pub crowded : (file : ℕ) → IsCrowded old.ends file → IsCrowded new.ends file
   pub worst : old.worst ≤ new.worst
+
+-- Names that have files are still names of a log, if this one is, which has this file.
+abbrev pub KeepsEnd : Held → Wanted → List ℕ → ℕ → Choices → Choices → Type 0
+KeepsEnd held w name file old new = (asked : List (List ℕ)) → IsEndOf held w (Contains asked) file name
+    → AreEndsOf held w (Contains asked) old → AreEndsOf held w (Contains asked) new
+
+-- The same, if this one is, for which this was found.
+abbrev pub KeepsEnds : Held → Wanted → List ℕ → Found → Choices → Choices → Type 0
+KeepsEnds held w name found old new = (asked : List (List ℕ)) (in_frames : Bool)
+    → IsPicked held w in_frames name found → Contains asked name
+    → AreEndsOf held w (Contains asked) old → AreEndsOf held w (Contains asked) new
+
+-- The same, if these names are.
+abbrev pub KeepEnds : Held → Wanted → List (List ℕ) → Choices → Choices → Type 0
+KeepEnds held w names old new = (asked : List (List ℕ)) → All (Contains asked) names
+    → AreEndsOf held w (Contains asked) old → AreEndsOf held w (Contains asked) new
 
 -- No map was refused, unless broken maps are skipped.
 abbrev pub IsJudged : Bool → Choices → Type 0

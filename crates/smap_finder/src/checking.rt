@@ -25,6 +25,7 @@ pub fn check_all<E: Eprint + AllocGlobal, D: Disk>(
     requires over { IsOver D.held (D.held host.now.disk.now) wanted.now opener.old }
     ensures judged { OnOk result (IsJudged how.skip (choices_of chosen.new)) }
     ensures named { AreChosen (D.held host.now.disk.now) wanted.now (choices_of chosen.new) }
+    ensures ends { (choices_of chosen.new).ends ≡ (choices_of chosen.old).ends }
     ensures over { IsOver D.held (D.held host.now.disk.now) wanted.now opener.new }
 {
     check_places(host, &mut opener.store, how, wanted, chosen)?;
@@ -42,6 +43,7 @@ fn check_places<E: Eprint + AllocGlobal, D: Disk>(
 ) -> Result<(), Stop>
     requires { AreChosen (D.held store.old.disk.now) wanted.now (choices_of chosen.old) }
     ensures chosen { AreChosen (D.held store.old.disk.now) wanted.now (choices_of chosen.new) }
+    ensures ends { (choices_of chosen.new).ends ≡ (choices_of chosen.old).ends }
     ensures held { D.held store.new.disk.now ≡ D.held store.old.disk.now }
 {
     for (i, place) in wanted.places.iter().enumerate() {
@@ -64,6 +66,7 @@ fn check_files<E: Eprint + AllocGlobal, D: Disk>(
 ) -> Result<(), Stop>
     requires { AreChosen (D.held store.old.disk.now) wanted.now (choices_of chosen.old) }
     ensures chosen { AreChosen (D.held store.old.disk.now) wanted.now (choices_of chosen.new) }
+    ensures ends { (choices_of chosen.new).ends ≡ (choices_of chosen.old).ends }
     ensures held { D.held store.new.disk.now ≡ D.held store.old.disk.now }
 {
     for (i, file) in wanted.files.iter().enumerate() {
@@ -88,6 +91,7 @@ fn check_one<E: Eprint + AllocGlobal, D: Disk>(
 ) -> Result<(), Stop>
     requires { AreChosen (D.held store.old.disk.now) wanted.now (choices_of chosen.old) }
     ensures chosen { AreChosen (D.held store.old.disk.now) wanted.now (choices_of chosen.new) }
+    ensures ends { (choices_of chosen.new).ends ≡ (choices_of chosen.old).ends }
     ensures held { D.held store.new.disk.now ≡ D.held store.old.disk.now }
 {
     let map = opened_under(host, store, how, wanted, pick, &mut chosen.worst)?;

@@ -1,17 +1,19 @@
 //! The maps that were opened for the names of a log.
-ghost use Rattle.std.specs.Prelude.{◌≡◌, Bool, IfOk, IfSome, List, OnOk, Some, map, option_map, true, ℕ};
+ghost use Rattle.std.specs.Prelude.{◌≡◌, Bool, IfOk, IfSome, List, OnOk, Some, false, is_some, map, nat_eq};
+ghost use Rattle.std.specs.Prelude.{option_map, true, ℕ};
 ghost use Rattle.std.specs.Global.{Vec};
 ghost use Rattle.std.specs.List.{All, Contains, slice_get};
+ghost use Rattle.std.specs.Map.{lookup};
 ghost use Rattle.smap_disk.specs.Held.{Held};
 ghost use Rattle.smap_finder.specs.Choice.{IsPicked};
-ghost use Rattle.smap_finder.specs.ChosenView.{AreChosen, Grows, Has, HasMap, IsLeft, IsServedBy};
-ghost use Rattle.smap_finder.specs.ChosenView.{IsSettledIn};
-ghost use Rattle.smap_finder.specs.ChosenView.{IsTried, Serves, choices_of, no_choices};
+ghost use Rattle.smap_finder.specs.ChosenView.{AreChosen, Grows, Has, HasMap, IsLeft, IsOther, IsServedBy};
+ghost use Rattle.smap_finder.specs.ChosenView.{IsSettledIn, IsTried, KeepsEnd, KeepsEnds, Serves, choices_of};
+ghost use Rattle.smap_finder.specs.ChosenView.{no_choices};
 ghost use Rattle.smap_finder.specs.declared.chosen.Opening.{Opening};
 ghost use Rattle.smap_record.specs.Record.{ReadMap};
 ghost use Rattle.smap_arguments.specs.declared.wanted.Wanted.{Wanted};
 
-use indexmap::IndexMap;
+use indexmap::{IndexMap, IndexSet};
 use smap_link::bare;
 use smap_pick::Found;
 use smap_record::SourceMap;
@@ -63,7 +65,8 @@ fn serves(opened: &[u8], opened_for: Found, name: &[u8], found: Found) -> bool
 
 /// Whether these are the same.
 fn is_name(key: &[u8], name: &[u8]) -> bool
-    ensures { result ≡ true → key.now ≡ name.now }
+    ensures same { result ≡ true → key.now ≡ name.now }
+    ensures other { result ≡ false → key.now ≡ name.now → ⊥ }
 {
     if key == name {
         return true;
@@ -82,10 +85,13 @@ pub struct Chosen {
     pub(crate) names: IndexMap<String, usize>,
     /// Names that have no map, and whether they were looked for as those of frames.
     pub(crate) left: IndexMap<Vec<u8>, bool>,
-    /// The files of folders without a URL that were opened.
-    pub(crate) files: IndexMap<usize, ()>,
-    /// How often one of them was opened for a further name.
-    pub(crate) again: usize,
+    /// The files of folders without a URL that were opened, and the name for which each was first, without
+    /// its query and its fragment.
+    pub(crate) files: IndexMap<usize, Vec<u8>>,
+    /// The further names for which one of them was opened, likewise.
+    pub(crate) again: IndexSet<Vec<u8>>,
+    /// Whether it was told that there are too many of these.
+    pub(crate) is_crowded: bool,
     /// How many files gave maps.
     pub(crate) count: usize,
     /// Names that were told to be taken for others.
@@ -107,7 +113,8 @@ impl Chosen {
             names: IndexMap::new(alloc),
             left: IndexMap::new(alloc),
             files: IndexMap::new(alloc),
-            again: 0,
+            again: IndexSet::new(alloc),
+            is_crowded: false,
             count: 0,
             told: IndexMap::new(alloc),
             worst: 0,
@@ -226,12 +233,84 @@ impl Chosen {
         ensures number { IfOk result (λ n. (o : Opening) × (slice_get (choices_of self.new).openings n ≡ Some o)
             × (o.name.items ≡ name.now) × (o.found ≡ found)) }
         ensures grows { Grows (choices_of self.old) (choices_of self.new) }
+        ensures ends { (choices_of self.new).ends ≡ (choices_of self.old).ends }
     {
         let number = self.openings.len();
         let name = Vec::from_slice(alloc, name)?;
         self.numbers.insert(key, number)?;
         self.openings.push(Opening { name, found, map })?;
         Ok(number)
+    }
+
+    /// Whether a file of a folder without a URL was opened for a name.
+    pub(crate) fn is_opened(&self, file: usize) -> bool
+        ensures { result ≡ is_some (lookup (nat_eq file) (choices_of self.now).ends.firsts) }
+    {
+        self.files.contains_key(&file)
+    }
+
+    /// Whether it was first opened for another name than this.
+    fn is_further(&self, file: usize, name: &[u8]) -> bool
+        ensures { result ≡ true → IsOther (choices_of self.now).ends.firsts file name.now }
+    {
+        let Some(first) = self.files.get(&file) else {
+            return false;
+        };
+        !is_name(first, name)
+    }
+
+    /// Notes the first name for which a file of a folder without a URL was opened.
+    fn note_first(&mut self, alloc: Global, file: usize, name: &[u8]) -> Result<(), AllocError>
+        requires { is_some (lookup (nat_eq file) (choices_of self.old).ends.firsts) ≡ false }
+        ensures chosen { (held : Held) (wanted : Wanted) → AreChosen held wanted (choices_of self.old)
+            → AreChosen held wanted (choices_of self.new) }
+        ensures grows { Grows (choices_of self.old) (choices_of self.new) }
+        ensures ends { (held : Held) (wanted : Wanted) → KeepsEnd held wanted name.now file
+            (choices_of self.old) (choices_of self.new) }
+    {
+        let name = Vec::from_slice(alloc, name)?;
+        self.files.insert(file, name)?;
+        Ok(())
+    }
+
+    /// Notes a further name for which it was opened.
+    fn note_further(&mut self, alloc: Global, file: usize, name: &[u8]) -> Result<(), AllocError>
+        requires { IsOther (choices_of self.old).ends.firsts file name.now }
+        ensures chosen { (held : Held) (wanted : Wanted) → AreChosen held wanted (choices_of self.old)
+            → AreChosen held wanted (choices_of self.new) }
+        ensures grows { Grows (choices_of self.old) (choices_of self.new) }
+        ensures ends { (held : Held) (wanted : Wanted) → KeepsEnd held wanted name.now file
+            (choices_of self.old) (choices_of self.new) }
+    {
+        let name = Vec::from_slice(alloc, name)?;
+        self.again.insert(name)?;
+        Ok(())
+    }
+
+    /// Notes that what was found for a name was opened, if it is a file of a folder without a URL.
+    pub(crate) fn note_end(
+        &mut self,
+        alloc: Global,
+        name: &[u8],
+        found: Found,
+    ) -> Result<(), AllocError>
+        ensures chosen { (held : Held) (wanted : Wanted) → AreChosen held wanted (choices_of self.old)
+            → AreChosen held wanted (choices_of self.new) }
+        ensures grows { Grows (choices_of self.old) (choices_of self.new) }
+        ensures ends { (held : Held) (wanted : Wanted) → KeepsEnds held wanted name.now found
+            (choices_of self.old) (choices_of self.new) }
+    {
+        let Found::ByEnd(file) = found else {
+            return Ok(());
+        };
+        let name = bare(name);
+        if !self.is_opened(file) {
+            return self.note_first(alloc, file, name);
+        }
+        if self.is_further(file, name) {
+            return self.note_further(alloc, file, name);
+        }
+        Ok(())
     }
 
     /// Notes that a name has the map with this number.
@@ -248,6 +327,7 @@ impl Chosen {
         ensures has { OnOk result ((o : Opening) (m : ReadMap) → IsServedBy (choices_of self.old) number name.now found o
             → o.map ≡ Some m → Has (choices_of self.new) name.now m) }
         ensures grows { Grows (choices_of self.old) (choices_of self.new) }
+        ensures ends { (choices_of self.new).ends ≡ (choices_of self.old).ends }
     {
         let key = String::from_str(alloc, name)?;
         let name = String::from_str(alloc, name)?;
@@ -289,6 +369,7 @@ impl Chosen {
             → IsLeft held wanted in_frames (choices_of self.old) name
             → IsLeft held wanted in_frames (choices_of self.new) name }
         ensures grows { Grows (choices_of self.old) (choices_of self.new) }
+        ensures ends { (choices_of self.new).ends ≡ (choices_of self.old).ends }
     {
         if self.left.len() >= MOST_NAMES {
             self.left = IndexMap::new(alloc);
@@ -307,6 +388,7 @@ impl Chosen {
         ensures left { (held : Held) (wanted : Wanted) → IsLeft held wanted in_frames (choices_of self.old) name.now
             → IsLeft held wanted in_frames (choices_of self.new) name.now }
         ensures grows { Grows (choices_of self.old) (choices_of self.new) }
+        ensures ends { (choices_of self.new).ends ≡ (choices_of self.old).ends }
     {
         let name = Vec::from_slice(alloc, name)?;
         self.forget_left(alloc);

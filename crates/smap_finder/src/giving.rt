@@ -5,7 +5,8 @@ ghost use Rattle.smap_disk.specs.Held.{Held};
 ghost use Rattle.smap_finder.specs.Choice.{ArePicked, IsPickedBy};
 ghost use Rattle.smap_finder.specs.ChosenView.{AreChosen, Choices, Grows, IsFind, IsJudged, IsNumberOf};
 ghost use Rattle.smap_finder.specs.ChosenView.{IsOver};
-ghost use Rattle.smap_finder.specs.ChosenView.{IsNotOpened, IsServedBy, IsSettledIn, IsTried, choices_of};
+ghost use Rattle.smap_finder.specs.ChosenView.{IsNotOpened, IsServedBy, IsSettledIn, IsTried, KeepEnds};
+ghost use Rattle.smap_finder.specs.ChosenView.{KeepsEnds, choices_of};
 ghost use Rattle.smap_finder.specs.declared.chosen.Opening.{Opening};
 ghost use Rattle.smap_pick.specs.declared.picks.Found.{Found};
 
@@ -40,29 +41,26 @@ fn turn_of<E: Eprint + AllocGlobal, D: Disk>(
     host: &Host<'_, E, D>,
     found: Found,
     chosen: &mut Chosen,
-) -> Result<Turn, Stop>
-    ensures never { IfOk result (λ turn. turn ≡ Turn.Never → IsNotOpened (choices_of chosen.new) found) }
-    ensures chosen { (held : Held) (wanted : Wanted) → AreChosen held wanted (choices_of chosen.old)
-        → AreChosen held wanted (choices_of chosen.new) }
-    ensures grows { Grows (choices_of chosen.old) (choices_of chosen.new) }
+) -> Turn
+    ensures never { result ≡ Turn.Never → IsNotOpened (choices_of chosen.new) found }
+    ensures chosen { choices_of chosen.new ≡ choices_of chosen.old }
 {
-    let Found::ByEnd(i) = found else {
-        return Ok(Turn::First);
+    let Found::ByEnd(file) = found else {
+        return Turn::First;
     };
-    if chosen.files.insert(i, ())?.is_none() {
-        return Ok(Turn::First);
+    if !chosen.is_opened(file) {
+        return Turn::First;
     }
-    if chosen.again > MOST_AGAIN {
-        return Ok(Turn::Never);
+    if chosen.again.len() < MOST_AGAIN {
+        return Turn::Again;
     }
-    chosen.again = chosen.again.saturating_add(1);
-    if chosen.again <= MOST_AGAIN {
-        return Ok(Turn::Again);
+    if !chosen.is_crowded {
+        chosen.is_crowded = true;
+        host.say(
+            "many names in the log end as one file: those that are left as they are want URL/=FOLDER/",
+        );
     }
-    host.say(
-        "many names in the log end as one file: those that are left as they are want URL/=FOLDER/",
-    );
-    Ok(Turn::Never)
+    Turn::Never
 }
 
 /// Whether a map was found by a name.
@@ -98,7 +96,7 @@ pub(crate) fn opened_under<E: Eprint + AllocGlobal, D: Disk>(
     opened_map(host, store, how, wanted, &under, worst)
 }
 
-/// Opens the map of a pick, and notes that under this key.
+/// Opens the map of a pick, and notes that under this key, and for which name.
 fn open_one<E: Eprint + AllocGlobal, D: Disk>(
     host: &Host<'_, E, D>,
     store: &mut FileStore<'_, D>,
@@ -114,10 +112,13 @@ fn open_one<E: Eprint + AllocGlobal, D: Disk>(
         pick.now.found o) }
     ensures chosen { AreChosen (D.held store.old.disk.now) wanted.now (choices_of chosen.new) }
     ensures grows { Grows (choices_of chosen.old) (choices_of chosen.new) }
+    ensures ends { KeepsEnds (D.held store.old.disk.now) wanted.now pick.now.name.now pick.now.found
+        (choices_of chosen.old) (choices_of chosen.new) }
     ensures held { D.held store.new.disk.now ≡ D.held store.old.disk.now }
 {
     let map = opened_under(host, store, how, wanted, pick, &mut chosen.worst)?;
     let number = chosen.note_opening(host.alloc(), key, pick.name, pick.found, map)?;
+    chosen.note_end(host.alloc(), pick.name, pick.found)?;
     Ok(number)
 }
 
@@ -135,6 +136,8 @@ fn number_for<E: Eprint + AllocGlobal, D: Disk>(
     ensures number { IfOk result (IsNumberOf (choices_of chosen.new) pick.now.name.now pick.now.found) }
     ensures chosen { AreChosen (D.held store.old.disk.now) wanted.now (choices_of chosen.new) }
     ensures grows { Grows (choices_of chosen.old) (choices_of chosen.new) }
+    ensures ends { KeepsEnds (D.held store.old.disk.now) wanted.now pick.now.name.now pick.now.found
+        (choices_of chosen.old) (choices_of chosen.new) }
     ensures held { D.held store.new.disk.now ≡ D.held store.old.disk.now }
 {
     if !is_find(pick.found) {
@@ -144,7 +147,7 @@ fn number_for<E: Eprint + AllocGlobal, D: Disk>(
     if let Some(number) = chosen.number_of(&key, pick.name, pick.found) {
         return Ok(Some(number));
     }
-    let turn = turn_of(host, pick.found, chosen)?;
+    let turn = turn_of(host, pick.found, chosen);
     if turn == Turn::Never {
         return Ok(None);
     }
@@ -169,6 +172,7 @@ fn link_to(
         → AreChosen held wanted (choices_of chosen.new)
         × OnOk result (IsSettledIn held wanted in_frames (choices_of chosen.new) pick.now.name.now) }
     ensures grows { Grows (choices_of chosen.old) (choices_of chosen.new) }
+    ensures ends { (choices_of chosen.new).ends ≡ (choices_of chosen.old).ends }
 {
     let Ok(name) = std::str::from_utf8(pick.name) else {
         return chosen.note_left(alloc, pick.name, in_frames);
@@ -193,6 +197,7 @@ fn link(
         → AreChosen held wanted (choices_of chosen.new)
         × OnOk result (IsSettledIn held wanted in_frames (choices_of chosen.new) pick.now.name.now) }
     ensures grows { Grows (choices_of chosen.old) (choices_of chosen.new) }
+    ensures ends { (choices_of chosen.new).ends ≡ (choices_of chosen.old).ends }
 {
     match number {
         Some(number) => link_to(alloc, in_frames, pick, number, chosen),
@@ -216,6 +221,8 @@ fn give<E: Eprint + AllocGlobal, D: Disk>(
         (choices_of chosen.new) pick.now.name.now) }
     ensures chosen { AreChosen (D.held store.old.disk.now) wanted.now (choices_of chosen.new) }
     ensures grows { Grows (choices_of chosen.old) (choices_of chosen.new) }
+    ensures ends { KeepsEnds (D.held store.old.disk.now) wanted.now pick.now.name.now pick.now.found
+        (choices_of chosen.old) (choices_of chosen.new) }
     ensures held { D.held store.new.disk.now ≡ D.held store.old.disk.now }
 {
     let number = number_for(host, store, how, wanted, pick, chosen)?;
@@ -240,6 +247,8 @@ fn give_all<E: Eprint + AllocGlobal, D: Disk>(
         (choices_of chosen.new) p.name.now) picks.now) }
     ensures chosen { AreChosen (D.held store.old.disk.now) wanted.now (choices_of chosen.new) }
     ensures grows { Grows (choices_of chosen.old) (choices_of chosen.new) }
+    ensures ends { KeepEnds (D.held store.old.disk.now) wanted.now (map (λ p. p.name.now) picks.now)
+        (choices_of chosen.old) (choices_of chosen.new) }
     ensures held { D.held store.new.disk.now ≡ D.held store.old.disk.now }
 {
     for i in 0..picks.len() {
@@ -264,6 +273,8 @@ fn give_names<E: Eprint + AllocGlobal, D: Disk>(
         (choices_of chosen.new)) (map (λ n. n.now) names.now)) }
     ensures chosen { AreChosen (D.held host.now.disk.now) wanted.now (choices_of chosen.new) }
     ensures grows { Grows (choices_of chosen.old) (choices_of chosen.new) }
+    ensures ends { KeepEnds (D.held host.now.disk.now) wanted.now (map (λ n. n.now) names.now)
+        (choices_of chosen.old) (choices_of chosen.new) }
     ensures over { IsOver D.held (D.held host.now.disk.now) wanted.now opener.new }
 {
     if names.is_empty() {
@@ -281,9 +292,11 @@ fn unknown<'a>(
     names: &[&'a [u8]],
     chosen: &Chosen,
 ) -> Result<Vec<&'a [u8]>, AllocError>
-    ensures { (held : Held) (wanted : Wanted) → AreChosen held wanted (choices_of chosen.now)
+    ensures each { (held : Held) (wanted : Wanted) → AreChosen held wanted (choices_of chosen.now)
         → IfOk result (λ fresh. All (λ n. IsSettledIn held wanted in_frames (choices_of chosen.now) n.now
         ⊎ Contains (map (λ f. f.now) fresh.items) n.now) names.now) }
+    ensures among { IfOk result (λ fresh. All (λ f. Contains (map (λ n. n.now) names.now) f.now)
+        fresh.items) }
 {
     let mut unknown = Vec::new(alloc);
     for i in 0..names.len() {
@@ -324,6 +337,8 @@ pub fn open_for<E: Eprint + AllocGlobal, D: Disk>(
     ensures judged { OnOk result (IsJudged how.skip (choices_of chosen.new)) }
     ensures named { AreChosen (D.held host.now.disk.now) wanted.now (choices_of chosen.new) }
     ensures grows { Grows (choices_of chosen.old) (choices_of chosen.new) }
+    ensures ends { KeepEnds (D.held host.now.disk.now) wanted.now (map (λ n. n.now) names.now)
+        (choices_of chosen.old) (choices_of chosen.new) }
     ensures over { IsOver D.held (D.held host.now.disk.now) wanted.now opener.new }
 {
     let fresh = unknown(host.alloc(), in_frames, names, chosen)?;

@@ -5,5 +5,6 @@ use Rattle.smap_finder.proofs.checking.check_places.Given as goal
 abbrev pub invariant-loop-i : goal.invariant-loop-i
 invariant-loop-i g l = record {
   chosen : AreChosen (g.D.Disk.held l.initial.store.disk.now) l.wanted (choices_of l.chosen);
+  ends : (choices_of l.chosen).ends ≡ (choices_of l.initial.chosen).ends;
   held : g.D.Disk.held l.store.disk.now ≡ g.D.Disk.held l.initial.store.disk.now;
 }

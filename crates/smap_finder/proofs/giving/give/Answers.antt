@@ -1,5 +1,6 @@
-use Rattle.std.proofs.Common.{sym, subst}
+use Rattle.std.proofs.Common.{◌∙◌, ap, sym, subst}
 use Rattle.smap_finder.specs.ChosenView.{AreChosen, Choices, Grows, IsNumberOf, choices_of}
+use Rattle.smap_finder.proofs.EndLemmas.{keeps_then}
 use Rattle.smap_finder.proofs.GrowthLemmas.{grows_on}
 use Rattle.smap_finder.proofs.giving.give.Goals as goal
 
@@ -35,3 +36,15 @@ returns-clause-settled g c =
     (subst (AreChosen held w) (sym c.tell_pick.ensures) c.in_ok-number.ensures.chosen)
     c.requires.picked (subst (λ (d : Choices). IsNumberOf d c.args.pick.now.name.now c.args.pick.now.found
     c.in_ok-number.number) (sym c.tell_pick.ensures) c.in_ok-number.ensures.number)).1
+
+pub returns-in_err-link-clause-ends : goal.returns-in_err-link-clause-ends
+returns-in_err-link-clause-ends g c = keeps_then _ _ _ _ _ _ _ c.number_for.ensures.ends
+    (c.link.ensures.ends ∙ ap (λ (d : Choices). d.ends) c.tell_pick.ensures)
+
+pub returns-clause-ends : goal.returns-clause-ends
+returns-clause-ends g c = keeps_then _ _ _ _ _ _ _ c.number_for.ensures.ends
+    (c.link.ensures.ends ∙ ap (λ (d : Choices). d.ends) c.tell_pick.ensures)
+
+pub returns-in_err-tell_pick-clause-ends : goal.returns-in_err-tell_pick-clause-ends
+returns-in_err-tell_pick-clause-ends g c = keeps_then _ _ _ _ _ _ _ c.number_for.ensures.ends
+    (ap (λ (d : Choices). d.ends) c.tell_pick.ensures)

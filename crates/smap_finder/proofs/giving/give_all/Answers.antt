@@ -2,7 +2,8 @@ use Rattle.std.proofs.Common.{◌∙◌, [], get_or, subst}
 use Rattle.std.proofs.lemmas.List.{take_all}
 use Rattle.std.proofs.lemmas.List.Elements.{All-more}
 use Rattle.smap_disk.specs.Held.{Held}
-use Rattle.smap_finder.specs.ChosenView.{AreChosen, IsSettledIn, choices_of}
+use Rattle.smap_finder.specs.ChosenView.{AreChosen, IsSettledIn, KeepsEnds, choices_of}
+use Rattle.smap_finder.proofs.EndLemmas.{one_kept}
 use Rattle.smap_finder.proofs.GrowthLemmas.{all_grown, grows_on}
 use Rattle.smap_pick.specs.declared.picks.Found.TheVariants.{Given}
 use Rattle.smap_pick.specs.declared.picks.Pick.{Pick}
@@ -24,8 +25,22 @@ loop-i-preserved g c =
           c.in_ok-give.ensures.settled);
       chosen = subst (λ (h : Held). AreChosen h w after) was.held c.give.ensures.chosen;
       grows = grows_on _ _ _ was.grows c.give.ensures.grows;
+      ends = one_kept held w frames picks c.loop-i.i d _ _ _ c.loop-i-test.true c.requires.picked was.ends
+          (subst (λ (h : Held). KeepsEnds h w (get_or picks c.loop-i.i d).name.now (get_or picks c.loop-i.i d).found
+          (choices_of c.loop-i.chosen) after) was.held c.give.ensures.ends);
       held = c.give.ensures.held ∙ was.held;
     }
 
 pub returns-clause-settled : goal.returns-clause-settled
 returns-clause-settled g c = rw (take_all c.loop-i.i c.args.picks.now c.loop-i-test.false) at c.loop-i.invariant.settled
+
+pub returns-in_err-give-clause-ends : goal.returns-in_err-give-clause-ends
+returns-in_err-give-clause-ends g c =
+    let held = g.D.Disk.held c.args.store.now.disk.now in
+    let w = c.args.wanted.now in
+    let picks = c.args.picks.now in
+    let was = c.loop-i.invariant in
+    let d : Pick = record { name = record { ref_ptr = (0, 0); now = [] }; found = Given 0 } in
+    one_kept held w c.args.in_frames picks c.loop-i.i d _ _ _ c.loop-i-test.true c.requires.picked was.ends
+    (subst (λ (h : Held). KeepsEnds h w (get_or picks c.loop-i.i d).name.now (get_or picks c.loop-i.i d).found
+    (choices_of c.loop-i.chosen) (choices_of c.give.new.chosen)) was.held c.give.ensures.ends)

@@ -1,6 +1,6 @@
-use Rattle.std.proofs.Common.{◌≡◌, take}
+use Rattle.std.proofs.Common.{◌≡◌, map, take}
 use Rattle.std.specs.List.{All}
-use Rattle.smap_finder.specs.ChosenView.{AreChosen, Grows, IsSettledIn, choices_of}
+use Rattle.smap_finder.specs.ChosenView.{AreChosen, Grows, IsSettledIn, KeepEnds, choices_of}
 use Rattle.smap_finder.proofs.giving.give_all.Given as goal
 
 abbrev pub invariant-loop-i : goal.invariant-loop-i
@@ -9,5 +9,7 @@ invariant-loop-i g l = record {
       (choices_of l.chosen) p.name.now) (take l.i l.picks);
   chosen : AreChosen (g.D.Disk.held l.initial.store.disk.now) l.wanted (choices_of l.chosen);
   grows : Grows (choices_of l.initial.chosen) (choices_of l.chosen);
+  ends : KeepEnds (g.D.Disk.held l.initial.store.disk.now) l.wanted (map (λ p. p.name.now) l.picks)
+      (choices_of l.initial.chosen) (choices_of l.chosen);
   held : g.D.Disk.held l.store.disk.now ≡ g.D.Disk.held l.initial.store.disk.now;
 }

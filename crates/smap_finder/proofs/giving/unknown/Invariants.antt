@@ -6,6 +6,9 @@ use Rattle.smap_finder.specs.ChosenView.{AreChosen, IsSettledIn, choices_of}
 use Rattle.smap_finder.proofs.giving.unknown.Given as goal
 
 abbrev pub invariant-loop-i : goal.invariant-loop-i
-invariant-loop-i l = (held : Held) (wanted : Wanted) → AreChosen held wanted (choices_of l.chosen)
-    → All (λ n. IsSettledIn held wanted l.in_frames (choices_of l.chosen) n.now
-    ⊎ Contains (map (λ f. f.now) l.unknown.items) n.now) (take l.i l.names)
+invariant-loop-i l = record {
+  each : (held : Held) (wanted : Wanted) → AreChosen held wanted (choices_of l.chosen)
+      → All (λ n. IsSettledIn held wanted l.in_frames (choices_of l.chosen) n.now
+      ⊎ Contains (map (λ f. f.now) l.unknown.items) n.now) (take l.i l.names);
+  among : All (λ f. Contains (map (λ n. n.now) l.names) f.now) l.unknown.items;
+}

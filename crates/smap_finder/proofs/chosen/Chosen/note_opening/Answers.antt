@@ -36,6 +36,6 @@ returns-clause-grows c = record {
   mapped = λ i n is. is;
   openings = λ i o is. subst (λ (l : List Opening). slice_get l i ≡ Some o) (sym c.in_ok-push.ensures.items)
       (kept_at c.args.self.now.openings.items _ i o is);
-  again = omega arith;
+  crowded = λ i is. is;
   worst = omega arith;
 }
