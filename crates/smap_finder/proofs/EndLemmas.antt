@@ -12,9 +12,9 @@ use Rattle.indexmap.specs.IndexSet.{insert_key}
 use Rattle.smap_arguments.specs.declared.wanted.Wanted.{Wanted}
 use Rattle.smap_disk.specs.Held.{Held}
 use Rattle.smap_link.specs.Paths.{bare}
-use Rattle.smap_pick.specs.declared.finding.Found.{Found}
-use Rattle.smap_pick.specs.declared.finding.Found.TheVariants.{ByEnd}
-use Rattle.smap_pick.specs.declared.finding.Pick.{Pick}
+use Rattle.smap_pick.specs.declared.picks.Found.{Found}
+use Rattle.smap_pick.specs.declared.picks.Found.TheVariants.{ByEnd}
+use Rattle.smap_pick.specs.declared.picks.Pick.{Pick}
 use Rattle.smap_finder.specs.Choice.{IsPicked, IsPickedBy}
 use Rattle.smap_finder.specs.ChosenView.{AreEnds, Ends, IsEndOf, IsFurther, IsOther}
 use Rattle.smap_finder.specs.declared.giving.TheConstants.{MOST_AGAIN}
