@@ -11,8 +11,8 @@ use Rattle.smap_disk.specs.Held.{Held, IsHeld}
 use Rattle.smap_finder.specs.Choice.{AreChoices, ArePicksIn, ArePicksOf, IsFoundIn, NamesMap, files_of}
 use Rattle.smap_finder.specs.Choice.{is_half_unclear}
 use Rattle.smap_finder.specs.Choice.{places_of}
-use Rattle.smap_finder.specs.Given.{Folder, IsFollowed, Names, folder_for}
-use Rattle.smap_finder.specs.declared.following.Followed.TheVariants as followed
+use Rattle.smap_opening.specs.Given.{Folder, IsFollowed, Names, folder_for}
+use Rattle.smap_opening.specs.declared.following.Followed.TheVariants as followed
 use Rattle.smap_arguments.specs.declared.wanted.Wanted.{Wanted}
 use Rattle.smap_pick.specs.Picks.{IsPick}
 use Rattle.smap_pick.specs.Places.{MapPlace, scripts_of}

@@ -12,10 +12,11 @@ use Rattle.smap_pick.specs.declared.picks.Pick.{Pick}
 use Rattle.smap_record.specs.Record.{ReadMap}
 use Rattle.smap_finder.proofs.ChoiceLemmas.{one_of}
 use Rattle.smap_finder.specs.Choice.{IsOpenedAs, IsUnopened, has_base, opening_name, root_of}
-use Rattle.smap_finder.specs.Given.{Folder}
-use Rattle.smap_finder.specs.Opened.{GivesNone}
+use Rattle.smap_opening.specs.Given.{Folder}
+use Rattle.smap_opening.specs.Opened.{GivesNone}
 use Rattle.smap_pick.specs.Places.{MapPlace}
-use Rattle.smap_finder.specs.ChosenView.{AreChosen, Choices, Ends, IsCrowded, IsWithoutMap, Grows, HasMap, HasNone}
+use Rattle.smap_finder.specs.ChosenView.{AreChosen, Choices, Ends, IsCrowded, IsWithoutMap, Grows, HasMap}
+use Rattle.smap_finder.specs.ChosenView.{HasNone}
 use Rattle.smap_finder.specs.ChosenView.{IsFor, IsLeft, IsNotOpened}
 use Rattle.smap_finder.specs.ChosenView.{IsFind, IsServedBy, IsSettledIn, IsTried, Serves}
 use Rattle.smap_finder.specs.declared.chosen.Opening.{Opening}

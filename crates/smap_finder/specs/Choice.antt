@@ -16,9 +16,9 @@ use Rattle.smap_pick.specs.declared.picks.Found.{Found}
 use Rattle.smap_pick.specs.declared.picks.Found.TheVariants.{Given, ByEnd, Unclear, Missing}
 use Rattle.smap_pick.specs.declared.picks.Pick.{Pick}
 use Rattle.smap_record.specs.Record.{ReadMap}
-use Rattle.smap_finder.specs.Given.{Folder, Names, folder_for}
-use Rattle.smap_finder.specs.Opened.{GivesNone, IsOpened}
-use Rattle.smap_finder.specs.RootView.{folder_in}
+use Rattle.smap_opening.specs.Given.{Folder, Names, folder_for}
+use Rattle.smap_opening.specs.Opened.{GivesNone, IsOpened}
+use Rattle.smap_opening.specs.RootView.{folder_in}
 use Rattle.smap_arguments.specs.declared.wanted.Origin.{Origin}
 use Rattle.smap_arguments.specs.declared.wanted.Origin.TheVariants as origin
 use Rattle.smap_arguments.specs.declared.wanted.Wanted.{Wanted}

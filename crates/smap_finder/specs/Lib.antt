@@ -1,5 +1,2 @@
 pub mod Choice
 pub mod ChosenView
-pub mod Given
-pub mod Opened
-pub mod RootView

@@ -2,14 +2,14 @@
 ghost use Rattle.std.specs.Prelude.{◌≡◌, OnOk};
 ghost use Rattle.smap_finder.specs.ChosenView.{AreChosen, IsJudged, IsOver, choices_of};
 
-use crate::chosen::{Chosen, How};
+use crate::chosen::Chosen;
 use crate::giving::{judge, opened_under};
-use crate::loading::FileStore;
 use crate::opening::Opener;
 use crate::picking::{key_of_found, name_of_file};
 use smap_arguments::Wanted;
 use smap_disk::Disk;
 use smap_host::{Host, Stop};
+use smap_opening::{FileStore, How};
 use smap_pick::{Found, Pick};
 
 /// Reads every map there is, and names each that is refused; then the run ends, unless broken maps are

@@ -22,15 +22,6 @@ use std::alloc::{AllocError, Global};
 /// So many names without a map are remembered at most, and, where a log is read once, so many with one.
 const MOST_NAMES: usize = 100_000;
 
-/// What is wanted of the choice.
-#[derive(Clone, Copy)]
-pub struct How {
-    /// Maps that are refused are left out.
-    pub skip: bool,
-    /// What is chosen is told.
-    pub verbose: bool,
-}
-
 /// What a name has, opened.
 #[derive(Drop)]
 pub(crate) struct Opening {

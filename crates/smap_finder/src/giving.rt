@@ -10,14 +10,14 @@ ghost use Rattle.smap_finder.specs.ChosenView.{KeepsEnds, choices_of};
 ghost use Rattle.smap_finder.specs.declared.chosen.Opening.{Opening};
 ghost use Rattle.smap_pick.specs.declared.picks.Found.{Found};
 
-use crate::chosen::{Chosen, How};
-use crate::loading::FileStore;
+use crate::chosen::Chosen;
 use crate::opening::{Opener, opened_map};
 use crate::picking::{key_of_found, opening_name, picks_of};
 use crate::telling::tell_pick;
 use smap_arguments::Wanted;
 use smap_disk::Disk;
 use smap_host::{Host, Stop};
+use smap_opening::{FileStore, How};
 use smap_pick::{Found, Pick};
 use smap_record::SourceMap;
 use std::alloc::{AllocError, Global};

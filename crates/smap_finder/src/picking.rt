@@ -10,12 +10,12 @@ ghost use Rattle.smap_finder.specs.Choice.{IsHalfUnclear, Links, files_of, place
 ghost use Rattle.smap_arguments.specs.declared.wanted.Wanted.{Wanted};
 ghost use Rattle.smap_disk.specs.Held.{Held};
 
-use crate::following::{Followed, follow};
 use crate::roots::{root_of, slices};
 use smap_arguments::{LIMIT, Wanted};
 use smap_disk::{Disk, read_file};
 use smap_host::{Host, Stop};
 use smap_link::{ScriptTable, bare, is_path, own_url};
+use smap_opening::{Followed, follow};
 use smap_pick::{Found, Pick, Place, pick_all, usual_place};
 use std::alloc::{AllocError, Global};
 

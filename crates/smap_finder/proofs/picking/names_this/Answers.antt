@@ -5,8 +5,8 @@ use Rattle.smap_pick.specs.PlaceView.{place_in}
 use Rattle.smap_pick.specs.Places.{MapPlace, usual_place}
 use Rattle.smap_pick.specs.declared.picks.Found.TheVariants.{ByEnd}
 use Rattle.smap_finder.specs.Choice.{root_of}
-use Rattle.smap_finder.specs.Given.{IsFollowed, folder_for}
-use Rattle.smap_finder.specs.declared.following.Followed.TheVariants as followed
+use Rattle.smap_opening.specs.Given.{IsFollowed, folder_for}
+use Rattle.smap_opening.specs.declared.following.Followed.TheVariants as followed
 use Rattle.smap_finder.proofs.ChoiceLemmas.{file_at, names_map}
 use Rattle.smap_finder.proofs.picking.names_this.Goals as goal
 

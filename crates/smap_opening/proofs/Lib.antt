@@ -1,0 +1,3 @@
+pub mod FolderLemmas
+pub mod FollowingLemmas
+pub mod ReachedLemmas
