@@ -52,7 +52,8 @@ pub fn copied(alloc: Global, place: &Place) -> Result<Place, AllocError>
 
 /// The URL that was given with the script, or else this one.
 fn given_base(alloc: Global, subject: &Subject<'_>, base: Vec<u8>) -> Result<Vec<u8>, AllocError>
-    ensures { IfOk result (λ it. it.items ≡ cond subject.now.has_base subject.now.place.base.items base.items) }
+    ensures { IfOk result (λ it.
+        it.items ≡ cond subject.now.has_base subject.now.place.base.items base.items) }
 {
     if subject.has_base {
         return Vec::from_slice(alloc, &subject.place.base);
