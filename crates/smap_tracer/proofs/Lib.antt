@@ -1,6 +1,4 @@
-pub mod LogLemmas
 pub mod NamedLemmas
-pub mod NamingLemmas
 pub mod PartsLemmas
 pub mod RunLemmas
 pub mod ScriptLemmas

@@ -1,5 +1,6 @@
 -- Logs that are looked through for names block by block.
-use Rattle.std.proofs.Common.{◌≡◌, ◌∙◌, ap, sym, subst, ℕ, ◌+◌, ◌-◌, ◌<◌, Bool, false, List, [], ◌∷◌, ◌++◌, length, take, get_or, Bor, Option, inl, inr, refl, arith, add-one}
+use Rattle.std.proofs.Common.{◌≡◌, ◌∙◌, ap, sym, subst, ℕ, ◌+◌, ◌-◌, ◌<◌, Bool, false, List, [], ◌∷◌, ◌++◌}
+use Rattle.std.proofs.Common.{length, take, get_or, Bor, Option, inl, inr, refl, arith, add-one}
 use Rattle.std.specs.Io.{IsEmptyOrEndsWith}
 use Rattle.std.specs.Io.KnownBytes.{Consumes, IsAtEnd}
 use Rattle.std.proofs.KnownBytes.{Consumes-nil, Consumes-trans}
@@ -12,10 +13,10 @@ use Rattle.smap_trace.specs.Naming.{urls_of}
 use Rattle.smap_trace.specs.Pieces.{IsWhole}
 use Rattle.smap_trace.proofs.NamingLemmas.{urls_of-append}
 use Rattle.smap_trace.proofs.RunLemmas.{both_whole}
-use Rattle.smap_tracer.specs.Naming.{AddsNames, AreSame, HasNamesOf, frames_of}
-use Rattle.smap_tracer.specs.declared.naming.Names.{Names}
-use Rattle.smap_tracer.proofs.NamingLemmas.{same_more, same_none}
-use Rattle.smap_tracer.proofs.PartsLemmas.{all_taken}
+use Rattle.smap_logs.specs.Naming.{AddsNames, AreSame, HasNamesOf, frames_of}
+use Rattle.smap_logs.specs.declared.naming.Names.{Names}
+use Rattle.smap_logs.proofs.NamingLemmas.{same_more, same_none}
+use Rattle.smap_logs.proofs.LogLemmas.{all_taken}
 
 is_whole : (text : List ℕ) → IsEmptyOrEndsWith text 10 → IsWhole text
 is_whole [] ends = inl refl

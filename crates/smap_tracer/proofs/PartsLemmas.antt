@@ -1,5 +1,6 @@
 -- Logs that are translated part by part.
-use Rattle.std.proofs.Common.{◌≡◌, ◌∙◌, ap, sym, subst, ℕ, ◌<◌, Bool, false, List, [], ◌∷◌, ◌++◌, length, take, get_or, Bor, Option, Some, None, option_map, refl, append-nil, arith}
+use Rattle.std.proofs.Common.{◌≡◌, ◌∙◌, ap, sym, subst, ℕ, ◌<◌, Bool, false, List, [], ◌∷◌, ◌++◌, length}
+use Rattle.std.proofs.Common.{take, get_or, Bor, Option, Some, None, option_map, refl, append-nil, arith}
 use Rattle.std.specs.List.{concat}
 use Rattle.std.specs.Io.{IsEmptyOrEndsWith}
 use Rattle.std.specs.Io.KnownBytes.{Consumes, IsAtEnd}
@@ -11,7 +12,10 @@ use Rattle.std.proofs.lemmas.List.Folds.{concat-append}
 use Rattle.std.proofs.Math.Seq.{take-length}
 use Rattle.smap_disk.specs.Held.{GivesHeld, HasSize, Held}
 use Rattle.smap_tracer.specs.declared.tracing.Job.{Job}
-use Rattle.smap_tracer.specs.Written.{AreTracedParts, AreWhole, HaveSizes, IsAll, IsBegun, IsTraced, IsTracedLog, IsTracedText, IsTracedTextIn, IsNameOf}
+use Rattle.smap_tracer.specs.Written.{AreTracedParts, AreWhole, HaveSizes, IsBegun, IsTraced, IsTracedLog}
+use Rattle.smap_tracer.specs.Written.{IsTracedText, IsTracedTextIn, IsNameOf}
+use Rattle.smap_logs.specs.Logs.{IsAll}
+use Rattle.smap_logs.proofs.LogLemmas.{all_taken}
 
 -- each of these parts is whole lines
 abbrev pub AreLines : List (List ℕ) → Type 0
@@ -72,11 +76,6 @@ one_more_part held job Sought was ended left rest next before middle after part 
       (Consumes-trans left rest next (concat all.parts) part all.taken taken);
   traced = more_parts held job Sought all.parts part before middle after all.traced one;
 }
-
-pub all_taken : (left rest : Option (List ℕ)) (text : List ℕ) → Consumes left rest text → IsAtEnd rest → IsAll left text
-all_taken None rest text taken end = tt
-all_taken (Some x) None text taken end = absurd taken
-all_taken (Some x) (Some y) text taken end = taken ∙ ap (λ l. text ++ l) end ∙ append-nil text
 
 pub all_parts : (held : Held) (job : Job) (Sought : List ℕ → Type 0) (ended : Bool)
     (left rest before after : Option (List ℕ)) → SoFar held job Sought ended left rest before after → IsAtEnd rest

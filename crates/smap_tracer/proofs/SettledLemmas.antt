@@ -1,18 +1,22 @@
 -- Names that have their maps, or are left without one.
-use Rattle.std.proofs.Common.{◌≡◌, ◌∙◌, sym, subst, arith, ℕ, List, [], ◌∷◌, Bor, Option, None, Some, Result, Ok, Err, OnOk, map, true}
+use Rattle.std.proofs.Common.{◌≡◌, ◌∙◌, sym, subst, arith, ℕ, List, [], ◌∷◌, Bor, Option, None, Some, Result}
+use Rattle.std.proofs.Common.{Ok, Err, OnOk, map, true}
 use Rattle.std.specs.Prelude.{⊤}
 use Rattle.std.specs.List.{All, Contains}
 use Rattle.std.proofs.lemmas.List.Elements.{All-contains, All-map, All-nil}
 use Rattle.smap_disk.specs.Held.{GivesHeld, Held}
 use Rattle.smap_arguments.specs.declared.wanted.Wanted.{Wanted}
-use Rattle.smap_finder.specs.ChosenView.{AreChosen, Choices, Grows, IsFor, IsJudged, IsLeftName, IsNamed, IsSettledIn, no_choices}
+use Rattle.smap_finder.specs.ChosenView.{AreChosen, Choices, Grows, IsFor, IsJudged, IsLeftName, IsNamed}
+use Rattle.smap_finder.specs.ChosenView.{IsSettledIn, no_choices}
 use Rattle.smap_finder.proofs.GrowthLemmas.{settled_grown}
 use Rattle.smap_trace.specs.Naming.{urls_of}
-use Rattle.smap_tracer.specs.Naming.{AreIn, HaveNames, frames_of}
-use Rattle.smap_tracer.specs.Written.{AreSettled, AreSettledLogs, IsAll, IsBegun, IsNameOf, IsTracedLog, IsTracedTextIn}
-use Rattle.smap_tracer.specs.declared.naming.Names.{Names}
+use Rattle.smap_logs.specs.Naming.{AreIn, HaveNames, frames_of}
+use Rattle.smap_tracer.specs.Written.{AreSettled, AreSettledLogs, IsBegun, IsNameOf, IsTracedLog}
+use Rattle.smap_tracer.specs.Written.{IsTracedTextIn}
+use Rattle.smap_logs.specs.declared.naming.Names.{Names}
 use Rattle.smap_tracer.specs.declared.tracing.Job.{Job}
 use Rattle.smap_tracer.proofs.PartsLemmas.{one_log, text_sought}
+use Rattle.smap_logs.specs.Logs.{IsAll}
 
 -- before any name
 pub none_chosen : (held : Held) (wanted : Wanted) (choices : Choices) → choices ≡ no_choices

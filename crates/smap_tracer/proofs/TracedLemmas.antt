@@ -1,5 +1,6 @@
 -- Scripts whose maps are open have maps that the arguments name.
-use Rattle.std.proofs.Common.{◌≡◌, ◌∙◌, ap, sym, ℕ, ◌+◌, ◌<◌, List, [], ◌∷◌, ◌++◌, length, map, take, Bor, Option, option_map, Result, Ok, Err, OnOk, get_or, subst, refl, Some, inl, inr}
+use Rattle.std.proofs.Common.{◌≡◌, ◌∙◌, ap, sym, ℕ, ◌+◌, ◌<◌, List, [], ◌∷◌, ◌++◌, length, map, take, Bor}
+use Rattle.std.proofs.Common.{Option, option_map, Result, Ok, Err, OnOk, get_or, subst, refl, Some, inl, inr}
 use Rattle.std.specs.Prelude.{⊤}
 use Rattle.std.specs.List.{All, Contains}
 use Rattle.smap_trace.specs.Naming.{urls_of}
@@ -15,7 +16,10 @@ use Rattle.smap_trace.specs.Translation.{Script}
 use Rattle.smap_trace.specs.Views.{script_in, scripts_in}
 use Rattle.smap_tracer.specs.declared.tracing.Job.{Job}
 use Rattle.smap_tracer.proofs.PartsLemmas.{one_log, one_part}
-use Rattle.smap_tracer.specs.Written.{AreNamed, AreTraced, HasMapOf, HasNamedMap, AreSettled, IsAll, IsNameOf, IsBegun, IsTracedFront, IsTracedIn, IsTracedLog, IsTracedTextIn, IsTranslatedIn}
+use Rattle.smap_tracer.specs.Written.{AreNamed, AreTraced, HasMapOf, HasNamedMap, AreSettled, IsNameOf}
+use Rattle.smap_tracer.specs.Written.{IsBegun, IsTracedFront, IsTracedIn, IsTracedLog, IsTracedTextIn}
+use Rattle.smap_tracer.specs.Written.{IsTranslatedIn}
+use Rattle.smap_logs.specs.Logs.{IsAll}
 
 named_map : (held : Held) (wanted : Wanted) (chosen : Chosen) (script : Script) → AreNamed held wanted chosen
     → HasMapOf (choices_of chosen) script → HasNamedMap held wanted script

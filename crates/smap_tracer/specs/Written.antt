@@ -19,15 +19,11 @@ use Rattle.smap_trace.specs.Translation.{Fate, Script, fate_by, translation_by}
 use Rattle.smap_trace.specs.declared.match_mode.MatchMode.{MatchMode}
 use Rattle.smap_tracer.specs.declared.decorating.Style.{Style}
 use Rattle.smap_tracer.specs.declared.tracing.Job.{Job}
+use Rattle.smap_logs.specs.Logs.{IsAll}
 
 -- Lines are written as they are translated: no beginnings of URLs are replaced, and no sources are shown.
 abbrev pub is_plain_style : {A B : Type 0} → List A → Option B → Bool
 is_plain_style prefixes context = (length prefixes == 0) && not (is_some context)
-
--- The text is all that a reader has, where that is known.
-abbrev pub IsAll : Option (List ℕ) → List ℕ → Type 0
-IsAll None text = ⊤
-IsAll (Some left) text = left ≡ text
 
 -- The translation of all that a reader had was written behind what the output held.
 pub record IsTranslated (fates : List ℕ → Fate) (left before after : Option (List ℕ)) : Type 0 where

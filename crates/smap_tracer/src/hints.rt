@@ -1,9 +1,9 @@
 //! What helps where nothing was translated, or a log can't be read as it is.
-use crate::naming::Names;
 use smap_arguments::Wanted;
 use smap_disk::Disk;
 use smap_finder::Chosen;
 use smap_host::{Host, Stop, shown};
+use smap_logs::Names;
 
 /// Says what a log is that isn't text in UTF-8, by its first bytes. Answers whether it is none.
 pub(crate) fn hint_at_start<E: Eprint + AllocGlobal, D: Disk>(

@@ -1,12 +1,11 @@
 //! `--list`: the scripts that a log names.
 use crate::hints::hint_at_start;
-use crate::logs::Log;
-use crate::naming::Names;
 use smap_arguments::Wanted;
 use smap_disk::{Disk, printable};
 use smap_finder::Chosen;
 use smap_host::{Host, Stop, shown};
 use smap_lines::Looked;
+use smap_logs::{Log, Names};
 use std::alloc::{AllocError, Global};
 use std::io::Read;
 

@@ -7,11 +7,11 @@ ghost use Rattle.smap_tracer.specs.OutputView.{contents_of};
 ghost use Rattle.smap_tracer.specs.Written.{IsTranslated};
 
 use crate::decorating::Style;
-use crate::logs::Heeded;
 use crate::scripts::Scripts;
 use smap_disk::{Disk, Watched};
 use smap_host::{Host, Stop};
 use smap_io::Device;
+use smap_logs::Heeded;
 use smap_trace::{Counts, TraceError, translate_by};
 use std::alloc::Global;
 use std::io::{self, Read, Write};

@@ -5,21 +5,21 @@ ghost use Rattle.std.specs.Io.Take.{take_remaining};
 ghost use Rattle.smap_disk.specs.Held.{GivesHeld, HasSize};
 ghost use Rattle.smap_finder.specs.ChosenView.{IsOver, choices_of, no_choices};
 ghost use Rattle.smap_trace.specs.Naming.{urls_of};
-ghost use Rattle.smap_tracer.specs.Naming.{AddsNames, HaveNames, frames_of};
+ghost use Rattle.smap_logs.specs.Naming.{AddsNames, HaveNames, frames_of};
 ghost use Rattle.smap_tracer.specs.OutputView.{contents_of};
-ghost use Rattle.smap_tracer.specs.Written.{AreNamed, AreTraced, HaveSizes, IsTracedFront, IsTracedIn, IsTracedLog};
+ghost use Rattle.smap_tracer.specs.Written.{AreNamed, AreTraced, HaveSizes, IsTracedFront, IsTracedIn};
+ghost use Rattle.smap_tracer.specs.Written.{IsTracedLog};
 ghost use Rattle.smap_tracer.specs.Written.{AreSettled, AreSettledLogs, IsNameOf, IsTracedTextIn};
 
 use crate::decorating::Style;
 use crate::hints::{hint_at_nothing, hint_at_start};
-use crate::logs::Log;
-use crate::naming::{Names, names_in};
 use crate::output::Output;
 use crate::translating::{Tally, begin_log, translate_lines, translate_log};
 use smap_arguments::Wanted;
 use smap_disk::Disk;
 use smap_finder::{Chosen, How, Opener, open_for, tell_count};
 use smap_host::{Host, Stop};
+use smap_logs::{Log, Names, names_in};
 use std::alloc::Global;
 use std::io::{Read, Take, Write};
 

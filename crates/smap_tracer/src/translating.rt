@@ -7,12 +7,12 @@ ghost use Rattle.smap_tracer.specs.OutputView.{contents_of};
 ghost use Rattle.smap_tracer.specs.Written.{IsBegun, IsTranslated, IsTranslatedIn};
 
 use crate::decorating::{Style, decorate};
-use crate::logs::{Heeded, Log};
 use crate::output::Output;
 use crate::scripts::{Scripts, scripts_of};
 use smap_disk::Disk;
 use smap_finder::Chosen;
 use smap_host::{Host, Stop};
+use smap_logs::{Heeded, Log};
 use smap_trace::{Counts, TraceError};
 use std::io::{Read, Write};
 

@@ -1,10 +1,10 @@
 use Rattle.std.proofs.Common.{◌∙◌, ap, subst, List, ℕ, Some}
 use Rattle.std.specs.Prelude.{⊤}
 use Rattle.std.specs.Io.KnownBytes.{IsAtEnd}
-use Rattle.smap_tracer.specs.Logs.{handed, pending}
+use Rattle.smap_logs.specs.Logs.{handed, pending}
 use Rattle.smap_tracer.specs.OutputView.{contents_of}
 use Rattle.smap_tracer.specs.Written.{IsTraced}
-use Rattle.smap_tracer.proofs.LogLemmas.{handed_lines, new_log}
+use Rattle.smap_logs.proofs.LogLemmas.{handed_lines, new_log}
 use Rattle.smap_tracer.proofs.PartsLemmas.{all_parts, none_so_far, one_more_part}
 use Rattle.smap_tracer.proofs.tracing.follow_log.Goals as goal
 

@@ -2,7 +2,7 @@ use Rattle.std.proofs.Common.{◌≡◌, true}
 use Rattle.std.specs.Prelude.{⊤}
 use Rattle.smap_finder.specs.ChosenView.{IsOver}
 use Rattle.smap_tracer.proofs.PartsLemmas.{SoFar}
-use Rattle.smap_tracer.specs.Logs.{pending}
+use Rattle.smap_logs.specs.Logs.{pending}
 use Rattle.smap_tracer.specs.OutputView.{contents_of}
 use Rattle.smap_tracer.specs.Written.{AreNamed, is_plain_style}
 use Rattle.smap_tracer.proofs.tracing.follow_log.Given as goal

@@ -1,9 +1,9 @@
 use Rattle.std.proofs.Common.{◌∙◌, ◌++◌, ap, refl, subst, List, ℕ}
 use Rattle.std.specs.Io.KnownBytes.{IsAtEnd}
 use Rattle.smap_trace.specs.Naming.{urls_of}
-use Rattle.smap_tracer.specs.Logs.{handed, pending}
-use Rattle.smap_tracer.specs.Naming.{AreSame, frames_of}
-use Rattle.smap_tracer.proofs.LogLemmas.{handed_lines, new_log}
+use Rattle.smap_logs.specs.Logs.{handed, pending}
+use Rattle.smap_logs.specs.Naming.{AreSame, frames_of}
+use Rattle.smap_logs.proofs.LogLemmas.{handed_lines, new_log}
 use Rattle.smap_tracer.proofs.NamedLemmas.{all_named, more_named, none_named}
 use Rattle.smap_tracer.proofs.tracing.name_log.Goals as goal
 

@@ -1,6 +1,6 @@
 use Rattle.std.proofs.Common.{◌≡◌}
-use Rattle.smap_tracer.specs.Logs.{pending}
-use Rattle.smap_tracer.specs.Naming.{frames_of}
+use Rattle.smap_logs.specs.Logs.{pending}
+use Rattle.smap_logs.specs.Naming.{frames_of}
 use Rattle.smap_tracer.proofs.NamedLemmas.{NamedSoFar}
 use Rattle.smap_tracer.proofs.tracing.name_log.Given as goal
 

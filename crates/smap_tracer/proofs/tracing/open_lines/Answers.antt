@@ -1,6 +1,6 @@
 use Rattle.smap_finder.specs.ChosenView.{choices_of}
 use Rattle.smap_trace.specs.Naming.{urls_of}
-use Rattle.smap_tracer.specs.Naming.{frames_of}
+use Rattle.smap_logs.specs.Naming.{frames_of}
 use Rattle.smap_tracer.proofs.SettledLemmas.{lines_settled}
 use Rattle.smap_tracer.proofs.tracing.open_lines.Goals as goal
 

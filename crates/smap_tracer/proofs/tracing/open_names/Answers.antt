@@ -1,6 +1,6 @@
 use Rattle.std.proofs.Common.{◌∙◌, Bor, List, ℕ, ap, map}
 use Rattle.smap_finder.specs.ChosenView.{choices_of}
-use Rattle.smap_tracer.specs.Naming.{frames_of}
+use Rattle.smap_logs.specs.Naming.{frames_of}
 use Rattle.smap_tracer.proofs.SettledLemmas.{names_settled}
 use Rattle.smap_tracer.proofs.tracing.open_names.Goals as goal
 
