@@ -7,7 +7,7 @@ use Rattle.std.specs.List.{All, Contains, IsDistinct, list_any}
 use Rattle.std.specs.Map.{lookup}
 use Rattle.std.proofs.lemmas.Bool.{cond_both}
 use Rattle.std.proofs.lemmas.Bool.Decides.{nat_tests}
-use Rattle.std.proofs.lemmas.List.Elements.{All-contains, All-map, All-push, All-weaker}
+use Rattle.std.proofs.lemmas.List.Elements.{All-contains, All-map, All-nil, All-push, All-weaker}
 use Rattle.indexmap.specs.IndexSet.{insert_key}
 use Rattle.smap_arguments.specs.declared.wanted.Wanted.{Wanted}
 use Rattle.smap_disk.specs.Held.{Held}
@@ -16,7 +16,7 @@ use Rattle.smap_pick.specs.declared.picks.Found.{Found}
 use Rattle.smap_pick.specs.declared.picks.Found.TheVariants.{ByEnd}
 use Rattle.smap_pick.specs.declared.picks.Pick.{Pick}
 use Rattle.smap_finder.specs.Choice.{IsPicked, IsPickedBy}
-use Rattle.smap_finder.specs.ChosenView.{AreEnds, Ends, IsEndOf, IsFurther, IsOther}
+use Rattle.smap_finder.specs.ChosenView.{AreEnds, Ends, IsEndOf, IsFurther, IsOther, no_ends}
 use Rattle.smap_finder.specs.declared.giving.TheConstants.{MOST_AGAIN}
 use Rattle.smap_finder.proofs.ChosenLemmas.{mapped_among}
 use Rattle.smap_finder.proofs.GrowthLemmas.{StayCrowded}
@@ -98,6 +98,18 @@ further_ended IsOf ends after file name is apart other one all = record {
       (All (IsFurther IsOf ends.firsts)) (λ _. all.further)
       (λ _. All-push (IsFurther IsOf ends.firsts) ends.further name all.further (file, one, other)));
   apart = apart;
+}
+
+none_apart : IsDistinct same_key []
+unfolding IsDistinct
+none_apart = tt
+
+-- no names
+pub none_ended : (IsOf : ℕ → List ℕ → Type 0) → AreEnds IsOf no_ends
+none_ended IsOf = record {
+  firsts = All-nil (λ (f : ℕ × Vec ℕ). IsOf f.0 f.1.items);
+  further = All-nil (IsFurther IsOf []);
+  apart = none_apart;
 }
 
 -- a name that has this file

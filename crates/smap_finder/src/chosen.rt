@@ -179,8 +179,9 @@ impl Chosen {
     /// Forgets the names that have maps, once there are many; the maps stay open, and names that come again find
     /// them.
     pub fn forget_many(&mut self, alloc: Global)
-        ensures { (held : Held) (wanted : Wanted) → AreChosen held wanted (choices_of self.old)
+        ensures chosen { (held : Held) (wanted : Wanted) → AreChosen held wanted (choices_of self.old)
             → AreChosen held wanted (choices_of self.new) }
+        ensures ends { (choices_of self.new).ends ≡ (choices_of self.old).ends }
     {
         if self.names.len() >= MOST_NAMES {
             self.names = IndexMap::new(alloc);

@@ -1,10 +1,15 @@
 -- What a log that is read block by block hands out, and what it has left.
-use Rattle.std.specs.Prelude.{Bool, List, None, Option, Some, [], cond, false, option_map, true, ℕ, ⊤, ◌≡◌}
+use Rattle.std.specs.Prelude.{◌≡◌, ℕ, Bool, true, false, cond, List, [], Option, None, Some, option_map, ⊤}
 use Rattle.std.specs.Io.KnownBytes.{Consumes, IsAtEnd, prepend_known}
 use Rattle.smap_lines.specs.Lines.{open_line, whole_lines}
 use Rattle.smap_logs.specs.declared.logs.Log.{Log}
 use Rattle.smap_logs.specs.declared.logs.Step.{Step}
 use Rattle.smap_logs.specs.declared.logs.Step.TheVariants.{End, Lines, More}
+
+-- The text is all that a reader has, where that is known.
+abbrev pub IsAll : Option (List ℕ) → List ℕ → Type 0
+IsAll None text = ⊤
+IsAll (Some left) text = left ≡ text
 
 -- what was read and not passed, and then what the reader has left, where that is known
 abbrev pub waiting : {R : Type 0} → (R → Option (List ℕ)) → Log R → Option (List ℕ)
@@ -29,8 +34,3 @@ IsStep remaining More before after = after.ended ≡ before.ended
 abbrev pub GoesOn : Bool → Option (List ℕ) → Option (List ℕ) → List ℕ → Type 0
 GoesOn true before after lines = Consumes before after lines
 GoesOn false before after lines = IsAtEnd before
-
--- The text is all that a reader has, where that is known.
-abbrev pub IsAll : Option (List ℕ) → List ℕ → Type 0
-IsAll None text = ⊤
-IsAll (Some left) text = left ≡ text

@@ -11,8 +11,8 @@ use Rattle.smap_lines.specs.Spans.{spans}
 use Rattle.smap_lines.specs.declared.spans.Span.{Span}
 use Rattle.smap_link.specs.Paths.{bare_size}
 use Rattle.smap_trace.specs.Naming.{urls_of}
-use Rattle.smap_logs.specs.declared.naming.Names.{Names}
 use Rattle.smap_logs.specs.Logs.{IsAll}
+use Rattle.smap_logs.specs.declared.naming.Names.{Names}
 
 -- those of frames, and the others
 abbrev pub frames_of : Names → List (List ℕ)
@@ -59,6 +59,15 @@ abbrev pub others_if : Bool → List (List ℕ) → List ℕ → List (List ℕ)
 others_if anywhere frames text = cond anywhere (without frames (others_in text)) []
 
 -- ---- the names of lines
+
+-- all of them
+abbrev pub names_of : Names → List (List ℕ)
+names_of names = frames_of names ++ others_of names
+
+-- what may be looked for of lines: the names of frames, and, where positions are looked for anywhere, other
+-- texts
+abbrev pub asked_in : Bool → List ℕ → List (List ℕ)
+asked_in anywhere text = urls_of text ++ cond anywhere (others_in text) []
 
 -- These are the names of lines: those of frames, and, where positions are looked for anywhere, the others.
 pub record AreNamesOf (anywhere : Bool) (text : List ℕ) (names : Names) : Type 0 where

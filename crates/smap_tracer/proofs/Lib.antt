@@ -1,3 +1,4 @@
+pub mod AskedLemmas
 pub mod NamedLemmas
 pub mod PartsLemmas
 pub mod RunLemmas

@@ -18,7 +18,7 @@ use Rattle.smap_logs.specs.declared.naming.Names.{Names}
 use Rattle.smap_logs.proofs.NamingLemmas.{same_more, same_none}
 use Rattle.smap_logs.proofs.LogLemmas.{all_taken}
 
-is_whole : (text : List ℕ) → IsEmptyOrEndsWith text 10 → IsWhole text
+pub is_whole : (text : List ℕ) → IsEmptyOrEndsWith text 10 → IsWhole text
 is_whole [] ends = inl refl
 is_whole (b ∷ bs) ends =
     let t = b ∷ bs in

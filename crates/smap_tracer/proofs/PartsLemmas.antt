@@ -102,6 +102,7 @@ one_part held job Sought left before after one = record {
       translated = record { text = one.translated.text; all = refl; written = one.translated.written };
       choices = one.choices;
       given = one.given;
+      ends = one.ends;
       judged = one.judged;
     },
     refl,
@@ -121,6 +122,7 @@ parts_sought held job Sought Other (part ∷ parts) before after less all = (
     translated = all.1.translated;
     choices = all.1.choices;
     given = λ name of sought. all.1.given name of (less name sought);
+    ends = all.1.ends;
     judged = all.1.judged;
   },
   parts_sought held job Sought Other parts all.0 after less all.2,

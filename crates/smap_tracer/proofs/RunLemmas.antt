@@ -1,9 +1,10 @@
 -- What a run answers to its words.
-use Rattle.std.proofs.Common.{◌≡◌, ◌∙◌, false, ℕ, List, Option, None, Result, Ok, Err, OnOk}
+use Rattle.std.proofs.Common.{◌≡◌, ◌∙◌, ◌==◌, [], ◌∷◌, Bor, false, length, map, subst, ℕ, List, Option, None, Result, Ok, Err, OnOk}
 use Rattle.smap_disk.specs.Held.{Held}
 use Rattle.smap_disk.specs.Tree.{Told}
 use Rattle.smap_arguments.specs.declared.wanted.Wanted.{Wanted}
-use Rattle.smap_tracer.specs.Runs.{AreFound, IsAnswered, IsJobOf, IsTracedAsked, IsTracedJob}
+use Rattle.smap_tracer.specs.Runs.{AreFound, IsAnswered, IsJobOf, IsTracedAsked, IsTracedJob, IsTracedRun}
+use Rattle.smap_tracer.specs.Written.{AreTraced}
 use Rattle.smap_tracer.specs.declared.program.InputKind.{InputKind}
 use Rattle.smap_tracer.specs.declared.tracing.Job.{Job}
 use Rattle.smap_words.specs.Request.{IsAsked}
@@ -38,3 +39,21 @@ pub answered : {A E : Type 0} (told : Told) (held : Held) (help version : List �
     → OnOk result ((a : Asked) × IsAsked words a × IsAnswered told held help version a kind left before after)
 answered told held help version words asked kind left before after (Ok a) is done = (asked, is, done)
 answered told held help version words asked kind left before after (Err e) is done = tt
+
+some_logs : (held : Held) (job : Job) (paths : List (Bor (List ℕ))) (kind : InputKind)
+    (left before after : Option (List ℕ)) → (length paths == 0) ≡ false
+    → AreTraced held job (map (λ (p : Bor (List ℕ)). p.now) paths) before after
+    → IsTracedRun held job (map (λ (p : Bor (List ℕ)). p.now) paths) kind left before after
+some_logs held job [] kind left before after some all = absurd cc
+some_logs held job (path ∷ paths) kind left before after some all = all
+
+pub logs_traced : {A E : Type 0} (held : Held) (job : Job) (paths : List (Bor (List ℕ))) (kind : InputKind)
+    (left before after : Option (List ℕ)) (result : Result A E) → paths ≡ job.wanted.logs.items
+    → (length paths == 0) ≡ false
+    → OnOk result (AreTraced held job (map (λ (p : Bor (List ℕ)). p.now) paths) before after)
+    → OnOk result (IsTracedJob held job kind left before after)
+logs_traced held job paths kind left before after (Ok a) is some all =
+    subst (λ (ps : List (Bor (List ℕ))).
+    IsTracedRun held job (map (λ (p : Bor (List ℕ)). p.now) ps) kind left before after)
+    is (some_logs held job paths kind left before after some all)
+logs_traced held job paths kind left before after (Err e) is some all = tt

@@ -8,7 +8,7 @@ use Rattle.std.proofs.lemmas.List.{map-append, take_more}
 use Rattle.std.proofs.lemmas.List.Elements.{All-map}
 use Rattle.smap_disk.specs.Held.{GivesHeld, HasSize, Held}
 use Rattle.smap_finder.proofs.MapLemmas.{has_map}
-use Rattle.smap_finder.specs.ChosenView.{Choices, Has, choices_of}
+use Rattle.smap_finder.specs.ChosenView.{AreChosen, Choices, Has, choices_of}
 use Rattle.smap_finder.specs.declared.chosen.Chosen.{Chosen}
 use Rattle.smap_arguments.specs.declared.wanted.Wanted.{Wanted}
 use Rattle.smap_record.specs.Record.{ReadMap}
@@ -21,13 +21,13 @@ use Rattle.smap_tracer.specs.Written.{IsBegun, IsTracedFront, IsTracedIn, IsTrac
 use Rattle.smap_tracer.specs.Written.{IsTranslatedIn}
 use Rattle.smap_logs.specs.Logs.{IsAll}
 
-named_map : (held : Held) (wanted : Wanted) (chosen : Chosen) (script : Script) → AreNamed held wanted chosen
-    → HasMapOf (choices_of chosen) script → HasNamedMap held wanted script
+named_map : (held : Held) (wanted : Wanted) (chosen : Chosen) (script : Script)
+    → AreChosen held wanted (choices_of chosen) → HasMapOf (choices_of chosen) script → HasNamedMap held wanted script
 named_map held wanted chosen script all has =
     (has.0, has_map held wanted (choices_of chosen) script.0 has.0 all has.1, has.2)
 
 pub traced : (held : Held) (job : Job) (chosen : Chosen) (Sought : List ℕ → Type 0)
-    (left before after : Option (List ℕ)) → AreNamed held job.wanted chosen
+    (left before after : Option (List ℕ)) → AreNamed held job chosen
     → ((text : List ℕ) → IsAll left text
     → AreSettled held job (choices_of chosen) (λ name. Contains (urls_of text) name × Sought name))
     → IsTranslatedIn (choices_of chosen) job.style left before after → IsTracedIn held job Sought left before after
@@ -36,13 +36,14 @@ traced held job chosen Sought left before after all settled is = λ plain.
     let names = settled by.translated.text by.translated.all in
     record {
       scripts = by.scripts;
-      have_maps = λ k d lt. named_map held job.wanted chosen (get_or by.scripts k d) all (by.have_maps k d lt);
+      have_maps = λ k d lt. named_map held job.wanted chosen (get_or by.scripts k d) all.named (by.have_maps k d lt);
       translated = by.translated;
       choices = choices_of chosen;
       given = λ name of sought. elim (names.each name (of, sought)) [
         | inl has ↦ inl (by.are_all name has)
         | inr left ↦ inr left
       ];
+      ends = all.ends;
       judged = names.judged;
     }
 
@@ -58,7 +59,7 @@ of_log held job choices path text settled =
     record { each = λ name both. settled.each name both.1; judged = settled.judged }
 
 pub traced_log : {A E : Type 0} (held : Held) (job : Job) (chosen : Chosen) (path : List ℕ)
-    (left before begun after : Option (List ℕ)) (result : Result A E) → AreNamed held job.wanted chosen
+    (left before begun after : Option (List ℕ)) (result : Result A E) → AreNamed held job chosen
     → AreSettled held job (choices_of chosen) (IsNameOf held path)
     → IsBegun before begun → GivesHeld held path left
     → OnOk result (IsTranslatedIn (choices_of chosen) job.style left begun after)
@@ -71,7 +72,7 @@ traced_log held job chosen path left before begun after (Ok a) all settled is gi
 traced_log held job chosen path left before begun after (Err e) all settled is gives translated = tt
 
 pub traced_front : {A E : Type 0} (held : Held) (job : Job) (chosen : Chosen) (path : List ℕ)
-    (size : ℕ) (left front before after : Option (List ℕ)) (result : Result A E) → AreNamed held job.wanted chosen
+    (size : ℕ) (left front before after : Option (List ℕ)) (result : Result A E) → AreNamed held job chosen
     → AreSettled held job (choices_of chosen) (IsNameOf held path) → HasSize held path size → front ≡ option_map (take size) left
     → OnOk result (IsTranslatedIn (choices_of chosen) job.style front before after)
     → OnOk result (IsTracedFront held job path left before after)
@@ -86,7 +87,7 @@ traced_front held job chosen path size left front before after (Ok a) all settle
 traced_front held job chosen path size left front before after (Err e) all settled has is translated = tt
 
 pub traced_lines : {A E : Type 0} (held : Held) (job : Job) (chosen : Chosen) (lines : List ℕ)
-    (before after : Option (List ℕ)) (result : Result A E) → AreNamed held job.wanted chosen
+    (before after : Option (List ℕ)) (result : Result A E) → AreNamed held job chosen
     → AreSettled held job (choices_of chosen) (Contains (urls_of lines))
     → OnOk result (IsTranslatedIn (choices_of chosen) job.style (Some lines) before after)
     → OnOk result (IsTracedIn held job (λ name. ⊤) (Some lines) before after)

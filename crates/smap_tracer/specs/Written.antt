@@ -1,25 +1,26 @@
 -- What is written of a log.
-use Rattle.std.specs.Prelude.{◌≡◌, ◌⊎◌, ℕ, ◌<◌, ◌==◌, ◌&&◌, Bool, not, true, List, [], ◌∷◌, get_or, length}
-use Rattle.std.specs.Prelude.{map, slice_index, take, ⊤}
+use Rattle.std.specs.Prelude.{◌≡◌, ◌⊎◌, ℕ, ◌<◌, ◌==◌, ◌&&◌, Bool, not, true, List, [], ◌∷◌, flat_map, get_or}
+use Rattle.std.specs.Prelude.{length, map, slice_index, take, ⊤}
 use Rattle.std.specs.Prelude.{Option, Some, None, option_map}
 use Rattle.std.specs.List.{All, Contains, concat}
 use Rattle.std.specs.Borrow.{Bor}
-use Rattle.std.specs.Option.{is_some}
+use Rattle.std.specs.Option.{is_some, unwrap_or}
 use Rattle.std.specs.Io.{IsEmptyOrEndsWith}
 use Rattle.std.specs.Io.KnownBytes.{Appends}
-use Rattle.smap_disk.specs.Held.{GivesHeld, HasSize, Held}
+use Rattle.smap_disk.specs.Held.{GivesHeld, HasSize, Held, IsHeld}
 use Rattle.smap_finder.specs.Choice.{IsMapOf}
-use Rattle.smap_finder.specs.ChosenView.{AreChosen, Choices, Has, HasMap, IsJudged, IsLeft, IsSettledIn}
-use Rattle.smap_finder.specs.ChosenView.{choices_of}
+use Rattle.smap_finder.specs.ChosenView.{AreChosen, AreEndsOf, Choices, Has, HasMap, IsJudged, IsLeft}
+use Rattle.smap_finder.specs.ChosenView.{IsSettledIn, choices_of}
 use Rattle.smap_finder.specs.declared.chosen.Chosen.{Chosen}
 use Rattle.smap_arguments.specs.declared.wanted.Wanted.{Wanted}
 use Rattle.smap_record.specs.Record.{ReadMap, record_of}
 use Rattle.smap_trace.specs.Naming.{urls_of}
 use Rattle.smap_trace.specs.Translation.{Fate, Script, fate_by, translation_by}
 use Rattle.smap_trace.specs.declared.match_mode.MatchMode.{MatchMode}
+pub use Rattle.smap_logs.specs.Logs.{IsAll}
+use Rattle.smap_logs.specs.Naming.{asked_in}
 use Rattle.smap_tracer.specs.declared.decorating.Style.{Style}
 use Rattle.smap_tracer.specs.declared.tracing.Job.{Job}
-use Rattle.smap_logs.specs.Logs.{IsAll}
 
 -- Lines are written as they are translated: no beginnings of URLs are replaced, and no sources are shown.
 abbrev pub is_plain_style : {A B : Type 0} → List A → Option B → Bool
@@ -56,11 +57,51 @@ abbrev pub IsTranslatedIn : Choices → Style → Option (List ℕ) → Option (
 IsTranslatedIn choices style left before after = is_plain_style style.prefixes.now style.context ≡ true
     → IsTranslatedBy choices style.mode style.hide left before after
 
--- Each name of the log has, of the maps that the arguments name, the one that it has by the definition.
-abbrev pub AreNamed : Held → Wanted → Chosen → Type 0
-AreNamed held wanted chosen = AreChosen held wanted (choices_of chosen)
+-- what may be looked for of the files with these names, where it is said what they hold
+abbrev pub asked_of : Held → Bool → List (List ℕ) → Option (List (List ℕ))
+asked_of None anywhere paths = None
+asked_of (Some held) anywhere [] = None
+asked_of (Some held) anywhere (path ∷ paths) =
+    Some (flat_map (λ p. asked_in anywhere (unwrap_or (held p) [])) (path ∷ paths))
 
--- The same of a script.
+-- the same of the logs of a run; nothing is said of standard input
+abbrev pub asked_by : Held → Job → Option (List (List ℕ))
+asked_by held job = asked_of held job.anywhere (map (λ p. p.now) job.wanted.logs.items)
+
+-- The name is one of these, where they are known.
+abbrev pub IsAmong : Option (List (List ℕ)) → List ℕ → Type 0
+IsAmong None name = ⊤
+IsAmong (Some asked) name = Contains asked name
+
+abbrev pub AreAmong : Option (List (List ℕ)) → List (List ℕ) → Type 0
+AreAmong asked names = (name : List ℕ) → Contains names name → IsAmong asked name
+
+-- Files that end as names do were opened for these names alone, where they are known.
+abbrev pub AreEndsAmong : Held → Wanted → Option (List (List ℕ)) → Choices → Type 0
+AreEndsAmong held wanted None choices = ⊤
+AreEndsAmong held wanted (Some asked) choices = AreEndsOf held wanted (Contains asked) choices
+
+-- All that a reader has left has such names of a run's logs alone.
+abbrev pub IsOfLogs : Held → Job → Option (List ℕ) → Type 0
+IsOfLogs held job left = (text : List ℕ) → IsAll left text
+    → AreAmong (asked_by held job) (asked_in job.anywhere text)
+
+-- So does the file with this name.
+abbrev pub IsLog : Held → Job → List ℕ → Type 0
+IsLog held job path = (text : List ℕ) → IsHeld held path text
+    → AreAmong (asked_by held job) (asked_in job.anywhere text)
+
+-- So do those with these names.
+abbrev pub AreLogs : Held → Job → List (Bor (List ℕ)) → Type 0
+AreLogs held job paths = (k : ℕ) (d : Bor (List ℕ)) → k < length paths → IsLog held job (get_or paths k d).now
+
+-- Each name of the log has, of the maps that the arguments name, the one that it has by the definition; and
+-- files that end as names do were opened for names of the logs alone.
+pub record AreNamed (held : Held) (job : Job) (chosen : Chosen) : Type 0 where
+  pub named : AreChosen held job.wanted (choices_of chosen)
+  pub ends : AreEndsAmong held job.wanted (asked_by held job) (choices_of chosen)
+
+-- A script has a map that the arguments name, the one that it has by the definition.
 abbrev pub HasNamedMap : Held → Wanted → Script → Type 0
 HasNamedMap held wanted script = (m : ReadMap) × IsMapOf held wanted script.0 m × (script.1 ≡ record_of m)
 
@@ -73,9 +114,9 @@ abbrev pub AreGiven : Held → Wanted → Choices → List Script → (List ℕ 
 AreGiven held wanted choices scripts Sought text = (name : List ℕ) → Contains (urls_of text) name → Sought name
     → IsGiven held wanted choices scripts name
 
--- The translation of all that a reader had was written, by scripts whose maps the arguments name. These are all
--- names of its frames that were looked for, but those that are left without a map; and no map was refused, unless
--- broken maps are skipped.
+-- The translation of all that a reader had was written, by scripts whose maps the arguments name. These are
+-- all names of its frames that were looked for, but those that are left without a map. Files that end as names
+-- do were opened for names of the logs alone; and no map was refused, unless broken maps are skipped.
 pub record IsTraced (held : Held) (job : Job) (Sought : List ℕ → Type 0) (left before after : Option (List ℕ))
     : Type 0 where
   pub scripts : List Script
@@ -83,6 +124,7 @@ pub record IsTraced (held : Held) (job : Job) (Sought : List ℕ → Type 0) (le
   pub translated : IsTranslated (fate_by job.style.mode scripts job.style.hide) left before after
   pub choices : Choices
   pub given : AreGiven held job.wanted choices scripts Sought translated.text
+  pub ends : AreEndsAmong held job.wanted (asked_by held job) choices
   pub judged : IsJudged job.how.skip choices
 
 -- The same in a plain style; of another nothing is said.

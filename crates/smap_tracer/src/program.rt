@@ -1,6 +1,7 @@
 //! A run of `smap-trace`.
-ghost use Rattle.std.specs.Prelude.{◌≡◌, false, IfOk, OnOk, map};
-ghost use Rattle.smap_finder.specs.ChosenView.{IsOver};
+ghost use Rattle.std.specs.Prelude.{◌≡◌, [], false, IfOk, OnOk, map};
+ghost use Rattle.smap_finder.specs.ChosenView.{AreChosen, IsOver, choices_of};
+ghost use Rattle.smap_logs.specs.Naming.{names_of};
 ghost use Rattle.smap_tracer.specs.OutputView.{contents_of};
 ghost use Rattle.smap_tracer.specs.Runs.{AreFound, IsAnswered, IsJobOf, IsTracedAsked, IsTracedInput};
 ghost use Rattle.smap_tracer.specs.Runs.{IsTracedJob};
@@ -67,7 +68,9 @@ fn trace_standard<E: Eprint + AllocGlobal, D: Disk, I: Read, W: Write + Drop>(
 ) -> Result<(), Stop>
 where
     I: Drop,
-    requires named { AreNamed (D.held host.now.disk.now) job.now.wanted state.old.chosen }
+    requires logs { job.now.wanted.logs.items ≡ [] }
+    requires none { names_of state.old.names ≡ [] }
+    requires named { AreNamed (D.held host.now.disk.now) job.now state.old.chosen }
     requires over { IsOver D.held (D.held host.now.disk.now) job.now.wanted opener.old }
     ensures { OnOk result (IsTracedInput (D.held host.now.disk.now) job.now input.kind
         (I.remaining input.reader) (contents_of W.contents output.old) (contents_of W.contents output.new)) }
@@ -92,7 +95,8 @@ fn trace_logs<E: Eprint + AllocGlobal, D: Disk, I: Read, W: Write + Drop>(
 ) -> Result<(), Stop>
 where
     I: Drop,
-    requires named { AreNamed (D.held host.now.disk.now) job.now.wanted state.old.chosen }
+    requires none { names_of state.old.names ≡ [] }
+    requires named { AreNamed (D.held host.now.disk.now) job.now state.old.chosen }
     requires over { IsOver D.held (D.held host.now.disk.now) job.now.wanted opener.old }
     ensures { OnOk result (IsTracedJob (D.held host.now.disk.now) job.now input.kind (I.remaining input.reader)
         (contents_of W.contents output.old) (contents_of W.contents output.new)) }
@@ -154,7 +158,7 @@ fn list<E: Eprint + AllocGlobal, D: Disk, I: Read, W: Write + Drop>(
 ) -> Result<(), Stop>
 where
     I: Drop,
-    requires named { AreNamed (D.held host.now.disk.now) job.now.wanted state.old.chosen }
+    requires named { AreChosen (D.held host.now.disk.now) job.now.wanted (choices_of state.old.chosen) }
     requires over { IsOver D.held (D.held host.now.disk.now) job.now.wanted opener.old }
 {
     let mut listed = Listed::new(host.alloc());
@@ -175,7 +179,8 @@ fn run_over<E: Eprint + AllocGlobal, D: Disk, I: Read, W: Write + Drop>(
 ) -> Result<(), Stop>
 where
     I: Drop,
-    requires named { AreNamed (D.held host.now.disk.now) job.now.wanted state.old.chosen }
+    requires none { names_of state.old.names ≡ [] }
+    requires named { AreNamed (D.held host.now.disk.now) job.now state.old.chosen }
     requires over { IsOver D.held (D.held host.now.disk.now) job.now.wanted opener.old }
     ensures { OnOk result (job.now.list ≡ false → IsTracedJob (D.held host.now.disk.now) job.now input.kind
         (I.remaining input.reader) (contents_of W.contents output.old) (contents_of W.contents output.new)) }

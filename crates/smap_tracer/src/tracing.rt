@@ -1,14 +1,15 @@
 //! Logs translated: files, whose names are all looked for first, and streams, as they come.
-ghost use Rattle.std.specs.Prelude.{◌≡◌, IfOk, OnOk, Some, map, ⊤};
+ghost use Rattle.std.specs.Prelude.{◌≡◌, [], IfOk, OnOk, Some, map, ⊤};
 ghost use Rattle.std.specs.List.{Contains};
 ghost use Rattle.std.specs.Io.Take.{take_remaining};
 ghost use Rattle.smap_disk.specs.Held.{GivesHeld, HasSize};
-ghost use Rattle.smap_finder.specs.ChosenView.{IsOver, choices_of, no_choices};
+ghost use Rattle.smap_finder.specs.ChosenView.{AreChosen, IsOver, KeepEnds, choices_of, no_choices};
 ghost use Rattle.smap_trace.specs.Naming.{urls_of};
-ghost use Rattle.smap_logs.specs.Naming.{AddsNames, HaveNames, frames_of};
+ghost use Rattle.smap_logs.specs.Naming.{AddsNames, HaveNames, asked_in, frames_of, names_of};
 ghost use Rattle.smap_tracer.specs.OutputView.{contents_of};
 ghost use Rattle.smap_tracer.specs.Written.{AreNamed, AreTraced, HaveSizes, IsTracedFront, IsTracedIn};
 ghost use Rattle.smap_tracer.specs.Written.{IsTracedLog};
+ghost use Rattle.smap_tracer.specs.Written.{AreAmong, AreLogs, IsLog, IsOfLogs, asked_by};
 ghost use Rattle.smap_tracer.specs.Written.{AreSettled, AreSettledLogs, IsNameOf, IsTracedTextIn};
 
 use crate::decorating::Style;
@@ -41,7 +42,7 @@ pub(crate) struct Job<'a> {
 #[derive(Drop)]
 pub(crate) struct State {
     pub(crate) chosen: Chosen,
-    names: Names,
+    pub(crate) names: Names,
     tally: Tally,
     /// Whether a log was begun.
     has_begun: bool,
@@ -50,7 +51,8 @@ pub(crate) struct State {
 }
 
 pub(crate) fn new_state(alloc: Global) -> State
-    ensures { choices_of result.chosen ≡ no_choices }
+    ensures chosen { choices_of result.chosen ≡ no_choices }
+    ensures names { names_of result.names ≡ [] }
 {
     State {
         chosen: Chosen::new(alloc),
@@ -69,9 +71,11 @@ pub(crate) fn open_names<E: Eprint + AllocGlobal, D: Disk>(
     names: &Names,
     chosen: &mut Chosen,
 ) -> Result<(), Stop>
-    requires named { AreNamed (D.held host.now.disk.now) job.now.wanted chosen.old }
+    requires named { AreChosen (D.held host.now.disk.now) job.now.wanted (choices_of chosen.old) }
     requires over { IsOver D.held (D.held host.now.disk.now) job.now.wanted opener.old }
-    ensures named { AreNamed (D.held host.now.disk.now) job.now.wanted chosen.new }
+    ensures named { AreChosen (D.held host.now.disk.now) job.now.wanted (choices_of chosen.new) }
+    ensures ends { KeepEnds (D.held host.now.disk.now) job.now.wanted (names_of names.now) (choices_of chosen.old)
+        (choices_of chosen.new) }
     ensures over { IsOver D.held (D.held host.now.disk.now) job.now.wanted opener.new }
     ensures settled { OnOk result (AreSettled (D.held host.now.disk.now) job.now (choices_of chosen.new)
         (Contains (frames_of names.now))) }
@@ -109,8 +113,11 @@ fn name_log<E: Eprint + AllocGlobal, D: Disk, R: Read>(
 ) -> Result<(), Stop>
 where
     R: Drop,
+    requires asked { IsOfLogs (D.held host.now.disk.now) job.now (R.remaining reader) }
+    requires names { AreAmong (asked_by (D.held host.now.disk.now) job.now) (names_of state.old.names) }
     ensures chosen { state.new.chosen ≡ state.old.chosen }
     ensures names { OnOk result (AddsNames (R.remaining reader) state.old.names state.new.names) }
+    ensures asked { OnOk result (AreAmong (asked_by (D.held host.now.disk.now) job.now) (names_of state.new.names)) }
 {
     let mut log = Log::new(host.alloc(), reader);
     for _ in 0..u64::MAX {
@@ -133,9 +140,10 @@ fn open_lines<E: Eprint + AllocGlobal, D: Disk>(
     lines: &[u8],
     state: &mut State,
 ) -> Result<(), Stop>
-    requires named { AreNamed (D.held host.now.disk.now) job.now.wanted state.old.chosen }
+    requires asked { AreAmong (asked_by (D.held host.now.disk.now) job.now) (asked_in job.now.anywhere lines.now) }
+    requires named { AreNamed (D.held host.now.disk.now) job.now state.old.chosen }
     requires over { IsOver D.held (D.held host.now.disk.now) job.now.wanted opener.old }
-    ensures named { AreNamed (D.held host.now.disk.now) job.now.wanted state.new.chosen }
+    ensures named { AreNamed (D.held host.now.disk.now) job.now state.new.chosen }
     ensures over { IsOver D.held (D.held host.now.disk.now) job.now.wanted opener.new }
     ensures settled { OnOk result (AreSettled (D.held host.now.disk.now) job.now (choices_of state.new.chosen)
         (Contains (urls_of lines.now))) }
@@ -156,9 +164,10 @@ fn follow_lines<E: Eprint + AllocGlobal, D: Disk, W: Write + Drop>(
     state: &mut State,
     output: &mut Output<W>,
 ) -> Result<(), Stop>
-    requires named { AreNamed (D.held host.now.disk.now) job.now.wanted state.old.chosen }
+    requires asked { AreAmong (asked_by (D.held host.now.disk.now) job.now) (asked_in job.now.anywhere lines.now) }
+    requires named { AreNamed (D.held host.now.disk.now) job.now state.old.chosen }
     requires over { IsOver D.held (D.held host.now.disk.now) job.now.wanted opener.old }
-    ensures named { AreNamed (D.held host.now.disk.now) job.now.wanted state.new.chosen }
+    ensures named { AreNamed (D.held host.now.disk.now) job.now state.new.chosen }
     ensures over { IsOver D.held (D.held host.now.disk.now) job.now.wanted opener.new }
     ensures traced { OnOk result (IsTracedIn (D.held host.now.disk.now) job.now (λ name. ⊤) (Some lines.now)
         (contents_of W.contents output.old) (contents_of W.contents output.new)) }
@@ -180,9 +189,10 @@ fn follow_log<E: Eprint + AllocGlobal, D: Disk, R: Read, W: Write + Drop>(
 ) -> Result<(), Stop>
 where
     R: Drop,
-    requires named { AreNamed (D.held host.now.disk.now) job.now.wanted state.old.chosen }
+    requires asked { IsOfLogs (D.held host.now.disk.now) job.now (R.remaining reader) }
+    requires named { AreNamed (D.held host.now.disk.now) job.now state.old.chosen }
     requires over { IsOver D.held (D.held host.now.disk.now) job.now.wanted opener.old }
-    ensures named { AreNamed (D.held host.now.disk.now) job.now.wanted state.new.chosen }
+    ensures named { AreNamed (D.held host.now.disk.now) job.now state.new.chosen }
     ensures over { IsOver D.held (D.held host.now.disk.now) job.now.wanted opener.new }
     ensures traced { OnOk result (IsTracedTextIn (D.held host.now.disk.now) job.now (λ name. ⊤)
         (R.remaining reader) (contents_of W.contents output.old) (contents_of W.contents output.new)) }
@@ -221,8 +231,11 @@ fn name_logs<E: Eprint + AllocGlobal, D: Disk>(
     paths: &[&str],
     state: &mut State,
 ) -> Result<Vec<u64>, Stop>
+    requires logs { AreLogs (D.held host.now.disk.now) job.now paths.now }
+    requires names { AreAmong (asked_by (D.held host.now.disk.now) job.now) (names_of state.old.names) }
     ensures chosen { state.new.chosen ≡ state.old.chosen }
     ensures names { OnOk result (HaveNames (D.held host.now.disk.now) paths.now state.new.names) }
+    ensures asked { OnOk result (AreAmong (asked_by (D.held host.now.disk.now) job.now) (names_of state.new.names)) }
     ensures sizes { IfOk result (λ sizes. HaveSizes (D.held host.now.disk.now) paths.now sizes.items) }
 {
     let mut sizes = Vec::new(host.alloc());
@@ -247,7 +260,7 @@ fn translate_file<E: Eprint + AllocGlobal, D: Disk, W: Write + Drop>(
     state: &mut State,
     output: &mut Output<W>,
 ) -> Result<(), Stop>
-    requires named { AreNamed (D.held host.now.disk.now) job.now.wanted state.old.chosen }
+    requires named { AreNamed (D.held host.now.disk.now) job.now state.old.chosen }
     requires settled { AreSettled (D.held host.now.disk.now) job.now (choices_of state.old.chosen)
         (IsNameOf (D.held host.now.disk.now) path.now) }
     requires size { HasSize (D.held host.now.disk.now) path.now size }
@@ -269,9 +282,11 @@ fn open_files<E: Eprint + AllocGlobal, D: Disk>(
     paths: &[&str],
     state: &mut State,
 ) -> Result<Vec<u64>, Stop>
-    requires named { AreNamed (D.held host.now.disk.now) job.now.wanted state.old.chosen }
+    requires logs { AreLogs (D.held host.now.disk.now) job.now paths.now }
+    requires none { names_of state.old.names ≡ [] }
+    requires named { AreNamed (D.held host.now.disk.now) job.now state.old.chosen }
     requires over { IsOver D.held (D.held host.now.disk.now) job.now.wanted opener.old }
-    ensures named { AreNamed (D.held host.now.disk.now) job.now.wanted state.new.chosen }
+    ensures named { AreNamed (D.held host.now.disk.now) job.now state.new.chosen }
     ensures over { IsOver D.held (D.held host.now.disk.now) job.now.wanted opener.new }
     ensures settled { OnOk result (AreSettledLogs (D.held host.now.disk.now) job.now (choices_of state.new.chosen)
         paths.now) }
@@ -292,7 +307,7 @@ fn translate_files<E: Eprint + AllocGlobal, D: Disk, W: Write + Drop>(
     state: &mut State,
     output: &mut Output<W>,
 ) -> Result<(), Stop>
-    requires named { AreNamed (D.held host.now.disk.now) job.now.wanted state.old.chosen }
+    requires named { AreNamed (D.held host.now.disk.now) job.now state.old.chosen }
     requires settled { AreSettledLogs (D.held host.now.disk.now) job.now (choices_of state.old.chosen) paths.now }
     requires sizes { HaveSizes (D.held host.now.disk.now) paths.now sizes.now }
     ensures chosen { state.new.chosen ≡ state.old.chosen }
@@ -314,7 +329,9 @@ pub(crate) fn trace_files<E: Eprint + AllocGlobal, D: Disk, W: Write + Drop>(
     state: &mut State,
     output: &mut Output<W>,
 ) -> Result<(), Stop>
-    requires named { AreNamed (D.held host.now.disk.now) job.now.wanted state.old.chosen }
+    requires logs { AreLogs (D.held host.now.disk.now) job.now paths.now }
+    requires none { names_of state.old.names ≡ [] }
+    requires named { AreNamed (D.held host.now.disk.now) job.now state.old.chosen }
     requires over { IsOver D.held (D.held host.now.disk.now) job.now.wanted opener.old }
     ensures { OnOk result (AreTraced (D.held host.now.disk.now) job.now
         (map (λ p. p.now) paths.now) (contents_of W.contents output.old) (contents_of W.contents output.new)) }
@@ -335,7 +352,9 @@ pub(crate) fn trace_input<E: Eprint + AllocGlobal, D: Disk, I: Read, W: Write + 
 ) -> Result<(), Stop>
 where
     I: Drop,
-    requires named { AreNamed (D.held host.now.disk.now) job.now.wanted state.old.chosen }
+    requires logs { job.now.wanted.logs.items ≡ [] }
+    requires none { names_of state.old.names ≡ [] }
+    requires named { AreNamed (D.held host.now.disk.now) job.now state.old.chosen }
     requires over { IsOver D.held (D.held host.now.disk.now) job.now.wanted opener.old }
     ensures { OnOk result (IsTracedFront (D.held host.now.disk.now) job.now path.now
         (I.remaining input) (contents_of W.contents output.old) (contents_of W.contents output.new)) }
@@ -363,9 +382,10 @@ fn follow_path<E: Eprint + AllocGlobal, D: Disk, W: Write + Drop>(
     state: &mut State,
     output: &mut Output<W>,
 ) -> Result<(), Stop>
-    requires named { AreNamed (D.held host.now.disk.now) job.now.wanted state.old.chosen }
+    requires log { IsLog (D.held host.now.disk.now) job.now path.now }
+    requires named { AreNamed (D.held host.now.disk.now) job.now state.old.chosen }
     requires over { IsOver D.held (D.held host.now.disk.now) job.now.wanted opener.old }
-    ensures named { AreNamed (D.held host.now.disk.now) job.now.wanted state.new.chosen }
+    ensures named { AreNamed (D.held host.now.disk.now) job.now state.new.chosen }
     ensures over { IsOver D.held (D.held host.now.disk.now) job.now.wanted opener.new }
     ensures traced { OnOk result (IsTracedLog (D.held host.now.disk.now) job.now path.now
         (contents_of W.contents output.old) (contents_of W.contents output.new)) }
@@ -386,7 +406,8 @@ pub(crate) fn trace_streams<E: Eprint + AllocGlobal, D: Disk, W: Write + Drop>(
     state: &mut State,
     output: &mut Output<W>,
 ) -> Result<(), Stop>
-    requires named { AreNamed (D.held host.now.disk.now) job.now.wanted state.old.chosen }
+    requires logs { AreLogs (D.held host.now.disk.now) job.now paths.now }
+    requires named { AreNamed (D.held host.now.disk.now) job.now state.old.chosen }
     requires over { IsOver D.held (D.held host.now.disk.now) job.now.wanted opener.old }
     ensures { OnOk result (AreTraced (D.held host.now.disk.now) job.now
         (map (λ p. p.now) paths.now) (contents_of W.contents output.old) (contents_of W.contents output.new)) }
@@ -408,7 +429,8 @@ pub(crate) fn trace_stream<E: Eprint + AllocGlobal, D: Disk, I: Read, W: Write +
 ) -> Result<(), Stop>
 where
     I: Drop,
-    requires named { AreNamed (D.held host.now.disk.now) job.now.wanted state.old.chosen }
+    requires logs { job.now.wanted.logs.items ≡ [] }
+    requires named { AreNamed (D.held host.now.disk.now) job.now state.old.chosen }
     requires over { IsOver D.held (D.held host.now.disk.now) job.now.wanted opener.old }
     ensures { OnOk result (IsTracedTextIn (D.held host.now.disk.now) job.now (λ name. ⊤)
         (I.remaining input) (contents_of W.contents output.old) (contents_of W.contents output.new)) }
