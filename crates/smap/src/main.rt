@@ -1,8 +1,8 @@
 //! The programs of this repository in one, each by the name that it is called by: `smap-trace`, `smap-maps`,
-//! `smap-view`, or `smap` by any other. `smap` reads its arguments as a task, runs it on the standard streams and exits
-//! with its status; what each run reads and writes is defined in `smap_tool`. Standard input is buffered
-//! there, since a bundle's headers are read byte by byte. `smap-trace` is a run of `smap_tracer` over the
-//! file system, `smap-maps` one of `smap_mapper`, and `smap-view` one of `smap_viewer`.
+//! `smap-view`, or `smap` by any other. `smap` reads its arguments as a task, runs it on the standard streams
+//! and exits with its status; what each run reads and writes is defined in `smap_tool`. Standard input is
+//! buffered there, since a bundle's headers are read byte by byte. `smap-trace` is a run of `smap_tracer`
+//! over the file system, `smap-maps` one of `smap_mapper`, and `smap-view` one of `smap_viewer`.
 #![tactic(auto)]
 
 mod standard;

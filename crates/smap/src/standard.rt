@@ -1,6 +1,6 @@
-//! The standard streams as `smap-trace`, `smap-maps` and `smap-view` have them. A descriptor that is closed is told by its
-//! name in `/proc`, before anything is opened that could take its number; where there is no `/proc`, none is
-//! taken for closed.
+//! The standard streams as `smap-trace`, `smap-maps` and `smap-view` have them. A descriptor that is closed
+//! is told by its name in `/proc`, before anything is opened that could take its number; where there is no
+//! `/proc`, none is taken for closed.
 use smap_disk::{Disk, Kind};
 use smap_tracer::{Input, InputKind};
 use std::alloc::Global;
@@ -15,8 +15,8 @@ pub fn is_output_closed<D: Disk>(disk: &D) -> bool {
     is_closed(disk, "/proc/self/fd/1")
 }
 
-/// Files that take the numbers of standard descriptors that are closed, so that nothing that is opened later is
-/// taken for standard error.
+/// Files that take the numbers of standard descriptors that are closed, so that nothing that is opened later
+/// is taken for standard error.
 pub fn placeholders<D: Disk>(alloc: Global, disk: &D) -> Vec<D::Reader> {
     let mut held = Vec::new(alloc);
     for _ in 0..3 {

@@ -22,7 +22,8 @@ pub capped_next : {A : Type 0} (f : A → ℕ) (xs : List A) (i : ℕ) (x : A) (
     → so_far ≡ capped (sum_by f (take i xs)) → slice_get xs i ≡ Some x → next ≡ capped (so_far + capped (f x))
     → next ≡ capped (sum_by f (take (i + 1) xs))
 capped_next f xs i x so_far next before at is =
-    rw (is, before, take_next xs i x at, sum_by_push f (take i xs) x) (capped_plus (sum_by f (take i xs)) (f x))
+    rw (is, before, take_next xs i x at, sum_by_push f (take i xs) x)
+    (capped_plus (sum_by f (take i xs)) (f x))
   where
     capped_plus : (a b : ℕ) → capped (capped a + capped b) ≡ capped (a + b)
     capped_plus a b = omega arith

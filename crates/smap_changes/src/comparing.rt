@@ -53,7 +53,8 @@ fn other_change(
     before: &Value,
     now: &Value,
 ) -> Result<String, AllocError>
-    ensures { IfOk result (λ t. string_bytes t ≡ spec.other_change name.now (view before.now) (view now.now)) }
+    ensures { IfOk result
+        (λ t. string_bytes t ≡ spec.other_change name.now (view before.now) (view now.now)) }
 {
     match (before.as_str(), now.as_str()) {
         (Some(before), Some(now)) => string_change(alloc, name, before, now),
@@ -68,7 +69,8 @@ fn value_change(
     before: &Value,
     now: &Value,
 ) -> Result<String, AllocError>
-    ensures { IfOk result (λ t. string_bytes t ≡ spec.value_change name.now (view before.now) (view now.now)) }
+    ensures { IfOk result
+        (λ t. string_bytes t ≡ spec.value_change name.now (view before.now) (view now.now)) }
 {
     match (before.as_array(), now.as_array()) {
         (Some(before), Some(now)) => array_change(alloc, name, before, now),
@@ -203,7 +205,8 @@ fn push_new_lines(
 
 /// The lines of members, or the one line that no member is another.
 fn or_none(alloc: Global, lines: &mut Vec<String>) -> Result<(), AllocError>
-    ensures { OnOk result (map string_bytes lines.new.items ≡ spec.or_none (map string_bytes lines.old.items)) }
+    ensures { OnOk result
+        (map string_bytes lines.new.items ≡ spec.or_none (map string_bytes lines.old.items)) }
 {
     if lines.is_empty() {
         lines.push(String::from_str(alloc, NO_MEMBER)?)?;
@@ -211,8 +214,8 @@ fn or_none(alloc: Global, lines: &mut Vec<String>) -> Result<(), AllocError>
     Ok(())
 }
 
-/// What changes of a map, a line for each member of its top level that isn't the same: first those that the map
-/// has, and then those that are new, each in byte order of the names. There is one line at least.
+/// What changes of a map, a line for each member of its top level that isn't the same: first those that the
+/// map has, and then those that are new, each in byte order of the names. There is one line at least.
 ///
 /// # Errors
 ///

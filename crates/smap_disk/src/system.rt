@@ -24,7 +24,8 @@ impl<'a, R> System<'a, R> {
 fn kind_of(metadata: &Metadata) -> Kind
     ensures file { IsFile (file_type metadata.now) → result ≡ Kind.File }
     ensures folder { IsDir (file_type metadata.now) → result ≡ Kind.Folder }
-    ensures other { ¬ (IsFile (file_type metadata.now)) → ¬ (IsDir (file_type metadata.now)) → result ≡ Kind.Special }
+    ensures other { ¬ (IsFile (file_type metadata.now)) → ¬ (IsDir (file_type metadata.now))
+        → result ≡ Kind.Special }
 {
     if metadata.is_file() {
         Kind::File

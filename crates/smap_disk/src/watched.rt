@@ -55,7 +55,8 @@ impl<W: Write> Write for Watched<W> {
 
     fn write(&mut self, bytes: &[u8]) -> io::Result<usize>
         ensures bound { WritesAtMost result bytes.now }
-        ensures bytes { WriteAppends (W.contents (inner_of self.old)) (W.contents (inner_of self.new)) result bytes.now }
+        ensures bytes { WriteAppends (W.contents (inner_of self.old)) (W.contents (inner_of self.new)) result
+            bytes.now }
         ensures fault { self.new.fault ≡ noted self.old.fault result }
     {
         let answer = self.inner.write(bytes);
@@ -71,7 +72,8 @@ impl<W: Write> Write for Watched<W> {
     }
 
     fn write_all(&mut self, bytes: &[u8]) -> io::Result<()>
-        ensures bytes { OnOk result (Appends (W.contents (inner_of self.old)) (W.contents (inner_of self.new)) bytes.now) }
+        ensures bytes { OnOk result
+            (Appends (W.contents (inner_of self.old)) (W.contents (inner_of self.new)) bytes.now) }
         ensures fault { self.new.fault ≡ noted self.old.fault result }
     {
         let answer = self.inner.write_all(bytes);

@@ -51,8 +51,8 @@ pub fn bare_json(alloc: Global, text: &str) -> Result<String, AllocError>
     inside(alloc, json.as_str())
 }
 
-/// A member's name as JSON writes it, without its quotes, and cut behind 100 bytes, where that may be within an
-/// escape.
+/// A member's name as JSON writes it, without its quotes, and cut behind 100 bytes, where that may be within
+/// an escape.
 ///
 /// # Errors
 ///

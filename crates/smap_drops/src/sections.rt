@@ -83,8 +83,8 @@ fn add_section<'v>(
     section: &'v Value,
     found: &mut IndexSet<&'v str>,
 ) -> Result<(), AllocError>
-    ensures { OnOk result (map (λ n. n.now) found.new.keys ≡ insert_all bytes_eq (map (λ n. n.now) found.old.keys)
-        (spec.lost_with_section levels (view section.now))) }
+    ensures { OnOk result (map (λ n. n.now) found.new.keys ≡ insert_all bytes_eq
+        (map (λ n. n.now) found.old.keys) (spec.lost_with_section levels (view section.now))) }
 {
     let names = lost_in_section(alloc, section)?;
     add_once(found, &names)?;
@@ -102,8 +102,8 @@ fn add_below<'v>(
     tree: &'v Value,
     found: &mut IndexSet<&'v str>,
 ) -> Result<(), AllocError>
-    ensures { OnOk result (map (λ n. n.now) found.new.keys ≡ insert_all bytes_eq (map (λ n. n.now) found.old.keys)
-        (spec.lost_below levels (view tree.now))) }
+    ensures { OnOk result (map (λ n. n.now) found.new.keys ≡ insert_all bytes_eq
+        (map (λ n. n.now) found.old.keys) (spec.lost_below levels (view tree.now))) }
 {
     if levels == 0 {
         return Ok(());

@@ -19,7 +19,8 @@ use Rattle.smap_pick.specs.Places.{MapPlace, scripts_of}
 use Rattle.smap_pick.specs.declared.picks.Pick.{Pick}
 use Rattle.smap_pick.specs.declared.places.Place.{Place}
 
-pub one_of : {X : Type 0} (P : X → Type 0) (xs : List X) (x : X) (i : ℕ) → All P xs → slice_get xs i ≡ Some x → P x
+pub one_of : {X : Type 0} (P : X → Type 0) (xs : List X) (x : X) (i : ℕ) → All P xs → slice_get xs i ≡ Some x
+    → P x
 one_of P xs x i all is = subst P (get_or_from_slice_get xs i x x is) (all i x (slice_get_within xs i x is))
 
 pub file_at : (w : Wanted) (i : ℕ) (v : Vec ℕ) → slice_get w.files.items i ≡ Some v
@@ -73,7 +74,8 @@ found_at w files names picks i p d are lt = pick_at w files names picks i (get_o
     (slice_get-get_or picks i p (omega (arith, same_length names picks are.named, lt))) lt
 
 -- one pick more
-pub one_more : {X : Type 0} (Is : Pick → Type 0) (f : X → List ℕ) (xs : List X) (i : ℕ) (picks : List Pick) (p : Pick)
+pub one_more : {X : Type 0} (Is : Pick → Type 0) (f : X → List ℕ) (xs : List X) (i : ℕ) (picks : List Pick)
+    (p : Pick)
     (d : X) → ArePicksOf Is (take i (map f xs)) picks → i < length xs → p.name.now ≡ f (get_or xs i d) → Is p
     → ArePicksOf Is (take (i + 1) (map f xs)) (picks ++ p ∷ [])
 one_more Is f xs i picks p d are lt same is =

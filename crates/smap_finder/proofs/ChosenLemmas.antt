@@ -20,11 +20,13 @@ pub was_not : (b : Bool) → not b ≡ true → b ≡ false
 was_not b e = grind arith
 
 -- what stands at one place
-pub same_at : {X : Type 0} (xs : List X) (i j : ℕ) (x y : X) → slice_get xs i ≡ Some x → slice_get xs j ≡ Some y
+pub same_at : {X : Type 0} (xs : List X) (i j : ℕ) (x y : X) → slice_get xs i ≡ Some x
+    → slice_get xs j ≡ Some y
     → j ≡ i → x ≡ y
 same_at xs i j x y a b e = let there = rw e at b in cc
 
-pub kept_at : {X : Type 0} (xs ys : List X) (i : ℕ) (x : X) → slice_get xs i ≡ Some x → slice_get (xs ++ ys) i ≡ Some x
+pub kept_at : {X : Type 0} (xs ys : List X) (i : ℕ) (x : X) → slice_get xs i ≡ Some x
+    → slice_get (xs ++ ys) i ≡ Some x
 kept_at [] ys i x e = absurd cc
 kept_at (y ∷ xs) ys zero x e = e
 kept_at (y ∷ xs) ys (suc i) x e = kept_at xs ys i x e
@@ -43,7 +45,8 @@ all_inserted P eq (e ∷ es) k v all same p =
     (λ _. All-cons P e (insert_entry eq es k v) (All-head P e es all)
     (all_inserted P eq es k v (All-tail P e es all) same p))
 
-pub serves_same : (o p : Opening) (n k : MappedName) (name : List ℕ) → o ≡ p → n ≡ k → name ≡ string_bytes k.name
+pub serves_same : (o p : Opening) (n k : MappedName) (name : List ℕ) → o ≡ p → n ≡ k
+    → name ≡ string_bytes k.name
     → Serves p.name.items p.found name k.found → Serves o.name.items o.found (string_bytes n.name) n.found
 serves_same o p n k name eo en is s = rw (eo, en) (rw is at s)
 
@@ -51,7 +54,8 @@ serves_same o p n k name eo en is s = rw (eo, en) (rw is at s)
 pub mapped_among : {X : Type 0} (f : X → List ℕ) (xs : List X) (i : ℕ) (d : X) → i < length xs
     → Contains (map f xs) (f (get_or xs i d))
 mapped_among f xs i d lt = let long = length-map xs f in
-    subst (Contains (map f xs)) (get_or-map f xs i d (f d) lt) (Contains-get_or (map f xs) i (f d) (omega arith))
+    subst (Contains (map f xs)) (get_or-map f xs i d (f d) lt)
+    (Contains-get_or (map f xs) i (f d) (omega arith))
 
 -- the names up to this one are listed
 pub next_listed : (c : Choices) (i : ℕ) (names : List (List ℕ))

@@ -40,7 +40,8 @@ still_some false x o e = e
 
 -- what was first of another file still is
 still_first : (firsts after : List (ℕ × Vec ℕ)) (file q : ℕ) (name first : Vec ℕ)
-    → IsSet firsts after file name → lookup (nat_eq file) firsts ≡ None → lookup (nat_eq q) firsts ≡ Some first
+    → IsSet firsts after file name → lookup (nat_eq file) firsts ≡ None
+    → lookup (nat_eq q) firsts ≡ Some first
     → lookup (nat_eq q) after ≡ Some first
 still_first firsts after file q name first set none is = go (nat_eq file q) refl
   where
@@ -151,7 +152,8 @@ name_of p = p.name.now
 
 -- one more name
 pub one_kept : (held : Held) (w : Wanted) (in_frames : Bool) (picks : List Pick) (i : ℕ) (d : Pick)
-    (b c e : Ends) → i < length picks → All (IsPickedBy held w in_frames) picks → KeepsAll held w (map name_of picks) b c
+    (b c e : Ends) → i < length picks → All (IsPickedBy held w in_frames) picks
+    → KeepsAll held w (map name_of picks) b c
     → KeepsOne held w (get_or picks i d).name.now (get_or picks i d).found c e
     → KeepsAll held w (map name_of picks) b e
 one_kept held w in_frames picks i d b c e lt picked kept keeps asked all before =

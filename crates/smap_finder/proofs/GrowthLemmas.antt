@@ -46,7 +46,8 @@ tried_as held w worst name under found (Ok None) same opened none =
     subst (λ (n : List ℕ). IsUnopened held w n found worst) same none
 tried_as held w worst name under found (Err e) same opened none = tt
 
-pub tried_worse : (held : Held) (w : Wanted) (worst worse : ℕ) (name : List ℕ) (found : Found) (map : Option ReadMap)
+pub tried_worse : (held : Held) (w : Wanted) (worst worse : ℕ) (name : List ℕ) (found : Found)
+    (map : Option ReadMap)
     → worst ≤ worse → IsTried held w worst name found map → IsTried held w worse name found map
 tried_worse held w worst worse name found (Some m) le is = is
 tried_worse held w worst worse name found None le is =
@@ -58,23 +59,27 @@ gives_worse held w worst worse name found le g = record {
   opened = g.opened;
   opened_for = g.opened_for;
   served = g.served;
-  without = unopened_worse held w (opening_name w g.opened g.opened_for) g.opened_for worst worse le g.without;
+  without =
+      unopened_worse held w (opening_name w g.opened g.opened_for) g.opened_for worst worse le g.without;
 }
 
 -- what is crowded stays so
 abbrev pub StayCrowded : Ends → Ends → Type 0
 StayCrowded old new = (file : ℕ) → IsCrowded old file → IsCrowded new file
 
-none_worse : (held : Held) (w : Wanted) (c d : Choices) (name : List ℕ) (found : Found) → StayCrowded c.ends d.ends
+none_worse : (held : Held) (w : Wanted) (c d : Choices) (name : List ℕ) (found : Found)
+    → StayCrowded c.ends d.ends
     → c.worst ≤ d.worst → HasNone held w c name found → HasNone held w d name found
 none_worse held w c d name (Given i) a le h = gives_worse held w c.worst d.worst name (Given i) le h
 none_worse held w c d name (ByEnd i) a le (inl crowded) = inl (a i crowded)
-none_worse held w c d name (ByEnd i) a le (inr gives) = inr (gives_worse held w c.worst d.worst name (ByEnd i) le gives)
+none_worse held w c d name (ByEnd i) a le (inr gives) =
+    inr (gives_worse held w c.worst d.worst name (ByEnd i) le gives)
 none_worse held w c d name (Unclear i j) a le h = h
 none_worse held w c d name Missing a le h = h
 
 pub left_worse : (held : Held) (w : Wanted) (in_frames : Bool) (c d : Choices) (name : List ℕ)
-    → StayCrowded c.ends d.ends → c.worst ≤ d.worst → IsLeft held w in_frames c name → IsLeft held w in_frames d name
+    → StayCrowded c.ends d.ends → c.worst ≤ d.worst → IsLeft held w in_frames c name
+    → IsLeft held w in_frames d name
 left_worse held w in_frames c d name a le (inl no_text) = inl no_text
 left_worse held w in_frames c d name a le (inr (found, picked, none)) =
     inr (found, picked, none_worse held w c d name found a le none)
@@ -89,14 +94,15 @@ further c ends worst = record {
   worst = worst;
 }
 
-pub chosen_further : (held : Held) (w : Wanted) (c : Choices) (ends : Ends) (worst : ℕ) → StayCrowded c.ends ends
+pub chosen_further : (held : Held) (w : Wanted) (c : Choices) (ends : Ends) (worst : ℕ)
+    → StayCrowded c.ends ends
     → c.worst ≤ worst → AreChosen held w c → AreChosen held w (further c ends worst)
 chosen_further held w c ends worst a le chosen = record {
   names = chosen.names;
   openings = λ k d lt. let o : Opening = get_or c.openings k d in
       tried_worse held w c.worst worst o.name.items o.found o.map le (chosen.openings k d lt);
-  left = λ k d lt. left_worse held w (get_or c.left k d).1 c (further c ends worst) (get_or c.left k d).0.items a le
-      (chosen.left k d lt);
+  left = λ k d lt. left_worse held w (get_or c.left k d).1 c (further c ends worst)
+      (get_or c.left k d).0.items a le (chosen.left k d lt);
 }
 
 pub chosen_worse : (held : Held) (w : Wanted) (c : Choices) (worst : ℕ) → c.worst ≤ worst → AreChosen held w c
@@ -151,13 +157,15 @@ has_grown c d name g (m, has) = (
 pub settled_grown : (held : Held) (w : Wanted) (in_frames : Bool) (c d : Choices) (name : List ℕ) → Grows c d
     → IsSettledIn held w in_frames c name → IsSettledIn held w in_frames d name
 settled_grown held w in_frames c d name g (inl has) = inl (has_grown c d name g has)
-settled_grown held w in_frames c d name g (inr left) = inr (left_worse held w in_frames c d name g.crowded g.worst left)
+settled_grown held w in_frames c d name g (inr left) =
+    inr (left_worse held w in_frames c d name g.crowded g.worst left)
 
 -- names that were settled before, and those that are now
 pub all_settled : (held : Held) (w : Wanted) (in_frames : Bool) (c d : Choices) (names : List (Bor (List ℕ)))
     (fresh : List (List ℕ)) → Grows c d
     → All (λ (n : Bor (List ℕ)). IsSettledIn held w in_frames c n.now ⊎ Contains fresh n.now) names
-    → All (IsSettledIn held w in_frames d) fresh → All (λ (n : Bor (List ℕ)). IsSettledIn held w in_frames d n.now) names
+    → All (IsSettledIn held w in_frames d) fresh
+    → All (λ (n : Bor (List ℕ)). IsSettledIn held w in_frames d n.now) names
 all_settled held w in_frames c d names fresh g all new = λ k n lt. elim (all k n lt) [
   | inl known ↦ settled_grown held w in_frames c d _ g known
   | inr among ↦ All-contains (IsSettledIn held w in_frames d) fresh _ new among
@@ -187,7 +195,8 @@ none_given held w c name (Unclear i j) gives = tt
 none_given held w c name Missing gives = tt
 
 -- what was looked for gave no map
-pub none_opened : (held : Held) (w : Wanted) (c : Choices) (name : List ℕ) (found : Found) (number : ℕ) (o : Opening)
+pub none_opened : (held : Held) (w : Wanted) (c : Choices) (name : List ℕ) (found : Found) (number : ℕ)
+    (o : Opening)
     → AreChosen held w c → IsServedBy c number name found o → o.map ≡ None → HasNone held w c name found
 none_opened held w c name found number o chosen served none =
     let tried = one_of (IsFor held w c.worst) c.openings o number chosen.openings served.0 in

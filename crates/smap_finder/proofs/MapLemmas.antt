@@ -42,7 +42,8 @@ end_choice held w in_frames name i p =
     subst (IsChoice held w name) (within_ended name in_frames p.choice i p.found_is) p.is_choice
 
 -- one that was opened for a name serves another
-served_map : (held : Held) (w : Wanted) (in_frames : Bool) (opened : List ℕ) (opened_for : Found) (name : List ℕ)
+served_map : (held : Held) (w : Wanted) (in_frames : Bool) (opened : List ℕ) (opened_for : Found)
+    (name : List ℕ)
     (found : Found) (m : ReadMap) → Serves opened opened_for name found → IsPicked held w in_frames name found
     → IsOpenedFor held w opened opened_for m → IsMapOf held w name m
 served_map held w in_frames opened (Given i) name (Given j) m s p o =
@@ -79,7 +80,8 @@ pub has_map : (held : Held) (w : Wanted) (c : Choices) (name : List ℕ) (m : Re
     → Has c name m → IsMapOf held w name m
 has_map held w c name m chosen has =
     let named = one_of (IsNamed held w) c.mapped has.mapped has.at chosen.names has.mapped_is in
-    let tried = one_of (IsFor held w c.worst) c.openings has.opening has.mapped.number chosen.openings has.served.0 in
+    let tried =
+    one_of (IsFor held w c.worst) c.openings has.opening has.mapped.number chosen.openings has.served.0 in
     let o = has.opening in
     served_map held w named.0 o.name.items o.found name has.mapped.found m has.served.1
     (subst (λ (n : List ℕ). IsPicked held w named.0 n has.mapped.found) (sym has.name_is) named.1)

@@ -78,8 +78,8 @@ abbrev pub ArePicksIn : Wanted → List (List ℕ) → List (List ℕ) → List 
 ArePicksIn w files names picks = ArePicks true (scripts_of (places_of w)) files names picks
 
 -- The text of a script names the file of a map, seen from this folder.
-pub record NamesFile (held : List ℕ → Option (List ℕ)) (root : Option Folder) (script : MapPlace) (file : List ℕ)
-    : Type 0 where
+pub record NamesFile (held : List ℕ → Option (List ℕ)) (root : Option Folder) (script : MapPlace)
+    (file : List ℕ) : Type 0 where
   pub text : List ℕ
   pub held_is : held script.file ≡ Some text
   pub names : Names (folder_for root script) script.file text file
@@ -152,7 +152,8 @@ scheme_size name = prefix_len (λ b. is_ascii_alphanumeric b || list_any (nat_eq
 
 -- a scheme and `://`, as a URL with a host begins
 abbrev pub has_scheme : List ℕ → Bool
-has_scheme name = not (scheme_size name == 0) && starts_with nat_eq (drop (scheme_size name) name) (codes "://")
+has_scheme name =
+    not (scheme_size name == 0) && starts_with nat_eq (drop (scheme_size name) name) (codes "://")
 
 -- a URL that names a place, or an absolute path
 abbrev pub is_absolute : List ℕ → Bool
@@ -171,7 +172,8 @@ within_ends name in_frames (Unclear i j) = cond (may_end_alike name in_frames) (
 within_ends name in_frames Missing = Missing
 
 -- What a name of a log has.
-pub record IsPicked (held : Held) (w : Wanted) (in_frames : Bool) (name : List ℕ) (found : Found) : Type 0 where
+pub record IsPicked (held : Held) (w : Wanted) (in_frames : Bool) (name : List ℕ)
+    (found : Found) : Type 0 where
   pub choice : Found
   pub is_choice : IsChoice held w name choice
   pub found_is : found ≡ within_ends name in_frames choice
@@ -192,8 +194,8 @@ abbrev pub own_name : List ℕ → Option (List ℕ) → List ℕ
 own_name name None = name
 own_name name (Some file) = cond (is_absolute name) name (name_of_file file)
 
--- The name under which a map is opened: that of the log; but of a map in a folder without a URL, where the log's
--- is neither a URL nor a path, that of its own file.
+-- The name under which a map is opened: that of the log; but of a map in a folder without a URL, where the
+-- log's is neither a URL nor a path, that of its own file.
 abbrev pub opening_name : Wanted → List ℕ → Found → List ℕ
 opening_name w name (Given i) = name
 opening_name w name (ByEnd i) = own_name name (slice_get (files_of w) i)
@@ -220,8 +222,8 @@ IsOpenedFor held w name found m = IsOpenedAs held w (opening_name w name found) 
 abbrev pub IsWithout : Held → Wanted → ℕ → List ℕ → Found → Type 0
 IsWithout held w worst name found = IsUnopened held w (opening_name w name found) found worst
 
--- The map of a name of a log: what the name has, opened for it, or for a name that differs from it in its query
--- or its fragment alone.
+-- The map of a name of a log: what the name has, opened for it, or for a name that differs from it in its
+-- query or its fragment alone.
 pub record IsMapOf (held : Held) (w : Wanted) (name : List ℕ) (m : ReadMap) : Type 0 where
   pub found : Found
   pub is_choice : IsChoice held w name found

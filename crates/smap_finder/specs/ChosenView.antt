@@ -59,8 +59,8 @@ pub record IsOver {D : Type 0} (of : D → Held) (held : Held) (w : Wanted) (o :
   pub held_is : held_of of o ≡ held
   pub table_is : IsTable o.table (scripts_of (places_of w))
 
--- An opening for one name serves another: the same was found for both, and, of a file in a folder without a URL,
--- they differ in their queries and fragments alone.
+-- An opening for one name serves another: the same was found for both, and, of a file in a folder without a
+-- URL, they differ in their queries and fragments alone.
 abbrev pub Serves : List ℕ → Found → List ℕ → Found → Type 0
 Serves opened (Given i) name (Given j) = i ≡ j
 Serves opened (ByEnd i) name (ByEnd j) = (i ≡ j) × (bare opened ≡ bare name)

@@ -162,7 +162,8 @@ impl Chosen {
 
     /// The scripts with their maps.
     pub fn scripts(&self, alloc: Global) -> Result<Vec<(&str, &SourceMap)>, AllocError>
-        ensures have_maps { IfOk result (λ list. All (λ s. Has (choices_of self.now) s.0.now s.1.now) list.items) }
+        ensures have_maps { IfOk result
+            (λ list. All (λ s. Has (choices_of self.now) s.0.now s.1.now) list.items) }
         ensures all { IfOk result (λ list. (name : List ℕ) → HasMap (choices_of self.now) name
             → Contains (map (λ s. s.0.now) list.items) name) }
     {
@@ -176,8 +177,8 @@ impl Chosen {
         Ok(scripts)
     }
 
-    /// Forgets the names that have maps, once there are many; the maps stay open, and names that come again find
-    /// them.
+    /// Forgets the names that have maps, once there are many; the maps stay open, and names that come again
+    /// find them.
     pub fn forget_many(&mut self, alloc: Global)
         ensures chosen { (held : Held) (wanted : Wanted) → AreChosen held wanted (choices_of self.old)
             → AreChosen held wanted (choices_of self.new) }
@@ -220,9 +221,11 @@ impl Chosen {
         found: Found,
         map: Option<SourceMap>,
     ) -> Result<usize, AllocError>
-        ensures chosen { (held : Held) (wanted : Wanted) → IsTried held wanted self.old.worst name.now found map
+        ensures chosen { (held : Held) (wanted : Wanted)
+            → IsTried held wanted self.old.worst name.now found map
             → AreChosen held wanted (choices_of self.old) → AreChosen held wanted (choices_of self.new) }
-        ensures number { IfOk result (λ n. (o : Opening) × (slice_get (choices_of self.new).openings n ≡ Some o)
+        ensures number { IfOk result (λ n. (o : Opening)
+            × (slice_get (choices_of self.new).openings n ≡ Some o)
             × (o.name.items ≡ name.now) × (o.found ≡ found)) }
         ensures grows { Grows (choices_of self.old) (choices_of self.new) }
         ensures ends { (choices_of self.new).ends ≡ (choices_of self.old).ends }
@@ -316,7 +319,8 @@ impl Chosen {
         ensures chosen { (held : Held) (wanted : Wanted) (in_frames : Bool)
             → IsPicked held wanted in_frames name.now found → AreChosen held wanted (choices_of self.old)
             → AreChosen held wanted (choices_of self.new) }
-        ensures has { OnOk result ((o : Opening) (m : ReadMap) → IsServedBy (choices_of self.old) number name.now found o
+        ensures has { OnOk result ((o : Opening) (m : ReadMap)
+            → IsServedBy (choices_of self.old) number name.now found o
             → o.map ≡ Some m → Has (choices_of self.new) name.now m) }
         ensures grows { Grows (choices_of self.old) (choices_of self.new) }
         ensures ends { (choices_of self.new).ends ≡ (choices_of self.old).ends }
@@ -334,7 +338,8 @@ impl Chosen {
 
     /// Whether a name is noted to have no map.
     fn is_left(&self, name: &[u8], in_frames: bool) -> bool
-        ensures { result ≡ true → (i : ℕ) × (k : Vec ℕ) × (slice_get (choices_of self.now).left i ≡ Some (k, in_frames))
+        ensures { result ≡ true → (i : ℕ) × (k : Vec ℕ)
+            × (slice_get (choices_of self.now).left i ≡ Some (k, in_frames))
             × (k.items ≡ name.now) }
     {
         let Some((_, key, as_frame)) = self.left.get_full(name) else {
@@ -347,7 +352,8 @@ impl Chosen {
     }
 
     pub(crate) fn is_known(&self, name: &[u8], in_frames: bool) -> bool
-        ensures { (held : Held) (wanted : Wanted) → AreChosen held wanted (choices_of self.now) → result ≡ true
+        ensures { (held : Held) (wanted : Wanted) → AreChosen held wanted (choices_of self.now)
+            → result ≡ true
             → IsSettledIn held wanted in_frames (choices_of self.now) name.now }
     {
         self.is_left(name, in_frames) || self.map_of(name).is_some()
@@ -375,9 +381,11 @@ impl Chosen {
         name: &[u8],
         in_frames: bool,
     ) -> Result<(), AllocError>
-        ensures chosen { (held : Held) (wanted : Wanted) → IsLeft held wanted in_frames (choices_of self.old) name.now
+        ensures chosen { (held : Held) (wanted : Wanted)
+            → IsLeft held wanted in_frames (choices_of self.old) name.now
             → AreChosen held wanted (choices_of self.old) → AreChosen held wanted (choices_of self.new) }
-        ensures left { (held : Held) (wanted : Wanted) → IsLeft held wanted in_frames (choices_of self.old) name.now
+        ensures left { (held : Held) (wanted : Wanted)
+            → IsLeft held wanted in_frames (choices_of self.old) name.now
             → IsLeft held wanted in_frames (choices_of self.new) name.now }
         ensures grows { Grows (choices_of self.old) (choices_of self.new) }
         ensures ends { (choices_of self.new).ends ≡ (choices_of self.old).ends }

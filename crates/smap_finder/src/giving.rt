@@ -122,8 +122,8 @@ fn open_one<E: Eprint + AllocGlobal, D: Disk>(
     Ok(number)
 }
 
-/// The number of the opening that serves a pick, which is opened if none does yet; none where nothing was found, or
-/// its file is opened for no further name.
+/// The number of the opening that serves a pick, which is opened if none does yet; none where nothing was
+/// found, or its file is opened for no further name.
 fn number_for<E: Eprint + AllocGlobal, D: Disk>(
     host: &Host<'_, E, D>,
     store: &mut FileStore<'_, D>,
@@ -318,9 +318,9 @@ pub(crate) fn judge(how: How, chosen: &Chosen) -> Result<(), Stop>
     Ok(())
 }
 
-/// Gives each of these names of a log its map, or finds that it has none: names that frames have, or other texts
-/// with a position behind them. Maps are opened that aren't yet. Each map that is refused is named; then the run
-/// ends, unless broken maps are skipped.
+/// Gives each of these names of a log its map, or finds that it has none: names that frames have, or other
+/// texts with a position behind them. Maps are opened that aren't yet. Each map that is refused is named;
+/// then the run ends, unless broken maps are skipped.
 pub fn open_for<E: Eprint + AllocGlobal, D: Disk>(
     host: &Host<'_, E, D>,
     opener: &mut Opener<'_, D>,

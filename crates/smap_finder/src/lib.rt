@@ -1,6 +1,6 @@
-//! The maps of the scripts that a log names, of those that arguments name (`smap_arguments`), opened as the log
-//! first names them ([`open_for`]). Which map a script has is decided by `smap_pick`; what its file gives, by
-//! `smap_opening`.
+//! The maps of the scripts that a log names, of those that arguments name (`smap_arguments`), opened as the
+//! log first names them ([`open_for`]). Which map a script has is decided by `smap_pick`; what its file
+//! gives, by `smap_opening`.
 //! The file system is `smap_disk`'s trait, so that tests have it in memory. What is wrong is said on standard
 //! error, with the status of that (`smap_host`).
 #![tactic(auto)]

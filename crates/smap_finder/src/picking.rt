@@ -64,7 +64,8 @@ pub(crate) fn opening_name(
     wanted: &Wanted<'_>,
     pick: &Pick<'_>,
 ) -> Result<Vec<u8>, AllocError>
-    ensures { IfOk result (λ name. name.items ≡ spec.opening_name wanted.now pick.now.name.now pick.now.found) }
+    ensures { IfOk result
+        (λ name. name.items ≡ spec.opening_name wanted.now pick.now.name.now pick.now.found) }
 {
     match pick.found {
         Found::ByEnd(i) => own_name(alloc, pick.name, wanted.files.get(i)),
@@ -76,7 +77,8 @@ pub(crate) fn opening_name(
 
 /// A name that is absolute, or else that of the file.
 fn own_name(alloc: Global, name: &[u8], file: Option<&Vec<u8>>) -> Result<Vec<u8>, AllocError>
-    ensures { IfOk result (λ own. own.items ≡ spec.own_name name.now (option_map (λ f. f.now.items) file.entry)) }
+    ensures { IfOk result
+        (λ own. own.items ≡ spec.own_name name.now (option_map (λ f. f.now.items) file.entry)) }
 {
     match file {
         Some(file) if !is_absolute(name) => name_of_file(alloc, file),
@@ -84,8 +86,8 @@ fn own_name(alloc: Global, name: &[u8], file: Option<&Vec<u8>>) -> Result<Vec<u8
     }
 }
 
-/// Whether a name may belong to a file by its end. `node:internal/x.js` names none. Of a name that is neither a
-/// URL nor a path only a frame shows where it begins.
+/// Whether a name may belong to a file by its end. `node:internal/x.js` names none. Of a name that is neither
+/// a URL nor a path only a frame shows where it begins.
 fn may_end_alike(name: &[u8], in_frames: bool) -> bool
     ensures { result ≡ spec.may_end_alike name.now in_frames }
 {
@@ -223,9 +225,10 @@ fn settle_each<'a, E: Eprint + AllocGlobal, D: Disk>(
     requires picks { ArePicksIn wanted.now (files_of wanted.now) (map (λ n. n.now) names.now) picks.now }
     requires scripts { ArePicksIn wanted.now (spec.script_files_of wanted.now) (map (λ n. n.now) names.now)
         by_script.now }
-    requires maps { ArePicksIn wanted.now (spec.map_files_of wanted.now) (map (λ n. n.now) names.now) by_map.now }
-    ensures { IfOk result (λ all. AreChoices (D.held host.now.disk.now) wanted.now (map (λ n. n.now) names.now)
-        all.items) }
+    requires maps { ArePicksIn wanted.now (spec.map_files_of wanted.now)
+        (map (λ n. n.now) names.now) by_map.now }
+    ensures { IfOk result (λ all. AreChoices (D.held host.now.disk.now) wanted.now
+        (map (λ n. n.now) names.now) all.items) }
 {
     let mut settled = Vec::with_capacity(host.alloc(), names.len())?;
     for i in 0..names.len() {
@@ -237,8 +240,8 @@ fn settle_each<'a, E: Eprint + AllocGlobal, D: Disk>(
     Ok(settled)
 }
 
-/// What each name has, of which these are found among all files: where a script and a map end alike with it, the
-/// map, through the script if that names it.
+/// What each name has, of which these are found among all files: where a script and a map end alike with it,
+/// the map, through the script if that names it.
 fn settled<'a, E: Eprint + AllocGlobal, D: Disk>(
     host: &Host<'_, E, D>,
     table: &mut ScriptTable,

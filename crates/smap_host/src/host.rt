@@ -113,7 +113,8 @@ impl<E: Eprint + AllocGlobal, D: Disk> Host<'_, E, D> {
 
     /// Writes to the output, and flushes it.
     pub fn write<W: Write>(&self, text: &[u8], writer: &mut Watched<W>) -> Result<(), Stop>
-        ensures { OnOk result (Appends (W.contents (inner_of writer.old)) (W.contents (inner_of writer.new)) text.now) }
+        ensures { OnOk result
+            (Appends (W.contents (inner_of writer.old)) (W.contents (inner_of writer.new)) text.now) }
     {
         let written = match writer.write_all(text) {
             Ok(()) => writer.flush(),

@@ -1,10 +1,13 @@
 -- Where a URL may begin, one place after the other.
-use Rattle.std.proofs.Common.{◌≡◌, ℕ, zero, suc, ◌+◌, ◌-◌, ◌<◌, ◌≤◌, Bool, true, false, ◌||◌, cond, List, [], ◌∷◌, Option, None, Some, nat_lt, nat_eq, take, length, get_or, refl, ap, sym, ◌∙◌, arith}
+use Rattle.std.proofs.Common.{◌≡◌, ℕ, zero, suc, ◌+◌, ◌-◌, ◌<◌, ◌≤◌, Bool, true, false, ◌||◌, cond, List, []}
+use Rattle.std.proofs.Common.{◌∷◌, Option, None, Some, nat_lt, nat_eq, take, length, get_or, refl, ap, sym}
+use Rattle.std.proofs.Common.{◌∙◌, arith}
 use Rattle.std.specs.List.{ends_with, find, slice_get, slice_range, suffix_len}
 use Rattle.std.specs.Option.{option_or}
 use Rattle.std.proofs.lemmas.Bool.Decides.{nat_tests}
 use Rattle.std.proofs.lemmas.List.Sums.{suffix_len_is}
-use Rattle.smap_lines.specs.Beginnings.{begins_with_root, begins_with_scheme, chosen, ends_in_parameters, last, may_begin_behind, starts_below}
+use Rattle.smap_lines.specs.Beginnings.{begins_with_root, begins_with_scheme, chosen, ends_in_parameters}
+use Rattle.smap_lines.specs.Beginnings.{last, may_begin_behind, starts_below}
 use Rattle.smap_lines.specs.Bytes.{ends_url, is_colour_parameter}
 use Rattle.smap_lines.specs.declared.beginnings.Beginnings.{Beginnings}
 
@@ -38,7 +41,8 @@ extended line end found starts = record {
 abbrev made : Option ℕ → Option ℕ → Option ℕ → Option ℕ → Beginnings
 made n s r f = record { nearest = n; scheme = s; root = r; farthest = f }
 
-made_same : (n s r f n' s' r' f' : Option ℕ) → n ≡ n' → s ≡ s' → r ≡ r' → f ≡ f' → made n s r f ≡ made n' s' r' f'
+made_same : (n s r f n' s' r' f' : Option ℕ) → n ≡ n' → s ≡ s' → r ≡ r' → f ≡ f'
+    → made n s r f ≡ made n' s' r' f'
 made_same n s r f n' s' r' f' p q t u = rw (p, q, t, u) refl
 
 or_some : (x y : Option ℕ) (s : ℕ) → option_or x (Some s) ≡ option_or (option_or x (Some s)) y
@@ -78,7 +82,8 @@ extended_one line end found next s ss p q r t =
     let root = λ (i : ℕ). begins_with_root (slice_range line i end) in
     made_same _ _ _ _ _ _ _ _
     (ap (λ (o : Option ℕ). option_or o (slice_get ss 0)) p ∙ sym (or_some found.nearest (slice_get ss 0) s))
-    (ap (λ (o : Option ℕ). option_or o (find scheme ss)) q ∙ sym (or_find found.scheme (find scheme ss) (scheme s) s))
+    (ap (λ (o : Option ℕ). option_or o (find scheme ss)) q
+    ∙ sym (or_find found.scheme (find scheme ss) (scheme s) s))
     (ap (λ (o : Option ℕ). option_or o (find root ss)) r ∙ sym (or_find found.root (find root ss) (root s) s))
     (ap (λ (o : Option ℕ). option_or (last ss) o) t ∙ sym (last_more s ss found.farthest))
 

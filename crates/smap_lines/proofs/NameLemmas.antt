@@ -1,10 +1,12 @@
 -- The name of a file, read byte for byte.
-use Rattle.std.proofs.Common.{◌≡◌, ℕ, ◌+◌, ◌<◌, ◌==◌, ◌&&◌, ◌||◌, Bool, true, false, cond, List, [], ◌∷◌, ◌++◌, length, drop, get_or, refl, ap, sym, ◌∙◌, arith, add-one, drop-cons}
+use Rattle.std.proofs.Common.{◌≡◌, ℕ, ◌+◌, ◌<◌, ◌==◌, ◌&&◌, ◌||◌, Bool, true, false, cond, List, [], ◌∷◌}
+use Rattle.std.proofs.Common.{◌++◌, length, drop, get_or, refl, ap, sym, ◌∙◌, arith, add-one, drop-cons}
 use Rattle.std.specs.Char.{is_ascii_alphabetic}
 use Rattle.std.specs.List.{list_any}
 use Rattle.std.proofs.lemmas.Bool.Decides.{nat_tests}
 use Rattle.std.proofs.lemmas.List.Folds.{list_any-append}
-use Rattle.smap_lines.specs.Looking.{begins_with_place, ends_name, holds_position, holds_position_behind, is_mark, name_in, name_with, names_file, with_letter, with_mark}
+use Rattle.smap_lines.specs.Looking.{begins_with_place, ends_name, holds_position, holds_position_behind}
+use Rattle.smap_lines.specs.Looking.{is_mark, name_in, name_with, names_file, with_letter, with_mark}
 use Rattle.smap_lines.specs.declared.looking.Name.{Name}
 use Rattle.smap_lines.specs.declared.looking.Name.TheVariants.{Nothing, Mark, Letter}
 
@@ -29,9 +31,11 @@ names_more (x ∷ xs) b =
     (is_ascii_alphabetic b) (list_any is_ascii_alphabetic (xs ++ b ∷ [])) (names_file (xs ++ b ∷ []))
     (list_any-append is_ascii_alphabetic xs (b ∷ [])) (names_more xs b)
 
-marks_more : (read : List ℕ) (b : ℕ) → list_any is_mark (read ++ b ∷ []) ≡ (list_any is_mark read || is_mark b)
+marks_more : (read : List ℕ) (b : ℕ)
+    → list_any is_mark (read ++ b ∷ []) ≡ (list_any is_mark read || is_mark b)
 marks_more read b =
-    list_any-append is_mark read (b ∷ []) ∙ ap (λ (x : Bool). list_any is_mark read || x) (or-false (is_mark b))
+    list_any-append is_mark read (b ∷ [])
+    ∙ ap (λ (x : Bool). list_any is_mark read || x) (or-false (is_mark b))
 
 no_letter : (b : ℕ) → is_mark b ≡ true → is_ascii_alphabetic b ≡ false
 no_letter b h = grind (arith, nat_tests)
@@ -60,7 +64,8 @@ ended_or_more false name bytes is = is
 pub name_more : (read : List ℕ) (b : ℕ)
     → name_with (name_in read) b ≡ name_in (cond (ends_name b) [] (read ++ b ∷ []))
 name_more read b =
-    let step = step_is (names_file read) (list_any is_mark read) (is_mark b) (is_ascii_alphabetic b) (no_letter b) in
+    let step =
+    step_is (names_file read) (list_any is_mark read) (is_mark b) (is_ascii_alphabetic b) (no_letter b) in
     let names = ap (λ (n : Bool). read_in n (list_any is_mark read || is_mark b)) (sym (names_more read b)) in
     let marks = ap (λ (k : Bool). read_in (names_file (read ++ b ∷ [])) k) (sym (marks_more read b)) in
     ended_or_more (ends_name b) _ (read ++ b ∷ []) (step ∙ names ∙ marks)
@@ -70,7 +75,8 @@ pub one_more_byte : (line read behind : List ℕ) (at : ℕ) → at < length lin
     → (get_or line at 0 == 58 && names_file read && begins_with_place behind) ≡ false
     → holds_position line ≡ holds_position_behind read (drop at line)
     → holds_position line
-    ≡ holds_position_behind (cond (ends_name (get_or line at 0)) [] (read ++ get_or line at 0 ∷ [])) (drop (at + 1) line)
+    ≡ holds_position_behind (cond (ends_name (get_or line at 0)) [] (read ++ get_or line at 0 ∷ []))
+    (drop (at + 1) line)
 one_more_byte line read behind at low rest none all =
     let cut : drop at line ≡ get_or line at 0 ∷ drop (at + 1) line = rw add-one (drop-cons line at 0 low) in
     let more = cond (ends_name (get_or line at 0)) [] (read ++ get_or line at 0 ∷ []) in

@@ -1,16 +1,19 @@
 -- Spans that are added one behind the other.
-use Rattle.std.proofs.Common.{◌≡◌, ℕ, suc, ◌+◌, ◌<◌, ◌≤◌, Bool, true, false, cond, List, [], ◌∷◌, ◌++◌, Option, None, Some, append_assoc, length, nat_le, refl, ap, sym, ◌∙◌, arith}
+use Rattle.std.proofs.Common.{◌≡◌, ℕ, suc, ◌+◌, ◌<◌, ◌≤◌, Bool, true, false, cond, List, [], ◌∷◌, ◌++◌}
+use Rattle.std.proofs.Common.{Option, None, Some, append_assoc, length, nat_le, refl, ap, sym, ◌∙◌, arith}
 use Rattle.std.specs.Option.{option_map_or, option_or}
 use Rattle.std.proofs.lemmas.Bool.Decides.{nat_tests}
 use Rattle.std.proofs.lemmas.List.Elements.{All-append}
 use Rattle.smap_lines.specs.Beginnings.{last}
-use Rattle.smap_lines.specs.Spans.{AddsSpans, IsSpanIn, number_end, place, places_behind, run_at, run_end, run_of, spans_from, spans_of, with_first}
+use Rattle.smap_lines.specs.Spans.{AddsSpans, IsSpanIn, number_end, place, places_behind, run_at, run_end}
+use Rattle.smap_lines.specs.Spans.{run_of, spans_from, spans_of, with_first}
 use Rattle.smap_lines.specs.declared.runs.Place.{Place}
 use Rattle.smap_lines.specs.declared.runs.Run.{Run}
 use Rattle.smap_lines.specs.declared.spans.Span.{Span}
 use Rattle.smap_lines.proofs.BeginningLemmas.{last_more, or_none}
 
-pub adds_trans : {len : ℕ} {xs ys zs : List Span} → AddsSpans len xs ys → AddsSpans len ys zs → AddsSpans len xs zs
+pub adds_trans : {len : ℕ} {xs ys zs : List Span} → AddsSpans len xs ys → AddsSpans len ys zs
+    → AddsSpans len xs zs
 adds_trans {len} {xs} {ys} {zs} f g = record {
   added = f.added ++ g.added;
   is = rw (g.is, f.is) (append_assoc xs f.added g.added);
@@ -20,18 +23,22 @@ adds_trans {len} {xs} {ys} {zs} f g = record {
 -- a run, and behind it these positions
 abbrev pub extended : Option Place → Option Place → List Place → ℕ → Run
 extended None old places end = run_of places end
-extended (Some first) old places end = record { first = Some first; last = option_or (last places) old; end = end }
+extended (Some first) old places end =
+    record { first = Some first; last = option_or (last places) old; end = end }
 
 extended_one : (first old : Option Place) (new : Place) (places : List Place) (end : ℕ)
     → extended (with_first first new).first (with_first first new).last places end
     ≡ extended first old (new ∷ places) end
-extended_one None old new places end = ap (λ (o : Option Place). record { first = Some new; last = o; end = end }) (or_none (last places))
+extended_one None old new places end =
+    ap (λ (o : Option Place). record { first = Some new; last = o; end = end }) (or_none (last places))
 extended_one (Some first) old new places end =
-    ap (λ (o : Option Place). record { first = Some first; last = o; end = end }) (sym (last_more new places old))
+    ap (λ (o : Option Place). record { first = Some first; last = o; end = end })
+    (sym (last_more new places old))
 
 pub extended_none : (first old : Option Place) (end : ℕ) → (first ≡ None → old ≡ None)
     → extended first old [] end ≡ record { first = first; last = old; end = end }
-extended_none None old end h = ap (λ (o : Option Place). record { first = None; last = o; end = end }) (sym (h refl))
+extended_none None old end h =
+    ap (λ (o : Option Place). record { first = None; last = o; end = end }) (sym (h refl))
 extended_none (Some first) old end h = refl
 
 pub with_alone : (first : Option Place) (new : Place) → (with_first first new).first ≡ None
@@ -47,7 +54,8 @@ pub none_left : {X : Type 0} (o : Option X) → ((x : X) → o ≡ Some x → �
 none_left None h = refl
 none_left (Some x) h = absurd (h x refl)
 
-pub four_more : (old n1 n2 n3 n4 a b c d : List Span) → n1 ≡ old ++ a → n2 ≡ n1 ++ b → n3 ≡ n2 ++ c → n4 ≡ n3 ++ d
+pub four_more : (old n1 n2 n3 n4 a b c d : List Span) → n1 ≡ old ++ a → n2 ≡ n1 ++ b → n3 ≡ n2 ++ c
+    → n4 ≡ n3 ++ d
     → n4 ≡ old ++ (a ++ (b ++ (c ++ d)))
 four_more old n1 n2 n3 n4 a b c d p q r t = rw (t, r, q, p) (simp append_assoc)
 
@@ -84,7 +92,8 @@ module _ (line : List ℕ) (n m before at : ℕ) (more : n ≡ suc m) where
       ≡ extended first old (places_behind n line before at) (run_end n line at)
   run_with first old end run f e =
       ap (λ (r : Run). extended r.first r.last (places_behind m line at r.end) (run_end m line r.end)) e
-      ∙ ap (λ (i : ℕ). extended (with_first first (place before end)).first (with_first first (place before end)).last
+      ∙ ap (λ (i : ℕ).
+      extended (with_first first (place before end)).first (with_first first (place before end)).last
       (places_behind m line at i) (run_end m line i)) (with_end first (place before end))
       ∙ run_more first old end f
 

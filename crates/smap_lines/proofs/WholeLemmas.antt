@@ -1,5 +1,6 @@
 -- The whole lines of a text are what its invariant says.
-use Rattle.std.proofs.Common.{◌≡◌, ◌≢◌, ℕ, ◌-◌, ◌≤◌, true, false, not, List, ◌++◌, length, take, drop, get_or, ap, sym, arith, ◌∙◌, length-drop}
+use Rattle.std.proofs.Common.{◌≡◌, ◌≢◌, ℕ, ◌-◌, ◌≤◌, true, false, not, List, ◌++◌, length, take, drop, get_or}
+use Rattle.std.proofs.Common.{ap, sym, arith, ◌∙◌, length-drop}
 use Rattle.std.proofs.lemmas.Bool.Decides.{nat_tests}
 use Rattle.std.proofs.lemmas.List.{take-append-le}
 use Rattle.std.proofs.lemmas.List.Sums.{suffix_len_is}
@@ -30,5 +31,6 @@ taken_front n xs ys e = let low : n ≤ length xs = omega arith in rw take-appen
 pub passed_is : (text : List ℕ) (whole size : ℕ) → size ≡ length text → IsWhole text whole
     → take (size - whole) (drop whole text ++ take whole text) ≡ open_line text
 passed_is text whole size e h =
-    taken_front (size - whole) (drop whole text) (take whole text) (rw length-drop (ap (λ (n : ℕ). n - whole) e))
+    taken_front (size - whole) (drop whole text) (take whole text)
+    (rw length-drop (ap (λ (n : ℕ). n - whole) e))
     ∙ ap (λ (n : ℕ). drop n text) (sym (whole_len_is text whole h))

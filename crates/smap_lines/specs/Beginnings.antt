@@ -1,5 +1,7 @@
 -- Where the URL of a script may begin.
-use Rattle.std.specs.Prelude.{ℕ, zero, suc, ◌-◌, ◌<◌, ◌==◌, ◌&&◌, ◌||◌, Bool, not, cond, List, [], ◌∷◌, length, drop, take, find, nat_eq, nat_lt, slice_index, slice_range, IfSome, Option, None, Some}
+use Rattle.std.specs.Prelude.{ℕ, zero, suc, ◌-◌, ◌<◌, ◌==◌, ◌&&◌, ◌||◌, Bool, not, cond, List, [], ◌∷◌}
+use Rattle.std.specs.Prelude.{length, drop, take, find, nat_eq, nat_lt, slice_index, slice_range, IfSome}
+use Rattle.std.specs.Prelude.{Option, None, Some}
 use Rattle.std.specs.Char.{is_ascii_alphabetic}
 use Rattle.std.specs.List.{ends_with, prefix_len, slice_get, starts_with, suffix_len}
 use Rattle.smap_lines.specs.Bytes.{ends_url, is_colour_parameter, is_scheme_byte, is_url_byte}

@@ -1,5 +1,6 @@
 -- What all lines show that were looked at.
-use Rattle.std.specs.Prelude.{ℕ, ◌+◌, ◌-◌, ◌^◌, Bool, true, cond, List, [], ◌∷◌, ◌++◌, codes, min, Option, Some, None}
+use Rattle.std.specs.Prelude.{ℕ, ◌+◌, ◌-◌, ◌^◌, Bool, true, cond, List, [], ◌∷◌, ◌++◌, codes, min, Option}
+use Rattle.std.specs.Prelude.{Some, None}
 use Rattle.smap_lines.specs.declared.looked.Looked.{Looked}
 use Rattle.smap_lines.specs.declared.looking.Sign.{Sign}
 use Rattle.smap_lines.specs.declared.looking.Sign.TheVariants.{Colours, Json, Tabs, Behind}

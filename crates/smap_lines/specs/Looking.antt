@@ -1,5 +1,6 @@
 -- What a line shows of positions of files.
-use Rattle.std.specs.Prelude.{ℕ, ◌+◌, ◌-◌, ◌==◌, ◌&&◌, ◌||◌, Bool, false, cond, List, [], ◌∷◌, ◌++◌, length, take, nat_eq, nat_le, slice_index, Option, Some, None}
+use Rattle.std.specs.Prelude.{ℕ, ◌+◌, ◌-◌, ◌==◌, ◌&&◌, ◌||◌, Bool, false, cond, List, [], ◌∷◌, ◌++◌, length}
+use Rattle.std.specs.Prelude.{take, nat_eq, nat_le, slice_index, Option, Some, None}
 use Rattle.std.specs.Char.{is_ascii_digit, is_ascii_alphabetic}
 use Rattle.std.specs.List.{ends_with, list_any, prefix_len, starts_with}
 use Rattle.smap_lines.specs.declared.looking.Name.{Name}

@@ -14,4 +14,5 @@ prefixes_in prefixes = map (λ p. (p.0.now, p.1.now)) prefixes
 -- the URL with the other beginning, for the first of these with which it begins
 abbrev pub with_prefix : List Prefix → List ℕ → List ℕ
 with_prefix [] url = url
-with_prefix (p ∷ rest) url = cond (starts_with nat_eq url p.0) (p.1 ++ drop (length p.0) url) (with_prefix rest url)
+with_prefix (p ∷ rest) url =
+    cond (starts_with nat_eq url p.0) (p.1 ++ drop (length p.0) url) (with_prefix rest url)

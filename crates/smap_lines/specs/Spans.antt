@@ -1,5 +1,6 @@
 -- Spans of a line.
-use Rattle.std.specs.Prelude.{◌≡◌, ℕ, zero, suc, ◌+◌, ◌<◌, ◌≤◌, ◌==◌, ◌&&◌, Bool, false, cond, List, [], ◌∷◌, ◌++◌, drop, length, nat_le, nat_lt, slice_index, IfSome, Option, None, Some}
+use Rattle.std.specs.Prelude.{◌≡◌, ℕ, zero, suc, ◌+◌, ◌<◌, ◌≤◌, ◌==◌, ◌&&◌, Bool, false, cond, List, [], ◌∷◌}
+use Rattle.std.specs.Prelude.{◌++◌, drop, length, nat_le, nat_lt, slice_index, IfSome, Option, None, Some}
 use Rattle.std.specs.Char.{is_ascii_digit}
 use Rattle.std.specs.List.{All, list_any, prefix_len, slice_get}
 use Rattle.std.specs.Option.{option_map, option_map_or}
@@ -20,8 +21,8 @@ number_end line colon = cond (slice_index line colon == 58 && nat_lt 0 (digits_b
 abbrev pub place : ℕ → ℕ → Place
 place start end = record { start = start; end = end }
 
--- The positions of a run that goes on here, behind a number that begins before: each number and the one behind
--- it. The first number bounds how many there are.
+-- The positions of a run that goes on here, behind a number that begins before: each number and the one
+-- behind it. The first number bounds how many there are.
 abbrev pub places_behind : ℕ → List ℕ → ℕ → ℕ → List Place
 places_behind zero line before at = []
 places_behind (suc n) line before at =

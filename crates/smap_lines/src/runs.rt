@@ -28,8 +28,8 @@ pub(crate) struct Place {
     pub(crate) end: usize,
 }
 
-/// The positions that count of a run of numbers, and where it ends: the first two numbers, and the last two if
-/// these are others.
+/// The positions that count of a run of numbers, and where it ends: the first two numbers, and the last two
+/// if these are others.
 #[derive(Clone, Copy)]
 pub(crate) struct Run {
     pub(crate) first: Option<Place>,

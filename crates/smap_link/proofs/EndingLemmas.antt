@@ -1,11 +1,14 @@
 -- Paths that end in the same segment.
-use Rattle.std.proofs.Common.{◌≡◌, ◌∙◌, ◌⊎◌, ⊎_elim, ℕ, ◌+◌, ◌-◌, ◌==◌, ◌<◌, ◌≤◌, not, Bool, true, false, List, []}
-use Rattle.std.proofs.Common.{◌∷◌, ◌++◌, length, reverse, get_or, cond, bytes_eq, Option, Some, None, ap, refl, sym}
+use Rattle.std.proofs.Common.{◌≡◌, ◌∙◌, ◌⊎◌, ⊎_elim, ℕ, ◌+◌, ◌-◌, ◌==◌, ◌<◌, ◌≤◌, not, Bool, true, false}
+use Rattle.std.proofs.Common.{List, []}
+use Rattle.std.proofs.Common.{◌∷◌, ◌++◌, length, reverse, get_or, cond, bytes_eq, Option, Some, None, ap}
+use Rattle.std.proofs.Common.{refl, sym}
 use Rattle.std.proofs.Common.{subst, arith, true≢false, length-drop, map, take, zero, suc}
 use Rattle.std.specs.Global.{Vec}
 use Rattle.std.proofs.lemmas.Bool.{cond-true, cond-false}
 use Rattle.std.proofs.lemmas.Grind.{same_number_lists}
-use Rattle.std.proofs.lemmas.List.{get_or-drop, get_or-reverse, get_or_append_left, get_or_push, length-reverse}
+use Rattle.std.proofs.lemmas.List.{get_or-drop, get_or-reverse, get_or_append_left, get_or_push}
+use Rattle.std.proofs.lemmas.List.{length-reverse}
 use Rattle.std.proofs.lemmas.List.{map-append, take_more}
 use Rattle.std.proofs.lemmas.List.Sums.{prefix_len-le-length, prefix_len_passes, prefix_len_stops}
 use Rattle.std.proofs.lemmas.Slice.Eq.{bytes_eq-Decides}
@@ -28,7 +31,8 @@ slash_stops b stops = grind arith
 
 module _ (path : List ℕ) where
   size_within : segment_size path ≤ length path
-  size_within = omega (arith, prefix_len-le-length (λ (b : ℕ). not (b == 47)) (reverse path), length-reverse path)
+  size_within =
+      omega (arith, prefix_len-le-length (λ (b : ℕ). not (b == 47)) (reverse path), length-reverse path)
 
   -- no slash stands in the last segment
   no_slash : (j : ℕ) → j < segment_size path → get_or path (length path - 1 - j) 0 ≡ 47 → ⊥
@@ -62,7 +66,8 @@ flipped a b n c = record {
   begins_b = c.begins_a;
 }
 
-not_less : (a b : List ℕ) (n : ℕ) → IsCommonTail a b n → segment_size b ≤ n → segment_size a < segment_size b → ⊥
+not_less : (a b : List ℕ) (n : ℕ) → IsCommonTail a b n → segment_size b ≤ n → segment_size a < segment_size b
+    → ⊥
 not_less a b n c fits lt =
     no_slash b (segment_size a) lt
     (sym (c.same (segment_size a) (omega (arith, lt, fits))) ∙ slash a (omega (arith, lt, fits, c.in_a)))
@@ -115,7 +120,8 @@ module _ (path : List ℕ) (names : List (List ℕ)) (i j : ℕ) (le : j ≤ i)
       (λ late. below k m late lt like) cases
 
   -- those that end in another segment change nothing
-  passed : (n : ℕ) (found : Likeness) → IsMostAlikeFrom path names i n found → IsMostAlikeFrom path names j n found
+  passed : (n : ℕ) (found : Likeness) → IsMostAlikeFrom path names i n found
+      → IsMostAlikeFrom path names j n found
   passed n Unlike is = (is.0, at_most n is.1)
   passed n (Like one) is = (
     is.0,
@@ -140,8 +146,8 @@ at_first path names None is = (
   tt,
 )
 at_first path names (Some i) is = (
-  passed path names (length names) (i + 1) (omega (arith, is.0)) (λ k low lt. is.2 k (omega (arith, low)) lt) 0
-      Unlike (nothing_yet path names),
+  passed path names (length names) (i + 1) (omega (arith, is.0)) (λ k low lt. is.2 k (omega (arith, low)) lt)
+      0 Unlike (nothing_yet path names),
   (is.0, is.1),
 )
 
@@ -201,7 +207,8 @@ inserted (e ∷ es) k i text = by (bytes_eq k.items e.0.items) refl (inserted es
     by true is rec =
         ap (λ (l : List (Vec ℕ × ℕ)). place_in (rows_of l) text) (cond-true _ _ _ is)
         ∙ once (bytes_eq text e.0.items) (Some i) (Some e.1) rest
-        ∙ ap (λ (t : List ℕ). cond (bytes_eq text t) (Some i) (cond (bytes_eq text e.0.items) (Some e.1) rest))
+        ∙ ap
+        (λ (t : List ℕ). cond (bytes_eq text t) (Some i) (cond (bytes_eq text e.0.items) (Some e.1) rest))
         (sym ((bytes_eq-Decides k.items e.0.items).0 is))
     by false is rec =
         ap (λ (l : List (Vec ℕ × ℕ)). place_in (rows_of l) text) (cond-false _ _ _ is)
@@ -282,7 +289,8 @@ item_at (p ∷ paths) zero d lt = refl
 item_at (p ∷ paths) (suc i) d lt = item_at paths i d (omega (arith, lt))
 
 -- one more of those that are most alike
-pub alike_more : (paths names : List (List ℕ)) (kept : List Likeness) (i : ℕ) (one : Likeness) → length kept ≡ i
+pub alike_more : (paths names : List (List ℕ)) (kept : List Likeness) (i : ℕ) (one : Likeness)
+    → length kept ≡ i
     → ((k : ℕ) → k < i → IsMostAlike (get_or paths k []) names (get_or kept k Unlike))
     → IsMostAlike (get_or paths i []) names one
     → (k : ℕ) → k < i + 1 → IsMostAlike (get_or paths k []) names (get_or (kept ++ one ∷ []) k Unlike)

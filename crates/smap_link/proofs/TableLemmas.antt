@@ -1,6 +1,7 @@
 -- The first places of texts in a list.
 use Rattle.std.proofs.Common.{◌≡◌, ◌∙◌, ℕ, zero, suc, Bor, map, ◌+◌, ◌<◌, Bool, true, false, List}
-use Rattle.std.proofs.Common.{[], ◌∷◌, ◌++◌, length, take, drop, get_or, cond, bytes_eq, Option, Some, None, option_map, unwrap_or}
+use Rattle.std.proofs.Common.{[], ◌∷◌, ◌++◌, length, take, drop, get_or, cond, bytes_eq, Option, Some, None}
+use Rattle.std.proofs.Common.{option_map, unwrap_or}
 use Rattle.std.proofs.Common.{is_some, ap, refl, sym, subst, arith, true≢false}
 use Rattle.std.proofs.Common.{length-take-le}
 use Rattle.std.proofs.Math.Seq.{take-length}
@@ -9,7 +10,8 @@ use Rattle.std.specs.Map.{lookup}
 use Rattle.std.specs.List.{position_from, slice_get}
 use Rattle.std.proofs.lemmas.Bool.{cond-true, cond-false}
 use Rattle.std.proofs.lemmas.Iterator.Adapters.{position_from-zero}
-use Rattle.std.proofs.lemmas.List.{drop_more, get_or-take, length-map, map-append, take_more, take-append-drop}
+use Rattle.std.proofs.lemmas.List.{drop_more, get_or-take, length-map, map-append, take_more}
+use Rattle.std.proofs.lemmas.List.{take-append-drop}
 use Rattle.std.proofs.lemmas.List.Quantifiers.{position-Some}
 use Rattle.std.proofs.lemmas.Slice.Eq.{bytes_eq-Decides}
 use Rattle.indexmap.specs.IndexMap.{insert_entry}

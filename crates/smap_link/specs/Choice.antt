@@ -1,5 +1,6 @@
 -- Which map each script has that a log names.
-use Rattle.std.specs.Prelude.{◌≡◌, ℕ, ◌+◌, ◌<◌, Bool, true, List, [], ◌∷◌, ◌++◌, cond, length, map, get_or, Option}
+use Rattle.std.specs.Prelude.{◌≡◌, ℕ, ◌+◌, ◌<◌, Bool, true, List, [], ◌∷◌, ◌++◌, cond, length, map, get_or}
+use Rattle.std.specs.Prelude.{Option}
 use Rattle.std.specs.Prelude.{Some, None}
 use Rattle.std.specs.List.{position_from}
 use Rattle.std.specs.Str.{bytes_eq}
@@ -22,8 +23,8 @@ or_else (Some i) other = Some i
 abbrev pub alike_in : List ℕ → List (List ℕ) → Option ℕ
 alike_in name all = first_of (key_of name) (map key_of all)
 
--- the first that is alike to a name and has the same query, or else, if queries are ignored, that is alike to it
--- without its query and its fragment
+-- the first that is alike to a name and has the same query, or else, if queries are ignored, that is alike to
+-- it without its query and its fragment
 abbrev pub alike_to : Bool → List (List ℕ) → List ℕ → Option ℕ
 alike_to ignore_query scripts name =
     or_else (alike_in name scripts) (cond ignore_query (alike_in (bare name) scripts) None)

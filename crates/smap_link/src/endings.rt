@@ -95,8 +95,8 @@ fn each_most_alike(
     wanted: &[Vec<u8>],
     paths: &[Vec<u8>],
 ) -> Result<Vec<Likeness>, AllocError>
-    ensures { IfOk result (λ found. AreMostAlike (map (λ p. p.items) wanted.now) (map (λ p. p.items) paths.now)
-        found.items) }
+    ensures { IfOk result (λ found. AreMostAlike (map (λ p. p.items) wanted.now)
+        (map (λ p. p.items) paths.now) found.items) }
 {
     let ends = endings_of(alloc, paths)?;
     let mut found = Vec::new(alloc);

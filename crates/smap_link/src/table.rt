@@ -1,5 +1,6 @@
 //! The scripts that have maps, found by their names in time proportional to the bytes of these.
-ghost use Rattle.std.specs.Prelude.{◌≡◌, ◌<◌, ◌≤◌, true, List, [], ℕ, IfErr, IfOk, OnOk, get_or, is_some, length, map};
+ghost use Rattle.std.specs.Prelude.{◌≡◌, ◌<◌, ◌≤◌, true, List, [], ℕ, IfErr, IfOk, OnOk, get_or, is_some};
+ghost use Rattle.std.specs.Prelude.{length, map};
 ghost use Rattle.smap_link.specs.Alike.{key_of as key_in};
 ghost use Rattle.smap_link.specs.Choice.{AreDistinct, IsFaultOf, alike_to, first_of};
 ghost use Rattle.smap_link.specs.Table.{HasPlaces, IsTable, place_in, rows_of, texts_in, with_place};
@@ -89,7 +90,8 @@ fn keys_of(
     alloc: Global,
     names: &IndexMap<Vec<u8>, usize>,
 ) -> Result<IndexMap<Vec<u8>, usize>, AllocError>
-    ensures { IfOk result (λ t. HasPlaces (rows_of t.entries) (map key_in (texts_in (rows_of names.now.entries)))) }
+    ensures { IfOk result
+        (λ t. HasPlaces (rows_of t.entries) (map key_in (texts_in (rows_of names.now.entries)))) }
 {
     let texts = texts(alloc, names)?;
     alike_table(alloc, &texts)
@@ -148,8 +150,8 @@ impl ScriptTable {
         }
     }
 
-    /// The place in the list of scripts of the first whose name is alike to this one and has the same query, or
-    /// else, if queries are ignored, of the first that is alike to it without its query and its fragment.
+    /// The place in the list of scripts of the first whose name is alike to this one and has the same query,
+    /// or else, if queries are ignored, of the first that is alike to it without its query and its fragment.
     ///
     /// The first call takes time proportional to the bytes of all names.
     ///

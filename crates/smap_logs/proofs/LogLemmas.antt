@@ -56,7 +56,8 @@ pub next_lines : (before left : Option (List ℕ)) (block : List ℕ) (ended : B
 next_lines before left block ended going kept = rw going (lines_of before left block kept)
 
 -- what was handed out of a log that has ended is all that it had
-pub all_taken : (left rest : Option (List ℕ)) (text : List ℕ) → Consumes left rest text → IsAtEnd rest → IsAll left text
+pub all_taken : (left rest : Option (List ℕ)) (text : List ℕ) → Consumes left rest text → IsAtEnd rest
+    → IsAll left text
 all_taken None rest text taken end = tt
 all_taken (Some x) None text taken end = absurd taken
 all_taken (Some x) (Some y) text taken end = taken ∙ ap (λ l. text ++ l) end ∙ append-nil text

@@ -31,7 +31,8 @@ pub same_none : (names : List (List ℕ)) → AreSame names (names ++ [])
 same_none names = subst (AreSame names) (sym (append-nil names)) (same_self names)
 
 -- a name that is there
-pub same_present : (names : List (List ℕ)) (name : List ℕ) → Contains names name → AreSame names (names ++ name ∷ [])
+pub same_present : (names : List (List ℕ)) (name : List ℕ) → Contains names name
+    → AreSame names (names ++ name ∷ [])
 same_present names name there = (
   λ n has. Contains-append_left names (name ∷ []) n has,
   λ n has. elim (Contains-push_cases names name n has) [
@@ -46,7 +47,8 @@ in_more names others more all n has = elim (Contains-append_cases names more n h
   | inr new ↦ Contains-append_right others more n new
 ]
 
-in_front : (front names others : List (List ℕ)) → AreIn names others → AreIn (front ++ names) (front ++ others)
+in_front : (front names others : List (List ℕ)) → AreIn names others
+    → AreIn (front ++ names) (front ++ others)
 in_front front names others all n has = elim (Contains-append_cases front names n has) [
   | inl old ↦ Contains-append_left front others n old
   | inr new ↦ Contains-append_right front others n (all n new)
@@ -74,7 +76,8 @@ IsAt name [] i = ⊥
 IsAt name (e ∷ es) zero = bytes_eq name e.0.items ≡ true
 IsAt name (e ∷ es) (suc i) = (bytes_eq name e.0.items ≡ false) × IsAt name es i
 
-pub is_there : (name : List ℕ) (es : List (Vec ℕ × ℕ)) (i : ℕ) → IsAt name es i → Contains (items_of (keys_of es)) name
+pub is_there : (name : List ℕ) (es : List (Vec ℕ × ℕ)) (i : ℕ) → IsAt name es i
+    → Contains (items_of (keys_of es)) name
 is_there name [] i at = absurd at
 is_there name (e ∷ es) zero at = Contains-append_left (e.0.items ∷ []) (items_of (keys_of es)) name
     (0, omega arith, sym ((bytes_eq-Decides name e.0.items).0 at))
@@ -92,9 +95,10 @@ inserted (e ∷ es) k v = go (same_key k e.0) refl (inserted es k v)
         (items_of (keys_of (e ∷ es)) ++ k.items ∷ [])
     go true is rest = same_present (items_of (keys_of (e ∷ es))) k.items (is_there k.items (e ∷ es) 0 is)
     go false is rest = (
-      in_front (e.0.items ∷ []) (items_of (keys_of (insert_entry same_key es k v))) (items_of (keys_of es) ++ k.items ∷ [])
-          rest.0,
-      in_front (e.0.items ∷ []) (items_of (keys_of es) ++ k.items ∷ []) (items_of (keys_of (insert_entry same_key es k v)))
+      in_front (e.0.items ∷ []) (items_of (keys_of (insert_entry same_key es k v)))
+          (items_of (keys_of es) ++ k.items ∷ []) rest.0,
+      in_front (e.0.items ∷ []) (items_of (keys_of es) ++ k.items ∷ [])
+          (items_of (keys_of (insert_entry same_key es k v)))
           rest.1,
     )
 
@@ -104,7 +108,8 @@ pub is_known : (name : List ℕ) (es : List (Vec ℕ × ℕ))
 is_known name [] = refl
 is_known name (e ∷ es) = go (bytes_eq name e.0.items) (is_known name es)
   where
-    go : (b : Bool) → is_some (lookup (λ k. bytes_eq name k.items) es) ≡ list_any (bytes_eq name) (items_of (keys_of es))
+    go : (b : Bool)
+        → is_some (lookup (λ k. bytes_eq name k.items) es) ≡ list_any (bytes_eq name) (items_of (keys_of es))
         → is_some (cond b (Some e.1) (lookup (λ k. bytes_eq name k.items) es))
         ≡ (b || list_any (bytes_eq name) (items_of (keys_of es)))
     go true rest = refl
@@ -129,8 +134,8 @@ put ks k = go (list_any (same_key k) ks) refl
     go : (b : Bool) → list_any (same_key k) ks ≡ b
         → AreSame (items_of (cond b ks (ks ++ k ∷ []))) (items_of ks ++ k.items ∷ [])
     go true is = same_present (items_of ks) k.items (is_put k.items ks is)
-    go false is = subst (λ ns. AreSame ns (items_of ks ++ k.items ∷ [])) (sym (map-append (λ x. x.items) ks (k ∷ [])))
-        (same_self (items_of ks ++ k.items ∷ []))
+    go false is = subst (λ ns. AreSame ns (items_of ks ++ k.items ∷ []))
+        (sym (map-append (λ x. x.items) ks (k ∷ []))) (same_self (items_of ks ++ k.items ∷ []))
 
 -- ---- names that aren't those of frames
 
@@ -138,7 +143,8 @@ put ks k = go (list_any (same_key k) ks) refl
 abbrev pub Adds : List (List ℕ) → List ℕ → List (List ℕ) → List (List ℕ) → Type 0
 Adds frames name before after = AreSame after (before ++ without frames (filter has_plain_query (name ∷ [])))
 
-pub not_plain : (frames : List (List ℕ)) (name : List ℕ) (before : List (List ℕ)) → has_plain_query name ≡ false
+pub not_plain : (frames : List (List ℕ)) (name : List ℕ) (before : List (List ℕ))
+    → has_plain_query name ≡ false
     → Adds frames name before before
 not_plain frames name before is = rw is (same_none before)
 
@@ -146,8 +152,10 @@ pub of_frame : (frames : List (List ℕ)) (name : List ℕ) (before : List (List
     → list_any (bytes_eq name) frames ≡ true → Adds frames name before before
 of_frame frames name before is known = rw (is, known) (same_none before)
 
-pub of_others : (frames : List (List ℕ)) (name : List ℕ) (before after : List (List ℕ)) → has_plain_query name ≡ true
-    → list_any (bytes_eq name) frames ≡ false → AreSame after (before ++ name ∷ []) → Adds frames name before after
+pub of_others : (frames : List (List ℕ)) (name : List ℕ) (before after : List (List ℕ))
+    → has_plain_query name ≡ true
+    → list_any (bytes_eq name) frames ≡ false → AreSame after (before ++ name ∷ [])
+    → Adds frames name before after
 of_others frames name before after is known same = rw (is, known) same
 
 without-append : (frames xs ys : List (List ℕ))
@@ -155,7 +163,8 @@ without-append : (frames xs ys : List (List ℕ))
 without-append frames xs ys = filter-append (λ name. not (list_any (bytes_eq name) frames)) xs ys
 
 -- the others of one more part
-pub more_others : (frames before middle after xs ys : List (List ℕ)) → AreSame middle (before ++ without frames xs)
+pub more_others : (frames before middle after xs ys : List (List ℕ))
+    → AreSame middle (before ++ without frames xs)
     → AreSame after (middle ++ without frames ys) → AreSame after (before ++ without frames (xs ++ ys))
 more_others frames before middle after xs ys first second =
     subst (λ ns. AreSame after (before ++ ns)) (sym (without-append frames xs ys))
@@ -166,7 +175,8 @@ pub more_of_lines : (frames now before middle after : List (List ℕ)) (lines : 
     (line : Bor (List ℕ)) → now ≡ frames
     → AreSame middle (before ++ without frames (flat_map others_in_line (map (λ l. l.now) lines)))
     → AreSame after (middle ++ without now (others_in_line line.now))
-    → AreSame after (before ++ without frames (flat_map others_in_line (map (λ l. l.now) (lines ++ line ∷ []))))
+    → AreSame after
+    (before ++ without frames (flat_map others_in_line (map (λ l. l.now) (lines ++ line ∷ []))))
 more_of_lines frames now before middle after lines line is first second =
     let ls = map (λ (l : Bor (List ℕ)). l.now) lines in
     let joined : flat_map others_in_line (map (λ (l : Bor (List ℕ)). l.now) (lines ++ line ∷ []))
@@ -183,7 +193,8 @@ pub more_of_spans : (line : List ℕ) (spans : List Span) (i : ℕ) (d : Span) �
     → (frames now before middle after : List (List ℕ)) → now ≡ frames
     → AreSame middle (before ++ without frames (filter has_plain_query (map (name_in line) (take i spans))))
     → AreSame after (middle ++ without now (filter has_plain_query (name_in line (get_or spans i d) ∷ [])))
-    → AreSame after (before ++ without frames (filter has_plain_query (map (name_in line) (take (i + 1) spans))))
+    → AreSame after
+    (before ++ without frames (filter has_plain_query (map (name_in line) (take (i + 1) spans))))
 more_of_spans line spans i d lt frames now before middle after is first second =
     let xs = map (name_in line) (take i spans) in
     let name = name_in line (get_or spans i d) in
@@ -193,8 +204,8 @@ more_of_spans line spans i d lt frames now before middle after is first second =
     ∙ ap (filter has_plain_query) (map-append (name_in line) (take i spans) (get_or spans i d ∷ []))
     ∙ filter-append has_plain_query xs (name ∷ []) in
     subst (λ ns. AreSame after (before ++ without frames ns)) (sym joined)
-    (more_others frames before middle after (filter has_plain_query xs) (filter has_plain_query (name ∷ [])) first
-    (subst (λ f. AreSame after (middle ++ without f (filter has_plain_query (name ∷ [])))) is second))
+    (more_others frames before middle after (filter has_plain_query xs) (filter has_plain_query (name ∷ []))
+    first (subst (λ f. AreSame after (middle ++ without f (filter has_plain_query (name ∷ [])))) is second))
 
 -- ---- names that are counted
 
@@ -215,7 +226,8 @@ more_counted named i before middle after name count lt at first second =
     let d : List ℕ × ℕ = (name, count) in
     let same : get_or named i d ≡ d = cc (slice_get-get_or named i d lt) in
     let joined : keys_of (take (i + 1) named) ≡ keys_of (take i named) ++ name ∷ [] =
-    ap keys_of (take_more named i d lt ∙ ap (λ p. take i named ++ p ∷ []) same) ∙ keys_append (take i named) (d ∷ []) in
+    ap keys_of (take_more named i d lt ∙ ap (λ p. take i named ++ p ∷ []) same)
+    ∙ keys_append (take i named) (d ∷ []) in
     subst (λ ks. AreSame after (before ++ ks)) (sym joined)
     (same_more before middle after (keys_of (take i named)) (name ∷ []) first second)
 
@@ -228,7 +240,8 @@ listed_once : (us : List (List ℕ)) → AreSame (distinct bytes_eq us) us
 listed_once us = (
   λ url has. let own = recursion_from_All (Contains us) us (All-contains_itself us) in
       All-contains (Contains us) (distinct bytes_eq us) url
-      (All-from_recursion (Contains us) (distinct bytes_eq us) (all_distinct (Contains us) bytes_eq us own)) has,
+      (All-from_recursion (Contains us) (distinct bytes_eq us) (all_distinct (Contains us) bytes_eq us own))
+      has,
   λ url has. Contains-distinct bytes_eq same_bytes us has.0 url
       (slice_get-get_or us has.0 url has.1 ∙ ap Some has.2),
 )
@@ -243,12 +256,15 @@ all_counted named trace lines before after is same all =
     ∙ keys_paired (λ url. at_most_u64 (count_by (bytes_eq url) urls)) (distinct bytes_eq urls) in
     let once = listed_once urls in
     same_trans after (before ++ distinct bytes_eq urls) (before ++ urls)
-    (subst (λ ks. AreSame after (before ++ ks)) keys all)
-    (in_front before (distinct bytes_eq urls) urls once.0, in_front before urls (distinct bytes_eq urls) once.1)
+    (subst (λ ks. AreSame after (before ++ ks)) keys all) (
+      in_front before (distinct bytes_eq urls) urls once.0,
+      in_front before urls (distinct bytes_eq urls) once.1,
+    )
 
 pub lines_counted : {A E : Type 0} (result : Result A E) (named : List (List ℕ × ℕ)) (trace lines : List ℕ)
     (before after : List (List ℕ)) → named ≡ named_in trace → lines ≡ trace
-    → OnOk result (AreSame after (before ++ keys_of named)) → OnOk result (AreSame after (before ++ urls_of lines))
+    → OnOk result (AreSame after (before ++ keys_of named))
+    → OnOk result (AreSame after (before ++ urls_of lines))
 lines_counted (Ok a) named trace lines before after is same all =
     all_counted named trace lines before after is same all
 lines_counted (Err e) named trace lines before after is same all = tt
@@ -259,7 +275,8 @@ none_there named i lt none = let at = slice_get-get_or named i ([], 0) lt in cc
 -- the others where positions are looked for anywhere
 pub with_others : (anywhere : Bool) (text : List ℕ) (frames now before middle after : List (List ℕ))
     → anywhere ≡ true → now ≡ frames → middle ≡ before
-    → AreSame after (middle ++ without frames (others_in text)) → AreSame after (before ++ others_if anywhere now text)
+    → AreSame after (middle ++ without frames (others_in text))
+    → AreSame after (before ++ others_if anywhere now text)
 with_others anywhere text frames now before middle after is same kept all =
     subst (λ (b : Bool). AreSame after (before ++ others_if b now text)) (sym is)
     (subst (λ m. AreSame after (m ++ without now (others_in text))) kept

@@ -1,6 +1,6 @@
-//! Logs before their maps are looked for: a log that is read block by block ([`Log`]), a reader that keeps why
-//! it failed ([`Heeded`]), and the names of scripts that lines have ([`Names`], [`names_in`]). No map is found
-//! or read here.
+//! Logs before their maps are looked for: a log that is read block by block ([`Log`]), a reader that keeps
+//! why it failed ([`Heeded`]), and the names of scripts that lines have ([`Names`], [`names_in`]). No map is
+//! found or read here.
 #![tactic(auto)]
 
 mod logs;

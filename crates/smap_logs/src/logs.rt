@@ -106,8 +106,8 @@ impl<R: Read> Log<R> {
         host: &Host<'_, E, D>,
     ) -> Result<bool, Stop>
         ensures going { IfOk result (λ more. more ≡ true → self.old.ended ≡ false) }
-        ensures lines { IfOk result (λ more. GoesOn more (pending R.remaining self.old) (pending R.remaining self.new)
-            (handed self.new)) }
+        ensures lines { IfOk result (λ more. GoesOn more (pending R.remaining self.old)
+            (pending R.remaining self.new) (handed self.new)) }
     {
         if self.ended {
             return Ok(false);

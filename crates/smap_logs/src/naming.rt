@@ -87,7 +87,8 @@ impl Names {
     ///
     /// `AllocError`.
     pub fn add_frames(&mut self, alloc: Global, lines: &[u8]) -> Result<(), AllocError>
-        ensures frames { OnOk result (AreSame (frames_of self.new) (frames_of self.old ++ urls_of lines.now)) }
+        ensures frames { OnOk result
+            (AreSame (frames_of self.new) (frames_of self.old ++ urls_of lines.now)) }
         ensures others { others_of self.new ≡ others_of self.old }
     {
         let mut reader = Device::new(lines);
@@ -99,7 +100,8 @@ impl Names {
 
     /// Counts the lines that name these.
     fn add_named(&mut self, alloc: Global, named: &NamedScripts) -> Result<(), AllocError>
-        ensures frames { OnOk result (AreSame (frames_of self.new) (frames_of self.old ++ keys_of named.now)) }
+        ensures frames { OnOk result
+            (AreSame (frames_of self.new) (frames_of self.old ++ keys_of named.now)) }
         ensures others { others_of self.new ≡ others_of self.old }
     {
         for i in 0..named.len() {
@@ -164,7 +166,8 @@ impl Names {
     fn add_other(&mut self, alloc: Global, name: &[u8]) -> Result<(), AllocError>
         ensures frames { frames_of self.new ≡ frames_of self.old }
         ensures others { OnOk result (AreSame (others_of self.new)
-            (others_of self.old ++ spec.without (frames_of self.old) (filter spec.has_plain_query (name.now ∷ [])))) }
+            (others_of self.old
+            ++ spec.without (frames_of self.old) (filter spec.has_plain_query (name.now ∷ [])))) }
     {
         if !has_plain_query(name) {
             return Ok(());
@@ -190,7 +193,8 @@ impl Names {
         lines: &[u8],
         anywhere: bool,
     ) -> Result<(), AllocError>
-        ensures frames { OnOk result (AreSame (frames_of self.new) (frames_of self.old ++ urls_of lines.now)) }
+        ensures frames { OnOk result
+            (AreSame (frames_of self.new) (frames_of self.old ++ urls_of lines.now)) }
         ensures others { OnOk result (AreSame (others_of self.new)
             (others_of self.old ++ spec.others_if anywhere (frames_of self.new) lines.now)) }
     {

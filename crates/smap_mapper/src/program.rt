@@ -189,10 +189,11 @@ fn answer<E: Eprint + AllocGlobal + Clock, D: Disk, W: Write>(
     }
 }
 
-/// Runs `smap-maps`. The first word is the name of the program, and isn't looked at. `on_terminal` says whether
-/// standard error is a terminal, which then shows how many maps are done. Answers the exit status: 0 where it is
-/// done, 1 where a map is refused, would change or lose a member, 2 where the command line is wrong, 3 where a
-/// file can't be read or written, 4 where memory ran out, 141 where nobody reads the output any more.
+/// Runs `smap-maps`. The first word is the name of the program, and isn't looked at. `on_terminal` says
+/// whether standard error is a terminal, which then shows how many maps are done. Answers the exit status: 0
+/// where it is done, 1 where a map is refused, would change or lose a member, 2 where the command line is
+/// wrong, 3 where a file can't be read or written, 4 where memory ran out, 141 where nobody reads the output
+/// any more.
 pub fn run<E: Eprint + AllocGlobal + Clock, D: Disk, W: Write>(
     rt: &E,
     disk: &D,

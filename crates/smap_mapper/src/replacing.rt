@@ -12,8 +12,8 @@ fn write<D: Disk>(disk: &D, writer: &mut D::Writer, bytes: &[u8]) -> io::Result<
     disk.sync(writer)
 }
 
-/// Gives a file other bytes: a file beside it is written in full, and then takes its name. Where this fails, the
-/// file is as it was.
+/// Gives a file other bytes: a file beside it is written in full, and then takes its name. Where this fails,
+/// the file is as it was.
 pub(crate) fn replace<D: Disk>(
     alloc: Global,
     disk: &D,

@@ -1,4 +1,3 @@
 pub mod LineLemmas
 pub mod ListLemmas
 pub mod RequestLemmas
-pub mod RowLemmas

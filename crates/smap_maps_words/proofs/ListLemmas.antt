@@ -1,40 +1,15 @@
--- Lists that grow along the texts that they are read from, and searches.
-use Rattle.std.proofs.Common.{◌≡◌, ◌∙◌, ◌+◌, ◌<◌, ◌≤◌, ℕ, zero, suc, Bool, true, false, Bor, List, [], ◌∷◌, ◌++◌}
-use Rattle.std.proofs.Common.{drop, length, take, map, get_or, Some, None, ap, arith, refl, slice_get, slice_index_or}
+-- The fault of a word among its texts, and searches.
+use Rattle.std.proofs.Common.{◌≡◌, ◌∙◌, ◌+◌, ◌<◌, ◌≤◌, ℕ, suc, Bool, true, false, List, [], ◌∷◌, drop}
+use Rattle.std.proofs.Common.{length, get_or, Some, None, ap, refl, slice_index_or}
 use Rattle.std.proofs.Common.{drop-cons, drop_of_length-le, sym}
 use native.Mathlib.Numerals.{unary_clauses}
 use Rattle.std.specs.List.{find}
-use Rattle.std.proofs.lemmas.List.{map-append, take_more}
+use Rattle.std.proofs.lemmas.Option.{slice_get-get_or}
 use Rattle.clap.specs.Words.{Text}
 use Rattle.smap_maps_words.specs.Request.{IsRuleFault}
 use Rattle.smap_maps_words.specs.Values.{IsRuleFaultOf}
 use Rattle.smap_maps_words.specs.declared.fault.WordFault.{WordFault}
 use Rattle.smap_maps_words.specs.declared.fault.WordFault.TheVariants as fault
-
--- the text behind the reference at a place
-pub text_at : (words : List (Bor Text)) (i : ℕ) (d : Bor Text) → i < length words
-    → (get_or words i d).now ≡ get_or (map (λ w. w.now) words) i []
-text_at [] i d lt = absurd (omega (arith, lt))
-text_at (w ∷ words) zero d lt = refl
-text_at (w ∷ words) (suc i) d lt = text_at words i d (omega (arith, lt))
-
-got : (texts : List Text) (i : ℕ) → i < length texts → slice_get texts i ≡ Some (get_or texts i [])
-got [] i lt = absurd (omega (arith, lt))
-got (t ∷ texts) zero lt = refl
-got (t ∷ texts) (suc i) lt = got texts i (omega (arith, lt))
-
-next_text : (texts : List Text) (i : ℕ) (t : Text) → i < length texts → t ≡ get_or texts i []
-    → take (i + 1) texts ≡ take i texts ++ t ∷ []
-next_text texts i t lt at = take_more texts i [] lt ∙ ap (λ (u : Text). take i texts ++ u ∷ []) (sym at)
-
--- one value more is read
-pub read_more : {A V : Type 0} (view : A → V) (meant : Text → V) (texts : List Text) (i : ℕ) (t : Text)
-    (xs new : List A) (x : A) → i < length texts → t ≡ get_or texts i [] → new ≡ xs ++ x ∷ []
-    → view x ≡ meant t → map view xs ≡ map meant (take i texts)
-    → map view new ≡ map meant (take (i + 1) texts)
-read_more view meant texts i t xs new x lt at grown same read =
-    ap (map view) grown ∙ map-append view xs (x ∷ []) ∙ (λ j. read j ++ same j ∷ [])
-    ∙ sym (map-append meant (take i texts) (t ∷ [])) ∙ ap (map meant) (sym (next_text texts i t lt at))
 
 -- the fault of the word at a place is that of one of the words
 pub rule_fault : (texts : List Text) (i : ℕ) (t : Text) (e : WordFault) → i < length texts
@@ -46,7 +21,8 @@ rule_fault texts i t (fault.NoCommand word) lt at h = absurd h
 rule_fault texts i t (fault.Options k why) lt at h = absurd h
 rule_fault texts i t (fault.Jobs word) lt at h = absurd h
 rule_fault texts i t (fault.Format word) lt at h = absurd h
-rule_fault texts i t (fault.Rule word) lt at h = (i, got texts i lt ∙ ap Some (sym at ∙ sym h.0), rw h.0 h.1)
+rule_fault texts i t (fault.Rule word) lt at h =
+    (i, slice_get-get_or texts i [] lt ∙ ap Some (sym at ∙ sym h.0), rw h.0 h.1)
 rule_fault texts i t (fault.Percent word) lt at h = absurd h
 rule_fault texts i t (fault.NoPath k) lt at h = absurd h
 

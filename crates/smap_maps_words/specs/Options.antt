@@ -4,7 +4,7 @@ use Rattle.std.specs.Prelude.{option_map, if◌then◌else◌}
 use Rattle.std.specs.List.{find}
 use Rattle.std.specs.Option.{option_or}
 use Rattle.clap.specs.Words.{Row, first_of}
-use Rattle.smap_maps_words.specs.Rows.{is_set}
+use Rattle.smap_matches.specs.Rows.{is_set}
 use Rattle.smap_maps_words.specs.declared.kinds.Kind.{Kind}
 use Rattle.smap_maps_words.specs.declared.kinds.Kind.TheVariants as kind
 use Rattle.smap_maps_words.specs.declared.kinds.Opt.{Opt}

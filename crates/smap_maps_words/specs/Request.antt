@@ -1,13 +1,14 @@
 -- What a command line of `smap-maps` asks for, and what is wrong with it.
 use Rattle.std.specs.Prelude.{◌≡◌, ◌≢◌, ℕ, true, false, not, List, [], ◌∷◌, drop, length, map, nat_lt}
-use Rattle.std.specs.Prelude.{Option, Some, None, Result, Ok, Err, codes, option_map, if◌then◌else◌, slice_get}
+use Rattle.std.specs.Prelude.{Option, Some, None, Result, Ok, Err, codes, option_map, if◌then◌else◌}
+use Rattle.std.specs.Prelude.{slice_get}
 use Rattle.std.specs.Str.{bytes_eq}
 use Rattle.clap.specs.Words.{IsAmong, Row, Text, fault_of, first_of, kind_of, matches_of}
 use Rattle.clap.specs.declared.error.kind.ErrorKind.{ErrorKind}
 use Rattle.clap.specs.declared.error.kind.ErrorKind.TheVariants as error
 use Rattle.smap_maps_words.specs.Line.{maps}
 use Rattle.smap_maps_words.specs.Options.{option_fault}
-use Rattle.smap_maps_words.specs.Rows.{is_set, values_of}
+use Rattle.smap_matches.specs.Rows.{is_set, values_of}
 use Rattle.smap_report.specs.Formats.{format_named}
 use Rattle.smap_maps_words.specs.Values.{HasJobs, IsFormatOf, IsJobs, IsPercent, IsPercentOf}
 use Rattle.smap_maps_words.specs.Values.{rule_meant, wanted_view}

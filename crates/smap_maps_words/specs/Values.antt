@@ -67,7 +67,8 @@ is_named word = has_equals word && not (length (before_first is_equals word) == 
 abbrev pub rule_meant : Text → Option (Text × Option Level)
 rule_meant word =
     if is_named word then
-    option_map (λ (l : Option Level). (before_first is_equals word, l)) (level_set (after_first is_equals word))
+    option_map (λ (l : Option Level). (before_first is_equals word, l))
+    (level_set (after_first is_equals word))
     else None
 
 abbrev pub rule_view : RuleLevel → Text × Option Level

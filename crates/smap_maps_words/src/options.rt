@@ -4,10 +4,10 @@ ghost use Rattle.clap.specs.Words.{found_of, rows_of};
 ghost use Rattle.smap_maps_words.specs.Options as spec;
 ghost use Rattle.smap_maps_words.specs.Request.{IsOptionFault};
 
-use crate::command::{is_set, text_in};
 use crate::fault::WordFault;
 use crate::kinds::{Kind, Opt, OptionFault};
 use clap::ArgMatches;
+use smap_matches::{is_set, text_in};
 
 /// The options that not all commands have, in the order in which they are looked at.
 const ALL: [Opt; 9] = [

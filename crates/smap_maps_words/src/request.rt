@@ -1,10 +1,11 @@
 //! What a command line asks for.
-ghost use Rattle.std.specs.Prelude.{◌≡◌, ◌⊎◌, IfErr, IfOk, OnOk, Some, drop, false, length, map, nat_lt, true};
+ghost use Rattle.std.specs.Prelude.{◌≡◌, ◌⊎◌, IfErr, IfOk, OnOk, Some, drop, false, length, map, nat_lt};
+ghost use Rattle.std.specs.Prelude.{true};
 ghost use Rattle.clap.specs.Words.{found_of, kind_of, rows_of};
 ghost use Rattle.smap_maps_words.specs.Request.{Answers, AsksFor, Asks, Fails, IsAsked, IsFault, IsKindFault};
 ghost use Rattle.smap_maps_words.specs.Request.{kind_named, kind_asked, rewrite_of};
 
-use crate::command::{is_set, maps_command, text_in, texts_in};
+use crate::command::maps_command;
 use crate::fault::WordFault;
 use crate::kinds::Kind;
 use crate::levels::RuleLevel;
@@ -12,6 +13,7 @@ use crate::options::check_options;
 use crate::values::{check_jobs, format_in, percent_in, rules_in};
 use clap::error::ErrorKind;
 use clap::{ArgMatches, Error};
+use smap_matches::{is_set, text_in, texts_in};
 use smap_report::Format;
 use std::alloc::Global;
 

@@ -5,10 +5,10 @@ ghost use Rattle.clap.specs.Words.{found_of, rows_of};
 ghost use Rattle.smap_maps_words.specs.Values as spec;
 ghost use Rattle.smap_maps_words.specs.Request.{IsValueFault, IsRuleFault, format_of, jobs_of, percent_of};
 
-use crate::command::text_in;
 use crate::fault::WordFault;
 use crate::levels::RuleLevel;
 use clap::ArgMatches;
+use smap_matches::text_in;
 use smap_report::{Format, Level, format_named, level_named};
 use std::alloc::Global;
 

@@ -41,7 +41,8 @@ bad_is_data url is = go (is_data url) refl
     go false eq = let other = rw eq at is.2 in absurd cc
 
 abbrev Decodes : List ℕ → Option (Vec ℕ) → Type 0
-Decodes url found = (e : GeneralPurpose) × IsForgiving e × (Ok (option_map (λ v. v.items) found) ≡ inline_map e url)
+Decodes url found =
+    (e : GeneralPurpose) × IsForgiving e × (Ok (option_map (λ v. v.items) found) ≡ inline_map e url)
 
 decoded : (url : List ℕ) (found : Option (Vec ℕ)) → Decodes url found
     → MatchOption found (is_data url ≡ false) (λ bytes. IsInline url bytes.items)
@@ -66,7 +67,8 @@ inline_failed url (Err f) d = failed url f d
 
 -- ---- what a text names
 
-named_by : (script text url : List ℕ) → link_in script text ≡ Some url → not (is_data url) && is_vain url ≡ false
+named_by : (script text url : List ℕ) → link_in script text ≡ Some url
+    → not (is_data url) && is_vain url ≡ false
     → named_url script text ≡ Some url
 named_by script text url named kept = rw (named, kept) refl
 
@@ -100,7 +102,8 @@ followed_by folder place text url (followed.Wrong what) named other by = record 
 }
 
 -- by a `data:` URL that can't be decoded
-pub names_badly : (folder : Folder) (script text url : List ℕ) → link_in script text ≡ Some url → IsBadInline url
+pub names_badly : (folder : Folder) (script text url : List ℕ) → link_in script text ≡ Some url
+    → IsBadInline url
     → NamesUnfound folder script text
 names_badly folder script text url named bad = record {
   url = url;

@@ -17,7 +17,8 @@ use Rattle.smap_opening.specs.Opened.{within_base}
 
 -- ---- what became of a file
 
-pub made_unread : (held : Held) (place : MapPlace) (it : Loaded) → IsUnread it → IsMadeOf IsLoaded held place it
+pub made_unread : (held : Held) (place : MapPlace) (it : Loaded) → IsUnread it
+    → IsMadeOf IsLoaded held place it
 made_unread None place it unread = tt
 made_unread (Some held) place it unread = inl unread
 
@@ -45,7 +46,8 @@ reached_file (Some held) root has_base place it (inr made) = inr (inr (record {
 }))
 
 pub reached_itself : (held : Held) (root : Option Folder) (has_base : Bool) (place : MapPlace) (text : List ℕ)
-    (it : Loaded) → IsHeld held place.file text → IsRead place.base text it → IsReached held root has_base place it
+    (it : Loaded) → IsHeld held place.file text → IsRead place.base text it
+    → IsReached held root has_base place it
 reached_itself None root has_base place text it is read = tt
 reached_itself (Some held) root has_base place text it is read = inr (inr (record {
   base = place.base;
@@ -54,8 +56,8 @@ reached_itself (Some held) root has_base place text it is read = inr (inr (recor
   read = read;
 }))
 
-pub reached_within : (held : Held) (root : Option Folder) (has_base : Bool) (place : MapPlace) (text bytes : List ℕ)
-    (it : Loaded) → IsHeld held place.file text → Holds place.file text bytes
+pub reached_within : (held : Held) (root : Option Folder) (has_base : Bool) (place : MapPlace)
+    (text bytes : List ℕ) (it : Loaded) → IsHeld held place.file text → Holds place.file text bytes
     → IsRead (within_base has_base place) bytes it → IsReached held root has_base place it
 reached_within None root has_base place text bytes it is holds read = tt
 reached_within (Some held) root has_base place text bytes it is holds read = inr (inr (record {
@@ -65,9 +67,12 @@ reached_within (Some held) root has_base place text bytes it is holds read = inr
   read = read;
 }))
 
-pub reached_beside : (held : Held) (root : Option Folder) (has_base : Bool) (place found : MapPlace) (text : List ℕ)
-    (it : Loaded) → IsHeld held place.file text → (names : Names (folder_for root place) place.file text found.file)
-    → found.base ≡ linked_base place names.url → IsMadeOf IsLoaded held (with_base has_base place.base found) it
+pub reached_beside : (held : Held) (root : Option Folder) (has_base : Bool) (place found : MapPlace)
+    (text : List ℕ)
+    (it : Loaded) → IsHeld held place.file text
+    → (names : Names (folder_for root place) place.file text found.file)
+    → found.base ≡ linked_base place names.url
+    → IsMadeOf IsLoaded held (with_base has_base place.base found) it
     → IsReached held root has_base place it
 reached_beside None root has_base place found text it is names own made = tt
 reached_beside (Some held) root has_base place found text it is names own (inl unread) = inl unread
@@ -97,7 +102,8 @@ reached_link (Some held) root has_base place text it is names link = inr (inl (r
   names = names;
 }))
 
-pub left_out : (held : Held) (root : Option Folder) (place : MapPlace) (text : List ℕ) → IsHeld held place.file text
+pub left_out : (held : Held) (root : Option Folder) (place : MapPlace) (text : List ℕ)
+    → IsHeld held place.file text
     → NamesNothing place.file text ⊎ NamesUnfound (folder_for root place) place.file text → IsSome root
     → IsLeftOut held root place
 left_out held None place text is names some = absurd cc
@@ -131,15 +137,18 @@ told held root has_base place it worst None reached is =
 told held root has_base place it worst (Some m) reached is =
     opened_map held root has_base place m (rw is at reached)
 
-pub settled : {E : Type 0} (held : Held) (root : Option Folder) (has_base : Bool) (place : MapPlace) (it : Loaded)
-    (worst : ℕ) (result : Result (Option ReadMap) E) → IsReached held root has_base place it
+pub settled : {E : Type 0} (held : Held) (root : Option Folder) (has_base : Bool) (place : MapPlace)
+    (it : Loaded) (worst : ℕ) (result : Result (Option ReadMap) E) → IsReached held root has_base place it
     → IfOk result (IsTold it worst)
     → IfOk result
-    (λ found. MatchOption found (GivesNone held root has_base place worst) (IsOpened held root has_base place))
-settled held root has_base place it worst (Ok found) reached is = told held root has_base place it worst found reached is
+    (λ found.
+    MatchOption found (GivesNone held root has_base place worst) (IsOpened held root has_base place))
+settled held root has_base place it worst (Ok found) reached is =
+    told held root has_base place it worst found reached is
 settled held root has_base place it worst (Err e) reached is = tt
 
-pub if_both : {A E P Q : Type 0} {R S : A → Type 0} (result : Result (Option A) E) → (P → Q) → ((a : A) → R a → S a)
+pub if_both : {A E P Q : Type 0} {R S : A → Type 0} (result : Result (Option A) E) → (P → Q)
+    → ((a : A) → R a → S a)
     → IfOk result (λ found. MatchOption found P R) → IfOk result (λ found. MatchOption found Q S)
 if_both (Ok (Some a)) f g p = g a p
 if_both (Ok None) f g p = f p

@@ -156,8 +156,8 @@ pub record Holds (script text bytes : List ℕ) : Type 0 where
 abbrev pub NamesNothing : List ℕ → List ℕ → Type 0
 NamesNothing script text = (is_utf8 script ≡ false) ⊎ (named_url script text ≡ None)
 
--- What can't be had by a URL: it is none, or leaves the folder; or it names a file that isn't there, or that is no
--- file of the folder once links are followed. (What a disk answers to that, no clause says.)
+-- What can't be had by a URL: it is none, or leaves the folder; or it names a file that isn't there, or that
+-- is no file of the folder once links are followed. (What a disk answers to that, no clause says.)
 abbrev pub IsUnfound : Folder → List ℕ → List ℕ → Type 0
 IsUnfound folder script url = IsErr (linked folder.url (name_below folder.path script) url)
     ⊎ ((file : List ℕ) × NamesBy folder script url file)
@@ -172,8 +172,8 @@ abbrev pub url_or : List ℕ → Result (List ℕ) LinkFault → List ℕ
 url_or base (Ok url) = url
 url_or base (Err e) = base
 
--- The own URL of the map that a script names by this one: that, seen from the script's; or that of the place, where
--- there is none.
+-- The own URL of the map that a script names by this one: that, seen from the script's; or that of the place,
+-- where there is none.
 abbrev pub linked_base : MapPlace → List ℕ → List ℕ
 linked_base place url = url_or place.base (resolved place.script url)
 

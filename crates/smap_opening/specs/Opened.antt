@@ -17,7 +17,8 @@ use Rattle.smap_opening.specs.Given.{folder_for, linked_base}
 abbrev pub within_base : Bool → MapPlace → List ℕ
 within_base has_base place = cond has_base place.base (own_url place.script)
 
--- That of a map beside its script, which names it by this URL: the one that was given, or else the one that is named.
+-- That of a map beside its script, which names it by this URL: the one that was given, or else the one that
+-- is named.
 abbrev pub beside_base : Bool → MapPlace → List ℕ → List ℕ
 beside_base has_base place url = cond has_base place.base (linked_base place url)
 
@@ -31,16 +32,16 @@ abbrev pub IsItself : (List ℕ → Option (List ℕ)) → MapPlace → List ℕ
 IsItself held place base bytes = (held place.file ≡ Some bytes) × (base ≡ place.base)
 
 -- The file of a place is a script, whose text holds them in a URL.
-pub record IsWithin (held : List ℕ → Option (List ℕ)) (has_base : Bool) (place : MapPlace) (base bytes : List ℕ)
-    : Type 0 where
+pub record IsWithin (held : List ℕ → Option (List ℕ)) (has_base : Bool) (place : MapPlace)
+    (base bytes : List ℕ) : Type 0 where
   pub text : List ℕ
   pub held_is : held place.file ≡ Some text
   pub holds : Holds place.file text bytes
   pub base_is : base ≡ within_base has_base place
 
 -- The file of a place is a script, which names the file that holds them, seen from its folder.
-pub record IsBeside (held : List ℕ → Option (List ℕ)) (root : Option Folder) (has_base : Bool) (place : MapPlace)
-    (base bytes : List ℕ) : Type 0 where
+pub record IsBeside (held : List ℕ → Option (List ℕ)) (root : Option Folder) (has_base : Bool)
+    (place : MapPlace) (base bytes : List ℕ) : Type 0 where
   pub text : List ℕ
   pub held_is : held place.file ≡ Some text
   pub file : List ℕ
@@ -54,8 +55,8 @@ Gives held root has_base place base bytes = IsItself held place base bytes
     ⊎ (IsWithin held has_base place base bytes ⊎ IsBeside held root has_base place base bytes)
 
 -- What became of them.
-pub record IsGiven (held : List ℕ → Option (List ℕ)) (root : Option Folder) (has_base : Bool) (place : MapPlace)
-    (it : Loaded) : Type 0 where
+pub record IsGiven (held : List ℕ → Option (List ℕ)) (root : Option Folder) (has_base : Bool)
+    (place : MapPlace) (it : Loaded) : Type 0 where
   pub base : List ℕ
   pub bytes : List ℕ
   pub gives : Gives held root has_base place base bytes
@@ -81,8 +82,8 @@ IsLink (loaded.Broken (fault.Link what)) = ⊤
 IsLink (loaded.Broken (fault.Refused e start)) = ⊥
 
 -- A script that was found in no folder names what can't be had.
-pub record IsUnlinked (held : List ℕ → Option (List ℕ)) (root : Option Folder) (place : MapPlace) (it : Loaded)
-    : Type 0 where
+pub record IsUnlinked (held : List ℕ → Option (List ℕ)) (root : Option Folder) (place : MapPlace)
+    (it : Loaded) : Type 0 where
   pub is_link : IsLink it
   pub no_root : root ≡ None
   pub text : List ℕ

@@ -192,8 +192,8 @@ fn inline_in(alloc: Global, url: &[u8]) -> Result<Option<Vec<u8>>, InlineFault>
     inline_map(alloc, url)
 }
 
-/// The map that the text of a script names: in a `data:` URL, or as a file of the folder with this URL and this
-/// path.
+/// The map that the text of a script names: in a `data:` URL, or as a file of the folder with this URL and
+/// this path.
 fn follow_in<E: Eprint + AllocGlobal, D: Disk>(
     host: &Host<'_, E, D>,
     script: &Place,
@@ -230,7 +230,8 @@ fn follow_alone<E: Eprint + AllocGlobal, D: Disk>(
     script: &Place,
     text: &[u8],
 ) -> Result<Followed, Stop>
-    ensures { IfOk result (IsFollowed (spec.own_folder (place_in script.now)) (place_in script.now) text.now) }
+    ensures { IfOk result
+        (IsFollowed (spec.own_folder (place_in script.now)) (place_in script.now) text.now) }
 {
     let Ok(file) = std::str::from_utf8(&script.file) else {
         return Ok(Followed::Nothing);

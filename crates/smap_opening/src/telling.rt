@@ -63,7 +63,8 @@ fn words_of(alloc: Global, place: &Place, fault: &MapFault) -> Result<(String, u
             let file = shown(alloc, &place.file)?;
             let (base, script, file) = (base.as_str(), script.as_str(), file.as_str());
             let text = format!(in alloc;
-                "base is no URL: {base} (add =BASE, the URL of the map: {script}={file}=https://example.org/{script}.map)"
+                "base is no URL: {base} (add =BASE, the URL of the map: \
+                 {script}={file}=https://example.org/{script}.map)"
             )?;
             Ok((text, 1))
         }

@@ -1,5 +1,5 @@
--- Numbers as characters. None of these is a `<`, a quotation mark or a control character, and one character is
--- all that most numbers of a map take.
+-- Numbers as characters. None of these is a `<`, a quotation mark or a control character, and one character
+-- is all that most numbers of a map take.
 use Rattle.std.specs.Prelude.{ℕ, ◌+◌, ◌*◌, ◌-◌, ◌/◌, ◌%◌, ◌<◌, nat_lt, List, [], ◌∷◌, encode_utf8, cond}
 use Rattle.std.specs.List.{flat_map}
 

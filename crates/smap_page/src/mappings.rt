@@ -32,7 +32,8 @@ fn mapping(map: &SourceMap, number: usize) -> Place
     }
 }
 
-/// The mappings as characters, each of which stands for a number (`docs/OUTPUT.md`, "The page of `smap-view`").
+/// The mappings as characters, each of which stands for a number (`docs/OUTPUT.md`, "The page of
+/// `smap-view`").
 ///
 /// # Errors
 ///

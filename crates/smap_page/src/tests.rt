@@ -4,8 +4,8 @@ use smap_record::{Base, Limits, SourceMap};
 use std::alloc::Global;
 use std::test::Fail;
 
-/// One source `a.js`; the mappings of line 0 are at column 0 from 1:2 of it, and at column 2 without a source;
-/// that of line 2 at column 1 from 0:0, with the name.
+/// One source `a.js`; the mappings of line 0 are at column 0 from 1:2 of it, and at column 2 without a
+/// source; that of line 2 at column 1 from 0:0, with the name.
 const MAP: &str = r#"{"version":3,"sources":["a.js"],"names":["f"],"mappings":"AACE,E;;CADFA"}"#;
 
 fn read(alloc: Global) -> Result<SourceMap, Fail> {
@@ -35,8 +35,8 @@ fn bytes_have_the_source_of_their_mapping(rt: HostRuntime) -> Result<(), Fail> {
         &map,
         "\u{feff}ab\u{1f642}\r\nxy\u{2028}z\u{e9}\n",
     )?;
-    // of a.js `ab`, the e with its accent and the last line feed; of none the face and CR LF; free are the mark,
-    // `xy` with its line separator, and `z`
+    // of a.js `ab`, the e with its accent and the last line feed; of none the face and CR LF; free are the
+    // mark, `xy` with its line separator, and `z`
     assert_eq!(rt; sizes.bytes.as_slice(), [5, 6, 9].as_slice());
     assert_eq!(rt; sizes.mappings.as_slice(), [2, 1].as_slice());
     Ok(())

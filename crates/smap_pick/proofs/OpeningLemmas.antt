@@ -12,7 +12,8 @@ use Rattle.smap_pick.specs.declared.picks.Pick.{Pick}
 use Rattle.smap_pick.specs.declared.opening.OpenFault.{OpenFault}
 use Rattle.smap_pick.specs.declared.opening.OpenFault.TheVariants.{Refused, Memory}
 
-chosen_more : (places : List MapPlace) (files : List (List ℕ)) (picks : List Pick) (i : ℕ) (d : Pick) → i < length picks
+chosen_more : (places : List MapPlace) (files : List (List ℕ)) (picks : List Pick) (i : ℕ) (d : Pick)
+    → i < length picks
     → chosen places files (take (i + 1) picks)
     ≡ chosen places files (take i picks) ++ chosen places files (get_or picks i d ∷ [])
 chosen_more places files picks i d lt =
@@ -34,7 +35,8 @@ pub opened_more : (places : List MapPlace) (files : List (List ℕ)) (picks : Li
     → after ≡ old ++ opened_for places files (take (i + 1) picks)
 opened_more places files picks i d lt old now after was more =
     more ∙ ap (λ (l : List (List ℕ)). l ++ opened_for places files (get_or picks i d ∷ [])) was
-    ∙ append_assoc old (opened_for places files (take i picks)) (opened_for places files (get_or picks i d ∷ []))
+    ∙ append_assoc old (opened_for places files (take i picks))
+    (opened_for places files (get_or picks i d ∷ []))
     ∙ ap (λ (l : List (List ℕ)). old ++ l) (sym (opened_more_for places files picks i d lt))
 
 pub made_more : {M : Type 0} (IsMade : MapPlace → M → Type 0) (places : List MapPlace) (files : List (List ℕ))
@@ -46,7 +48,8 @@ made_more IsMade places files picks i d lt now after was more =
     subst (λ (l : List MapPlace). AllZip IsMade l after) (sym (chosen_more places files picks i d lt))
     (more (chosen places files (take i picks)) was)
 
-pub stopped : {F : Type 0} (places : List MapPlace) (files : List (List ℕ)) (picks : List Pick) (i : ℕ) (d : Pick)
+pub stopped : {F : Type 0} (places : List MapPlace) (files : List (List ℕ)) (picks : List Pick) (i : ℕ)
+    (d : Pick)
     → i < length picks → (old now after : List (List ℕ)) (fault : OpenFault F)
     → now ≡ old ++ opened_for places files (take i picks)
     → IsLogged now after (opened_for places files (get_or picks i d ∷ [])) fault
@@ -63,4 +66,5 @@ one_made IsMade place it old new is made = λ places h.
     subst (AllZip IsMade (places ++ place ∷ [])) (sym is) (all_zipped_more IsMade places old place it h made)
 
 pub none_made : {M : Type 0} (IsMade : MapPlace → M → Type 0) (old : List M) → KeepsMade IsMade old [] old
-none_made IsMade old = λ places h. subst (λ (l : List MapPlace). AllZip IsMade l old) (sym (append-nil places)) h
+none_made IsMade old =
+    λ places h. subst (λ (l : List MapPlace). AllZip IsMade l old) (sym (append-nil places)) h

@@ -19,8 +19,10 @@ one_more_place url folder names i lt before now after place name is named made w
     ap places_in is ∙ map-append place_in now (place ∷ [])
     ∙ ap (λ (l : List MapPlace). l ++ place_in place ∷ []) was
     ∙ append_assoc before (folder_places url folder (take i names)) (place_in place ∷ [])
-    ∙ ap (λ (p : MapPlace). before ++ (folder_places url folder (take i names) ++ p ∷ [])) (made ∙ ap (folder_place url folder) named)
-    ∙ ap (λ (l : List MapPlace). before ++ l) (sym (map-append (folder_place url folder) (take i names) (get_or names i [] ∷ [])))
+    ∙ ap (λ (p : MapPlace). before ++ (folder_places url folder (take i names) ++ p ∷ []))
+    (made ∙ ap (folder_place url folder) named)
+    ∙ ap (λ (l : List MapPlace). before ++ l)
+    (sym (map-append (folder_place url folder) (take i names) (get_or names i [] ∷ [])))
     ∙ ap (λ (l : List (List ℕ)). before ++ folder_places url folder l) (sym (take_more names i [] lt))
 
 abbrev pub shown : List (Bor (List ℕ)) → List (List ℕ)

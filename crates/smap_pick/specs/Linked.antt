@@ -30,7 +30,8 @@ name_from (Err e) = Err (of_path_fault e)
 abbrev pub rooted : List ℕ → List ℕ
 rooted rest = codes "file:///" ++ rest
 
--- The name below a folder of the file with this URL: what stands behind the folder's, decoded as in a file: URL.
+-- The name below a folder of the file with this URL: what stands behind the folder's, decoded as in a file:
+-- URL.
 abbrev pub name_below : List ℕ → List ℕ → Result (List ℕ) LinkedFault
 name_below folder url = cond (starts_with nat_eq url folder)
     (name_from (file_path (rooted (drop (length folder) url)))) (Err fault.Leaves)

@@ -47,17 +47,20 @@ abbrev pub Held : Type 0
 Held = Option (List ℕ → Option (List ℕ))
 
 -- Where it is said what files hold, the map is one of this place.
-abbrev pub IsMadeOf : {M : Type 0} → ((List ℕ → Option (List ℕ)) → MapPlace → M → Type 0) → Held → MapPlace → M → Type 0
+abbrev pub IsMadeOf : {M : Type 0} → ((List ℕ → Option (List ℕ)) → MapPlace → M → Type 0) → Held → MapPlace
+    → M → Type 0
 IsMadeOf made_of None place it = ⊤
 IsMadeOf made_of (Some held) place it = made_of held place it
 
 -- Maps of some places, and these of those places and more.
 abbrev pub KeepsMade : {M : Type 0} → (MapPlace → M → Type 0) → List M → List MapPlace → List M → Type 0
-KeepsMade IsMade old more new = (places : List MapPlace) → AllZip IsMade places old → AllZip IsMade (places ++ more) new
+KeepsMade IsMade old more new =
+    (places : List MapPlace) → AllZip IsMade places old → AllZip IsMade (places ++ more) new
 
 -- What was opened when the map of the pick at this place wasn't: those of the picks before it, and its file,
 -- but maybe not where memory ran out.
-abbrev pub IsStoppedAt : {F : Type 0} → List (List ℕ) → List (List ℕ) → (List Pick → List (List ℕ)) → List Pick → ℕ
+abbrev pub IsStoppedAt : {F : Type 0} → List (List ℕ) → List (List ℕ) → (List Pick → List (List ℕ))
+    → List Pick → ℕ
     → OpenFault F → Type 0
 IsStoppedAt old new files_for picks at (Refused fault) = new ≡ old ++ files_for (take (at + 1) picks)
 IsStoppedAt old new files_for picks at Memory =

@@ -42,6 +42,7 @@ abbrev pub IsPick : Bool → List (List ℕ) → List (List ℕ) → Pick → Ty
 IsPick ignore_query scripts files pick = IsFound ignore_query scripts files pick.name.now pick.found
 
 -- What each of these names has, in their order.
-pub record ArePicks (ignore_query : Bool) (scripts files names : List (List ℕ)) (picks : List Pick) : Type 0 where
+pub record ArePicks (ignore_query : Bool) (scripts files names : List (List ℕ))
+    (picks : List Pick) : Type 0 where
   pub named : map (λ pick. pick.name.now) picks ≡ names
   pub each : All (IsPick ignore_query scripts files) picks

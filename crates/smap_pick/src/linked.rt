@@ -84,7 +84,8 @@ fn rooted(alloc: Global, rest: &[u8]) -> Result<Vec<u8>, AllocError>
 /// The name below a folder of the file with this URL.
 fn name_below(alloc: Global, folder: &[u8], url: &[u8]) -> Result<Vec<u8>, LinkedFault>
     ensures value { IfOk result (λ name. Ok name.items ≡ spec.name_below folder.now url.now) }
-    ensures fault { IfErr result (λ e. (e ≡ LinkedFault.Memory) ⊎ (spec.name_below folder.now url.now ≡ Err e)) }
+    ensures fault { IfErr result
+        (λ e. (e ≡ LinkedFault.Memory) ⊎ (spec.name_below folder.now url.now ≡ Err e)) }
 {
     if !url.starts_with(folder) {
         return Err(LinkedFault::Leaves);
@@ -96,7 +97,8 @@ fn name_below(alloc: Global, folder: &[u8], url: &[u8]) -> Result<Vec<u8>, Linke
 /// The URL that a script names, as that of a file.
 fn url_from(alloc: Global, script: &[u8], url: &[u8]) -> Result<String, LinkedFault>
     ensures value { IfOk result (λ t. Ok (string_bytes t) ≡ spec.url_from script.now url.now) }
-    ensures fault { IfErr result (λ e. (e ≡ LinkedFault.Memory) ⊎ (spec.url_from script.now url.now ≡ Err e)) }
+    ensures fault { IfErr result
+        (λ e. (e ≡ LinkedFault.Memory) ⊎ (spec.url_from script.now url.now ≡ Err e)) }
 {
     match resolved(alloc, script, url) {
         Ok(url) => Ok(url),

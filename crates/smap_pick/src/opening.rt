@@ -54,7 +54,8 @@ pub trait Store {
     /// `Refused`, `Memory`.
     fn open(&mut self, alloc: Global, place: &Place) -> Result<Self::Map, OpenFault<Self::Fault>>
         ensures opened { OnOk result (opened self.new ≡ opened self.old ++ (place_in place.now).file ∷ []) }
-        ensures fault { IfErr result (IsLogged (opened self.old) (opened self.new) ((place_in place.now).file ∷ [])) }
+        ensures fault { IfErr result
+            (IsLogged (opened self.old) (opened self.new) ((place_in place.now).file ∷ [])) }
         ensures held { held self.new ≡ held self.old }
         ensures made { IfOk result (IsMadeOf made_of (held self.old) (place_in place.now)) };
 }
@@ -80,7 +81,8 @@ fn open_one<S: Store>(
     place: &Place,
     maps: &mut Vec<S::Map>,
 ) -> Result<(), OpenFault<S::Fault>>
-    ensures opened { OnOk result (S.opened store.new ≡ S.opened store.old ++ files_of (place_in place.now ∷ [])) }
+    ensures opened { OnOk result
+        (S.opened store.new ≡ S.opened store.old ++ files_of (place_in place.now ∷ [])) }
     ensures fault { IfErr result (IsLogged (S.opened store.old) (S.opened store.new)
         (files_of (place_in place.now ∷ []))) }
     ensures held { S.held store.new ≡ S.held store.old }

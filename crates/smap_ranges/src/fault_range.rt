@@ -60,8 +60,8 @@ fn json_range(alloc: Global, text: &[u8], fault: &Fault) -> Result<Option<TextRa
 /// its `offset`. Of a member that isn't there it is that of the object without it, and so it is where too
 /// many sources or names are listed. Of a text that isn't JSON it is the empty range where reading stopped.
 /// None where there is no line feed after `)]}'`, or where the text has no such place, as it may where the
-/// fault isn't one of this text. A text that isn't JSON always has one, which is proved; that one that is JSON
-/// has one for its own fault is tested.
+/// fault isn't one of this text. A text that isn't JSON always has one, which is proved; that one that is
+/// JSON has one for its own fault is tested.
 ///
 /// # Errors
 ///

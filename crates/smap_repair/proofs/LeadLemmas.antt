@@ -56,7 +56,8 @@ unfolding Leads
 leads_nowhere text = refl
 
 -- the mark removed
-pub mark_removed : (r : Repair) (text rest : List ℕ) → IsRemoval r → text ≡ mark ++ rest → Leads (r ∷ []) text rest
+pub mark_removed : (r : Repair) (text rest : List ℕ) → IsRemoval r → text ≡ mark ++ rest
+    → Leads (r ∷ []) text rest
 mark_removed r text rest is cut =
     let front : text ≡ string_bytes r.before ++ rest = rw is.before cut in
     let listed : is_listed r.change [] (string_bytes r.before) (string_bytes r.after) rest ≡ true =

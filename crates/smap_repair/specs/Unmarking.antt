@@ -1,5 +1,6 @@
 -- A text that begins with a byte order mark.
-use Rattle.std.specs.Prelude.{◌≡◌, ℕ, true, Bool, bytes_eq, length, List, [], drop, take, string_bytes, IsErr, IsOk}
+use Rattle.std.specs.Prelude.{◌≡◌, ℕ, true, Bool, bytes_eq, length, List, [], drop, take, string_bytes, IsErr}
+use Rattle.std.specs.Prelude.{IsOk}
 use Rattle.url.specs.Parts.{Parts}
 use Rattle.smap_record.specs.Record.{Allowed}
 use Rattle.smap_record.specs.Reading.{reading}

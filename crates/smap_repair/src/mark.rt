@@ -27,7 +27,8 @@ fn removal(alloc: Global) -> Result<Repair, AllocError>
 /// The text without a mark at its front.
 pub(crate) fn without_mark(alloc: Global, text: &[u8]) -> Result<Mended, AllocError>
     ensures leads { IfOk result (λ m. Leads m.repairs.items text.now m.text.items) }
-    ensures removed { IfOk result (λ m. is_marked text.now ≡ true → IsUnmarked text.now m.text.items m.repairs.items) }
+    ensures removed { IfOk result
+        (λ m. is_marked text.now ≡ true → IsUnmarked text.now m.text.items m.repairs.items) }
 {
     let Some(rest) = text.strip_prefix(MARK.as_bytes()) else {
         return Ok(Mended {

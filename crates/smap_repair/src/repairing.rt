@@ -116,10 +116,10 @@ fn repaired_further(
 /// Repairs the text of a map, if it is refused as it is and the closed list of repairs suffices.
 ///
 /// `base` and `limits` are those with which the map is read, before and after. The text is looked through a
-/// few times, whatever the number of repairs, and read twice, or three times if it begins with a byte order mark:
-/// where that alone keeps it from being read, it is all that is removed. A map that needs anything else besides stays
-/// refused, and so does one that needs more than 65,536 repairs. Which section and which index a repair is
-/// told with is tested, and not promised.
+/// few times, whatever the number of repairs, and read twice, or three times if it begins with a byte order
+/// mark: where that alone keeps it from being read, it is all that is removed. A map that needs anything else
+/// besides stays refused, and so does one that needs more than 65,536 repairs. Which section and which index
+/// a repair is told with is tested, and not promised.
 ///
 /// # Errors
 ///

@@ -1,12 +1,14 @@
 -- What is said of files as strings and as their bytes.
-use Rattle.std.proofs.Common.{◌≡◌, ◌∙◌, ℕ, Bool, false, List, [], ◌∷◌, ◌++◌, arith, filter, length, map, refl, sym, String, string_bytes}
+use Rattle.std.proofs.Common.{◌≡◌, ◌∙◌, ℕ, Bool, false, List, [], ◌∷◌, ◌++◌, arith, filter, length, map, refl}
+use Rattle.std.proofs.Common.{sym, String, string_bytes}
 use Rattle.std.specs.List.{flat_map}
 use Rattle.std.proofs.lemmas.List.{length-map, map-append}
 use Rattle.std.proofs.lemmas.List.Folds.{flat_map-map}
 use Rattle.smap_report.specs.declared.findings.Finding.{Finding}
 use Rattle.smap_report.specs.declared.findings.Rule.{Rule}
 use Rattle.smap_report.specs.Escapes.{xml}
-use Rattle.smap_report.specs.Junit.{case, count_failures, failures, fails, has_file, holds, suite, suite_words, with_file}
+use Rattle.smap_report.specs.Junit.{case, count_failures, failures, fails, has_file, holds, suite}
+use Rattle.smap_report.specs.Junit.{suite_words, with_file}
 
 pub holds_is : {Z : Type 0} (files : List (String Z)) (file : List ℕ)
     → has_file files file ≡ holds (map string_bytes files) file

@@ -1,5 +1,6 @@
 -- A report as SARIF has no number but whole ones.
-use Rattle.std.proofs.Common.{◌≡◌, ℕ, false, List, [], ◌∷◌, arith, map, Option, Some, None, refl, string_bytes}
+use Rattle.std.proofs.Common.{◌≡◌, ℕ, false, List, [], ◌∷◌, arith, map, Option, Some, None, refl}
+use Rattle.std.proofs.Common.{string_bytes}
 use Rattle.serde_json.specs.View.{items_of}
 use Rattle.serde_json.specs.Written.{has_float, items_have_float}
 use Rattle.smap_report.specs.declared.findings.Finding.{Finding}

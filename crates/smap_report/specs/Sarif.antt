@@ -1,7 +1,9 @@
 -- A report as SARIF 2.1.0 (OASIS). Members are in byte order.
-use Rattle.std.specs.Prelude.{ℕ, nat_eq, nat_lt, cond, length, negsuc, List, [], ◌++◌, codes, map, Option, Some, None, string_bytes}
+use Rattle.std.specs.Prelude.{ℕ, nat_eq, nat_lt, cond, length, negsuc, List, [], ◌++◌, codes, map, Option}
+use Rattle.std.specs.Prelude.{Some, None, string_bytes}
 use Rattle.std.specs.List.{starts_with}
-use Rattle.serde_json.specs.Data.{Data, number, unsigned, negative, string, array, object, item, no_items, member, no_members}
+use Rattle.serde_json.specs.Data.{Data, number, unsigned, negative, string, array, object, item, no_items}
+use Rattle.serde_json.specs.Data.{member, no_members}
 use Rattle.serde_json.specs.View.{items_of}
 use Rattle.percent_encoding.specs.Percent.{percent_encode}
 use Rattle.smap_report.specs.declared.findings.Finding.{Finding}

@@ -59,7 +59,8 @@ without_minus-cond : (t : Text) → without_minus t ≡ cond (starts_with_minus 
 without_minus-cond [] = refl
 without_minus-cond (x ∷ xs) = pushed_in (x == 45) x xs
   where
-    pushed_in : (b : Bool) (x : ℕ) (xs : Text) → unwrap_or (cond b (Some xs) None) (x ∷ xs) ≡ cond b xs (x ∷ xs)
+    pushed_in : (b : Bool) (x : ℕ) (xs : Text)
+        → unwrap_or (cond b (Some xs) None) (x ∷ xs) ≡ cond b xs (x ∷ xs)
     pushed_in b x xs = grind arith
 
 no_plus : (ds : Text) → IsNumeral 10 ds → without_leading_plus ds ≡ ds

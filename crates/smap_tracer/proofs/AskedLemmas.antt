@@ -45,9 +45,12 @@ split-append : (front more : List ℕ)
 split-append [] more = refl
 split-append (b ∷ bs) more = go (is_feed b) (split-append bs more)
   where
-    go : (t : Bool) → slice_split is_feed (bs ++ 10 ∷ more) ≡ slice_split is_feed bs ++ slice_split is_feed more
-        → cond t ([] ∷ slice_split is_feed (bs ++ 10 ∷ more)) (onto_first b (slice_split is_feed (bs ++ 10 ∷ more)))
-        ≡ cond t ([] ∷ slice_split is_feed bs) (onto_first b (slice_split is_feed bs)) ++ slice_split is_feed more
+    go : (t : Bool)
+        → slice_split is_feed (bs ++ 10 ∷ more) ≡ slice_split is_feed bs ++ slice_split is_feed more
+        → cond t ([] ∷ slice_split is_feed (bs ++ 10 ∷ more))
+        (onto_first b (slice_split is_feed (bs ++ 10 ∷ more)))
+        ≡ cond t ([] ∷ slice_split is_feed bs) (onto_first b (slice_split is_feed bs))
+        ++ slice_split is_feed more
     go true e = ap (λ (ls : List (List ℕ)). [] ∷ ls) e
     go false e = ap (onto_first b) e ∙ onto_first-append b (slice_split is_feed bs) (slice_split is_feed more)
         (omega (arith, length-slice_split is_feed bs))
@@ -119,7 +122,8 @@ goes_on anywhere asked (Some x) (Some y) part apart taken all = elim (apart y re
       )
 ]
 
-nothing_left : (left : Option (List ℕ)) (more : List ℕ) → option_map (λ bytes. []) left ≡ Some more → more ≡ []
+nothing_left : (left : Option (List ℕ)) (more : List ℕ) → option_map (λ bytes. []) left ≡ Some more
+    → more ≡ []
 nothing_left None more is = absurd cc
 nothing_left (Some bytes) more is = cc
 
@@ -144,13 +148,15 @@ next_asked held job rest left block ended taken all =
 without_in : (anywhere : Bool) (known names : List (List ℕ))
     → AreIn (cond anywhere (without known names) []) (cond anywhere names [])
 without_in true known names n has = All-contains (Contains names) (without known names) n
-    (All-filter (λ name. not (list_any (bytes_eq name) known)) (Contains names) names (All-contains_itself names)) has
+    (All-filter (λ name. not (list_any (bytes_eq name) known)) (Contains names) names
+    (All-contains_itself names)) has
 without_in false known names n has = has
 
 pub lines_added : (anywhere : Bool) (asked : Option (List (List ℕ))) (before after : Names) (lines : List ℕ)
     → AreIn (frames_of after) (frames_of before ++ urls_of lines)
     → AreIn (others_of after) (others_of before ++ others_if anywhere (frames_of after) lines)
-    → AreAmong asked (names_of before) → AreAmong asked (asked_in anywhere lines) → AreAmong asked (names_of after)
+    → AreAmong asked (names_of before) → AreAmong asked (asked_in anywhere lines)
+    → AreAmong asked (names_of after)
 lines_added anywhere asked before after lines frames others old new n has =
     let known = frames_of after in
     let more = cond anywhere (others_in lines) [] in
@@ -159,15 +165,19 @@ lines_added anywhere asked before after lines frames others old new n has =
         | inl was ↦ old n (Contains-append_left (frames_of before) (others_of before) n was)
         | inr is ↦ new n (Contains-append_left (urls_of lines) more n is)
       ]
-      | inr other ↦ elim (Contains-append_cases (others_of before) (others_if anywhere known lines) n (others n other)) [
-        | inl was ↦ old n (Contains-append_right (frames_of before) (others_of before) n was)
-        | inr is ↦ new n (Contains-append_right (urls_of lines) more n (without_in anywhere known (others_in lines) n is))
-      ]
+      | inr other ↦ elim (Contains-append_cases (others_of before) (others_if anywhere known lines) n
+          (others n other)) [
+            | inl was ↦ old n (Contains-append_right (frames_of before) (others_of before) n was)
+            | inr is ↦ new n
+                (Contains-append_right (urls_of lines) more n
+                (without_in anywhere known (others_in lines) n is))
+          ]
     ]
 
 -- those of lines alone
 pub names_of_lines : (anywhere : Bool) (asked : Option (List (List ℕ))) (names : Names) (lines : List ℕ)
-    → AreIn (frames_of names) (urls_of lines) → AreIn (others_of names) (others_if anywhere (frames_of names) lines)
+    → AreIn (frames_of names) (urls_of lines)
+    → AreIn (others_of names) (others_if anywhere (frames_of names) lines)
     → AreAmong asked (asked_in anywhere lines) → AreAmong asked (names_of names)
 names_of_lines anywhere asked names lines frames others among n has =
     let known = frames_of names in
@@ -205,7 +215,8 @@ in_one f (p ∷ paths) path name there has = elim (Contains-append_cases (p ∷ 
       | inr is ↦ is
     ]
 
-path_asked : (held : Held) (anywhere : Bool) (paths : List (List ℕ)) (path text : List ℕ) → Contains paths path
+path_asked : (held : Held) (anywhere : Bool) (paths : List (List ℕ)) (path text : List ℕ)
+    → Contains paths path
     → IsHeld held path text → AreAmong (asked_of held anywhere paths) (asked_in anywhere text)
 path_asked None anywhere paths path text there is name has = tt
 path_asked (Some held) anywhere [] path text there is name has = tt
@@ -221,7 +232,8 @@ own_logs held job paths is k d lt text holds =
     (subst (λ (ps : List (Bor (List ℕ))). Contains (map now ps) (get_or paths k d).now) is
     (mapped_among now paths k d lt)) holds
 
-no_paths : (held : Held) (anywhere : Bool) (names : List (List ℕ)) → AreAmong (asked_of held anywhere []) names
+no_paths : (held : Held) (anywhere : Bool) (names : List (List ℕ))
+    → AreAmong (asked_of held anywhere []) names
 no_paths None anywhere names n has = tt
 no_paths (Some held) anywhere names n has = tt
 
@@ -240,18 +252,34 @@ ends_kept held w None names old new keep among all = tt
 ends_kept held w (Some asked) names old new keep among all = keep asked
     (All-weaker (Contains names) (Contains asked) among names (All-contains_itself names)) all
 
-pub first_kept : (held : Held) (w : Wanted) (names others : List (List ℕ)) (old new : Choices)
+-- names that stand behind a list of references
+pub names_kept : (held : Held) (w : Wanted) (names : List (List ℕ)) (old new : Choices)
+    (slice items : List (Bor (List ℕ))) → slice ≡ items → map (λ n. n.now) items ≡ names
+    → KeepEnds held w (map (λ n. n.now) slice) old new → KeepEnds held w names old new
+names_kept held w names old new slice items same is keep =
+    subst (λ (ns : List (List ℕ)). KeepEnds held w ns old new)
+    (ap (map (λ (n : Bor (List ℕ)). n.now)) same ∙ is) keep
+
+first_kept : (held : Held) (w : Wanted) (names others : List (List ℕ)) (old new : Choices)
     → KeepEnds held w names old new → KeepEnds held w (names ++ others) old new
 first_kept held w names others old new keep asked all before = keep asked
     (All-weaker (Contains names) (Contains asked)
-    (λ n has. All-contains (Contains asked) (names ++ others) n all (Contains-append_left names others n has)) names
-    (All-contains_itself names)) before
+    (λ n has. All-contains (Contains asked) (names ++ others) n all (Contains-append_left names others n has))
+    names (All-contains_itself names)) before
+
+pub first_names_kept : (held : Held) (w : Wanted) (names others : List (List ℕ)) (old new : Choices)
+    (slice items : List (Bor (List ℕ))) → slice ≡ items → map (λ n. n.now) items ≡ names
+    → KeepEnds held w (map (λ n. n.now) slice) old new → KeepEnds held w (names ++ others) old new
+first_names_kept held w names others old new slice items same is keep =
+    first_kept held w names others old new (names_kept held w names old new slice items same is keep)
 
 pub both_kept : (held : Held) (w : Wanted) (names others : List (List ℕ)) (old middle new : Choices)
-    → KeepEnds held w names old middle → KeepEnds held w others middle new → KeepEnds held w (names ++ others) old new
+    → KeepEnds held w names old middle → KeepEnds held w others middle new
+    → KeepEnds held w (names ++ others) old new
 both_kept held w names others old middle new keep then asked all before = then asked
     (All-weaker (Contains others) (Contains asked)
-    (λ n has. All-contains (Contains asked) (names ++ others) n all (Contains-append_right names others n has)) others
+    (λ n has. All-contains (Contains asked) (names ++ others) n all
+    (Contains-append_right names others n has)) others
     (All-contains_itself others)) (first_kept held w names others old middle keep asked all before)
 
 pub same_ends : (held : Held) (w : Wanted) (asked : Option (List (List ℕ))) (old new : Choices)
@@ -260,12 +288,15 @@ same_ends held w None old new is all = tt
 same_ends held w (Some asked) old new is all = subst (AreEnds (IsEndOf held w (Contains asked))) (sym is) all
 
 -- the maps of names of the logs were opened
-pub names_opened : (held : Held) (job : Job) (names : List (List ℕ)) (old new : Chosen) → AreNamed held job old
-    → AreChosen held job.wanted (choices_of new) → KeepEnds held job.wanted names (choices_of old) (choices_of new)
+pub names_opened : (held : Held) (job : Job) (names : List (List ℕ)) (old between new : Chosen)
+    → AreNamed held job old → between ≡ old → AreChosen held job.wanted (choices_of new)
+    → KeepEnds held job.wanted names (choices_of between) (choices_of new)
     → AreAmong (asked_by held job) names → AreNamed held job new
-names_opened held job names old new was named keep among = record {
+names_opened held job names old between new was same named keep among = record {
   named = named;
-  ends = ends_kept held job.wanted (asked_by held job) names (choices_of old) (choices_of new) keep among was.ends;
+  ends = ends_kept held job.wanted (asked_by held job) names (choices_of old) (choices_of new)
+      (subst (λ (o : Chosen). KeepEnds held job.wanted names (choices_of o) (choices_of new)) same keep) among
+      was.ends;
 }
 
 -- nothing was opened
@@ -276,7 +307,8 @@ none_opened held job old new named is was = record {
   ends = same_ends held job.wanted (asked_by held job) (choices_of old) (choices_of new) is was.ends;
 }
 
-no_ends_among : (held : Held) (w : Wanted) (asked : Option (List (List ℕ))) → AreEndsAmong held w asked no_choices
+no_ends_among : (held : Held) (w : Wanted) (asked : Option (List (List ℕ)))
+    → AreEndsAmong held w asked no_choices
 no_ends_among held w None = tt
 no_ends_among held w (Some asked) = none_ended (IsEndOf held w (Contains asked))
 

@@ -88,16 +88,19 @@ now_named held path left before after added gives = record {
   text = added.text;
   gives = gives;
   all = added.all;
-  frames = λ n there. added.frames.1 n (Contains-append_right (frames_of before) (urls_of added.text) n there);
+  frames =
+      λ n there. added.frames.1 n (Contains-append_right (frames_of before) (urls_of added.text) n there);
 }
 
 -- the names of the first of these logs
 abbrev pub HaveNamesTo : Held → List (Bor (List ℕ)) → ℕ → Names → Type 0
-HaveNamesTo held paths i names = (k : ℕ) (d : Bor (List ℕ)) → k < i → HasNamesOf held (get_or paths k d).now names
+HaveNamesTo held paths i names =
+    (k : ℕ) (d : Bor (List ℕ)) → k < i → HasNamesOf held (get_or paths k d).now names
 
 pub one_more_log : (held : Held) (paths : List (Bor (List ℕ))) (i : ℕ) (d : Bor (List ℕ)) → i < length paths
     → (left : Option (List ℕ)) (before after : Names) → AddsNames left before after
-    → GivesHeld held (get_or paths i d).now left → HaveNamesTo held paths i before → HaveNamesTo held paths (i + 1) after
+    → GivesHeld held (get_or paths i d).now left → HaveNamesTo held paths i before
+    → HaveNamesTo held paths (i + 1) after
 one_more_log held paths i d within left before after added gives all k e lt = elim (cases_lt k i) [
   | inl less ↦ still_named held (get_or paths k e).now left before after added (all k e less)
   | inr more ↦ let same : i ≡ k = omega (arith, lt, more) in
@@ -116,12 +119,13 @@ pub one_more_size : (held : Held) (paths : List (Bor (List ℕ))) (i : ℕ) (d :
     → HaveSizesTo held paths i sizes → HaveSizesTo held paths (i + 1) (sizes ++ size ∷ [])
 one_more_size held paths i d within sizes size long has all k e lt =
     let more = sizes ++ size ∷ [] in
-    let last : get_or more i 0 ≡ size = ap (λ j. get_or more j 0) (sym long) ∙ get_or-append_seam sizes size [] 0 in
+    let last : get_or more i 0 ≡ size =
+    ap (λ j. get_or more j 0) (sym long) ∙ get_or-append_seam sizes size [] 0 in
     elim (cases_lt k i) [
       | inl less ↦ subst (HasSize held (get_or paths k e).now)
           (sym (get_or_append_left sizes (size ∷ []) 0 k (omega (arith, less, long)))) (all k e less)
       | inr from ↦ let same : i ≡ k = omega (arith, lt, from) in
           subst (λ (j : ℕ). HasSize held (get_or paths j e).now (get_or more j 0)) same
-          (subst (λ (p : Bor (List ℕ)). HasSize held p.now (get_or more i 0)) (get_or_default paths i d e within)
-          (subst (HasSize held (get_or paths i d).now) (sym last) has))
+          (subst (λ (p : Bor (List ℕ)). HasSize held p.now (get_or more i 0))
+          (get_or_default paths i d e within) (subst (HasSize held (get_or paths i d).now) (sym last) has))
     ]

@@ -33,15 +33,16 @@ more_whole (p ∷ []) part all = (all.0, tt)
 more_whole (p ∷ q ∷ parts) part all = (all.0, more_whole (q ∷ parts) part all.1)
 
 -- what was handed out of a log was translated
-pub record SoFar (held : Held) (job : Job) (Sought : List ℕ → Type 0) (ended : Bool) (left rest before after : Option (List ℕ))
-    : Type 0 where
+pub record SoFar (held : Held) (job : Job) (Sought : List ℕ → Type 0) (ended : Bool)
+    (left rest before after : Option (List ℕ)) : Type 0 where
   pub parts : List (List ℕ)
   pub whole : AreWhole parts
   pub lines : ended ≡ false → AreLines parts
   pub taken : Consumes left rest (concat parts)
   pub traced : AreTracedParts held job Sought parts before after
 
-pub none_so_far : (held : Held) (job : Job) (Sought : List ℕ → Type 0) (ended : Bool) (left rest before : Option (List ℕ))
+pub none_so_far : (held : Held) (job : Job) (Sought : List ℕ → Type 0) (ended : Bool)
+    (left rest before : Option (List ℕ))
     → rest ≡ left → SoFar held job Sought ended left rest before before
 none_so_far held job Sought ended left rest before is = record {
   parts = [];
@@ -68,17 +69,19 @@ pub one_more_part : (held : Held) (job : Job) (Sought : List ℕ → Type 0) (wa
     → SoFar held job Sought was left rest before middle → was ≡ false
     → (ended ≡ false → IsEmptyOrEndsWith part 10) → Consumes rest next part
     → IsTraced held job Sought (Some part) middle after → SoFar held job Sought ended left next before after
-one_more_part held job Sought was ended left rest next before middle after part all going lines taken one = record {
-  parts = all.parts ++ part ∷ [];
-  whole = more_whole all.parts part (all.lines going);
-  lines = λ still. more_lines all.parts part (all.lines going) (lines still);
-  taken = subst (Consumes left next) (sym (one_joined all.parts part))
-      (Consumes-trans left rest next (concat all.parts) part all.taken taken);
-  traced = more_parts held job Sought all.parts part before middle after all.traced one;
-}
+one_more_part held job Sought was ended left rest next before middle after part all going lines taken one =
+    record {
+      parts = all.parts ++ part ∷ [];
+      whole = more_whole all.parts part (all.lines going);
+      lines = λ still. more_lines all.parts part (all.lines going) (lines still);
+      taken = subst (Consumes left next) (sym (one_joined all.parts part))
+          (Consumes-trans left rest next (concat all.parts) part all.taken taken);
+      traced = more_parts held job Sought all.parts part before middle after all.traced one;
+    }
 
 pub all_parts : (held : Held) (job : Job) (Sought : List ℕ → Type 0) (ended : Bool)
-    (left rest before after : Option (List ℕ)) → SoFar held job Sought ended left rest before after → IsAtEnd rest
+    (left rest before after : Option (List ℕ)) → SoFar held job Sought ended left rest before after
+    → IsAtEnd rest
     → IsTracedText held job Sought left before after
 all_parts held job Sought ended left rest before after all end = record {
   parts = all.parts;
@@ -128,7 +131,8 @@ parts_sought held job Sought Other (part ∷ parts) before after less all = (
   parts_sought held job Sought Other parts all.0 after less all.2,
 )
 
-pub text_sought : (held : Held) (job : Job) (Sought Other : List ℕ → Type 0) (left before after : Option (List ℕ))
+pub text_sought : (held : Held) (job : Job) (Sought Other : List ℕ → Type 0)
+    (left before after : Option (List ℕ))
     → ((name : List ℕ) → Other name → Sought name) → IsTracedText held job Sought left before after
     → IsTracedText held job Other left before after
 text_sought held job Sought Other left before after less all = record {
@@ -139,7 +143,8 @@ text_sought held job Sought Other left before after less all = record {
 }
 
 pub one_log : (held : Held) (job : Job) (path : List ℕ) (left before begun after : Option (List ℕ))
-    → IsBegun before begun → GivesHeld held path left → IsTracedTextIn held job (IsNameOf held path) left begun after
+    → IsBegun before begun → GivesHeld held path left
+    → IsTracedTextIn held job (IsNameOf held path) left begun after
     → IsTracedLog held job path before after
 one_log held job path left before begun after is gives traced = record {
   begun = begun;
@@ -149,7 +154,8 @@ one_log held job path left before begun after is gives traced = record {
   traced = traced;
 }
 
-same_length : (bytes : List ℕ) (size : ℕ) → ◌≡◌ {A = Option ℕ} (Some (length bytes)) (Some size) → length bytes ≡ size
+same_length : (bytes : List ℕ) (size : ℕ) → ◌≡◌ {A = Option ℕ} (Some (length bytes)) (Some size)
+    → length bytes ≡ size
 same_length bytes size is = cc
 
 -- so long as a file is, it is read whole
@@ -158,11 +164,14 @@ pub gives_all : (held : Held) (path : List ℕ) (size : ℕ) (left : Option (Lis
 gives_all None path size left has gives = tt
 gives_all (Some held) path size None has gives = absurd gives.1
 gives_all (Some held) path size (Some bytes) has gives =
-    let long : length bytes ≡ size = same_length bytes size (ap (option_map length) (sym gives.0) ∙ has) in
-    (gives.0 ∙ sym (ap (λ (n : ℕ). Some (take n bytes)) (sym long) ∙ ap (λ (l : List ℕ). Some l) (take-length bytes)), tt)
+    let long : length bytes ≡ size = same_length bytes size (ap (option_map length) (sym gives.0) ∙ has) in (
+      gives.0 ∙ sym (ap (λ (n : ℕ). Some (take n bytes)) (sym long)
+          ∙ ap (λ (l : List ℕ). Some l) (take-length bytes)),
+      tt,
+    )
 
-pub taken_all : {R : Type 0} (remaining : R → Option (List ℕ)) (held : Held) (path : List ℕ) (size : ℕ) (reader : R)
-    (log : Take R) → log.limit ≡ size → log.inner ≡ reader → HasSize held path size
+pub taken_all : {R : Type 0} (remaining : R → Option (List ℕ)) (held : Held) (path : List ℕ) (size : ℕ)
+    (reader : R) (log : Take R) → log.limit ≡ size → log.inner ≡ reader → HasSize held path size
     → GivesHeld held path (remaining reader) → GivesHeld held path (take_remaining remaining log)
 taken_all remaining held path size reader log limit inner has gives =
     rw (limit, inner) (gives_all held path size (remaining reader) has gives)

@@ -1,5 +1,6 @@
 -- What a run answers to its words.
-use Rattle.std.proofs.Common.{◌≡◌, ◌∙◌, ◌==◌, [], ◌∷◌, Bor, false, length, map, subst, ℕ, List, Option, None, Result, Ok, Err, OnOk}
+use Rattle.std.proofs.Common.{◌≡◌, ◌∙◌, ◌==◌, [], ◌∷◌, Bor, false, length, map, subst, ℕ, List, Option, None}
+use Rattle.std.proofs.Common.{Result, Ok, Err, OnOk}
 use Rattle.smap_disk.specs.Held.{Held}
 use Rattle.smap_disk.specs.Tree.{Told}
 use Rattle.smap_arguments.specs.declared.wanted.Wanted.{Wanted}
@@ -11,10 +12,12 @@ use Rattle.smap_words.specs.Request.{IsAsked}
 use Rattle.smap_words.specs.declared.request.Asked.{Asked}
 use Rattle.smap_words.specs.declared.request.TraceWords.{TraceWords}
 
-pub traced_asked : {A E : Type 0} (held : Held) (asked : TraceWords) (wanted : Wanted) (job : Job) (kind : InputKind)
+pub traced_asked : {A E : Type 0} (held : Held) (asked : TraceWords) (wanted : Wanted) (job : Job)
+    (kind : InputKind)
     (left before after : Option (List ℕ)) (result : Result A E) → job.wanted ≡ wanted → IsJobOf asked job
     → OnOk result (job.list ≡ false → IsTracedJob held job kind left before after)
-    → OnOk result (asked.output ≡ None → asked.list ≡ false → IsTracedAsked held wanted asked kind left before after)
+    → OnOk result
+    (asked.output ≡ None → asked.list ≡ false → IsTracedAsked held wanted asked kind left before after)
 traced_asked held asked wanted job kind left before after (Ok a) is of traced = λ none off. record {
   job = job;
   wanted_is = is;
@@ -26,14 +29,16 @@ traced_asked held asked wanted job kind left before after (Err e) is of traced =
 pub wanted_traced : {A E : Type 0} (told : Told) (held : Held) (asked : TraceWords) (wanted : Wanted)
     (kind : InputKind) (left before after : Option (List ℕ)) (result : Result A E)
     → AreFound told held asked wanted
-    → OnOk result (asked.output ≡ None → asked.list ≡ false → IsTracedAsked held wanted asked kind left before after)
+    → OnOk result
+    (asked.output ≡ None → asked.list ≡ false → IsTracedAsked held wanted asked kind left before after)
     → OnOk result (asked.output ≡ None → asked.list ≡ false
     → (w : Wanted) × AreFound told held asked w × IsTracedAsked held w asked kind left before after)
 wanted_traced told held asked wanted kind left before after (Ok a) found traced = λ none off.
     (wanted, found, traced none off)
 wanted_traced told held asked wanted kind left before after (Err e) found traced = tt
 
-pub answered : {A E : Type 0} (told : Told) (held : Held) (help version : List ℕ) (words : List (List ℕ)) (asked : Asked)
+pub answered : {A E : Type 0} (told : Told) (held : Held) (help version : List ℕ) (words : List (List ℕ))
+    (asked : Asked)
     (kind : InputKind) (left before after : Option (List ℕ)) (result : Result A E) → IsAsked words asked
     → OnOk result (IsAnswered told held help version asked kind left before after)
     → OnOk result ((a : Asked) × IsAsked words a × IsAnswered told held help version a kind left before after)

@@ -1,5 +1,6 @@
 -- No two scripts have the same name.
-use Rattle.std.proofs.Common.{◌≡◌, ◌∙◌, ℕ, ◌<◌, List, [], ◌∷◌, map, get_or, length, Bor, Option, Some, refl, sym, ap, subst}
+use Rattle.std.proofs.Common.{◌≡◌, ◌∙◌, ℕ, ◌<◌, List, [], ◌∷◌, map, get_or, length, Bor, Option, Some, refl}
+use Rattle.std.proofs.Common.{sym, ap, subst}
 use Rattle.std.proofs.Common.{◌++◌, ◌+◌, arith, take}
 use Rattle.std.proofs.lemmas.List.{get_or-map, length-map, map-append, take_more}
 use Rattle.std.specs.List.{Contains}
@@ -14,8 +15,10 @@ abbrev pub names_of : List (Bor (List ℕ) × Bor ReadMap) → List (List ℕ)
 names_of xs = map (λ (s : Bor (List ℕ) × Bor ReadMap). s.0.now) xs
 
 -- the names of the first scripts, and of one more
-pub one_more_name : (xs : List (Bor (List ℕ) × Bor ReadMap)) (i : ℕ) (d : Bor (List ℕ) × Bor ReadMap) → i < length xs
-    → (now after : List (Bor (List ℕ))) (s : Bor (List ℕ)) → after ≡ now ++ s ∷ [] → s.now ≡ (get_or xs i d).0.now
+pub one_more_name : (xs : List (Bor (List ℕ) × Bor ReadMap)) (i : ℕ) (d : Bor (List ℕ) × Bor ReadMap)
+    → i < length xs
+    → (now after : List (Bor (List ℕ))) (s : Bor (List ℕ)) → after ≡ now ++ s ∷ []
+    → s.now ≡ (get_or xs i d).0.now
     → map (λ (n : Bor (List ℕ)). n.now) now ≡ names_of (take i xs)
     → map (λ (n : Bor (List ℕ)). n.now) after ≡ names_of (take (i + 1) xs)
 one_more_name xs i d lt now after s is named was =
@@ -34,14 +37,17 @@ same_names (x ∷ xs) = ap (λ (ns : List (List ℕ)). x.0.now ∷ ns) (same_nam
 
 -- each name that has a map is that of a script
 pub all_names : (choices : Choices) (list scripts : List (Bor (List ℕ) × Bor ReadMap)) → scripts ≡ list
-    → ((name : List ℕ) → HasMap choices name → Contains (names_of list) name) → AreAll choices (scripts_in scripts)
+    → ((name : List ℕ) → HasMap choices name → Contains (names_of list) name)
+    → AreAll choices (scripts_in scripts)
 all_names choices list scripts is all name has =
-    subst (λ (names : List (List ℕ)). Contains names name) (ap names_of (sym is) ∙ same_names scripts) (all name has)
+    subst (λ (names : List (List ℕ)). Contains names name) (ap names_of (sym is) ∙ same_names scripts)
+    (all name has)
 
 same_place : (i j : ℕ) → ◌≡◌ {A = Option ℕ} (Some i) (Some j) → i ≡ j
 same_place i j h = cc
 
-pub distinct : (xs : List (Bor (List ℕ) × Bor ReadMap)) → AreDistinctNames (names_of xs) → AreDistinct (scripts_in xs)
+pub distinct : (xs : List (Bor (List ℕ) × Bor ReadMap)) → AreDistinctNames (names_of xs)
+    → AreDistinct (scripts_in xs)
 distinct xs d i j s lt within same =
     let ss = scripts_in xs in
     let us = urls_of ss in

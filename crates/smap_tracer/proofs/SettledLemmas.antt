@@ -28,7 +28,8 @@ none_chosen held wanted choices is = subst (AreChosen held wanted) (sym is) (rec
 })
 
 -- names were settled, and then others
-pub names_settled : {A E : Type 0} (held : Held) (job : Job) (before after : Choices) (frames : List (Bor (List ℕ)))
+pub names_settled : {A E : Type 0} (held : Held) (job : Job) (before after : Choices)
+    (frames : List (Bor (List ℕ)))
     (names : List (List ℕ)) (result : Result A E) → map (λ (n : Bor (List ℕ)). n.now) frames ≡ names
     → All (λ (n : Bor (List ℕ)). IsSettledIn held job.wanted true before n.now) frames → Grows before after
     → OnOk result (IsJudged job.how.skip after) → OnOk result (AreSettled held job after (Contains names))
@@ -60,22 +61,26 @@ settled_logs (Some held) job choices paths names have settled k d lt =
       each = λ name known.
           let same : known.0 ≡ has.text =
           subst (λ (l : Option (List ℕ)). IsAll l has.text) (sym has.gives.0 ∙ known.1) has.all in
-          settled.each name (has.frames name (subst (λ (t : List ℕ). Contains (urls_of t) name) same known.2));
+          settled.each name
+          (has.frames name (subst (λ (t : List ℕ). Contains (urls_of t) name) same known.2));
       judged = settled.judged;
     }
 
-pub first_settled : (held : Held) (job : Job) (choices : Choices) (paths : List (Bor (List ℕ))) (path : Bor (List ℕ))
+pub first_settled : (held : Held) (job : Job) (choices : Choices) (paths : List (Bor (List ℕ)))
+    (path : Bor (List ℕ))
     → paths ≡ path ∷ [] → AreSettledLogs held job choices paths
     → AreSettled held job choices (IsNameOf held path.now)
 first_settled held job choices paths path is all =
     subst (λ (ps : List (Bor (List ℕ))). AreSettledLogs held job choices ps) is all 0 path (omega arith)
 
 -- a log that is read once
-pub followed_log : {A E : Type 0} (held : Held) (job : Job) (path : List ℕ) (left before begun after : Option (List ℕ))
+pub followed_log : {A E : Type 0} (held : Held) (job : Job) (path : List ℕ)
+    (left before begun after : Option (List ℕ))
     (result : Result A E) → IsBegun before begun → GivesHeld held path left
     → OnOk result (IsTracedTextIn held job (λ name. ⊤) left begun after)
     → OnOk result (IsTracedLog held job path before after)
 followed_log held job path left before begun after (Ok a) is gives traced =
     one_log held job path left before begun after is gives
-    (λ plain. text_sought held job (λ name. ⊤) (IsNameOf held path) left begun after (λ name known. tt) (traced plain))
+    (λ plain. text_sought held job (λ name. ⊤) (IsNameOf held path) left begun after (λ name known. tt)
+    (traced plain))
 followed_log held job path left before begun after (Err e) is gives traced = tt

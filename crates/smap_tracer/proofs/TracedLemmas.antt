@@ -22,7 +22,8 @@ use Rattle.smap_tracer.specs.Written.{IsTranslatedIn}
 use Rattle.smap_logs.specs.Logs.{IsAll}
 
 named_map : (held : Held) (wanted : Wanted) (chosen : Chosen) (script : Script)
-    → AreChosen held wanted (choices_of chosen) → HasMapOf (choices_of chosen) script → HasNamedMap held wanted script
+    → AreChosen held wanted (choices_of chosen) → HasMapOf (choices_of chosen) script
+    → HasNamedMap held wanted script
 named_map held wanted chosen script all has =
     (has.0, has_map held wanted (choices_of chosen) script.0 has.0 all has.1, has.2)
 
@@ -30,13 +31,15 @@ pub traced : (held : Held) (job : Job) (chosen : Chosen) (Sought : List ℕ → 
     (left before after : Option (List ℕ)) → AreNamed held job chosen
     → ((text : List ℕ) → IsAll left text
     → AreSettled held job (choices_of chosen) (λ name. Contains (urls_of text) name × Sought name))
-    → IsTranslatedIn (choices_of chosen) job.style left before after → IsTracedIn held job Sought left before after
+    → IsTranslatedIn (choices_of chosen) job.style left before after
+    → IsTracedIn held job Sought left before after
 traced held job chosen Sought left before after all settled is = λ plain.
     let by = is plain in
     let names = settled by.translated.text by.translated.all in
     record {
       scripts = by.scripts;
-      have_maps = λ k d lt. named_map held job.wanted chosen (get_or by.scripts k d) all.named (by.have_maps k d lt);
+      have_maps =
+          λ k d lt. named_map held job.wanted chosen (get_or by.scripts k d) all.named (by.have_maps k d lt);
       translated = by.translated;
       choices = choices_of chosen;
       given = λ name of sought. elim (names.each name (of, sought)) [
@@ -48,7 +51,8 @@ traced held job chosen Sought left before after all settled is = λ plain.
     }
 
 pub have_maps : (maps : Choices) (xs : List (Bor (List ℕ) × Bor ReadMap))
-    → All (λ (x : Bor (List ℕ) × Bor ReadMap). Has maps x.0.now x.1.now) xs → All (HasMapOf maps) (scripts_in xs)
+    → All (λ (x : Bor (List ℕ) × Bor ReadMap). Has maps x.0.now x.1.now) xs
+    → All (HasMapOf maps) (scripts_in xs)
 have_maps maps xs all = All-map (HasMapOf maps) script_in xs
     (λ k d lt. ((get_or xs k d).1.now, all k d lt, refl))
 
@@ -67,13 +71,15 @@ pub traced_log : {A E : Type 0} (held : Held) (job : Job) (chosen : Chosen) (pat
 traced_log held job chosen path left before begun after (Ok a) all settled is gives translated =
     one_log held job path left before begun after is gives
     (λ plain. one_part held job (IsNameOf held path) left begun after
-    (traced held job chosen (IsNameOf held path) left begun after all (λ text is. of_log held job (choices_of chosen) path text settled)
+    (traced held job chosen (IsNameOf held path) left begun after all
+    (λ text is. of_log held job (choices_of chosen) path text settled)
     translated plain))
 traced_log held job chosen path left before begun after (Err e) all settled is gives translated = tt
 
 pub traced_front : {A E : Type 0} (held : Held) (job : Job) (chosen : Chosen) (path : List ℕ)
     (size : ℕ) (left front before after : Option (List ℕ)) (result : Result A E) → AreNamed held job chosen
-    → AreSettled held job (choices_of chosen) (IsNameOf held path) → HasSize held path size → front ≡ option_map (take size) left
+    → AreSettled held job (choices_of chosen) (IsNameOf held path) → HasSize held path size
+    → front ≡ option_map (take size) left
     → OnOk result (IsTranslatedIn (choices_of chosen) job.style front before after)
     → OnOk result (IsTracedFront held job path left before after)
 traced_front held job chosen path size left front before after (Ok a) all settled has is translated = (
@@ -81,7 +87,8 @@ traced_front held job chosen path size left front before after (Ok a) all settle
   has,
   subst (λ (f : Option (List ℕ)). IsTracedTextIn held job (IsNameOf held path) f before after) is
       (λ plain. one_part held job (IsNameOf held path) front before after
-      (traced held job chosen (IsNameOf held path) front before after all (λ text is. of_log held job (choices_of chosen) path text settled)
+      (traced held job chosen (IsNameOf held path) front before after all
+      (λ text is. of_log held job (choices_of chosen) path text settled)
       translated plain)),
 )
 traced_front held job chosen path size left front before after (Err e) all settled has is translated = tt

@@ -19,7 +19,8 @@ use Rattle.smap_words.specs.declared.request.TraceWords.{TraceWords}
 use Rattle.smap_words.specs.declared.values.Prefix.{Prefix}
 
 -- Standard input was translated and written to its end, or as far as it went if it is a file.
-abbrev pub IsTracedInput : Held → Job → InputKind → Option (List ℕ) → Option (List ℕ) → Option (List ℕ) → Type 0
+abbrev pub IsTracedInput : Held → Job → InputKind → Option (List ℕ) → Option (List ℕ) → Option (List ℕ)
+    → Type 0
 IsTracedInput held job File left before after = IsTracedFront held job STDIN.now left before after
 IsTracedInput held job Closed left before after = IsTracedTextIn held job (λ name. ⊤) left before after
 IsTracedInput held job Terminal left before after = IsTracedTextIn held job (λ name. ⊤) left before after
@@ -77,5 +78,7 @@ abbrev pub IsAnswered : Told → Held → List ℕ → List ℕ → Asked → In
     → Option (List ℕ) → Type 0
 IsAnswered told held help version Help kind left before after = Appends before after help
 IsAnswered told held help version Version kind left before after = Appends before after version
-IsAnswered told held help version (Trace asked) kind left before after = asked.output ≡ None → asked.list ≡ false
-    → (wanted : Wanted) × AreFound told held asked wanted × IsTracedAsked held wanted asked kind left before after
+IsAnswered told held help version (Trace asked) kind left before after =
+    asked.output ≡ None → asked.list ≡ false
+    → (wanted : Wanted) × AreFound told held asked wanted
+    × IsTracedAsked held wanted asked kind left before after

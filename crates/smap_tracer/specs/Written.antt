@@ -111,12 +111,13 @@ IsGiven held wanted choices scripts name = IsNameIn scripts name ⊎ IsLeft held
 
 -- Each name of a frame of a text that was looked for is so.
 abbrev pub AreGiven : Held → Wanted → Choices → List Script → (List ℕ → Type 0) → List ℕ → Type 0
-AreGiven held wanted choices scripts Sought text = (name : List ℕ) → Contains (urls_of text) name → Sought name
+AreGiven held wanted choices scripts Sought text =
+    (name : List ℕ) → Contains (urls_of text) name → Sought name
     → IsGiven held wanted choices scripts name
 
 -- The translation of all that a reader had was written, by scripts whose maps the arguments name. These are
--- all names of its frames that were looked for, but those that are left without a map. Files that end as names
--- do were opened for names of the logs alone; and no map was refused, unless broken maps are skipped.
+-- all names of its frames that were looked for, but those that are left without a map. Files that end as
+-- names do were opened for names of the logs alone; and no map was refused, unless broken maps are skipped.
 pub record IsTraced (held : Held) (job : Job) (Sought : List ℕ → Type 0) (left before after : Option (List ℕ))
     : Type 0 where
   pub scripts : List Script
@@ -131,7 +132,8 @@ pub record IsTraced (held : Held) (job : Job) (Sought : List ℕ → Type 0) (le
 abbrev pub IsTracedIn : Held → Job → (List ℕ → Type 0) → Option (List ℕ) → Option (List ℕ) → Option (List ℕ)
     → Type 0
 IsTracedIn held job Sought left before after =
-    is_plain_style job.style.prefixes.now job.style.context ≡ true → IsTraced held job Sought left before after
+    is_plain_style job.style.prefixes.now job.style.context ≡ true
+    → IsTraced held job Sought left before after
 
 -- Parts of a log were translated and written, one behind another.
 abbrev pub AreTracedParts : Held → Job → (List ℕ → Type 0) → List (List ℕ) → Option (List ℕ) → Option (List ℕ)
@@ -147,25 +149,28 @@ AreWhole (part ∷ []) = ⊤
 AreWhole (part ∷ next ∷ parts) = IsEmptyOrEndsWith part 10 × AreWhole (next ∷ parts)
 
 -- All that a reader had was translated and written, in parts.
-pub record IsTracedText (held : Held) (job : Job) (Sought : List ℕ → Type 0) (left before after : Option (List ℕ))
-    : Type 0 where
+pub record IsTracedText (held : Held) (job : Job) (Sought : List ℕ → Type 0)
+    (left before after : Option (List ℕ)) : Type 0 where
   pub parts : List (List ℕ)
   pub whole : AreWhole parts
   pub all : IsAll left (concat parts)
   pub traced : AreTracedParts held job Sought parts before after
 
 -- The same in a plain style; of another nothing is said.
-abbrev pub IsTracedTextIn : Held → Job → (List ℕ → Type 0) → Option (List ℕ) → Option (List ℕ) → Option (List ℕ)
+abbrev pub IsTracedTextIn : Held → Job → (List ℕ → Type 0) → Option (List ℕ) → Option (List ℕ)
+    → Option (List ℕ)
     → Type 0
 IsTracedTextIn held job Sought left before after =
-    is_plain_style job.style.prefixes.now job.style.context ≡ true → IsTracedText held job Sought left before after
+    is_plain_style job.style.prefixes.now job.style.context ≡ true
+    → IsTracedText held job Sought left before after
 
 -- What the file with this name holds, where that is said, has a frame with this name.
 abbrev pub IsNameOf : Held → List ℕ → List ℕ → Type 0
 IsNameOf None path name = ⊥
 IsNameOf (Some held) path name = (bytes : List ℕ) × (held path ≡ Some bytes) × Contains (urls_of bytes) name
 
--- Each of these names has its map, or is left without one; and no map was refused, unless broken maps are skipped.
+-- Each of these names has its map, or is left without one; and no map was refused, unless broken maps are
+-- skipped.
 pub record AreSettled (held : Held) (job : Job) (choices : Choices) (IsName : List ℕ → Type 0) : Type 0 where
   pub each : (name : List ℕ) → IsName name → IsSettledIn held job.wanted true choices name
   pub judged : IsJudged job.how.skip choices
@@ -204,4 +209,5 @@ AreTraced held job (path ∷ paths) before after = (middle : Option (List ℕ))
 -- So long are the files with these names.
 abbrev pub HaveSizes : Held → List (Bor (List ℕ)) → List ℕ → Type 0
 HaveSizes held paths sizes = (length sizes ≡ length paths)
-    × ((k : ℕ) (d : Bor (List ℕ)) → k < length paths → HasSize held (get_or paths k d).now (slice_index sizes k))
+    × ((k : ℕ) (d : Bor (List ℕ)) → k < length paths
+    → HasSize held (get_or paths k d).now (slice_index sizes k))

@@ -47,7 +47,8 @@ impl<W: Write + Drop> Output<W> {
         host: &Host<'_, E, D>,
         text: &[u8],
     ) -> Result<(), Stop>
-        ensures { OnOk result (Appends (contents_of W.contents self.old) (contents_of W.contents self.new) text.now) }
+        ensures { OnOk result
+            (Appends (contents_of W.contents self.old) (contents_of W.contents self.new) text.now) }
     {
         match &mut self.writer {
             Some(writer) => host.write(text, writer),

@@ -98,8 +98,8 @@ where
     requires none { names_of state.old.names ≡ [] }
     requires named { AreNamed (D.held host.now.disk.now) job.now state.old.chosen }
     requires over { IsOver D.held (D.held host.now.disk.now) job.now.wanted opener.old }
-    ensures { OnOk result (IsTracedJob (D.held host.now.disk.now) job.now input.kind (I.remaining input.reader)
-        (contents_of W.contents output.old) (contents_of W.contents output.new)) }
+    ensures { OnOk result (IsTracedJob (D.held host.now.disk.now) job.now input.kind
+        (I.remaining input.reader) (contents_of W.contents output.old) (contents_of W.contents output.new)) }
 {
     let logs = job.wanted.logs.as_slice();
     if logs.is_empty() {
@@ -341,8 +341,8 @@ fn trace_wanted<E: Eprint + AllocGlobal, D: Disk, I: Read, W: Write + Drop>(
 where
     I: Drop,
     ensures { OnOk result (asked.now.output ≡ None → asked.now.list ≡ false
-        → IsTracedAsked (D.held host.now.disk.now) wanted.entry asked.now input.kind (I.remaining input.reader)
-        (contents_of W.contents output.old) (contents_of W.contents output.new)) }
+        → IsTracedAsked (D.held host.now.disk.now) wanted.entry asked.now input.kind
+        (I.remaining input.reader) (contents_of W.contents output.old) (contents_of W.contents output.new)) }
 {
     let prefixes = prefixes(host.alloc(), &asked.prefixes)?;
     let job = job_of(asked, wanted, &prefixes);
@@ -403,7 +403,8 @@ where
     I: Drop,
     ensures { OnOk result ((asked : Asked) × IsAsked (map (λ w. w.now) words.now) asked
         × IsAnswered (D.tree host.now.disk.now) (D.held host.now.disk.now) HELP.now VERSION.now asked
-        input.kind (I.remaining input.reader) (contents_of W.contents output.old) (contents_of W.contents output.new)) }
+        input.kind (I.remaining input.reader) (contents_of W.contents output.old)
+        (contents_of W.contents output.new)) }
 {
     match trace_words(host.alloc(), words) {
         Ok(Asked::Help) => output.write(host, HELP.as_bytes()),
@@ -424,7 +425,8 @@ where
     I: Drop,
     ensures { result ≡ 0 → (asked : Asked) × IsAsked (map (λ w. w.now) words.now) asked
         × IsAnswered (D.tree host.now.disk.now) (D.held host.now.disk.now) HELP.now VERSION.now asked
-        input.kind (I.remaining input.reader) (contents_of W.contents output.old) (contents_of W.contents output.new) }
+        input.kind (I.remaining input.reader) (contents_of W.contents output.old)
+        (contents_of W.contents output.new) }
 {
     match answer(host, words, input, output) {
         Ok(()) => 0,

@@ -50,8 +50,10 @@ pub(crate) fn distinct<'a>(
 
 /// The scripts that have maps.
 pub(crate) fn scripts_of(alloc: Global, chosen: &Chosen) -> Result<Scripts<'_>, Stop>
-    ensures have_maps { IfOk result (λ scripts. All (HasMapOf (choices_of chosen.now)) (scripts_in scripts.list.items)) }
-    ensures are_all { IfOk result (λ scripts. AreAll (choices_of chosen.now) (scripts_in scripts.list.items)) }
+    ensures have_maps { IfOk result
+        (λ scripts. All (HasMapOf (choices_of chosen.now)) (scripts_in scripts.list.items)) }
+    ensures are_all { IfOk result
+        (λ scripts. AreAll (choices_of chosen.now) (scripts_in scripts.list.items)) }
 {
     let list = chosen.scripts(alloc)?;
     match distinct(alloc, list)? {

@@ -74,8 +74,8 @@ pub(crate) fn open_names<E: Eprint + AllocGlobal, D: Disk>(
     requires named { AreChosen (D.held host.now.disk.now) job.now.wanted (choices_of chosen.old) }
     requires over { IsOver D.held (D.held host.now.disk.now) job.now.wanted opener.old }
     ensures named { AreChosen (D.held host.now.disk.now) job.now.wanted (choices_of chosen.new) }
-    ensures ends { KeepEnds (D.held host.now.disk.now) job.now.wanted (names_of names.now) (choices_of chosen.old)
-        (choices_of chosen.new) }
+    ensures ends { KeepEnds (D.held host.now.disk.now) job.now.wanted (names_of names.now)
+        (choices_of chosen.old) (choices_of chosen.new) }
     ensures over { IsOver D.held (D.held host.now.disk.now) job.now.wanted opener.new }
     ensures settled { OnOk result (AreSettled (D.held host.now.disk.now) job.now (choices_of chosen.new)
         (Contains (frames_of names.now))) }
@@ -117,7 +117,8 @@ where
     requires names { AreAmong (asked_by (D.held host.now.disk.now) job.now) (names_of state.old.names) }
     ensures chosen { state.new.chosen ≡ state.old.chosen }
     ensures names { OnOk result (AddsNames (R.remaining reader) state.old.names state.new.names) }
-    ensures asked { OnOk result (AreAmong (asked_by (D.held host.now.disk.now) job.now) (names_of state.new.names)) }
+    ensures asked { OnOk result
+        (AreAmong (asked_by (D.held host.now.disk.now) job.now) (names_of state.new.names)) }
 {
     let mut log = Log::new(host.alloc(), reader);
     for _ in 0..u64::MAX {
@@ -140,7 +141,8 @@ fn open_lines<E: Eprint + AllocGlobal, D: Disk>(
     lines: &[u8],
     state: &mut State,
 ) -> Result<(), Stop>
-    requires asked { AreAmong (asked_by (D.held host.now.disk.now) job.now) (asked_in job.now.anywhere lines.now) }
+    requires asked { AreAmong (asked_by (D.held host.now.disk.now) job.now)
+        (asked_in job.now.anywhere lines.now) }
     requires named { AreNamed (D.held host.now.disk.now) job.now state.old.chosen }
     requires over { IsOver D.held (D.held host.now.disk.now) job.now.wanted opener.old }
     ensures named { AreNamed (D.held host.now.disk.now) job.now state.new.chosen }
@@ -164,7 +166,8 @@ fn follow_lines<E: Eprint + AllocGlobal, D: Disk, W: Write + Drop>(
     state: &mut State,
     output: &mut Output<W>,
 ) -> Result<(), Stop>
-    requires asked { AreAmong (asked_by (D.held host.now.disk.now) job.now) (asked_in job.now.anywhere lines.now) }
+    requires asked { AreAmong (asked_by (D.held host.now.disk.now) job.now)
+        (asked_in job.now.anywhere lines.now) }
     requires named { AreNamed (D.held host.now.disk.now) job.now state.old.chosen }
     requires over { IsOver D.held (D.held host.now.disk.now) job.now.wanted opener.old }
     ensures named { AreNamed (D.held host.now.disk.now) job.now state.new.chosen }
@@ -235,7 +238,8 @@ fn name_logs<E: Eprint + AllocGlobal, D: Disk>(
     requires names { AreAmong (asked_by (D.held host.now.disk.now) job.now) (names_of state.old.names) }
     ensures chosen { state.new.chosen ≡ state.old.chosen }
     ensures names { OnOk result (HaveNames (D.held host.now.disk.now) paths.now state.new.names) }
-    ensures asked { OnOk result (AreAmong (asked_by (D.held host.now.disk.now) job.now) (names_of state.new.names)) }
+    ensures asked { OnOk result
+        (AreAmong (asked_by (D.held host.now.disk.now) job.now) (names_of state.new.names)) }
     ensures sizes { IfOk result (λ sizes. HaveSizes (D.held host.now.disk.now) paths.now sizes.items) }
 {
     let mut sizes = Vec::new(host.alloc());
@@ -288,8 +292,8 @@ fn open_files<E: Eprint + AllocGlobal, D: Disk>(
     requires over { IsOver D.held (D.held host.now.disk.now) job.now.wanted opener.old }
     ensures named { AreNamed (D.held host.now.disk.now) job.now state.new.chosen }
     ensures over { IsOver D.held (D.held host.now.disk.now) job.now.wanted opener.new }
-    ensures settled { OnOk result (AreSettledLogs (D.held host.now.disk.now) job.now (choices_of state.new.chosen)
-        paths.now) }
+    ensures settled { OnOk result (AreSettledLogs (D.held host.now.disk.now) job.now
+        (choices_of state.new.chosen) paths.now) }
     ensures sizes { IfOk result (λ sizes. HaveSizes (D.held host.now.disk.now) paths.now sizes.items) }
 {
     let sizes = name_logs(host, job, paths, state)?;
@@ -308,11 +312,13 @@ fn translate_files<E: Eprint + AllocGlobal, D: Disk, W: Write + Drop>(
     output: &mut Output<W>,
 ) -> Result<(), Stop>
     requires named { AreNamed (D.held host.now.disk.now) job.now state.old.chosen }
-    requires settled { AreSettledLogs (D.held host.now.disk.now) job.now (choices_of state.old.chosen) paths.now }
+    requires settled { AreSettledLogs (D.held host.now.disk.now) job.now
+        (choices_of state.old.chosen) paths.now }
     requires sizes { HaveSizes (D.held host.now.disk.now) paths.now sizes.now }
     ensures chosen { state.new.chosen ≡ state.old.chosen }
     ensures traced { OnOk result (AreTraced (D.held host.now.disk.now) job.now
-        (map (λ p. p.now) paths.now) (contents_of W.contents output.old) (contents_of W.contents output.new)) }
+        (map (λ p. p.now) paths.now) (contents_of W.contents output.old)
+        (contents_of W.contents output.new)) }
 {
     for i in 0..paths.len() {
         translate_file(host, job, paths[i], sizes[i], state, output)?;
@@ -334,7 +340,8 @@ pub(crate) fn trace_files<E: Eprint + AllocGlobal, D: Disk, W: Write + Drop>(
     requires named { AreNamed (D.held host.now.disk.now) job.now state.old.chosen }
     requires over { IsOver D.held (D.held host.now.disk.now) job.now.wanted opener.old }
     ensures { OnOk result (AreTraced (D.held host.now.disk.now) job.now
-        (map (λ p. p.now) paths.now) (contents_of W.contents output.old) (contents_of W.contents output.new)) }
+        (map (λ p. p.now) paths.now) (contents_of W.contents output.old)
+        (contents_of W.contents output.new)) }
 {
     let sizes = open_files(host, job, opener, paths, state)?;
     translate_files(host, job, paths, &sizes, state, output)
@@ -410,7 +417,8 @@ pub(crate) fn trace_streams<E: Eprint + AllocGlobal, D: Disk, W: Write + Drop>(
     requires named { AreNamed (D.held host.now.disk.now) job.now state.old.chosen }
     requires over { IsOver D.held (D.held host.now.disk.now) job.now.wanted opener.old }
     ensures { OnOk result (AreTraced (D.held host.now.disk.now) job.now
-        (map (λ p. p.now) paths.now) (contents_of W.contents output.old) (contents_of W.contents output.new)) }
+        (map (λ p. p.now) paths.now) (contents_of W.contents output.old)
+        (contents_of W.contents output.new)) }
 {
     for path in paths {
         follow_path(host, job, opener, path, state, output)?;

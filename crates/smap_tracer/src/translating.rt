@@ -72,7 +72,8 @@ pub(crate) fn translate_all<E: Eprint + AllocGlobal, D: Disk, R: Read + Drop, W:
     output: &mut Output<W>,
     tally: &mut Tally,
 ) -> Result<(), Stop>
-    ensures { OnOk result (IsTranslated (fate_by style.now.mode (scripts_in scripts.now.list.items) style.now.hide)
+    ensures { OnOk result
+        (IsTranslated (fate_by style.now.mode (scripts_in scripts.now.list.items) style.now.hide)
         (R.remaining reader) (contents_of W.contents output.old) (contents_of W.contents output.new)) }
 {
     let (reader, answer) = output.translate(host.alloc(), Heeded::new(reader), scripts, style);

@@ -31,10 +31,13 @@ request_told words rows asked none is h = (none, subst (λ (r : List Row). Asks 
 
 -- ---- what is answered for an error of `clap`
 
-pub answered_ok : (words : List Text) (e : Error) (r : Result Asked WordFault) → HasKind (fault_of view words) e
+pub answered_ok : (words : List Text) (e : Error) (r : Result Asked WordFault)
+    → HasKind (fault_of view words) e
     → Answers (kind_of e) r → IfOk r (IsAsked words)
-answered_ok words e (Ok Help) (inl out) h = let bad : kind.OutOfMemory ≡ kind.DisplayHelp = sym out ∙ h in absurd cc
-answered_ok words e (Ok Help) (inr among) h = subst (λ (k : ErrorKind). IsAmong k (fault_of view words)) h among
+answered_ok words e (Ok Help) (inl out) h =
+    let bad : kind.OutOfMemory ≡ kind.DisplayHelp = sym out ∙ h in absurd cc
+answered_ok words e (Ok Help) (inr among) h =
+    subst (λ (k : ErrorKind). IsAmong k (fault_of view words)) h among
 answered_ok words e (Ok Version) (inl out) h =
     let bad : kind.OutOfMemory ≡ kind.DisplayVersion = sym out ∙ h in absurd cc
 answered_ok words e (Ok Version) (inr among) h =
@@ -42,7 +45,8 @@ answered_ok words e (Ok Version) (inr among) h =
 answered_ok words e (Ok (View asked)) has h = absurd h
 answered_ok words e (Err f) has h = tt
 
-pub answered_err : (words : List Text) (e : Error) (r : Result Asked WordFault) → HasKind (fault_of view words) e
+pub answered_err : (words : List Text) (e : Error) (r : Result Asked WordFault)
+    → HasKind (fault_of view words) e
     → Answers (kind_of e) r → IfErr r (IsFault words)
 answered_err words e (Ok asked) has h = tt
 answered_err words e (Err fault.Memory) has h = tt

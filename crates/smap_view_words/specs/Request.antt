@@ -6,7 +6,7 @@ use Rattle.clap.specs.Words.{IsAmong, Row, Text, fault_of, first_of, kind_of, ma
 use Rattle.clap.specs.declared.error.kind.ErrorKind.{ErrorKind}
 use Rattle.clap.specs.declared.error.kind.ErrorKind.TheVariants as error
 use Rattle.smap_view_words.specs.Line.{view}
-use Rattle.smap_view_words.specs.Rows.{values_of}
+use Rattle.smap_matches.specs.Rows.{values_of}
 use Rattle.smap_view_words.specs.declared.fault.WordFault.{WordFault}
 use Rattle.smap_view_words.specs.declared.fault.WordFault.TheVariants as fault
 use Rattle.smap_view_words.specs.declared.request.Asked.{Asked}

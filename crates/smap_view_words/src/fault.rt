@@ -2,8 +2,8 @@
 use clap::Error;
 use std::alloc::{AllocError, AllocFailed};
 
-/// What is wrong with a command line. Faults that `clap` finds come first, then what is wrong with the value of
-/// `--sizes`, and then with the arguments.
+/// What is wrong with a command line. Faults that `clap` finds come first, then what is wrong with the value
+/// of `--sizes`, and then with the arguments.
 #[derive(Debug, Drop)]
 pub enum WordFault<'a> {
     /// An option that there isn't, one without its value, or a flag with one.

@@ -2,12 +2,14 @@
 ghost use Rattle.std.specs.Prelude.{◌≡◌, IfErr, IfOk, map, option_map};
 ghost use Rattle.clap.specs.Words.{found_of, kind_of, rows_of};
 ghost use Rattle.smap_view_words.specs.Request.{Answers, Asks, Fails, IsAsked, IsFault, IsArguments};
-ghost use Rattle.smap_view_words.specs.Request.{IsArgumentFault, IsSizesFault, IsSizesOf, sizes_named, sizes_of};
+ghost use Rattle.smap_view_words.specs.Request.{IsArgumentFault, IsSizesFault, IsSizesOf, sizes_named};
+ghost use Rattle.smap_view_words.specs.Request.{sizes_of};
 
-use crate::command::{text_in, texts_in, view_command};
+use crate::command::view_command;
 use crate::fault::WordFault;
 use clap::error::ErrorKind;
 use clap::{ArgMatches, Error};
+use smap_matches::{text_in, texts_in};
 use std::alloc::Global;
 
 /// How the sizes of sources are written.
@@ -119,8 +121,8 @@ fn answer_to<'a>(error: Error) -> Result<Asked<'a>, WordFault<'a>>
 
 /// Reads a command line. The first word is the name of the program, and isn't looked at.
 ///
-/// Options may stand anywhere before `--`; behind it all words are arguments. Of an option that is given twice
-/// the last use counts.
+/// Options may stand anywhere before `--`; behind it all words are arguments. Of an option that is given
+/// twice the last use counts.
 ///
 /// # Errors
 ///

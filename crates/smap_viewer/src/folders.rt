@@ -28,8 +28,8 @@ fn has_map<E: Eprint + AllocGlobal, D: Disk>(
     }
 }
 
-/// The names of the scripts in a folder and below it that have a map, in byte order. `folder` ends in a slash. A
-/// folder without any is refused.
+/// The names of the scripts in a folder and below it that have a map, in byte order. `folder` ends in a
+/// slash. A folder without any is refused.
 pub(crate) fn scripts_in<E: Eprint + AllocGlobal, D: Disk>(
     host: &Host<'_, E, D>,
     base: Option<&str>,

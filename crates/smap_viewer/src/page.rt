@@ -87,8 +87,8 @@ pub(crate) fn data_of(alloc: Global, loaded: Loaded) -> Result<Data, AllocError>
     }
 }
 
-/// Writes an element of the page: its name, which has a number behind it but for the first script, and what is
-/// in it.
+/// Writes an element of the page: its name, which has a number behind it but for the first script, and what
+/// is in it.
 fn write_element<E: Eprint + AllocGlobal, D: Disk, W: Write>(
     host: &Host<'_, E, D>,
     name: &str,

@@ -236,9 +236,9 @@ fn answer<E: Eprint + AllocGlobal, D: Disk, W: Write>(
 
 /// Runs `smap-view`. The first word is the name of the program, by which its template is found where it has a
 /// folder. `on_terminal` says whether the output is a terminal, to which no page is written. Answers the exit
-/// status: 0 where it is done, 1 where a map is refused or sources have more bytes than the budget allows, 2 where
-/// the command line is wrong, or a map or a script isn't there, 3 where a file can't be read or written, 4 where
-/// memory ran out, 141 where nobody reads the output any more.
+/// status: 0 where it is done, 1 where a map is refused or sources have more bytes than the budget allows, 2
+/// where the command line is wrong, or a map or a script isn't there, 3 where a file can't be read or
+/// written, 4 where memory ran out, 141 where nobody reads the output any more.
 pub fn run<E: Eprint + AllocGlobal, D: Disk, W: Write>(
     rt: &E,
     disk: &D,

@@ -57,8 +57,8 @@ fn fail_missing<E: Eprint + AllocGlobal, D: Disk>(
     }
 }
 
-/// The path of a map's script: the file beside it that is called as the last part of its member `file`, or as the
-/// map without `.map`. So a map can't name any other file of this machine.
+/// The path of a map's script: the file beside it that is called as the last part of its member `file`, or as
+/// the map without `.map`. So a map can't name any other file of this machine.
 pub(crate) fn script_of<E: Eprint + AllocGlobal, D: Disk>(
     host: &Host<'_, E, D>,
     map_path: &str,

@@ -6,7 +6,7 @@ use Rattle.clap.proofs.OnLiterals.{clap_on_literals}
 use Rattle.smap_words.specs.Line.{trace}
 use Rattle.smap_words.specs.Readings.{argument_fault, is_prefix, prefix_meant}
 use Rattle.smap_words.specs.Request.{arguments_of, context_of, output_of, prefixes_of}
-use Rattle.smap_words.specs.Rows.{is_set}
+use Rattle.smap_matches.specs.Rows.{is_set}
 use Rattle.smap_words.specs.declared.argument.ArgumentFault.TheVariants as fault
 
 abbrev line : List Text → List Text

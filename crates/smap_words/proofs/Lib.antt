@@ -2,6 +2,5 @@ pub mod LineLemmas
 pub mod ListLemmas
 pub mod ReadingLemmas
 pub mod RequestLemmas
-pub mod RowLemmas
 pub mod SplitLemmas
 mod Examples

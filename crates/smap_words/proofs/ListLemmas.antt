@@ -1,33 +1,19 @@
--- Lists that grow along the texts that they are read from.
-use Rattle.std.proofs.Common.{◌≡◌, ◌∙◌, ◌+◌, ◌<◌, ℕ, zero, suc, Bool, true, false, Bor, List, [], ◌∷◌, ◌++◌}
-use Rattle.std.proofs.Common.{length, take, map, get_or, Some, ap, arith, refl, sym, slice_get}
+-- Tests of texts, one after the other.
+use Rattle.std.proofs.Common.{◌≡◌, ◌∙◌, ◌+◌, ◌<◌, ℕ, Bool, true, false, List, [], ◌∷◌, length, take}
+use Rattle.std.proofs.Common.{get_or, Some, ap, refl, sym}
 use Rattle.std.specs.List.{list_all}
-use Rattle.std.proofs.lemmas.List.{map-append, take_more}
 use Rattle.std.proofs.lemmas.List.Folds.{list_all-append}
+use Rattle.std.proofs.lemmas.Option.{slice_get-get_or}
 use Rattle.clap.specs.Words.{Text}
 use Rattle.smap_words.specs.Readings.{IsFirstFailing}
-
--- the text behind the reference at a place
-pub text_at : (words : List (Bor Text)) (i : ℕ) (d : Bor Text) → i < length words
-    → (get_or words i d).now ≡ get_or (map (λ w. w.now) words) i []
-text_at [] i d lt = absurd (omega (arith, lt))
-text_at (w ∷ words) zero d lt = refl
-text_at (w ∷ words) (suc i) d lt = text_at words i d (omega (arith, lt))
-
-got : (texts : List Text) (i : ℕ) → i < length texts → slice_get texts i ≡ Some (get_or texts i [])
-got [] i lt = absurd (omega (arith, lt))
-got (t ∷ texts) zero lt = refl
-got (t ∷ texts) (suc i) lt = got texts i (omega (arith, lt))
-
-next_text : (texts : List Text) (i : ℕ) (t : Text) → i < length texts → t ≡ get_or texts i []
-    → take (i + 1) texts ≡ take i texts ++ t ∷ []
-next_text texts i t lt at = take_more texts i [] lt ∙ ap (λ (u : Text). take i texts ++ u ∷ []) (sym at)
+use Rattle.smap_matches.proofs.TextLemmas.{next_text}
 
 -- the first text that doesn't pass
 pub first_failing : (test : Text → Bool) (texts : List Text) (i : ℕ) (t : Text) → i < length texts
     → t ≡ get_or texts i [] → test t ≡ false → list_all test (take i texts) ≡ true
     → IsFirstFailing test texts i t
-first_failing test texts i t lt at fails passed = (got texts i lt ∙ ap Some (sym at), fails, passed)
+first_failing test texts i t lt at fails passed =
+    (slice_get-get_or texts i [] lt ∙ ap Some (sym at), fails, passed)
 
 -- one text more passes
 pub passes_more : (test : Text → Bool) (texts : List Text) (i : ℕ) (t : Text) → i < length texts
@@ -36,12 +22,3 @@ pub passes_more : (test : Text → Bool) (texts : List Text) (i : ℕ) (t : Text
 passes_more test texts i t lt at passes passed =
     ap (list_all test) (next_text texts i t lt at) ∙ list_all-append test (take i texts) (t ∷ [])
     ∙ rw (passed, passes) refl
-
--- and one value more is read
-pub read_more : {A V : Type 0} (view : A → V) (meant : Text → V) (texts : List Text) (i : ℕ) (t : Text)
-    (xs new : List A) (x : A) → i < length texts → t ≡ get_or texts i [] → new ≡ xs ++ x ∷ []
-    → view x ≡ meant t → map view xs ≡ map meant (take i texts)
-    → map view new ≡ map meant (take (i + 1) texts)
-read_more view meant texts i t xs new x lt at grown same read =
-    ap (map view) grown ∙ map-append view xs (x ∷ []) ∙ (λ j. read j ++ same j ∷ [])
-    ∙ sym (map-append meant (take i texts) (t ∷ [])) ∙ ap (map meant) (sym (next_text texts i t lt at))

@@ -16,12 +16,14 @@ pub no_prefix : (word : Text) → has_equals word ≡ false → is_prefix word �
 no_prefix word e = rw e refl
 
 -- what stands before the `=` is empty
-pub unnamed : (word from : Text) → has_equals word ≡ true → from ≡ before_equals word → (length from == 0) ≡ true
+pub unnamed : (word from : Text) → has_equals word ≡ true → from ≡ before_equals word
+    → (length from == 0) ≡ true
     → is_prefix word ≡ false
 unnamed word from has is nothing = rw (has, ← is, nothing) refl
 
 -- or it isn't
-pub named : (word from : Text) → has_equals word ≡ true → from ≡ before_equals word → (length from == 0) ≡ false
+pub named : (word from : Text) → has_equals word ≡ true → from ≡ before_equals word
+    → (length from == 0) ≡ false
     → is_prefix word ≡ true
 named word from has is something = rw (has, ← is, something) refl
 

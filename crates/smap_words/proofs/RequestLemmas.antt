@@ -1,5 +1,6 @@
 -- The first fault of a command line, from those of its parts.
-use Rattle.std.proofs.Common.{◌≡◌, ◌∙◌, ◌<◌, ◌==◌, ◌&&◌, ℕ, Bool, Bor, List, [], Ok, Err, inl, inr, length, map, not}
+use Rattle.std.proofs.Common.{◌≡◌, ◌∙◌, ◌<◌, ◌==◌, ◌&&◌, ℕ, Bool, Bor, List, [], Ok, Err, inl, inr, length}
+use Rattle.std.proofs.Common.{map, not}
 use Rattle.std.proofs.Common.{take, get_or, true, refl, subst, sym}
 use Rattle.std.specs.Prelude.{IfErr, IfOk, Result, codes}
 use Rattle.std.specs.List.{list_all}
@@ -13,7 +14,7 @@ use Rattle.smap_words.specs.Readings.{IsArgumentAt, IsPrefixAt, is_argument, is_
 use Rattle.smap_words.specs.Request.{Answers, Asks, ContextPasses, Fails, IsArgumentFault, IsAsked, IsFault}
 use Rattle.smap_words.specs.Request.{IsPrefixFault, OutputPasses, PrefixesPass, arguments_of, asks_nothing}
 use Rattle.smap_words.specs.Request.{prefixes_of}
-use Rattle.smap_words.specs.Rows.{is_set}
+use Rattle.smap_matches.specs.Rows.{is_set}
 use Rattle.smap_words.specs.declared.request.Asked.{Asked}
 use Rattle.smap_words.specs.declared.request.Asked.TheVariants.{Help, Trace, Version}
 use Rattle.smap_words.specs.declared.request.TraceWords.{TraceWords}
@@ -39,8 +40,12 @@ argument_fails rows texts (fault.Refused e) is output context prefixes h = absur
 argument_fails rows texts fault.Output is output context prefixes h = absurd h
 argument_fails rows texts (fault.Context word) is output context prefixes h = absurd h
 argument_fails rows texts (fault.Prefix place word) is output context prefixes h = absurd h
-argument_fails rows texts (fault.Argument place word why) is output context prefixes h =
-    (output, context, prefixes, subst (λ (ts : List Text). IsArgumentFault ts (fault.Argument place word why)) is h)
+argument_fails rows texts (fault.Argument place word why) is output context prefixes h = (
+  output,
+  context,
+  prefixes,
+  subst (λ (ts : List Text). IsArgumentFault ts (fault.Argument place word why)) is h,
+)
 argument_fails rows texts fault.Nothing is output context prefixes h = absurd h
 
 -- a fault of what `clap` has matched is one of the words
@@ -64,7 +69,8 @@ request_told words rows asked none is h = (none, subst (λ (r : List Row). Asks 
 
 -- the fault of the word at a place is that of the first that is wrong
 pub prefix_fault : (texts : List Text) (i : ℕ) (t : Text) (e : WordFault) → i < length texts
-    → t ≡ get_or texts i [] → list_all is_prefix (take i texts) ≡ true → IsPrefixAt i t e → IsPrefixFault texts e
+    → t ≡ get_or texts i [] → list_all is_prefix (take i texts) ≡ true → IsPrefixAt i t e
+    → IsPrefixFault texts e
 prefix_fault texts i t fault.Memory lt at passed h = tt
 prefix_fault texts i t (fault.Refused e) lt at passed h = absurd h
 prefix_fault texts i t fault.Output lt at passed h = absurd h
@@ -98,10 +104,13 @@ nothing_asked rows words list is set = rw (← is, ← set, length-map words (λ
 
 -- ---- what is answered for an error of `clap`
 
-pub answered_ok : (words : List Text) (e : Error) (r : Result Asked WordFault) → HasKind (fault_of trace words) e
+pub answered_ok : (words : List Text) (e : Error) (r : Result Asked WordFault)
+    → HasKind (fault_of trace words) e
     → Answers (kind_of e) r → IfOk r (IsAsked words)
-answered_ok words e (Ok Help) (inl out) h = let bad : kind.OutOfMemory ≡ kind.DisplayHelp = sym out ∙ h in absurd cc
-answered_ok words e (Ok Help) (inr among) h = subst (λ (k : ErrorKind). IsAmong k (fault_of trace words)) h among
+answered_ok words e (Ok Help) (inl out) h =
+    let bad : kind.OutOfMemory ≡ kind.DisplayHelp = sym out ∙ h in absurd cc
+answered_ok words e (Ok Help) (inr among) h =
+    subst (λ (k : ErrorKind). IsAmong k (fault_of trace words)) h among
 answered_ok words e (Ok Version) (inl out) h =
     let bad : kind.OutOfMemory ≡ kind.DisplayVersion = sym out ∙ h in absurd cc
 answered_ok words e (Ok Version) (inr among) h =
@@ -109,7 +118,8 @@ answered_ok words e (Ok Version) (inr among) h =
 answered_ok words e (Ok (Trace asked)) has h = absurd h
 answered_ok words e (Err f) has h = tt
 
-pub answered_err : (words : List Text) (e : Error) (r : Result Asked WordFault) → HasKind (fault_of trace words) e
+pub answered_err : (words : List Text) (e : Error) (r : Result Asked WordFault)
+    → HasKind (fault_of trace words) e
     → Answers (kind_of e) r → IfErr r (IsFault words)
 answered_err words e (Ok asked) has h = tt
 answered_err words e (Err fault.Memory) has h = tt

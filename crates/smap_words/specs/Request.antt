@@ -9,7 +9,7 @@ use Rattle.smap_words.specs.Line.{trace}
 use Rattle.smap_words.specs.Readings.{HasCount, IsCount, IsCountOf, IsFirstFailing, argument_fault}
 use Rattle.smap_words.specs.Readings.{argument_meant, argument_view, is_argument, is_named}
 use Rattle.smap_words.specs.Readings.{is_prefix, prefix_meant, prefix_view}
-use Rattle.smap_words.specs.Rows.{is_set, values_of}
+use Rattle.smap_matches.specs.Rows.{is_set, values_of}
 use Rattle.smap_words.specs.declared.fault.WordFault.{WordFault}
 use Rattle.smap_words.specs.declared.fault.WordFault.TheVariants as fault
 use Rattle.smap_words.specs.declared.request.Asked.{Asked}

@@ -1,12 +1,11 @@
-//! The command line for `clap`, and the values in what it has matched.
-ghost use Rattle.std.specs.Prelude.{◌≡◌, IfOk, false, map, option_map};
-ghost use Rattle.clap.specs.Words.{app_of, first_of, found_of, rows_of, rule_of, with_rule};
+//! The command line for `clap`.
+ghost use Rattle.std.specs.Prelude.{◌≡◌, IfOk, false};
+ghost use Rattle.clap.specs.Words.{app_of, rule_of, with_rule};
 ghost use Rattle.clap.specs.declared.builder.command.Command.TheViews.{out-Command as fields_of};
 ghost use Rattle.smap_words.specs.Line as line;
-ghost use Rattle.smap_words.specs.Rows as spec;
 
 use crate::usage::{HELP, NUMBER};
-use clap::{Arg, ArgAction, ArgMatches, Command};
+use clap::{Arg, ArgAction, Command};
 use std::alloc::{AllocError, Global};
 
 /// A flag without a value.
@@ -139,33 +138,4 @@ pub(crate) fn trace_command<'a>(alloc: Global) -> Result<Command<'a>, AllocError
     let command = with_map_flags(alloc, command)?;
     let command = with_options(alloc, command)?;
     with_lists(alloc, command)
-}
-
-/// Whether a flag is set.
-pub(crate) fn is_set(matches: &ArgMatches<'_>, id: &str) -> bool
-    ensures { result ≡ spec.is_set id.now (rows_of (found_of matches.now)) }
-{
-    matches.get_one::<bool>(id).unwrap_or(false)
-}
-
-/// The value of an option.
-pub(crate) fn text_in<'a>(matches: &ArgMatches<'a>, id: &str) -> Option<&'a str>
-    ensures { option_map (λ s. s.now) result ≡ first_of id.now (rows_of (found_of matches.now)) }
-{
-    matches.get_str(id)
-}
-
-/// The values of all uses, in the order of the words.
-pub(crate) fn texts_in<'a>(
-    alloc: Global,
-    matches: &ArgMatches<'a>,
-    id: &str,
-) -> Result<Vec<&'a str>, AllocError>
-    ensures { IfOk result (λ texts.
-        map (λ s. s.now) texts.items ≡ spec.values_of id.now (rows_of (found_of matches.now))) }
-{
-    match matches.get_strs(id) {
-        Some(texts) => Vec::from_slice(alloc, texts),
-        None => Ok(Vec::new(alloc)),
-    }
 }

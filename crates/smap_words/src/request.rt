@@ -4,11 +4,12 @@ ghost use Rattle.clap.specs.Words.{found_of, kind_of, rows_of};
 ghost use Rattle.smap_words.specs.Request.{Answers, Asks, Fails, IsAsked, IsFault};
 
 use crate::argument::{Argument, arguments_in};
-use crate::command::{is_set, texts_in, trace_command};
+use crate::command::trace_command;
 use crate::fault::WordFault;
 use crate::values::{Prefix, context_in, output_in, prefixes_in};
 use clap::error::ErrorKind;
 use clap::{ArgMatches, Error};
+use smap_matches::{is_set, texts_in};
 use std::alloc::Global;
 
 /// The values of a command line.

@@ -1,5 +1,6 @@
 //! The ways to read an argument `URL=FILE[=BASE]`, in which each part may hold a `=`.
-ghost use Rattle.std.specs.Prelude.{◌≡◌, ◌≢◌, ◌+◌, ◌<◌, ◌≤◌, ℕ, MatchOption, length, option_copied, option_map};
+ghost use Rattle.std.specs.Prelude.{◌≡◌, ◌≢◌, ◌+◌, ◌<◌, ◌≤◌, ℕ, MatchOption, length, option_copied};
+ghost use Rattle.std.specs.Prelude.{option_map};
 ghost use Rattle.std.specs.Prelude.{drop, slice_index, slice_range, take};
 ghost use Rattle.smap_words.specs.Order.{IsSplit};
 ghost use Rattle.smap_words.specs.Splits as spec;

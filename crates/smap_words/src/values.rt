@@ -1,5 +1,6 @@
 //! The values of options.
-ghost use Rattle.std.specs.Prelude.{◌≡◌, IfErr, IfOk, MatchOption, OnOk, false, length, map, option_map, true};
+ghost use Rattle.std.specs.Prelude.{◌≡◌, IfErr, IfOk, MatchOption, OnOk, false, length, map, option_map};
+ghost use Rattle.std.specs.Prelude.{true};
 ghost use Rattle.std.specs.List.{list_all};
 ghost use Rattle.std.specs.Option.{SomeIff};
 ghost use Rattle.clap.specs.Words.{found_of, rows_of};
@@ -7,9 +8,9 @@ ghost use Rattle.smap_words.specs.Readings as spec;
 ghost use Rattle.smap_words.specs.Request.{ContextPasses, Fails, IsPrefixFault, OutputPasses};
 ghost use Rattle.smap_words.specs.Request.{context_of, output_of};
 
-use crate::command::text_in;
 use crate::fault::WordFault;
 use clap::ArgMatches;
+use smap_matches::text_in;
 use std::alloc::Global;
 
 /// How source URLs are written: `from` at the start of one becomes `to`.

@@ -14,7 +14,8 @@ loop-preserved g c =
     let way = c.in-Some.way in
     let before = tried told held c.args.word.now c.loop.split way c.in-Some.is c.loop.invariant in
     none_before_next told held c.args.word.now way c.following-split.result before
-    (not_there told held c.args.word.now way c.file.result.now before.0 c.file.ensures c.in_default-kind_of.ensures)
+    (not_there told held c.args.word.now way c.file.result.now before.0 c.file.ensures
+    c.in_default-kind_of.ensures)
     c.following-split.ensures
 
 pub returns-in-Some-kind_of-clause-word : goal.returns-in-Some-kind_of-clause-word
@@ -27,5 +28,5 @@ returns-in-Some-kind_of-clause-first g c =
     let told = g.D.Disk.tree c.args.host.now.disk.now in
     let held = g.D.Disk.held c.args.host.now.disk.now in
     let before = tried told held c.args.word.now c.loop.split c.in-Some.way c.in-Some.is c.loop.invariant in
-    first_there told held c.args.word.now c.in-Some-kind_of.kind c.in-Some.way c.file.result.now before c.file.ensures
-    c.in-Some-kind_of.ensures
+    first_there told held c.args.word.now c.in-Some-kind_of.kind c.in-Some.way c.file.result.now before
+    c.file.ensures c.in-Some-kind_of.ensures

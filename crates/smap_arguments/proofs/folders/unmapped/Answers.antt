@@ -12,7 +12,8 @@ loop-i-preserved c =
     let name = string_bytes c.index-names-i.result in
     let at : slice_get c.args.names.now c.loop-i.i ≡ Some c.index-names-i.result = search
     (rules, slice_get_read) in
-    made_more (λ n. not (has_own_map names n)) names c.loop-i.i name c.loop-i.flags.items c.push.new.self.items _
+    made_more (λ n. not (has_own_map names n)) names c.loop-i.i name c.loop-i.flags.items
+    c.push.new.self.items _
     (not c.contains.result) (text_at c.args.names.now c.loop-i.i c.index-names-i.result at)
     (ap not (c.contains.ensures ∙ ap (λ
     (text : List ℕ). holds c.in_ok-mapped.mapped.keys text) c.as_bytes.ensures.value

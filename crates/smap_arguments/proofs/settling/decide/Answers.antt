@@ -14,8 +14,8 @@ use Rattle.smap_arguments.proofs.settling.decide.Goals as goal
 
 pub loop-i-init : goal.loop-i-init
 loop-i-init c =
-    none_decided (zip (places_in c.args.places.now) c.args.origins.now) c.new-kept.result.items c.new-seen.result.keys
-    c.new-repeated.result.items c.new-kept.ensures.items
+    none_decided (zip (places_in c.args.places.now) c.args.origins.now) c.new-kept.result.items
+    c.new-seen.result.keys c.new-repeated.result.items c.new-kept.ensures.items
     (nil_from_length c.new-seen.result.keys c.new-seen.ensures.len)
     c.new-repeated.ensures.items
 
@@ -29,8 +29,8 @@ pub loop-i-preserved-then-gives_way : goal.loop-i-preserved-then-gives_way
 loop-i-preserved-then-gives_way c =
     let ns = zip (places_in c.args.places.now) c.args.origins.now in
     let n : Named = (place_in c.in-Some.place.now, c.in-Some.origin) in
-    decided_gone ns c.loop-i.i c.loop-i.kept.items c.push.new.self.items c.loop-i.seen.keys c.loop-i.repeated.items n
-    (sym c.in-Some.ensures) c.loop-i.invariant c.in_ok-push.ensures.items
+    decided_gone ns c.loop-i.i c.loop-i.kept.items c.push.new.self.items c.loop-i.seen.keys
+    c.loop-i.repeated.items n (sym c.in-Some.ensures) c.loop-i.invariant c.in_ok-push.ensures.items
     (sym (c.gives_way.ensures ns c.in_ok-mapped.ensures) ∙ c.if-gives_way.true)
 
 pub loop-i-preserved-then-branch : goal.loop-i-preserved-then-branch

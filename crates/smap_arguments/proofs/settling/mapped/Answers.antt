@@ -24,7 +24,8 @@ loop-i-preserved c =
     mapped_added (zip (places_in c.args.places.now) c.args.origins.now) c.loop-i.i c.loop-i.mapped.keys
     c.add_text.new.texts.keys (place_in c.in-Some.place.now, c.in-Some.origin) (sym c.in-Some.ensures)
     (sym c.may_link.ensures ∙ c.if-may_link.false) (λ other. c.in_ok-add_text.ensures.added other
-    ∙ ap (λ (text : List ℕ). holds c.loop-i.mapped.keys other || bytes_eq other text) c.as_slice.ensures.value)
+    ∙ ap (λ (text : List ℕ). holds c.loop-i.mapped.keys other || bytes_eq other text)
+    c.as_slice.ensures.value)
     c.loop-i.invariant
 
 pub returns : goal.returns

@@ -11,7 +11,8 @@ use Rattle.smap_arguments.proofs.settling.settle.Given.{Over}
 pub returns-clause-settled : goal.returns-clause-settled
 returns-clause-settled g c = always_ok c.end_if_repeated.result
     (settled c.args.wanted.now c.leave_kept.new.wanted
-    c.put_maps_first.new.wanted c.as_slice.result.now c.as_slice-2.result.now c.in_ok-decided.decided.kept.items
+    c.put_maps_first.new.wanted c.as_slice.result.now c.as_slice-2.result.now
+    c.in_ok-decided.decided.kept.items
     c.deref-2.result.now c.as_slice.ensures.value c.as_slice-2.ensures.value c.in_ok-decided.ensures.count
     c.in_ok-decided.ensures.kept c.deref-2.ensures.value c.in_ok-leave_kept.ensures.places
     c.in_ok-leave_kept.ensures.origins c.in_ok-leave_kept.ensures.others c.in_ok-put_maps_first.ensures.files
@@ -22,8 +23,8 @@ are_repeated : (g : Over) (c : After-drop-decided-3 g) → not c.is_empty.result
     (named_in c.args.wanted.now)
 are_repeated g c =
     let none : c.is_empty.result ≡ (length c.in_ok-decided.decided.repeated.items == 0) = search rules in
-    repeated_is (zip (places_in c.as_slice.result.now) c.as_slice-2.result.now) c.in_ok-decided.decided.repeated.items
-    c.is_empty.result c.in_ok-decided.ensures.repeated none
+    repeated_is (zip (places_in c.as_slice.result.now) c.as_slice-2.result.now)
+    c.in_ok-decided.decided.repeated.items c.is_empty.result c.in_ok-decided.ensures.repeated none
     ∙ ap has_repeated (same_named c.args.wanted.now c.as_slice.result.now c.as_slice-2.result.now
     c.as_slice.ensures.value c.as_slice-2.ensures.value)
 

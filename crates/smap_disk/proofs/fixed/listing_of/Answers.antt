@@ -8,7 +8,8 @@ use Rattle.smap_disk.proofs.fixed.listing_of.Goals as goal
 
 pub loop-i-preserved : goal.loop-i-preserved
 loop-i-preserved c =
-    mapped_more entry_in spec.entry_of c.loop-i.listed.items c.push.new.self.items c.args.entries.now c.loop-i.i
+    mapped_more entry_in spec.entry_of c.loop-i.listed.items c.push.new.self.items c.args.entries.now
+    c.loop-i.i
     c.in_ok-entry_of.field-0 _ (slice_get-get_or c.args.entries.now c.loop-i.i _ c.loop-i-test.true)
     c.in_ok-push.ensures.items c.in_ok-entry_of.ensures c.loop-i.invariant
 

@@ -12,7 +12,8 @@ loop-c-preserved c =
 pub returns : goal.returns
 returns c =
     let done = YieldsList-end
-    (YieldsList-from_chars c.args.text.now c.utf8.text cc) c.loop-c.yielded _ c.loop-c.yielded_by _ _ c.in-None.is c.next.ensures.steps in
+    (YieldsList-from_chars c.args.text.now c.utf8.text cc) c.loop-c.yielded _ c.loop-c.yielded_by _ _
+    c.in-None.is c.next.ensures.steps in
     let bytes : string_bytes c.loop-c.made ≡ safe_text (chars c.args.text.now) =
     c.loop-c.invariant ∙ ap safe_text (sym (map-id c.loop-c.yielded) ∙ done.0) in
     bytes

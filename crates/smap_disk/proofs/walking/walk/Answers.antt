@@ -36,7 +36,8 @@ loop-number-preserved g c =
       λ t is. walked_more t c.args.folder.now (has_ending c.args.endings.now) c.loop-number.number
           (texts state.folders.items)
           (texts state.names.items) _ _ f es at
-          (entries_listed (g.D.Disk.tree c.args.disk.now) t _ c.in_ok-listing.listing is c.in_ok-listing.ensures)
+          (entries_listed (g.D.Disk.tree c.args.disk.now) t _ c.in_ok-listing.listing is
+          c.in_ok-listing.ensures)
           (c.in_ok-add_all.ensures.folders ∙ ap (λ d. texts state.folders.items ++ folders_in d es) same)
           (c.in_ok-add_all.ensures.files t is ∙ ap (λ d. texts state.names.items
           ++ files_in t c.args.folder.now (has_ending c.args.endings.now) d es) same)

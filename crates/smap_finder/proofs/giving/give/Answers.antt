@@ -8,7 +8,8 @@ pub returns-in_err-link-clause-chosen : goal.returns-in_err-link-clause-chosen
 returns-in_err-link-clause-chosen g c =
     let held = g.D.Disk.held c.args.store.now.disk.now in
     let w = c.args.wanted.now in
-    (c.link.ensures.chosen held w (subst (AreChosen held w) (sym c.tell_pick.ensures) c.in_ok-number.ensures.chosen)
+    (c.link.ensures.chosen held w
+    (subst (AreChosen held w) (sym c.tell_pick.ensures) c.in_ok-number.ensures.chosen)
     c.requires.picked (subst (λ (d : Choices). IsNumberOf d c.args.pick.now.name.now c.args.pick.now.found
     c.in_ok-number.number) (sym c.tell_pick.ensures) c.in_ok-number.ensures.number)).0
 
@@ -20,7 +21,8 @@ pub returns-clause-chosen : goal.returns-clause-chosen
 returns-clause-chosen g c =
     let held = g.D.Disk.held c.args.store.now.disk.now in
     let w = c.args.wanted.now in
-    (c.link.ensures.chosen held w (subst (AreChosen held w) (sym c.tell_pick.ensures) c.in_ok-number.ensures.chosen)
+    (c.link.ensures.chosen held w
+    (subst (AreChosen held w) (sym c.tell_pick.ensures) c.in_ok-number.ensures.chosen)
     c.requires.picked (subst (λ (d : Choices). IsNumberOf d c.args.pick.now.name.now c.args.pick.now.found
     c.in_ok-number.number) (sym c.tell_pick.ensures) c.in_ok-number.ensures.number)).0
 

@@ -26,13 +26,14 @@ loop-i-preserved g c =
       chosen = subst (λ (h : Held). AreChosen h w after) was.held c.give.ensures.chosen;
       grows = grows_on _ _ _ was.grows c.give.ensures.grows;
       ends = one_kept held w frames picks c.loop-i.i d _ _ _ c.loop-i-test.true c.requires.picked was.ends
-          (subst (λ (h : Held). KeepsEnds h w (get_or picks c.loop-i.i d).name.now (get_or picks c.loop-i.i d).found
-          (choices_of c.loop-i.chosen) after) was.held c.give.ensures.ends);
+          (subst (λ (h : Held). KeepsEnds h w (get_or picks c.loop-i.i d).name.now
+          (get_or picks c.loop-i.i d).found (choices_of c.loop-i.chosen) after) was.held c.give.ensures.ends);
       held = c.give.ensures.held ∙ was.held;
     }
 
 pub returns-clause-settled : goal.returns-clause-settled
-returns-clause-settled g c = rw (take_all c.loop-i.i c.args.picks.now c.loop-i-test.false) at c.loop-i.invariant.settled
+returns-clause-settled g c =
+    rw (take_all c.loop-i.i c.args.picks.now c.loop-i-test.false) at c.loop-i.invariant.settled
 
 pub returns-in_err-give-clause-ends : goal.returns-in_err-give-clause-ends
 returns-in_err-give-clause-ends g c =

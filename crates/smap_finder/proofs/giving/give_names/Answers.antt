@@ -15,7 +15,8 @@ returns-clause-settled g c =
     let Is = IsSettledIn (g.D.Disk.held c.args.host.now.disk.now) w frames after in
     let name_of = λ (p : Pick). p.name.now in
     let settled : OnOk c.give_all.result (All (λ (p : Pick). Is p.name.now) c.in_ok-picks.picks.items) =
-    subst (λ (l : List Pick). OnOk c.give_all.result (All (λ (p : Pick). Is p.name.now) l)) c.deref.ensures.value
+    subst (λ (l : List Pick). OnOk c.give_all.result (All (λ (p : Pick). Is p.name.now) l))
+    c.deref.ensures.value
     (subst (λ (h : Held). OnOk c.give_all.result (All (λ (p : Pick). IsSettledIn h w frames after p.name.now)
     c.deref.result.now)) c.requires.over.held_is c.give_all.ensures.settled) in
     on_ok c.give_all.result (λ all. subst (All Is) c.in_ok-picks.ensures.picked.named

@@ -23,7 +23,8 @@ returns-in_default-map_at-clause-chosen c = λ held wanted chosen picked (o, ser
           (none_at c.map_at.result o.map (c.map_at.ensures o served.0) c.in_default-map_at.not-Some),
     ) in (
       c.note_left-in_default-map_at.ensures.chosen held wanted left chosen,
-      always_ok c.note_left-in_default-map_at.result (inr (c.note_left-in_default-map_at.ensures.left held wanted left)),
+      always_ok c.note_left-in_default-map_at.result
+          (inr (c.note_left-in_default-map_at.ensures.left held wanted left)),
     )
 
 pub returns-clause-chosen : goal.returns-clause-chosen
@@ -33,7 +34,8 @@ returns-clause-chosen c = λ held wanted chosen picked (o, served).
     let own : IsPicked held wanted c.args.in_frames name c.args.pick.now.found = rw (sym same) at picked in
     let by : IsServedBy (choices_of c.args.chosen.now) c.args.number name c.args.pick.now.found o =
     rw (sym same) at served in
-    let map_is : o.map ≡ Some c.in-Some.field-0.now = sym (rw c.in-Some.is at (c.map_at.ensures o served.0)) in (
+    let map_is : o.map ≡ Some c.in-Some.field-0.now =
+    sym (rw c.in-Some.is at (c.map_at.ensures o served.0)) in (
       c.note_mapped.ensures.chosen held wanted c.args.in_frames own chosen,
       on_ok c.note_mapped.result (λ has. inl (
         c.in-Some.field-0.now,

@@ -10,7 +10,8 @@ returns-in_err-map-clause-chosen g c =
 
 pub returns-in_err-number-clause-chosen : goal.returns-in_err-number-clause-chosen
 returns-in_err-number-clause-chosen g c =
-    c.note_opening.ensures.chosen (g.D.Disk.held c.args.store.now.disk.now) c.args.wanted.now c.in_ok-map.ensures.tried
+    c.note_opening.ensures.chosen (g.D.Disk.held c.args.store.now.disk.now) c.args.wanted.now
+    c.in_ok-map.ensures.tried
     (chosen_worse _ _ (choices_of c.args.chosen.now) c.opened_under.new.worst c.opened_under.ensures.worst
     c.requires.chosen)
 
@@ -49,8 +50,8 @@ returns-in_err-note_end-clause-chosen g c =
     c.requires.chosen))
 
 pub returns-in_err-note_end-clause-ends : goal.returns-in_err-note_end-clause-ends
-returns-in_err-note_end-clause-ends g c = then_keeps (g.D.Disk.held c.args.store.now.disk.now) c.args.wanted.now
-    c.args.pick.now.name.now c.args.pick.now.found _ _ _ c.note_opening.ensures.ends
+returns-in_err-note_end-clause-ends g c = then_keeps (g.D.Disk.held c.args.store.now.disk.now)
+    c.args.wanted.now c.args.pick.now.name.now c.args.pick.now.found _ _ _ c.note_opening.ensures.ends
     (c.note_end.ensures.ends (g.D.Disk.held c.args.store.now.disk.now) c.args.wanted.now)
 
 pub returns-clause-ends : goal.returns-clause-ends

@@ -10,10 +10,12 @@ use Rattle.smap_finder.proofs.giving.unknown.Goals as goal
 pub loop-i-preserved-then-is_known : goal.loop-i-preserved-then-is_known
 loop-i-preserved-then-is_known c = record {
   each = λ held wanted chosen.
-      let IsOne = λ (n : Bor (List ℕ)). IsSettledIn held wanted c.args.in_frames (choices_of c.args.chosen.now) n.now
+      let IsOne =
+      λ (n : Bor (List ℕ)). IsSettledIn held wanted c.args.in_frames (choices_of c.args.chosen.now) n.now
       ⊎ Contains (map (λ (f : Bor (List ℕ)). f.now) c.loop-i.unknown.items) n.now in
       All-more IsOne c.args.names.now c.loop-i.i (record { ref_ptr = (0, 0); now = [] }) c.loop-i-test.true
-      (c.loop-i.invariant.each held wanted chosen) (inl (c.is_known.ensures held wanted chosen c.if-is_known.true));
+      (c.loop-i.invariant.each held wanted chosen)
+      (inl (c.is_known.ensures held wanted chosen c.if-is_known.true));
   among = c.loop-i.invariant.among;
 }
 
@@ -44,4 +46,5 @@ loop-i-preserved c =
 
 pub returns-clause-each : goal.returns-clause-each
 returns-clause-each c = λ held wanted chosen.
-    rw (take_all c.loop-i.i c.args.names.now c.loop-i-test.false) at (c.loop-i.invariant.each held wanted chosen)
+    rw (take_all c.loop-i.i c.args.names.now c.loop-i-test.false) at
+    (c.loop-i.invariant.each held wanted chosen)

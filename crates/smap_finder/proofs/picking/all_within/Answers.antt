@@ -12,7 +12,11 @@ loop-i-preserved c = λ held wanted are.
     subst (ArePicksOf Is (take (c.loop-i.i + 1) (map name_of picks))) (sym c.in_ok-push.ensures.items)
     (one_more Is name_of picks c.loop-i.i c.loop-i.all.items _ _ (c.loop-i.invariant held wanted are)
     c.loop-i-test.true refl
-    (record { choice = _; is_choice = are c.loop-i.i _ c.loop-i-test.true; found_is = c.within_ends-found.ensures }))
+    (record {
+      choice = _;
+      is_choice = are c.loop-i.i _ c.loop-i-test.true;
+      found_is = c.within_ends-found.ensures;
+    }))
 
 pub returns : goal.returns
 returns c = λ held wanted are. all_of (IsPickedBy held wanted c.args.in_frames) (λ (p : Pick). p.name.now)

@@ -25,12 +25,14 @@ returns-in-File g c = λ same.
     (followed.File c.in-File.found) =
     rw c.deref-5.ensures.value at (rw c.root_of.ensures at (rw c.in-File.is at c.in_ok-found.ensures)) in
     let taken : IsFollowed (folder_for root place) place text (followed.File c.in-File.found) =
-    subst (λ (p : MapPlace). IsFollowed (folder_for root p) p text (followed.File c.in-File.found)) own seen in
+    subst (λ (p : MapPlace). IsFollowed (folder_for root p) p text (followed.File c.in-File.found)) own
+    seen in
     let other : c.in-File.found.file.items ≡ c.in-Some-Some.map.now.items =
     c.is_file.ensures same ∙ c.deref-in-File.ensures.value in
     record {
       script_name = file;
-      script_is = file_at c.args.wanted.now c.args.script c.in-Some-Some.file.now (search (rules, slice_get_read));
+      script_is =
+          file_at c.args.wanted.now c.args.script c.in-Some-Some.file.now (search (rules, slice_get_read));
       file_name = c.in-Some-Some.map.now.items;
       file_is = file_at c.args.wanted.now c.args.map c.in-Some-Some.map.now (search (rules, slice_get_read));
       names = names_map held root place text _ c.in-File.found is_held taken other;

@@ -8,5 +8,6 @@ returns-clause-picked g c =
     let w = c.args.wanted.now in
     let choices = c.in_ok-picks-2.ensures.picked in
     let picked = c.in_ok-all_within.ensures held w (rw (sym c.deref-3.ensures.value) at choices.each) in
-    subst (λ (names : List (List ℕ)). ArePicked held w c.args.in_frames names c.in_ok-all_within.field-0.items)
+    subst
+    (λ (names : List (List ℕ)). ArePicked held w c.args.in_frames names c.in_ok-all_within.field-0.items)
     choices.named (rw c.deref-3.ensures.value at picked)

@@ -4,8 +4,8 @@ use Rattle.smap_finder.proofs.ChoiceLemmas.{found_at, one_more}
 use Rattle.smap_finder.proofs.picking.settle_each.Goals as goal
 
 pub settled_found-requires-clause-found : goal.settled_found-requires-clause-found
-settled_found-requires-clause-found g c = found_at c.args.wanted.now (files_of c.args.wanted.now) c.args.names.now
-    c.args.picks.now c.loop-i.i _ _ c.requires.picks c.loop-i-test.true
+settled_found-requires-clause-found g c = found_at c.args.wanted.now (files_of c.args.wanted.now)
+    c.args.names.now c.args.picks.now c.loop-i.i _ _ c.requires.picks c.loop-i-test.true
 
 pub settled_found-requires-clause-script : goal.settled_found-requires-clause-script
 settled_found-requires-clause-script g c = found_at c.args.wanted.now (script_files_of c.args.wanted.now)
@@ -21,5 +21,5 @@ loop-i-preserved g c =
     let name_of = λ (n : Bor (List ℕ)). n.now in
     let names = c.args.names.now in
     subst (ArePicksOf Is (take (c.loop-i.i + 1) (map name_of names))) (sym c.in_ok-push.ensures.items)
-    (one_more Is name_of names c.loop-i.i c.loop-i.settled.items _ _ c.loop-i.invariant c.loop-i-test.true refl
-    c.in_ok-found.ensures)
+    (one_more Is name_of names c.loop-i.i c.loop-i.settled.items _ _ c.loop-i.invariant c.loop-i-test.true
+    refl c.in_ok-found.ensures)

@@ -1,6 +1,7 @@
 use Rattle.std.proofs.Common.{◌∙◌, ◌<◌, ◌-◌, ℕ, List, ap, arith, sym}
 use Rattle.smap_lines.specs.Beginnings.{starts_below}
-use Rattle.smap_lines.proofs.BeginningLemmas.{extended, extended_none, extended_one, starts_end, starts_none, starts_one, starts_stopped}
+use Rattle.smap_lines.proofs.BeginningLemmas.{extended, extended_none, extended_one, starts_end, starts_none}
+use Rattle.smap_lines.proofs.BeginningLemmas.{starts_one, starts_stopped}
 use Rattle.smap_lines.proofs.beginnings.beginnings_of.Goals as goal
 
 pub loop-start-preserved-then-may_begin_behind : goal.loop-start-preserved-then-may_begin_behind
@@ -12,8 +13,8 @@ loop-start-preserved-then-may_begin_behind c =
     let with = c.with-found.ensures in
     record {
       before = with.before c.args.end (omega arith) c.loop-start.invariant.before;
-      all = extended_one line c.args.end c.loop-start.found c.with-found.result (n - 1) (starts_below line low (n - 1))
-          with.nearest with.scheme with.root with.farthest
+      all = extended_one line c.args.end c.loop-start.found c.with-found.result (n - 1)
+          (starts_below line low (n - 1)) with.nearest with.scheme with.root with.farthest
           ∙ ap (λ (ss : List ℕ). extended line c.args.end c.loop-start.found ss)
           (sym (starts_one line low n some
           (sym c.ends_url.ensures ∙ c.if-ends_url.false)

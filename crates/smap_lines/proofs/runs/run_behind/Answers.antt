@@ -13,7 +13,8 @@ loop-preserved c =
     let new = place c.loop.before c.in-Some.end in
     let alone : Run → Type 0 = λ r. r.first ≡ None → r.last ≡ None in
     record {
-      run = c.with-run.ensures.run (length line) (omega (arith, c.in-Some.ensures.within.0), c.in-Some.ensures.within.1) c.loop.invariant.run;
+      run = c.with-run.ensures.run (length line)
+          (omega (arith, c.in-Some.ensures.within.0), c.in-Some.ensures.within.1) c.loop.invariant.run;
       before = omega (arith, c.in-Some.ensures.within.0, c.with-run.ensures.end);
       begun = omega (arith, c.in-Some.ensures.within.0, c.with-run.ensures.end);
       alone = subst alone (sym c.with-run.ensures.value) (with_alone c.loop.run.first new);

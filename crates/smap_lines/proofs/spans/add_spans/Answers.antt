@@ -1,4 +1,5 @@
-use Rattle.std.proofs.Common.{◌≡◌, ◌∙◌, ◌++◌, ◌+◌, ◌-◌, ◌<◌, List, length, suc, ap, sym, append_assoc, append-nil, arith}
+use Rattle.std.proofs.Common.{◌≡◌, ◌∙◌, ◌++◌, ◌+◌, ◌-◌, ◌<◌, List, length, suc, ap, sym, append_assoc}
+use Rattle.std.proofs.Common.{append-nil, arith}
 use Rattle.smap_lines.specs.Spans.{spans_from, spans_of}
 use Rattle.smap_lines.specs.declared.spans.Span.{Span}
 use Rattle.smap_lines.proofs.SpanLemmas.{adds_trans, spans_byte, spans_end, spans_run}
@@ -19,15 +20,18 @@ loop-preserved c =
           let run = w.in-Some.run' in
           rw (w.spans-is, w.at-is) (record {
             within = adds_trans c.loop.invariant.within w.add_spans_of.ensures.within;
-            all = ap (λ (xs : List Span). xs ++ spans_from m line run.end) w.in_ok-add_spans_of-in-Some.ensures.ok
+            all = ap (λ (xs : List Span). xs ++ spans_from m line run.end)
+                w.in_ok-add_spans_of-in-Some.ensures.ok
                 ∙ append_assoc front (spans_of line run) (spans_from m line run.end)
-                ∙ ap (λ (xs : List Span). front ++ xs) (sym (spans_run line n m at more low run (sym w.in-Some.ensures.value)))
+                ∙ ap (λ (xs : List Span). front ++ xs)
+                (sym (spans_run line n m at more low run (sym w.in-Some.ensures.value)))
                 ∙ c.loop.invariant.all;
           })
       | in-None w ↦
           rw (w.spans-is, w.at-is) (record {
             within = c.loop.invariant.within;
-            all = ap (λ (xs : List Span). front ++ xs) (sym (spans_byte line n m at more low (sym w.in-None.ensures.value)))
+            all = ap (λ (xs : List Span). front ++ xs)
+                (sym (spans_byte line n m at more low (sym w.in-None.ensures.value)))
                 ∙ c.loop.invariant.all;
           })
     ]

@@ -11,10 +11,12 @@ returns-clause-ok c =
     ∙ ap (λ (f : Beginnings). c.args.spans.now.items ++ (span_if c.args.place f.nearest []
     ++ (span_if c.args.place f.scheme (f.nearest ∷ [])
     ++ (span_if c.args.place f.root (f.nearest ∷ f.scheme ∷ [])
-    ++ span_if c.args.place f.farthest (f.nearest ∷ f.scheme ∷ f.root ∷ []))))) c.beginnings_of-found.ensures.value
+    ++ span_if c.args.place f.farthest (f.nearest ∷ f.scheme ∷ f.root ∷ [])))))
+    c.beginnings_of-found.ensures.value
 
 pub returns-clause-within : goal.returns-clause-within
-returns-clause-within c = adds_trans (adds_trans (adds_trans c.add_span.ensures.within c.add_span-2.ensures.within)
+returns-clause-within c =
+    adds_trans (adds_trans (adds_trans c.add_span.ensures.within c.add_span-2.ensures.within)
     c.add_span-3.ensures.within) c.add_span-4.ensures.within
 
 pub returns-in_err-add_span-4-clause-within : goal.returns-in_err-add_span-4-clause-within

@@ -20,7 +20,9 @@ loop-i-preserved c =
       c.in_ok-script.ensures.table scripts c.loop-i.invariant.0,
       ap (λ (l : List _). l ++ rest) (c.in_ok-add_choice.ensures
           ∙ ap (λ o. c.loop-i.found.items ++ spec.choice_at i o) script)
-          ∙ append_assoc c.loop-i.found.items (spec.choice_at i (spec.meant m scripts (get_or names i []))) rest
-          ∙ ap (λ l. c.loop-i.found.items ++ spec.choices_from m scripts i l) (sym (drop_more names i [] some))
+          ∙ append_assoc c.loop-i.found.items (spec.choice_at i (spec.meant m scripts (get_or names i [])))
+          rest
+          ∙ ap (λ l. c.loop-i.found.items ++ spec.choices_from m scripts i l)
+          (sym (drop_more names i [] some))
           ∙ c.loop-i.invariant.1,
     )

@@ -12,7 +12,8 @@ loop-i-preserved c =
     let names = map {A = Vec ℕ} {B = List ℕ} (λ p. p.items) c.args.paths.now in
     let i = c.loop-i.i in
     let one = subst (λ (p : List ℕ). IsMostAlike p names c.most_alike_in.result)
-    (c.deref.ensures.value ∙ ap (λ (v : Vec ℕ). v.items) c.index-wanted-i.is ∙ item_at c.args.wanted.now i _ c.loop-i-test.true) c.most_alike_in.ensures in (
+    (c.deref.ensures.value ∙ ap (λ (v : Vec ℕ). v.items) c.index-wanted-i.is
+    ∙ item_at c.args.wanted.now i _ c.loop-i-test.true) c.most_alike_in.ensures in (
       omega (arith, c.in_ok-push.ensures.len, c.loop-i.invariant.0),
       subst (λ (l : List Likeness). (k : ℕ) → k < i + 1
           → IsMostAlike (get_or wanted k []) names (get_or l k Unlike)) (sym c.in_ok-push.ensures.items)

@@ -1,4 +1,5 @@
-use Rattle.std.proofs.Common.{◌≡◌, ◌∙◌, ◌+◌, ℕ, List, [], ap, sym, subst, map, get_or, cond, bytes_eq, Some, arith}
+use Rattle.std.proofs.Common.{◌≡◌, ◌∙◌, ◌+◌, ℕ, List, [], ap, sym, subst, map, get_or, cond, bytes_eq, Some}
+use Rattle.std.proofs.Common.{arith}
 use Rattle.std.specs.Global.{Vec}
 use Rattle.smap_link.specs.Endings.{HasEarlier, IsLatest, last_segment}
 use Rattle.smap_link.specs.Table.{place_in, rows_of}

@@ -36,10 +36,12 @@ paths-preserved c =
     let earlier = c.args.endings.now.earlier.items in
     let ends = subst (EndsAlike wanted names) c.in-Some.is c.paths.invariant.1 in
     let within : i < length c.args.paths.now = simp length-map at ends.0 in
-    let from = subst (λ (o : Option ℕ). IsMostAlikeFrom wanted names (up_to o) c.paths.best.size c.paths.best.found)
+    let from =
+    subst (λ (o : Option ℕ). IsMostAlikeFrom wanted names (up_to o) c.paths.best.size c.paths.best.found)
     c.in-Some.is c.paths.invariant.0 in
     let like = subst (λ (p : List ℕ). IsLongestTail wanted p c.common_tail.result)
-    (c.deref.ensures.value ∙ ap (λ (v : Vec ℕ). v.items) c.index-paths-i.is ∙ item_at c.args.paths.now i _ within) c.common_tail.ensures in
+    (c.deref.ensures.value ∙ ap (λ (v : Vec ℕ). v.items) c.index-paths-i.is
+    ∙ item_at c.args.paths.now i _ within) c.common_tail.ensures in
     at_earlier wanted names i best.size best.found c.index-at.result.now
     (subst (IsLatest names i (last_segment (get_or names i [])))
     (get_or_default earlier i None _ (omega (arith, c.requires.1, ends.0)) ∙ sym c.index-at.ensures)

@@ -14,5 +14,5 @@ loop-i-preserved c =
     let one : c.in_ok-path.path.items ≡ get_or (map script_path scripts) i [] =
     c.in_ok-path.ensures ∙ ap script_path (read_at c.args.scripts.now i _ c.loop-i-test.true)
     ∙ mapped_at script_path scripts i some in
-    pushed_items (map script_path scripts) i c.loop-i.paths.items c.push.new.self.items c.in_ok-path.path in_all
-    c.in_ok-push.ensures.items one c.loop-i.invariant
+    pushed_items (map script_path scripts) i c.loop-i.paths.items c.push.new.self.items c.in_ok-path.path
+    in_all c.in_ok-push.ensures.items one c.loop-i.invariant

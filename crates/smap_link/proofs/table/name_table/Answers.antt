@@ -1,4 +1,5 @@
-use Rattle.std.proofs.Common.{◌≡◌, ◌∙◌, ◌⊎◌, ⊎_elim, ℕ, ◌<◌, ◌≤◌, List, Bor, [], Some, None, ap, sym, subst, map}
+use Rattle.std.proofs.Common.{◌≡◌, ◌∙◌, ◌⊎◌, ⊎_elim, ℕ, ◌<◌, ◌≤◌, List, Bor, [], Some, None, ap, sym, subst}
+use Rattle.std.proofs.Common.{map}
 use Rattle.std.proofs.Common.{length, get_or, take, arith}
 use Rattle.std.proofs.lemmas.List.{length-map, take_all}
 use Rattle.smap_link.specs.Choice.{first_of}

@@ -7,8 +7,9 @@ pub returns : goal.returns
 returns c =
     let names = c.add_lines.new.self in
     record {
-      frames = subst (λ fs. AreSame (frames_of names) (fs ++ urls_of c.args.lines.now)) c.new-names.ensures.frames
-          c.in_ok-add_lines.ensures.frames;
-      others = subst (λ os. AreSame (others_of names) (os ++ others_if c.args.anywhere (frames_of names) c.args.lines.now))
+      frames = subst (λ fs. AreSame (frames_of names) (fs ++ urls_of c.args.lines.now))
+          c.new-names.ensures.frames c.in_ok-add_lines.ensures.frames;
+      others = subst (λ os.
+          AreSame (others_of names) (os ++ others_if c.args.anywhere (frames_of names) c.args.lines.now))
           c.new-names.ensures.others c.in_ok-add_lines.ensures.others;
     }

@@ -7,5 +7,6 @@ use Rattle.smap_maps_words.proofs.command.with_lint_options.Goals as goal
 pub returns-clause-shape : goal.returns-clause-shape
 returns-clause-shape c =
     IfOk-weaker c.with_option-2.result _ _
-    (λ r h. h ∙ ap (λ (a : App). with_rule a (option_named (codes "min-mapped"))) c.in_ok-command.ensures.shape)
+    (λ r h. h
+    ∙ ap (λ (a : App). with_rule a (option_named (codes "min-mapped"))) c.in_ok-command.ensures.shape)
     c.with_option-2.ensures.shape

@@ -11,4 +11,5 @@ loop-i-preserved c =
     let rows = rows_of (found_of c.args.matches.now) in
     let opt = slice_index_or ALL c.loop-i.i Write in
     let miss : is_foreign rows c.args.kind opt ≡ false = sym c.is_foreign.ensures ∙ c.if-is_foreign.false in
-    find_past (is_foreign rows c.args.kind) ALL c.loop-i.i opt (search rules) (search rules) miss c.loop-i.invariant
+    find_past (is_foreign rows c.args.kind) ALL c.loop-i.i opt (search rules) (search rules) miss
+    c.loop-i.invariant

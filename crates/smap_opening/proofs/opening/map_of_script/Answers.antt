@@ -27,5 +27,6 @@ pub returns-in_ok-beside_loaded-in-File-clause-reached :
     goal.returns-in_ok-beside_loaded-in-File-clause-reached
 returns-in_ok-beside_loaded-in-File-clause-reached g c =
     let followed = rw c.deref.ensures.value at (rw c.in-File.is at c.in_ok-bytes.ensures) in
-    reached_beside _ _ _ _ (place_in c.in-File.found) c.args.text.items c.in_ok-beside_loaded-in-File.field-0.1
+    reached_beside _ _ _ _ (place_in c.in-File.found) c.args.text.items
+    c.in_ok-beside_loaded-in-File.field-0.1
     c.requires followed.0 followed.1 c.in_ok-beside_loaded-in-File.ensures.found

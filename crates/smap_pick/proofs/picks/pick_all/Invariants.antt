@@ -6,4 +6,5 @@ use Rattle.smap_pick.proofs.picks.pick_all.Given as goal
 abbrev pub invariant-loop-i : goal.invariant-loop-i
 invariant-loop-i l = (scripts : List (List ℕ)) → IsTable l.initial.table scripts
     → IsTable l.table scripts
-    × ArePicks l.ignore_query scripts (map (λ f. f.now) l.files) (take l.i (map (λ n. n.now) l.names)) l.picks.items
+    × ArePicks l.ignore_query scripts (map (λ f. f.now) l.files) (take l.i (map (λ n. n.now) l.names))
+    l.picks.items

@@ -14,6 +14,7 @@ invariant-loop g l = record {
   over : IsOver g.D.Disk.held (g.D.Disk.held l.host.disk.now) l.job.wanted l.opener;
   traced : is_plain_style l.job.style.prefixes.now l.job.style.context ≡ true
       → SoFar (g.D.Disk.held l.host.disk.now) l.job (λ name. ⊤) l.log.ended
-      (g.R.Read.remaining l.fn.reader) (pending g.R.Read.remaining l.log) (contents_of g.W.Write.contents l.initial.output)
+      (g.R.Read.remaining l.fn.reader) (pending g.R.Read.remaining l.log)
+      (contents_of g.W.Write.contents l.initial.output)
       (contents_of g.W.Write.contents l.output);
 }

@@ -14,46 +14,52 @@ pub loop-init : goal.loop-init
 loop-init g c = let log = c.new-log.result in record {
   chosen = refl;
   asked = subst (IsOfLogs (g.D.Disk.held c.args.host.now.disk.now) c.args.job.now)
-      (sym (new_log (g.R.Read.remaining log.reader) log.block log.ended c.new-log.ensures.block c.new-log.ensures.ended
+      (sym (new_log (g.R.Read.remaining log.reader) log.block log.ended c.new-log.ensures.block
+      c.new-log.ensures.ended
       ∙ ap g.R.Read.remaining c.new-log.ensures.reader)) c.requires.asked;
   among = c.requires.names;
   named = none_named log.ended (g.R.Read.remaining c.args.reader) (pending g.R.Read.remaining log)
       (frames_of c.args.state.now.names)
-      (new_log (g.R.Read.remaining log.reader) log.block log.ended c.new-log.ensures.block c.new-log.ensures.ended
+      (new_log (g.R.Read.remaining log.reader) log.block log.ended c.new-log.ensures.block
+      c.new-log.ensures.ended
       ∙ ap g.R.Read.remaining c.new-log.ensures.reader);
 }
 
 pub returns-then-not-more-clause-names : goal.returns-then-not-more-clause-names
 returns-then-not-more-clause-names g c =
-    let end : IsAtEnd (pending g.R.Read.remaining c.loop.log) = rw c.if-not-more.true at c.in_ok-more.ensures.lines in
+    let end : IsAtEnd (pending g.R.Read.remaining c.loop.log) =
+    rw c.if-not-more.true at c.in_ok-more.ensures.lines in
     all_named c.loop.log.ended (g.R.Read.remaining c.args.reader) (pending g.R.Read.remaining c.loop.log)
     c.args.state.now.names c.loop.state.names c.loop.invariant.named end
 
 pub loop-preserved : goal.loop-preserved
 loop-preserved g c = record {
   chosen = c.note_start.ensures.chosen ∙ c.loop.invariant.chosen;
-  asked = (next_asked (g.D.Disk.held c.args.host.now.disk.now) c.args.job.now (pending g.R.Read.remaining c.loop.log)
+  asked = (next_asked (g.D.Disk.held c.args.host.now.disk.now) c.args.job.now
+      (pending g.R.Read.remaining c.loop.log)
       (g.R.Read.remaining c.advance.new.self.reader) c.advance.new.self.block c.advance.new.self.ended
       (rw c.if-not-more.false at c.in_ok-more.ensures.lines) c.loop.invariant.asked).0;
   among = let held = g.D.Disk.held c.args.host.now.disk.now in
       let job = c.args.job.now in
       let log = c.advance.new.self in
       let asked = asked_by held job in
-      lines_added job.anywhere asked c.note_start.new.state.names c.add_lines.new.self c.lines-lines.result.now
-      c.in_ok-add_lines.ensures.frames.0 c.in_ok-add_lines.ensures.others.0
-      (subst (λ (ns : Names). AreAmong asked (names_of ns)) (sym c.note_start.ensures.names) c.loop.invariant.among)
+      lines_added job.anywhere asked c.note_start.new.state.names c.add_lines.new.self
+      c.lines-lines.result.now c.in_ok-add_lines.ensures.frames.0 c.in_ok-add_lines.ensures.others.0
+      (subst (λ (ns : Names). AreAmong asked (names_of ns)) (sym c.note_start.ensures.names)
+      c.loop.invariant.among)
       (subst (λ (part : List ℕ). AreAmong asked (asked_in job.anywhere part)) (sym c.lines-lines.ensures)
-      (next_asked held job (pending g.R.Read.remaining c.loop.log) (g.R.Read.remaining log.reader) log.block log.ended
-      (rw c.if-not-more.false at c.in_ok-more.ensures.lines) c.loop.invariant.asked).1);
+      (next_asked held job (pending g.R.Read.remaining c.loop.log) (g.R.Read.remaining log.reader) log.block
+      log.ended (rw c.if-not-more.false at c.in_ok-more.ensures.lines) c.loop.invariant.asked).1);
   named = let log = c.advance.new.self in
       let before = frames_of c.args.state.now.names in
       let middle = frames_of c.loop.state.names in
       let after = frames_of c.add_lines.new.self in
-      more_named c.loop.log.ended log.ended (g.R.Read.remaining c.args.reader) (pending g.R.Read.remaining c.loop.log)
+      more_named c.loop.log.ended log.ended (g.R.Read.remaining c.args.reader)
+      (pending g.R.Read.remaining c.loop.log)
       (pending g.R.Read.remaining log) before middle after (handed log)
       c.loop.invariant.named (c.in_ok-more.ensures.going c.if-not-more.false)
       (handed_lines log.block log.ended) (rw c.if-not-more.false at c.in_ok-more.ensures.lines)
       (subst (λ (part : List ℕ). AreSame after (middle ++ urls_of part)) c.lines-lines.ensures
-      (subst (λ ns. AreSame after (frames_of ns ++ urls_of c.lines-lines.result.now)) c.note_start.ensures.names
-      c.in_ok-add_lines.ensures.frames));
+      (subst (λ ns. AreSame after (frames_of ns ++ urls_of c.lines-lines.result.now))
+      c.note_start.ensures.names c.in_ok-add_lines.ensures.frames));
 }

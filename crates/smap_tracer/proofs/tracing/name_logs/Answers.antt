@@ -14,7 +14,8 @@ loop-path-preserved g c =
       chosen = c.in_ok-name_log.ensures.chosen ∙ c.loop-path.invariant.chosen;
       names = one_more_log held paths i _ (omega (arith, c.loop-path-test.true))
           (take_remaining g.D.Reader.Read.remaining c.in_ok-log.log) c.loop-path.state.names
-          c.name_log.new.state.names c.in_ok-name_log.ensures.names c.in_ok-log.ensures c.loop-path.invariant.names;
+          c.name_log.new.state.names c.in_ok-name_log.ensures.names c.in_ok-log.ensures
+          c.loop-path.invariant.names;
       among = c.in_ok-name_log.ensures.asked;
       count = ap length c.in_ok-push.ensures.items ∙ length-append sizes (c.in-Ok.size ∷ [])
           ∙ ap (λ n. n + 1) c.loop-path.invariant.count;
@@ -28,5 +29,5 @@ name_log-requires-clause-asked g c =
     let held = g.D.Disk.held c.args.host.now.disk.now in
     let paths = c.args.paths.now in
     let i = c.loop-path.path-index in
-    reads_log held c.args.job.now _ (take_remaining g.D.Reader.Read.remaining c.in_ok-log.log) c.in_ok-log.ensures
-    (c.requires.logs i _ (omega (arith, c.loop-path-test.true)))
+    reads_log held c.args.job.now _ (take_remaining g.D.Reader.Read.remaining c.in_ok-log.log)
+    c.in_ok-log.ensures (c.requires.logs i _ (omega (arith, c.loop-path-test.true)))

@@ -1,3 +1,4 @@
+use Rattle.std.proofs.Common.{refl}
 use Rattle.smap_finder.specs.ChosenView.{choices_of}
 use Rattle.smap_trace.specs.Naming.{urls_of}
 use Rattle.smap_logs.specs.Naming.{frames_of}
@@ -20,9 +21,10 @@ returns-clause-named g c =
     let held = g.D.Disk.held c.args.host.now.disk.now in
     let job = c.args.job.now in
     let names = c.in_ok-names.names in
-    names_opened held job (names_of names) c.forget_many.new.self c.open_names.new.chosen
+    names_opened held job (names_of names) c.forget_many.new.self c.forget_many.new.self
+    c.open_names.new.chosen
     (none_opened held job c.args.state.now.chosen c.forget_many.new.self
     (c.forget_many.ensures.chosen _ _ c.requires.named.named) c.forget_many.ensures.ends c.requires.named)
-    c.open_names.ensures.named c.open_names.ensures.ends
+    refl c.open_names.ensures.named c.open_names.ensures.ends
     (names_of_lines job.anywhere (asked_by held job) names c.args.lines.now c.in_ok-names.ensures.frames.0
     c.in_ok-names.ensures.others.0 c.requires.asked)

@@ -1,10 +1,8 @@
-use Rattle.std.proofs.Common.{◌∙◌, Bor, List, ℕ, ap, map, subst}
+use Rattle.std.proofs.Common.{◌∙◌, Bor, List, ℕ, ap, map}
 use Rattle.smap_finder.specs.ChosenView.{choices_of}
-use Rattle.smap_logs.specs.Naming.{frames_of}
+use Rattle.smap_logs.specs.Naming.{frames_of, others_of}
+use Rattle.smap_tracer.proofs.AskedLemmas.{both_kept, first_names_kept, names_kept}
 use Rattle.smap_tracer.proofs.SettledLemmas.{names_settled}
-use Rattle.smap_finder.specs.ChosenView.{KeepEnds}
-use Rattle.smap_logs.specs.Naming.{others_of}
-use Rattle.smap_tracer.proofs.AskedLemmas.{both_kept, first_kept}
 use Rattle.smap_tracer.proofs.tracing.open_names.Goals as goal
 
 pub returns-clause-settled : goal.returns-clause-settled
@@ -18,32 +16,29 @@ pub returns-clause-ends : goal.returns-clause-ends
 returns-clause-ends g c =
     let held = g.D.Disk.held c.args.host.now.disk.now in
     let w = c.args.job.now.wanted in
-    let now = map (λ (n : Bor (List ℕ)). n.now) in
+    let frames = frames_of c.args.names.now in
+    let others = others_of c.args.names.now in
     let old = choices_of c.args.chosen.now in
     let middle = choices_of c.open_for.new.chosen in
     let new = choices_of c.open_for-2.new.chosen in
-    both_kept held w (frames_of c.args.names.now) (others_of c.args.names.now) old middle new
-    (subst (λ (ns : List (List ℕ)). KeepEnds held w ns old middle)
-    (ap now c.as_slice.ensures.value ∙ c.in_ok-frames.ensures) c.open_for.ensures.ends)
-    (subst (λ (ns : List (List ℕ)). KeepEnds held w ns middle new)
-    (ap now c.as_slice-2.ensures.value ∙ c.in_ok-others.ensures) c.open_for-2.ensures.ends)
+    both_kept held w frames others old middle new
+    (names_kept held w frames old middle _ _ c.as_slice.ensures.value c.in_ok-frames.ensures
+    c.open_for.ensures.ends)
+    (names_kept held w others middle new _ _ c.as_slice-2.ensures.value c.in_ok-others.ensures
+    c.open_for-2.ensures.ends)
 
 pub returns-in_err-open_for-clause-ends : goal.returns-in_err-open_for-clause-ends
 returns-in_err-open_for-clause-ends g c =
     let held = g.D.Disk.held c.args.host.now.disk.now in
     let w = c.args.job.now.wanted in
-    let old = choices_of c.args.chosen.now in
-    let middle = choices_of c.open_for.new.chosen in
-    first_kept held w (frames_of c.args.names.now) (others_of c.args.names.now) old middle
-    (subst (λ (ns : List (List ℕ)). KeepEnds held w ns old middle)
-    (ap (map (λ (n : Bor (List ℕ)). n.now)) c.as_slice.ensures.value ∙ c.in_ok-frames.ensures) c.open_for.ensures.ends)
+    first_names_kept held w (frames_of c.args.names.now) (others_of c.args.names.now)
+    (choices_of c.args.chosen.now) (choices_of c.open_for.new.chosen) _ _ c.as_slice.ensures.value
+    c.in_ok-frames.ensures c.open_for.ensures.ends
 
 pub returns-in_err-others-clause-ends : goal.returns-in_err-others-clause-ends
 returns-in_err-others-clause-ends g c =
     let held = g.D.Disk.held c.args.host.now.disk.now in
     let w = c.args.job.now.wanted in
-    let old = choices_of c.args.chosen.now in
-    let middle = choices_of c.open_for.new.chosen in
-    first_kept held w (frames_of c.args.names.now) (others_of c.args.names.now) old middle
-    (subst (λ (ns : List (List ℕ)). KeepEnds held w ns old middle)
-    (ap (map (λ (n : Bor (List ℕ)). n.now)) c.as_slice.ensures.value ∙ c.in_ok-frames.ensures) c.open_for.ensures.ends)
+    first_names_kept held w (frames_of c.args.names.now) (others_of c.args.names.now)
+    (choices_of c.args.chosen.now) (choices_of c.open_for.new.chosen) _ _ c.as_slice.ensures.value
+    c.in_ok-frames.ensures c.open_for.ensures.ends

@@ -4,7 +4,8 @@ use Rattle.std.proofs.lemmas.List.{length-map, take_all}
 use Rattle.std.proofs.lemmas.Result.{err_from_is_err_and}
 use Rattle.clap.specs.Words.{Text}
 use Rattle.smap_words.specs.Readings.{argument_view, argument_meant, is_argument}
-use Rattle.smap_words.proofs.ListLemmas.{passes_more, read_more, text_at}
+use Rattle.smap_matches.proofs.TextLemmas.{read_more, text_at}
+use Rattle.smap_words.proofs.ListLemmas.{passes_more}
 use Rattle.smap_words.proofs.RequestLemmas.{argument_fault_told}
 use Rattle.smap_words.proofs.argument.arguments_in.Goals as goal
 
@@ -14,8 +15,8 @@ loop-i-preserved c =
     let i = c.loop-i.i in
     let lt : i < length texts = simp length-map (omega (arith, c.loop-i-test.true)) in
     let at = text_at c.args.texts.now i _ c.loop-i-test.true in (
-      read_more argument_view argument_meant texts i _ _ _ _ lt at c.in_ok-push.ensures.items c.in_ok-argument_at.ensures.value
-          c.loop-i.invariant.0,
+      read_more argument_view argument_meant texts i _ _ _ _ lt at c.in_ok-push.ensures.items
+          c.in_ok-argument_at.ensures.value c.loop-i.invariant.0,
       passes_more is_argument texts i _ lt at c.in_ok-argument_at.ensures.passes c.loop-i.invariant.1,
     )
 
@@ -26,7 +27,8 @@ returns-in_err-argument_at-clause-fault c =
     let lt : i < length texts = simp length-map (omega (arith, c.loop-i-test.true)) in
     let at = text_at c.args.texts.now i _ c.loop-i-test.true in
     let p = err_from_is_err_and c.from_residual.result c.from_residual.ensures.1 in
-    rw (p.1, p.2) (argument_fault_told texts i _ _ lt at c.loop-i.invariant.1 c.in_err-argument_at.ensures.fault)
+    rw (p.1, p.2)
+    (argument_fault_told texts i _ _ lt at c.loop-i.invariant.1 c.in_err-argument_at.ensures.fault)
 
 pub returns-clause-value : goal.returns-clause-value
 returns-clause-value c =

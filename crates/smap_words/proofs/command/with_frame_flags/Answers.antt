@@ -8,5 +8,6 @@ pub returns-clause-shape : goal.returns-clause-shape
 returns-clause-shape c =
     let second = c.in_ok-command-2.ensures.shape
     ∙ ap (λ (a : App). with_rule a (flag (codes "ignore-query"))) c.in_ok-command.ensures.shape in
-    IfOk-weaker c.with_flag-3.result _ _ (λ r h. h ∙ ap (λ (a : App). with_rule a (flag (codes "hide-ignored"))) second)
+    IfOk-weaker c.with_flag-3.result _ _
+    (λ r h. h ∙ ap (λ (a : App). with_rule a (flag (codes "hide-ignored"))) second)
     c.with_flag-3.ensures.shape

@@ -4,7 +4,8 @@ use Rattle.std.proofs.lemmas.List.{length-map, take_all}
 use Rattle.std.proofs.lemmas.Result.{err_from_is_err_and}
 use Rattle.clap.specs.Words.{Text}
 use Rattle.smap_words.specs.Readings.{prefix_view, prefix_meant, is_prefix}
-use Rattle.smap_words.proofs.ListLemmas.{passes_more, read_more, text_at}
+use Rattle.smap_matches.proofs.TextLemmas.{read_more, text_at}
+use Rattle.smap_words.proofs.ListLemmas.{passes_more}
 use Rattle.smap_words.proofs.RequestLemmas.{prefix_fault}
 use Rattle.smap_words.proofs.values.prefixes_in.Goals as goal
 
@@ -14,8 +15,8 @@ loop-i-preserved c =
     let i = c.loop-i.i in
     let lt : i < length texts = simp length-map (omega (arith, c.loop-i-test.true)) in
     let at = text_at c.args.texts.now i _ c.loop-i-test.true in (
-      read_more prefix_view prefix_meant texts i _ _ _ _ lt at c.in_ok-push.ensures.items c.in_ok-prefix_at.ensures.value
-          c.loop-i.invariant.0,
+      read_more prefix_view prefix_meant texts i _ _ _ _ lt at c.in_ok-push.ensures.items
+          c.in_ok-prefix_at.ensures.value c.loop-i.invariant.0,
       passes_more is_prefix texts i _ lt at c.in_ok-prefix_at.ensures.passes c.loop-i.invariant.1,
     )
 

@@ -34,7 +34,8 @@ returns-in-None-clause-all c = λ name m h same.
     let here : slice_get c.args.self.now.mapped.items c.args.at ≡ Some c.in-Some.mapped.now =
     search (rules, slice_get_read) in
     let mapped = same_at _ _ _ _ _ here h.mapped_is same in
-    let there : slice_get c.args.self.now.openings.items c.in-Some.mapped.now.number ≡ Some c.in-Some-get.opening.now =
+    let there : slice_get c.args.self.now.openings.items c.in-Some.mapped.now.number
+    ≡ Some c.in-Some-get.opening.now =
     search (rules, slice_get_read) in
     let opening = same_at _ _ _ _ _ there h.served.0 (ap (λ (n : MappedName). n.number) (sym mapped)) in
     let map_is = h.map_is in
@@ -46,7 +47,8 @@ returns-then-not-serves-clause-all c = λ name m h same.
     let here : slice_get c.args.self.now.mapped.items c.args.at ≡ Some c.in-Some.mapped.now =
     search (rules, slice_get_read) in
     let mapped = same_at _ _ _ _ _ here h.mapped_is same in
-    let there : slice_get c.args.self.now.openings.items c.in-Some.mapped.now.number ≡ Some c.in-Some-get.opening.now =
+    let there : slice_get c.args.self.now.openings.items c.in-Some.mapped.now.number
+    ≡ Some c.in-Some-get.opening.now =
     search (rules, slice_get_read) in
     let opening = same_at _ _ _ _ _ there h.served.0 (ap (λ (n : MappedName). n.number) (sym mapped)) in
     let serves = serves_same _ _ _ _ _ opening mapped h.name_is h.served.1 in

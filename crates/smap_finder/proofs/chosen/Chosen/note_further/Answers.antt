@@ -8,8 +8,8 @@ use Rattle.smap_finder.proofs.chosen.Chosen.note_further.Goals as goal
 pub returns-clause-chosen : goal.returns-clause-chosen
 returns-clause-chosen c = λ held wanted chosen.
     let old = choices_of c.args.self.now in
-    chosen_further held wanted old _ old.worst (further_crowded old.ends c.insert.new.self.keys c.in_ok-name.name
-    c.in_ok-insert.ensures.keys) (omega arith) chosen
+    chosen_further held wanted old _ old.worst (further_crowded old.ends c.insert.new.self.keys
+    c.in_ok-name.name c.in_ok-insert.ensures.keys) (omega arith) chosen
 
 pub returns-clause-ends : goal.returns-clause-ends
 returns-clause-ends c = λ held wanted asked one all.

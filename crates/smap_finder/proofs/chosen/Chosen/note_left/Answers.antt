@@ -26,7 +26,8 @@ returns-clause-chosen c = λ held wanted left chosen.
     let was = c.forget_left.ensures.chosen held wanted chosen in
     let same : c.in_ok-name.name.items ≡ c.args.name.now = search rules in
     let IsOne = IsLeftName held wanted (choices_of c.forget_left.new.self) in
-    let own : IsLeft held wanted c.args.in_frames (choices_of c.forget_left.new.self) c.in_ok-name.name.items =
+    let own : IsLeft held wanted c.args.in_frames (choices_of c.forget_left.new.self)
+    c.in_ok-name.name.items =
     rw (sym same) at (c.forget_left.ensures.left held wanted _ _ left) in
     record {
       names = was.names;

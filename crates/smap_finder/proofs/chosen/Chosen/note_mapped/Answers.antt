@@ -10,8 +10,8 @@ pub returns-clause-chosen : goal.returns-clause-chosen
 returns-clause-chosen c = λ held wanted in_frames picked chosen.
     let same : c.args.name.now ≡ string_bytes c.in_ok-name.name = search rules in
     record {
-      names = subst (All (IsNamed held wanted)) (sym c.in_ok-push.ensures.items) (All-push (IsNamed held wanted)
-          c.args.self.now.mapped.items _ chosen.names
+      names = subst (All (IsNamed held wanted)) (sym c.in_ok-push.ensures.items)
+          (All-push (IsNamed held wanted) c.args.self.now.mapped.items _ chosen.names
           (in_frames, subst (λ (n : List ℕ). IsPicked held wanted in_frames n c.args.found) same picked));
       openings = chosen.openings;
       left = chosen.left;

@@ -30,7 +30,8 @@ loop-i-preserved c =
           (listed_before name_of c.loop-i.scripts.items _ name (c.loop-i.invariant.all name m h lt)))
           (λ name m h is. subst (λ (l : List NameAndMap). Contains (map name_of l) name)
           (sym c.in_ok-push.ensures.items)
-          (listed_last name_of c.loop-i.scripts.items c.in-Some.script name (c.in-Some.ensures.all name m h is)));
+          (listed_last name_of c.loop-i.scripts.items c.in-Some.script name
+          (c.in-Some.ensures.all name m h is)));
     }
 
 pub returns-clause-all : goal.returns-clause-all

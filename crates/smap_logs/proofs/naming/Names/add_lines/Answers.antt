@@ -11,7 +11,8 @@ returns-in_ok-add_others-clause-frames c =
 
 pub returns-in_ok-add_others-clause-others : goal.returns-in_ok-add_others-clause-others
 returns-in_ok-add_others-clause-others c =
-    with_others c.args.anywhere c.args.lines.now (frames_of c.add_frames.new.self) (frames_of c.add_others.new.self)
+    with_others c.args.anywhere c.args.lines.now (frames_of c.add_frames.new.self)
+    (frames_of c.add_others.new.self)
     (others_of c.args.self.now) (others_of c.add_frames.new.self) (others_of c.add_others.new.self)
     c.if-anywhere.true c.in_ok-add_others.ensures.frames c.in_ok-add_frames.ensures.others
     c.in_ok-add_others.ensures.others

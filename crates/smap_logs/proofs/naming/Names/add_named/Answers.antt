@@ -21,6 +21,7 @@ loop-i-preserved c = record {
 pub returns-clause-frames : goal.returns-clause-frames
 returns-clause-frames c =
     let named = c.args.named.now in
-    let whole : c.loop-i.i ≡ length named = omega (arith, c.loop-i-test.false, c.len-i-end.ensures, c.loop-i.auto.i-end) in
+    let whole : c.loop-i.i ≡ length named =
+    omega (arith, c.loop-i-test.false, c.len-i-end.ensures, c.loop-i.auto.i-end) in
     subst (λ ns. AreSame (frames_of c.loop-i.self) (frames_of c.args.self.now ++ keys_of ns))
     (ap (λ k. take k named) whole ∙ take-length named) c.loop-i.invariant.frames

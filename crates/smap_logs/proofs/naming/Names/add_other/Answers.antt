@@ -23,9 +23,10 @@ returns-then-contains-clause-others c =
     let known = is_known c.args.name.now c.args.self.now.frames.entries in
     let plain : has_plain_query c.args.name.now ≡ true = cc in
     let absent : list_any (bytes_eq c.args.name.now) (frames_of c.args.self.now) ≡ false = cc in
-    let there : list_any (λ k. bytes_eq c.args.name.now k.items) c.args.self.now.others.keys ≡ true = search rules in
-    of_others (frames_of c.args.self.now) c.args.name.now (others_of c.args.self.now) (others_of c.args.self.now)
-    plain absent (same_present (others_of c.args.self.now) c.args.name.now
+    let there : list_any (λ k. bytes_eq c.args.name.now k.items) c.args.self.now.others.keys ≡ true =
+    search rules in
+    of_others (frames_of c.args.self.now) c.args.name.now (others_of c.args.self.now)
+    (others_of c.args.self.now) plain absent (same_present (others_of c.args.self.now) c.args.name.now
     (is_put c.args.name.now c.args.self.now.others.keys there))
 
 pub returns-clause-others : goal.returns-clause-others
@@ -35,7 +36,8 @@ returns-clause-others c =
     let absent : list_any (bytes_eq c.args.name.now) (frames_of c.args.self.now) ≡ false = cc in
     let key = c.in_ok-from_slice.field-0 in
     let ks = c.args.self.now.others.keys in
-    of_others (frames_of c.args.self.now) c.args.name.now (others_of c.args.self.now) (items_of c.insert.new.self.keys)
+    of_others (frames_of c.args.self.now) c.args.name.now (others_of c.args.self.now)
+    (items_of c.insert.new.self.keys)
     plain absent (subst (λ keys. AreSame (items_of keys) (items_of ks ++ c.args.name.now ∷ []))
     (sym c.in_ok-insert.ensures.keys)
     (subst (λ name. AreSame (items_of (insert_key same_key ks key)) (items_of ks ++ name ∷ []))

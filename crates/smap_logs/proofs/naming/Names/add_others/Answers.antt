@@ -17,6 +17,7 @@ loop-line-preserved c = record {
 pub returns-clause-others : goal.returns-clause-others
 returns-clause-others c =
     let end = YieldsList-end (YieldsList-from_slice_split _ is_feed c.args.lines.now (cc) (cc) (cc)
-    (λ x b q called. search (rules, tests))) c.loop-line.yielded _ c.loop-line.yielded_by _ _ c.in-None.is c.next.ensures.steps in
-    subst (λ ls. AreSame (others_of c.loop-line.self) (others_of c.args.self.now ++ without (frames_of c.args.self.now)
-    (flat_map others_in_line ls))) end.0 c.loop-line.invariant.others
+    (λ x b q called. search (rules, tests))) c.loop-line.yielded _ c.loop-line.yielded_by _ _ c.in-None.is
+    c.next.ensures.steps in
+    subst (λ ls. AreSame (others_of c.loop-line.self) (others_of c.args.self.now
+    ++ without (frames_of c.args.self.now) (flat_map others_in_line ls))) end.0 c.loop-line.invariant.others

@@ -23,5 +23,6 @@ returns-clause-others c =
     let all : take i items ≡ spans line = ap (λ k. take k items) whole ∙ take-length items
     ∙ c.deref-span-items.ensures.value ∙ c.in_ok-add_spans.ensures.ok
     ∙ ap (λ ss. ss ++ spans line) c.new-spans.ensures.items in
-    subst (λ ss. AreSame (others_of c.loop-span.self) (others_of c.args.self.now ++ without (frames_of c.args.self.now)
+    subst (λ ss. AreSame (others_of c.loop-span.self) (others_of c.args.self.now
+    ++ without (frames_of c.args.self.now)
     (filter has_plain_query (map (name_in line) ss)))) all c.loop-span.invariant.others

@@ -14,7 +14,8 @@ returns-in-Some-clause-frames c =
     subst (λ keys. AreSame (items_of keys) (frames_of c.args.self.now ++ name ∷ []))
     (sym (keys-with_value_at frames c.in-Some.i c.saturating_add.result))
     (same_present (frames_of c.args.self.now) name (is_there name frames.entries c.in-Some.i
-    (Found-position (λ k. bytes_eq name k.items) frames.entries c.in-Some.i (sym c.in-Some.ensures.index)).first))
+    (Found-position (λ k. bytes_eq name k.items) frames.entries c.in-Some.i
+    (sym c.in-Some.ensures.index)).first))
 
 pub returns-clause-frames : goal.returns-clause-frames
 returns-clause-frames c =
@@ -22,5 +23,6 @@ returns-clause-frames c =
     let es = c.args.self.now.frames.entries in
     subst (λ es. AreSame (items_of (keys_of es)) (frames_of c.args.self.now ++ c.args.name.now ∷ []))
     (sym c.in_ok-insert.ensures.entries)
-    (subst (λ name. AreSame (items_of (keys_of (insert_entry same_key es key c.args.lines))) (items_of (keys_of es) ++ name ∷ []))
+    (subst (λ name. AreSame (items_of (keys_of (insert_entry same_key es key c.args.lines)))
+    (items_of (keys_of es) ++ name ∷ []))
     c.in_ok-from_slice.ensures.items (inserted es key c.args.lines))

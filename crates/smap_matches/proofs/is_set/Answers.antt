@@ -1,8 +1,8 @@
 use Rattle.std.proofs.Common.{◌∙◌}
 use Rattle.clap.specs.Words.{found_of}
 use Rattle.clap.proofs.WalkLemmas.{one_text-rows}
-use Rattle.smap_words.proofs.RowLemmas.{flag_reads}
-use Rattle.smap_words.proofs.command.is_set.Goals as goal
+use Rattle.smap_matches.proofs.RowLemmas.{flag_reads}
+use Rattle.smap_matches.proofs.is_set.Goals as goal
 
 pub returns : goal.returns
 returns c =
