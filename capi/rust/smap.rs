@@ -409,13 +409,6 @@ impl Map {
         counts
     }
 
-    /// About how many bytes of memory the map takes, its strings and mappings included.
-    pub fn held(&self) -> usize {
-        let mut out = 0;
-        unsafe { smap_held(self.0.get(), &mut out) };
-        out
-    }
-
     /// The mapping that a generated position falls to.
     pub fn lookup(&self, line: u32, column: u32) -> Option<Mapping> {
         let mut m = raw::Mapping::default();
@@ -440,55 +433,6 @@ impl Map {
     /// All mappings, in order of line and column.
     pub fn mappings(&self) -> Mappings<'_> {
         Mappings { map: self, next: 0 }
-    }
-
-    /// The name of the mapping there.
-    pub fn name_at(&self, line: u32, column: u32) -> Option<String> {
-        text_of(|out, room, len| unsafe { smap_name_at(self.0.get(), line, column, out, room, len) })
-    }
-
-    /// The URL of a source.
-    pub fn url(&self, source: usize) -> Option<String> {
-        text_of(|out, room, len| unsafe { smap_source_url(self.0.get(), source, out, room, len) })
-    }
-
-    /// The text of a source.
-    pub fn content(&self, source: usize) -> Option<String> {
-        text_of(|out, room, len| unsafe { smap_source_content(self.0.get(), source, out, room, len) })
-    }
-
-    /// Whether a source is ignored; none if there is no such source.
-    pub fn is_ignored(&self, source: usize) -> Option<bool> {
-        let mut out = false;
-        let code = unsafe { smap_is_ignored(self.0.get(), source, &mut out) };
-        (code == OK).then_some(out)
-    }
-
-    /// The name of the generated file.
-    pub fn file(&self) -> Option<String> {
-        text_of(|out, room, len| unsafe { smap_file(self.0.get(), out, room, len) })
-    }
-
-    /// The number, among the distinct sources, of the i-th source that the map's text lists.
-    pub fn listed_source(&self, i: usize) -> Option<usize> {
-        let mut out = 0;
-        let code = unsafe { smap_listed_source(self.0.get(), i, &mut out) };
-        (code == OK).then_some(out)
-    }
-
-    /// The i-th source that the map's text lists, as it is written there; none for a null.
-    pub fn written_source(&self, i: usize) -> Option<String> {
-        text_of(|out, room, len| unsafe { smap_written_source(self.0.get(), i, out, room, len) })
-    }
-
-    /// The `sourceRoot` that applies to the i-th source that the map's text lists.
-    pub fn written_root(&self, i: usize) -> Option<String> {
-        text_of(|out, room, len| unsafe { smap_written_root(self.0.get(), i, out, room, len) })
-    }
-
-    /// The i-th name that the map's text lists.
-    pub fn listed_name(&self, i: usize) -> Option<String> {
-        text_of(|out, room, len| unsafe { smap_listed_name(self.0.get(), i, out, room, len) })
     }
 
     /// The i-th mapping by places in the lists, in order of line and column.
@@ -593,6 +537,68 @@ impl Scripts {
 }
 
 // What smap.h declares, to the end of the file: tools/write-bindings writes this out of capi/smap.h.
+impl Map {
+    // An answer is none if there is nothing of that kind.
+
+    /// About how many bytes of memory the map takes, its strings and mappings included.
+    pub fn held(&self) -> usize {
+        let mut out = 0;
+        unsafe { smap_held(self.0.get(), &mut out) };
+        out
+    }
+
+    /// Whether a source is ignored.
+    pub fn is_ignored(&self, source: usize) -> Option<bool> {
+        let mut out = false;
+        let code = unsafe { smap_is_ignored(self.0.get(), source, &mut out) };
+        (code == OK).then_some(out)
+    }
+
+    /// The number, among the distinct sources, of the i-th source in the list.
+    pub fn listed_source(&self, i: usize) -> Option<usize> {
+        let mut out = 0;
+        let code = unsafe { smap_listed_source(self.0.get(), i, &mut out) };
+        (code == OK).then_some(out)
+    }
+
+    /// The name of the generated file.
+    pub fn file(&self) -> Option<String> {
+        text_of(|out, room, len| unsafe { smap_file(self.0.get(), out, room, len) })
+    }
+
+    /// The name of the mapping for a generated position.
+    pub fn name_at(&self, line: u32, column: u32) -> Option<String> {
+        text_of(|out, room, len| unsafe { smap_name_at(self.0.get(), line, column, out, room, len) })
+    }
+
+    /// The URL of a source.
+    pub fn url(&self, source: usize) -> Option<String> {
+        text_of(|out, room, len| unsafe { smap_source_url(self.0.get(), source, out, room, len) })
+    }
+
+    /// The content of a source.
+    pub fn content(&self, source: usize) -> Option<String> {
+        text_of(|out, room, len| unsafe { smap_source_content(self.0.get(), source, out, room, len) })
+    }
+
+    /// The i-th source in the list as the text of the map writes it: not resolved, and without its
+    /// `sourceRoot`.
+    pub fn written_source(&self, i: usize) -> Option<String> {
+        text_of(|out, room, len| unsafe { smap_written_source(self.0.get(), i, out, room, len) })
+    }
+
+    /// The `sourceRoot` that applies to the i-th source in the list, which may be empty: in an index map
+    /// that of the section's map.
+    pub fn written_root(&self, i: usize) -> Option<String> {
+        text_of(|out, room, len| unsafe { smap_written_root(self.0.get(), i, out, room, len) })
+    }
+
+    /// The i-th name in the list.
+    pub fn listed_name(&self, i: usize) -> Option<String> {
+        text_of(|out, room, len| unsafe { smap_listed_name(self.0.get(), i, out, room, len) })
+    }
+}
+
 mod raw {
     pub const OK: u32 = 0;
     pub const REFUSED: u32 = 1;

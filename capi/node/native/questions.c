@@ -1,35 +1,6 @@
 /* What is asked of maps. */
 #include "smap_node.h"
 
-/* The arguments and the map, which is the first of them. */
-#define MAP_AND(n)                                                                                           \
-    ARGUMENTS(n);                                                                                            \
-    boxed_map *boxed = map_of(env, w[0]);                                                                    \
-    if (!boxed) return NULL
-
-/* counts(map): {sources, listedSources, names, mappings, lines} */
-static napi_value do_counts(napi_env env, napi_callback_info info)
-{
-    smap_counts counts;
-    napi_value out, number;
-    MAP_AND(1);
-    uint32_t code = smap_count(&boxed->map, &counts);
-    if (code != SMAP_OK) return throw_code(env, code, NULL);
-    const struct {
-        const char *name;
-        uint64_t count;
-    } all[] = {
-        {"sources", counts.sources},   {"listedSources", counts.listed_sources}, {"names", counts.names},
-        {"mappings", counts.mappings}, {"lines", counts.lines},
-    };
-    CALL(napi_create_object(env, &out));
-    for (size_t i = 0; i < sizeof all / sizeof *all; i++) {
-        CALL(napi_create_int64(env, (int64_t)all[i].count, &number));
-        CALL(napi_set_named_property(env, out, all[i].name, number));
-    }
-    return out;
-}
-
 /* A mapping, by its number, in the array that index.js reads: line, column, source, source line, source
  * column; as bits whether it has a source, a name, and is ignored; the number; and the listed name. */
 static uint32_t put_found(smap_map *map, size_t i, uint32_t *found)
@@ -273,7 +244,6 @@ static napi_value do_respell(napi_env env, napi_callback_info info)
 }
 
 const call question_calls[] = {
-    {"counts", do_counts},
     {"lookup", do_lookup},
     {"listedAt", do_listed_at},
     {"text", do_text},

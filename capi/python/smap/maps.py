@@ -125,11 +125,27 @@ class Map(Owner):
         check(lib.smap_count(byref(self._handle), byref(counts)))
         return counts
 
+    # ---- numbers: tools/write-bindings writes this out of capi/smap.h
+
     def held(self) -> int:
         """About how many bytes of memory the map takes, its strings and mappings included."""
-        n = c_size_t()
-        check(lib.smap_held(byref(self._handle), byref(n)))
-        return n.value
+        out = c_size_t()
+        check(lib.smap_held(byref(self._handle), byref(out)))
+        return out.value
+
+    def is_ignored(self, source: int) -> bool:
+        """Whether a source is ignored."""
+        out = c_bool()
+        check(lib.smap_is_ignored(byref(self._handle), index_of(source), byref(out)))
+        return out.value
+
+    def listed_source(self, i: int) -> int:
+        """The number, among the distinct sources, of the i-th source in the list."""
+        out = c_size_t()
+        check(lib.smap_listed_source(byref(self._handle), index_of(i), byref(out)))
+        return out.value
+
+    # ---- texts
 
     def _text(self, call: Callable[..., int], *words: int) -> Optional[str]:
         n, room = c_size_t(), 512
@@ -157,9 +173,7 @@ class Map(Owner):
 
     def source(self, source: int) -> Source:
         """A source by its number."""
-        ignored = c_bool()
-        check(lib.smap_is_ignored(byref(self._handle), index_of(source), byref(ignored)))
-        return Source(self.url(source), self.content(source), ignored.value)
+        return Source(self.url(source), self.content(source), self.is_ignored(source))
 
     def written_sources(self) -> List[Tuple[Optional[str], Optional[str]]]:
         """The sources that the map lists, with repeats, as its text writes them: each with its `sourceRoot`.
