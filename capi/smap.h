@@ -260,18 +260,18 @@ typedef struct smap_listed_mapping {
     uint32_t name;         /* the index in the list of names, if has_name; else 0 */
 } smap_listed_mapping;
 
-/* OK: *out is the number, among the distinct sources, of the i-th source in the list. RANGE, CLOSED. */
+/* OK: *out is the number, among the distinct sources, of the i-th one that the map lists. RANGE, CLOSED. */
 uint32_t smap_listed_source(smap_map *map, size_t i, size_t *out);
 
-/* Copies the i-th source in the list as the text of the map writes it: not resolved, and without its
+/* Copies the i-th source that the map lists, as its text writes it: not resolved, and without its
  * `sourceRoot`. OK; NONE: it is null; RANGE; CLOSED. */
 SMAP_INLINE uint32_t smap_written_source(smap_map *map, size_t i, char *out, size_t room, size_t *len);
 
-/* Copies the `sourceRoot` that applies to the i-th source in the list, which may be empty: in an index map
- * that of the section's map. OK; NONE: there is none; RANGE; CLOSED. */
+/* Copies the `sourceRoot` that applies to the i-th source that the map lists, which may be empty: in an index
+ * map that of the section's map. OK; NONE: there is none; RANGE; CLOSED. */
 SMAP_INLINE uint32_t smap_written_root(smap_map *map, size_t i, char *out, size_t room, size_t *len);
 
-/* Copies the i-th name in the list. OK, RANGE, CLOSED. */
+/* Copies the i-th name that the map lists. OK, RANGE, CLOSED. */
 SMAP_INLINE uint32_t smap_listed_name(smap_map *map, size_t i, char *out, size_t room, size_t *len);
 
 /* The i-th mapping, with indices into the lists, in order of line and column. OK, RANGE, CLOSED. */

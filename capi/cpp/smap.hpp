@@ -117,21 +117,21 @@ inline uint32_t source_content(Map &map, size_t source, std::string &out)
     return copied_of(map, out, smap_source_content, source);
 }
 
-/* The i-th source in the list as the text of the map writes it: not resolved, and without its
- * `sourceRoot`. */
+/* The i-th source that the map lists, as its text writes it: not resolved, and without its `sourceRoot`.
+ * */
 inline uint32_t written_source(Map &map, size_t i, std::string &out)
 {
     return copied_of(map, out, smap_written_source, i);
 }
 
-/* The `sourceRoot` that applies to the i-th source in the list, which may be empty: in an index map that
- * of the section's map. */
+/* The `sourceRoot` that applies to the i-th source that the map lists, which may be empty: in an index
+ * map that of the section's map. */
 inline uint32_t written_root(Map &map, size_t i, std::string &out)
 {
     return copied_of(map, out, smap_written_root, i);
 }
 
-/* The i-th name in the list. */
+/* The i-th name that the map lists. */
 inline uint32_t listed_name(Map &map, size_t i, std::string &out)
 {
     return copied_of(map, out, smap_listed_name, i);

@@ -451,26 +451,6 @@ impl Map {
         })
     }
 
-    /// The map in canonical form.
-    pub fn canonical(&self) -> Result<Vec<u8>, Error> {
-        written(|out| unsafe { smap_canonical(self.0.get(), out) }).map_err(|_| Error::Memory)
-    }
-
-    /// The same, with URLs as seen from the map's base.
-    pub fn canonical_relative(&self) -> Result<Vec<u8>, Error> {
-        written(|out| unsafe { smap_canonical_relative(self.0.get(), out) }).map_err(|_| Error::Memory)
-    }
-
-    /// The mappings of the canonical form alone.
-    pub fn canonical_mappings(&self) -> Result<Vec<u8>, Error> {
-        written(|out| unsafe { smap_canonical_mappings(self.0.get(), out) }).map_err(|_| Error::Memory)
-    }
-
-    /// The map as one flat map, its lists as they are.
-    pub fn flatten(&self) -> Result<Vec<u8>, Error> {
-        written(|out| unsafe { smap_flatten(self.0.get(), out) }).map_err(|_| Error::Memory)
-    }
-
     /// Translates a line of a trace, with its line feed where it has one, by this map of the script at `url`.
     pub fn translate_line(
         &self, url: &str, line: &[u8], options: impl Into<TraceOptions>,
@@ -554,7 +534,7 @@ impl Map {
         (code == OK).then_some(out)
     }
 
-    /// The number, among the distinct sources, of the i-th source in the list.
+    /// The number, among the distinct sources, of the i-th one that the map lists.
     pub fn listed_source(&self, i: usize) -> Option<usize> {
         let mut out = 0;
         let code = unsafe { smap_listed_source(self.0.get(), i, &mut out) };
@@ -581,21 +561,41 @@ impl Map {
         text_of(|out, room, len| unsafe { smap_source_content(self.0.get(), source, out, room, len) })
     }
 
-    /// The i-th source in the list as the text of the map writes it: not resolved, and without its
+    /// The i-th source that the map lists, as its text writes it: not resolved, and without its
     /// `sourceRoot`.
     pub fn written_source(&self, i: usize) -> Option<String> {
         text_of(|out, room, len| unsafe { smap_written_source(self.0.get(), i, out, room, len) })
     }
 
-    /// The `sourceRoot` that applies to the i-th source in the list, which may be empty: in an index map
-    /// that of the section's map.
+    /// The `sourceRoot` that applies to the i-th source that the map lists, which may be empty: in an
+    /// index map that of the section's map.
     pub fn written_root(&self, i: usize) -> Option<String> {
         text_of(|out, room, len| unsafe { smap_written_root(self.0.get(), i, out, room, len) })
     }
 
-    /// The i-th name in the list.
+    /// The i-th name that the map lists.
     pub fn listed_name(&self, i: usize) -> Option<String> {
         text_of(|out, room, len| unsafe { smap_listed_name(self.0.get(), i, out, room, len) })
+    }
+
+    /// The map in canonical form, the same bytes for all maps that mean the same; URLs are absolute.
+    pub fn canonical(&self) -> Result<Vec<u8>, Error> {
+        written(|out| unsafe { smap_canonical(self.0.get(), out) }).map_err(|_| Error::Memory)
+    }
+
+    /// The same, with URLs relative to the map's base if these resolve to the same URLs again.
+    pub fn canonical_relative(&self) -> Result<Vec<u8>, Error> {
+        written(|out| unsafe { smap_canonical_relative(self.0.get(), out) }).map_err(|_| Error::Memory)
+    }
+
+    /// The `mappings` of the canonical form alone.
+    pub fn canonical_mappings(&self) -> Result<Vec<u8>, Error> {
+        written(|out| unsafe { smap_canonical_mappings(self.0.get(), out) }).map_err(|_| Error::Memory)
+    }
+
+    /// The map as one flat map, with sources and names as listed.
+    pub fn flatten(&self) -> Result<Vec<u8>, Error> {
+        written(|out| unsafe { smap_flatten(self.0.get(), out) }).map_err(|_| Error::Memory)
     }
 }
 

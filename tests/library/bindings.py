@@ -26,6 +26,10 @@ TEXT = """/* Copies the i-th one. OK, RANGE, CLOSED. */
 SMAP_INLINE uint32_t smap_more_of(smap_map *map, size_t i, char *out, size_t room, size_t *len);
 
 """
+BYTES = """/* The map in one more form. */
+uint32_t smap_more_of(smap_map *map, smap_bytes *out);
+
+"""
 BEHIND = "/* Copies the name of the generated file."
 
 
@@ -132,17 +136,32 @@ class BindingsTest(unittest.TestCase):
         ]:
             self.assertIn(line, self.read(GETTERS))
         self.change(HEADER, "OK: *out is how many more there are.", "How many more there are.")
-        self.assert_asks(HEADER, r"has no comment of smap_more_of that begins by OK: \*out (?:is|says)")
+        self.assert_asks(HEADER, r"has no comment of smap_more_of that begins by OK: \*out (?:is|says) ")
 
     def test_a_text_of_a_map_is_a_method(self):
         self.change(HEADER, BEHIND, TEXT + BEHIND)
-        self.assert_writes([HEADER, CPP, PYTHON, CRATE, WRAPPER, VERSIONS])
+        self.assert_writes([HEADER, CPP, PYTHON, METHODS, CRATE, WRAPPER, VERSIONS, GETTERS])
         words = "Map &map, size_t i, std::string &out"
         self.assertIn(f"/* The i-th one. */\ninline uint32_t more_of({words})\n", self.read(CPP))
         self.assertIn("    return copied_of(map, out, smap_more_of, i);\n", self.read(CPP))
         self.assertIn("    pub fn more_of(&self, i: usize) -> Option<String> {\n", self.read(WRAPPER))
         call = "smap_more_of(self.0.get(), i, out, room, len)"
         self.assertIn(f"        text_of(|out, room, len| unsafe {{ {call} }})\n", self.read(WRAPPER))
+        self.assertIn("    def more_of(self, i: int) -> Optional[str]:\n", self.read(METHODS))
+        self.assertIn("        return self._text(lib.smap_more_of, index_of(i))\n", self.read(METHODS))
+        self.assertIn('    {"MORE_OF", smap_more_of},\n', self.read(GETTERS))
+
+    def test_bytes_of_a_map_are_a_method(self):
+        behind = "/* The `mappings` of the canonical form alone. */"
+        self.change(HEADER, behind, BYTES + behind)
+        self.change(INDEX, "native.held(", "native.moreOf(")
+        self.assert_writes([PYTHON, METHODS, CRATE, WRAPPER, VERSIONS, GETTERS])
+        call = "written(|out| unsafe { smap_more_of(self.0.get(), out) }).map_err(|_| Error::Memory)"
+        text = "    /// The map in one more form.\n    pub fn more_of(&self) -> Result<Vec<u8>, Error> {\n"
+        self.assertIn(f"{text}        {call}\n", self.read(WRAPPER))
+        self.assertIn('        """The map in one more form."""\n', self.read(METHODS))
+        self.assertIn("        return written(lib.smap_more_of, byref(self._handle))\n", self.read(METHODS))
+        self.assertIn("    return written(env, info, smap_more_of);\n", self.read(GETTERS))
 
     def test_what_node_calls_is_somewhere(self):
         self.change(INDEX, "native.held(", "native.lookUp(")

@@ -102,7 +102,7 @@ def cpp_text(getter):
     """A function that makes a string of a text of a map."""
     words = "".join(f"{one.type.name} {one.name}, " for one in getter.which)
     call = ", ".join(["map", "out", getter.name, *(one.name for one in getter.which)])
-    said = textwrap.wrap(f"/* {getter.sentence('Copies')} */", WIDTH, subsequent_indent=" * ")
+    said = textwrap.wrap(f"/* {getter.sentence('Copies ')} */", WIDTH, subsequent_indent=" * ")
     return "\n".join(said) + f"""
 inline uint32_t {bare(getter.name)}(Map &map, {words}std::string &out)
 {{

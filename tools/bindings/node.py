@@ -3,7 +3,7 @@
 import re
 
 from .files import TOP, WRITTEN, Refused, bare, camel, listed, replaced, replaced_in, small, wrapped
-from .getters import number_getters, struct_getters
+from .getters import Getter, bytes_getters, number_getters, struct_getters, text_getters
 from .header import Type
 
 TYPES, GETTERS = "capi/node/index.d.ts", "capi/node/native/getters.c"
@@ -63,6 +63,39 @@ static napi_value do_{bare(getter.name)}(napi_env env, napi_callback_info info)
 """
 
 
+def bytes_call(getter):
+    return f"""\
+/* {small(getter.name)}(map, asBuffer) */
+static napi_value do_{bare(getter.name)}(napi_env env, napi_callback_info info)
+{{
+    return written(env, info, {getter.name});
+}}
+"""
+
+
+def text_getter(getter):
+    """A row of the table of texts, and what it needs: all functions there take an index."""
+    name = bare(getter.name).upper()
+    if getter.which:
+        return "", f'    {{"{name}", {getter.name}}},\n'
+    function = f"""\
+static uint32_t get_{bare(getter.name)}(smap_map *map, size_t i, char *out, size_t room, size_t *len)
+{{
+    (void)i;
+    return {getter.name}(map, out, room, len);
+}}
+
+"""
+    return function, f'    {{"{name}", get_{bare(getter.name)}}},\n'
+
+
+def texts(header):
+    """The table of texts, by whose names index.js asks for them."""
+    functions, rows = zip(*map(text_getter, filter(Getter.is_indexed, text_getters(header))))
+    end = "    {NULL, NULL},\n"
+    return f"{''.join(functions)}const text_getter text_getters[] = {{\n{''.join(rows)}{end}}};\n"
+
+
 def asked_for():
     """What the JavaScript of the package calls of its addon, but for what is there by hand."""
     texts = {path.name: path.read_text() for path in (TOP / GETTERS).parent.glob("*.c")}
@@ -73,20 +106,23 @@ def asked_for():
 
 
 def getters(header):
-    """the getters of numbers that index.js calls"""
-    known = {small(getter.name): getter for getter in (*number_getters(header), *struct_getters(header))}
-    names = asked_for()
-    for name in names:
-        if name not in known:
+    """the getters that index.js calls"""
+    known = {one.name: getter_call(one, header) for one in (*number_getters(header), *struct_getters(header))}
+    known.update((one.name, bytes_call(one)) for one in bytes_getters(header))
+    names = {small(name): name for name in known}
+    asked = asked_for()
+    for name in asked:
+        if name not in names:
             raise Refused(f"capi/node calls native.{name}, which no file of native/ has, and is no getter")
-    calls = "\n".join(getter_call(known[name], header) for name in names)
-    rows = "".join(f'    {{"{name}", do_{bare(known[name].name)}}},\n' for name in names)
+    calls = "\n".join(known[names[name]] for name in asked)
+    rows = "".join(f'    {{"{name}", do_{bare(names[name])}}},\n' for name in asked)
     return f"""\
-/* {WRITTEN}: the getters of numbers that index.js calls. */
+/* {WRITTEN}: the getters that index.js calls, and texts of maps. */
 #include "smap_node.h"
 
 {calls}
 const call getter_calls[] = {{
 {rows}    {{NULL, NULL}},
 }};
-"""
+
+{texts(header)}"""

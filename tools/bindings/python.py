@@ -3,10 +3,12 @@
 import re
 
 from .files import WRITTEN, bare, camel, listed, replaced, wrapped
-from .getters import number_getters
+from .getters import bytes_getters, number_getters, text_getters
 from .header import TYPES
 
 QUOTES = '"""'
+# What Map.canonical and Map.written_sources have together.
+TOGETHER = ("smap_canonical", "smap_canonical_relative", "smap_written_source", "smap_written_root")
 
 def ctype(kind, is_field=False):
     """A type by ctypes. Texts and buffers are what bytes are passed for."""
@@ -54,23 +56,39 @@ FUNCTIONS: List[Tuple[Any, ...]] = [
 '''
 
 
-def method(getter):
-    """A method of a map. A number that the library doesn't have is an IndexError."""
+def method(getter, result, sentence, lines):
     words = "".join(f", {one.name}: int" for one in getter.which)
+    text = wrapped(f"{QUOTES}{sentence}{QUOTES}".split(), "        ")
+    return f"    def {getter.method()}(self{words}) -> {result}:\n{text}\n{lines}\n"
+
+
+def number_method(getter):
     which = "".join(f"index_of({one.name}), " for one in getter.which)
-    said = getter.sentence(r"OK: \*out (?:is|says)")
-    return f"""\
-    def {bare(getter.name)}(self{words}) -> {"bool" if getter.kind.name == "bool" else "int"}:
-{wrapped(f'{QUOTES}{said}{QUOTES}'.split(), "        ")}
+    lines = f"""\
         out = {ctype(getter.kind)}()
         check(lib.{getter.name}(byref(self._handle), {which}byref(out)))
         return out.value
-
 """
+    result = "bool" if getter.kind.name == "bool" else "int"
+    return method(getter, result, getter.sentence(r"OK: \*out (?:is|says) "), lines)
+
+
+def text_method(getter):
+    which = "".join(f", index_of({one.name})" for one in getter.which)
+    line = f"        return self._text(lib.{getter.name}{which})\n"
+    return method(getter, "Optional[str]", getter.sentence("Copies "), line)
+
+
+def bytes_method(getter):
+    line = f"        return written(lib.{getter.name}, byref(self._handle))\n"
+    return method(getter, "bytes", getter.sentence(""), line)
 
 
 def getters(header):
-    """its numbers of maps, as methods"""
-    start, end = f"    # ---- numbers: {WRITTEN}\n", "    # ---- texts\n"
-    methods = "".join(map(method, number_getters(header)))
+    """the numbers, texts and bytes of maps, as methods"""
+    known = [(number_method, one) for one in number_getters(header)]
+    known += [(text_method, one) for one in text_getters(header) if one.is_indexed()]
+    known += [(bytes_method, one) for one in bytes_getters(header)]
+    methods = "".join(make(one) for make, one in known if one.name not in TOGETHER)
+    start, end = f"    # ---- numbers, texts and bytes: {WRITTEN}\n", "    # ---- sources\n"
     return replaced("capi/python/smap/maps.py", rf"^{start}(?:.|\n)*?^{end}", f"{start}\n{methods}{end}")

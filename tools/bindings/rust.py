@@ -4,14 +4,12 @@ import textwrap
 
 from .c import rows
 from .files import WRITTEN, bare, camel, listed, replaced, wrapped
-from .getters import number_getters, text_getters
+from .getters import bytes_getters, number_getters, text_getters
 from .header import TYPES
 
 RUST = {name: in_rust for name, (_, _, in_rust) in TYPES.items()}
 # In the wrapper texts and buffers are bytes, and structs have names as in Rust.
 RUST_WRAPPER = {**RUST, "char": "u8", "void": "u8"}
-# Methods of maps that have other names there.
-RENAMED = {"smap_source_url": "url", "smap_source_content": "content"}
 
 
 def rust_type(kind, types):
@@ -91,9 +89,8 @@ mod tests {{
 
 def method(getter, start, result, lines):
     words = "".join(f", {one.name}: {rust_type(one.type, RUST)}" for one in getter.which)
-    name = RENAMED.get(getter.name, bare(getter.name))
     text = wrapped(getter.sentence(start).split(), "    /// ")
-    return f"{text}\n    pub fn {name}(&self{words}) -> {result} {{\n{lines}    }}\n"
+    return f"{text}\n    pub fn {getter.method()}(&self{words}) -> {result} {{\n{lines}    }}\n"
 
 
 def number_method(getter):
@@ -107,22 +104,27 @@ def number_method(getter):
         lines = [f"let mut out = {zero};", f"let code = {call}", "(code == OK).then_some(out)"]
         kind = f"Option<{kind}>"
     text = "".join(f"        {line}\n" for line in lines)
-    return method(getter, r"OK: \*out (?:is|says)", kind, text)
+    return method(getter, r"OK: \*out (?:is|says) ", kind, text)
 
 
 def text_method(getter):
     words = ", ".join(["self.0.get()", *(one.name for one in getter.which), "out", "room", "len"])
     call = f"        text_of(|out, room, len| unsafe {{ {getter.name}({words}) }})\n"
-    return method(getter, "Copies", "Option<String>", call)
+    return method(getter, "Copies ", "Option<String>", call)
+
+
+def bytes_method(getter):
+    call = f"written(|out| unsafe {{ {getter.name}(self.0.get(), out) }}).map_err(|_| Error::Memory)"
+    return method(getter, "", "Result<Vec<u8>, Error>", f"        {call}\n")
 
 
 def wrapper(header):
-    """the same for the wrapper in Rust, at the end of it; and the numbers and texts of maps, as methods"""
+    """the same for the wrapper in Rust, at the end of it; and numbers, texts and bytes of maps, as methods"""
     numbers = [(bare(name), number) for name, number in header.numbers]
     raw = declarations(header, RUST_WRAPPER, numbers, 'unsafe extern "C"')
     start = "// What smap.h declares, to the end of the file"
     methods = [*map(number_method, number_getters(header)), *map(text_method, text_getters(header))]
-    getters = "\n".join(methods)
+    getters = "\n".join([*methods, *map(bytes_method, bytes_getters(header))])
     text = f"""{start}: {WRITTEN}.
 impl Map {{
     // An answer is none if there is nothing of that kind.

@@ -144,6 +144,22 @@ void tell_held(napi_env env, int64_t more);
     boxed_map *boxed = map_of(env, w[0]);                                                                    \
     if (!boxed) return NULL
 
+/* ---- questions.c */
+
+/* A string or a Buffer of what a call writes: the arguments are a map and whether a Buffer is wanted. */
+napi_value written(napi_env env, napi_callback_info info, uint32_t (*call)(smap_map *map, smap_bytes *out));
+
+/* ---- getters.c */
+
+/* A text of the i-th of a map's sources or names, or of the map itself, whatever i is. */
+typedef struct text_getter {
+    const char *name;
+    uint32_t (*get)(smap_map *map, size_t i, char *out, size_t room, size_t *len);
+} text_getter;
+
+/* All of them, which end with one that has no name. Each name is in the module, as a number. */
+extern const text_getter text_getters[];
+
 /* ---- what index.js calls */
 
 /* A function, by the name that JavaScript has for it. */

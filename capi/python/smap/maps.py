@@ -125,7 +125,19 @@ class Map(Owner):
         check(lib.smap_count(byref(self._handle), byref(counts)))
         return counts
 
-    # ---- numbers: tools/write-bindings writes this out of capi/smap.h
+    def _text(self, call: Callable[..., int], *words: int) -> Optional[str]:
+        n, room = c_size_t(), 512
+        while True:
+            out = create_string_buffer(room)
+            code = call(byref(self._handle), *words, out, room, byref(n))
+            if code == NONE:
+                return None
+            check(code)
+            if n.value <= room:
+                return out.raw[: n.value].decode()
+            room = n.value
+
+    # ---- numbers, texts and bytes: tools/write-bindings writes this out of capi/smap.h
 
     def held(self) -> int:
         """About how many bytes of memory the map takes, its strings and mappings included."""
@@ -140,24 +152,10 @@ class Map(Owner):
         return out.value
 
     def listed_source(self, i: int) -> int:
-        """The number, among the distinct sources, of the i-th source in the list."""
+        """The number, among the distinct sources, of the i-th one that the map lists."""
         out = c_size_t()
         check(lib.smap_listed_source(byref(self._handle), index_of(i), byref(out)))
         return out.value
-
-    # ---- texts
-
-    def _text(self, call: Callable[..., int], *words: int) -> Optional[str]:
-        n, room = c_size_t(), 512
-        while True:
-            out = create_string_buffer(room)
-            code = call(byref(self._handle), *words, out, room, byref(n))
-            if code == NONE:
-                return None
-            check(code)
-            if n.value <= room:
-                return out.raw[: n.value].decode()
-            room = n.value
 
     def file(self) -> Optional[str]:
         """The name of the generated file."""
@@ -168,8 +166,22 @@ class Map(Owner):
         return self._text(lib.smap_source_url, index_of(source))
 
     def content(self, source: int) -> Optional[str]:
-        """The text of a source."""
+        """The content of a source."""
         return self._text(lib.smap_source_content, index_of(source))
+
+    def listed_name(self, i: int) -> Optional[str]:
+        """The i-th name that the map lists."""
+        return self._text(lib.smap_listed_name, index_of(i))
+
+    def canonical_mappings(self) -> bytes:
+        """The `mappings` of the canonical form alone."""
+        return written(lib.smap_canonical_mappings, byref(self._handle))
+
+    def flatten(self) -> bytes:
+        """The map as one flat map, with sources and names as listed."""
+        return written(lib.smap_flatten, byref(self._handle))
+
+    # ---- sources
 
     def source(self, source: int) -> Source:
         """A source by its number."""
@@ -239,14 +251,6 @@ class Map(Owner):
         """The map in canonical form: the same bytes for all maps that say the same."""
         call = lib.smap_canonical_relative if relative else lib.smap_canonical
         return written(call, byref(self._handle))
-
-    def canonical_mappings(self) -> bytes:
-        """The mappings of the canonical form alone."""
-        return written(lib.smap_canonical_mappings, byref(self._handle))
-
-    def flatten(self) -> bytes:
-        """The map as one flat map, its lists as they are."""
-        return written(lib.smap_flatten, byref(self._handle))
 
     def translate_line(
         self, line: bytes, url: str, hide: bool = False, *, anywhere: bool = False, ignore_query: bool = False
