@@ -1,4 +1,5 @@
 -- The fields of each struct that crosses to C, in the order in which they lie in it, as in `smap.h`.
+-- tools/write-bindings writes those of structs that are no handles out of capi/smap.h.
 use Rattle.std.specs.Prelude.{◌≡◌}
 use Rattle.smap_c.specs.declared.faults.SmapFault.{SmapFault}
 use Rattle.smap_c.specs.declared.handles.Owner.{Owner}
