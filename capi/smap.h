@@ -202,9 +202,9 @@ typedef struct smap_counts {
 /* OK, CLOSED. */
 uint32_t smap_count(smap_map *map, smap_counts *out);
 
-/* OK: *out is about how many bytes of memory the map takes, its strings and mappings included: what counts in
- * a cache, for instance. Handles that share a map share them. The time grows with the numbers of sources and
- * names, and no memory is taken. CLOSED. */
+/* OK: *out is about how many bytes of memory the map takes, its strings and mappings included. That is what
+ * counts in a cache, for instance. Handles that share a map share them. The time grows with the numbers of
+ * sources and names, and no memory is taken. CLOSED. */
 uint32_t smap_held(smap_map *map, size_t *out);
 
 /* Copies the name of the generated file. OK; NONE: the map has none; CLOSED. */
@@ -230,7 +230,8 @@ uint32_t smap_lookup(smap_map *map, uint32_t line, uint32_t column, smap_mapping
  * NONE, CLOSED. */
 uint32_t smap_find(smap_map *map, uint32_t line, uint32_t column, size_t *out);
 
-/* Copies the name that the mapping there has. OK; NONE: there is no mapping, or it has no name; CLOSED. */
+/* Copies the name of the mapping for a generated position. OK; NONE: there is no mapping, or it has no name;
+ * CLOSED. */
 SMAP_INLINE uint32_t smap_name_at(smap_map *map, uint32_t line, uint32_t column, char *out, size_t room,
                                   size_t *len);
 
@@ -245,7 +246,7 @@ SMAP_INLINE uint32_t smap_source_url(smap_map *map, size_t source, char *out, si
 /* Copies the content of a source. OK; NONE: the map doesn't have it; RANGE; CLOSED. */
 SMAP_INLINE uint32_t smap_source_content(smap_map *map, size_t source, char *out, size_t room, size_t *len);
 
-/* OK: *out says whether the source is ignored. RANGE, CLOSED. */
+/* OK: *out says whether a source is ignored. RANGE, CLOSED. */
 uint32_t smap_is_ignored(smap_map *map, size_t source, bool *out);
 
 /* ---- what the map's text lists, with repeats */
@@ -259,18 +260,18 @@ typedef struct smap_listed_mapping {
     uint32_t name;         /* the index in the list of names, if has_name; else 0 */
 } smap_listed_mapping;
 
-/* OK: *out is the number, among the distinct ones, of the i-th source in the list. RANGE, CLOSED. */
+/* OK: *out is the number, among the distinct sources, of the i-th one that the map lists. RANGE, CLOSED. */
 uint32_t smap_listed_source(smap_map *map, size_t i, size_t *out);
 
-/* Copies the i-th source in the list as the text of the map writes it: not resolved, and without its
+/* Copies the i-th source that the map lists, as its text writes it: not resolved, and without its
  * `sourceRoot`. OK; NONE: it is null; RANGE; CLOSED. */
 SMAP_INLINE uint32_t smap_written_source(smap_map *map, size_t i, char *out, size_t room, size_t *len);
 
-/* Copies the `sourceRoot` that applies to the i-th source in the list, which may be empty: in an index map
- * that of the section's map. OK; NONE: there is none; RANGE; CLOSED. */
+/* Copies the `sourceRoot` that applies to the i-th source that the map lists, which may be empty: in an index
+ * map that of the section's map. OK; NONE: there is none; RANGE; CLOSED. */
 SMAP_INLINE uint32_t smap_written_root(smap_map *map, size_t i, char *out, size_t room, size_t *len);
 
-/* Copies the i-th name in the list. OK, RANGE, CLOSED. */
+/* Copies the i-th name that the map lists. OK, RANGE, CLOSED. */
 SMAP_INLINE uint32_t smap_listed_name(smap_map *map, size_t i, char *out, size_t room, size_t *len);
 
 /* The i-th mapping, with indices into the lists, in order of line and column. OK, RANGE, CLOSED. */

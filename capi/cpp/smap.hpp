@@ -91,13 +91,15 @@ uint32_t copied_of(Map &map, std::string &out, Call call, Which... which)
     return copied([=](char *at, size_t n, size_t *len) { return call(handle, which..., at, n, len); }, out);
 }
 
+/* ---- texts of maps: tools/write-bindings writes this out of capi/smap.h */
+
 /* The name of the generated file. */
 inline uint32_t file(Map &map, std::string &out)
 {
     return copied_of(map, out, smap_file);
 }
 
-/* The name of the mapping that a generated position falls to. */
+/* The name of the mapping for a generated position. */
 inline uint32_t name_at(Map &map, uint32_t line, uint32_t column, std::string &out)
 {
     return copied_of(map, out, smap_name_at, line, column);
@@ -109,19 +111,21 @@ inline uint32_t source_url(Map &map, size_t source, std::string &out)
     return copied_of(map, out, smap_source_url, source);
 }
 
-/* The text of a source. */
+/* The content of a source. */
 inline uint32_t source_content(Map &map, size_t source, std::string &out)
 {
     return copied_of(map, out, smap_source_content, source);
 }
 
-/* The i-th source that the map lists, as its text writes it. */
+/* The i-th source that the map lists, as its text writes it: not resolved, and without its `sourceRoot`.
+ * */
 inline uint32_t written_source(Map &map, size_t i, std::string &out)
 {
     return copied_of(map, out, smap_written_source, i);
 }
 
-/* The `sourceRoot` that applies to it. */
+/* The `sourceRoot` that applies to the i-th source that the map lists, which may be empty: in an index
+ * map that of the section's map. */
 inline uint32_t written_root(Map &map, size_t i, std::string &out)
 {
     return copied_of(map, out, smap_written_root, i);
@@ -132,6 +136,8 @@ inline uint32_t listed_name(Map &map, size_t i, std::string &out)
 {
     return copied_of(map, out, smap_listed_name, i);
 }
+
+/* ---- scripts and logs */
 
 /* Adds a script, as smap_add_script does. The map may be closed afterwards. */
 inline uint32_t add_script(Scripts &scripts, const std::string &url, Map &map)

@@ -409,13 +409,6 @@ impl Map {
         counts
     }
 
-    /// About how many bytes of memory the map takes, its strings and mappings included.
-    pub fn held(&self) -> usize {
-        let mut out = 0;
-        unsafe { smap_held(self.0.get(), &mut out) };
-        out
-    }
-
     /// The mapping that a generated position falls to.
     pub fn lookup(&self, line: u32, column: u32) -> Option<Mapping> {
         let mut m = raw::Mapping::default();
@@ -442,55 +435,6 @@ impl Map {
         Mappings { map: self, next: 0 }
     }
 
-    /// The name of the mapping there.
-    pub fn name_at(&self, line: u32, column: u32) -> Option<String> {
-        text_of(|out, room, len| unsafe { smap_name_at(self.0.get(), line, column, out, room, len) })
-    }
-
-    /// The URL of a source.
-    pub fn url(&self, source: usize) -> Option<String> {
-        text_of(|out, room, len| unsafe { smap_source_url(self.0.get(), source, out, room, len) })
-    }
-
-    /// The text of a source.
-    pub fn content(&self, source: usize) -> Option<String> {
-        text_of(|out, room, len| unsafe { smap_source_content(self.0.get(), source, out, room, len) })
-    }
-
-    /// Whether a source is ignored; none if there is no such source.
-    pub fn is_ignored(&self, source: usize) -> Option<bool> {
-        let mut out = false;
-        let code = unsafe { smap_is_ignored(self.0.get(), source, &mut out) };
-        (code == OK).then_some(out)
-    }
-
-    /// The name of the generated file.
-    pub fn file(&self) -> Option<String> {
-        text_of(|out, room, len| unsafe { smap_file(self.0.get(), out, room, len) })
-    }
-
-    /// The number, among the distinct sources, of the i-th source that the map's text lists.
-    pub fn listed_source(&self, i: usize) -> Option<usize> {
-        let mut out = 0;
-        let code = unsafe { smap_listed_source(self.0.get(), i, &mut out) };
-        (code == OK).then_some(out)
-    }
-
-    /// The i-th source that the map's text lists, as it is written there; none for a null.
-    pub fn written_source(&self, i: usize) -> Option<String> {
-        text_of(|out, room, len| unsafe { smap_written_source(self.0.get(), i, out, room, len) })
-    }
-
-    /// The `sourceRoot` that applies to the i-th source that the map's text lists.
-    pub fn written_root(&self, i: usize) -> Option<String> {
-        text_of(|out, room, len| unsafe { smap_written_root(self.0.get(), i, out, room, len) })
-    }
-
-    /// The i-th name that the map's text lists.
-    pub fn listed_name(&self, i: usize) -> Option<String> {
-        text_of(|out, room, len| unsafe { smap_listed_name(self.0.get(), i, out, room, len) })
-    }
-
     /// The i-th mapping by places in the lists, in order of line and column.
     pub fn listed_mapping(&self, i: usize) -> Option<ListedMapping> {
         let mut m = raw::ListedMapping::default();
@@ -505,26 +449,6 @@ impl Map {
             source_column: m.source_column,
             name: m.has_name.then_some(m.name),
         })
-    }
-
-    /// The map in canonical form.
-    pub fn canonical(&self) -> Result<Vec<u8>, Error> {
-        written(|out| unsafe { smap_canonical(self.0.get(), out) }).map_err(|_| Error::Memory)
-    }
-
-    /// The same, with URLs as seen from the map's base.
-    pub fn canonical_relative(&self) -> Result<Vec<u8>, Error> {
-        written(|out| unsafe { smap_canonical_relative(self.0.get(), out) }).map_err(|_| Error::Memory)
-    }
-
-    /// The mappings of the canonical form alone.
-    pub fn canonical_mappings(&self) -> Result<Vec<u8>, Error> {
-        written(|out| unsafe { smap_canonical_mappings(self.0.get(), out) }).map_err(|_| Error::Memory)
-    }
-
-    /// The map as one flat map, its lists as they are.
-    pub fn flatten(&self) -> Result<Vec<u8>, Error> {
-        written(|out| unsafe { smap_flatten(self.0.get(), out) }).map_err(|_| Error::Memory)
     }
 
     /// Translates a line of a trace, with its line feed where it has one, by this map of the script at `url`.
@@ -593,6 +517,88 @@ impl Scripts {
 }
 
 // What smap.h declares, to the end of the file: tools/write-bindings writes this out of capi/smap.h.
+impl Map {
+    // An answer is none if there is nothing of that kind.
+
+    /// About how many bytes of memory the map takes, its strings and mappings included.
+    pub fn held(&self) -> usize {
+        let mut out = 0;
+        unsafe { smap_held(self.0.get(), &mut out) };
+        out
+    }
+
+    /// Whether a source is ignored.
+    pub fn is_ignored(&self, source: usize) -> Option<bool> {
+        let mut out = false;
+        let code = unsafe { smap_is_ignored(self.0.get(), source, &mut out) };
+        (code == OK).then_some(out)
+    }
+
+    /// The number, among the distinct sources, of the i-th one that the map lists.
+    pub fn listed_source(&self, i: usize) -> Option<usize> {
+        let mut out = 0;
+        let code = unsafe { smap_listed_source(self.0.get(), i, &mut out) };
+        (code == OK).then_some(out)
+    }
+
+    /// The name of the generated file.
+    pub fn file(&self) -> Option<String> {
+        text_of(|out, room, len| unsafe { smap_file(self.0.get(), out, room, len) })
+    }
+
+    /// The name of the mapping for a generated position.
+    pub fn name_at(&self, line: u32, column: u32) -> Option<String> {
+        text_of(|out, room, len| unsafe { smap_name_at(self.0.get(), line, column, out, room, len) })
+    }
+
+    /// The URL of a source.
+    pub fn url(&self, source: usize) -> Option<String> {
+        text_of(|out, room, len| unsafe { smap_source_url(self.0.get(), source, out, room, len) })
+    }
+
+    /// The content of a source.
+    pub fn content(&self, source: usize) -> Option<String> {
+        text_of(|out, room, len| unsafe { smap_source_content(self.0.get(), source, out, room, len) })
+    }
+
+    /// The i-th source that the map lists, as its text writes it: not resolved, and without its
+    /// `sourceRoot`.
+    pub fn written_source(&self, i: usize) -> Option<String> {
+        text_of(|out, room, len| unsafe { smap_written_source(self.0.get(), i, out, room, len) })
+    }
+
+    /// The `sourceRoot` that applies to the i-th source that the map lists, which may be empty: in an
+    /// index map that of the section's map.
+    pub fn written_root(&self, i: usize) -> Option<String> {
+        text_of(|out, room, len| unsafe { smap_written_root(self.0.get(), i, out, room, len) })
+    }
+
+    /// The i-th name that the map lists.
+    pub fn listed_name(&self, i: usize) -> Option<String> {
+        text_of(|out, room, len| unsafe { smap_listed_name(self.0.get(), i, out, room, len) })
+    }
+
+    /// The map in canonical form, the same bytes for all maps that mean the same; URLs are absolute.
+    pub fn canonical(&self) -> Result<Vec<u8>, Error> {
+        written(|out| unsafe { smap_canonical(self.0.get(), out) }).map_err(|_| Error::Memory)
+    }
+
+    /// The same, with URLs relative to the map's base if these resolve to the same URLs again.
+    pub fn canonical_relative(&self) -> Result<Vec<u8>, Error> {
+        written(|out| unsafe { smap_canonical_relative(self.0.get(), out) }).map_err(|_| Error::Memory)
+    }
+
+    /// The `mappings` of the canonical form alone.
+    pub fn canonical_mappings(&self) -> Result<Vec<u8>, Error> {
+        written(|out| unsafe { smap_canonical_mappings(self.0.get(), out) }).map_err(|_| Error::Memory)
+    }
+
+    /// The map as one flat map, with sources and names as listed.
+    pub fn flatten(&self) -> Result<Vec<u8>, Error> {
+        written(|out| unsafe { smap_flatten(self.0.get(), out) }).map_err(|_| Error::Memory)
+    }
+}
+
 mod raw {
     pub const OK: u32 = 0;
     pub const REFUSED: u32 = 1;

@@ -43,6 +43,13 @@ class ModuleTest(unittest.TestCase):
         self.assertEqual(self.map.source(2), smap.Source(None, None, False))
         with self.assertRaises(IndexError):
             self.map.source(3)
+        self.assertEqual([self.map.is_ignored(i) for i in range(3)], [False, True, False])
+        self.assertEqual([self.map.listed_source(i) for i in range(3)], [0, 1, 2])
+        for number in (3, -1, 2**64):
+            self.assertRaises(IndexError, self.map.is_ignored, number)
+            self.assertRaises(IndexError, self.map.listed_source, number)
+        self.assertEqual(self.map.listed_name(0), "f")
+        self.assertRaises(IndexError, self.map.listed_name, 1)
         self.assertEqual([m.column for m in self.map.mappings()], [0, 4, 0, 2])
         self.assertEqual((self.map.file(), self.map.counts().names), ("out.js", 1))
         # A string of up to 24 bytes has a block of 24: the base; "out.js", two URLs, a content and "f".

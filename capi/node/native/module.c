@@ -63,7 +63,7 @@ static const call module_calls[] = {
 };
 
 static const call *const tables[] = {
-    module_calls, map_calls, later_calls, question_calls, trace_calls, link_calls,
+    module_calls, map_calls, later_calls, question_calls, getter_calls, trace_calls, link_calls,
 #ifdef SMAP_NODE_TEST
     test_calls,
 #endif
@@ -86,5 +86,10 @@ NAPI_MODULE_INIT()
             CALL(napi_create_function(env, c->name, NAPI_AUTO_LENGTH, c->function, own, &function));
             CALL(napi_set_named_property(env, exports, c->name, function));
         }
+    for (uint32_t i = 0; text_getters[i].name; i++) {
+        napi_value number;
+        CALL(napi_create_uint32(env, i, &number));
+        CALL(napi_set_named_property(env, exports, text_getters[i].name, number));
+    }
     return exports;
 }

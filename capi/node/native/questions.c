@@ -1,35 +1,6 @@
 /* What is asked of maps. */
 #include "smap_node.h"
 
-/* The arguments and the map, which is the first of them. */
-#define MAP_AND(n)                                                                                           \
-    ARGUMENTS(n);                                                                                            \
-    boxed_map *boxed = map_of(env, w[0]);                                                                    \
-    if (!boxed) return NULL
-
-/* counts(map): {sources, listedSources, names, mappings, lines} */
-static napi_value do_counts(napi_env env, napi_callback_info info)
-{
-    smap_counts counts;
-    napi_value out, number;
-    MAP_AND(1);
-    uint32_t code = smap_count(&boxed->map, &counts);
-    if (code != SMAP_OK) return throw_code(env, code, NULL);
-    const struct {
-        const char *name;
-        uint64_t count;
-    } all[] = {
-        {"sources", counts.sources},   {"listedSources", counts.listed_sources}, {"names", counts.names},
-        {"mappings", counts.mappings}, {"lines", counts.lines},
-    };
-    CALL(napi_create_object(env, &out));
-    for (size_t i = 0; i < sizeof all / sizeof *all; i++) {
-        CALL(napi_create_int64(env, (int64_t)all[i].count, &number));
-        CALL(napi_set_named_property(env, out, all[i].name, number));
-    }
-    return out;
-}
-
 /* A mapping, by its number, in the array that index.js reads: line, column, source, source line, source
  * column; as bits whether it has a source, a name, and is ignored; the number; and the listed name. */
 static uint32_t put_found(smap_map *map, size_t i, uint32_t *found)
@@ -116,29 +87,26 @@ static napi_value do_listed_at(napi_env env, napi_callback_info info)
     return out;
 }
 
-/* ---- texts that are copied: the file, a source's URL or content, a name, a source or root as written */
+/* ---- texts that are copied */
 
-enum { GET_FILE, GET_URL, GET_CONTENT, GET_LISTED_NAME, GET_WRITTEN_SOURCE, GET_WRITTEN_ROOT };
-
-static uint32_t get(smap_map *map, uint32_t which, uint32_t i, char *out, size_t room, size_t *len)
+/* The text of the map that a number of index.js stands for, or NULL, and an exception is pending. */
+static const text_getter *getter_of(napi_env env, napi_value value)
 {
-    switch (which) {
-    case GET_FILE: return smap_file(map, out, room, len);
-    case GET_URL: return smap_source_url(map, i, out, room, len);
-    case GET_CONTENT: return smap_source_content(map, i, out, room, len);
-    case GET_LISTED_NAME: return smap_listed_name(map, i, out, room, len);
-    case GET_WRITTEN_SOURCE: return smap_written_source(map, i, out, room, len);
-    default: return smap_written_root(map, i, out, room, len);
-    }
+    uint32_t which;
+    if (napi_get_value_uint32(env, value, &which) == napi_ok)
+        for (const text_getter *getter = text_getters; getter->name; getter++)
+            if (which-- == 0) return getter;
+    napi_throw_type_error(env, NULL, "no text of a map");
+    return NULL;
 }
 
 /* The text as a string, or null if there is none. */
-static napi_value got(napi_env env, smap_map *map, uint32_t which, uint32_t i)
+static napi_value got(napi_env env, smap_map *map, const text_getter *getter, uint32_t i)
 {
     char room[1024], *long_room;
     size_t len = 0;
     napi_value out = NULL;
-    uint32_t code = get(map, which, i, room, sizeof room, &len);
+    uint32_t code = getter->get(map, i, room, sizeof room, &len);
     if (code == SMAP_NONE) {
         CALL(napi_get_null(env, &out));
         return out;
@@ -147,7 +115,7 @@ static napi_value got(napi_env env, smap_map *map, uint32_t which, uint32_t i)
     if (len <= sizeof room) return string_out(env, room, len);
     long_room = malloc(len);
     if (!long_room) return throw_code(env, SMAP_MEMORY, NULL);
-    code = get(map, which, i, long_room, len, &len);
+    code = getter->get(map, i, long_room, len, &len);
     out = code == SMAP_OK ? string_out(env, long_room, len) : throw_code(env, code, NULL);
     free(long_room);
     return out;
@@ -156,26 +124,28 @@ static napi_value got(napi_env env, smap_map *map, uint32_t which, uint32_t i)
 /* text(map, which, i): a string or null */
 static napi_value do_text(napi_env env, napi_callback_info info)
 {
-    uint32_t which, i;
+    uint32_t i;
     MAP_AND(3);
-    CALL(napi_get_value_uint32(env, w[1], &which));
+    const text_getter *getter = getter_of(env, w[1]);
+    if (!getter) return NULL;
     CALL(napi_get_value_uint32(env, w[2], &i));
-    return got(env, &boxed->map, which, i);
+    return got(env, &boxed->map, getter, i);
 }
 
 /* texts(map, which, count): the texts of the numbers below `count` */
 static napi_value do_texts(napi_env env, napi_callback_info info)
 {
-    uint32_t which, count;
+    uint32_t count;
     napi_value out;
     napi_handle_scope scope;
     MAP_AND(3);
-    CALL(napi_get_value_uint32(env, w[1], &which));
+    const text_getter *getter = getter_of(env, w[1]);
+    if (!getter) return NULL;
     CALL(napi_get_value_uint32(env, w[2], &count));
     CALL(napi_create_array_with_length(env, count, &out));
     for (uint32_t i = 0; i < count; i++) {
         CALL(napi_open_handle_scope(env, &scope));
-        napi_value one = got(env, &boxed->map, which, i);
+        napi_value one = got(env, &boxed->map, getter, i);
         napi_status status = one ? napi_set_element(env, out, i, one) : napi_pending_exception;
         if (status != napi_ok) failed(env);
         napi_close_handle_scope(env, scope);
@@ -239,21 +209,13 @@ static napi_value do_table(napi_env env, napi_callback_info info)
 
 /* ---- what is written */
 
-/* written(map, which, asBuffer): 0 canonical, 1 relative, 2 canonical mappings, 3 flat */
-static napi_value do_written(napi_env env, napi_callback_info info)
+napi_value written(napi_env env, napi_callback_info info, uint32_t (*call)(smap_map *map, smap_bytes *out))
 {
-    uint32_t which, code;
     bool as_buffer;
     smap_bytes bytes = {0};
-    MAP_AND(3);
-    CALL(napi_get_value_uint32(env, w[1], &which));
-    CALL(napi_get_value_bool(env, w[2], &as_buffer));
-    switch (which) {
-    case 0: code = smap_canonical(&boxed->map, &bytes); break;
-    case 1: code = smap_canonical_relative(&boxed->map, &bytes); break;
-    case 2: code = smap_canonical_mappings(&boxed->map, &bytes); break;
-    default: code = smap_flatten(&boxed->map, &bytes);
-    }
+    MAP_AND(2);
+    CALL(napi_get_value_bool(env, w[1], &as_buffer));
+    uint32_t code = call(&boxed->map, &bytes);
     if (code != SMAP_OK) return throw_code(env, code, NULL);
     return bytes_out(env, &bytes, as_buffer);
 }
@@ -273,14 +235,12 @@ static napi_value do_respell(napi_env env, napi_callback_info info)
 }
 
 const call question_calls[] = {
-    {"counts", do_counts},
     {"lookup", do_lookup},
     {"listedAt", do_listed_at},
     {"text", do_text},
     {"texts", do_texts},
     {"flags", do_flags},
     {"table", do_table},
-    {"written", do_written},
     {"respell", do_respell},
     {NULL, NULL},
 };

@@ -101,6 +101,14 @@ napi_value bytes_out(napi_env env, smap_bytes *bytes, bool as_buffer);
 /* An array of these numbers, or throws. */
 napi_value numbers_out(napi_env env, const uint64_t *numbers, uint32_t count);
 
+/* An object of numbers, or throws. */
+typedef struct named_number {
+    const char *name;
+    uint64_t number;
+} named_number;
+
+napi_value object_out(napi_env env, const named_number *numbers, size_t count);
+
 /* ---- maps.c */
 
 /* The map or the scripts of a handle, or throws. */
@@ -130,6 +138,28 @@ int64_t held_by(smap_map *map);
  * would have no reason to collect it. */
 void tell_held(napi_env env, int64_t more);
 
+/* The arguments and the map, which is the first of them. */
+#define MAP_AND(n)                                                                                           \
+    ARGUMENTS(n);                                                                                            \
+    boxed_map *boxed = map_of(env, w[0]);                                                                    \
+    if (!boxed) return NULL
+
+/* ---- questions.c */
+
+/* A string or a Buffer of what a call writes: the arguments are a map and whether a Buffer is wanted. */
+napi_value written(napi_env env, napi_callback_info info, uint32_t (*call)(smap_map *map, smap_bytes *out));
+
+/* ---- getters.c */
+
+/* A text of the i-th of a map's sources or names, or of the map itself, whatever i is. */
+typedef struct text_getter {
+    const char *name;
+    uint32_t (*get)(smap_map *map, size_t i, char *out, size_t room, size_t *len);
+} text_getter;
+
+/* All of them, which end with one that has no name. Each name is in the module, as a number. */
+extern const text_getter text_getters[];
+
 /* ---- what index.js calls */
 
 /* A function, by the name that JavaScript has for it. */
@@ -139,7 +169,7 @@ typedef struct call {
 } call;
 
 /* Those of a file, which end with one that has no name. */
-extern const call map_calls[], later_calls[], question_calls[], trace_calls[], link_calls[];
+extern const call map_calls[], later_calls[], question_calls[], getter_calls[], trace_calls[], link_calls[];
 #ifdef SMAP_NODE_TEST
 extern const call test_calls[];
 #endif

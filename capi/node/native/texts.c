@@ -108,3 +108,14 @@ napi_value numbers_out(napi_env env, const uint64_t *numbers, uint32_t count)
     }
     return out;
 }
+
+napi_value object_out(napi_env env, const named_number *numbers, size_t count)
+{
+    napi_value out, one;
+    CALL(napi_create_object(env, &out));
+    for (size_t i = 0; i < count; i++) {
+        CALL(napi_create_int64(env, (int64_t)numbers[i].number, &one));
+        CALL(napi_set_named_property(env, out, numbers[i].name, one));
+    }
+    return out;
+}

@@ -125,12 +125,6 @@ class Map(Owner):
         check(lib.smap_count(byref(self._handle), byref(counts)))
         return counts
 
-    def held(self) -> int:
-        """About how many bytes of memory the map takes, its strings and mappings included."""
-        n = c_size_t()
-        check(lib.smap_held(byref(self._handle), byref(n)))
-        return n.value
-
     def _text(self, call: Callable[..., int], *words: int) -> Optional[str]:
         n, room = c_size_t(), 512
         while True:
@@ -143,6 +137,26 @@ class Map(Owner):
                 return out.raw[: n.value].decode()
             room = n.value
 
+    # ---- numbers, texts and bytes: tools/write-bindings writes this out of capi/smap.h
+
+    def held(self) -> int:
+        """About how many bytes of memory the map takes, its strings and mappings included."""
+        out = c_size_t()
+        check(lib.smap_held(byref(self._handle), byref(out)))
+        return out.value
+
+    def is_ignored(self, source: int) -> bool:
+        """Whether a source is ignored."""
+        out = c_bool()
+        check(lib.smap_is_ignored(byref(self._handle), index_of(source), byref(out)))
+        return out.value
+
+    def listed_source(self, i: int) -> int:
+        """The number, among the distinct sources, of the i-th one that the map lists."""
+        out = c_size_t()
+        check(lib.smap_listed_source(byref(self._handle), index_of(i), byref(out)))
+        return out.value
+
     def file(self) -> Optional[str]:
         """The name of the generated file."""
         return self._text(lib.smap_file)
@@ -152,14 +166,26 @@ class Map(Owner):
         return self._text(lib.smap_source_url, index_of(source))
 
     def content(self, source: int) -> Optional[str]:
-        """The text of a source."""
+        """The content of a source."""
         return self._text(lib.smap_source_content, index_of(source))
+
+    def listed_name(self, i: int) -> Optional[str]:
+        """The i-th name that the map lists."""
+        return self._text(lib.smap_listed_name, index_of(i))
+
+    def canonical_mappings(self) -> bytes:
+        """The `mappings` of the canonical form alone."""
+        return written(lib.smap_canonical_mappings, byref(self._handle))
+
+    def flatten(self) -> bytes:
+        """The map as one flat map, with sources and names as listed."""
+        return written(lib.smap_flatten, byref(self._handle))
+
+    # ---- sources
 
     def source(self, source: int) -> Source:
         """A source by its number."""
-        ignored = c_bool()
-        check(lib.smap_is_ignored(byref(self._handle), index_of(source), byref(ignored)))
-        return Source(self.url(source), self.content(source), ignored.value)
+        return Source(self.url(source), self.content(source), self.is_ignored(source))
 
     def written_sources(self) -> List[Tuple[Optional[str], Optional[str]]]:
         """The sources that the map lists, with repeats, as its text writes them: each with its `sourceRoot`.
@@ -225,14 +251,6 @@ class Map(Owner):
         """The map in canonical form: the same bytes for all maps that say the same."""
         call = lib.smap_canonical_relative if relative else lib.smap_canonical
         return written(call, byref(self._handle))
-
-    def canonical_mappings(self) -> bytes:
-        """The mappings of the canonical form alone."""
-        return written(lib.smap_canonical_mappings, byref(self._handle))
-
-    def flatten(self) -> bytes:
-        """The map as one flat map, its lists as they are."""
-        return written(lib.smap_flatten, byref(self._handle))
 
     def translate_line(
         self, line: bytes, url: str, hide: bool = False, *, anywhere: bool = False, ignore_query: bool = False

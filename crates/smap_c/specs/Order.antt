@@ -1,4 +1,5 @@
 -- The fields of each struct that crosses to C, in the order in which they lie in it, as in `smap.h`.
+-- tools/write-bindings writes those of structs that are no handles out of capi/smap.h.
 use Rattle.std.specs.Prelude.{◌≡◌}
 use Rattle.smap_c.specs.declared.faults.SmapFault.{SmapFault}
 use Rattle.smap_c.specs.declared.handles.Owner.{Owner}
@@ -10,7 +11,7 @@ use Rattle.smap_c.specs.declared.lookups.SmapMapping.{SmapMapping}
 use Rattle.smap_c.specs.declared.maps.SmapCounts.{SmapCounts}
 use Rattle.smap_c.specs.declared.maps.SmapLimits.{SmapLimits}
 use Rattle.smap_c.specs.declared.scripts.SmapTraceCounts.{SmapTraceCounts}
-use Rattle.smap_c.specs.declared.traces.SmapFrame.{SmapFrame}
+use Rattle.smap_c.specs.declared.traces.SmapFrameParts.{SmapFrameParts}
 use Rattle.smap_c.specs.contracts.faults.SmapFault as fault
 use Rattle.smap_c.specs.contracts.handles.Owner as owner
 use Rattle.smap_c.specs.contracts.handles.SmapBytes as bytes
@@ -21,7 +22,7 @@ use Rattle.smap_c.specs.contracts.lookups.SmapMapping as mapping
 use Rattle.smap_c.specs.contracts.maps.SmapCounts as counts
 use Rattle.smap_c.specs.contracts.maps.SmapLimits as limits
 use Rattle.smap_c.specs.contracts.scripts.SmapTraceCounts as trace_counts
-use Rattle.smap_c.specs.contracts.traces.SmapFrame as frame
+use Rattle.smap_c.specs.contracts.traces.SmapFrameParts as frame
 
 infixr 50 ◌then◌
 -- a field and those after it
@@ -51,7 +52,7 @@ ListedOrder = (m : SmapListedMapping) → listed.the_type.as_values m
     then m.source then m.name then tt
 
 abbrev pub FrameOrder : Type 0
-FrameOrder = (f : SmapFrame) → frame.the_type.as_values f
+FrameOrder = (f : SmapFrameParts) → frame.the_type.as_values f
     ≡ f.url_from then f.url_len then f.line then f.column then tt
 
 abbrev pub TraceCountsOrder : Type 0

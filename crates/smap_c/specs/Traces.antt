@@ -3,7 +3,7 @@ use Rattle.std.specs.Prelude.{◌≡◌, ℕ, ◌==◌, Bool, List, [], ◌∷�
 use Rattle.std.specs.Int.RustNames.{bit_and}
 use Rattle.smap_c.specs.Strings.{copied}
 use Rattle.smap_c.specs.declared.opened.Opened.{Opened}
-use Rattle.smap_c.specs.declared.traces.SmapFrame.{SmapFrame}
+use Rattle.smap_c.specs.declared.traces.SmapFrameParts.{SmapFrameParts}
 use Rattle.smap_c.specs.Codes as codes
 use Rattle.smap_frames.specs.Frame.{FrameParts}
 use Rattle.smap_frames.specs.Reading.{frame_of}
@@ -47,7 +47,7 @@ AsksByBool how hide = (scripts : List Script) (line : List ℕ)
 -- ---- frames and lines
 
 -- where the parts of the frame lie
-abbrev pub PartsTold : Option FrameParts → SmapFrame → SmapFrame → ℕ → Type 0
+abbrev pub PartsTold : Option FrameParts → SmapFrameParts → SmapFrameParts → ℕ → Type 0
 PartsTold None before after code = (code ≡ codes.NONE) × (after ≡ before)
 PartsTold (Some f) before after code = (code ≡ codes.OK) × (after ≡ record {
   url_from = length f.before;
@@ -56,7 +56,7 @@ PartsTold (Some f) before after code = (code ≡ codes.OK) × (after ≡ record 
   column = f.column;
 })
 
-abbrev pub FrameTold : List ℕ → SmapFrame → SmapFrame → ℕ → Type 0
+abbrev pub FrameTold : List ℕ → SmapFrameParts → SmapFrameParts → ℕ → Type 0
 FrameTold text before after code = PartsTold (frame_of text) before after code
 
 -- the number of what became of a line

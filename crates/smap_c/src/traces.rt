@@ -14,7 +14,7 @@ use std::{mem, str};
 /// Where the parts of a frame lie in its line: the script's URL, and the position, which counts from 1.
 #[repr(C)]
 #[derive(Clone, Copy)]
-pub struct SmapFrame {
+pub struct SmapFrameParts {
     pub url_from: usize,
     pub url_len: usize,
     pub line: u32,
@@ -23,12 +23,12 @@ pub struct SmapFrame {
 
 /// The frame that a line of a trace is, if it is one.
 #[unsafe(no_mangle)]
-pub extern "C" fn smap_frame(text: &[u8], out: &mut SmapFrame) -> u32
+pub extern "C" fn smap_frame(text: &[u8], out: &mut SmapFrameParts) -> u32
     ensures { FrameTold text.now out.old out.new result }
 {
     match frame(text) {
         Some(frame) => {
-            *out = SmapFrame {
+            *out = SmapFrameParts {
                 url_from: frame.before.len(),
                 url_len: frame.url.len(),
                 line: frame.line,
