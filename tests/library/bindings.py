@@ -11,6 +11,7 @@ TOP = Path(__file__).resolve().parents[2]
 TOOL, HEADER, VERSIONS = "tools/write-bindings", "capi/smap.h", "capi/libsmap.versions"
 PYTHON, CRATE = "capi/python/smap/_declarations.py", "capi/rust/smap-sys/src/bindings.rs"
 WRAPPER, NODE, PLACES = "capi/rust/smap.rs", "capi/node/index.d.ts", "tests/library/places.h"
+KINDS, PAGE = "crates/smap_record/specs/Kinds.antt", "docs/OUTPUT.md"
 
 
 class BindingsTest(unittest.TestCase):
@@ -18,7 +19,7 @@ class BindingsTest(unittest.TestCase):
         folder = tempfile.TemporaryDirectory()
         self.addCleanup(folder.cleanup)
         self.top = Path(folder.name)
-        for name in [TOOL, HEADER, VERSIONS, PYTHON, CRATE, WRAPPER, NODE, PLACES]:
+        for name in [TOOL, HEADER, VERSIONS, PYTHON, CRATE, WRAPPER, NODE, PLACES, KINDS, PAGE]:
             (self.top / name).parent.mkdir(parents=True, exist_ok=True)
             shutil.copy(TOP / name, self.top / name)
         # no version of the library was released
@@ -88,15 +89,19 @@ class BindingsTest(unittest.TestCase):
         self.assertIn("    smap_more_strict;\n", names)
 
     def test_a_kind_of_error_has_its_number_and_its_name(self):
-        self.change(HEADER, "SMAP_FAULT_NAME = 33 ", "SMAP_FAULT_NAME = 33, SMAP_FAULT_ONE_MORE = 34 ")
-        self.assert_writes([PYTHON, CRATE, WRAPPER, NODE])
-        self.assertIn("FAULT_ONE_MORE = 34\n", self.read(PYTHON))
-        self.assertIn("pub const SMAP_FAULT_ONE_MORE: u32 = 34;\n", self.read(CRATE))
-        self.assertIn("| 'Name' | 'OneMore';\n", self.read(NODE))
+        self.change(KINDS, '    if n == 1 then', '    if n == 99 then codes "OneMore" else\n    if n == 1 then')
+        self.assert_asks(PAGE, f"has no row for OneMore, which {KINDS} names")
+        self.change(PAGE, "| Prefix |", "| OneMore | `m` | more than `all` | nothing |\n| Prefix |")
+        self.assert_writes([HEADER, PYTHON, CRATE, WRAPPER, NODE])
+        self.assertIn("    SMAP_FAULT_ONE_MORE = 99,        /* more than `all` */\n", self.read(HEADER))
+        self.assertIn("FAULT_ONE_MORE = 99\n", self.read(PYTHON))
+        self.assertIn("pub const SMAP_FAULT_ONE_MORE: u32 = 99;\n", self.read(CRATE))
+        self.assertIn("  | 'OneMore' | 'Prefix' | ", self.read(NODE))
 
     def test_what_was_written_by_hand_is_seen(self):
         for name, old, new in [
             (HEADER, "    smap_trace_counts no_counts;\n", ""),
+            (HEADER, "SMAP_FAULT_ORDER = 17", "SMAP_FAULT_ORDER = 18"),
             (PYTHON, "CLOSED = 5\n", "CLOSED = 6\n"),
             (CRATE, "    pub fn smap_close(map: *mut smap_map);\n", ""),
             (WRAPPER, "        pub fn smap_close(map: *mut Map);\n", ""),
