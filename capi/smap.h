@@ -91,7 +91,8 @@ SMAP_INLINE size_t smap_code_name(uint32_t code, char *out, size_t room);
 
 /* ---- errors of maps */
 
-/* What is wrong with a map. docs/FORMAT.md has the rules, and the order in which errors are looked for. */
+/* What is wrong with a map. docs/FORMAT.md has the rules, and the order in which errors are looked for.
+ * (tools/write-bindings writes the names and the numbers, out of the definitions.) */
 enum {
     SMAP_FAULT_PREFIX = 1,           /* the text begins with )]}' and has no line feed */
     SMAP_FAULT_JSON = 2,             /* the text isn't JSON in UTF-8 */

@@ -13,8 +13,9 @@ CPP, PYTHON, METHODS = "capi/cpp/smap.hpp", "capi/python/smap/_declarations.py",
 CRATE, WRAPPER, NODE = "capi/rust/smap-sys/src/bindings.rs", "capi/rust/smap.rs", "capi/node/index.d.ts"
 GETTERS, INDEX = "capi/node/native/getters.c", "capi/node/index.js"
 ORDER, PLACES = "crates/smap_c/specs/Order.antt", "tests/library/places.h"
+KINDS, PAGE = "crates/smap_record/specs/Kinds.antt", "docs/OUTPUT.md"
 # What the tool reads and writes, files and folders.
-ALL = [TOOL, "tools/bindings", "capi", ORDER, PLACES]
+ALL = [TOOL, "tools/bindings", "capi", ORDER, PLACES, KINDS, PAGE]
 
 
 # Getters that the library doesn't have, and what is declared behind them.
@@ -168,15 +169,19 @@ class BindingsTest(unittest.TestCase):
         self.assert_asks("capi/node", "calls native.lookUp, which no file of native/ has, and is no getter")
 
     def test_a_kind_of_error_has_its_number_and_its_name(self):
-        self.change(HEADER, "SMAP_FAULT_NAME = 33 ", "SMAP_FAULT_NAME = 33, SMAP_FAULT_ONE_MORE = 34 ")
-        self.assert_writes([PYTHON, CRATE, WRAPPER, NODE])
-        self.assertIn("FAULT_ONE_MORE = 34\n", self.read(PYTHON))
-        self.assertIn("pub const SMAP_FAULT_ONE_MORE: u32 = 34;\n", self.read(CRATE))
-        self.assertIn("| 'Name' | 'OneMore';\n", self.read(NODE))
+        self.change(KINDS, '    if n == 1 then', '    if n == 99 then codes "OneMore" else\n    if n == 1 then')
+        self.assert_asks(PAGE, f"has no row for OneMore, which {KINDS} names")
+        self.change(PAGE, "| Prefix |", "| OneMore | `m` | more than `all` | nothing |\n| Prefix |")
+        self.assert_writes([HEADER, PYTHON, CRATE, WRAPPER, NODE])
+        self.assertIn("    SMAP_FAULT_ONE_MORE = 99,        /* more than `all` */\n", self.read(HEADER))
+        self.assertIn("FAULT_ONE_MORE = 99\n", self.read(PYTHON))
+        self.assertIn("pub const SMAP_FAULT_ONE_MORE: u32 = 99;\n", self.read(CRATE))
+        self.assertIn("  | 'OneMore' | 'Prefix' | ", self.read(NODE))
 
     def test_what_was_written_by_hand_is_seen(self):
         for name, old, new in [
             (HEADER, "    smap_trace_counts no_counts;\n", ""),
+            (HEADER, "SMAP_FAULT_ORDER = 17", "SMAP_FAULT_ORDER = 18"),
             (CPP, "    return copied_of(map, out, smap_file);\n", ""),
             (PYTHON, "CLOSED = 5\n", "CLOSED = 6\n"),
             (CRATE, "    pub fn smap_close(map: *mut smap_map);\n", ""),

@@ -61,7 +61,7 @@ declared_then() {
     sed -n 's/^[a-z][a-z0-9_]* \(smap_[a-z_]*\)(.*/\1/p' "$tests/0.1.0/smap.h" | sort
 }
 
-# `NAME 7` for each code, each bit or each kind of a fault, of the header; and of the definitions.
+# `NAME 7` for each code, each bit or each kind of a fault, of the header; and of the definitions but for kinds.
 numbered() {
     sed -n "s/^    $1\([A-Z0-9_]*\) = \([0-9]*\).*/\1 \2/p" "$lib/smap.h"
 }
@@ -70,11 +70,17 @@ defined() {
     sed -n 's/^\([A-Z0-9_]*\) = \([0-9]*\)$/\1 \2/p' "crates/smap_c/specs/$1.antt"
 }
 
+# The same for the kinds of faults, as the definitions number and name them: `NOT_OBJECT 3` for NotObject.
+named() {
+    sed -n 's/^    if n == \([0-9]*\) then codes "\(.*\)" else.*/\2 \1/p' crates/smap_record/specs/Kinds.antt |
+        sed 's/\([a-z]\)\([A-Z]\)/\1_\2/g' | tr 'a-z' 'A-Z'
+}
+
 numbers_agree() {
     numbered SMAP_ | grep -v '^FAULT_' >"$work/codes"
     numbered SMAP_FAULT_ >"$work/kinds"
     { defined Codes && defined Traces; } | diff "$work/codes" - &&
-        defined FaultCodes | diff "$work/kinds" - &&
+        named | diff "$work/kinds" - &&
         [ -s "$work/codes" ] && [ -s "$work/kinds" ]
 }
 

@@ -64,9 +64,11 @@ static void buffers(smap_map *map)
     for (uint32_t code = SMAP_OK; code <= SMAP_NOT_UTF8; code++) CHECK(smap_code_name(code, NULL, 0) > 3);
     CHECK(smap_fault_name(SMAP_FAULT_OVERLAP, room, sizeof room) == 7 && memcmp(room, "Overlap", 7) == 0);
     CHECK(smap_fault_name(SMAP_FAULT_SOURCE_URL, room, 3) == 9 && memcmp(room, "Sourlap", 7) == 0);
-    CHECK(smap_fault_name(0, NULL, 0) == 0 && smap_fault_name(SMAP_FAULT_NAME + 100, NULL, 0) == 0);
-    for (uint32_t kind = SMAP_FAULT_PREFIX; kind <= SMAP_FAULT_NAME; kind++)
-        CHECK(smap_fault_name(kind, NULL, 0) >= 4);
+    uint32_t kinds = 0;
+    while (smap_fault_name(kinds + 1, NULL, 0) >= 4) kinds++;
+    CHECK(kinds >= SMAP_FAULT_NAME);
+    CHECK(smap_fault_name(0, NULL, 0) == 0 && smap_fault_name(kinds + 1, NULL, 0) == 0);
+    CHECK(smap_fault_name(kinds + 100, NULL, 0) == 0);
 }
 
 static void numbers(smap_map *map)

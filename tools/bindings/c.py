@@ -3,9 +3,10 @@
 import re
 import textwrap
 
-from .files import WIDTH, WRITTEN, Refused, bare, replaced, text_of, wrapped
+from .files import WIDTH, WRITTEN, Refused, bare, replaced, replaced_in, text_of, wrapped
 from .getters import text_getters
 from .header import TYPES, Named, Type
+from .kinds import with_kinds
 
 # ---- the header's own inline functions
 
@@ -59,7 +60,7 @@ def inline_function(function, header):
 
 
 def inline_functions(header):
-    """its inline functions, out of the declarations above them"""
+    """its kinds of errors, and its inline functions"""
     marked = [one for one in header.functions if one.is_inline]
     texts = [text_function(one) for one in marked if any(word.is_text() for word in one.parameters)]
     strict = [prototype("", one, f"{one.name}_strict", one.parameters) + ";\n" for one in marked]
@@ -92,7 +93,8 @@ static const char smap_no_text_[1] = {{0}};
 
 #ifdef __cplusplus
 """
-    return replaced("capi/smap.h", r"^#ifndef SMAP_NO_INLINE\n(?:.|\n)*^#ifdef __cplusplus\n", text)
+    pattern = r"^#ifndef SMAP_NO_INLINE\n(?:.|\n)*^#ifdef __cplusplus\n"
+    return replaced_in(with_kinds(), "capi/smap.h", pattern, text)
 
 
 # ---- C++

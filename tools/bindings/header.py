@@ -6,7 +6,8 @@ from typing import NamedTuple
 
 from pycparser import c_ast, c_parser
 
-from .files import Refused, text_of
+from .files import Refused
+from .kinds import with_kinds
 
 # The types that the header uses: their bytes on 64-bit systems, and their names in Python and in Rust.
 TYPES = {
@@ -113,7 +114,7 @@ def comments_of(text):
 
 
 def read_header():
-    text = text_of("capi/smap.h")
+    text = with_kinds()
     marked = re.findall(r"^SMAP_INLINE \w+ (\w+)\(", text, re.M)
     version = re.findall(r"^#define (SMAP_VERSION\w*) \(?(.*?)\)?$", text, re.M)
     header = Header(version, [], [], [], comments_of(text))

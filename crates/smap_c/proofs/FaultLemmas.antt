@@ -6,11 +6,9 @@ use Rattle.std.proofs.lemmas.List.{length-append}
 use Rattle.std.proofs.lemmas.List.Elements.{All-tail}
 use Rattle.std.proofs.lemmas.Fmt.{length-decimal-le}
 use Rattle.smap_vlq.specs.declared.number.NumberFault.{NumberFault}
-use Rattle.smap_vlq.specs.declared.number.NumberFault.TheVariants as number
 use Rattle.smap_mappings.specs.declared.error.SegmentPlace.{SegmentPlace}
 use Rattle.smap_record.specs.declared.fault.Fault.{Fault}
 use Rattle.smap_record.specs.declared.fault.Kind.{Kind}
-use Rattle.smap_record.specs.declared.fault.Kind.TheVariants as kind
 use Rattle.smap_record.specs.Messages.{fault_message, inner_text, kind_message, number_message, place_message}
 use Rattle.smap_record.specs.Messages.{section_message}
 use Rattle.smap_c.specs.Faults.{FaultFits, KindFits, PathFits, PlaceFits}
@@ -69,55 +67,11 @@ place (Some p) fits =
 -- ---- the kind
 
 spelled : (f : NumberFault) → length (number_message f) ≤ 13
-spelled number.Unfinished = let h : 10 ≤ 13 = omega arith in h
-spelled number.Character = let h : 13 ≤ 13 = omega arith in h
-spelled number.TooLarge = let h : 9 ≤ 13 = omega arith in h
-spelled number.NegativeZero = let h : 13 ≤ 13 = omega arith in h
+spelled f = grind arith
 
+-- `grind` goes through the kinds
 kind_length : (k : Kind) → KindFits k → length (kind_message k) ≤ 47
-kind_length kind.Prefix fits = let h : 24 ≤ 47 = omega arith in h
-kind_length kind.Json fits = let h : 8 ≤ 47 = omega arith in h
-kind_length kind.NotObject fits = let h : 13 ≤ 47 = omega arith in h
-kind_length kind.Version fits = let h : 7 ≤ 47 = omega arith in h
-kind_length kind.File fits = let h : 4 ≤ 47 = omega arith in h
-kind_length kind.Both fits = let h : 24 ≤ 47 = omega arith in h
-kind_length kind.SourceRoot fits = let h : 10 ≤ 47 = omega arith in h
-kind_length kind.Sources fits = let h : 7 ≤ 47 = omega arith in h
-kind_length kind.SourcesContent fits = let h : 14 ≤ 47 = omega arith in h
-kind_length kind.Names fits = let h : 5 ≤ 47 = omega arith in h
-kind_length kind.IgnoreList fits = let h : 10 ≤ 47 = omega arith in h
-kind_length kind.Mappings fits = let h : 8 ≤ 47 = omega arith in h
-kind_length kind.Sections fits = let h : 8 ≤ 47 = omega arith in h
-kind_length kind.Offset fits = let h : 6 ≤ 47 = omega arith in h
-kind_length kind.SectionMap fits = let h : 3 ≤ 47 = omega arith in h
-kind_length kind.Nested fits = let h : 15 ≤ 47 = omega arith in h
-kind_length kind.Order fits = let h : 5 ≤ 47 = omega arith in h
-kind_length kind.Overlap fits = let h : 7 ≤ 47 = omega arith in h
-kind_length kind.TooMany fits = let h : 25 ≤ 47 = omega arith in h
-kind_length (kind.SourceUrl i) fits =
-    let most = two (codes "source ") (decimal i ++ codes " is no URL") 7 30 (exact (codes "source ") 7 refl)
-    (two (decimal i) (codes " is no URL") 20 10 (digits i fits) (exact (codes " is no URL") 10 refl)) in
-    omega (arith, most)
-kind_length (kind.UnstableUrl i) fits =
-    two (codes "source ") (decimal i ++ codes " has an unstable URL") 7 40 (exact (codes "source ") 7 refl)
-    (two (decimal i) (codes " has an unstable URL") 20 20 (digits i fits)
-    (exact (codes " has an unstable URL") 20 refl))
-kind_length kind.Empty fits = let h : 13 ≤ 47 = omega arith in h
-kind_length (kind.Number which f) fits =
-    let most = two (codes "number ") (decimal which ++ (codes ": " ++ number_message f)) 7 35
-    (exact (codes "number ") 7 refl)
-    (two (decimal which) (codes ": " ++ number_message f) 20 15 (digits which fits)
-    (two (codes ": ") (number_message f) 2 13 (exact (codes ": ") 2 refl) (spelled f))) in
-    omega (arith, most)
-kind_length (kind.Count n) fits =
-    let most = two (decimal n) (codes " numbers") 20 8 (digits n fits) (exact (codes " numbers") 8 refl) in
-    omega (arith, most)
-kind_length kind.GeneratedLine fits = let h : 14 ≤ 47 = omega arith in h
-kind_length kind.Column fits = let h : 16 ≤ 47 = omega arith in h
-kind_length kind.Source fits = let h : 12 ≤ 47 = omega arith in h
-kind_length kind.OriginalLine fits = let h : 13 ≤ 47 = omega arith in h
-kind_length kind.OriginalColumn fits = let h : 15 ≤ 47 = omega arith in h
-kind_length kind.Name fits = let h : 10 ≤ 47 = omega arith in h
+kind_length k fits = grind (arith, length-append, digits, spelled)
 
 -- the message of a fault is at most 260 bytes long
 pub message_is_short : (f : Fault) → FaultFits f → length (fault_message f) ≤ 260

@@ -1,57 +1,15 @@
 -- How faults are told to C.
 use Rattle.std.specs.Prelude.{◌≡◌, ◌≤◌, ◌⊎◌, ℕ, List, length, replicate, Option, Some, None, ◌<◌, ◌^◌, All}
 use Rattle.std.specs.Option.{is_some}
-use Rattle.smap_vlq.specs.declared.number.NumberFault.{NumberFault}
 use Rattle.smap_mappings.specs.declared.error.SegmentPlace.{SegmentPlace}
 use Rattle.smap_record.specs.declared.fault.Kind.{Kind}
 use Rattle.smap_record.specs.declared.fault.Fault.{Fault}
+use Rattle.smap_record.specs.Kinds.{code_and_number}
 use Rattle.smap_record.specs.Messages.{fault_message}
 use Rattle.smap_c.specs.Strings.{copied}
 use Rattle.smap_c.specs.Codes.{MEMORY, REFUSED}
 use Rattle.smap_c.specs.declared.faults.SmapFault.{SmapFault}
-use Rattle.smap_vlq.specs.declared.number.NumberFault.TheVariants as number
 use Rattle.smap_record.specs.declared.fault.Kind.TheVariants as kind
-use Rattle.smap_c.specs.FaultCodes as codes
-
--- the code of a misspelled number
-abbrev pub spelling_code : NumberFault → ℕ
-spelling_code number.Unfinished = codes.UNFINISHED
-spelling_code number.Character = codes.CHARACTER
-spelling_code number.TooLarge = codes.TOO_LARGE
-spelling_code number.NegativeZero = codes.NEGATIVE_ZERO
-
--- the code of a kind, and the number that it carries, or 0
-abbrev pub code_and_number : Kind → ℕ × ℕ
-code_and_number kind.Prefix = (codes.PREFIX, 0)
-code_and_number kind.Json = (codes.JSON, 0)
-code_and_number kind.NotObject = (codes.NOT_OBJECT, 0)
-code_and_number kind.Version = (codes.VERSION, 0)
-code_and_number kind.File = (codes.FILE, 0)
-code_and_number kind.Both = (codes.BOTH, 0)
-code_and_number kind.SourceRoot = (codes.SOURCE_ROOT, 0)
-code_and_number kind.Sources = (codes.SOURCES, 0)
-code_and_number kind.SourcesContent = (codes.SOURCES_CONTENT, 0)
-code_and_number kind.Names = (codes.NAMES, 0)
-code_and_number kind.IgnoreList = (codes.IGNORE_LIST, 0)
-code_and_number kind.Mappings = (codes.MAPPINGS, 0)
-code_and_number kind.Sections = (codes.SECTIONS, 0)
-code_and_number kind.Offset = (codes.OFFSET, 0)
-code_and_number kind.SectionMap = (codes.SECTION_MAP, 0)
-code_and_number kind.Nested = (codes.NESTED, 0)
-code_and_number kind.Order = (codes.ORDER, 0)
-code_and_number kind.Overlap = (codes.OVERLAP, 0)
-code_and_number kind.TooMany = (codes.TOO_MANY, 0)
-code_and_number (kind.SourceUrl i) = (codes.SOURCE_URL, i)
-code_and_number (kind.UnstableUrl i) = (codes.UNSTABLE_URL, i)
-code_and_number kind.Empty = (codes.EMPTY, 0)
-code_and_number (kind.Number which fault) = (spelling_code fault, which)
-code_and_number (kind.Count n) = (codes.COUNT, n)
-code_and_number kind.GeneratedLine = (codes.GENERATED_LINE, 0)
-code_and_number kind.Column = (codes.COLUMN, 0)
-code_and_number kind.Source = (codes.SOURCE, 0)
-code_and_number kind.OriginalLine = (codes.ORIGINAL_LINE, 0)
-code_and_number kind.OriginalColumn = (codes.ORIGINAL_COLUMN, 0)
-code_and_number kind.Name = (codes.NAME, 0)
 
 -- as much of the text as the field takes, and then zeros
 abbrev pub padded_text : List ℕ → List ℕ

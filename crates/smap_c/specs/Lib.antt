@@ -1,6 +1,5 @@
 pub mod Bytes
 pub mod Codes
-pub mod FaultCodes
 pub mod Faults
 pub mod Handles
 pub mod Links

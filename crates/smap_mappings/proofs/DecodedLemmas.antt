@@ -1,7 +1,7 @@
 -- What holds of the tokens of a mappings text.
-use Rattle.std.proofs.Common.{◌≡◌, ℕ, ◌+◌, ◌<◌, ◌∙◌, Bool, false, cond, eqb, List, [], ◌∷◌, ◌++◌, length}
-use Rattle.std.proofs.Common.{Option, Some, None, Result, Ok, Err, ℤ, pos, negsuc, refl, subst, arith}
-use Rattle.std.specs.Prelude.{IfSome, ok_or}
+use Rattle.std.proofs.Common.{◌≡◌, ℕ, ◌+◌, ◌<◌, ◌∙◌, false, cond, eqb, List, [], ◌∷◌, ◌++◌, length}
+use Rattle.std.proofs.Common.{Option, Some, None, Result, Ok, Err, refl, subst, arith}
+use Rattle.std.specs.Prelude.{IfSome}
 use Rattle.std.specs.List.{AllByRecursion}
 use Rattle.std.proofs.lemmas.Bool.{cond_both}
 use Rattle.std.proofs.lemmas.Option.{IfSome_then}
@@ -12,17 +12,15 @@ use Rattle.smap_mappings.specs.declared.token.Bounds.{Bounds}
 use Rattle.smap_mappings.specs.declared.token.Token.{Token}
 use Rattle.smap_mappings.specs.declared.token.Original.{Original}
 use Rattle.smap_mappings.specs.declared.error.SegmentKind.{SegmentKind}
-use Rattle.smap_mappings.specs.declared.error.SegmentKind.TheVariants as kind
 use Rattle.smap_mappings.specs.Lines.{SegmentText, segments_of}
 use Rattle.smap_mappings.specs.Position.{POSITIONS, is_before, position_of}
-use Rattle.smap_mappings.specs.Tokens.{Segment, below, start_of, placed, column_in, generated_column}
-use Rattle.smap_mappings.specs.Tokens.{source_index, original_line, original_column, name_index, name_in}
-use Rattle.smap_mappings.specs.Tokens.{original_in, token_of, numbers_in, read_in, at_place, tokens_after}
+use Rattle.smap_mappings.specs.Tokens.{Segment, Values, values_of, start_of, original_in, token_in, token_of}
+use Rattle.smap_mappings.specs.Tokens.{numbers_in, read_in, at_place, tokens_after}
 use Rattle.smap_mappings.specs.Arrangement.{insert_token, arranged, IsArranged}
 use Rattle.smap_mappings.specs.Decoded.{AreBounds, IsWithin, IsFromStart, decoded}
 use Rattle.smap_mappings.specs.Text.{IsPlaced, IsEncodable}
 use Rattle.smap_mappings.proofs.ArrangementLemmas.{is_arranged}
-use Rattle.smap_mappings.proofs.StepsLemmas.{below_is, placed-line, placed-column}
+use Rattle.smap_mappings.proofs.ValueLemmas.{NameTold, original_tells, token_tells, placed-column}
 
 abbrev pub good : {A F : Type 0} → A → Result A F
 good x = Ok x
@@ -35,18 +33,6 @@ bind_ok (Err d) f y e = absurd cc
 pub good_is : {A F : Type 0} (x y : A) → good {F = F} x ≡ good y → x ≡ y
 good_is x y e = cc
 
--- the same of a value that is there, or else a fault
-pub taken : {A B F : Type 0} (o : Option A) (k : F) (f : A → Result B F) (y : B)
-    → (ok_or o k >>= f) ≡ good y → (x : A) × (o ≡ Some x) × (f x ≡ good y)
-taken (Some x) k f y e = (x, refl, e)
-taken None k f y e = absurd cc
-
-below_limit : (limit : ℕ) (z : ℤ) (n : ℕ) → below limit z ≡ Some n → n < limit
-below_limit limit z n e = grind (arith, nat_tests)
-
-pub number_is : (limit n m : ℕ) → below limit (pos n) ≡ Some m → m ≡ n
-number_is limit n m e = let z : pos n ≡ pos m = below_is limit (pos n) m e in cc
-
 -- ---- the original of a segment
 
 -- The original is within the bounds, and within all positions.
@@ -56,39 +42,22 @@ record OriginalParts (bounds : Bounds) (o : Original) : Type 0 where
   column : o.column < POSITIONS
   name : IfSome o.name (λ n. n < bounds.names)
 
--- a result by a test, where the value isn't the one that the test gives
-by_other : {A F : Type 0} (b : Bool) (r : Result (Option A) F) (x : A) → cond b (good None) r ≡ good (Some x)
-    → r ≡ good (Some x)
-by_other b r x e = grind arith
+name_below : (bounds : Bounds) (v : Values) (count : ℕ) (name : Option ℕ) → NameTold bounds v count name
+    → IfSome name (λ n. n < bounds.names)
+name_below bounds v count None h = tt
+name_below bounds v count (Some n) h = h.0.1
 
-module _ (bounds : Bounds) where
-  name_parts : (segments : List Segment) (count : ℕ) (name : Option ℕ)
-      → name_in bounds segments count ≡ good name → IfSome name (λ n. n < bounds.names)
-  name_parts segments count None e = tt
-  name_parts segments count (Some n) e = name_below (eqb count 5) (below bounds.names (name_index segments)) n
-      (below_limit bounds.names (name_index segments)) e
-    where
-      name_below : (b : Bool) (o : Option ℕ) (n : ℕ) → ((m : ℕ) → o ≡ Some m → m < bounds.names)
-          → cond b (ok_or o kind.Name >>= λ m. Ok (Some m)) (Ok None) ≡ good (Some n) → n < bounds.names
-      name_below b o n below e = grind (arith, below)
-
-  original_parts : (segments : List Segment) (count : ℕ) (o : Option Original)
-      → original_in bounds segments count ≡ good o → IfSome o (OriginalParts bounds)
-  original_parts segments count None e = tt
-  original_parts segments count (Some o) e =
-      let s = taken (below bounds.sources (source_index segments)) kind.Source _ (Some o)
-      (by_other (eqb count 1) _ o e) in
-      let l = taken (below POSITIONS (original_line segments)) kind.OriginalLine _ (Some o) s.2 in
-      let c = taken (below POSITIONS (original_column segments)) kind.OriginalColumn _ (Some o) l.2 in
-      let n = bind_ok (name_in bounds segments count) _ (Some o) c.2 in
-      let told : Original = record { source = s.0; line = l.0; column = c.0; name = n.0 } in
-      subst (λ (x : Option Original). IfSome x (OriginalParts bounds)) (good_is (Some told) (Some o) n.2)
-      (record {
-        source = below_limit bounds.sources (source_index segments) s.0 s.1;
-        line = below_limit POSITIONS (original_line segments) l.0 l.1;
-        column = below_limit POSITIONS (original_column segments) c.0 c.1;
-        name = name_parts segments count n.0 n.1;
-      })
+original_parts : (bounds : Bounds) (v : Values) (count : ℕ) (o : Option Original)
+    → original_in bounds v count ≡ good o → IfSome o (OriginalParts bounds)
+original_parts bounds v count None e = tt
+original_parts bounds v count (Some o) e =
+    let h = original_tells bounds v count o e in
+    record {
+      source = h.source.1;
+      line = h.line.1;
+      column = h.column.1;
+      name = name_below bounds v count o.name h.name;
+    }
 
 -- ---- the token of a segment
 
@@ -105,32 +74,20 @@ after_start : (bounds : Bounds) (line own l c : ℕ) → l ≡ bounds.start_line
     → is_before (record { line = l; column = c }) (start_of bounds) ≡ false
 after_start bounds line own l c el ec = grind (arith, nat_tests)
 
-column_parts : (bounds : Bounds) (line l : ℕ) (z : ℤ) (c : ℕ) → l ≡ bounds.start_line + line
-    → column_in bounds line z ≡ Some c
-    → (c < POSITIONS) × (is_before (record { line = l; column = c }) (start_of bounds) ≡ false)
-column_parts bounds line l (pos own) c is e =
-    let at : ℕ = (placed bounds line own).column in (
-      below_limit POSITIONS (pos at) c e,
-      after_start bounds line own l c is (number_is POSITIONS at c e ∙ placed-column bounds line own),
-    )
-column_parts bounds line l (negsuc m) c is e = absurd cc
-
 token_parts : (bounds : Bounds) (before : List Segment) (s : Segment) (t : Token)
     → token_of bounds before s ≡ good t → TokenParts bounds t
 unfolding token_of
 token_parts bounds before s t e =
-    let at : ℕ = (placed bounds s.line 0).line in
-    let z : ℤ = generated_column (before ++ s ∷ []) s.line in
-    let l = taken (below bounds.lines (pos at)) kind.GeneratedLine _ t e in
-    let c = taken (column_in bounds s.line z) kind.Column _ t l.2 in
-    let o = bind_ok (original_in bounds (before ++ s ∷ []) (length s.numbers)) _ t c.2 in
-    let line = number_is bounds.lines at l.0 l.1 ∙ placed-line bounds s.line 0 in
-    let column = column_parts bounds s.line l.0 z c.0 line c.1 in
-    rw (← good_is (record { line = l.0; column = c.0; original = o.0 }) t o.2) (record {
-      line = below_limit bounds.lines (pos at) l.0 l.1;
-      column = column.0;
-      from_start = column.1;
-      original = original_parts bounds (before ++ s ∷ []) (length s.numbers) o.0 o.1;
+    let v : Values = values_of (before ++ s ∷ []) s.line in
+    let count : ℕ = length s.numbers in
+    let x = bind_ok (token_in bounds s.line v count) _ t e in
+    let h = token_tells bounds s.line v count x.0 x.1 in
+    rw (← good_is x.0.1 t x.2) (record {
+      line = h.within;
+      column = h.in_range;
+      from_start = after_start bounds s.line x.0.0 x.0.1.line x.0.1.column h.line_is
+          (h.is_placed ∙ placed-column bounds s.line x.0.0);
+      original = original_parts bounds v count x.0.1.original h.original;
     })
 
 token_within : (bounds : Bounds) (t : Token) → TokenParts bounds t → IsWithin bounds t

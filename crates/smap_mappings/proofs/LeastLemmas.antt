@@ -1,14 +1,12 @@
 -- No text with the same tokens in its order is shorter than the canonical one.
-use Rattle.std.proofs.Common.{false, eqb, ◌≡◌, ℕ, zero, suc, ◌+◌, inl, inr, List, [], ◌∷◌, ◌++◌, length}
-use Rattle.std.proofs.Common.{replicate, Option, Some, None, Result, Ok, Err, ℤ, pos, negsuc, ◌+ℤ◌, refl, sym}
+use Rattle.std.proofs.Common.{false, true, ◌≡◌, ℕ, zero, suc, ◌+◌, inl, inr, List, [], ◌∷◌, ◌++◌, length}
+use Rattle.std.proofs.Common.{replicate, Option, Some, None, Result, Ok, Err, ℤ, pos, ◌+ℤ◌, refl, sym}
 use Rattle.std.proofs.Common.{ap, subst, ◌∙◌, arith}
-use Rattle.std.specs.Prelude.{flat_map, option_map, unwrap_or}
-use Rattle.std.proofs.lemmas.Bool.{cond-false}
+use Rattle.std.specs.Prelude.{flat_map}
 use Rattle.std.proofs.lemmas.Int.{ints}
 use Rattle.std.proofs.lemmas.List.{append-nil, length-append}
 use Rattle.smap_vlq.specs.declared.segment.SegmentFault.{SegmentFault}
 use Rattle.smap_vlq.specs.Number.{◌>>=◌, spelling}
-use Rattle.smap_vlq.specs.declared.segment.Fields.{Fields}
 use Rattle.smap_vlq.specs.Segment.{SpellsAll, segment_of, fields_of}
 use Rattle.smap_vlq.proofs.SegmentLawLemmas.{segment_is_spelled}
 use Rattle.smap_vlq.proofs.LeastLemmas.{IsOrIsLonger, put_after, spellings_least}
@@ -17,19 +15,18 @@ use Rattle.smap_mappings.specs.declared.token.Token.{Token}
 use Rattle.smap_mappings.specs.declared.token.Original.{Original}
 use Rattle.smap_mappings.specs.declared.running.Running.{Running}
 use Rattle.smap_mappings.specs.declared.error.SegmentKind.{SegmentKind}
-use Rattle.smap_mappings.specs.declared.error.SegmentKind.TheVariants as kind
 use Rattle.smap_mappings.specs.Lines.{SegmentText, segments_of}
-use Rattle.smap_mappings.specs.Position.{POSITIONS}
-use Rattle.smap_mappings.specs.Tokens.{Segment, below, placed, at_place, read_in, tokens_after}
-use Rattle.smap_mappings.specs.Steps.{field, Sums, name_step, original_step, column_step, token_step}
-use Rattle.smap_mappings.specs.Steps.{fields_or_kind, judge_step, at_start}
+use Rattle.smap_mappings.specs.Tokens.{Segment, Values, original_in, token_in, at_place, read_in, tokens_after}
+use Rattle.smap_mappings.specs.Steps.{Sums, next_values, values_after, token_step, fields_or_kind, judge_step}
+use Rattle.smap_mappings.specs.Steps.{at_start}
 use Rattle.smap_mappings.specs.Text.{difference}
-use Rattle.smap_mappings.specs.Writing.{name_from, original_from, segment_from, original_after, running_after}
+use Rattle.smap_mappings.specs.Writing.{name_from, original_from, segment_from, running_after}
 use Rattle.smap_mappings.specs.Writing.{separator, at_line}
 use Rattle.smap_mappings.specs.Laws.{TextIsLeast}
-use Rattle.smap_mappings.proofs.StepsLemmas.{AreFields, one_field, four_fields, five_fields, below_is}
-use Rattle.smap_mappings.proofs.StepsLemmas.{column_is, segment_fields, StepAgrees, reads}
-use Rattle.smap_mappings.proofs.DecodedLemmas.{good, bind_ok, taken, good_is, at_place_ok, number_is}
+use Rattle.smap_mappings.proofs.ValueLemmas.{NameTold, original_tells, one_said, token_tells}
+use Rattle.smap_mappings.proofs.StepsLemmas.{AreFields, one_field, four_fields, five_fields}
+use Rattle.smap_mappings.proofs.StepsLemmas.{segment_fields, StepAgrees, reads}
+use Rattle.smap_mappings.proofs.DecodedLemmas.{good, bind_ok, good_is, at_place_ok}
 use Rattle.smap_mappings.proofs.RunningTextLemmas.{text_from, mappings_text-from}
 use Rattle.smap_mappings.proofs.ReadBackLemmas.{Stand, stands_after, stands_first, column_kept, placed_same}
 use Rattle.smap_mappings.proofs.SeparatorLemmas.{joined, SegmentsRise, text_joined}
@@ -40,81 +37,47 @@ use Rattle.smap_mappings.proofs.LawLemmas.{text_says}
 difference_is : (old new : ℕ) (n : ℤ) → pos old +ℤ n ≡ pos new → n ≡ difference old new
 difference_is old new n e = omega (arith, ints)
 
--- What a segment's numbers must be, after its column, and what the values after it are.
-record OriginalTold (r : Running) (ns : List ℤ) (x : Running × Option Original) : Type 0 where
-  after : x.0 ≡ original_after r x.1
-  numbers : ns ≡ original_from r x.1
+-- the numbers of a name
+no_name : (bounds : Bounds) (v : Values) (last : ℕ) (name : Option ℕ) → NameTold bounds v 4 name
+    → [] ≡ name_from last name
+no_name bounds v last None h = refl
+no_name bounds v last (Some n) h = absurd (let five : false ≡ true = h.1 in cc)
 
--- a number that is told, by the one before it
-told : (limit old : ℕ) (n : ℤ) (new : ℕ) → below limit (pos old +ℤ n) ≡ Some new → n ≡ difference old new
-told limit old n new e = difference_is old new n (below_is limit (pos old +ℤ n) new e)
+one_name : (bounds : Bounds) (v : Values) (last : ℕ) (number : ℤ) (name : Option ℕ) → v.name ≡ pos last +ℤ number
+    → NameTold bounds v 5 name → number ∷ [] ≡ name_from last name
+one_name bounds v last number None is h = absurd (let none : true ≡ false = h in cc)
+one_name bounds v last number (Some n) is h = ap (λ k. k ∷ []) (difference_is last n number (sym is ∙ h.0.0))
 
-abbrev told_as : Running → ℕ → ℕ → ℕ → ℕ × Option ℕ → Running × Option Original
-told_as r source line column name = (
-  record r { source = source; original_line = line; original_column = column; name = name.0 },
-  Some (record { source = source; line = line; column = column; name = name.1 }),
-)
-
--- What the numbers of a name must be, and the name after them.
-abbrev NameTold : ℕ → List ℤ → ℕ × Option ℕ → Type 0
-NameTold last ns name = (name.0 ≡ unwrap_or name.1 last) × (ns ≡ name_from last name.1)
-
-numbers_there : (bounds : Bounds) (r : Running) (fields : Fields) (ns : List ℤ) → eqb fields.count 1 ≡ false
-    → ((name : ℕ × Option ℕ) → name_step bounds r.name fields ≡ good name → NameTold r.name ns name)
-    → (x : Running × Option Original) → original_step bounds r fields ≡ good x
-    → OriginalTold r (field fields 1 ∷ field fields 2 ∷ field fields 3 ∷ ns) x
-numbers_there bounds r fields ns several is x e =
-    let b : ℤ = field fields 1 in
-    let c : ℤ = field fields 2 in
-    let d : ℤ = field fields 3 in
-    let s = taken (below bounds.sources (pos r.source +ℤ b)) kind.Source _ x
-    (sym (cond-false (eqb fields.count 1) (good (r, None)) _ several) ∙ e) in
-    let l = taken (below POSITIONS (pos r.original_line +ℤ c)) kind.OriginalLine _ x s.2 in
-    let o = taken (below POSITIONS (pos r.original_column +ℤ d)) kind.OriginalColumn _ x l.2 in
-    let n = bind_ok (name_step bounds r.name fields) _ x o.2 in
-    let name = is n.0 n.1 in
-    let source = told bounds.sources r.source b s.0 s.1 in
-    let line = told POSITIONS r.original_line c l.0 l.1 in
-    let column = told POSITIONS r.original_column d o.0 o.1 in
-    let numbers : b ∷ c ∷ d ∷ ns ≡ difference r.source s.0 ∷ difference r.original_line l.0
-    ∷ difference r.original_column o.0 ∷ name_from r.name n.0.1 = let ns_is = name.1 in cc in
-    subst (OriginalTold r (b ∷ c ∷ d ∷ ns)) (good_is (told_as r s.0 l.0 o.0 n.0) x n.2)
-    (record { after = rw name.0 refl; numbers = numbers })
+-- the numbers of an original position, before those of its name
+numbers_there : (r : Running) (o : Original) (b c d : ℤ) (ns : List ℤ) → pos r.source +ℤ b ≡ pos o.source
+    → pos r.original_line +ℤ c ≡ pos o.line → pos r.original_column +ℤ d ≡ pos o.column
+    → ns ≡ name_from r.name o.name → b ∷ c ∷ d ∷ ns ≡ original_from r (Some o)
+numbers_there r o b c d ns source_is line_is column_is name_is =
+    let source = difference_is r.source o.source b source_is in
+    let line = difference_is r.original_line o.line c line_is in
+    let column = difference_is r.original_column o.column d column_is in cc
 
 original_told : (bounds : Bounds) (r : Running) (first : ℤ) (ns : List ℤ) → AreFields (first ∷ ns)
-    → (x : Running × Option Original) → original_step bounds r (fields_of (first ∷ ns)) ≡ good x
-    → OriginalTold r ns x
-original_told bounds r first ns (one_field a) x e =
-    subst (OriginalTold r []) (good_is (r, None) x e) (record { after = refl; numbers = refl })
-original_told bounds r first ns (four_fields a b c d) x e =
-    numbers_there bounds r (fields_of (a ∷ b ∷ c ∷ d ∷ [])) [] refl
-    (λ name is. rw (← good_is (r.name, None) name is) (refl, refl)) x e
-original_told bounds r first ns (five_fields a b c d f) x e =
-    numbers_there bounds r (fields_of (a ∷ b ∷ c ∷ d ∷ f ∷ [])) (f ∷ []) refl (λ name is.
-    let n = taken (below bounds.names (pos r.name +ℤ f)) kind.Name _ name is in
-    subst (NameTold r.name (f ∷ [])) (good_is (n.0, Some n.0) name n.2)
-    (refl, ap (λ k. k ∷ []) (told bounds.names r.name f n.0 n.1))) x e
-
-column_same : (bounds : Bounds) (line : ℕ) (z : ℤ) (x : ℕ × ℕ) → bounds.start_column ≡ 0
-    → column_step bounds line z ≡ Some x → x.1 ≡ x.0
-column_same bounds line (pos column) x start e =
-    let at : ℕ = (placed bounds line column).column in
-    same (below POSITIONS (pos at)) column x
-    (λ m is. number_is POSITIONS at m is ∙ placed_same bounds line column start) e
-  where
-    same : (o : Option ℕ) (column : ℕ) (x : ℕ × ℕ) → ((m : ℕ) → o ≡ Some m → m ≡ column)
-        → option_map (λ (placed : ℕ). (column, placed)) o ≡ Some x → x.1 ≡ x.0
-    same o column x is e = grind (arith, is)
-column_same bounds line (negsuc column) x start e = absurd cc
-
-line_told : (bounds : Bounds) (line l : ℕ) → bounds.start_line ≡ 0
-    → below bounds.lines (pos (bounds.start_line + line)) ≡ Some l → l ≡ line
-line_told bounds line l start e =
-    omega (arith, start, number_is bounds.lines (bounds.start_line + line) l e)
-
-abbrev step_told : ℕ → ℕ × ℕ → Running × Option Original → Running × Token
-step_told line column rest =
-    (record rest.0 { column = column.0 }, record { line = line; column = column.1; original = rest.1 })
+    → (o : Option Original)
+    → original_in bounds (next_values r (fields_of (first ∷ ns))) (length (first ∷ ns)) ≡ good o
+    → ns ≡ original_from r o
+original_told bounds r first ns (one_field a) None e = refl
+original_told bounds r first ns (one_field a) (Some o) e = absurd cc
+original_told bounds r first ns (four_fields a b c d) None e =
+    absurd (let one : false ≡ true =
+    one_said bounds (next_values r (fields_of (a ∷ b ∷ c ∷ d ∷ []))) 4 e in cc)
+original_told bounds r first ns (four_fields a b c d) (Some o) e =
+    let v : Values = next_values r (fields_of (a ∷ b ∷ c ∷ d ∷ [])) in
+    let h = original_tells bounds v 4 o e in
+    numbers_there r o b c d [] h.source.0 h.line.0 h.column.0 (no_name bounds v r.name o.name h.name)
+original_told bounds r first ns (five_fields a b c d f) None e =
+    absurd (let one : false ≡ true =
+    one_said bounds (next_values r (fields_of (a ∷ b ∷ c ∷ d ∷ f ∷ []))) 5 e in cc)
+original_told bounds r first ns (five_fields a b c d f) (Some o) e =
+    let v : Values = next_values r (fields_of (a ∷ b ∷ c ∷ d ∷ f ∷ [])) in
+    let h = original_tells bounds v 5 o e in
+    numbers_there r o b c d (f ∷ []) h.source.0 h.line.0 h.column.0
+    (one_name bounds v r.name f o.name refl h.name)
 
 -- A segment text gives a token and leaves these values.
 record TextTold (r : Running) (line : ℕ) (text : List ℕ) (x : Running × Token) : Type 0 where
@@ -122,34 +85,34 @@ record TextTold (r : Running) (line : ℕ) (text : List ℕ) (x : Running × Tok
   after : x.0 ≡ running_after r x.1
   least : IsOrIsLonger text (segment_from r x.1)
 
-segment_there : (r : Running) (line : ℕ) (text : List ℕ) (first : ℤ) (ns : List ℤ) (l : ℕ) (column : ℕ × ℕ)
-    (rest : Running × Option Original) → l ≡ line → column.1 ≡ column.0
-    → pos r.column +ℤ first ≡ pos column.0 → OriginalTold r ns rest → SpellsAll text (first ∷ ns)
-    → TextTold r line text (step_told l column rest)
-segment_there r line text first ns l column rest line_is same sum h spelled =
-    let number = difference_is r.column column.1 first (sum ∙ ap pos (sym same)) in
-    let others = h.numbers in
-    let numbers : first ∷ ns ≡ difference r.column column.1 ∷ original_from r rest.1 = cc in
+segment_there : (r : Running) (line : ℕ) (text : List ℕ) (first : ℤ) (ns : List ℤ) (x : ℕ × Token)
+    → x.1.line ≡ line → x.1.column ≡ x.0 → pos r.column +ℤ first ≡ pos x.0
+    → ns ≡ original_from r x.1.original → SpellsAll text (first ∷ ns)
+    → TextTold r line text (values_after r x, x.1)
+segment_there r line text first ns x line_is same sum others spelled =
+    let number = difference_is r.column x.1.column first (sum ∙ ap pos (sym same)) in
+    let numbers : first ∷ ns ≡ difference r.column x.1.column ∷ original_from r x.1.original = cc in
     record {
       line_is = line_is;
-      after = rw (← same, h.after) (column_kept r column.1 rest.1);
+      after = rw (← same) (column_kept r x.1.column x.1.original);
       least = subst (λ (ms : List ℤ). IsOrIsLonger text (flat_map spelling ms)) numbers
           (spellings_least text (first ∷ ns) spelled);
     }
 
 token_told : (bounds : Bounds) (r : Running) (line : ℕ) (text : List ℕ) (first : ℤ) (ns : List ℤ)
     → bounds.start_line ≡ 0 → bounds.start_column ≡ 0 → AreFields (first ∷ ns) → SpellsAll text (first ∷ ns)
-    → (x : Running × Token)
-    → token_step bounds r line (fields_of (first ∷ ns)) ≡ good x → TextTold r line text x
-token_told bounds r line text first ns line_start column_start are spelled x e =
-    let z : ℤ = pos r.column +ℤ first in
-    let l = taken (below bounds.lines (pos (bounds.start_line + line))) kind.GeneratedLine _ x e in
-    let c = taken (column_step bounds line z) kind.Column _ x l.2 in
-    let o = bind_ok (original_step bounds r (fields_of (first ∷ ns))) _ x c.2 in
-    subst (TextTold r line text) (good_is (step_told l.0 c.0 o.0) x o.2)
-    (segment_there r line text first ns l.0 c.0 o.0 (line_told bounds line l.0 line_start l.1)
-    (column_same bounds line z c.0 column_start c.1) (column_is bounds line z c.0 c.1)
-    (original_told bounds r first ns are o.0 o.1) spelled)
+    → (y : Running × Token)
+    → token_step bounds r line (fields_of (first ∷ ns)) ≡ good y → TextTold r line text y
+token_told bounds r line text first ns line_start column_start are spelled y e =
+    let v : Values = next_values r (fields_of (first ∷ ns)) in
+    let count : ℕ = length (first ∷ ns) in
+    let x = bind_ok (token_in bounds line v count) _ y e in
+    let h = token_tells bounds line v count x.0 x.1 in
+    let line_is : x.0.1.line ≡ line = omega (arith, line_start, h.line_is) in
+    subst (TextTold r line text) (good_is (values_after r x.0, x.0.1) y x.2)
+    (segment_there r line text first ns x.0 line_is
+    (h.is_placed ∙ placed_same bounds line x.0.0 column_start) h.column
+    (original_told bounds r first ns are x.0.1.original h.original) spelled)
 
 -- ---- one segment
 

@@ -3,6 +3,7 @@ mod LimitLemmas
 pub mod ArrangementLemmas
 pub mod OrderLemmas
 pub mod LinesLemmas
+pub mod ValueLemmas
 pub mod StepsLemmas
 pub mod ScanLemmas
 pub mod DecodedLemmas

@@ -1,7 +1,7 @@
 -- The segments of tokens, read one after another.
 use Rattle.std.proofs.Common.{◌≡◌, ℕ, ◌+◌, ◌<◌, ◌≤◌, eqb, List, [], ◌∷◌, ◌++◌, Option, Some, None, Ok, ℤ, pos}
-use Rattle.std.proofs.Common.{◌+ℤ◌, refl, subst, arith}
-use Rattle.std.specs.Prelude.{IfSome, unwrap_or}
+use Rattle.std.proofs.Common.{length, ◌+ℤ◌, refl, subst, arith}
+use Rattle.std.specs.Prelude.{IfSome}
 use Rattle.std.specs.List.{AllByRecursion}
 use Rattle.std.proofs.lemmas.Bool.{cond_both, eqb-true, eqb-false, ne_eqb, lt-ltb}
 use Rattle.std.proofs.lemmas.Int.{ints}
@@ -11,15 +11,16 @@ use Rattle.smap_mappings.specs.declared.token.Token.{Token}
 use Rattle.smap_mappings.specs.declared.token.Original.{Original}
 use Rattle.smap_mappings.specs.declared.running.Running.{Running}
 use Rattle.smap_mappings.specs.Lines.{SegmentText}
-use Rattle.smap_mappings.specs.Tokens.{Segment, below, placed, read_in, tokens_after}
-use Rattle.smap_mappings.specs.Steps.{Sums, text_at, original_step, column_step, judge_step, name_step}
-use Rattle.smap_mappings.specs.Steps.{at_start}
+use Rattle.smap_mappings.specs.Tokens.{Segment, below, placed, column_in, name_in, original_in, read_in}
+use Rattle.smap_mappings.specs.Tokens.{tokens_after}
+use Rattle.smap_mappings.specs.Steps.{Sums, text_at, next_values, judge_step, at_start}
 use Rattle.smap_mappings.specs.Position.{POSITIONS}
 use Rattle.smap_mappings.specs.Text.{IsPlaced, IsOriginal, difference}
 use Rattle.smap_mappings.specs.Writing.{original_from, name_from, segment_from, original_after, running_after}
 use Rattle.smap_mappings.specs.Writing.{at_line}
 use Rattle.smap_mappings.specs.Decoded.{IsWithin}
-use Rattle.smap_mappings.proofs.StepsLemmas.{StepAgrees, reads, placed-column}
+use Rattle.smap_mappings.proofs.ValueLemmas.{original_read, token_read, placed-column}
+use Rattle.smap_mappings.proofs.StepsLemmas.{StepAgrees, reads}
 use Rattle.smap_mappings.proofs.ScanLemmas.{Sums-none, Sums-on}
 use Rattle.smap_mappings.proofs.RunningTextLemmas.{before_token, after_token, texts_from, index_on, IsSegment}
 use Rattle.smap_mappings.proofs.RunningTextLemmas.{AreSegments}
@@ -42,28 +43,30 @@ pub placed_same : (bounds : Bounds) (line column : ℕ) → bounds.start_column 
 placed_same bounds line column start = grind (arith, placed-column bounds line column)
 
 column_again : (bounds : Bounds) (line old new : ℕ) → bounds.start_column ≡ 0 → new < POSITIONS
-    → column_step bounds line (pos old +ℤ difference old new) ≡ Some (new, new)
+    → column_in bounds line (pos old +ℤ difference old new) ≡ Some (new, new)
 column_again bounds line old new start lt =
     rw (added_again old new, placed_same bounds line new start, below_is POSITIONS new lt) refl
 
-name_again : (bounds : Bounds) (last : ℕ) (n : Option ℕ) (a b c d : ℤ) → IfSome n (λ m. m < bounds.names)
-    → name_step bounds last (fields_of (a ∷ b ∷ c ∷ d ∷ name_from last n)) ≡ Ok (unwrap_or n last, n)
-name_again bounds last None a b c d k = refl
-name_again bounds last (Some n) a b c d k = rw (below_again bounds.names last n k) refl
+name_again : (bounds : Bounds) (r : Running) (n : Option ℕ) (a b c d : ℤ) → IfSome n (λ m. m < bounds.names)
+    → name_in bounds (next_values r (fields_of (a ∷ b ∷ c ∷ d ∷ name_from r.name n)))
+    (length (a ∷ b ∷ c ∷ d ∷ name_from r.name n)) ≡ Ok n
+name_again bounds r None a b c d k = refl
+name_again bounds r (Some n) a b c d k = rw (below_again bounds.names r.name n k) refl
 
 original_again : (bounds : Bounds) (r : Running) (o : Option Original) → IfSome o IsOriginal
     → IfSome o (λ p. p.source < bounds.sources) → IfSome o (λ p. IfSome p.name (λ n. n < bounds.names))
     → (a : ℤ)
-    → original_step bounds r (fields_of (a ∷ original_from r o)) ≡ Ok (original_after r o, o)
+    → original_in bounds (next_values r (fields_of (a ∷ original_from r o))) (length (a ∷ original_from r o))
+    ≡ Ok o
 original_again bounds r None is source name a = refl
-original_again bounds r (Some o) is source name a = rw (
-  ne_eqb (fields_of (a ∷ original_from r (Some o))).count 1 (λ e. absurd (omega arith)),
-  below_again bounds.sources r.source o.source source,
-  below_again POSITIONS r.original_line o.line is.line,
-  below_again POSITIONS r.original_column o.column is.column,
-  name_again bounds r.name o.name a (difference r.source o.source) (difference r.original_line o.line)
-      (difference r.original_column o.column) name,
-) refl
+original_again bounds r (Some o) is source name a =
+    let ns : List ℤ = a ∷ original_from r (Some o) in
+    original_read bounds (next_values r (fields_of ns)) (length ns) o
+    (added_again r.source o.source, source) (added_again r.original_line o.line, is.line)
+    (added_again r.original_column o.column, is.column)
+    (name_again bounds r o.name a (difference r.source o.source) (difference r.original_line o.line)
+    (difference r.original_column o.column) name)
+    (ne_eqb (length ns) 1 (λ e. absurd (omega arith)))
 
 pub column_kept : (r : Running) (column : ℕ) (o : Option Original)
     → record (original_after r o) { column = column } ≡ original_after (record r { column = column }) o
@@ -74,15 +77,12 @@ text_again : (bounds : Bounds) (r : Running) (t : Token) → bounds.start_line �
     → IsPlaced t → IsWithin bounds t → IsSegment r t
     → judge_step bounds r t.line (segment_from r t) ≡ Ok (running_after r t, t)
 text_again bounds r t line_start column_start p w s =
+    let ns : List ℤ = difference r.column t.column ∷ original_from r t.original in
     let line_is : bounds.start_line + t.line ≡ t.line = omega arith in
-    rw (
-      s.numbers,
-      line_is,
-      below_is bounds.lines t.line w.line,
-      column_again bounds t.line r.column t.column column_start p.column,
-      original_again bounds r t.original p.original w.source w.name (difference r.column t.column),
-      column_kept r t.column t.original,
-    ) refl
+    let read = token_read bounds t.line (next_values r (fields_of ns)) (length ns) t.column t line_is w.line
+    (column_again bounds t.line r.column t.column column_start p.column)
+    (original_again bounds r t.original p.original w.source w.name (difference r.column t.column)) in
+    rw (s.numbers, read, column_kept r t.column t.original) refl
 
 -- ---- a further line
 

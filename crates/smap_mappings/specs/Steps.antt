@@ -1,14 +1,12 @@
 -- For private contracts: the next segment, by the absolute values before it.
 use Rattle.std.specs.Prelude.{◌≡◌, ℕ, zero, suc, ◌+◌, ◌<◌, ◌≤◌, ◌==◌, length, if◌then◌else◌, List, [], ◌∷◌}
-use Rattle.std.specs.Prelude.{◌++◌, ℤ, pos, negsuc, ◌+ℤ◌, Option, Some, None, ok_or, option_map}
+use Rattle.std.specs.Prelude.{◌++◌, ℤ, pos, ◌+ℤ◌}
 use Rattle.std.specs.Prelude.{Bool, true, not, ◌&&◌, slice_index_or, Result, Ok, Err}
 use Rattle.std.specs.List.{AllByRecursion, count_by}
 use Rattle.smap_mappings.specs.declared.token.Token.{Token}
 use Rattle.smap_mappings.specs.declared.error.SegmentKind.{SegmentKind}
 use Rattle.smap_mappings.specs.declared.token.Bounds.{Bounds}
 use Rattle.smap_mappings.specs.declared.running.Running.{Running}
-use Rattle.smap_mappings.specs.declared.error.SegmentKind.TheVariants as kind
-use Rattle.smap_mappings.specs.declared.token.Original.{Original}
 use Rattle.smap_vlq.specs.declared.segment.Fields.{Fields}
 use Rattle.smap_vlq.specs.declared.segment.SegmentFault.{SegmentFault}
 use Rattle.smap_vlq.specs.Segment.{fields_in}
@@ -17,10 +15,11 @@ use Rattle.smap_mappings.specs.declared.error.MappingsError.{MappingsError}
 use Rattle.smap_mappings.specs.declared.error.MappingsError.TheVariants as errors
 use Rattle.smap_vlq.specs.Number.{◌>>=◌}
 use Rattle.smap_mappings.specs.declared.position.Position.{Position}
-use Rattle.smap_mappings.specs.Position.{POSITIONS, is_before}
-use Rattle.smap_mappings.specs.Tokens.{Segment, below, placed, generated_column, source_index}
+use Rattle.smap_mappings.specs.Position.{is_before}
+use Rattle.smap_mappings.specs.Tokens.{Segment, Values, generated_column, source_index, token_in}
 use Rattle.smap_mappings.specs.Tokens.{original_line, original_column, name_index, kind_of, Fault}
 use Rattle.smap_mappings.specs.Tokens.{tokens_after}
+use Rattle.smap_mappings.specs.Writing.{original_after}
 
 -- These are the absolute values after the segments, on a line that none of them is after.
 pub record Sums (r : Running) (before : List Segment) (line : ℕ) : Type 0 where
@@ -40,39 +39,23 @@ at_start = record { column = 0; source = 0; original_line = 0; original_column =
 abbrev pub field : Fields → ℕ → ℤ
 field fields which = slice_index_or fields.numbers which (pos 0)
 
-abbrev pub name_step : Bounds → ℕ → Fields → Result (ℕ × Option ℕ) SegmentKind
-name_step bounds name fields =
-    if fields.count == 5
-    then (ok_or (below bounds.names (pos name +ℤ field fields 4)) kind.Name >>= λ n. Ok (n, Some n))
-    else Ok (name, None)
+-- the values of a segment with these fields
+abbrev pub next_values : Running → Fields → Values
+next_values r fields = record {
+  column = pos r.column +ℤ field fields 0;
+  source = pos r.source +ℤ field fields 1;
+  original_line = pos r.original_line +ℤ field fields 2;
+  original_column = pos r.original_column +ℤ field fields 3;
+  name = pos r.name +ℤ field fields 4;
+}
 
-abbrev pub original_step : Bounds → Running → Fields → Result (Running × Option Original) SegmentKind
-original_step bounds r fields = if fields.count == 1 then Ok (r, None) else (do
-  source ← ok_or (below bounds.sources (pos r.source +ℤ field fields 1)) kind.Source
-  line ← ok_or (below POSITIONS (pos r.original_line +ℤ field fields 2)) kind.OriginalLine
-  column ← ok_or (below POSITIONS (pos r.original_column +ℤ field fields 3)) kind.OriginalColumn
-  name ← name_step bounds r.name fields
-  Ok (
-    record r { source = source; original_line = line; original_column = column; name = name.0 },
-    Some (record { source = source; line = line; column = column; name = name.1 }),
-  ))
-
--- the column and the placed column
-abbrev pub column_step : Bounds → ℕ → ℤ → Option (ℕ × ℕ)
-column_step bounds line (pos column) =
-    option_map (λ placed. (column, placed))
-    (below POSITIONS (pos (placed bounds line column).column))
-column_step bounds line (negsuc column) = None
+-- the running values after a segment with this column and this token
+abbrev pub values_after : Running → ℕ × Token → Running
+values_after r x = record (original_after r x.1.original) { column = x.0 }
 
 abbrev pub token_step : Bounds → Running → ℕ → Fields → Result (Running × Token) SegmentKind
-token_step bounds r line fields = do
-  placed_line ← ok_or (below bounds.lines (pos (bounds.start_line + line))) kind.GeneratedLine
-  column ← ok_or (column_step bounds line (pos r.column +ℤ field fields 0)) kind.Column
-  rest ← original_step bounds r fields
-  Ok (
-    record rest.0 { column = column.0 },
-    record { line = placed_line; column = column.1; original = rest.1 },
-  )
+token_step bounds r line fields =
+    token_in bounds line (next_values r fields) fields.count >>= λ x. Ok (values_after r x, x.1)
 
 abbrev pub fields_or_kind : Result Fields SegmentFault → Result Fields SegmentKind
 fields_or_kind (Ok fields) = Ok fields

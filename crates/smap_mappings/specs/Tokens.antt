@@ -3,7 +3,7 @@
 -- on.
 use Rattle.std.specs.Prelude.{ℕ, ◌==◌, nat_lt, min, if◌then◌else◌, List, [], ◌∷◌, ◌++◌, map, filter, length}
 use Rattle.std.specs.Prelude.{slice_index_or, Option, Some, None, ok_or, Result, Ok, Err, ℤ, pos, negsuc}
-use Rattle.std.specs.Prelude.{◌+ℤ◌}
+use Rattle.std.specs.Prelude.{◌+ℤ◌, option_map}
 use Rattle.smap_vlq.specs.declared.segment.SegmentFault.{SegmentFault}
 use Rattle.smap_vlq.specs.declared.segment.SegmentFault.TheVariants as fault
 use Rattle.smap_vlq.specs.Number.{◌>>=◌}
@@ -54,6 +54,24 @@ original_column = sum_of 3
 abbrev pub name_index : List Segment → ℤ
 name_index = sum_of 4
 
+-- the absolute values of a segment, in range or not
+pub record Values : Type 0 where
+  pub column : ℤ
+  pub source : ℤ
+  pub original_line : ℤ
+  pub original_column : ℤ
+  pub name : ℤ
+
+-- those of the last of these segments, which is on this line
+abbrev pub values_of : List Segment → ℕ → Values
+values_of segments line = record {
+  column = generated_column segments line;
+  source = source_index segments;
+  original_line = original_line segments;
+  original_column = original_column segments;
+  name = name_index segments;
+}
+
 -- ---- positions
 
 -- the number, if it is from 0 to below the limit
@@ -69,9 +87,10 @@ start_of bounds = record { line = bounds.start_line; column = bounds.start_colum
 abbrev pub placed : Bounds → ℕ → ℕ → Position
 placed bounds line column = place (start_of bounds) (record { line = line; column = column })
 
--- the placed column of a column that isn't negative
-abbrev pub column_in : Bounds → ℕ → ℤ → Option ℕ
-column_in bounds line (pos column) = below POSITIONS (pos (placed bounds line column).column)
+-- a column that isn't negative, and that column after placing
+abbrev pub column_in : Bounds → ℕ → ℤ → Option (ℕ × ℕ)
+column_in bounds line (pos column) =
+    option_map (λ placed. (column, placed)) (below POSITIONS (pos (placed bounds line column).column))
 column_in bounds line (negsuc column) = None
 
 -- ---- one segment
@@ -86,29 +105,35 @@ abbrev pub numbers_in : Result (List ℤ) SegmentFault → Result (List ℤ) Seg
 numbers_in (Ok ns) = Ok ns
 numbers_in (Err f) = Err (kind_of f)
 
--- the name of the last of these segments, which has this many numbers, or its fault
-abbrev pub name_in : Bounds → List Segment → ℕ → Result (Option ℕ) SegmentKind
-name_in bounds segments count =
-    if count == 5 then (ok_or (below bounds.names (name_index segments)) kind.Name >>= λ name. Ok (Some name))
+-- the name of a segment with this many numbers and these values, or its fault
+abbrev pub name_in : Bounds → Values → ℕ → Result (Option ℕ) SegmentKind
+name_in bounds values count =
+    if count == 5 then (ok_or (below bounds.names values.name) kind.Name >>= λ name. Ok (Some name))
     else Ok None
 
 -- its original position, or the first fault
-abbrev pub original_in : Bounds → List Segment → ℕ → Result (Option Original) SegmentKind
-original_in bounds segments count = if count == 1 then Ok None else (do
-  source ← ok_or (below bounds.sources (source_index segments)) kind.Source
-  line ← ok_or (below POSITIONS (original_line segments)) kind.OriginalLine
-  column ← ok_or (below POSITIONS (original_column segments)) kind.OriginalColumn
-  name ← name_in bounds segments count
+abbrev pub original_in : Bounds → Values → ℕ → Result (Option Original) SegmentKind
+original_in bounds values count = if count == 1 then Ok None else (do
+  source ← ok_or (below bounds.sources values.source) kind.Source
+  line ← ok_or (below POSITIONS values.original_line) kind.OriginalLine
+  column ← ok_or (below POSITIONS values.original_column) kind.OriginalColumn
+  name ← name_in bounds values count
   Ok (Some (record { source = source; line = line; column = column; name = name })))
 
--- The token of a segment after others without a fault; or the first of its faults, in this order.
+-- The token of a segment on this line, and its column before placing; or the first of its faults, in this
+-- order.
+abbrev pub token_in : Bounds → ℕ → Values → ℕ → Result (ℕ × Token) SegmentKind
+token_in bounds line values count = do
+  placed_line ← ok_or (below bounds.lines (pos (placed bounds line 0).line)) kind.GeneratedLine
+  column ← ok_or (column_in bounds line values.column) kind.Column
+  original ← original_in bounds values count
+  Ok (column.0, record { line = placed_line; column = column.1; original = original })
+
+-- The token of a segment after others without a fault, or its first fault.
 unfoldable pub token_of : Bounds → List Segment → Segment → Result Token SegmentKind
-token_of bounds before segment = do
-  line ← ok_or (below bounds.lines (pos (placed bounds segment.line 0).line)) kind.GeneratedLine
-  column ← ok_or
-      (column_in bounds segment.line (generated_column (before ++ segment ∷ []) segment.line)) kind.Column
-  original ← original_in bounds (before ++ segment ∷ []) (length segment.numbers)
-  Ok (record { line = line; column = column; original = original })
+token_of bounds before segment =
+    token_in bounds segment.line (values_of (before ++ segment ∷ []) segment.line) (length segment.numbers)
+    >>= λ x. Ok x.1
 
 -- ---- all segments
 

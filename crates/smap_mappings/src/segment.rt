@@ -1,7 +1,8 @@
 //! One segment: its token, by the absolute values before it, or its first fault.
 ghost use Rattle.std.specs.Prelude.{◌≡◌, pos, ◌+ℤ◌};
-ghost use Rattle.smap_mappings.specs.Tokens.{below, kind_of};
-ghost use Rattle.smap_mappings.specs.Steps.{name_step, original_step, column_step, token_step};
+ghost use Rattle.smap_mappings.specs.Tokens.{below, column_in, kind_of, name_in, original_in};
+ghost use Rattle.smap_mappings.specs.Steps.{next_values, token_step};
+ghost use Rattle.smap_mappings.specs.Writing.{original_after};
 
 use crate::error::SegmentKind;
 use crate::running::{POSITION_LIMIT, Running};
@@ -20,29 +21,29 @@ fn moved(position: u32, difference: i32, limit: u32) -> Option<u32>
     Some(moved as u32)
 }
 
-/// The last name index after the segment, and the segment's own.
+/// The segment's name index.
 #[inline(always)]
-fn name_at(bounds: Bounds, last: u32, fields: &Fields) -> Result<(u32, Option<u32>), SegmentKind>
-    ensures { result ≡ name_step bounds last fields.now }
+fn name_at(bounds: Bounds, running: Running, fields: &Fields) -> Result<Option<u32>, SegmentKind>
+    ensures { result ≡ name_in bounds (next_values running fields.now) fields.now.count }
 {
     if fields.count != 5 {
-        return Ok((last, None));
+        return Ok(None);
     }
-    let name = moved(last, fields.numbers[4], bounds.names).ok_or(SegmentKind::Name)?;
-    Ok((name, Some(name)))
+    let name = moved(running.name, fields.numbers[4], bounds.names).ok_or(SegmentKind::Name)?;
+    Ok(Some(name))
 }
 
-/// The running values after the segment, except for the column, and the segment's original position.
+/// The segment's original position.
 #[inline(always)]
 fn original_at(
     bounds: Bounds,
     running: Running,
     fields: &Fields,
-) -> Result<(Running, Option<Original>), SegmentKind>
-    ensures { result ≡ original_step bounds running fields.now }
+) -> Result<Option<Original>, SegmentKind>
+    ensures { result ≡ original_in bounds (next_values running fields.now) fields.now.count }
 {
     if fields.count == 1 {
-        return Ok((running, None));
+        return Ok(None);
     }
     let source = moved(running.source, fields.numbers[1], bounds.sources).ok_or(
         SegmentKind::Source,
@@ -53,27 +54,36 @@ fn original_at(
     let column = moved(running.original_column, fields.numbers[3], POSITION_LIMIT).ok_or(
         SegmentKind::OriginalColumn,
     )?;
-    let (last_name, name) = name_at(bounds, running.name, fields)?;
-    let after = Running {
-        source,
-        original_line: line,
-        original_column: column,
-        name: last_name,
-        ..running
-    };
-    let original = Original {
+    let name = name_at(bounds, running, fields)?;
+    Ok(Some(Original {
         source,
         line,
         column,
         name,
+    }))
+}
+
+/// The running values after a segment with this original position, except for the column.
+#[inline(always)]
+fn original_after(running: Running, original: Option<Original>) -> Running
+    ensures { result ≡ original_after running original }
+{
+    let Some(original) = original else {
+        return running;
     };
-    Ok((after, Some(original)))
+    Running {
+        source: original.source,
+        original_line: original.line,
+        original_column: original.column,
+        name: original.name.unwrap_or(running.name),
+        ..running
+    }
 }
 
 /// The column after the segment, and that column after placing.
 #[inline(always)]
 fn column_at(bounds: Bounds, line: usize, column: u32, difference: i32) -> Option<(u32, u32)>
-    ensures { result ≡ column_step bounds line (pos column +ℤ difference) }
+    ensures { result ≡ column_in bounds line (pos column +ℤ difference) }
 {
     let moved = column as i64 + difference as i64;
     if moved < 0 {
@@ -107,7 +117,8 @@ pub(crate) fn token_at(
     let (column, placed) = column_at(bounds, line, running.column, fields.numbers[0]).ok_or(
         SegmentKind::Column,
     )?;
-    let (after, original) = original_at(bounds, running, fields)?;
+    let original = original_at(bounds, running, fields)?;
+    let after = original_after(running, original);
     let token = Token {
         line: (start + line) as u32,
         column: placed,

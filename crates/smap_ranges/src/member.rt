@@ -40,17 +40,6 @@ pub(crate) fn key_of(map: Option<&Value>, kind: Kind) -> Option<Key>
         Kind::Prefix | Kind::Json | Kind::NotObject | Kind::TooMany => None,
         Kind::Version => Some(Key::Version),
         Kind::File => Some(Key::File),
-        Kind::Both
-        | Kind::Mappings
-        | Kind::Empty
-        | Kind::Number(_, _)
-        | Kind::Count(_)
-        | Kind::GeneratedLine
-        | Kind::Column
-        | Kind::Source
-        | Kind::OriginalLine
-        | Kind::OriginalColumn
-        | Kind::Name => Some(Key::Mappings),
         Kind::SourceRoot => Some(Key::SourceRoot),
         Kind::Sources | Kind::SourceUrl(_) | Kind::UnstableUrl(_) => Some(Key::Sources),
         Kind::SourcesContent => Some(Key::SourcesContent),
@@ -59,6 +48,8 @@ pub(crate) fn key_of(map: Option<&Value>, kind: Kind) -> Option<Key>
         Kind::Sections => Some(Key::Sections),
         Kind::Offset | Kind::Order | Kind::Overlap => Some(Key::Offset),
         Kind::SectionMap | Kind::Nested => Some(Key::Map),
+        // The other faults are that there are no mappings, or sections beside them, and those of segments.
+        _ => Some(Key::Mappings),
     }
 }
 

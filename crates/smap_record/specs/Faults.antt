@@ -3,41 +3,10 @@ use Rattle.std.specs.Prelude.{ℕ, Bool, true, false, List, [], ◌∷◌, Optio
 pub use Rattle.smap_vlq.specs.Number.{◌>>=◌}
 use Rattle.smap_mappings.specs.declared.error.SegmentPlace.{SegmentPlace}
 use Rattle.smap_mappings.specs.declared.error.SegmentKind.{SegmentKind}
-use Rattle.smap_mappings.specs.declared.error.SegmentKind.TheVariants as segment
 use Rattle.smap_shape.specs.declared.fault.ShapeFault.{ShapeFault}
-use Rattle.smap_shape.specs.declared.fault.ShapeFault.TheVariants as shape
 use Rattle.smap_record.specs.declared.fault.Kind.{Kind}
-use Rattle.smap_record.specs.declared.fault.Kind.TheVariants as kinds
 use Rattle.smap_record.specs.declared.fault.Fault.{Fault}
-
--- A fault of a tree's shape.
-abbrev pub kind_of_shape : ShapeFault → Kind
-kind_of_shape shape.NotObject = kinds.NotObject
-kind_of_shape shape.Version = kinds.Version
-kind_of_shape shape.File = kinds.File
-kind_of_shape shape.Both = kinds.Both
-kind_of_shape shape.SourceRoot = kinds.SourceRoot
-kind_of_shape shape.Sources = kinds.Sources
-kind_of_shape shape.SourcesContent = kinds.SourcesContent
-kind_of_shape shape.Names = kinds.Names
-kind_of_shape shape.IgnoreList = kinds.IgnoreList
-kind_of_shape shape.Mappings = kinds.Mappings
-kind_of_shape shape.Sections = kinds.Sections
-kind_of_shape shape.Offset = kinds.Offset
-kind_of_shape shape.SectionMap = kinds.SectionMap
-kind_of_shape shape.Nested = kinds.Nested
-
--- A fault of a segment.
-abbrev pub kind_of_segment : SegmentKind → Kind
-kind_of_segment segment.Empty = kinds.Empty
-kind_of_segment (segment.Number which fault) = kinds.Number which fault
-kind_of_segment (segment.Count n) = kinds.Count n
-kind_of_segment segment.GeneratedLine = kinds.GeneratedLine
-kind_of_segment segment.Column = kinds.Column
-kind_of_segment segment.Source = kinds.Source
-kind_of_segment segment.OriginalLine = kinds.OriginalLine
-kind_of_segment segment.OriginalColumn = kinds.OriginalColumn
-kind_of_segment segment.Name = kinds.Name
+pub use Rattle.smap_record.specs.Kinds.{kind_of_shape, kind_of_segment}
 
 -- a value, or the first fault of the map
 abbrev pub Checked : Type 0 → Type 0

@@ -1,6 +1,7 @@
 pub mod Record
 pub mod SourceUrls
 pub mod Relative
+pub mod Kinds
 pub mod Faults
 pub mod Flat
 pub mod Sections

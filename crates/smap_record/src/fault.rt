@@ -3,8 +3,9 @@
 ghost use Rattle.std.specs.Prelude.{◌≡◌, ◌++◌, Some, codes};
 ghost use Rattle.smap_record.specs.MessageView.{message_bytes};
 ghost use Rattle.smap_record.specs.Faults.{plain, segment_fault};
-ghost use Rattle.smap_record.specs.Messages.{fault_message, kind_message, number_message, place_message};
-ghost use Rattle.smap_record.specs.Messages.{section_message};
+ghost use Rattle.smap_record.specs.Kinds.{code_and_number, fault_name, kind_message, number_message};
+ghost use Rattle.smap_record.specs.Kinds.{spelling_code};
+ghost use Rattle.smap_record.specs.Messages.{fault_message, place_message, section_message};
 
 use crate::path::Path;
 use itoa::Buffer;
@@ -165,7 +166,7 @@ impl Fault {
 
 impl From<ShapeFault> for Kind {
     ghost use Rattle.std.specs.Prelude.{◌≡◌};
-    ghost use Rattle.smap_record.specs.Faults.{kind_of_shape};
+    ghost use Rattle.smap_record.specs.Kinds.{kind_of_shape};
 
     ghost from_gives = { λ fault kind. kind ≡ kind_of_shape fault };
 
@@ -191,7 +192,7 @@ impl From<ShapeFault> for Kind {
 
 impl From<SegmentKind> for Kind {
     ghost use Rattle.std.specs.Prelude.{◌≡◌};
-    ghost use Rattle.smap_record.specs.Faults.{kind_of_segment};
+    ghost use Rattle.smap_record.specs.Kinds.{kind_of_segment};
 
     ghost from_gives = { λ segment kind. kind ≡ kind_of_segment segment };
 
@@ -207,6 +208,100 @@ impl From<SegmentKind> for Kind {
             SegmentKind::OriginalColumn => Kind::OriginalColumn,
             SegmentKind::Name => Kind::Name,
         }
+    }
+}
+
+/// The number of a misspelled number in C.
+fn spelling_code(fault: NumberFault) -> u32
+    ensures { result ≡ spelling_code fault }
+{
+    match fault {
+        NumberFault::Unfinished => 23,
+        NumberFault::Character => 24,
+        NumberFault::TooLarge => 25,
+        NumberFault::NegativeZero => 26,
+    }
+}
+
+impl Kind {
+    /// The number of the kind in C, as `smap.h` has it, and the number that it carries, or 0.
+    pub fn code_and_number(self) -> (u32, usize)
+        ensures { result ≡ code_and_number self }
+    {
+        match self {
+            Kind::Prefix => (1, 0),
+            Kind::Json => (2, 0),
+            Kind::NotObject => (3, 0),
+            Kind::Version => (4, 0),
+            Kind::File => (5, 0),
+            Kind::Both => (6, 0),
+            Kind::SourceRoot => (7, 0),
+            Kind::Sources => (8, 0),
+            Kind::SourcesContent => (9, 0),
+            Kind::Names => (10, 0),
+            Kind::IgnoreList => (11, 0),
+            Kind::Mappings => (12, 0),
+            Kind::Sections => (13, 0),
+            Kind::Offset => (14, 0),
+            Kind::SectionMap => (15, 0),
+            Kind::Nested => (16, 0),
+            Kind::Order => (17, 0),
+            Kind::Overlap => (18, 0),
+            Kind::TooMany => (19, 0),
+            Kind::SourceUrl(i) => (20, i),
+            Kind::UnstableUrl(i) => (21, i),
+            Kind::Empty => (22, 0),
+            Kind::Number(which, fault) => (spelling_code(fault), usize::from(which)),
+            Kind::Count(n) => (27, usize::from(n)),
+            Kind::GeneratedLine => (28, 0),
+            Kind::Column => (29, 0),
+            Kind::Source => (30, 0),
+            Kind::OriginalLine => (31, 0),
+            Kind::OriginalColumn => (32, 0),
+            Kind::Name => (33, 0),
+        }
+    }
+}
+
+/// The name of the kind that has this number in C, or nothing for a number that is none.
+pub fn fault_name(kind: u32) -> &'static str
+    ensures { result.now ≡ fault_name kind }
+{
+    match kind {
+        1 => "Prefix",
+        2 => "Json",
+        3 => "NotObject",
+        4 => "Version",
+        5 => "File",
+        6 => "Both",
+        7 => "SourceRoot",
+        8 => "Sources",
+        9 => "SourcesContent",
+        10 => "Names",
+        11 => "IgnoreList",
+        12 => "Mappings",
+        13 => "Sections",
+        14 => "Offset",
+        15 => "SectionMap",
+        16 => "Nested",
+        17 => "Order",
+        18 => "Overlap",
+        19 => "TooMany",
+        20 => "SourceUrl",
+        21 => "UnstableUrl",
+        22 => "Empty",
+        23 => "Unfinished",
+        24 => "Character",
+        25 => "TooLarge",
+        26 => "NegativeZero",
+        27 => "Count",
+        28 => "GeneratedLine",
+        29 => "Column",
+        30 => "Source",
+        31 => "OriginalLine",
+        32 => "OriginalColumn",
+        33 => "Name",
+        _ => "",
     }
 }
 

@@ -30,7 +30,7 @@ mod url_bytes;
 mod view;
 mod written;
 
-pub use fault::{BaseFault, Fault, Kind, ReadError};
+pub use fault::{BaseFault, Fault, Kind, ReadError, fault_name};
 pub use limits::Limits;
 pub use map::SourceMap;
 pub use path::Path;

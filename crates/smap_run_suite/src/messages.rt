@@ -43,56 +43,20 @@ fn each_error_of_a_trace_has_its_words(rt: HostRuntime) -> Result<(), Fail> {
     Ok(())
 }
 
-/// The line of each kind of fault, outside of sections and without a place.
-const LINES: [(Kind, &str); 33] = [
-    (Kind::Prefix, "refused: prefix without line feed"),
+/// The lines of faults outside of sections and without a place: each form of a message, without a number and
+/// with one.
+const LINES: [(Kind, &str); 5] = [
     (Kind::Json, "refused: not json"),
-    (Kind::NotObject, "refused: not an object"),
-    (Kind::Version, "refused: version"),
-    (Kind::File, "refused: file"),
-    (Kind::Both, "refused: sections beside mappings"),
-    (Kind::SourceRoot, "refused: sourceRoot"),
-    (Kind::Sources, "refused: sources"),
-    (Kind::SourcesContent, "refused: sourcesContent"),
-    (Kind::Names, "refused: names"),
-    (Kind::IgnoreList, "refused: ignoreList"),
-    (Kind::Mappings, "refused: mappings"),
-    (Kind::Sections, "refused: sections"),
-    (Kind::Offset, "refused: offset"),
-    (Kind::SectionMap, "refused: map"),
-    (Kind::Nested, "refused: nested sections"),
-    (Kind::Order, "refused: order"),
-    (Kind::Overlap, "refused: overlap"),
-    (Kind::TooMany, "refused: too many sources or names"),
     (Kind::SourceUrl(0), "refused: source 0 is no URL"),
     (
         Kind::UnstableUrl(12),
         "refused: source 12 has an unstable URL",
-    ),
-    (Kind::Empty, "refused: empty segment"),
-    (
-        Kind::Number(1, NumberFault::Unfinished),
-        "refused: number 1: unfinished",
-    ),
-    (
-        Kind::Number(2, NumberFault::Character),
-        "refused: number 2: bad character",
-    ),
-    (
-        Kind::Number(3, NumberFault::TooLarge),
-        "refused: number 3: too large",
     ),
     (
         Kind::Number(255, NumberFault::NegativeZero),
         "refused: number 255: negative zero",
     ),
     (Kind::Count(255), "refused: 255 numbers"),
-    (Kind::GeneratedLine, "refused: generated line"),
-    (Kind::Column, "refused: generated column"),
-    (Kind::Source, "refused: source index"),
-    (Kind::OriginalLine, "refused: original line"),
-    (Kind::OriginalColumn, "refused: original column"),
-    (Kind::Name, "refused: name index"),
 ];
 
 /// Asserts the line of a fault.
@@ -114,7 +78,7 @@ fn has_line(
 }
 
 #[test]
-fn each_kind_of_fault_has_its_line(rt: HostRuntime) {
+fn a_kind_of_fault_has_its_line(rt: HostRuntime) {
     for &(kind, line) in &LINES {
         has_line(&rt, &[], None, kind, line);
     }
