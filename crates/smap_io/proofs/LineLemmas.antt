@@ -1,6 +1,6 @@
 -- The lines of a text, one piece after another.
 use Rattle.std.proofs.Common.{◌≡◌, ◌≢◌, ◌∙◌, ℕ, zero, suc, ◌+◌, take, drop, get_or, ◌<◌}
-use Rattle.std.proofs.Common.{◌==◌, Bool, true, false, cond, List, [], ◌∷◌, ◌++◌, length, refl, ◌-◌, Result, Ok, Err, OnOk}
+use Rattle.std.proofs.Common.{◌==◌, Bool, true, false, cond, List, [], ◌∷◌, ◌++◌, length, refl, ◌-◌, Result, Ok, Err, OnOk, Option, ◌≤◌, length-append}
 use Rattle.std.proofs.Common.{sym, ap, subst, inl, inr, ◌⊎◌, arith, append_assoc, append-nil}
 use Rattle.std.specs.List.{list_any, onto_first}
 use Rattle.std.specs.Result.{is_ok}
@@ -8,7 +8,10 @@ use Rattle.std.proofs.lemmas.List.{take-append-drop, take_more, take_rest}
 use Rattle.std.proofs.lemmas.List.Folds.{list_any-append}
 use Rattle.std.proofs.Math.Seq.{take-length}
 use Rattle.std.proofs.lemmas.Bool.{cases_Bool, false_from_ne_true, false≢true, not-true}
+use Rattle.smap_io.specs.declared.device.Device.{Device}
+use Rattle.smap_io.specs.Reading.{Gave}
 use Rattle.smap_io.specs.Lines.{HasNoFeed, IsWhole, TakesAll, TakesPiece, complete_of, lines_of}
+use Rattle.smap_io.proofs.ReadingLemmas.{Gave-then}
 
 -- ---- whole lines, and what follows them
 
@@ -82,6 +85,11 @@ pub none_complete : (line : List ℕ) → HasNoFeed line → complete_of line �
 none_complete [] free = refl
 none_complete (b ∷ bs) free = rw (not-true (list_any (λ c. c == 10) (b ∷ bs)) free) refl
 
+pub complete_lines : (whole line : List ℕ) → IsWhole whole → HasNoFeed line
+    → complete_of (whole ++ line) ≡ whole
+complete_lines whole line is free =
+    complete_of-append whole line is ∙ rw (none_complete line free) (append-nil whole)
+
 -- ---- the first line feed of a piece
 
 -- what is before it has none
@@ -138,3 +146,29 @@ module _ {S : Type 0} (takes : S → List ℕ → S → Type 0) where
   last_taken (Err e) line old new free some taken = tt
   last_taken (Ok x) [] old new free some taken = absurd (false≢true some)
   last_taken (Ok x) (b ∷ bs) old new free some taken = rw (lines_of-last b bs free) (new, taken, refl)
+
+-- ---- the lines of what was read
+
+-- At least as many bytes as calls were read: whole lines, and then the beginning of one that waits.
+pub record ReadsLines {R : Type 0} (remaining : R → Option (List ℕ)) (old new : Device R) (calls : ℕ)
+    (line whole : List ℕ) : Type 0 where
+  pub is_whole : IsWhole whole
+  pub free : HasNoFeed line
+  pub gave : Gave remaining old new (whole ++ line)
+  pub many : calls ≤ length (whole ++ line)
+
+-- One more call gave a piece, and its lines were taken.
+pub ReadsLines-more : {R S : Type 0} (remaining : R → Option (List ℕ)) (takes : S → List ℕ → S → Type 0)
+    (a b c : Device R) (calls : ℕ) (line whole piece rest : List ℕ) (old new : S)
+    → ReadsLines remaining a b calls line whole → Gave remaining b c piece → 0 < length piece
+    → HasNoFeed rest → (t : TakesPiece takes line piece rest old new)
+    → ReadsLines remaining a c (calls + 1) rest (whole ++ t.whole)
+ReadsLines-more remaining takes a b c calls line whole piece rest old new s read some free t =
+    let bytes : (whole ++ t.whole) ++ rest ≡ (whole ++ line) ++ piece =
+    rw (append_assoc whole t.whole rest, ← t.bytes) (sym (append_assoc whole line piece)) in
+    record {
+      is_whole = both_whole whole t.whole s.is_whole t.is_whole;
+      free = free;
+      gave = rw bytes (Gave-then remaining a b c (whole ++ line) piece s.gave read);
+      many = rw bytes (omega (arith, length-append (whole ++ line) piece, s.many, some));
+    }
