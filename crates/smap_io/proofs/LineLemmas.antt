@@ -1,7 +1,7 @@
 -- The lines of a text, one piece after another.
-use Rattle.std.proofs.Common.{◌≡◌, ◌≢◌, ◌∙◌, ℕ, zero, suc, ◌+◌, take, drop, get_or, ◌<◌}
-use Rattle.std.proofs.Common.{◌==◌, Bool, true, false, cond, List, [], ◌∷◌, ◌++◌, length, refl, ◌-◌, Result, Ok, Err, OnOk, Option, ◌≤◌, length-append}
-use Rattle.std.proofs.Common.{sym, ap, subst, inl, inr, ◌⊎◌, arith, append_assoc, append-nil}
+use Rattle.std.proofs.Common.{◌≡◌, ◌≢◌, ◌∙◌, ℕ, zero, suc, ◌+◌, ◌-◌, ◌<◌, ◌≤◌, ◌==◌, true, false, cond}
+use Rattle.std.proofs.Common.{List, [], ◌∷◌, ◌++◌, length, take, drop, get_or, Option, Result, Ok, Err, OnOk}
+use Rattle.std.proofs.Common.{refl, sym, ap, subst, inl, inr, arith, append_assoc, append-nil, length-append}
 use Rattle.std.specs.List.{list_any, onto_first}
 use Rattle.std.specs.Result.{is_ok}
 use Rattle.std.proofs.lemmas.List.{take-append-drop, take_more, take_rest}
@@ -112,11 +112,6 @@ rest_free (Err e) line left rest free none is = tt
 -- ---- the lines that are taken
 
 module _ {S : Type 0} (takes : S → List ℕ → S → Type 0) where
-  pub TakesAll-append : (xs ys : List (List ℕ)) (a b c : S) → TakesAll takes a xs b → TakesAll takes b ys c
-      → TakesAll takes a (xs ++ ys) c
-  TakesAll-append [] ys a b c p q = subst (λ (s : S). TakesAll takes s ys c) p q
-  TakesAll-append (x ∷ xs) ys a b c p q = (p.0, p.1, TakesAll-append xs ys p.0 b c p.2 q)
-
   -- a line was taken whose end the piece had, and then the lines of what is left of the piece
   pub line_then : (line left last rest : List ℕ) (feed : ℕ) (old mid new : S) → HasNoFeed line
       → ((i : ℕ) → i < feed → (get_or left i 0 == 10) ≢ true) → feed < length left

@@ -71,11 +71,7 @@ pub fn take_piece<S, E: EachLine<S>>(
 /// # Errors
 ///
 /// `AllocError`, if the line was refused.
-pub fn take_last<S, E: EachLine<S>>(
-    each: &E,
-    so_far: &mut S,
-    line: &[u8],
-) -> Result<(), AllocError>
+pub fn take_last<S, E: EachLine<S>>(each: &E, so_far: &mut S, line: &[u8]) -> Result<(), AllocError>
     requires { HasNoFeed line.now }
     ensures { OnOk result (TakesAll (E.takes each.now) so_far.old (lines_of line.now) so_far.new) }
 {

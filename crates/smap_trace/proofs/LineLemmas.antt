@@ -2,7 +2,7 @@
 use Rattle.std.proofs.Common.{◌≡◌, ◌∙◌, List, ℕ, [], ◌∷◌, ◌++◌, flat_map, refl, sym, ap, append_assoc}
 use Rattle.std.proofs.Common.{append-nil, Result, Ok, Err, OnOk}
 use Rattle.std.proofs.lemmas.Grind.{flat_map-append}
-use Rattle.smap_io.specs.Lines.{IsWhole, TakesAll, TakesPiece}
+use Rattle.smap_io.specs.Lines.{IsWhole, TakesAll}
 use Rattle.smap_io.proofs.LineLemmas.{lines_of-append}
 use Rattle.smap_trace.specs.declared.outcome.Counts.{Counts}
 use Rattle.smap_trace.specs.declared.streaming.Output.{Output}

@@ -1,7 +1,6 @@
 -- What `translate` answers, and what it has read and written then.
-use Rattle.std.specs.Prelude.{◌≡◌, ℕ, ◌≤◌, ◌==◌, Bool, true, false, List, [], ◌∷◌, ◌++◌, length}
+use Rattle.std.specs.Prelude.{◌≡◌, ℕ, ◌≤◌, Bool, true, false, List, ◌++◌, length}
 use Rattle.std.specs.Prelude.{Result, Ok, Err, if◌then◌else◌}
-use Rattle.std.specs.List.{list_any}
 use Rattle.std.specs.Io.KnownBytes.{IsAtEnd}
 pub use Rattle.smap_io.specs.Lines.{complete_of}
 use Rattle.smap_io.specs.Streams.{HasRead, HasWritten, ReaderFailsOrTires, Streams, WriterFails}

@@ -18,7 +18,7 @@ impl EachLine<Vec<u8>> for Barred {
 }
 
 /// The lines of both pieces, each with a bar behind it.
-fn barred(alloc: Global, first: &str, second: &str) -> Result<Vec<u8>, AllocError> {
+fn with_bars(alloc: Global, first: &str, second: &str) -> Result<Vec<u8>, AllocError> {
     let mut text = Vec::new(alloc);
     let mut line = Vec::new(alloc);
     take_piece(&Barred, &mut text, &mut line, first.as_bytes())?;
@@ -29,7 +29,7 @@ fn barred(alloc: Global, first: &str, second: &str) -> Result<Vec<u8>, AllocErro
 
 /// Asserts the lines of two pieces.
 fn are_lines(rt: &(impl Abort + AllocGlobal), first: &str, second: &str, lines: &str) {
-    let found = barred(rt.alloc(), first, second);
+    let found = with_bars(rt.alloc(), first, second);
     let text = found.as_ref().map(|text| text.as_slice());
     equal(rt, (first, second), text, Ok(lines.as_bytes()));
 }

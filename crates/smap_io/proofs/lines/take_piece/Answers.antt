@@ -1,4 +1,4 @@
-use Rattle.std.proofs.Common.{◌≡◌, ◌<◌, length, get_or, arith, rules, OnOk}
+use Rattle.std.proofs.Common.{arith, rules}
 use Rattle.std.proofs.lemmas.Bool.{eqb-true}
 use Rattle.smap_io.proofs.LineLemmas.{line_then, rest_free}
 use Rattle.smap_io.proofs.lines.take_piece.Goals as goal

@@ -1,4 +1,4 @@
-use Rattle.std.proofs.Common.{◌≡◌, ◌≢◌, ◌<◌, ◌≤◌, ◌++◌, take, rules, arith, true, length, length-take, inr}
+use Rattle.std.proofs.Common.{◌≡◌, ◌≢◌, ◌<◌, ◌≤◌, ◌++◌, take, rules, arith, true, length, length-take}
 use Rattle.smap_io.specs.Device.{has_ended}
 use Rattle.smap_io.proofs.ReadingLemmas.{Gave-then}
 use Rattle.smap_trace.proofs.NamingLemmas.{after_piece, at_the_end}
