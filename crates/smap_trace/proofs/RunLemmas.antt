@@ -33,8 +33,8 @@ output_front fates whole more false is =
     rw (complete_of-append whole more is) (translation-append fates whole (complete_of more) is)
 
 module _ {R W : Type 0} (remaining : R → Option (List ℕ)) (contents : W → Option (List ℕ))
-    (fates : List ℕ → Fate) (ro rm rn : Device R) (wo wm wn : Device W) (calls : ℕ) (line : List ℕ) (c : Counts)
-    (s : SoFar remaining contents fates ro rm wo wm calls line c) where
+    (fates : List ℕ → Fate) (ro rm rn : Device R) (wo wm wn : Device W) (calls : ℕ)
+    (line : List ℕ) (c : Counts) (s : SoFar remaining contents fates ro rm wo wm calls line c) where
   -- the complete lines so far are the whole ones
   complete_so_far : complete_of (s.whole ++ line) ≡ s.whole
   complete_so_far = complete_lines s.whole line s.lines.is_whole s.lines.free
@@ -49,7 +49,8 @@ module _ {R W : Type 0} (remaining : R → Option (List ℕ)) (contents : W → 
   }
 
   -- a piece was read, and of what its lines give a prefix was written
-  pub front_written : (piece text last : List ℕ) → length piece ≤ most_of_one_read → Gave remaining rm rn piece
+  pub front_written : (piece text last : List ℕ) → length piece ≤ most_of_one_read
+      → Gave remaining rm rn piece
       → translation_by fates (read_lines (has_ended rn) (line ++ piece)) ≡ text ++ last
       → TookPrefix contents wm wn text → WritesPrefix fates (streams remaining ro rn contents wo wn)
   front_written piece text last within given is went = record {

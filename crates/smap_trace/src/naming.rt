@@ -5,9 +5,9 @@ ghost use Rattle.smap_io.specs.Device.{device_failures, has_ended};
 ghost use Rattle.smap_io.specs.Limits.{most_calls};
 ghost use Rattle.smap_trace.specs.Naming.{ReadsNames};
 ghost use Rattle.smap_trace.specs.Counting.{CountsLine, named_of, with_url};
-ghost use Rattle.smap_trace.specs.Translation.{without_line_feed};
 
 use crate::error::TraceError;
+use crate::lines::cut_feed;
 use indexmap::IndexMap;
 use smap_frames::frame;
 use smap_io::{Device, EachLine, MOST_CALLS, take_last, take_piece};
@@ -88,17 +88,6 @@ fn count_url(
     Ok(())
 }
 
-/// The line without its line feed, if it has one.
-fn without_feed<'a>(line: &'a [u8]) -> &'a [u8]
-    ensures { result.now ≡ without_line_feed line.now }
-{
-    if line.ends_with(b"\n") {
-        &line[..line.len() - 1]
-    } else {
-        line
-    }
-}
-
 /// What counts the URLs of lines that are frames.
 #[derive(Drop)]
 struct UrlCounter {
@@ -109,7 +98,7 @@ impl EachLine<NamedScripts> for UrlCounter {
     ghost takes = { λ s. CountsLine };
 
     fn take(&self, so_far: &mut NamedScripts, line: &[u8]) -> Result<(), AllocError> {
-        match frame(without_feed(line)) {
+        match frame(cut_feed(line).0) {
             Some(frame) => count_url(self.alloc, &mut so_far.lines, frame.url),
             None => Ok(()),
         }

@@ -21,5 +21,5 @@ lines-preserved g c =
 pub returns-clause-rest : goal.returns-clause-rest
 returns-clause-rest g c =
     rest_free c.extend_from_slice.result c.lines.line.items c.lines.left.now
-    c.extend_from_slice.new.self.items c.lines.invariant.free (λ i below. c.in_default.ensures i (omega arith) below)
-    c.extend_from_slice.ensures.items
+    c.extend_from_slice.new.self.items c.lines.invariant.free
+    (λ i below. c.in_default.ensures i (omega arith) below) c.extend_from_slice.ensures.items
