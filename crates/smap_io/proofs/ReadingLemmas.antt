@@ -1,6 +1,6 @@
 -- What several calls have read together.
 use Rattle.std.proofs.Common.{◌≡◌, ◌∙◌, ℕ, ◌+◌, ◌<◌, ◌≤◌, List, [], ◌++◌, length, Option, take, drop, arith}
-use Rattle.std.proofs.Common.{length-append, refl, true}
+use Rattle.std.proofs.Common.{append-nil, length-append, refl, subst, true}
 use Rattle.std.proofs.Math.Seq.{take-add}
 use Rattle.std.specs.Io.KnownBytes.{Keeps}
 use Rattle.std.proofs.KnownBytes.{Consumes-kept, Consumes-nil, Consumes-trans}
@@ -22,6 +22,12 @@ pub Gave-then : {R : Type 0} (remaining : R → Option (List ℕ)) (a b c : Devi
     → Gave remaining a b xs → Gave remaining b c ys → Gave remaining a c (xs ++ ys)
 Gave-then remaining a b c xs ys p q = Consumes-trans (remaining a.inner) (remaining b.inner)
     (remaining c.inner) xs ys p q
+
+-- Nothing more was read.
+pub Gave-no_more : {R : Type 0} (remaining : R → Option (List ℕ)) (a b c : Device R) (xs : List ℕ)
+    → Gave remaining a b xs → Gave remaining b c [] → Gave remaining a c xs
+Gave-no_more remaining a b c xs p q =
+    subst (Gave remaining a c) (append-nil xs) (Gave-then remaining a b c xs [] p q)
 
 -- What was read is the filled front of a list, and then `n` more bytes of it.
 pub Gave-after : {R : Type 0} (remaining : R → Option (List ℕ)) (a b c : Device R) (old new : List ℕ)

@@ -4,12 +4,13 @@ use Rattle.std.proofs.Common.{[], ◌∷◌, ◌∙◌, ap, arith, count_by, dro
 use Rattle.std.proofs.lemmas.List.{take-append-drop}
 use Rattle.std.proofs.lemmas.List.Sums.{sum_by-append}
 use Rattle.std.proofs.lemmas.Slice.Eq.{bytes_eq-Decides}
-use Rattle.smap_trace.specs.Pieces.{IsWhole}
+use Rattle.smap_io.specs.Lines.{IsWhole}
+use Rattle.smap_io.proofs.LineLemmas.{lines_of-append}
 use Rattle.smap_trace.specs.TraceLaws.{EndsItsLine, PartsAreTranslated, sum_of}
 use Rattle.smap_trace.specs.Translation.{is_dropped, is_translated, lines_of}
 use Rattle.smap_trace.specs.Views.{at_most_u64, counts_by}
 use Rattle.smap_trace.proofs.CountLemmas.{same_counts}
-use Rattle.smap_trace.proofs.LineLemmas.{lines_of-append, translation-append}
+use Rattle.smap_trace.proofs.LineLemmas.{translation-append}
 
 capped_sum : (a b : ℕ) → at_most_u64 (a + b) ≡ at_most_u64 (at_most_u64 a + at_most_u64 b)
 capped_sum a b = step a b (2 ^ 64 - 1)

@@ -1,50 +1,28 @@
 -- What was read and written, over a whole run.
-use Rattle.std.proofs.Common.{◌≡◌, ◌∙◌, ℕ, ◌==◌, ◌≤◌, Bool, true, false, List, [], ◌∷◌, ◌++◌}
-use Rattle.std.proofs.Common.{take, drop, length, arith, Option, refl, sym, ap, subst, inl, inr, append_assoc}
+use Rattle.std.proofs.Common.{◌≡◌, ℕ, ◌+◌, ◌<◌, ◌≤◌, Bool, true, false, List, [], ◌++◌}
+use Rattle.std.proofs.Common.{take, drop, length, Option, refl, append_assoc, arith}
 use Rattle.std.proofs.Common.{append-nil, Result, Ok, Err, OnOk, OnErr, IfOk}
-use Rattle.std.specs.List.{list_any}
-use Rattle.std.proofs.lemmas.Bool.{not-true}
-use Rattle.std.proofs.lemmas.List.Folds.{list_any-append}
 use Rattle.std.proofs.lemmas.List.{take-append-drop}
 use Rattle.smap_io.specs.declared.device.Device.{Device}
 use Rattle.smap_io.specs.Device.{has_ended}
+use Rattle.smap_io.specs.Lines.{HasNoFeed, IsWhole, TakesPiece}
 use Rattle.smap_io.specs.Reading.{Gave, IsAtItsEnd}
 use Rattle.smap_io.specs.Streams.{fails_by, streams}
 use Rattle.smap_io.specs.Writing.{Took, TookPrefix}
-use Rattle.smap_io.proofs.ReadingLemmas.{Gave-none, Gave-then}
+use Rattle.smap_io.proofs.LineLemmas.{ReadsLines-more, complete_lines, complete_of-append}
+use Rattle.smap_io.proofs.ReadingLemmas.{Gave-no_more, Gave-none, Gave-then}
 use Rattle.smap_io.proofs.WritingLemmas.{Took-none, Took-then}
 use Rattle.smap_trace.specs.declared.outcome.Counts.{Counts}
 use Rattle.smap_trace.specs.declared.error.TraceError.{TraceError}
 use Rattle.smap_trace.specs.declared.error.TraceError.TheVariants as error
-use Rattle.smap_trace.proofs.SoFarLemmas.{SoFar}
-use Rattle.smap_trace.specs.Pieces.{HasNoFeed, IsWhole, Takes, count_lines}
+use Rattle.smap_trace.specs.declared.streaming.Output.{Output}
+use Rattle.smap_trace.proofs.SoFarLemmas.{SoFar, none_yet}
+use Rattle.smap_trace.specs.Pieces.{TakesLine, count_lines}
 use Rattle.smap_trace.specs.Streaming.{Translates, WritesComplete, WritesPrefix, complete_of}
 use Rattle.smap_trace.specs.Streaming.{is_read, most_of_one_read, read_lines}
 use Rattle.smap_trace.specs.Translation.{Fate, lines_of, translation_by}
-use Rattle.smap_trace.proofs.LineLemmas.{translation-append, count_lines-whole}
+use Rattle.smap_trace.proofs.LineLemmas.{counts_taken, count_lines-whole, text_given, translation-append}
 use Rattle.smap_trace.proofs.CountLemmas.{counted_all}
-
-has_feed : (front more : List ℕ) → list_any (λ c. c == 10) (front ++ 10 ∷ more) ≡ true
-has_feed front more = grind (arith, list_any-append (λ c. c == 10) front (10 ∷ more))
-
-complete_front : (front more : List ℕ) → complete_of (front ++ 10 ∷ more) ≡ front ++ 10 ∷ complete_of more
-complete_front [] more = refl
-complete_front (b ∷ bs) more = rw (has_feed (b ∷ bs) more, complete_front bs more) refl
-
--- whole lines stay complete, whatever follows
-pub complete_of-append : (whole more : List ℕ) → IsWhole whole
-    → complete_of (whole ++ more) ≡ whole ++ complete_of more
-complete_of-append whole more (inl e) = rw e refl
-complete_of-append whole more (inr p) = rw (
-  p.1,
-  append_assoc p.0 (10 ∷ []) more,
-  append_assoc p.0 (10 ∷ []) (complete_of more),
-) (complete_front p.0 more)
-
--- a line that waits for its end isn't complete
-none_complete : (line : List ℕ) → HasNoFeed line → complete_of line ≡ []
-none_complete [] free = refl
-none_complete (b ∷ bs) free = rw (not-true (list_any (λ c. c == 10) (b ∷ bs)) free) refl
 
 -- a prefix of what was read gives a prefix of what is written
 pub output_front : (fates : List ℕ → Fate) (whole more : List ℕ) (ended : Bool) → IsWhole whole
@@ -54,148 +32,106 @@ output_front fates whole more true is = translation-append fates whole more is
 output_front fates whole more false is =
     rw (complete_of-append whole more is) (translation-append fates whole (complete_of more) is)
 
-pub both_whole : (a b : List ℕ) → IsWhole a → IsWhole b → IsWhole (a ++ b)
-both_whole a b is (inl e) = rw (e, append-nil a) is
-both_whole a b is (inr p) = inr (a ++ p.0, rw p.1 (sym (append_assoc a p.0 (10 ∷ []))))
-
 module _ {R W : Type 0} (remaining : R → Option (List ℕ)) (contents : W → Option (List ℕ))
-    (fates : List ℕ → Fate)
-    (ro rm rn : Device R) (wo wm wn : Device W) (line : List ℕ) (c : Counts)
-    (s : SoFar fates (streams remaining ro rm contents wo wm) line c) (free : HasNoFeed line) where
+    (fates : List ℕ → Fate) (ro rm rn : Device R) (wo wm wn : Device W) (calls : ℕ)
+    (line : List ℕ) (c : Counts) (s : SoFar remaining contents fates ro rm wo wm calls line c) where
   -- the complete lines so far are the whole ones
   complete_so_far : complete_of (s.whole ++ line) ≡ s.whole
-  complete_so_far = complete_of-append s.whole line s.is_whole
-      ∙ rw (none_complete line free) (append-nil s.whole)
+  complete_so_far = complete_lines s.whole line s.lines.is_whole s.lines.free
 
   -- nothing more was read, and the whole lines were written
   pub all_so_far : Gave remaining rm rn []
       → WritesComplete fates (streams remaining ro rn contents wo wm)
   all_so_far none = record {
     bytes = s.whole ++ line;
-    read = subst (Gave remaining ro rn) (append-nil (s.whole ++ line))
-        (Gave-then remaining ro rm rn (s.whole ++ line) [] s.read none);
+    read = Gave-no_more remaining ro rm rn (s.whole ++ line) s.lines.gave none;
     written = rw complete_so_far s.written;
   }
 
-  -- a piece was read, and the whole lines before it were written
-  pub front_so_far : (piece : List ℕ) → length piece ≤ most_of_one_read → Gave remaining rm rn piece
-      → WritesPrefix fates (streams remaining ro rn contents wo wm)
-  front_so_far piece within given = record {
+  -- a piece was read, and of what its lines give a prefix was written
+  pub front_written : (piece text last : List ℕ) → length piece ≤ most_of_one_read
+      → Gave remaining rm rn piece
+      → translation_by fates (read_lines (has_ended rn) (line ++ piece)) ≡ text ++ last
+      → TookPrefix contents wm wn text → WritesPrefix fates (streams remaining ro rn contents wo wn)
+  front_written piece text last within given is went = record {
     before = s.whole ++ line;
     piece = piece;
-    front = [];
-    rest = translation_by fates (read_lines (has_ended rn) (line ++ piece));
-    read = Gave-then remaining ro rm rn (s.whole ++ line) piece s.read given;
+    front = take went.0 text;
+    rest = drop went.0 text ++ last;
+    read = Gave-then remaining ro rm rn (s.whole ++ line) piece s.lines.gave given;
     within = within;
-    written = rw (complete_so_far, append-nil (translation_by fates s.whole)) s.written;
-    is_front = rw (complete_so_far, append_assoc s.whole line piece)
-        (output_front fates s.whole (line ++ piece) (has_ended rn) s.is_whole);
+    written = rw complete_so_far (Took-then contents wo wm wn (translation_by fates s.whole)
+        (take went.0 text) s.written went.1);
+    is_front = rw (
+      complete_so_far,
+      append_assoc s.whole line piece,
+      ← append_assoc (take went.0 text) (drop went.0 text) last,
+      take-append-drop went.0 text,
+      ← is,
+    ) (output_front fates s.whole (line ++ piece) (has_ended rn) s.lines.is_whole);
   }
 
-  -- the lines of a piece were written too, in part
-  pub front_with : (piece rest given : List ℕ) (d : Counts) → length piece ≤ most_of_one_read
-      → Gave remaining rm rn piece
-      → Takes fates line piece rest [] given c d → TookPrefix contents wm wn given
+  -- the lines of a piece were taken, and written in part
+  pub front_with : (piece rest : List ℕ) (old new : Output) → length piece ≤ most_of_one_read
+      → Gave remaining rm rn piece → old.text.items ≡ []
+      → TakesPiece (TakesLine fates) line piece rest old new → TookPrefix contents wm wn new.text.items
       → WritesPrefix fates (streams remaining ro rn contents wo wn)
-  front_with piece rest given d within read t went =
-      let ended = has_ended rn in
-      let last = translation_by fates (read_lines ended rest) in
-      let parts : translation_by fates (read_lines ended ((s.whole ++ line) ++ piece))
-      ≡ translation_by fates s.whole ++ (translation_by fates t.whole ++ last) = rw (
-        append_assoc s.whole line piece,
-        t.bytes,
-        output_front fates s.whole (t.whole ++ rest) ended s.is_whole,
-        output_front fates t.whole rest ended t.is_whole,
-      ) refl in
-      let cut : translation_by fates t.whole ≡ take went.0 given ++ drop went.0 given = sym t.given
-      ∙ sym (take-append-drop went.0 given) in
-      record {
-        before = s.whole ++ line;
-        piece = piece;
-        front = take went.0 given;
-        rest = drop went.0 given ++ last;
-        read = Gave-then remaining ro rm rn (s.whole ++ line) piece s.read read;
-        within = within;
-        written = rw complete_so_far
-            (Took-then contents wo wm wn (translation_by fates s.whole) (take went.0 given) s.written
-            went.1);
-        is_front = rw complete_so_far
-            (parts ∙ rw (cut, append_assoc (take went.0 given) (drop went.0 given) last) refl);
-      }
+  front_with piece rest old new within read empty t went =
+      front_written piece new.text.items (translation_by fates (read_lines (has_ended rn) rest)) within read
+      (rw (t.bytes, text_given fates t.whole old new empty t.taken)
+      (output_front fates t.whole rest (has_ended rn) t.is_whole)) went
 
   -- the lines of a piece were all written
-  pub after_piece : (piece rest given : List ℕ) (d : Counts) → Gave remaining rm rn piece
-      → Takes fates line piece rest [] given c d → Took contents wm wn given
-      → SoFar fates (streams remaining ro rn contents wo wn) rest d
-  after_piece piece rest given d read t went = record {
+  pub after_piece : (piece rest : List ℕ) (old new : Output) → Gave remaining rm rn piece
+      → 0 < length piece → HasNoFeed rest → old.text.items ≡ [] → old.counts ≡ c
+      → TakesPiece (TakesLine fates) line piece rest old new → Took contents wm wn new.text.items
+      → SoFar remaining contents fates ro rn wo wn (calls + 1) rest new.counts
+  after_piece piece rest old new read some free empty same t went = record {
     whole = s.whole ++ t.whole;
-    is_whole = both_whole s.whole t.whole s.is_whole t.is_whole;
-    read = rw (append_assoc s.whole t.whole rest, ← t.bytes, ← append_assoc s.whole line piece)
-        (Gave-then remaining ro rm rn (s.whole ++ line) piece s.read read);
-    written = rw (translation-append fates s.whole t.whole s.is_whole, ← t.given)
-        (Took-then contents wo wm wn (translation_by fates s.whole) given s.written went);
+    lines = ReadsLines-more remaining (TakesLine fates) ro rm rn calls line s.whole piece rest old new
+        s.lines read some free t;
+    written = rw (
+      translation-append fates s.whole t.whole s.lines.is_whole,
+      ← text_given fates t.whole old new empty t.taken,
+    )
+        (Took-then contents wo wm wn (translation_by fates s.whole) new.text.items s.written went);
     counted = rw (
-      count_lines-whole fates (record { lines = 0; translated = 0; dropped = 0 }) s.whole t.whole s.is_whole,
+      count_lines-whole fates none_yet s.whole t.whole s.lines.is_whole,
       ← s.counted,
-    ) t.counted;
+      ← same,
+    ) (counts_taken fates (lines_of t.whole) old new t.taken);
   }
 
-  -- at the end of the input: the last line was written, or a prefix of it
-  pub at_the_end : (given : List ℕ) (r : Result Counts TraceError) → Gave remaining rm rn []
-      → IsAtItsEnd remaining rn → given ≡ line
-      → OnOk r (Took contents wm wn (translation_by fates given))
-      → IfOk r (λ after. after ≡ count_lines fates c (lines_of given))
-      → OnErr r (TookPrefix contents wm wn (translation_by fates given))
-      → fails_by is_read r ≡ false
-      → Translates fates (streams remaining ro rn contents wo wn) r
-  at_the_end given r none end same all counts part never =
-      let read : Gave remaining ro rn (s.whole ++ line) =
-      subst (Gave remaining ro rn) (append-nil (s.whole ++ line))
-      (Gave-then remaining ro rm rn (s.whole ++ line) [] s.read none) in
-      answered r read end (rw same at all) (rw same at counts) (rw same at part) never
-    where
-      last_in_part : Gave remaining ro rn (s.whole ++ line) → IsAtItsEnd remaining rn
-          → TookPrefix contents wm wn (translation_by fates line)
-          → WritesPrefix fates (streams remaining ro rn contents wo wn)
-      last_in_part read end part = record {
-        before = s.whole ++ line;
-        piece = [];
-        front = take part.0 (translation_by fates line);
-        rest = drop part.0 (translation_by fates line);
-        read = rw (append-nil (s.whole ++ line)) read;
-        within = omega arith;
-        written = rw complete_so_far
-            (Took-then contents wo wm wn (translation_by fates s.whole)
-            (take part.0 (translation_by fates line)) s.written part.1);
-        is_front = rw (
-          end.0,
-          append-nil (s.whole ++ line),
-          complete_so_far,
-          take-append-drop part.0 (translation_by fates line),
-        ) (translation-append fates s.whole line s.is_whole);
-      }
+  last_in_part : Gave remaining rm rn [] → IsAtItsEnd remaining rn
+      → TookPrefix contents wm wn (translation_by fates line)
+      → WritesPrefix fates (streams remaining ro rn contents wo wn)
+  last_in_part none end part = front_written [] (translation_by fates line) [] (omega arith) none
+      (rw (end.0, append-nil line, append-nil (translation_by fates line)) refl) part
 
-      answered : (r : Result Counts TraceError) → Gave remaining ro rn (s.whole ++ line)
-          → IsAtItsEnd remaining rn → OnOk r (Took contents wm wn (translation_by fates line))
-          → IfOk r (λ after. after ≡ count_lines fates c (lines_of line))
-          → OnErr r (TookPrefix contents wm wn (translation_by fates line)) → fails_by is_read r ≡ false
-          → Translates fates (streams remaining ro rn contents wo wn) r
-      answered (Ok after) read end went counted part never = (
-        record {
-          bytes = s.whole ++ line;
-          read = read;
-          at_end = end.1;
-          written = rw (translation-append fates s.whole line s.is_whole) (Took-then contents wo wm wn
-              (translation_by fates s.whole) (translation_by fates line) s.written went);
-          counts_are = counted ∙ ap (λ (k : Counts). count_lines fates k (lines_of line)) s.counted
-              ∙ sym (count_lines-whole fates (record { lines = 0; translated = 0; dropped = 0 })
-              s.whole line s.is_whole) ∙ counted_all fates (s.whole ++ line);
-        },
-        end.0,
-      )
-      answered (Err error.Read) read end went counted part never = cc
-      answered (Err error.Write) read end went counted part never = last_in_part read end part
-      answered (Err error.Memory) read end went counted part never = last_in_part read end part
+  -- at the end of the input: the last line was written, or a prefix of it
+  pub at_the_end : (r : Result Counts TraceError) → Gave remaining rm rn [] → IsAtItsEnd remaining rn
+      → OnOk r (Took contents wm wn (translation_by fates line))
+      → IfOk r (λ after. after ≡ count_lines fates c (lines_of line))
+      → OnErr r (TookPrefix contents wm wn (translation_by fates line)) → fails_by is_read r ≡ false
+      → Translates fates (streams remaining ro rn contents wo wn) r
+  at_the_end (Ok after) none end went counted part never = (
+    record {
+      bytes = s.whole ++ line;
+      read = Gave-no_more remaining ro rm rn (s.whole ++ line) s.lines.gave none;
+      at_end = end.1;
+      written = rw (translation-append fates s.whole line s.lines.is_whole) (Took-then contents wo wm wn
+          (translation_by fates s.whole) (translation_by fates line) s.written went);
+      counts_are = rw (
+        ← counted_all fates (s.whole ++ line),
+        count_lines-whole fates none_yet s.whole line s.lines.is_whole,
+        ← s.counted,
+      ) counted;
+    },
+    end.0,
+  )
+  at_the_end (Err error.Read) none end went counted part never = cc
+  at_the_end (Err error.Write) none end went counted part never = last_in_part none end part
+  at_the_end (Err error.Memory) none end went counted part never = last_in_part none end part
 
 -- where nothing was read and nothing written
 pub nothing : {R W : Type 0} (remaining : R → Option (List ℕ)) (contents : W → Option (List ℕ))

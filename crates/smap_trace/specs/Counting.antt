@@ -1,8 +1,8 @@
 -- For private contracts: the URLs of a trace, counted line by line.
-use Rattle.std.specs.Prelude.{◌≡◌, ℕ, ◌+◌, List, [], ◌∷◌, ◌++◌, map, bytes_eq, if◌then◌else◌}
+use Rattle.std.specs.Prelude.{◌≡◌, ℕ, ◌+◌, List, [], ◌∷◌, map, bytes_eq, if◌then◌else◌}
 use Rattle.std.specs.Global.{Vec}
-use Rattle.smap_trace.specs.Naming.{urls_of}
-use Rattle.smap_trace.specs.Pieces.{IsWhole}
+use Rattle.std.specs.List.{cons_option}
+use Rattle.smap_trace.specs.Naming.{url_of}
 use Rattle.smap_trace.specs.Views.{at_most_u64}
 
 -- the entries of the table, with the bytes of their keys
@@ -20,10 +20,6 @@ abbrev pub with_urls : List (List ℕ) → List (List ℕ × ℕ) → List (List
 with_urls [] named = named
 with_urls (url ∷ urls) named = with_urls urls (with_url url named)
 
--- A piece of the trace ends the lines `whole`, whose URLs are counted, and `rest` waits for the end of its
--- line. Before the piece, `line` was waiting.
-pub record CountsPiece (line piece rest : List ℕ) (old new : List (List ℕ × ℕ)) : Type 0 where
-  pub whole : List ℕ
-  pub is_whole : IsWhole whole
-  pub bytes : line ++ piece ≡ whole ++ rest
-  pub counted : new ≡ with_urls (urls_of whole) old
+-- A line was counted: one more for the URL that it names, if it is a frame.
+abbrev pub CountsLine : List (List ℕ × ℕ) → List ℕ → List (List ℕ × ℕ) → Type 0
+CountsLine old line new = new ≡ with_urls (cons_option (url_of line) []) old

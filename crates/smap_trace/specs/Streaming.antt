@@ -1,19 +1,14 @@
 -- What `translate` answers, and what it has read and written then.
-use Rattle.std.specs.Prelude.{◌≡◌, ℕ, ◌≤◌, ◌==◌, Bool, true, false, List, [], ◌∷◌, ◌++◌, length}
+use Rattle.std.specs.Prelude.{◌≡◌, ℕ, ◌≤◌, Bool, true, false, List, ◌++◌, length}
 use Rattle.std.specs.Prelude.{Result, Ok, Err, if◌then◌else◌}
-use Rattle.std.specs.List.{list_any}
 use Rattle.std.specs.Io.KnownBytes.{IsAtEnd}
+pub use Rattle.smap_io.specs.Lines.{complete_of}
 use Rattle.smap_io.specs.Streams.{HasRead, HasWritten, ReaderFailsOrTires, Streams, WriterFails}
 use Rattle.smap_trace.specs.declared.outcome.Counts.{Counts}
 use Rattle.smap_trace.specs.declared.error.TraceError.{TraceError}
 use Rattle.smap_trace.specs.declared.error.TraceError.TheVariants as error
 use Rattle.smap_trace.specs.Translation.{Fate, Script, fate, translation_by}
 use Rattle.smap_trace.specs.Views.{counts_by}
-
--- The bytes up to the last line feed, and nothing if there is none.
-abbrev pub complete_of : List ℕ → List ℕ
-complete_of [] = []
-complete_of (b ∷ bs) = if list_any (λ c. c == 10) (b ∷ bs) then b ∷ complete_of bs else []
 
 -- The complete lines of what was read. Once the end was read, the last line is complete too.
 abbrev pub read_lines : Bool → List ℕ → List ℕ

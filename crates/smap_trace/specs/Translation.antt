@@ -1,15 +1,16 @@
 -- The translation of a trace: the positions of its frames are replaced by those of the sources. This
 -- project's own rules.
-use Rattle.std.specs.Prelude.{ℕ, ◌+◌, ◌-◌, ◌==◌, ◌&&◌, Bool, true, false, nat_eq, if◌then◌else◌}
-use Rattle.std.specs.Prelude.{List, [], ◌∷◌, ◌++◌, length, take, flat_map, slice_range}
+use Rattle.std.specs.Prelude.{ℕ, ◌+◌, ◌-◌, ◌==◌, ◌&&◌, Bool, true, false, if◌then◌else◌}
+use Rattle.std.specs.Prelude.{List, [], ◌++◌, length, flat_map, slice_range}
 use Rattle.std.specs.Prelude.{Option, Some, None, option_map, option_and_then, unwrap_or}
-use Rattle.std.specs.List.{onto_first, ends_with, list_any}
+use Rattle.std.specs.List.{list_any}
 use Rattle.std.specs.Option.{is_some, option_map_or}
 use Rattle.smap_frames.specs.Frame.{FrameParts, position_text}
 use Rattle.smap_frames.specs.Reading.{frame_of}
 use Rattle.smap_record.specs.Record.{Origin, Record}
 use Rattle.smap_trace.specs.Anywhere.{Piece, byte, bytes_of, found, longest, pieces_of}
 use Rattle.smap_trace.specs.Lookup.{mapping_at}
+pub use Rattle.smap_io.specs.Lines.{feed_of, has_line_feed, lines_of, without_line_feed}
 pub use Rattle.smap_trace.specs.Scripts.{Script, AreDistinct, map_of}
 use Rattle.smap_trace.specs.declared.match_mode.MatchMode.{MatchMode}
 
@@ -100,18 +101,6 @@ fate_found mode scripts hide text = if mode.anywhere
 
 -- ---- a line has its line feed, except perhaps the last
 
--- whether it ends in a line feed
-abbrev pub has_line_feed : List ℕ → Bool
-has_line_feed line = ends_with nat_eq line (10 ∷ [])
-
--- the line without one line feed at its end
-abbrev pub without_line_feed : List ℕ → List ℕ
-without_line_feed line = if has_line_feed line then take (length line - 1) line else line
-
--- that line feed, or nothing
-abbrev pub feed_of : List ℕ → List ℕ
-feed_of line = if has_line_feed line then 10 ∷ [] else []
-
 -- what becomes of the line
 abbrev pub fate : List Script → Bool → List ℕ → Fate
 fate scripts hide line = fate_of scripts hide (without_line_feed line)
@@ -135,11 +124,6 @@ abbrev pub line_translation_by : (List ℕ → Fate) → List ℕ → List ℕ
 line_translation_by fates line = written (fates line) line
 
 -- ---- a trace
-
--- The lines, each with its line feed; what is after the last line feed is a line if it isn't empty.
-abbrev pub lines_of : List ℕ → List (List ℕ)
-lines_of [] = []
-lines_of (b ∷ bs) = if b == 10 then (10 ∷ []) ∷ lines_of bs else onto_first b (lines_of bs)
 
 -- The translations of its lines, one after another.
 abbrev pub translation : List Script → Bool → List ℕ → List ℕ

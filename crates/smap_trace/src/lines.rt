@@ -105,7 +105,7 @@ fn translate_frame(
 }
 
 /// The line without its line feed, and the line feed if it has one.
-fn cut_feed<'a>(line: &'a [u8]) -> (&'a [u8], &'a [u8])
+pub(crate) fn cut_feed<'a>(line: &'a [u8]) -> (&'a [u8], &'a [u8])
     ensures text { result.0.now ≡ spec.without_line_feed line.now }
     ensures feed { result.1.now ≡ spec.feed_of line.now }
 {

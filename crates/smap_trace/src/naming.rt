@@ -1,20 +1,16 @@
 //! The scripts that the frames of a trace name.
-ghost use Rattle.std.specs.Prelude.{◌≡◌, ◌-◌, ◌++◌, ◌==◌, ◌^◌, ◌<◌, OnOk, [], false, length, option_map};
-ghost use Rattle.std.specs.Prelude.{slice_get};
-ghost use Rattle.std.specs.List.{cons_option};
+ghost use Rattle.std.specs.Prelude.{◌≡◌, ◌-◌, ◌==◌, ◌^◌, ◌<◌, OnOk, false, length, option_map, slice_get};
 ghost use Rattle.smap_io.specs.Calls.{MakesAtMost, StopsInTime};
 ghost use Rattle.smap_io.specs.Device.{device_failures, has_ended};
 ghost use Rattle.smap_io.specs.Limits.{most_calls};
-ghost use Rattle.smap_trace.specs.Naming.{ReadsNames, url_of, urls_of};
-ghost use Rattle.smap_trace.specs.Counting.{CountsPiece, named_of, with_url, with_urls};
-ghost use Rattle.smap_trace.specs.Pieces.{HasNoFeed};
-ghost use Rattle.smap_trace.specs.Translation.{without_line_feed};
+ghost use Rattle.smap_trace.specs.Naming.{ReadsNames};
+ghost use Rattle.smap_trace.specs.Counting.{CountsLine, named_of, with_url};
 
 use crate::error::TraceError;
+use crate::lines::cut_feed;
 use indexmap::IndexMap;
-use memchr::memchr;
 use smap_frames::frame;
-use smap_io::{Device, MOST_CALLS};
+use smap_io::{Device, EachLine, MOST_CALLS, take_last, take_piece};
 use std::alloc::{AllocError, Global};
 use std::io::Read;
 use std::marker::Model;
@@ -92,90 +88,21 @@ fn count_url(
     Ok(())
 }
 
-/// The line without its line feed, if it has one.
-fn without_feed<'a>(line: &'a [u8]) -> &'a [u8]
-    ensures { result.now ≡ without_line_feed line.now }
-{
-    if line.ends_with(b"\n") {
-        &line[..line.len() - 1]
-    } else {
-        line
-    }
+/// What counts the URLs of lines that are frames.
+#[derive(Drop)]
+struct UrlCounter {
+    alloc: Global,
 }
 
-/// Counts the URL of a line, if it is a frame.
-fn count_line(
-    alloc: Global,
-    lines: &mut IndexMap<Vec<u8>, u64>,
-    line: &[u8],
-) -> Result<(), AllocError>
-    ensures { OnOk result (named_of lines.new.entries
-        ≡ with_urls (cons_option (url_of line.now) []) (named_of lines.old.entries)) }
-{
-    match frame(without_feed(line)) {
-        Some(frame) => count_url(alloc, lines, frame.url),
-        None => Ok(()),
-    }
-}
+impl EachLine<NamedScripts> for UrlCounter {
+    ghost takes = { λ s. CountsLine };
 
-/// Counts the URL of a line, if it is a frame. The line is what waits in `line`, and then these bytes, which
-/// end it.
-fn take_line(
-    alloc: Global,
-    lines: &mut IndexMap<Vec<u8>, u64>,
-    line: &mut Vec<u8>,
-    end: &[u8],
-) -> Result<(), AllocError>
-    ensures rest { OnOk result (line.new.items ≡ []) }
-    ensures counts { OnOk result (named_of lines.new.entries
-        ≡ with_urls (cons_option (url_of (line.old.items ++ end.now)) []) (named_of lines.old.entries)) }
-{
-    // Nearly all lines are within one piece, and aren't copied.
-    if line.is_empty() {
-        return count_line(alloc, lines, end);
+    fn take(&self, so_far: &mut NamedScripts, line: &[u8]) -> Result<(), AllocError> {
+        match frame(cut_feed(line).0) {
+            Some(frame) => count_url(self.alloc, &mut so_far.lines, frame.url),
+            None => Ok(()),
+        }
     }
-    line.extend_from_slice(end)?;
-    count_line(alloc, lines, line)?;
-    line.clear();
-    Ok(())
-}
-
-/// Takes the next piece, and counts the URLs of the lines that it ends. The rest of it waits in `line`.
-fn take_piece(
-    alloc: Global,
-    lines: &mut IndexMap<Vec<u8>, u64>,
-    line: &mut Vec<u8>,
-    piece: &[u8],
-) -> Result<(), AllocError>
-    requires { HasNoFeed line.old.items }
-    ensures rest { OnOk result (HasNoFeed line.new.items) }
-    ensures counts { OnOk result (CountsPiece line.old.items piece.now line.new.items
-        (named_of lines.old.entries) (named_of lines.new.entries)) }
-{
-    let mut at = 0;
-    'lines: while let Some(feed) = memchr(b'\n', &piece[at..]) {
-        let next = at + feed + 1;
-        take_line(alloc, lines, line, &piece[at..next])?;
-        at = next;
-    }
-    line.extend_from_slice(&piece[at..])?;
-    Ok(())
-}
-
-/// Counts the URL of the last line, if there is one.
-fn end_line(
-    alloc: Global,
-    lines: &mut IndexMap<Vec<u8>, u64>,
-    line: &[u8],
-) -> Result<(), AllocError>
-    requires { HasNoFeed line.now }
-    ensures { OnOk result (named_of lines.new.entries
-        ≡ with_urls (urls_of line.now) (named_of lines.old.entries)) }
-{
-    if line.is_empty() {
-        return Ok(());
-    }
-    count_line(alloc, lines, line)
 }
 
 /// Reads a stack trace to its end, and answers the URLs that its frames name, in the order in which they
@@ -212,20 +139,21 @@ pub fn named_scripts<R: Read>(
     ensures calls { MakesAtMost most_calls reader.old reader.new }
     ensures in_time { StopsInTime reader.old reader.new }
 {
+    let each = UrlCounter { alloc };
     let mut buf = [0; PIECE];
     let mut line = Vec::new(alloc);
-    let mut lines = IndexMap::new(alloc);
+    let mut named = NamedScripts::of(IndexMap::new(alloc));
     'pieces: for _ in 0..MOST_CALLS {
         let Ok(n) = reader.read(&mut buf) else {
             return Err(TraceError::Read);
         };
         if n == 0 {
-            let Ok(()) = end_line(alloc, &mut lines, &line) else {
+            let Ok(()) = take_last(&each, &mut named, &line) else {
                 return Err(TraceError::Memory);
             };
-            return Ok(NamedScripts::of(lines));
+            return Ok(named);
         }
-        let Ok(()) = take_piece(alloc, &mut lines, &mut line, &buf[..n]) else {
+        let Ok(()) = take_piece(&each, &mut named, &mut line, &buf[..n]) else {
             return Err(TraceError::Memory);
         };
     }

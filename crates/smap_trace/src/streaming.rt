@@ -4,21 +4,20 @@ ghost use Rattle.std.specs.Prelude.{◌≡◌, ◌++◌, ◌-◌, ◌<◌, ◌^�
 ghost use Rattle.smap_io.specs.Calls.{MakesAtMost, StopsInTime};
 ghost use Rattle.smap_io.specs.Device.{device_failures, has_ended, is_over};
 ghost use Rattle.smap_io.specs.Limits.{most_calls};
+ghost use Rattle.smap_io.specs.Lines.{HasNoFeed};
 ghost use Rattle.smap_io.specs.Streams.{ReaderFailsOrTires, Rises, WriterFails, fails_by, streams};
 ghost use Rattle.smap_io.specs.Writing.{Took, TookPrefix};
-ghost use Rattle.smap_trace.specs.Pieces.{HasNoFeed, Takes, count_line, count_lines};
+ghost use Rattle.smap_trace.specs.Pieces.{TakesLine, count_line, count_lines};
 ghost use Rattle.smap_trace.specs.Streaming.{Translates, TranslatesBy, TranslatesTrace, is_read, is_write};
-ghost use Rattle.smap_trace.specs.Translation.{AreDistinct, fate_by, line_translation_by, lines_of};
-ghost use Rattle.smap_trace.specs.Translation.{translation_by};
-ghost use Rattle.smap_trace.specs.Views.{outcome_of, scripts_in};
+ghost use Rattle.smap_trace.specs.Translation.{AreDistinct, fate_by, lines_of, translation_by};
+ghost use Rattle.smap_trace.specs.Views.{scripts_in};
 
 use crate::error::TraceError;
 use crate::lines::{ByMaps, Translator};
 use crate::match_mode::MatchMode;
 use crate::outcome::{Counts, LineOutcome};
 use crate::scripts::{Listed, by_url};
-use memchr::memchr;
-use smap_io::{Device, MOST_CALLS, write_all, write_and_flush};
+use smap_io::{Device, EachLine, MOST_CALLS, take_last, take_piece, write_all, write_and_flush};
 use smap_record::SourceMap;
 use std::alloc::{AllocError, Global};
 use std::io::{Read, Write};
@@ -49,91 +48,54 @@ fn counted(counts: Counts, outcome: LineOutcome) -> Counts
     }
 }
 
-/// Appends the translation of a line, and counts it. The line is what waits in `line`, and then these
-/// bytes, which end it.
-fn take_line<T: Translator>(
-    lines: &T,
-    line: &mut Vec<u8>,
-    end: &[u8],
-    out: &mut Vec<u8>,
+/// What the lines so far have given: their translations, as far as they aren't written yet, and their counts.
+#[derive(Drop)]
+pub(crate) struct Output {
+    text: Vec<u8>,
     counts: Counts,
-) -> Result<Counts, AllocError>
-    ensures rest { OnOk result (line.new.items ≡ []) }
-    ensures out { OnOk result (out.new.items ≡ out.old.items
-        ++ line_translation_by (T.fates lines.now) (line.old.items ++ end.now)) }
-    ensures counts { IfOk result (λ after. after
-        ≡ count_line counts (outcome_of (T.fates lines.now (line.old.items ++ end.now)))) }
-{
-    // Nearly all lines are within one piece, and aren't copied.
-    if line.is_empty() {
-        let outcome = lines.translate(end, out)?;
-        return Ok(counted(counts, outcome));
-    }
-    line.extend_from_slice(end)?;
-    let outcome = lines.translate(line, out)?;
-    line.clear();
-    Ok(counted(counts, outcome))
 }
 
-/// Takes the next piece, and appends the translation of the lines that it ends. The rest of it waits in
-/// `line`.
-fn take_piece<T: Translator>(
-    lines: &T,
-    line: &mut Vec<u8>,
-    piece: &[u8],
-    out: &mut Vec<u8>,
-    counts: &mut Counts,
-) -> Result<(), AllocError>
-    requires { HasNoFeed line.old.items }
-    ensures rest { OnOk result (HasNoFeed line.new.items) }
-    ensures takes { OnOk result (Takes (T.fates lines.now) line.old.items piece.now line.new.items
-        out.old.items out.new.items counts.old counts.new) }
-{
-    let mut at = 0;
-    'lines: while let Some(feed) = memchr(b'\n', &piece[at..]) {
-        let next = at + feed + 1;
-        *counts = take_line(lines, line, &piece[at..next], out, *counts)?;
-        at = next;
-    }
-    line.extend_from_slice(&piece[at..])?;
-    Ok(())
+/// What appends the translations of lines, and counts them.
+#[derive(Drop)]
+struct Translating<'a, T> {
+    lines: &'a T,
 }
 
-/// Appends the translation of the last line, if there is one.
-fn end_line<T: Translator>(
-    lines: &T,
-    line: &[u8],
-    out: &mut Vec<u8>,
-    counts: Counts,
-) -> Result<Counts, AllocError>
+impl<T: Translator> EachLine<Output> for Translating<'_, T> {
+    ghost takes = { λ s. TakesLine (T.fates s.lines.now) };
+
+    fn take(&self, so_far: &mut Output, line: &[u8]) -> Result<(), AllocError> {
+        let outcome = self.lines.translate(line, &mut so_far.text)?;
+        so_far.counts = counted(so_far.counts, outcome);
+        Ok(())
+    }
+}
+
+/// Appends the translation of the last line, if there is one, and counts it.
+fn end_line<T: Translator>(lines: &T, line: &[u8], so_far: &mut Output) -> Result<(), AllocError>
     requires free { HasNoFeed line.now }
-    requires empty { out.old.items ≡ [] }
-    ensures given { OnOk result (out.new.items ≡ translation_by (T.fates lines.now) line.now) }
-    ensures counts { IfOk result (λ after. after
-        ≡ count_lines (T.fates lines.now) counts (lines_of line.now)) }
+    requires empty { so_far.old.text.items ≡ [] }
+    ensures given { OnOk result (so_far.new.text.items ≡ translation_by (T.fates lines.now) line.now) }
+    ensures counts { OnOk result (so_far.new.counts
+        ≡ count_lines (T.fates lines.now) so_far.old.counts (lines_of line.now)) }
 {
-    if line.is_empty() {
-        return Ok(counts);
-    }
-    let outcome = lines.translate(line, out)?;
-    Ok(counted(counts, outcome))
+    take_last(&Translating { lines }, so_far, line)
 }
 
 /// Writes the translation of the last line, if there is one, and flushes.
 fn finish<T: Translator, W: Write>(
     lines: &T,
     line: &[u8],
-    out: &mut Vec<u8>,
-    counts: Counts,
+    so_far: &mut Output,
     writer: &mut Device<W>,
 ) -> Result<Counts, TraceError>
     requires free { HasNoFeed line.now }
-    requires empty { out.old.items ≡ [] }
+    requires empty { so_far.old.text.items ≡ [] }
     requires writes { device_failures writer.old < 2 ^ 64 - 1 }
     ensures all { OnOk result (Took W.contents writer.old writer.new
         (translation_by (T.fates lines.now) line.now)) }
     ensures counts { IfOk result (λ after. after
-        ≡ count_lines (T.fates lines.now) counts (lines_of line.now)) }
+        ≡ count_lines (T.fates lines.now) so_far.old.counts (lines_of line.now)) }
     ensures part { OnErr result (TookPrefix W.contents writer.old writer.new
         (translation_by (T.fates lines.now) line.now)) }
     ensures never_read { fails_by is_read result ≡ false }
@@ -142,13 +104,13 @@ fn finish<T: Translator, W: Write>(
     ensures writes_in_time { StopsInTime writer.old writer.new }
     ensures flushed { OnOk result (is_over writer.new ≡ true) }
 {
-    let Ok(after) = end_line(lines, line, out, counts) else {
+    let Ok(()) = end_line(lines, line, so_far) else {
         return Err(TraceError::Memory);
     };
-    let Ok(()) = write_and_flush(writer, out) else {
+    let Ok(()) = write_and_flush(writer, &so_far.text) else {
         return Err(TraceError::Write);
     };
-    Ok(after)
+    Ok(so_far.counts)
 }
 
 /// Reads to the end, and writes the translation of the lines.
@@ -172,26 +134,29 @@ fn translate_with<T: Translator, R: Read, W: Write>(
     ensures writes_in_time { StopsInTime writer.old writer.new }
     ensures flushed { OnOk result (is_over writer.new ≡ true) }
 {
+    let each = Translating { lines };
     let mut buf = [0; PIECE];
     let mut line = Vec::new(alloc);
-    let mut out = Vec::new(alloc);
-    let mut counts = Counts {
-        lines: 0,
-        translated: 0,
-        dropped: 0,
+    let mut so_far = Output {
+        text: Vec::new(alloc),
+        counts: Counts {
+            lines: 0,
+            translated: 0,
+            dropped: 0,
+        },
     };
     'pieces: for _ in 0..MOST_CALLS {
-        out.clear();
+        so_far.text.clear();
         let Ok(n) = reader.read(&mut buf) else {
             return Err(TraceError::Read);
         };
         if n == 0 {
-            return finish(lines, &line, &mut out, counts, writer);
+            return finish(lines, &line, &mut so_far, writer);
         }
-        let Ok(()) = take_piece(lines, &mut line, &buf[..n], &mut out, &mut counts) else {
+        let Ok(()) = take_piece(&each, &mut so_far, &mut line, &buf[..n]) else {
             return Err(TraceError::Memory);
         };
-        let Ok(()) = write_all(writer, &out) else {
+        let Ok(()) = write_all(writer, &so_far.text) else {
             return Err(TraceError::Write);
         };
     }
