@@ -325,7 +325,7 @@ typedef struct smap_frame_parts {
     uint32_t line, column;
 } smap_frame_parts;
 
-/* OK: the line, without its line feed, is a frame as V8, Firefox or Safari writes it. NONE: it isn't. */
+/* OK: the line, without its line feed, is a frame, as engines write it in stack traces. NONE: it isn't. */
 SMAP_INLINE uint32_t smap_frame(const void *line, size_t len, smap_frame_parts *out);
 
 /* How a trace is translated: 0, or some of these joined by `|`. Other bits aren't looked at.

@@ -1,7 +1,9 @@
+pub mod AroundLemmas
 pub mod BodyLemmas
 pub mod CompleteLemmas
 pub mod CutLemmas
 pub mod Examples
+pub mod FormLemmas
 pub mod FrameLemmas
 pub mod LawLemmas
 pub mod MarkLemmas
@@ -9,4 +11,5 @@ pub mod PlaceLemmas
 pub mod PositionLemmas
 pub mod ReadingLemmas
 pub mod SoundLemmas
+pub mod TableLemmas
 pub mod TextLemmas

@@ -18,7 +18,7 @@ use Rattle.smap_frames.proofs.BodyLemmas.{front_passes}
 
 -- ---- the last mark
 
-list_all-reverse : (q : ℕ → Bool) (xs : List ℕ) → list_all q xs ≡ true → list_all q (reverse xs) ≡ true
+pub list_all-reverse : (q : ℕ → Bool) (xs : List ℕ) → list_all q xs ≡ true → list_all q (reverse xs) ≡ true
 list_all-reverse q [] h = refl
 list_all-reverse q (x ∷ xs) h =
     let parts = and_parts (q x) (list_all q xs) h in

@@ -1,24 +1,26 @@
 -- What is read as a frame of a line is a frame of that line.
-use Rattle.std.proofs.Common.{◌≡◌, ◌∙◌, ◌⊎◌, inl, inr, ℕ, ◌+◌, ◌-◌, ◌<◌, ◌==◌, Bool, true, false, not, List}
-use Rattle.std.proofs.Common.{[], ◌∷◌, ◌++◌, length, take, drop, Some, refl, sym, ap, subst, arith}
-use Rattle.std.proofs.Common.{append_assoc, append-nil, slice_range, nat_eq, nat_lt, length-drop}
-use Rattle.std.proofs.Common.{length-append, decimal, codes, get_or}
-use Rattle.std.specs.List.{starts_with, ends_with, suffix_len, before_last, after_last, prefix_len}
-use Rattle.std.specs.List.{position_or_len}
+use Rattle.std.proofs.Common.{◌≡◌, ◌∙◌, inl, inr, ℕ, ◌+◌, ◌-◌, ◌<◌, ◌≤◌, ◌==◌, ◌||◌, Bool, true, false}
+use Rattle.std.proofs.Common.{List, [], ◌∷◌, ◌++◌, length, take, drop, Option, Some, None, refl, sym, ap}
+use Rattle.std.proofs.Common.{arith, append_assoc, slice_range, nat_eq, nat_le, nat_lt, length-take, cond}
+use Rattle.std.proofs.Common.{length-append, decimal, codes}
+use Rattle.std.specs.Cmp.{booleans_Decides}
+use Rattle.std.specs.List.{starts_with, ends_with, before_last, after_last, prefix_len, position_or_len}
 use Rattle.std.specs.Str.Lines.{strip_carriage_return}
-use Rattle.std.proofs.lemmas.Bool.{and_parts, cases_Bool, ltb-true}
-use Rattle.std.proofs.lemmas.List.{take-append-drop, take_more}
+use Rattle.std.proofs.lemmas.Bool.{and_parts, cases_Bool, lt-ltb, ltb-true}
+use Rattle.std.proofs.lemmas.List.{drop-drop, take-append-drop, take-take}
 use Rattle.std.proofs.Math.Seq.{take-add}
-use Rattle.std.proofs.lemmas.List.Sums.{passes_at_first, suffix_len-le-length}
 use Rattle.std.proofs.lemmas.Slice.Eq.{bytes_eq-Decides}
-use Rattle.std.proofs.lemmas.Bool.Decides.{nat_tests, Decides-eqb}
-use Rattle.smap_frames.specs.Frame.{FrameParts, IsPlace, IsLineEnd, InParentheses, Alone, AfterAsync}
-use Rattle.smap_frames.specs.Frame.{BeginsWithAt, IsFirefox, IsFrame, IsV8, lacks, position_text}
-use Rattle.smap_frames.specs.Reading.{body_frame, firefox_frame, frame_of, framed, framed_behind}
-use Rattle.smap_frames.specs.Reading.{in_parentheses, is_colon, is_space, is_url, place_of, v8_frame}
-use Rattle.smap_frames.proofs.CutLemmas.{begins, last_cut, middle_part, parts_at, some_before}
+use Rattle.std.proofs.lemmas.Bool.Decides.{nat_tests}
+use Rattle.smap_frames.specs.Forms.{Form, forms}
+use Rattle.smap_frames.specs.Frame.{BeginsWithAt, FrameParts, IsFrame, IsPlace, lacks, position_text}
+use Rattle.smap_frames.specs.Reading.{at_len, body_frame, frame_of, framed, framed_at, is_colon, is_space}
+use Rattle.smap_frames.specs.Reading.{is_url, lead_len, place_of, read}
+use Rattle.smap_frames.proofs.CutLemmas.{last_cut, middle_part, some_before}
 use Rattle.smap_frames.proofs.PlaceLemmas.{place_of-some}
-use Rattle.smap_frames.proofs.BodyLemmas.{body_cut, front_all, before_lacks, at_starts, begins_at}
+use Rattle.smap_frames.proofs.BodyLemmas.{at_starts, before_lacks, begins_at, body_cut, front_all}
+use Rattle.smap_frames.proofs.TableLemmas.{Begins, IsName, IsOf, first_gives, is_sound, mark_alone}
+use Rattle.smap_frames.proofs.TableLemmas.{row_of}
+use Rattle.smap_frames.proofs.FormLemmas.{form_said, sound_rows}
 
 pub some_is : {A : Type 0} (x y : A) → Some x ≡ Some y → x ≡ y
 some_is x y e = cc
@@ -80,102 +82,98 @@ framed-stands before text after f h =
       column_place = c.0;
     }
 
--- ---- V8
+-- ---- a form
 
--- What follows `at ` is the lead, the position and what closes it.
-record LeadsTo (before text after : List ℕ) (f : FrameParts) : Type 0 where
-  lead : List ℕ
-  close : List ℕ
-  form : InParentheses lead close ⊎ (Alone lead close ⊎ AfterAsync lead close)
-  position : StandsBetween (before ++ lead) (position_text f.url f.line f.column) (close ++ after) f
-  text_is : text ≡ lead ++ (position_text f.url f.line f.column ++ close)
+-- The text is a frame of the form between two parts of a line.
+pub record Reads (form : Form) (before text after : List ℕ) (f : FrameParts) : Type 0 where
+  pub name : List ℕ
+  pub name_is : IsName form name
+  pub position : StandsBetween (before ++ (name ++ form.opening)) (position_text f.url f.line f.column)
+      (form.closing ++ after) f
+  pub text_is : text ≡ (name ++ form.opening) ++ (position_text f.url f.line f.column ++ form.closing)
 
-leads : (before text inner after lead close : List ℕ) (n : ℕ) (f : FrameParts)
-    → framed_behind n before inner (close ++ after) ≡ Some f → take n inner ≡ lead
-    → InParentheses lead close ⊎ (Alone lead close ⊎ AfterAsync lead close) → text ≡ inner ++ close
-    → LeadsTo before text after f
-leads before text inner after lead close n f h first form cut =
-    let s = framed-stands (before ++ take n inner) (drop n inner) (close ++ after) f h in
-    let split = take-append-drop n inner in
-    let joined = append_assoc lead (position_text f.url f.line f.column) close in
+-- what was tested: that it stands where it may, how it ends, and what is before the position
+pub record IsTested (form : Form) (is_at : Bool) (before text after : List ℕ) (lead stop : ℕ) (f : FrameParts)
+    : Type 0 where
+  pub at : form.behind_at ≡ is_at
+  pub closes : ends_with nat_eq text form.closing ≡ true
+  pub within : lead ≤ stop
+  pub opens : ends_with nat_eq (take lead text) form.opening ≡ true
+  pub short : (form.named || nat_le (length (take lead text)) (length form.opening)) ≡ true
+  pub framed_is : framed_at before text after (lead, stop) ≡ Some f
+
+pub tested : (form : Form) (is_at : Bool) (before text after : List ℕ) (f : FrameParts)
+    → read form is_at before text after ≡ Some f
+    → IsTested form is_at before text after (lead_len form (take (length text - length form.closing) text))
+    (length text - length form.closing) f
+tested form is_at before text after f h = grind (arith, nat_tests, booleans_Decides form.behind_at is_at)
+
+-- a text in three parts
+in_three : (text : List ℕ) (lead stop : ℕ) → lead ≤ stop
+    → text ≡ take lead text ++ (slice_range text lead stop ++ drop stop text)
+in_three text lead stop le =
+    let rest : drop stop text ≡ drop (stop - lead) (drop lead text) =
+    ap (λ n. drop n text) (omega (arith, le)) ∙ sym (drop-drop (stop - lead) lead text) in
+    rw (rest, take-append-drop (stop - lead) (drop lead text)) (sym (take-append-drop lead text))
+
+leads : (form : Form) (before text front middle after name : List ℕ) (f : FrameParts)
+    → framed (before ++ front) middle (form.closing ++ after) ≡ Some f → front ≡ name ++ form.opening
+    → IsName form name → text ≡ front ++ (middle ++ form.closing) → Reads form before text after f
+leads form before text front middle after name f h first is cut =
+    let s = framed-stands (before ++ front) middle (form.closing ++ after) f h in
     record {
-      lead = lead;
-      close = close;
-      form = form;
+      name = name;
+      name_is = is;
       position = rw (first, s.text_is) at s;
-      text_is = rw (cut, ← split, first, s.text_is) joined;
+      text_is = rw (cut, first, s.text_is) refl;
     }
 
-opened : (before text after : List ℕ) (f : FrameParts) → in_parentheses before text after ≡ Some f
-    → (starts_with nat_eq (after_last is_space text) (codes "(") ≡ true)
-    × ((length (after_last is_space text) < length text)
-    × (framed_behind (length text - length (after_last is_space text) + 1) before text after ≡ Some f))
-opened before text after f h = grind (arith, nat_tests)
-
-in_parens : (before text after : List ℕ) (f : FrameParts) → ends_with nat_eq text (codes ")") ≡ true
-    → in_parentheses before (take (length text - 1) text) (drop (length text - 1) text ++ after) ≡ Some f
-    → LeadsTo before text after f
-in_parens before text after f e h =
-    let inner = take (length text - 1) text in
-    let close : drop (length text - 1) text ≡ codes ")" =
-    sym ((bytes_eq-Decides (codes ")") (drop (length text - 1) text)).0 e) in
-    let g = opened before inner (codes ")" ++ after) f (rw close at h) in
-    let last = after_last is_space inner in
-    let name = before_last is_space inner in
-    let later : length last ≡ length inner - (length inner - suffix_len (λ b. not (b == 32)) inner) =
-    length-drop (length inner - suffix_len (λ b. not (b == 32)) inner) inner in
-    let lt : suffix_len (λ b. not (b == 32)) inner < length inner =
-    omega (arith, later, g.1.0, suffix_len-le-length (λ b. not (b == 32)) inner) in
-    let opening : last ≡ codes "(" ++ drop 1 last = begins last (codes "(") g.0 in
-    let whole : inner ≡ (name ++ codes " (") ++ drop 1 last = last_cut 32 inner lt
-    ∙ ap (λ (xs : List ℕ). name ++ 32 ∷ xs) opening ∙ sym (append_assoc name (codes " (") (drop 1 last)) in
-    let count : length inner - length last + 1 ≡ length (name ++ codes " (") =
-    omega (arith, ap length whole, ap length opening, length-append (name ++ codes " (") (drop 1 last)) in
-    leads before text inner after (name ++ codes " (") (codes ")") (length inner - length last + 1) f g.1.1
-    (parts_at inner (name ++ codes " (") (drop 1 last) (length inner - length last + 1) whole count).0
-    (inl (name, refl, refl))
-    (sym (take-append-drop (length text - 1) text) ∙ ap (λ (xs : List ℕ). inner ++ xs) close)
-
-v8_leads : (before text after : List ℕ) (f : FrameParts) → v8_frame before text after ≡ Some f
-    → LeadsTo before text after f
-v8_leads before text after f h = elim (cases_Bool (ends_with nat_eq text (codes ")"))) [
-  | inl e ↦ in_parens before text after f e (rw e at h)
-  | inr e ↦ elim (cases_Bool (starts_with nat_eq text (codes "async "))) [
-    | inl a ↦ leads before text text after (codes "async ") [] 6 f (rw (e, a) at h)
-        (sym ((bytes_eq-Decides (codes "async ") (take 6 text)).0 a)) (inr (inr (refl, refl)))
-        (sym (append-nil text))
-    | inr a ↦ leads before text text after [] [] 0 f (alone (rw (e, a) at h)) refl (inr (inl (refl, refl)))
-        (sym (append-nil text))
-  ]
-]
+-- what is before the opening is a name
+name_there : (form : Form) (inner : List ℕ) (k j : ℕ) → is_sound form ≡ true → k ≡ lead_len form inner
+    → k ≤ length inner → j ≡ length (take k inner) - length form.opening
+    → (form.named || nat_le (length (take k inner)) (length form.opening)) ≡ true
+    → IsName form (take j (take k inner))
+name_there form inner k j sane is within cut short = (unnamed, lacking)
   where
-    alone : framed before text after ≡ Some f → framed (before ++ []) text after ≡ Some f
-    alone h = rw (append-nil before) h
+    unnamed : form.named ≡ false → take j (take k inner) ≡ []
+    unnamed e =
+        let le : length (take k inner) ≤ length form.opening = grind (arith, nat_tests, e, short) in
+        let none : j ≡ 0 = omega (arith, cut, le) in
+        rw none refl
+
+    lacking : (form.mark == 32) ≡ false → lacks form.mark (take j (take k inner)) ≡ true
+    lacking e =
+        let place : k ≡ position_or_len (λ b. b == form.mark) inner + 1 = is ∙ rw e refl in
+        let one : length form.opening ≡ 1 = ap length (mark_alone form sane e) in
+        let same : j ≡ position_or_len (λ b. b == form.mark) inner =
+        omega (arith, cut, one, place, within, length-take k inner) in
+        rw (take-take j k inner (omega (arith, same, place)), same) (before_lacks form.mark inner)
+
+pub read_sound : (form : Form) (is_at : Bool) (before text after : List ℕ) (f : FrameParts)
+    → is_sound form ≡ true → read form is_at before text after ≡ Some f → Reads form before text after f
+read_sound form is_at before text after f sane h =
+    let t = tested form is_at before text after f h in
+    let stop = length text - length form.closing in
+    let inner = take stop text in
+    let lead = lead_len form inner in
+    let j = length (take lead text) - length form.opening in
+    let close : drop stop text ≡ form.closing =
+    sym ((bytes_eq-Decides form.closing (drop stop text)).0 t.closes) in
+    let opening : drop j (take lead text) ≡ form.opening =
+    sym ((bytes_eq-Decides form.opening (drop j (take lead text))).0 t.opens) in
+    let same : take lead text ≡ take lead inner = sym (take-take lead stop text t.within) in
+    leads form before text (take lead text) (slice_range text lead stop) after (take j (take lead text)) f
+    (rw close at t.framed_is)
+    (sym (take-append-drop j (take lead text)) ∙ ap (λ (xs : List ℕ). take j (take lead text) ++ xs) opening)
+    (rw same (name_there form inner lead (length (take lead inner) - length form.opening) sane refl
+    (omega (arith, t.within, length-take stop text)) refl (rw same at t.short)))
+    (in_three text lead stop t.within
+    ∙ ap (λ (xs : List ℕ). take lead text ++ (slice_range text lead stop ++ xs)) close)
 
 -- ---- the frame
 
 pub not_both : {t : Bool} → t ≡ true → t ≡ false → ⊥
 not_both p q = cc
-
-is_frame : (line : List ℕ) (f : FrameParts) {before text after : List ℕ} → StandsBetween before text after f
-    → lacks 10 line ≡ true → line ≡ f.before ++ position_text f.url f.line f.column ++ f.after
-    → IsV8 f ⊎ ((BeginsWithAt line → ⊥) × IsFirefox f) → IsFrame line f
-is_frame line f s one whole form =
-    let u = and_parts (nat_lt 0 (length f.url)) (lacks 32 f.url) s.url in
-    record {
-      whole = whole;
-      one_line = one;
-      some_url = ltb-true 0 (length f.url) u.0;
-      no_space = u.1;
-      line_place = s.line_place;
-      column_place = s.column_place;
-      form = form;
-    }
-
-joined : (front lead pos close last : List ℕ) {before after text body line : List ℕ} → before ≡ front ++ lead
-    → after ≡ close ++ last → text ≡ lead ++ (pos ++ close) → front ++ text ≡ body → body ++ last ≡ line
-    → line ≡ before ++ pos ++ after
-joined front lead pos close last b a t d e = rw (b, a, ← e, ← d, t) (simp append_assoc)
 
 -- the line without the end of it
 abbrev body_of : List ℕ → List ℕ
@@ -184,73 +182,74 @@ body_of line = take (length (strip_carriage_return line)) line
 abbrev end_of : List ℕ → List ℕ
 end_of line = drop (length (strip_carriage_return line)) line
 
-sound_v8 : (line : List ℕ) (f : FrameParts) (n : ℕ) → lacks 10 line ≡ true
-    → n ≡ prefix_len is_space (body_of line) → starts_with nat_eq (drop n (body_of line)) (codes "at ") ≡ true
-    → v8_frame (take (n + 3) (body_of line)) (drop (n + 3) (body_of line)) (end_of line) ≡ Some f
-    → IsFrame line f
-sound_v8 line f n one is e h =
-    let body = body_of line in
-    let front = take (n + 3) body in
-    let l = v8_leads front (drop (n + 3) body) (end_of line) f h in
-    let p = l.position in
-    let at : take 3 (drop n body) ≡ codes "at " =
-    sym ((bytes_eq-Decides (codes "at ") (take 3 (drop n body))).0 e) in
-    let begins_so : front ≡ take n body ++ codes "at " =
-    take-add n 3 body ∙ ap (λ (xs : List ℕ). take n body ++ xs) at in
-    is_frame line f p one
-    (joined front l.lead (position_text f.url f.line f.column) l.close (end_of line) p.before_is p.after_is
-    l.text_is (take-append-drop (n + 3) body) (take-append-drop (length (strip_carriage_return line)) line))
-    (inl (record {
-      spaces = take n body;
-      lead = l.lead;
-      close = l.close;
-      line_end = end_of line;
-      are_spaces = rw is (front_all is_space body);
-      form = l.form;
-      ends = body_cut line;
-      before_is = p.before_is ∙ ap (λ (xs : List ℕ). xs ++ l.lead) begins_so;
-      after_is = p.after_is;
-    }))
-
-marked : (text after : List ℕ) (f : FrameParts) → firefox_frame text after ≡ Some f
-    → (position_or_len (λ b. b == 64) text < length text)
-    × (framed_behind (position_or_len (λ b. b == 64) text + 1) [] text after ≡ Some f)
-marked text after f h = grind (arith, nat_tests)
-
-sound_firefox : (line : List ℕ) (f : FrameParts) → lacks 10 line ≡ true
-    → starts_with nat_eq (drop (prefix_len is_space (body_of line)) (body_of line)) (codes "at ") ≡ false
-    → firefox_frame (body_of line) (end_of line) ≡ Some f → IsFrame line f
-sound_firefox line f one e h =
-    let body = body_of line in
-    let pos = position_text f.url f.line f.column in
-    let k = marked body (end_of line) f h in
-    let at = position_or_len (λ b. b == 64) body in
-    let s = framed-stands (take (at + 1) body) (drop (at + 1) body) (end_of line) f k.1 in
-    let mark : get_or body at 0 ≡ 64 = (Decides-eqb (get_or body at 0) 64).0
-    (passes_at_first (λ b. b == 64) body 0 k.0) in
-    is_frame line f s one
-    (joined (take (at + 1) body) [] pos [] (end_of line) (s.before_is ∙ sym (append-nil (take (at + 1) body)))
-    s.after_is (s.text_is ∙ sym (append-nil pos)) (take-append-drop (at + 1) body)
-    (take-append-drop (length (strip_carriage_return line)) line))
-    (inr (
-      not_at,
-      record {
-        name = take at body;
-        no_at = before_lacks 64 body;
-        before_is = s.before_is ∙ take_more body at 0 k.0 ∙ ap (λ x. take at body ++ x ∷ []) mark;
-        ends = subst IsLineEnd (sym s.after_is) (body_cut line);
-      },
-    ))
+begins_so : (line : List ℕ) → Begins (nat_lt 0 (at_len (body_of line))) line
+    (take (at_len (body_of line)) (body_of line))
+begins_so line =
+    let n = prefix_len is_space (body_of line) in
+    elim (cases_Bool (starts_with nat_eq (drop n (body_of line)) (codes "at "))) [
+      | inl e ↦
+          let at : take 3 (drop n (body_of line)) ≡ codes "at " =
+          sym ((bytes_eq-Decides (codes "at ") (take 3 (drop n (body_of line)))).0 e) in
+          let some : nat_lt 0 (n + 3) ≡ true = lt-ltb 0 (n + 3) (omega arith) in
+          rw (e, some) (
+            take n (body_of line),
+            front_all is_space (body_of line),
+            take-add n 3 (body_of line) ∙ ap (λ (xs : List ℕ). take n (body_of line) ++ xs) at,
+          )
+      | inr e ↦ rw e (refl, not_at e)
+    ]
   where
-    not_at : BeginsWithAt line → ⊥
-    not_at b =
+    not_at : starts_with nat_eq (drop (prefix_len is_space (body_of line)) (body_of line)) (codes "at ")
+        ≡ false → BeginsWithAt line → ⊥
+    not_at e b =
         let w = begins_at line b in
         not_both (at_starts (body_of line) w.1 w.0 w.2 w.3) e
 
+joined : (start lead pos close last : List ℕ) {before after text body line : List ℕ} → before ≡ start ++ lead
+    → after ≡ close ++ last → text ≡ lead ++ (pos ++ close) → start ++ text ≡ body → body ++ last ≡ line
+    → line ≡ before ++ pos ++ after
+joined start lead pos close last b a t d e = rw (b, a, ← e, ← d, t) (simp append_assoc)
+
+-- what a form reads of a line's body
+abbrev reader : List ℕ → Form → Option FrameParts
+reader line form = read form (nat_lt 0 (at_len (body_of line))) (take (at_len (body_of line)) (body_of line))
+    (drop (at_len (body_of line)) (body_of line)) (end_of line)
+
+read_here : (line : List ℕ) (f : FrameParts) (form : Form) → is_sound form ≡ true → reader line form ≡ Some f
+    → Reads form (take (at_len (body_of line)) (body_of line)) (drop (at_len (body_of line)) (body_of line))
+    (end_of line) f
+read_here line f form sane h =
+    let body = body_of line in
+    read_sound form (nat_lt 0 (at_len body)) (take (at_len body) body) (drop (at_len body) body) (end_of line)
+    f sane h
+
+is_of : (line : List ℕ) (f : FrameParts) (form : Form) → is_sound form ≡ true → reader line form ≡ Some f
+    → IsOf form line f
+is_of line f form sane h =
+    let r = read_here line f form sane h in
+    let t = tested form (nat_lt 0 (at_len (body_of line))) (take (at_len (body_of line)) (body_of line))
+    (drop (at_len (body_of line)) (body_of line)) (end_of line) f h in
+    record {
+      start = take (at_len (body_of line)) (body_of line);
+      name = r.name;
+      line_end = end_of line;
+      begins = rw t.at (begins_so line);
+      name_is = r.name_is;
+      ends = body_cut line;
+      before_is = r.position.before_is;
+      after_is = r.position.after_is;
+    }
+
 on_one_line : (line : List ℕ) (f : FrameParts) → frame_of line ≡ Some f
-    → (lacks 10 line ≡ true) × (body_frame (body_of line) (end_of line) ≡ Some f)
+    → (lacks 10 line ≡ true) × (body_frame forms (body_of line) (end_of line) ≡ Some f)
 unfolding frame_of
-on_one_line line f h = grind arith
+on_one_line line f h = by_feed (lacks 10 line) refl h
+  where
+    by_feed : (b : Bool) → lacks 10 line ≡ b
+        → cond b (body_frame forms (body_of line) (end_of line)) None ≡ Some f
+        → (lacks 10 line ≡ true) × (body_frame forms (body_of line) (end_of line) ≡ Some f)
+    by_feed true e h = (e, h)
+    by_feed false e h = cc
 
 -- what is before and after a frame's position leaves the position
 pub position_there : (line : List ℕ) (f : FrameParts) → IsFrame line f
@@ -266,8 +265,24 @@ position_there line f is =
 pub sound : (line : List ℕ) (f : FrameParts) → frame_of line ≡ Some f → IsFrame line f
 sound line f h =
     let p = on_one_line line f h in
-    let n = prefix_len is_space (body_of line) in
-    elim (cases_Bool (starts_with nat_eq (drop n (body_of line)) (codes "at "))) [
-      | inl e ↦ sound_v8 line f n p.0 refl e (rw e at p.1)
-      | inr e ↦ sound_firefox line f p.0 e (rw e at p.1)
-    ]
+    let body = body_of line in
+    let start = take (at_len body) body in
+    let row = row_of (λ form. reader line form ≡ Some f) forms
+    (first_gives (reader line) (λ form. reader line form ≡ Some f) is_sound f (λ form _ e. e) forms
+    sound_rows p.1)
+    in
+    let r = read_here line f row.form (row.checked is_sound sound_rows) row.holds in
+    let s = r.position in
+    let u = and_parts (nat_lt 0 (length f.url)) (lacks 32 f.url) s.url in
+    record {
+      whole = joined start (r.name ++ row.form.opening) (position_text f.url f.line f.column) row.form.closing
+          (end_of line) s.before_is s.after_is r.text_is (take-append-drop (at_len body) body)
+          (take-append-drop (length (strip_carriage_return line)) line);
+      one_line = p.0;
+      some_url = ltb-true 0 (length f.url) u.0;
+      no_space = u.1;
+      line_place = s.line_place;
+      column_place = s.column_place;
+      form = form_said line f (first_gives (reader line) (λ form. IsOf form line f) is_sound f (is_of line f)
+          forms sound_rows p.1);
+    }

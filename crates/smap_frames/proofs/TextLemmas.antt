@@ -1,17 +1,15 @@
 -- What the text of a position ends in, and which bytes it lacks.
-use Rattle.std.proofs.Common.{◌≡◌, ◌≢◌, ◌∙◌, ℕ, ◌-◌, ◌<◌, ◌≤◌, ◌==◌, Bool, true, false, not, List, []}
-use Rattle.std.proofs.Common.{◌∷◌, ◌++◌, length, drop, refl, sym, ap, arith, append_assoc, nat_eq}
-use Rattle.std.proofs.Common.{length-append, decimal, codes}
-use Rattle.std.specs.List.{starts_with, ends_with, list_all, list_any}
+use Rattle.std.proofs.Common.{◌≡◌, ◌∙◌, ℕ, ◌<◌, ◌≤◌, ◌==◌, Bool, true, not, List, []}
+use Rattle.std.proofs.Common.{◌∷◌, ◌++◌, length, refl, sym, ap, arith, append_assoc}
+use Rattle.std.proofs.Common.{decimal, codes}
+use Rattle.std.specs.List.{list_all, list_any}
 use Rattle.std.specs.Str.Parse.{AllDigits}
-use Rattle.std.proofs.lemmas.Bool.{ne_eqb, false_from_ne_true, not-true, or_parts}
+use Rattle.std.proofs.lemmas.Bool.{not-true, or_parts}
 use Rattle.std.proofs.lemmas.Fmt.{decimal_is_IsNumeral}
 use Rattle.std.proofs.lemmas.List.Folds.{list_all-append}
 use Rattle.std.proofs.lemmas.Str.Parse.{digit_from_value}
 use Rattle.smap_frames.specs.Frame.{IsPlace, lacks, position_text}
-use Rattle.smap_frames.proofs.CutLemmas.{begins, parts_at}
 use Rattle.smap_frames.proofs.ReadingLemmas.{decimal_lacks}
-use Rattle.smap_frames.proofs.SoundLemmas.{not_both}
 
 -- ---- last bytes
 
@@ -47,12 +45,6 @@ position_text_ends url l c is =
     let d = some_digit (decimal c) numeral.0 numeral.1 in
     (d.0, d.1, d.2, longer (url ++ codes ":" ++ decimal l ++ codes ":") (decimal c) d.0 d.3)
 
-pub ends_not : (xs : List ℕ) (x c : ℕ) → EndsIn xs x → x ≢ c → ends_with nat_eq xs (c ∷ []) ≡ false
-ends_not xs x c e ne =
-    let last = (parts_at xs e.front (x ∷ []) (length xs - 1) e.whole
-    (omega (arith, ap length e.whole, length-append e.front (x ∷ [])))).1 in
-    rw (last, ne_eqb c x (λ h. ne (sym h))) refl
-
 -- ---- bytes that a text lacks
 
 pub lacks_all : (c : ℕ) (xs : List ℕ) → lacks c xs ≡ true → list_all (λ b. not (b == c)) xs ≡ true
@@ -75,11 +67,3 @@ position_text_lacks url l c free lp cp =
     all_both : (q : ℕ → Bool) (xs ys : List ℕ) → list_all q xs ≡ true → list_all q ys ≡ true
         → list_all q (xs ++ ys) ≡ true
     all_both q xs ys h k = rw (list_all-append q xs ys, h) k
-
-pub no_async : (xs : List ℕ) → list_all (λ b. not (b == 32)) xs ≡ true
-    → starts_with nat_eq xs (codes "async ") ≡ false
-no_async xs all = false_from_ne_true (starts_with nat_eq xs (codes "async "))
-    (λ h. not_both all (split (drop 6 xs) (begins xs (codes "async ") h)))
-  where
-    split : (ys : List ℕ) → xs ≡ codes "async" ++ 32 ∷ ys → list_all (λ b. not (b == 32)) xs ≡ false
-    split ys e = rw e refl

@@ -1,3 +1,5 @@
+pub mod FormView
+pub mod Forms
 pub mod Frame
 pub mod FrameView
 pub mod Laws

@@ -1,13 +1,15 @@
-//! The frames of a stack trace. The position of a frame follows leading spaces and `at `, or the first `@`;
-//! its line and its column follow the last two colons.
+//! The frames of a stack trace. Where the position of a frame is, a row of the table of forms says; its line
+//! and its column follow the last two colons.
 ghost use Rattle.std.specs.Prelude.{◌≡◌, ℕ, ◌≤◌, ◌==◌, drop, length, option_map, take};
-ghost use Rattle.std.specs.Prelude.{MatchOption, decimal};
+ghost use Rattle.std.specs.Prelude.{IfSome, MatchOption, decimal, map};
 ghost use Rattle.std.specs.List.{prefix_len, before_last, after_last};
 ghost use Rattle.std.specs.Str.Lines.{strip_carriage_return};
 ghost use Rattle.smap_frames.specs.Frame.{IsFrame, IsPlace, FrameParts};
 ghost use Rattle.smap_frames.specs.Reading as spec;
+ghost use Rattle.smap_frames.specs.FormView.{form_in};
 ghost use Rattle.smap_frames.specs.FrameView.{parts_in};
 
+use crate::forms::{Form, forms};
 use crate::parts::Frame;
 use memchr::{memchr, memrchr};
 use smap_mappings::MAX_POSITION;
@@ -75,6 +77,68 @@ fn framed<'a>(line: &'a [u8], start: usize, end: usize) -> Option<Frame<'a>>
     })
 }
 
+/// The number of bytes at the end that are no spaces.
+fn word_len(text: &[u8]) -> usize
+    ensures value { result ≡ spec.word_len text.now }
+    ensures within { result ≤ length text.now }
+{
+    text.iter().rev().take_while(|b| **b != b' ').count()
+}
+
+/// How many bytes of the text stand before the position, if it is one of the form.
+fn lead_len(form: &Form<'_>, text: &[u8]) -> usize
+    ensures { result ≡ spec.lead_len (form_in form.now) text.now }
+{
+    if form.mark == b' ' {
+        text.len() - word_len(text) + word_len(form.opening)
+    } else {
+        match memchr(form.mark, text) {
+            Some(at) => at + 1,
+            None => text.len() + 1,
+        }
+    }
+}
+
+/// Whether a position of the form may stand behind this.
+fn is_lead(form: &Form<'_>, lead: &[u8]) -> bool
+    ensures { result ≡ spec.is_lead (form_in form.now) lead.now }
+{
+    lead.ends_with(form.opening) && (form.named || lead.len() <= form.opening.len())
+}
+
+/// Where in a text, which stands behind `at ` or not, the position of a frame of this form is.
+fn span(form: &Form<'_>, is_at: bool, text: &[u8]) -> Option<(usize, usize)>
+    ensures value { result ≡ spec.span (form_in form.now) is_at text.now }
+    ensures within { IfSome result (λ p. (p.0 ≤ p.1) × (p.1 ≤ length text.now)) }
+{
+    if form.behind_at != is_at || !text.ends_with(form.closing) {
+        return None;
+    }
+    let stop = text.len() - form.closing.len();
+    let lead = lead_len(form, &text[..stop]);
+    if lead <= stop && is_lead(form, &text[..lead]) {
+        Some((lead, stop))
+    } else {
+        None
+    }
+}
+
+/// The frame of this form whose text is from `start` up to `end`, behind `at ` or not.
+fn read<'a>(
+    form: &Form<'_>,
+    is_at: bool,
+    line: &'a [u8],
+    start: usize,
+    end: usize,
+) -> Option<Frame<'a>>
+    requires { (start ≤ end) × (end ≤ length line.now) }
+    ensures { option_map parts_in result
+        ≡ spec.between (spec.read (form_in form.now) is_at) line.now start end }
+{
+    let (lead, stop) = span(form, is_at, &line[start..end])?;
+    framed(line, start + lead, start + stop)
+}
+
 /// The number of spaces at the start.
 fn space_count(text: &[u8]) -> usize
     ensures value { result ≡ prefix_len spec.is_space text.now }
@@ -83,56 +147,33 @@ fn space_count(text: &[u8]) -> usize
     text.iter().take_while(|b| **b == b' ').count()
 }
 
-/// The frame whose position follows the last ` (` between `at ` and `)`.
-fn in_parentheses<'a>(line: &'a [u8], start: usize, end: usize) -> Option<Frame<'a>>
-    requires { (start ≤ end) × (end ≤ length line.now) }
-    ensures { option_map parts_in result ≡ spec.between spec.in_parentheses line.now start end }
+/// How many bytes the spaces at the start and `at ` behind them take, or 0 if there is no `at `.
+fn at_len(text: &[u8]) -> usize
+    ensures value { result ≡ spec.at_len text.now }
+    ensures within { result ≤ length text.now }
 {
-    let text = &line[start..end];
-    let (_, last) = split_at_last(text, b' ');
-    if last.starts_with(b"(") && last.len() < text.len() {
-        framed(line, end - last.len() + 1, end)
+    let spaces = space_count(text);
+    if text[spaces..].starts_with(b"at ") {
+        spaces + 3
     } else {
-        None
+        0
     }
 }
 
-/// The frame whose `at ` ends at `start`.
-fn v8_frame<'a>(line: &'a [u8], start: usize, end: usize) -> Option<Frame<'a>>
-    requires { (start ≤ end) × (end ≤ length line.now) }
-    ensures { option_map parts_in result ≡ spec.between spec.v8_frame line.now start end }
-{
-    let text = &line[start..end];
-    if text.ends_with(b")") {
-        in_parentheses(line, start, end - 1)
-    } else if text.starts_with(b"async ") {
-        framed(line, start + 6, end)
-    } else {
-        framed(line, start, end)
-    }
-}
-
-/// The frame whose position follows the first `@`.
-fn firefox_frame<'a>(line: &'a [u8], end: usize) -> Option<Frame<'a>>
+/// The frame of the line up to `end`, by the first form that reads one.
+fn body_frame<'a>(rows: &[Form<'_>], line: &'a [u8], end: usize) -> Option<Frame<'a>>
     requires { end ≤ length line.now }
-    ensures { option_map parts_in result ≡ spec.firefox_frame (take end line.now) (drop end line.now) }
+    ensures { option_map parts_in result
+        ≡ spec.body_frame (map form_in rows.now) (take end line.now) (drop end line.now) }
 {
-    let at = memchr(b'@', &line[..end])?;
-    framed(line, at + 1, end)
-}
-
-/// The frame of the line up to `end`, in the form of V8 where the line begins so, else in that of Firefox.
-fn body_frame<'a>(line: &'a [u8], end: usize) -> Option<Frame<'a>>
-    requires { end ≤ length line.now }
-    ensures { option_map parts_in result ≡ spec.body_frame (take end line.now) (drop end line.now) }
-{
-    let body = &line[..end];
-    let spaces = space_count(body);
-    if body[spaces..].starts_with(b"at ") {
-        v8_frame(line, spaces + 3, end)
-    } else {
-        firefox_frame(line, end)
+    let start = at_len(&line[..end]);
+    for i in 0..rows.len() {
+        let found = read(&rows[i], start > 0, line, start, end);
+        if found.is_some() {
+            return found;
+        }
     }
+    None
 }
 
 /// How long the line is without the carriage return at its end.
@@ -148,9 +189,8 @@ fn body_len(line: &[u8]) -> usize
     }
 }
 
-/// The frame that a line of a stack trace is, if it is one: after spaces and `at `, the form
-/// `NAME (URL:LINE:COLUMN)`, `URL:LINE:COLUMN` or `async URL:LINE:COLUMN`, as V8 writes them; else
-/// `NAME@URL:LINE:COLUMN`, as Firefox and Safari do. `docs/OUTPUT.md`, "Frames", has the grammar.
+/// The frame that a line of a stack trace is, if it is one. `docs/OUTPUT.md`, "Frames", has the grammar of
+/// the forms in which engines write it.
 ///
 /// The line is passed without its line feed; a carriage return at its end belongs to `after`. A line that
 /// holds a line feed isn't a frame. It takes no memory, and time linear in the line.
@@ -169,6 +209,6 @@ pub fn frame<'a>(line: &'a [u8]) -> Option<Frame<'a>>
     if line.contains(&b'\n') {
         None
     } else {
-        body_frame(line, body_len(line))
+        body_frame(&forms(), line, body_len(line))
     }
 }

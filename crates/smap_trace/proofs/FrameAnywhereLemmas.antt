@@ -1,23 +1,20 @@
 -- A frame's position, found in a frame and found anywhere.
-use Rattle.std.proofs.Common.{◌≡◌, ◌∙◌, ◌⊎◌, inl, inr, ℕ, ◌+◌, ◌-◌, ◌==◌, Bool, true, false, cond, List, []}
-use Rattle.std.proofs.Common.{◌∷◌, ◌++◌, length, take, drop, map, flat_map, Option, Some, None, option_map}
+use Rattle.std.proofs.Common.{◌≡◌, ◌∙◌, inl, inr, ℕ, ◌+◌, ◌==◌, Bool, true, false, cond, List, []}
+use Rattle.std.proofs.Common.{◌∷◌, ◌++◌, length, take, map, flat_map, Option, Some, None, option_map}
 use Rattle.std.proofs.Common.{option_and_then, codes, decimal, refl, sym, ap, subst, arith, append_assoc}
 use Rattle.std.proofs.Common.{append-nil, length-append}
 use Rattle.std.specs.Char.{is_ascii_digit}
 use Rattle.std.specs.List.{list_any}
 use Rattle.std.specs.Option.{option_map_or}
-use Rattle.std.proofs.Math.Seq.{drop-append_seam}
 use Rattle.std.proofs.lemmas.Bool.Decides.{nat_tests, Decides-eqb}
 use Rattle.std.proofs.lemmas.Grind.{flat_map-append}
 use Rattle.std.proofs.lemmas.List.{append_cancel_right, nil_from_length}
 use Rattle.std.proofs.lemmas.List.Folds.{list_any-append}
-use Rattle.smap_frames.specs.Places.{continues, may_begin}
-use Rattle.smap_frames.specs.Frame.{AfterAsync, Alone, FrameParts, InParentheses, IsFrame, IsLineEnd, IsV8}
-use Rattle.smap_frames.specs.Frame.{position_text}
+use Rattle.smap_frames.specs.Frame.{FrameParts, IsFrame, position_text}
+use Rattle.smap_frames.proofs.AroundLemmas.{frame_begins, frame_stops}
 use Rattle.smap_frames.proofs.CompleteLemmas.{complete}
 use Rattle.smap_frames.proofs.PositionLemmas.{both_of, length_position}
 use Rattle.smap_frames.proofs.SoundLemmas.{position_there}
-use Rattle.smap_frames.proofs.TextLemmas.{EndsIn}
 use Rattle.smap_record.specs.Record.{Origin, Record}
 use Rattle.smap_trace.specs.Anywhere.{Occurrence, Piece, byte, bytes_of, cut, found, longest}
 use Rattle.smap_trace.specs.Anywhere.{occurrence_between, piece_at, pieces_of}
@@ -52,61 +49,6 @@ none_between ignore scripts before (x ∷ xs) b bs h =
     let all = rw none at h in
     let rest : cut ignore scripts (before ++ x ∷ []) 0 (xs ++ b ∷ bs) ≡ map byte (xs ++ b ∷ bs) = cc in
     rw (← append_assoc before (x ∷ []) xs) (none_between ignore scripts (before ++ x ∷ []) xs b bs rest)
-
--- ---- what is before and after the position of a frame
-
-begins_behind : (before : List ℕ) (x : ℕ) → EndsIn before x → continues x ≡ false → may_begin before ≡ true
-begins_behind before x ends other =
-    let place : length (ends.front ++ x ∷ []) - 1 ≡ length ends.front =
-    omega (arith, length-append ends.front (x ∷ [])) in
-    let last : drop (length before - 1) before ≡ x ∷ [] =
-    ap (λ (t : List ℕ). drop (length t - 1) t) ends.whole ∙ rw place (drop-append_seam ends.front (x ∷ [])) in
-    rw (last, other) refl
-
-v8_begins : (f : FrameParts) → IsV8 f → may_begin f.before ≡ true
-v8_begins f v = rw v.before_is (led v.lead v.close v.form)
-  where
-    front : List ℕ
-    front = v.spaces ++ codes "at "
-
-    led : (lead close : List ℕ) → InParentheses lead close ⊎ (Alone lead close ⊎ AfterAsync lead close)
-        → may_begin (front ++ lead) ≡ true
-    led lead close (inl (name, e, d)) = begins_behind (front ++ lead) 40 (record {
-      front = front ++ (name ++ codes " ");
-      whole = rw e (simp append_assoc);
-    }) refl
-    led lead close (inr (inl (e, d))) = begins_behind (front ++ lead) 32 (record {
-      front = v.spaces ++ codes "at";
-      whole = rw e (simp (append_assoc, append-nil));
-    }) refl
-    led lead close (inr (inr (e, d))) = begins_behind (front ++ lead) 32 (record {
-      front = front ++ codes "async";
-      whole = rw e (simp append_assoc);
-    }) refl
-
-frame_begins : (f : FrameParts) (line : List ℕ) → IsFrame line f → may_begin f.before ≡ true
-frame_begins f line is = elim is.form [
-  | inl v ↦ v8_begins f v
-  | inr (not_at, v) ↦ begins_behind f.before 64 (record { front = v.name; whole = v.before_is }) refl
-]
-
-end_stops : (last : List ℕ) → IsLineEnd last → list_any is_ascii_digit (take 1 last) ≡ false
-end_stops last (inl d) = rw d refl
-end_stops last (inr d) = rw d refl
-
-close_stops : (lead close last : List ℕ)
-    → InParentheses lead close ⊎ (Alone lead close ⊎ AfterAsync lead close) → IsLineEnd last
-    → list_any is_ascii_digit (take 1 (close ++ last)) ≡ false
-close_stops lead close last (inl (name, e, d)) ends = rw d refl
-close_stops lead close last (inr (inl (e, d))) ends = rw d (end_stops last ends)
-close_stops lead close last (inr (inr (e, d))) ends = rw d (end_stops last ends)
-
-frame_stops : (f : FrameParts) (line : List ℕ) → IsFrame line f
-    → list_any is_ascii_digit (take 1 f.after) ≡ false
-frame_stops f line is = elim is.form [
-  | inl v ↦ rw v.after_is (close_stops v.lead v.close v.line_end v.form v.ends)
-  | inr (not_at, v) ↦ end_stops f.after v.ends
-]
 
 -- ---- the script that a frame names
 

@@ -1,22 +1,29 @@
-use Rattle.std.proofs.Common.{◌∙◌, sym, ap, codes, nat_eq, take, drop, List, ℕ}
-use Rattle.std.specs.List.{starts_with}
-use Rattle.std.proofs.lemmas.List.{take_rest}
-use Rattle.smap_frames.proofs.FrameLemmas.{firefox_is, v8_read}
+use Rattle.std.proofs.Common.{◌∙◌, map, nat_lt, rules}
+use Rattle.smap_frames.specs.FormView.{form_in}
+use Rattle.smap_frames.specs.Reading.{between, read}
+use Rattle.smap_frames.proofs.FrameLemmas.{body_read, no_row, row_gives, row_gives_none}
 use Rattle.smap_frames.proofs.frames.body_frame.Goals as goal
 
-pub returns-then-starts_with : goal.returns-then-starts_with
-returns-then-starts_with c =
-    let body = take c.args.end c.args.line.now in
-    let spaces = c.space_count-spaces.result in
-    c.v8_frame.ensures ∙ v8_read c.args.line.now c.args.end spaces c.space_count-spaces.ensures.value
-    (ap (λ (xs : List ℕ). starts_with nat_eq xs (codes "at ")) (sym (take_rest body spaces))
-    ∙ sym c.if-starts_with.ensures.value)
+pub returns-then-is_some : goal.returns-then-is_some
+returns-then-is_some c =
+    let start = c.at_len-start.result in
+    row_gives (λ form. between (read form (nat_lt 0 start)) c.args.line.now start c.args.end) c.args.rows.now
+    c.loop-i.i _ c.read-found.result c.loop-i-test.true c.read-found.ensures c.if-is_some.ensures
+    ∙ c.loop-i.invariant
+    ∙ body_read (map form_in c.args.rows.now) c.args.line.now c.args.end start (search rules) (search rules)
 
-pub returns-else-starts_with : goal.returns-else-starts_with
-returns-else-starts_with c =
-    let body = take c.args.end c.args.line.now in
-    let spaces = c.space_count-spaces.result in
-    c.firefox_frame.ensures ∙ firefox_is body (drop c.args.end c.args.line.now) spaces
-    c.space_count-spaces.ensures.value
-    (ap (λ (xs : List ℕ). starts_with nat_eq xs (codes "at ")) (sym (take_rest body spaces))
-    ∙ sym c.if-starts_with.ensures.value)
+pub loop-i-preserved : goal.loop-i-preserved
+loop-i-preserved c =
+    let start = c.at_len-start.result in
+    row_gives_none (λ form. between (read form (nat_lt 0 start)) c.args.line.now start c.args.end)
+    c.args.rows.now c.loop-i.i _ c.read-found.result c.loop-i-test.true c.read-found.ensures
+    c.if-is_some.ensures
+    ∙ c.loop-i.invariant
+
+pub returns : goal.returns
+returns c =
+    let start = c.at_len-start.result in
+    no_row (λ form. between (read form (nat_lt 0 start)) c.args.line.now start c.args.end) c.args.rows.now
+    c.loop-i.i c.loop-i-test.false
+    ∙ c.loop-i.invariant
+    ∙ body_read (map form_in c.args.rows.now) c.args.line.now c.args.end start (search rules) (search rules)
