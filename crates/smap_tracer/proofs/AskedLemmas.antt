@@ -20,7 +20,7 @@ use Rattle.smap_finder.proofs.ChosenLemmas.{mapped_among}
 use Rattle.smap_finder.proofs.EndLemmas.{none_ended}
 use Rattle.smap_lines.specs.Lines.{is_feed, open_line, whole_lines}
 use Rattle.smap_trace.specs.Naming.{urls_of}
-use Rattle.smap_trace.specs.Pieces.{IsWhole}
+use Rattle.smap_io.specs.Lines.{IsWhole}
 use Rattle.smap_trace.proofs.NamingLemmas.{urls_of-append}
 use Rattle.smap_logs.specs.Logs.{IsAll}
 use Rattle.smap_logs.specs.Naming.{AreIn, asked_in, frames_of, names_of, others_if, others_in, others_in_line}

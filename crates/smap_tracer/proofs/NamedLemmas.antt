@@ -10,9 +10,9 @@ use Rattle.std.proofs.lemmas.List.Elements.{Contains-append_left, Contains-appen
 use Rattle.std.proofs.Math.Seq.{get_or-append_seam, take-length}
 use Rattle.smap_disk.specs.Held.{GivesHeld, HasSize, Held}
 use Rattle.smap_trace.specs.Naming.{urls_of}
-use Rattle.smap_trace.specs.Pieces.{IsWhole}
+use Rattle.smap_io.specs.Lines.{IsWhole}
 use Rattle.smap_trace.proofs.NamingLemmas.{urls_of-append}
-use Rattle.smap_trace.proofs.RunLemmas.{both_whole}
+use Rattle.smap_io.proofs.LineLemmas.{both_whole}
 use Rattle.smap_logs.specs.Naming.{AddsNames, AreSame, HasNamesOf, frames_of}
 use Rattle.smap_logs.specs.declared.naming.Names.{Names}
 use Rattle.smap_logs.proofs.NamingLemmas.{same_more, same_none}
