@@ -12,10 +12,18 @@ use Rattle.std.specs.Prelude.{sum_by, option_map}
 use Rattle.std.proofs.lemmas.Bool.Decides.{nat_tests}
 use Rattle.std.proofs.lemmas.List.Sums.{sum_by_push}
 use Rattle.smap_record.specs.Written.{Spelling}
-use Rattle.smap_c.specs.Memory.{capped, grown, root_memory, roots_memory, text_memory}
+use Rattle.smap_c.specs.Memory.{capped, grown, label_memory, root_memory, roots_memory, text_memory}
+use Rattle.smap_record.specs.declared.view.LabelView.{LabelView}
+use Rattle.smap_record.specs.Views.{named_of_view}
 use Rattle.smap_record.proofs.ListLemmas.{take_next}
 
 -- ---- sums
+
+-- the texts of labels, by their views
+pub labels_summed : (vs : List LabelView)
+    → sum_by (λ v. text_memory (option_copied v.text)) vs ≡ sum_by label_memory (map named_of_view vs)
+labels_summed [] = refl
+labels_summed (v ∷ vs) = ap (λ n. text_memory (option_copied v.text) + n) (labels_summed vs)
 
 -- a capped sum goes on
 pub capped_next : {A : Type 0} (f : A → ℕ) (xs : List A) (i : ℕ) (x : A) (so_far next : ℕ)

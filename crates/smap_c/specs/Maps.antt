@@ -154,7 +154,7 @@ Counts (Some o) before after code = (code ≡ codes.OK) × (after ≡ counts_of 
 -- ---- the name of the generated file
 
 abbrev pub FileTold : ReadMap → List ℕ → List ℕ → ℕ → ℕ → Type 0
-FileTold m before after len code = TextTold m.file before after len code
+FileTold m before after len code = TextTold m.labels.file before after len code
 
 -- The same of a handle.
 abbrev pub File : Option Opened → List ℕ → List ℕ → ℕ → ℕ → Type 0

@@ -5,6 +5,7 @@ use Rattle.std.specs.Prelude.{List, [], ◌∷◌, Option, Some, None, length, m
 use Rattle.std.specs.Int.{div_ceil}
 use Rattle.url.specs.Parts.{serialize}
 use Rattle.smap_mappings.specs.Text.{line_count}
+use Rattle.smap_shape.specs.Labels.{named}
 use Rattle.smap_record.specs.Record.{Entry, ReadMap, record_of, same_text}
 use Rattle.smap_record.specs.Written.{Spelling}
 use Rattle.smap_c.specs.declared.opened.Opened.{Opened}
@@ -48,9 +49,12 @@ source_memory e = text_memory e.url + text_memory e.content
 abbrev pub name_memory : List ℕ → ℕ
 name_memory name = block (length name)
 
--- The strings of a map: its file, its distinct sources, and its names as listed.
+abbrev pub label_memory : List ℕ × Option (List ℕ) → ℕ
+label_memory label = text_memory label.1
+
+-- The strings of a map: its labels, its distinct sources, and its names as listed.
 abbrev pub strings_memory : ReadMap → ℕ
-strings_memory m = text_memory m.file
+strings_memory m = sum_by label_memory (named m.labels)
     + (sum_by source_memory (record_of m).sources + sum_by name_memory m.listing.names)
 
 -- Its lists: the distinct sources in a hash table of groups of nine, the listed ones by their numbers, the

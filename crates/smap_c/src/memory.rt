@@ -1,14 +1,16 @@
 //! How much memory a map takes, about, by what it has.
 ghost use Rattle.std.specs.Prelude.{◌≡◌, ◌<◌, ◌+◌, length, option_copied, slice_get, Some, sum_by};
+ghost use Rattle.smap_shape.specs.Labels.{named};
 ghost use Rattle.smap_record.specs.Record.{record_of};
 ghost use Rattle.smap_record.specs.Views.{entry_of_view};
 ghost use Rattle.smap_record.specs.Written.{Spelling};
 ghost use Rattle.smap_c.specs.Memory.{block, capped, room, text_memory, source_memory, name_memory};
+ghost use Rattle.smap_c.specs.Memory.{label_memory};
 ghost use Rattle.smap_c.specs.Memory.{strings_memory, lists_memory, written_memory, root_memory};
 ghost use Rattle.smap_c.specs.Memory.{roots_memory, spellings_memory, table_memory, memory_with};
 
 use crate::opened::Opened;
-use smap_record::{SourceMap, SourceView, WrittenSources};
+use smap_record::{LabelView, SourceMap, SourceView, WrittenSources};
 
 /// What each map takes: the box of a handle, the shared map, and a list of roots that has room for four.
 const OF_MAP: usize = 648;
@@ -106,11 +108,29 @@ fn names_memory(map: &SourceMap) -> usize
     total
 }
 
+fn views_memory(labels: &[LabelView<'_>]) -> usize
+    ensures { result ≡ capped (sum_by (λ v. text_memory (option_copied v.text)) labels.now) }
+{
+    let mut total: usize = 0;
+    for i in 0..labels.len() {
+        let label = labels[i];
+        total = total.saturating_add(text_memory(label.text));
+    }
+    total
+}
+
+fn labels_memory(map: &SourceMap) -> usize
+    ensures { result ≡ capped (sum_by label_memory (named map.now.labels)) }
+{
+    let labels = map.labels();
+    views_memory(&labels)
+}
+
 fn strings_memory(map: &SourceMap) -> usize
     ensures { result ≡ capped (strings_memory map.now) }
 {
     let listed = sources_memory(map).saturating_add(names_memory(map));
-    text_memory(map.file()).saturating_add(listed)
+    labels_memory(map).saturating_add(listed)
 }
 
 fn lists_memory(map: &SourceMap) -> usize

@@ -5,7 +5,7 @@ use Rattle.serde_json.proofs.OnLiterals.{serde_json_on_literals}
 use Rattle.smap_vlq.specs.Number.{digit_byte, shortest_digits, spelling}
 use Rattle.smap_mappings.specs.declared.token.Token.{Token}
 use Rattle.smap_mappings.specs.Text.{mappings_text}
-use Rattle.smap_record.specs.Record.{Entry, Mapping, Record, distinct}
+use Rattle.smap_record.specs.Record.{no_labels, Entry, Mapping, Record, distinct}
 use Rattle.smap_canon.specs.Canonical.{canonical_text}
 use Rattle.smap_canon.specs.Layout.{flat_text, layout}
 
@@ -28,7 +28,7 @@ mapping line column entry original_line original_column name = record {
 -- ---- canonical bytes
 
 abbrev no_map : Record
-no_map = record { file = None; sources = []; mappings = [] }
+no_map = record { labels = no_labels; sources = []; mappings = [] }
 
 empty : canonical_text no_map ≡ codes "{\"mappings\":\"\",\"names\":[],\"sources\":[],\"version\":3}"
 unfolding serde_json_on_literals digits digit_byte shortest_digits spelling mappings_text distinct layout
@@ -36,7 +36,7 @@ empty = refl
 
 abbrev two_names_record : Record
 two_names_record = record {
-  file = None;
+  labels = no_labels;
   sources = first ∷ [];
   mappings = mapping 0 0 first 0 0 (Some (codes "y")) ∷ mapping 0 1 first 0 1 (Some (codes "x")) ∷ [];
 }
@@ -51,7 +51,7 @@ unnamed = record { url = None; content = Some (codes "t"); ignored = false }
 
 abbrev unnamed_record : Record
 unnamed_record = record {
-  file = None;
+  labels = no_labels;
   sources = unnamed ∷ [];
   mappings = mapping 0 0 unnamed 0 0 None ∷ [];
 }
@@ -63,7 +63,7 @@ null_source = refl
 
 abbrev ignored_record : Record
 ignored_record = record {
-  file = None;
+  labels = no_labels;
   sources = first ∷ record { url = Some (codes "http://h/m/b.js"); content = None; ignored = true } ∷ [];
   mappings = [];
 }
@@ -74,7 +74,7 @@ unfolding serde_json_on_literals digits digit_byte shortest_digits spelling mapp
 ignored = refl
 
 abbrev file_record : Record
-file_record = record { file = Some (codes "x/y\t\u{b}"); sources = []; mappings = [] }
+file_record = record { labels = record no_labels { file = Some (codes "x/y\t\u{b}") }; sources = []; mappings = [] }
 
 escaped_file : canonical_text file_record ≡ codes
     "{\"file\":\"x/y\\t\\u000b\",\"mappings\":\"\",\"names\":[],\"sources\":[],\"version\":3}"
@@ -83,7 +83,7 @@ escaped_file = refl
 
 abbrev merged_record : Record
 merged_record = record {
-  file = None;
+  labels = no_labels;
   sources = first ∷ second ∷ [];
   mappings = mapping 0 0 first 0 0 None ∷ mapping 0 10 first 0 0 (Some (codes "n"))
       ∷ mapping 1 1 second 1 1 None ∷ [];
@@ -104,7 +104,7 @@ token line column source original_line original_column name = record {
 }
 
 as_listed : flat_text (record {
-  file = None;
+  labels = no_labels;
   listing = record {
     sources = first ∷ first ∷ second ∷ [];
     names = codes "n" ∷ [];

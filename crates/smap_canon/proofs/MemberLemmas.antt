@@ -1,43 +1,21 @@
--- The members of a layout as one list, so that what is proved of them is proved member by member.
+-- What is proved of the members of a layout, member by member.
 use Rattle.std.proofs.Common.{arith}
-use Rattle.std.proofs.Common.{◌≡◌, ℕ, List, [], ◌∷◌, map, Option, Some, None, refl, Bool, true}
-use Rattle.std.specs.Prelude.{codes, option_map, ◌&&◌, IfSome}
+use Rattle.std.proofs.Common.{◌≡◌, ℕ, List, [], ◌∷◌, Option, Some, None, ap, refl, Bool, true, false, cond, bytes_eq, not}
+use Rattle.std.specs.Prelude.{option_map, option_and_then, ◌&&◌, IfSome}
 use Rattle.std.specs.List.{list_all, AllByRecursion}
 use Rattle.std.specs.Option.{option_or}
 use Rattle.std.proofs.Common.{Ordering, Less, Equal, Greater}
-use Rattle.std.specs.Ordering.{nat_cmp, match_ordering, is_gt}
+use Rattle.std.specs.Ordering.{nat_cmp, match_ordering, is_gt, is_eq}
+use Rattle.std.proofs.lemmas.Map.Text.{is_eq-slice_cmp}
 use Rattle.std.specs.Cmp.Lexicographic.{slice_cmp}
 use Rattle.std.proofs.lemmas.Bool.{and_parts}
-use Rattle.serde_json.specs.Data.{Data, string, Members, no_members, member, put}
+use Rattle.serde_json.specs.Data.{Data, object, Members, no_members, member, put}
 use Rattle.serde_json.specs.Find.{get_member}
 use Rattle.serde_json.specs.Read.{of_json, of_members}
 use Rattle.serde_json.specs.Written.{outline, members_outline}
-use Rattle.smap_mappings.specs.Text.{mappings_text}
-use Rattle.smap_record.specs.Record.{Entry, ReadMap}
-use Rattle.smap_canon.specs.Layout.{or_null, whole_number, list_of, ignored_from, unless_empty}
-use Rattle.smap_canon.specs.Layout.{optional_member, written_contents}
-
--- a name, and the value if the member is written
-abbrev pub OptionalMember : Type 0
-OptionalMember = List ℕ × Option Data
-
-abbrev pub written : List OptionalMember → Members
-written [] = no_members
-written (m ∷ ms) = optional_member m.0 m.1 (written ms)
-
--- the members of a layout: `layout spell m` computes to `object (written (members_of spell m))`
-abbrev pub members_of : (List ℕ → List ℕ) → ReadMap → List OptionalMember
-members_of spell m =
-    (codes "file", option_map string m.file)
-    ∷ (codes "ignoreList", unless_empty (map whole_number (ignored_from 0 m.listing.sources)))
-    ∷ (codes "mappings", Some (string (mappings_text m.listing.tokens)))
-    ∷ (codes "names", Some (list_of (map string m.listing.names)))
-    ∷ (
-      codes "sources",
-      Some (list_of (map (λ (e : Entry). or_null (option_map spell e.url)) m.listing.sources)),
-    )
-    ∷ (codes "sourcesContent", written_contents m.listing.sources)
-    ∷ (codes "version", Some (whole_number 3)) ∷ []
+use Rattle.smap_shape.specs.Reading.{if_present, member_of}
+use Rattle.smap_record.proofs.EqualLemmas.{own_bytes}
+use Rattle.smap_canon.specs.Layout.{OptionalMember, optional_member, written}
 
 -- what holds of a member, before what holds of the rest
 abbrev pub before_rest : {P Q : Type 0} → P → Q → P × Q
@@ -64,6 +42,66 @@ get-optional name key None ms = alike (slice_cmp nat_cmp name key) (get_member n
 pub get-written : (name : List ℕ) (ms : List OptionalMember) → get_member name (written ms) ≡ value_of name ms
 get-written name [] = refl
 get-written name (m ∷ ms) = rw (get-optional name m.0 m.1 (written ms), get-written name ms) refl
+
+pub found : (name : List ℕ) (ms : List OptionalMember)
+    → member_of name (object (written ms)) ≡ option_and_then if_present (value_of name ms)
+found name ms = ap (option_and_then if_present) (get-written name ms)
+
+-- ---- each value under its own name
+
+value_by : (name : List ℕ) (m : OptionalMember) (ms : List OptionalMember)
+    → value_of name (m ∷ ms)
+    ≡ cond (bytes_eq name m.0) (option_or m.1 (value_of name ms)) (value_of name ms)
+value_by name m ms = rw (← is_eq-slice_cmp name m.0)
+    (by (slice_cmp nat_cmp name m.0) (option_or m.1 (value_of name ms)) (value_of name ms))
+  where
+    by : (c : Ordering) (v w : Option Data) → match_ordering c w v w ≡ cond (is_eq c) v w
+    by Less v w = refl
+    by Equal v w = refl
+    by Greater v w = refl
+
+-- no two have one name
+abbrev pub once : List OptionalMember → Bool
+once [] = true
+once (m ∷ ms) = list_all (λ k. not (bytes_eq m.0 k.0)) ms
+    && (list_all (λ k. not (bytes_eq k.0 m.0)) ms && once ms)
+
+untrue : (b : Bool) → not b ≡ true → b ≡ false
+untrue b h = grind arith
+
+none_there : (name : List ℕ) (ms : List OptionalMember)
+    → list_all (λ k. not (bytes_eq name k.0)) ms ≡ true → value_of name ms ≡ None
+none_there name [] h = refl
+none_there name (m ∷ ms) h =
+    let parts = and_parts (not (bytes_eq name m.0)) (list_all (λ k. not (bytes_eq name k.0)) ms) h in
+    rw (value_by name m ms, untrue (bytes_eq name m.0) parts.0) (none_there name ms parts.1)
+
+own_value : (m : OptionalMember) (ms : List OptionalMember)
+    → list_all (λ k. not (bytes_eq m.0 k.0)) ms ≡ true → value_of m.0 (m ∷ ms) ≡ m.1
+own_value m ms h = rw (value_by m.0 m ms, own_bytes m.0, none_there m.0 ms h) (or_none m.1)
+  where
+    or_none : (o : Option Data) → option_or o None ≡ o
+    or_none None = refl
+    or_none (Some d) = refl
+
+later_values : (m : OptionalMember) (ms ks : List OptionalMember)
+    → list_all (λ k. not (bytes_eq k.0 m.0)) ks ≡ true → AllByRecursion (λ k. value_of k.0 ms ≡ k.1) ks
+    → AllByRecursion (λ k. value_of k.0 (m ∷ ms) ≡ k.1) ks
+later_values m ms [] h all = tt
+later_values m ms (k ∷ ks) h all =
+    let parts = and_parts (not (bytes_eq k.0 m.0)) (list_all (λ k. not (bytes_eq k.0 m.0)) ks) h in (
+      rw (value_by k.0 m ms, untrue (bytes_eq k.0 m.0) parts.0) all.0,
+      later_values m ms ks parts.1 all.1,
+    )
+
+pub own_values : (ms : List OptionalMember) → once ms ≡ true
+    → AllByRecursion (λ m. value_of m.0 ms ≡ m.1) ms
+own_values [] h = tt
+own_values (m ∷ ms) h =
+    let first = and_parts (list_all (λ k. not (bytes_eq m.0 k.0)) ms)
+    (list_all (λ k. not (bytes_eq k.0 m.0)) ms && once ms) h in
+    let second = and_parts (list_all (λ k. not (bytes_eq k.0 m.0)) ms) (once ms) first.1 in
+    (own_value m ms first.0, later_values m ms ms second.0 (own_values ms second.1))
 
 -- ---- members that are read one after another
 

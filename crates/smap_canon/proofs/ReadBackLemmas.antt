@@ -14,7 +14,7 @@ use Rattle.serde_json.specs.Written.{outline, compact_text}
 use Rattle.serde_json.proofs.Texts.{print-outline}
 use Rattle.smap_record.specs.Record.{ReadMap}
 use Rattle.smap_canon.specs.Layout.{layout, layout_text, ReadsBack}
-use Rattle.smap_canon.proofs.TreeLemmas.{layout_plain}
+use Rattle.smap_canon.proofs.PlainLemmas.{layout_plain}
 use Rattle.serde.specs.Event.{Log}
 use Rattle.serde_json.specs.Events.{SendsValue}
 use Rattle.serde_json.specs.Sent.{IsTextOf}

@@ -13,7 +13,7 @@ use Rattle.smap_mappings.specs.declared.token.Bounds.{Bounds}
 use Rattle.smap_mappings.specs.Text.{mappings_text}
 use Rattle.smap_mappings.specs.Decoded.{decoded}
 use Rattle.smap_shape.specs.Reading.{shape_of}
-use Rattle.smap_record.specs.Record.{Parts, Entry, Listing, ReadMap, Allowed}
+use Rattle.smap_record.specs.Record.{Parts, Labels, Entry, Listing, ReadMap, Allowed}
 use Rattle.smap_record.specs.Faults.{◌>>=◌, of_shape, or_fault}
 use Rattle.smap_record.specs.declared.fault.Kind.TheVariants.{Json}
 use Rattle.smap_record.specs.Flat.{listed_flat, start, nothing}
@@ -40,11 +40,11 @@ pub record IsReadable (base : Parts) (limits : Allowed) (spell : List ℕ → Li
   pub urls : AllByRecursion (LeadsBack base spell) l.sources
   pub decodes : decoded (flat_bounds limits l) (mappings_text l.tokens) ≡ Ok l.tokens
 
-pub flat_read : (base : Parts) (limits : Allowed) (spell : List ℕ → List ℕ) (file : Option (List ℕ))
+pub flat_read : (base : Parts) (limits : Allowed) (spell : List ℕ → List ℕ) (labels : Labels)
     (l : Listing) → IsReadable base limits spell l
-    → listed_flat base limits start nothing (flat_of spell (record { file = file; listing = l })) ≡ Ok l
+    → listed_flat base limits start nothing (flat_of spell (record { labels = labels; listing = l })) ≡ Ok l
 unfolding listed_flat
-flat_read base limits spell file l h =
+flat_read base limits spell labels l h =
     let few : nat_lt limits.items (0 + length (map (λ (e : Entry). option_map spell e.url) l.sources))
     ≡ false = le-ltb _ _ (omega (arith, length-map l.sources (λ e. option_map spell e.url), h.few_sources)) in
     let some : nat_lt limits.items (0 + length l.names) ≡ false = le-ltb _ _ (omega (arith, h.few_names)) in
@@ -78,5 +78,5 @@ reading-layout base limits spell m h back =
     ap (λ t. or_fault Json t >>= λ tree. of_shape (shape_of tree) >>= λ members. map_of base limits members)
     (tree_read (layout_text spell m) (layout spell m) (is_utf8-from_IsUtf8 _ back.utf8) back.same)
     ∙ ap (λ s. of_shape s >>= λ members. map_of base limits members) shape
-    ∙ ap (λ l. l >>= λ listing. Ok (record { file = m.file; listing = listing }))
-    (flat_read base limits spell m.file m.listing h)
+    ∙ ap (λ l. l >>= λ listing. Ok (record { labels = m.labels; listing = listing }))
+    (flat_read base limits spell m.labels m.listing h)

@@ -34,7 +34,7 @@ canonical_listing r = record {
 
 -- The one flat map for all maps with this record.
 abbrev pub canonical_map : Record → ReadMap
-canonical_map r = record { file = r.file; listing = canonical_listing r }
+canonical_map r = record { labels = r.labels; listing = canonical_listing r }
 
 -- The canonical bytes of a record. The canonical form is this project's own.
 abbrev pub canonical_text : Record → List ℕ

@@ -1,5 +1,5 @@
 -- The layout that canonical and flat bytes share.
-use Rattle.std.specs.Prelude.{◌≡◌, ℕ, ◌+◌, List, [], ◌∷◌, map, codes, Bool, true, false}
+use Rattle.std.specs.Prelude.{◌≡◌, ℕ, ◌+◌, List, [], ◌∷◌, ◌++◌, map, codes, Bool, true, false}
 use Rattle.std.specs.Prelude.{if◌then◌else◌, IsUtf8}
 use Rattle.std.specs.Prelude.{Option, Some, None, is_some, option_map}
 use Rattle.std.specs.List.{list_any}
@@ -9,7 +9,8 @@ use Rattle.serde_json.specs.Read.{read}
 use Rattle.serde_json.specs.View.{items_of}
 use Rattle.serde_json.specs.Written.{compact_text}
 use Rattle.smap_mappings.specs.Text.{mappings_text}
-use Rattle.smap_record.specs.Record.{Parts, Entry, ReadMap}
+use Rattle.smap_shape.specs.Labels.{named}
+use Rattle.smap_record.specs.Record.{Parts, Labels, Entry, Listing, ReadMap}
 use Rattle.smap_record.specs.Relative.{relatively}
 
 abbrev pub or_null : Option (List ℕ) → Data
@@ -63,18 +64,44 @@ abbrev pub form_asked : Bool → Form
 form_asked true = relative_form
 form_asked false = absolute_form
 
--- The JSON object of a flat map with this file and listing (ECMA-426, "Source map format"). Its members are
--- in byte order of their names. `file`, `ignoreList` and `sourcesContent` are left out if there is none,
--- and there is no `sourceRoot`. Each source's URL is written as the first argument says.
+-- a name, and the value if the member is written
+abbrev pub OptionalMember : Type 0
+OptionalMember = List ℕ × Option Data
+
+-- those that are written
+abbrev pub written : List OptionalMember → Members
+written [] = no_members
+written (m ∷ ms) = optional_member m.0 m.1 (written ms)
+
+-- what a label is written as: its name and its text
+abbrev pub label_member : List ℕ × Option (List ℕ) → OptionalMember
+label_member n = (n.0, option_map string n.1)
+
+abbrev pub label_members : Labels → List OptionalMember
+label_members l = map label_member (named l)
+
+-- what a listing is written as
+abbrev pub listing_members : (List ℕ → List ℕ) → Listing → List OptionalMember
+listing_members spell l =
+    (codes "ignoreList", unless_empty (map whole_number (ignored_from 0 l.sources)))
+    ∷ (codes "mappings", Some (string (mappings_text l.tokens)))
+    ∷ (codes "names", Some (list_of (map string l.names)))
+    ∷ (
+      codes "sources",
+      Some (list_of (map (λ (e : Entry). or_null (option_map spell e.url)) l.sources)),
+    )
+    ∷ (codes "sourcesContent", written_contents l.sources)
+    ∷ (codes "version", Some (whole_number 3)) ∷ []
+
+-- The members of a flat map with these labels and this listing (ECMA-426, "Source map format"), in byte order
+-- of their names: those of the labels come first. A label, `ignoreList` and `sourcesContent` are left out if
+-- there is none, and there is no `sourceRoot`. Each source's URL is written as the first argument says.
+abbrev pub members_of : (List ℕ → List ℕ) → ReadMap → List OptionalMember
+members_of spell m = label_members m.labels ++ listing_members spell m.listing
+
+-- The JSON object of these.
 unfoldable pub layout : (List ℕ → List ℕ) → ReadMap → Data
-layout spell m = object
-    (optional_member (codes "file") (option_map string m.file)
-    (optional_member (codes "ignoreList") (unless_empty (map whole_number (ignored_from 0 m.listing.sources)))
-    (member (codes "mappings") (string (mappings_text m.listing.tokens))
-    (member (codes "names") (list_of (map string m.listing.names))
-    (member (codes "sources") (list_of (map (λ e. or_null (option_map spell e.url)) m.listing.sources))
-    (optional_member (codes "sourcesContent") (written_contents m.listing.sources)
-    (member (codes "version") (whole_number 3) no_members)))))))
+layout spell m = object (written (members_of spell m))
 
 -- Its compact text: JSON (RFC 8259) without any space between tokens.
 abbrev pub layout_text : (List ℕ → List ℕ) → ReadMap → List ℕ

@@ -27,7 +27,7 @@ flattened_text base limits bytes = do
   m ← reading base limits bytes
   Ok (flat_text m)
 
--- Both are accepted as the same map: with the same file and listing, so with the same record.
+-- Both are accepted as the same map: with the same labels and listing, so with the same record.
 pub record IsFlattened (base : Parts) (limits : Allowed) (old new : List ℕ) : Type 0 where
   pub same_map : ReadMap
   pub accepted : reading base limits old ≡ Ok same_map

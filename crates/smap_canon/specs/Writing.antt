@@ -1,11 +1,14 @@
 -- For private contracts: what a layout sends to a serializer, member by member.
-use Rattle.std.specs.Prelude.{◌≡◌, ℕ, List, map, Option, Some, None, is_some, option_map, option_copied}
+use Rattle.std.specs.Prelude.{◌≡◌, ℕ, List, [], ◌++◌, map, Option, Some, None, is_some, option_map, option_copied}
 use Rattle.std.specs.Prelude.{if◌then◌else◌}
 use Rattle.serde.specs.Event.{Log, Logs, field_key}
 use Rattle.serde.specs.declared.name.Case.TheVariants.{AsIs}
 use Rattle.serde_json.specs.Data.{Data, string}
+use Rattle.serde_json.specs.Events.{SendsMembers}
 use Rattle.smap_mappings.specs.declared.token.Token.{Token}
 use Rattle.smap_mappings.specs.Text.{mappings_text}
+use Rattle.smap_record.specs.declared.view.LabelView.{LabelView}
+use Rattle.smap_record.specs.Views.{named_of_view}
 use Rattle.smap_record.specs.Record.{Entry, ReadMap, record_of}
 use Rattle.smap_canon.specs.declared.listing_to_write.ListingToWrite.{ListingToWrite}
 use Rattle.smap_canon.specs.declared.layout.Names.{Names}
@@ -16,6 +19,7 @@ use Rattle.smap_canon.specs.declared.layout.Ignored.{Ignored}
 use Rattle.smap_canon.specs.declared.layout.FlatMap.{FlatMap}
 use Rattle.smap_canon.specs.declared.spelling.SpelledUrl.{SpelledUrl}
 use Rattle.smap_canon.specs.Layout.{list_of, or_null, whole_number, ignored_from, layout}
+use Rattle.smap_canon.specs.Layout.{OptionalMember, written, label_member}
 use Rattle.smap_canon.specs.Canonical.{canonical_listing}
 use Rattle.smap_canon.specs.Spelling.{spelling_of}
 
@@ -34,7 +38,7 @@ tokens_of l = if is_some l.names then (canonical_listing (record_of l.map.now)).
 
 abbrev pub map_of : ListingToWrite → ReadMap
 map_of l = record {
-  file = l.map.now.file;
+  labels = l.map.now.labels;
   listing = record { sources = sources_of l; names = names_of l; tokens = tokens_of l };
 }
 
@@ -71,3 +75,16 @@ SendsMember value name old new = (named : Log) × Logs old named (field_key name
 abbrev pub SendsOptional : {A : Type 0} → (A → Log → Log → Type 0) → Option A → List ℕ → Log → Log → Type 0
 SendsOptional value None name old new = new ≡ old
 SendsOptional value (Some x) name old new = SendsMember (value x) name old new
+
+-- whatever follows these members, and ends them well from here, ends all of them well from the start
+abbrev pub Continues : List OptionalMember → Log → List OptionalMember → Log → Type 0
+Continues left here all start = (rest : List OptionalMember) (end : Log)
+    → SendsMembers (written (left ++ rest)) here end → SendsMembers (written (all ++ rest)) start end
+
+-- these members, before whichever follow
+abbrev pub SendsAll : List OptionalMember → Log → Log → Type 0
+SendsAll ms old new = Continues [] new ms old
+
+-- the member that a label is
+abbrev pub member_of_label : LabelView → OptionalMember
+member_of_label v = label_member (named_of_view v)

@@ -11,6 +11,7 @@ ghost use Rattle.smap_canon.specs.Writing.{SendsMember, SendsOptional, sources_o
 ghost use Rattle.smap_canon.specs.Writing.{mappings_tree, names_tree, urls_tree};
 ghost use Rattle.smap_canon.specs.Writing.{contents_tree, ignored_tree, flat_tree};
 
+use crate::labels::{label_count, send_labels};
 use crate::listing_to_write::ListingToWrite;
 use crate::numbering::{listed_mappings, numbered_mappings};
 use crate::sources_to_write::{source_at, source_count};
@@ -30,7 +31,7 @@ fn member<T: Serialize, S: Serializer>(out: &mut S, name: &str, value: &T) -> Re
 }
 
 /// Sends a member if there is a value.
-fn optional_member<T: Serialize, S: Serializer>(
+pub(crate) fn optional_member<T: Serialize, S: Serializer>(
     out: &mut S,
     name: &str,
     value: &Option<T>,
@@ -252,10 +253,10 @@ impl Serialize for FlatMap<'_> {
             listed,
             spelling,
         } = *self;
-        let file = listed.map.file();
         let ignored = ignored_of(listed);
         let contents = contents_of(listed);
-        let optional = file.is_some() as usize
+        let labels = listed.map.labels();
+        let optional = label_count(&labels)
             + ignored.is_some() as usize
             + contents.is_some() as usize;
         let mappings = Mappings { alloc, listed };
@@ -266,7 +267,7 @@ impl Serialize for FlatMap<'_> {
             spelling,
         };
         out.begin_map(Some(optional + 4))?;
-        optional_member(out, "file", &file)?;
+        send_labels(out, &labels)?;
         optional_member(out, "ignoreList", &ignored)?;
         member(out, "mappings", &mappings)?;
         member(out, "names", &names)?;

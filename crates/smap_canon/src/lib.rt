@@ -12,6 +12,7 @@
 //! sources. The canonical form is this project's own.
 #![tactic(auto)]
 
+mod labels;
 pub mod laws;
 mod layout;
 mod listing_to_write;

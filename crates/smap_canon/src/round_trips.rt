@@ -41,7 +41,7 @@ pub fn tidied(
 }
 
 /// The flat form of the map that these bytes are: [`SourceMap::from_slice`], then [`flatten`]. Under the
-/// same base and limits it is accepted as the same map, with the same file, listing and record.
+/// same base and limits it is accepted as the same map, with the same labels, listing and record.
 ///
 /// # Errors
 ///

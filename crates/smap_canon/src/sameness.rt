@@ -67,7 +67,7 @@ fn same_mappings(a: &SourceMap, b: &SourceMap) -> bool
     true
 }
 
-/// Whether two maps have equal records: the same file, the same distinct sources in the same order, and the
+/// Whether two maps have equal records: the same labels, the same distinct sources in the same order, and the
 /// same mappings. How sources and names are listed makes no difference.
 ///
 /// Each source is compared once, with its content, and each mapping by its numbers and its name. It takes
@@ -75,5 +75,5 @@ fn same_mappings(a: &SourceMap, b: &SourceMap) -> bool
 pub fn same(a: &SourceMap, b: &SourceMap) -> bool
     ensures { IsTrue result ↔ (record_of a.now ≡ record_of b.now) }
 {
-    a.file() == b.file() && same_sources(a, b) && same_mappings(a, b)
+    a.has_labels_of(b) && same_sources(a, b) && same_mappings(a, b)
 }

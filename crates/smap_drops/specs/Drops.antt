@@ -5,6 +5,7 @@ use Rattle.std.specs.List.{filter, flat_map, list_any}
 use Rattle.std.specs.Str.{bytes_eq}
 use Rattle.serde_json.specs.Data.{Data, Items, no_items, item, Members, no_members, member}
 use Rattle.serde_json.specs.Find.{as_array, as_object, get}
+use Rattle.smap_shape.specs.Labels.{is_label}
 use Rattle.smap_shape.specs.Limits.{max_level}
 use Rattle.smap_shape.specs.Reading.{has}
 use Rattle.indexmap.specs.IndexSet.{insert_all}
@@ -21,19 +22,19 @@ is_index tree = has (codes "sections") tree
 abbrev pub is_one_of : List (List ℕ) → List ℕ → Bool
 is_one_of names name = list_any (bytes_eq name) names
 
--- what a flat map has besides `file`
+-- what a flat map has besides labels
 abbrev pub is_flat_name : List ℕ → Bool
 is_flat_name name = is_one_of (codes "version" ∷ codes "sourceRoot" ∷ codes "sources" ∷ codes "sourcesContent"
     ∷ codes "names" ∷ codes "mappings" ∷ codes "ignoreList" ∷ codes "x_google_ignoreList" ∷ []) name
 
--- what a map has, an index map or a flat one, besides `file`
+-- what a map has, an index map or a flat one, besides labels
 abbrev pub is_map_name : Bool → List ℕ → Bool
 is_map_name is_index name =
     if is_index then is_one_of (codes "version" ∷ codes "sections" ∷ []) name else is_flat_name name
 
--- What the member says is kept. The file of a section's map isn't.
+-- What the member says is kept. The labels of a section's map aren't.
 abbrev pub is_kept : Part → Bool → List ℕ → Bool
-is_kept Whole is_index name = bytes_eq name (codes "file") || is_map_name is_index name
+is_kept Whole is_index name = is_label name || is_map_name is_index name
 is_kept Section is_index name = is_one_of (codes "offset" ∷ codes "map" ∷ []) name
 is_kept SectionMap is_index name = is_map_name is_index name
 

@@ -4,6 +4,7 @@ ghost use Rattle.serde_json.specs.View.{view};
 ghost use Rattle.smap_drops.specs.Drops as spec;
 
 use serde_json::Value;
+use smap_shape::is_label;
 use std::alloc::{AllocError, Global};
 
 /// What an object is of a map (ECMA-426, "Source map format" and "Index source map").
@@ -27,7 +28,7 @@ fn is_index(tree: &Value) -> bool
     }
 }
 
-/// Whether a flat map, by itself or in a section, keeps this member besides its file.
+/// Whether a flat map, by itself or in a section, keeps this member besides its labels.
 fn is_flat_name(name: &str) -> bool
     ensures { result ≡ spec.is_flat_name name.now }
 {
@@ -50,7 +51,7 @@ fn is_kept(part: Part, is_index: bool, name: &str) -> bool
 {
     match part {
         Part::Section => matches!(name, "offset" | "map"),
-        Part::Whole if name == "file" => true,
+        Part::Whole if is_label(name) => true,
         Part::Whole | Part::SectionMap => {
             if is_index {
                 matches!(name, "version" | "sections")

@@ -12,7 +12,7 @@ use Rattle.smap_shape.specs.Beside.{with_sections}
 use Rattle.smap_shape.specs.Members.{index}
 use Rattle.smap_shape.specs.Reading.{shape_of}
 use Rattle.smap_sections.specs.Sections.{AreSections}
-use Rattle.smap_record.specs.Record.{Listing, ReadMap, Allowed}
+use Rattle.smap_record.specs.Record.{Labels, Listing, ReadMap, Allowed}
 use Rattle.smap_record.specs.Faults.{Checked, ◌>>=◌, in_section, or_fault, of_shape}
 use Rattle.smap_record.specs.declared.fault.Kind.TheVariants.{Prefix, Json}
 use Rattle.smap_record.specs.Flat.{start, nothing}
@@ -83,18 +83,18 @@ all_lists base limits all left rest last listing so_far closes ends = (
 
 -- a text whose members besides the sections are those of an index map
 pub reads_as : (base : Parts) (limits : Allowed) (text : List ℕ) (sections : List Token) (tree : Data)
-    (file : Option (List ℕ)) (listing : Listing) (m : ReadMap)
+    (labels : Labels) (listing : Listing) (m : ReadMap)
     → ((ds : List Data) → AreSections sections ds → read text ≡ Some (with_sections ds tree))
     → ((ds : List Data) → shape_of (with_sections ds tree)
-    ≡ Ok (index (record { file = file; sections = ds })))
+    ≡ Ok (index (record { labels = labels; sections = ds })))
     → IsUtf8 text → Lists base limits sections listing
-    → m ≡ record { file = file; listing = listing } → ReadsAs base limits text m
-reads_as base limits text sections tree file listing m reads shape utf8 lists is =
+    → m ≡ record { labels = labels; listing = listing } → ReadsAs base limits text m
+reads_as base limits text sections tree labels listing m reads shape utf8 lists is =
     let ds = lists.0 in
-    let made : Listing → Checked ReadMap = λ l. Ok (record { file = file; listing = l }) in (
+    let made : Listing → Checked ReadMap = λ l. Ok (record { labels = labels; listing = l }) in (
       with_sections ds tree,
       tree_read text (with_sections ds tree) utf8 (reads ds lists.1),
-      then_ok _ (index (record { file = file; sections = ds })) (map_of base limits) _
+      then_ok _ (index (record { labels = labels; sections = ds })) (map_of base limits) _
           (ap of_shape (shape ds))
           (then_ok _ listing made _ lists.2 (ap read_map (sym is))),
     )

@@ -17,6 +17,7 @@ use Rattle.smap_shape.specs.Reading.{shape_of, section_of, number_below}
 use Rattle.smap_record.specs.declared.fault.Kind.{Kind}
 use Rattle.smap_record.specs.declared.fault.Kind.TheVariants as kinds
 use Rattle.smap_record.specs.Record.{Entry, Mapping, Record, Allowed, usual, record_of, distinct}
+use Rattle.smap_record.specs.Record.{no_labels}
 use Rattle.smap_record.specs.SourceUrls.{Resolved, no_url, resolved, resolve}
 use Rattle.smap_record.specs.Relative.{relative, relatively}
 use Rattle.smap_record.specs.Faults.{Checked, ◌>>=◌, refuse, in_section}
@@ -129,14 +130,14 @@ abbrev few : Allowed
 few = record { items = 2; lines = 4 }
 
 empty : recorded usual (codes "{\"version\":3,\"mappings\":\"\"}")
-    ≡ Ok (Ok (record { file = None; sources = []; mappings = [] }))
+    ≡ Ok (Ok (record { labels = no_labels; sources = []; mappings = [] }))
 unfolding on_flat_maps
 empty = refl
 
 two_names : recorded usual
     (codes "{\"version\":3,\"sources\":[\"a.js\"],\"names\":[\"x\",\"y\"],\"mappings\":\"AAAAC,CAACD\"}")
     ≡ Ok (Ok (record {
-      file = None;
+      labels = no_labels;
       sources = first ∷ [];
       mappings = mapping 0 0 first 0 0 (Some (codes "y")) ∷ mapping 0 1 first 0 1 (Some (codes "x")) ∷ [];
     }))
@@ -145,14 +146,14 @@ two_names = refl
 
 members_null : recorded usual (codes "{\"version\":3,\"file\":null,\"sections\":null,\"sources\":[null],"
     ++ codes "\"sourcesContent\":[\"t\"],\"mappings\":\"AAAA\"}")
-    ≡ Ok (Ok (record { file = None; sources = unnamed ∷ []; mappings = mapping 0 0 unnamed 0 0 None ∷ [] }))
+    ≡ Ok (Ok (record { labels = no_labels; sources = unnamed ∷ []; mappings = mapping 0 0 unnamed 0 0 None ∷ [] }))
 unfolding on_flat_maps
 members_null = refl
 
 ignored_twice : recorded usual
     (codes "{\"version\":3,\"sources\":[\"a.js\",\"b.js\"],\"x_google_ignoreList\":[1,1],\"mappings\":\"\"}")
     ≡ Ok (Ok (record {
-      file = None;
+      labels = no_labels;
       sources = first ∷ source (codes "http://h/m/b.js") None true ∷ [];
       mappings = [];
     }))
@@ -162,7 +163,7 @@ ignored_twice = refl
 equal_urls : recorded usual
     (codes "{\"version\":3,\"sources\":[\"a.js\",\"./a.js\",\"b.js\"],\"mappings\":\"AAAA,CCAA,CCAA\"}")
     ≡ Ok (Ok (record {
-      file = None;
+      labels = no_labels;
       sources = first ∷ second ∷ [];
       mappings = mapping 0 0 first 0 0 None ∷ mapping 0 1 first 0 0 None ∷ mapping 0 2 second 0 0 None ∷ [];
     }))
@@ -172,7 +173,7 @@ equal_urls = refl
 other_content : recorded usual
     (codes "{\"version\":3,\"sources\":[\"a.js\",\"a.js\"],\"sourcesContent\":[\"t\"],\"mappings\":\"\"}")
     ≡ Ok (Ok (record {
-      file = None;
+      labels = no_labels;
       sources = source (codes "http://h/m/a.js") (Some (codes "t")) false ∷ first ∷ [];
       mappings = [];
     }))
@@ -182,7 +183,7 @@ other_content = refl
 columns_fall : recorded usual
     (codes "{\"version\":3,\"sources\":[\"a.js\"],\"names\":[\"p\",\"q\"],\"mappings\":\"EAAAA,DAACC\"}")
     ≡ Ok (Ok (record {
-      file = None;
+      labels = no_labels;
       sources = first ∷ [];
       mappings = mapping 0 1 first 0 1 (Some (codes "q")) ∷ mapping 0 2 first 0 0 (Some (codes "p")) ∷ [];
     }))
@@ -190,7 +191,7 @@ unfolding on_flat_maps
 columns_fall = refl
 
 prefix_line : recorded usual (codes ")]}'\n{\"version\":3,\"mappings\":\"\"}")
-    ≡ Ok (Ok (record { file = None; sources = []; mappings = [] }))
+    ≡ Ok (Ok (record { labels = no_labels; sources = []; mappings = [] }))
 unfolding on_flat_maps
 prefix_line = refl
 
@@ -253,7 +254,7 @@ unfolding on_flat_maps
 three_names = refl
 
 fourth_line : recorded few (codes "{\"version\":3,\"mappings\":\";;;A\"}") ≡ Ok (Ok (record {
-  file = None;
+  labels = no_labels;
   sources = [];
   mappings = record { line = 3; column = 0; origin = None } ∷ [];
 }))
@@ -270,7 +271,7 @@ abbrev bare : ℕ → ℕ → Mapping
 bare line column = record { line = line; column = column; origin = None }
 
 abbrev empty_record : Record
-empty_record = record { file = None; sources = []; mappings = [] }
+empty_record = record { labels = no_labels; sources = []; mappings = [] }
 
 abbrev at_section : ℕ → ℕ → ℕ → Kind → Checked Record
 at_section section line segment kind = in_section section (at line segment kind)
@@ -303,7 +304,7 @@ merged_sources : recorded usual
     ∷ placed "0" "10" (codes "{\"version\":3,\"sources\":[\"a.js\",\"b.js\"],\"names\":[\"n\"],"
     ++ codes "\"mappings\":\"AAAAA;CCCC\"}") ∷ []))
     ≡ Ok (Ok (record {
-      file = None;
+      labels = no_labels;
       sources = first ∷ second ∷ [];
       mappings = mapping 0 0 first 0 0 None ∷ mapping 0 10 first 0 0 (Some (codes "n"))
           ∷ mapping 1 1 second 1 1 None ∷ [];
@@ -313,7 +314,7 @@ merged_sources = refl
 
 offset_at_mapping : recorded usual
     (of_sections (placed "0" "0" (bare_map "K") ∷ placed "0" "5" (bare_map "A") ∷ []))
-    ≡ Ok (Ok (record { file = None; sources = []; mappings = bare 0 5 ∷ bare 0 5 ∷ [] }))
+    ≡ Ok (Ok (record { labels = no_labels; sources = []; mappings = bare 0 5 ∷ bare 0 5 ∷ [] }))
 unfolding on_index_maps
 offset_at_mapping = refl
 
@@ -338,7 +339,7 @@ offset_falls = refl
 
 equal_offsets : recorded usual
     (of_sections (placed "0" "0" (bare_map "A") ∷ placed "0" "0" (bare_map "A") ∷ []))
-    ≡ Ok (Ok (record { file = None; sources = []; mappings = bare 0 0 ∷ bare 0 0 ∷ [] }))
+    ≡ Ok (Ok (record { labels = no_labels; sources = []; mappings = bare 0 0 ∷ bare 0 0 ∷ [] }))
 unfolding on_index_maps
 equal_offsets = refl
 
@@ -388,7 +389,7 @@ file_of_section = refl
 
 file_beside_sections : recorded usual (codes "{\"version\":3,\"file\":\"o\",\"sections\":["
     ++ placed "0" "0" (codes "{\"version\":3,\"file\":\"p\",\"mappings\":\"\"}") ++ codes "]}")
-    ≡ Ok (Ok (record { file = Some (codes "o"); sources = []; mappings = [] }))
+    ≡ Ok (Ok (record { labels = record no_labels { file = Some (codes "o") }; sources = []; mappings = [] }))
 unfolding on_index_maps
 file_beside_sections = refl
 
@@ -397,7 +398,7 @@ file_beside_sections = refl
 -- an inner offset is placed by the outer one, and then the mappings by both
 nested_places : recorded usual
     (of_sections (placed "1" "4" (of_sections (placed "0" "3" (bare_map "C;C") ∷ [])) ∷ []))
-    ≡ Ok (Ok (record { file = None; sources = []; mappings = bare 1 8 ∷ bare 2 1 ∷ [] }))
+    ≡ Ok (Ok (record { labels = no_labels; sources = []; mappings = bare 1 8 ∷ bare 2 1 ∷ [] }))
 unfolding on_index_maps
 nested_places = refl
 
@@ -461,7 +462,7 @@ overlap_with_inner = refl
 
 after_empty_inner : recorded usual (of_sections
     (placed "0" "0" (of_sections (placed "0" "6" (bare_map "") ∷ [])) ∷ placed "0" "5" (bare_map "A") ∷ []))
-    ≡ Ok (Ok (record { file = None; sources = []; mappings = bare 0 5 ∷ [] }))
+    ≡ Ok (Ok (record { labels = no_labels; sources = []; mappings = bare 0 5 ∷ [] }))
 unfolding on_index_maps
 after_empty_inner = refl
 

@@ -13,11 +13,11 @@ use Rattle.smap_shape.specs.declared.fault.ShapeFault.{ShapeFault}
 use Rattle.smap_shape.specs.declared.fault.ShapeFault.TheVariants.{NotObject, Both, Names, SourcesContent}
 use Rattle.smap_shape.specs.declared.fault.ShapeFault.TheVariants.{SourceRoot, Sources, Mappings, IgnoreList}
 use Rattle.smap_shape.specs.Members.{Flat, MapMembers, flat, index, fitted, is_listed}
-use Rattle.smap_shape.specs.Reading.{shape_of, section_of, file_of, flat_of, index_of, flat_or_index}
+use Rattle.smap_shape.specs.Reading.{shape_of, section_of, labels_of, flat_of, index_of, flat_or_index}
 use Rattle.smap_shape.specs.Reading.{list_member, text_or_null, optional, number_below, ignored_member}
 use Rattle.smap_shape.specs.Reading.{or_fault as or_shape_fault, refuse_if as refuse_shape_if, member_of, has}
 use Rattle.smap_record.specs.declared.fault.Kind.TheVariants.{TooMany, Offset, Order, Overlap}
-use Rattle.smap_record.specs.Record.{Entry, Listing, ReadMap, Allowed}
+use Rattle.smap_record.specs.Record.{Labels, Entry, Listing, ReadMap, Allowed}
 use Rattle.smap_record.specs.SourceUrls.{Resolved, no_url, unstable, resolved, resolve}
 use Rattle.smap_record.specs.Faults.{Checked, ◌>>=◌, refuse_if, or_fault, of_shape, of_segments, in_section}
 use Rattle.smap_record.specs.Flat.{start, nothing, source_entry, entries_from, listed_flat, bounds_of}
@@ -69,8 +69,8 @@ length-fitted {A} n xs =
     let more = length-replicate (n - length xs) none in
     length-take-le n (xs ++ replicate (n - length xs) none) (omega (arith, all, more))
 
-flat_fits : (file : Option (List ℕ)) (tree : Data) → Gives (flat_of file tree) HasContents
-flat_fits file tree =
+flat_fits : (labels : Labels) (tree : Data) → Gives (flat_of labels tree) HasContents
+flat_fits labels tree =
     then _ (or_shape_fault SourceRoot (optional as_str (member_of (codes "sourceRoot") tree))) _ (λ root _.
     then _ (or_shape_fault Sources (list_member text_or_null (member_of (codes "sources") tree))) _
     (λ sources _.
@@ -88,14 +88,14 @@ shape_fits : (tree : Data) → Gives (shape_of tree) FlatHasContents
 unfolding shape_of
 shape_fits tree =
     then _ (refuse_shape_if NotObject (is_none (as_object tree))) _ (λ _ _.
-    then _ (file_of tree) _ (λ file _.
+    then _ (labels_of tree) _ (λ labels _.
     then _ (refuse_shape_if Both (has (codes "sections") tree && has (codes "mappings") tree)) _ (λ _ _.
-    by file (member_of (codes "sections") tree))))
+    by labels (member_of (codes "sections") tree))))
   where
-    by : (file : Option (List ℕ)) (o : Option Data) → Gives (flat_or_index file o tree) FlatHasContents
-    by file None = then _ (flat_of file tree) _
-        (λ m ok. gives FlatHasContents (flat m) (flat_fits file tree m ok))
-    by file (Some sections) = then _ (index_of file sections) _ (λ i _. gives FlatHasContents (index i) tt)
+    by : (labels : Labels) (o : Option Data) → Gives (flat_or_index labels o tree) FlatHasContents
+    by labels None = then _ (flat_of labels tree) _
+        (λ m ok. gives FlatHasContents (flat m) (flat_fits labels tree m ok))
+    by labels (Some sections) = then _ (index_of labels sections) _ (λ i _. gives FlatHasContents (index i) tt)
 
 -- ---- a flat map
 

@@ -99,4 +99,4 @@ listed_flat base limits offset before m = do
 abbrev pub flat_map : Parts → Allowed → Flat → Checked ReadMap
 flat_map base limits m = do
   listing ← listed_flat base limits start nothing m
-  Ok (record { file = m.file; listing = listing })
+  Ok (record { labels = m.labels; listing = listing })

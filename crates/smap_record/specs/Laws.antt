@@ -31,7 +31,7 @@ abbrev pub NoneBelowLastLevel : Type 0
 NoneBelowLastLevel = (tree : Data) (s : Section Data) (i : Index Data) → section_of max_level tree ≡ Ok s
     → shape_of s.map ≢ Ok (index i)
 
--- Against reading without nested index maps: an input that is accepted there has the same file and listing,
+-- Against reading without nested index maps: an input that is accepted there has the same labels and listing,
 -- and so the same record; one that is refused there has the same fault, unless that is nested sections.
 abbrev pub OldTexts : Type 0
 OldTexts = (base : Parts) (limits : Allowed) (text : List ℕ)

@@ -1,5 +1,5 @@
 -- What the fields of a listing and of a source map stand for.
-use Rattle.std.specs.Prelude.{map, option_map, string_bytes}
+use Rattle.std.specs.Prelude.{map, string_bytes}
 use Rattle.smap_record.specs.declared.listing.Listing.{Listing as Fields}
 use Rattle.smap_record.specs.declared.map.SourceMap.TheInside.{Inside}
 use Rattle.smap_record.specs.Record.{Listing, ReadMap}
@@ -13,9 +13,9 @@ listing_of s = record {
   tokens = s.tokens.items;
 }
 
--- the file and what the fields list
+-- the labels and what the fields list
 abbrev pub map_view : Inside → ReadMap
-map_view s = record { file = option_map string_bytes s.file; listing = listing_of s.listing }
+map_view s = record { labels = s.labels; listing = listing_of s.listing }
 
 -- What the fields list is a listing.
 abbrev pub IsSourceMap : Inside → Type 0

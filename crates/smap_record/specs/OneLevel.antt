@@ -41,18 +41,18 @@ old_sections base limits k last before (section ∷ sections) = do
   now ← of_section k (old_section base limits last before section)
   old_sections base limits (k + 1) (Some now.0) now.1 sections
 
--- The file next to the sections, and what they list.
+-- The labels next to the sections, and what they list.
 abbrev pub old_index_map : Parts → Allowed → Index Data → Checked ReadMap
 old_index_map base limits i = do
   listing ← old_sections base limits 0 None nothing i.sections
-  Ok (record { file = i.file; listing = listing })
+  Ok (record { labels = i.labels; listing = listing })
 
--- The file and the listing of a flat map, or of an index map.
+-- The labels and the listing of a flat map, or of an index map.
 abbrev pub old_map_of : Parts → Allowed → MapMembers Data → Checked ReadMap
 old_map_of base limits (flat m) = flat_map base limits m
 old_map_of base limits (index i) = old_index_map base limits i
 
--- The file and the listing of a map against a base URL under limits, or its first fault.
+-- The labels and the listing of a map against a base URL under limits, or its first fault.
 unfoldable pub one_level_reading : Parts → Allowed → List ℕ → Checked ReadMap
 one_level_reading base limits bytes = do
   tree ← map_tree bytes

@@ -18,7 +18,7 @@ abbrev pub first_of : {A : Type 0} → List (Option A) → Option A
 first_of [] = None
 first_of (x ∷ xs) = x
 
--- The file and the listing of these members, or the first fault.
+-- The labels and the listing of these members, or the first fault.
 abbrev pub members_map : Parts → Allowed → Result (MapMembers Data) ShapeFault → Checked ReadMap
 members_map base limits members = do
   members ← of_shape members

@@ -15,7 +15,7 @@ use Rattle.smap_record.specs.Faults.{Checked, ◌>>=◌, or_fault, of_shape}
 use Rattle.smap_record.specs.Flat.{flat_map}
 use Rattle.smap_record.specs.Sections.{index_map}
 
--- The file and the listing of a flat map, or of an index map.
+-- The labels and the listing of a flat map, or of an index map.
 abbrev pub map_of : Parts → Allowed → MapMembers Data → Checked ReadMap
 map_of base limits (flat m) = flat_map base limits m
 map_of base limits (index i) = index_map base limits i
@@ -40,13 +40,13 @@ map_tree bytes = do
   text ← or_fault Prefix (json_text bytes)
   or_fault Json (tree_of text)
 
--- The file and the listing of a tree, or its first fault.
+-- The labels and the listing of a tree, or its first fault.
 abbrev pub tree_map : Parts → Allowed → Data → Checked ReadMap
 tree_map base limits tree = do
   members ← of_shape (shape_of tree)
   map_of base limits members
 
--- The file and the listing of a map against a base URL under limits, or its first fault.
+-- The labels and the listing of a map against a base URL under limits, or its first fault.
 unfoldable pub reading : Parts → Allowed → List ℕ → Checked ReadMap
 reading base limits bytes = do
   tree ← map_tree bytes

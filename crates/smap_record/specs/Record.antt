@@ -2,6 +2,7 @@
 -- rules of this project's own: sources that are equal in URL, content and ignored flag are one, and
 -- mappings at one position keep their order.
 pub use Rattle.url.specs.Parts.{Parts}
+pub use Rattle.smap_shape.specs.Labels.{Labels, no_labels}
 use Rattle.std.specs.Prelude.{ℕ, Bool, false, not, ◌&&◌, List, [], ◌∷◌, map, filter, bytes_eq, slice_get}
 use Rattle.std.specs.Prelude.{Option, None, unwrap_or, option_map, option_and_then}
 use Rattle.std.specs.Option.{option_eq}
@@ -29,10 +30,10 @@ pub record Mapping : Type 0 where
   pub column : ℕ
   pub origin : Option Origin
 
--- The file, the distinct sources in order of first listing, and the mappings sorted by position (ECMA-426,
+-- The labels, the distinct sources in order of first listing, and the mappings sorted by position (ECMA-426,
 -- decoded source map record).
 pub record Record : Type 0 where
-  pub file : Option (List ℕ)
+  pub labels : Labels
   pub sources : List Entry
   pub mappings : List Mapping
 
@@ -42,9 +43,9 @@ pub record Listing : Type 0 where
   pub names : List (List ℕ)
   pub tokens : List Token
 
--- A map as it was read: its file and its listing.
+-- A map as it was read: its labels and its listing.
 pub record ReadMap : Type 0 where
-  pub file : Option (List ℕ)
+  pub labels : Labels
   pub listing : Listing
 
 -- Limits: how many sources, and how many names, may be listed (`items`), and how many generated lines there
@@ -92,7 +93,7 @@ mapping_of l t = record { line = t.line; column = t.column; origin = option_map 
 -- The record of a map.
 abbrev pub record_of : ReadMap → Record
 record_of m = record {
-  file = m.file;
+  labels = m.labels;
   sources = distinct same_entry m.listing.sources;
   mappings = map (mapping_of m.listing) m.listing.tokens;
 }

@@ -80,8 +80,8 @@ map_at_level base limits level = section_map base limits (max_level - level)
 
 -- ---- the whole
 
--- The file next to the sections, and what they list.
+-- The labels next to the sections, and what they list.
 abbrev pub index_map : Parts → Allowed → Index Data → Checked ReadMap
 index_map base limits i = do
   listing ← listed_sections 1 (map_at_level base limits 1) start 0 None nothing i.sections
-  Ok (record { file = i.file; listing = listing })
+  Ok (record { labels = i.labels; listing = listing })

@@ -1,9 +1,14 @@
 -- What the views that the getters return stand for in the record.
-use Rattle.std.specs.Prelude.{option_map, option_copied}
+use Rattle.std.specs.Prelude.{ℕ, List, Option, option_map, option_copied}
+use Rattle.smap_record.specs.declared.view.LabelView.{LabelView}
 use Rattle.smap_record.specs.declared.view.SourceView.{SourceView}
 use Rattle.smap_record.specs.declared.view.TokenView.{TokenView}
 use Rattle.smap_record.specs.declared.view.OriginalView.{OriginalView}
 use Rattle.smap_record.specs.Record.{Entry, Origin, Mapping}
+
+-- a label: its name and its text
+abbrev pub named_of_view : LabelView → List ℕ × Option (List ℕ)
+named_of_view v = (v.name.now, option_copied v.text)
 
 -- a source
 abbrev pub entry_of_view : SourceView → Entry

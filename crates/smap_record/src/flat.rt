@@ -17,6 +17,7 @@ mod sources;
 mod tokens;
 
 use crate::fault::{Kind, ReadError, refused};
+use crate::labels::own_labels;
 use crate::limits::Limits;
 use crate::listing::Listing;
 use crate::map::SourceMap;
@@ -129,6 +130,6 @@ pub(crate) fn flat_map(
     let start = Position { line: 0, column: 0 };
     let before = Listing::new(alloc);
     let listed = with_contents(alloc, before, shape, contents, base, limits, start)?;
-    let file = copied(alloc, shape.file())?;
-    Ok(SourceMap::new(file, listed))
+    let labels = own_labels(alloc, shape.labels())?;
+    Ok(SourceMap::new(labels, listed))
 }

@@ -13,6 +13,7 @@
 mod entry;
 mod fault;
 mod flat;
+mod labels;
 pub mod laws;
 mod limits;
 mod listing;
@@ -35,5 +36,5 @@ pub use limits::Limits;
 pub use map::SourceMap;
 pub use path::Path;
 pub use source_urls::Base;
-pub use view::{OriginalView, SourceView, TokenView};
+pub use view::{LabelView, OriginalView, SourceView, TokenView};
 pub use written::WrittenSources;

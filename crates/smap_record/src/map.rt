@@ -1,18 +1,18 @@
 //! A source map that was read. Every getter takes constant time and no memory.
 ghost use Rattle.std.specs.Prelude.{◌≡◌, ◌<◌, length, slice_get, Some, IfSome, option_map};
-ghost use Rattle.std.specs.Prelude.{option_copied, string_bytes};
 ghost use Rattle.smap_mappings.specs.Text.{line_count};
 ghost use Rattle.smap_record.specs.Record.{record_of, origin_of};
 ghost use Rattle.smap_record.specs.Listings.{IsListing, IsListedOriginal};
 ghost use Rattle.smap_record.specs.MapView.{listing_of};
 ghost use Rattle.smap_record.specs.Views.{entry_of_view, origin_of_view, mapping_of_view};
 
+use crate::labels::OwnLabels;
 use crate::listing::Listing;
 use crate::view::{OriginalView, SourceView, TokenView};
 use smap_mappings::{Original, Token};
 use std::marker::Model;
 
-/// A source map that was read: its file, its sources and names as listed, and its mappings, sorted by
+/// A source map that was read: its labels, as [`file`], its sources and names as listed, and its mappings, sorted by
 /// generated line and column.
 ///
 /// Two views of it have getters of their own. The *record* is what the map means, however it is written:
@@ -21,6 +21,7 @@ use std::marker::Model;
 /// included ([`listed_count`], [`listed`], [`name_count`], [`name`]), and the mappings by indices into
 /// these ([`listed_token`]).
 ///
+/// [`file`]: SourceMap::file
 /// [`source_count`]: SourceMap::source_count
 /// [`source`]: SourceMap::source
 /// [`token_count`]: SourceMap::token_count
@@ -32,7 +33,7 @@ use std::marker::Model;
 /// [`listed_token`]: SourceMap::listed_token
 #[derive(Drop)]
 pub struct SourceMap {
-    file: Option<String>,
+    pub(crate) labels: OwnLabels,
     listing: Listing,
 }
 
@@ -49,21 +50,11 @@ impl Model for SourceMap {
 }
 
 impl SourceMap {
-    pub(crate) fn new(file: Option<String>, listing: Listing) -> SourceMap
+    pub(crate) fn new(labels: OwnLabels, listing: Listing) -> SourceMap
         requires { IsListing (listing_of listing) }
-        ensures { result ≡ record { file = option_map string_bytes file; listing = listing_of listing } }
+        ensures { result ≡ record { labels = labels; listing = listing_of listing } }
     {
-        SourceMap { file, listing }
-    }
-
-    /// The member `file`: the name of the generated file, if the map has one.
-    pub fn file(&self) -> Option<&str>
-        ensures { option_copied result ≡ self.now.file }
-    {
-        match &self.file {
-            Some(text) => Some(text.as_str()),
-            None => None,
-        }
+        SourceMap { labels, listing }
     }
 
     /// The number of distinct sources: listed sources are one source if URL, content and ignored flag are
@@ -157,7 +148,7 @@ impl SourceMap {
         ensures number { IfSome result.original (λ o.
             slice_get (record_of self.now).sources o.source_number ≡ Some (entry_of_view o.source)) }
     {
-        let _ = &self.file;
+        let _ = &self.labels;
         let token = self.listed_token(i);
         TokenView {
             line: token.line,

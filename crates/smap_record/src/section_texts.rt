@@ -9,7 +9,7 @@ ghost use Rattle.smap_record.specs.Fitting.{Fits, ListingFits};
 ghost use Rattle.smap_record.specs.MapView.{listing_of};
 
 use crate::fault::ReadError;
-use crate::flat::copied;
+use crate::labels::own_labels;
 use crate::limits::Limits;
 use crate::listing::Listing;
 use crate::map::SourceMap;
@@ -19,7 +19,7 @@ use crate::text::after_prefix;
 use json::{Reader, Scratch};
 use smap_mappings::Position;
 use smap_sections::{cut_sections, ends_map, next_section};
-use smap_shape::file_beside_sections;
+use smap_shape::labels_beside_sections;
 use std::alloc::{AllocError, Global};
 
 /// What a section of an index map is read to: its own offset, and what is listed once it is added.
@@ -98,15 +98,15 @@ fn text_map(
     let Some((tree, sections)) = cut_sections(alloc, text, &mut scratch)? else {
         return Ok(None);
     };
-    let Some(file) = file_beside_sections(&tree) else {
+    let Some(labels) = labels_beside_sections(&tree) else {
         return Ok(None);
     };
     let mut sections = sections;
     let Some(listed) = sections_listed(alloc, &mut sections, base, limits)? else {
         return Ok(None);
     };
-    let file = copied(alloc, file)?;
-    Ok(Some(SourceMap::new(file, listed)))
+    let labels = own_labels(alloc, &labels)?;
+    Ok(Some(SourceMap::new(labels, listed)))
 }
 
 /// The map that the bytes are, if it is an index map that can be read section by section, and has no fault.

@@ -19,7 +19,8 @@ ghost use Rattle.smap_record.specs.Building.{any_after, error_in, both, HasRoom}
 ghost use Rattle.smap_record.specs.Building.{section_start, listed_map};
 
 use crate::fault::{Fault, Kind, ReadError, refused};
-use crate::flat::{copied, with_flat};
+use crate::flat::with_flat;
+use crate::labels::own_labels;
 use crate::limits::Limits;
 use crate::listing::{Listing, falls, overlaps};
 use crate::map::SourceMap;
@@ -213,6 +214,6 @@ pub(crate) fn index_map(
     let start = Position { line: 0, column: 0 };
     let before = Listing::new(alloc);
     let listed = with_sections(alloc, before, shape, base, limits, start, 1)?;
-    let file = copied(alloc, shape.file())?;
-    Ok(SourceMap::new(file, listed))
+    let labels = own_labels(alloc, shape.labels())?;
+    Ok(SourceMap::new(labels, listed))
 }

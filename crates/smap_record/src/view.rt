@@ -1,4 +1,13 @@
 //! What the getters of a source map return: views that borrow its strings.
+/// A label of a map: a member by which it says something of itself as a whole.
+#[derive(Clone, Copy)]
+pub struct LabelView<'a> {
+    /// The name of the member.
+    pub name: &'static str,
+    /// Its text, if the map has it.
+    pub text: Option<&'a str>,
+}
+
 /// A source of a map.
 #[derive(Clone, Copy)]
 pub struct SourceView<'a> {

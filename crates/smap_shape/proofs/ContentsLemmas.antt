@@ -28,7 +28,9 @@ use Rattle.smap_shape.specs.Inside.{texts}
 use Rattle.smap_shape.specs.Views.{map_value}
 use Rattle.smap_shape.proofs.ListLemmas.{texts_read}
 use Rattle.std.proofs.lemmas.Bool.{cond_both}
-use Rattle.smap_shape.specs.Reading.{file_of, flat_of, ignored_member, has}
+use Rattle.smap_shape.specs.Labels.{Labels}
+use Rattle.smap_shape.proofs.LabelLemmas.{labels_alike}
+use Rattle.smap_shape.specs.Reading.{labels_of, flat_of, ignored_member, has}
 use Rattle.smap_shape.specs.declared.fault.ShapeFault.TheVariants.{NotObject}
 use Rattle.std.specs.Prelude.{is_none}
 
@@ -67,10 +69,6 @@ then_map_value : {A B C : Type 0} (f : C → B) (r : Result A ShapeFault) (k : A
 then_map_value f (Ok x) k h same = same x
 then_map_value f (Err e) k h same = refl
 
-pub file_alike : (x y : Data) → member_of (codes "version") x ≡ member_of (codes "version") y
-    → member_of (codes "file") x ≡ member_of (codes "file") y → file_of x ≡ file_of y
-file_alike x y version file = rw (version, file) refl
-
 abbrev as_flat : Result Flat ShapeFault → Result (MapMembers Data) ShapeFault
 as_flat r = r >>= λ m. Ok (flat m)
 
@@ -84,11 +82,11 @@ module _ (own : List (Option (List ℕ))) (x y : Data)
     → member_of key x ≡ member_of key y)
   where
     abbrev FlatsAre : Type 0
-    FlatsAre = (file : Option (List ℕ)) → flat_of file x ≡ map_value (with_contents own) (flat_of file y)
+    FlatsAre = (labels : Labels) → flat_of labels x ≡ map_value (with_contents own) (flat_of labels y)
 
     flats_read : (left : List (Option (List ℕ))) → contents_member x ≡ Some own
         → contents_member y ≡ Some left → FlatsAre
-    flats_read left is_own is_left file =
+    flats_read left is_own is_left labels =
         rw (
           same (codes "sourceRoot") refl,
           same (codes "sources") refl,
@@ -109,13 +107,13 @@ module _ (own : List (Option (List ℕ))) (x y : Data)
         (λ _. refl))))))
 
     flats_unread : contents_member x ≡ None → contents_member y ≡ None → FlatsAre
-    flats_unread no_own no_left file =
+    flats_unread no_own no_left labels =
         rw (same (codes "sourceRoot") refl, same (codes "sources") refl, no_own, no_left) (grind arith)
 
-    maps_alike : FlatsAre → (file : Option (List ℕ)) (sections : Option Data)
-        → flat_or_index file sections x ≡ map_value (map_with_contents own) (flat_or_index file sections y)
-    maps_alike flats file None = as_map own (flat_of file x) (flat_of file y) (flats file)
-    maps_alike flats file (Some sections) = then_map_value _ (index_of file sections) _ _ (λ _. refl)
+    maps_alike : FlatsAre → (labels : Labels) (sections : Option Data)
+        → flat_or_index labels sections x ≡ map_value (map_with_contents own) (flat_or_index labels sections y)
+    maps_alike flats labels None = as_map own (flat_of labels x) (flat_of labels y) (flats labels)
+    maps_alike flats labels (Some sections) = then_map_value _ (index_of labels sections) _ _ (λ _. refl)
 
     shapes_alike : FlatsAre → is_none (as_object x) ≡ is_none (as_object y)
         → shape_of x ≡ map_value (map_with_contents own) (shape_of y)
@@ -123,14 +121,14 @@ module _ (own : List (Option (List ℕ))) (x y : Data)
     shapes_alike flats objects =
         rw (
           objects,
-          file_alike x y (same (codes "version") refl) (same (codes "file") refl),
+          labels_alike (codes "sourcesContent") x y refl refl same,
           same (codes "sections") refl,
           same (codes "mappings") refl,
         )
         (then_map_value _ (refuse_if NotObject (is_none (as_object y))) _ _ (λ _.
-        then_map_value _ (file_of y) _ _ (λ file.
+        then_map_value _ (labels_of y) _ _ (λ labels.
         then_map_value _ (refuse_if Both (has (codes "sections") y && has (codes "mappings") y)) _ _ (λ _.
-        maps_alike flats file (member_of (codes "sections") y)))))
+        maps_alike flats labels (member_of (codes "sections") y)))))
 
 -- A map without a list of contents is no flat map.
 pub shape_unread : (own : List (Option (List ℕ))) (d : Data) → contents_member d ≡ None

@@ -8,6 +8,7 @@ use Rattle.smap_shape.specs.declared.fault.ShapeFault.{ShapeFault}
 use Rattle.smap_shape.specs.declared.fault.ShapeFault.TheVariants.{NotObject, Version, File, Both, SourceRoot}
 use Rattle.smap_shape.specs.declared.fault.ShapeFault.TheVariants.{SourcesContent, IgnoreList, Mappings}
 use Rattle.smap_shape.specs.declared.fault.ShapeFault.TheVariants.{Sections, Offset, SectionMap, Nested}
+use Rattle.smap_shape.specs.Labels.{no_labels}
 use Rattle.smap_shape.specs.Members.{Flat, Section, MapMembers, flat, is_listed}
 use Rattle.smap_shape.specs.Reading.{shape_of, section_of, number_below}
 
@@ -21,8 +22,15 @@ section_of_text text = option_map (section_of 8) (read text)
 
 -- a flat map without sources and names
 abbrev empty : Flat
-empty =
-    record { file = None; root = None; sources = []; contents = []; names = []; ignored = []; mappings = [] }
+empty = record {
+  labels = no_labels;
+  root = None;
+  sources = [];
+  contents = [];
+  names = [];
+  ignored = [];
+  mappings = [];
+}
 
 -- a flat map with one source
 abbrev one_source : Option (List ℕ) → List ℕ → Flat

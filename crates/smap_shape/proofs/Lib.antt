@@ -1,5 +1,6 @@
 mod LimitLemmas
 mod ListLemmas
+pub mod LabelLemmas
 mod ContentsLemmas
 mod BesideLemmas
 pub mod Examples

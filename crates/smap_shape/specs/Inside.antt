@@ -22,7 +22,7 @@ numbers vs = map (λ v. unwrap_or (whole (view v)) 0) vs
 -- the members that the fields are
 abbrev pub flat_view : Inside → Flat
 flat_view s = record {
-  file = option_copied s.file;
+  labels = s.labels;
   root = option_copied s.root;
   sources = texts s.sources.now;
   contents = fitted (length s.sources.now) (texts s.contents.now);

@@ -1,4 +1,6 @@
 pub mod Limits
+pub mod OneMember
+pub mod Labels
 pub mod Members
 pub mod Reading
 pub mod Inside

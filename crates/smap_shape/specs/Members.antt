@@ -2,11 +2,12 @@
 -- source map").
 use Rattle.std.specs.Prelude.{ℕ, ◌-◌, List, ◌++◌, length, take, replicate, Option, None, Bool, ◌==◌}
 use Rattle.std.specs.List.{list_any}
+use Rattle.smap_shape.specs.Labels.{Labels}
 
 -- The members of a flat map. An absent array is empty, and a string or an entry that is absent or null is
 -- None.
 pub record Flat : Type 0 where
-  pub file : Option (List ℕ)
+  pub labels : Labels
   -- sourceRoot
   pub root : Option (List ℕ)
   pub sources : List (Option (List ℕ))
@@ -25,9 +26,9 @@ is_listed i numbers = list_any (λ n. n == i) numbers
 abbrev pub fitted : {A : Type 0} → ℕ → List (Option A) → List (Option A)
 fitted n entries = take n (entries ++ replicate (n - length entries) None)
 
--- The members of an index map: its file, and its sections as they are in the tree.
+-- The members of an index map: its labels, and its sections as they are in the tree.
 pub record Index (D : Type 0) : Type 0 where
-  pub file : Option (List ℕ)
+  pub labels : Labels
   pub sections : List D
 
 -- A section of an index map: its offset, and its map as it is in the tree.

@@ -3,76 +3,25 @@
 -- 8259) as serde_json reads it: of two equal keys the last one's value counts, and an integer is a number
 -- that `Value::as_u64` accepts. That null counts as absent, and that a member of the wrong type is
 -- refused, are this project's own rules.
-use Rattle.std.specs.Prelude.{ℕ, ◌+◌, nat_lt, List, [], ◌∷◌, length, codes, not, ◌&&◌, Bool, true, nat_eq}
-use Rattle.std.specs.Prelude.{false, Option, Some, None, is_some, is_none, option_and_then, option_map}
-use Rattle.std.specs.Prelude.{Result, Ok, Err, if◌then◌else◌}
+use Rattle.std.specs.Prelude.{ℕ, ◌+◌, List, length, codes, not, ◌&&◌, Bool, nat_eq}
+use Rattle.std.specs.Prelude.{Option, Some, None, is_none, option_and_then}
+use Rattle.std.specs.Prelude.{Result, Ok}
 use Rattle.std.specs.Option.{option_or, option_eq}
-use Rattle.serde_json.specs.Data.{Data, Items, no_items, item}
-use Rattle.serde_json.specs.Find.{get, as_null, as_str, as_number, as_array, as_object, as_u64}
+use Rattle.serde_json.specs.Data.{Data}
+use Rattle.serde_json.specs.Find.{as_str, as_object}
 use Rattle.smap_vlq.specs.Limits.{max_position}
 use Rattle.smap_vlq.specs.Number.{◌>>=◌}
+pub use Rattle.smap_shape.specs.OneMember.{or_fault, refuse_if, if_present, member_of, has, whole, optional}
+pub use Rattle.smap_shape.specs.OneMember.{each_item, list_member, text_or_null, object_only}
+unfoldable pub use Rattle.smap_shape.specs.OneMember.{number_below}
 use Rattle.smap_shape.specs.declared.fault.ShapeFault.{ShapeFault}
-use Rattle.smap_shape.specs.declared.fault.ShapeFault.TheVariants.{NotObject, Version, File, Both, SourceRoot}
+use Rattle.smap_shape.specs.declared.fault.ShapeFault.TheVariants.{NotObject, Version, Both, SourceRoot}
 use Rattle.smap_shape.specs.declared.fault.ShapeFault.TheVariants.{Sources, SourcesContent, Names, IgnoreList}
 use Rattle.smap_shape.specs.declared.fault.ShapeFault.TheVariants.{Mappings, Sections, Offset, SectionMap}
 use Rattle.smap_shape.specs.declared.fault.ShapeFault.TheVariants.{Nested}
 use Rattle.smap_shape.specs.Limits.{max_level}
+use Rattle.smap_shape.specs.Labels.{Labels, read_labels}
 use Rattle.smap_shape.specs.Members.{Flat, Index, Section, MapMembers, flat, index, fitted}
-
--- the value if there is one, and else this fault
-abbrev pub or_fault : {A : Type 0} → ShapeFault → Option A → Result A ShapeFault
-or_fault fault None = Err fault
-or_fault fault (Some x) = Ok x
-
--- this fault if the test holds
-abbrev pub refuse_if : ShapeFault → Bool → Result (Unit {0}) ShapeFault
-refuse_if fault true = Err fault
-refuse_if fault false = Ok tt
-
--- ---- one member (ECMA-426, "JSON values utilities")
-
--- the value, unless it is null
-abbrev pub if_present : Data → Option Data
-if_present d = if is_some (as_null d) then None else Some d
-
--- A member is present if it is there and not null.
-abbrev pub member_of : List ℕ → Data → Option Data
-member_of key tree = option_and_then if_present (get key tree)
-
--- whether the member is present
-abbrev pub has : List ℕ → Data → Bool
-has key tree = is_some (member_of key tree)
-
--- the integer that a value is: -1, 3.0 and -0 are none
-abbrev pub whole : Data → Option ℕ
-whole d = option_and_then as_u64 (as_number d)
-
--- no value if the member is absent, and else the one that `read` gives, if it gives one
-abbrev pub optional : {A : Type 0} → (Data → Option A) → Option Data → Option (Option A)
-optional read None = Some None
-optional read (Some d) = option_map Some (read d)
-
--- what `read` gives for each entry of an array, if it gives something for each
-abbrev pub each_item : {A : Type 0} → (Data → Option A) → Items → Option (List A)
-each_item read no_items = Some []
-each_item read (item d ds) = option_and_then (λ x. option_map (λ xs. x ∷ xs) (each_item read ds)) (read d)
-
--- the entries of the array that a member is, each by `read`; an absent array is empty
-abbrev pub list_member : {A : Type 0} → (Data → Option A) → Option Data → Option (List A)
-list_member read None = Some []
-list_member read (Some d) = option_and_then (each_item read) (as_array d)
-
--- a string or null
-abbrev pub text_or_null : Data → Option (Option (List ℕ))
-text_or_null d = optional as_str (if_present d)
-
--- an integer below the count
-unfoldable pub number_below : ℕ → Data → Option ℕ
-number_below count d = option_and_then (λ n. if nat_lt n count then Some n else None) (whole d)
-
--- an object
-abbrev pub object_only : Data → Option Data
-object_only d = if is_some (as_object d) then Some d else None
 
 -- ---- a map (ECMA-426, "Source map format")
 
@@ -80,21 +29,21 @@ object_only d = if is_some (as_object d) then Some d else None
 abbrev pub is_version_3 : Data → Bool
 is_version_3 tree = option_eq nat_eq (option_and_then whole (member_of (codes "version") tree)) (Some 3)
 
--- the file of a map whose version is 3
-abbrev pub file_of : Data → Result (Option (List ℕ)) ShapeFault
-file_of tree = do
+-- the labels of a map whose version is 3
+abbrev pub labels_of : Data → Result Labels ShapeFault
+labels_of tree = do
   _ ← refuse_if Version (not (is_version_3 tree))
-  or_fault File (optional as_str (member_of (codes "file") tree))
+  read_labels tree
 
 -- `ignoreList`, and only if that isn't present its older name
 abbrev pub ignored_member : Data → Option Data
 ignored_member tree =
     option_or (member_of (codes "ignoreList") tree) (member_of (codes "x_google_ignoreList") tree)
 
--- The members of a flat map with this file. Every entry of `sourcesContent` is checked, those after the
+-- The members of a flat map with these labels. Every entry of `sourcesContent` is checked, those after the
 -- last source included.
-abbrev pub flat_of : Option (List ℕ) → Data → Result Flat ShapeFault
-flat_of file tree = do
+abbrev pub flat_of : Labels → Data → Result Flat ShapeFault
+flat_of labels tree = do
   root ← or_fault SourceRoot (optional as_str (member_of (codes "sourceRoot") tree))
   sources ← or_fault Sources (list_member text_or_null (member_of (codes "sources") tree))
   contents ← or_fault SourcesContent (list_member text_or_null (member_of (codes "sourcesContent") tree))
@@ -102,7 +51,7 @@ flat_of file tree = do
   ignored ← or_fault IgnoreList (list_member (number_below (length sources)) (ignored_member tree))
   mappings ← or_fault Mappings (option_and_then as_str (member_of (codes "mappings") tree))
   Ok (record {
-    file = file;
+    labels = labels;
     root = root;
     sources = sources;
     contents = fitted (length sources) contents;
@@ -111,29 +60,29 @@ flat_of file tree = do
     mappings = mappings;
   })
 
--- The members of an index map with this file (ECMA-426, "Index source map"). The sections aren't looked
+-- The members of an index map with these labels (ECMA-426, "Index source map"). The sections aren't looked
 -- into.
-abbrev pub index_of : Option (List ℕ) → Data → Result (Index Data) ShapeFault
-index_of file sections = do
+abbrev pub index_of : Labels → Data → Result (Index Data) ShapeFault
+index_of labels sections = do
   ds ← or_fault Sections (list_member Some (Some sections))
-  Ok (record { file = file; sections = ds })
+  Ok (record { labels = labels; sections = ds })
 
 -- A map in which `sections` is present is an index map, and any other is flat.
-abbrev pub flat_or_index : Option (List ℕ) → Option Data → Data → Result (MapMembers Data) ShapeFault
-flat_or_index file None tree = do
-  members ← flat_of file tree
+abbrev pub flat_or_index : Labels → Option Data → Data → Result (MapMembers Data) ShapeFault
+flat_or_index labels None tree = do
+  members ← flat_of labels tree
   Ok (flat members)
-flat_or_index file (Some sections) tree = do
-  members ← index_of file sections
+flat_or_index labels (Some sections) tree = do
+  members ← index_of labels sections
   Ok (index members)
 
 -- The members of a map, or its first fault.
 unfoldable pub shape_of : Data → Result (MapMembers Data) ShapeFault
 shape_of tree = do
   _ ← refuse_if NotObject (is_none (as_object tree))
-  file ← file_of tree
+  labels ← labels_of tree
   _ ← refuse_if Both (has (codes "sections") tree && has (codes "mappings") tree)
-  flat_or_index file (member_of (codes "sections") tree) tree
+  flat_or_index labels (member_of (codes "sections") tree) tree
 
 -- ---- a section (ECMA-426, "Index source map")
 

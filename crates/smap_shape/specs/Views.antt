@@ -9,7 +9,7 @@ use Rattle.smap_shape.specs.Members.{Index, Section, MapMembers, flat, index}
 
 -- the same members, each section as its JSON data
 abbrev pub index_members : Index Value → Index Data
-index_members i = record { file = i.file; sections = map view i.sections }
+index_members i = record { labels = i.labels; sections = map view i.sections }
 
 -- the members of a flat map or of an index map
 abbrev pub shape_members : Shape → MapMembers Data

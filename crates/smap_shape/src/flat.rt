@@ -6,6 +6,7 @@ ghost use Rattle.smap_shape.specs.Reading.{whole, flat_of};
 ghost use Rattle.smap_shape.specs.Members.{is_listed};
 
 use crate::fault::ShapeFault;
+use crate::labels::Labels;
 use crate::member::{member, numbers_below, optional_text, texts_only, texts_or_nulls};
 use serde_json::Value;
 use std::marker::Model;
@@ -16,7 +17,7 @@ use std::marker::Model;
 /// empty.
 #[derive(Drop)]
 pub struct FlatShape<'a> {
-    file: Option<&'a str>,
+    labels: Labels<'a>,
     root: Option<&'a str>,
     sources: &'a [Value],
     contents: &'a [Value],
@@ -39,9 +40,17 @@ impl<'a> Model for FlatShape<'a> {
 impl<'a> FlatShape<'a> {
     /// The member `file`, if it is present.
     pub fn file(&self) -> Option<&str>
-        ensures { option_copied result ≡ self.now.file }
+        ensures { option_copied result ≡ self.now.labels.file }
     {
-        self.file
+        let labels = &self.labels;
+        labels.file()
+    }
+
+    /// The labels.
+    pub fn labels(&self) -> &Labels<'a>
+        ensures { result.now ≡ self.now.labels }
+    {
+        &self.labels
     }
 
     /// The member `sourceRoot`, if it is present; it may be empty.
@@ -146,9 +155,9 @@ fn has_number(list: &[Value], n: usize) -> bool
     list.iter().any(|v| v.as_u64().unwrap_or(0) == n as u64)
 }
 
-/// The members of a flat map with this file, or the first fault of their shape.
-pub(crate) fn flat<'v>(file: Option<&'v str>, tree: &'v Value) -> Result<FlatShape<'v>, ShapeFault>
-    ensures { result ≡ flat_of (option_copied file.entry) (view tree.now) }
+/// The members of a flat map with these labels, or the first fault of their shape.
+pub(crate) fn flat<'v>(labels: Labels<'v>, tree: &'v Value) -> Result<FlatShape<'v>, ShapeFault>
+    ensures { result ≡ flat_of labels.entry (view tree.now) }
 {
     let root = optional_text(member(tree, "sourceRoot")).ok_or(ShapeFault::SourceRoot)?;
     let sources = texts_or_nulls(member(tree, "sources")).ok_or(ShapeFault::Sources)?;
@@ -161,7 +170,7 @@ pub(crate) fn flat<'v>(file: Option<&'v str>, tree: &'v Value) -> Result<FlatSha
         .and_then(Value::as_str)
         .ok_or(ShapeFault::Mappings)?;
     Ok(FlatShape {
-        file,
+        labels,
         root,
         sources,
         contents,

@@ -17,15 +17,17 @@ mod fault;
 mod flat;
 mod index;
 mod kinds;
+mod labels;
 mod map;
 mod member;
 mod sections;
 
-pub use beside::file_beside_sections;
+pub use beside::labels_beside_sections;
 pub use contents::split_contents;
 pub use fault::ShapeFault;
 pub use flat::FlatShape;
 pub use index::IndexShape;
 pub use kinds::Shape;
+pub use labels::{Labels, is_label};
 pub use map::shape;
 pub use sections::{MAX_LEVEL, SectionShape, section};

@@ -24,7 +24,7 @@ abbrev scripts : Bool → List Script
 scripts ignored = (
   codes "http://h/m/out.js",
   record {
-    file = None;
+    labels = no_labels;
     sources = source ignored ∷ [];
     mappings =
         placed ignored 0 0 10 2 ∷ placed ignored 0 4 12 2 ∷ [];

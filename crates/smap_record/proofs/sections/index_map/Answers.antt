@@ -1,5 +1,3 @@
-use Rattle.std.proofs.Common.{string_bytes}
-use Rattle.std.specs.Prelude.{option_map}
 use Rattle.smap_record.specs.MapView.{listing_of}
 use Rattle.smap_record.proofs.FitLemmas.{fits}
 use Rattle.smap_record.proofs.sections.index_map.Goals as goal
@@ -8,6 +6,6 @@ pub returns-clause-fits : goal.returns-clause-fits
 returns-clause-fits c =
     rw c.new.ensures
     (fits c.args.base.now c.args.limits (record {
-      file = option_map string_bytes c.in_ok-file.file;
+      labels = c.in_ok-labels.labels;
       listing = listing_of c.in_ok-listed.listed;
     }) c.in_ok-listed.ensures.fits)
