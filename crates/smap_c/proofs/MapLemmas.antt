@@ -7,7 +7,7 @@ use Rattle.smap_record.specs.Reading.{reading}
 use Rattle.smap_record.specs.UrlBytes.{reading_within, url_bytes}
 use Rattle.smap_record.specs.Written.{Spelling, as_written, url_of}
 use Rattle.smap_record.specs.declared.fault.Fault.{Fault}
-use Rattle.smap_c.specs.Faults.{TellsFault}
+use Rattle.smap_c.specs.Faults.{ReportsFault}
 use Rattle.url.specs.Parts.{Parts}
 use Rattle.url.specs.Parser.{parse_url}
 use Rattle.smap_c.specs.Maps.{Opens, OpensAgainst, OpensInto, OpensWithin, OpensIntoWithin, MayOpen, allowed}
@@ -17,23 +17,23 @@ use Rattle.smap_c.specs.declared.opened.Opened.{Opened}
 use Rattle.smap_c.specs.declared.maps.OpenFault.{OpenFault}
 use Rattle.smap_c.specs.declared.maps.OpenFault.TheVariants as faults
 
--- the fault is told, or memory ran out and the answer is that
-pub refused_told : (bytes base : List ℕ) (limits : SmapLimits) (fault : Fault) (map : Option Opened)
+-- the fault is reported, or memory ran out and the answer is that
+pub refused_reported : (bytes base : List ℕ) (limits : SmapLimits) (fault : Fault) (map : Option Opened)
     (before after : SmapFault) (code : ℕ) → Opens bytes base limits (Err (faults.Refused fault))
-    → TellsFault fault before after code → OpensInto bytes base limits map map before after code
-refused_told bytes base limits fault map before after code opens (inl told) =
-    (Err (faults.Refused fault), opens, (told, refl))
-refused_told bytes base limits fault map before after code opens (inr memory) =
+    → ReportsFault fault before after code → OpensInto bytes base limits map map before after code
+refused_reported bytes base limits fault map before after code opens (inl reported) =
+    (Err (faults.Refused fault), opens, (reported, refl))
+refused_reported bytes base limits fault map before after code opens (inr memory) =
     (Err faults.Memory, tt, (memory, refl))
 
 -- the same within a number of bytes
-pub refused_told_within : (bytes base : List ℕ) (limits : SmapLimits) (most : ℕ) (fault : Fault)
+pub refused_reported_within : (bytes base : List ℕ) (limits : SmapLimits) (most : ℕ) (fault : Fault)
     (map : Option Opened) (before after : SmapFault) (code : ℕ)
-    → OpensWithin bytes base limits most (Err (faults.Refused fault)) → TellsFault fault before after code
+    → OpensWithin bytes base limits most (Err (faults.Refused fault)) → ReportsFault fault before after code
     → OpensIntoWithin bytes base limits most map map before after code
-refused_told_within bytes base limits most fault map before after code opens (inl told) =
-    (Err (faults.Refused fault), opens, (told, refl))
-refused_told_within bytes base limits most fault map before after code opens (inr memory) =
+refused_reported_within bytes base limits most fault map before after code opens (inl reported) =
+    (Err (faults.Refused fault), opens, (reported, refl))
+refused_reported_within bytes base limits most fault map before after code opens (inr memory) =
     (Err faults.Memory, tt, (memory, refl))
 
 -- what was read within a number of bytes

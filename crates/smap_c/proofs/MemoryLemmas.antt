@@ -68,10 +68,10 @@ same_borrowed : (same : Bor (List ℕ) → Bor (List ℕ) → Bool)
     → (a b : Option (Bor (List ℕ))) → option_eq same a b ≡ same_text (option_copied a) (option_copied b)
 same_borrowed same are a b = grind (arith, are)
 
--- the root that is told of a source is its own
+-- the root that is found for a source is its own
 pub root_at : (ss : List Spelling) (i : ℕ) (s : Spelling) (root : Option (List ℕ)) → slice_get ss i ≡ Some s
     → option_map (λ (s : Spelling). s.root) (slice_get ss i) ≡ Some root → s.root ≡ root
-root_at ss i s root at is = let told : Some s.root ≡ Some root = rw at at is in cc
+root_at ss i s root at is = let found : Some s.root ≡ Some root = rw at at is in cc
 
 -- the root of the last source
 pub root_last : (ss : List Spelling) (i : ℕ) (s : Spelling) (root : Option (List ℕ)) (text result : ℕ)

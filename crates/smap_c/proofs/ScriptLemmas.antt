@@ -15,7 +15,7 @@ use Rattle.indexmap.specs.IndexMap.{insert_entry}
 use Rattle.smap_record.specs.Record.{ReadMap, record_of}
 use Rattle.smap_trace.specs.Translation.{AreDistinct, Script, Fate}
 use Rattle.smap_trace.specs.Views.{script_in, scripts_in}
-use Rattle.smap_c.specs.Scripts.{with_script, told_trace}
+use Rattle.smap_c.specs.Scripts.{with_script, reported_trace}
 use Rattle.smap_c.specs.ScriptsView.{script_of, scripts_of}
 use Rattle.smap_c.specs.declared.maps.Shared.{Shared}
 use Rattle.smap_io.specs.Streams.{Streams}
@@ -84,7 +84,7 @@ next_pair xs es i e u m so_far at url is = rw (
 pub whole : (fates : List ℕ → Fate) (s : Streams) (trace rest out : List ℕ) (counts : Counts)
     → TranslatesBy fates s (Ok counts) → s.read_before ≡ Some trace → s.read_after ≡ Some rest
     → s.written_before ≡ Some [] → s.written_after ≡ Some out
-    → ◌≡◌ {A = List ℕ × Counts} (out, counts) (told_trace fates trace)
+    → ◌≡◌ {A = List ℕ × Counts} (out, counts) (reported_trace fates trace)
 whole fates s trace rest out counts t before after empty full =
     let a = t.translates.0 in
     let ended = rw after at a.at_end in

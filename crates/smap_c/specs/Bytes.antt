@@ -18,7 +18,7 @@ use Rattle.smap_record.specs.Results.{Returns}
 use Rattle.smap_record.specs.Faults.{Checked, segment_fault}
 use Rattle.smap_c.specs.Strings.{copied}
 use Rattle.smap_c.specs.declared.opened.Opened.{Opened}
-use Rattle.smap_c.specs.Faults.{TellsFault}
+use Rattle.smap_c.specs.Faults.{ReportsFault}
 use Rattle.smap_c.specs.declared.faults.SmapFault.{SmapFault}
 use Rattle.smap_c.specs.Codes as codes
 
@@ -89,12 +89,13 @@ respelling text = respelled (decoded widest text)
 abbrev pub ReturnsText : Result (Vec ℕ) ReadError → Checked (List ℕ) → Type 0
 ReturnsText answer said = Returns (λ v. v.items) answer said
 
--- the handle has the text, or the fault is told; or memory ran out
+-- the handle has the text, or the fault is reported; or memory ran out
 abbrev pub RespellsAs : Checked (List ℕ) → Option (Vec ℕ) → Option (Vec ℕ) → SmapFault → SmapFault → ℕ
     → Type 0
 RespellsAs (Ok text) old new before after code = Writes text old new code × (after ≡ before)
-RespellsAs (Err fault) old new before after code = TellsFault fault before after code × (new ≡ old)
+RespellsAs (Err fault) old new before after code = ReportsFault fault before after code × (new ≡ old)
 
--- The handle has the text in its shortest spellings, or its fault is told; or memory ran out, and nothing is.
+-- The handle has the text in its shortest spellings, or its fault is reported; or memory ran out, and
+-- nothing is.
 abbrev pub Respells : List ℕ → Option (Vec ℕ) → Option (Vec ℕ) → SmapFault → SmapFault → ℕ → Type 0
 Respells text old new before after code = RespellsAs (respelling text) old new before after code

@@ -1,4 +1,4 @@
--- How faults are told to C.
+-- How faults are reported to C.
 use Rattle.std.specs.Prelude.{◌≡◌, ◌≤◌, ◌⊎◌, ℕ, List, length, replicate, Option, Some, None, ◌<◌, ◌^◌, All}
 use Rattle.std.specs.Option.{is_some}
 use Rattle.smap_mappings.specs.declared.error.SegmentPlace.{SegmentPlace}
@@ -28,8 +28,8 @@ segment_of None = 0
 segment_of (Some place) = place.segment
 
 -- a fault with these words
-abbrev pub told_with : List ℕ → Fault → SmapFault
-told_with words fault = record {
+abbrev pub reported_with : List ℕ → Fault → SmapFault
+reported_with words fault = record {
   kind = (code_and_number fault.kind).0;
   line = line_of fault.place;
   segment = segment_of fault.place;
@@ -42,15 +42,15 @@ told_with words fault = record {
 }
 
 -- A fault as C sees it.
-abbrev pub fault_told : Fault → SmapFault
-fault_told fault = told_with (fault_message fault) fault
+abbrev pub reported_fault : Fault → SmapFault
+reported_fault fault = reported_with (fault_message fault) fault
 
--- The fault is told, or memory ran out and nothing is.
-abbrev pub TellsFault : Fault → SmapFault → SmapFault → ℕ → Type 0
-TellsFault fault before after code =
-    ((code ≡ REFUSED) × (after ≡ fault_told fault)) ⊎ ((code ≡ MEMORY) × (after ≡ before))
+-- The fault is reported, or memory ran out and nothing is.
+abbrev pub ReportsFault : Fault → SmapFault → SmapFault → ℕ → Type 0
+ReportsFault fault before after code =
+    ((code ≡ REFUSED) × (after ≡ reported_fault fault)) ⊎ ((code ≡ MEMORY) × (after ≡ before))
 
--- A fault that is told has all of its words: they are at most 260 bytes, and the field has 264.
+-- A fault that is reported has all of its words: they are at most 260 bytes, and the field has 264.
 abbrev pub IsWhole : SmapFault → ℕ → Type 0
 IsWhole after code = code ≡ REFUSED → after.text_len ≤ 260
 

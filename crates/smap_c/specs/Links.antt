@@ -19,15 +19,15 @@ use Rattle.smap_link.specs.declared.resolve.LinkFault.{LinkFault}
 use Rattle.smap_link.specs.declared.resolve.LinkFault.TheVariants as links
 use Rattle.smap_c.specs.Bytes.{Holds}
 use Rattle.smap_c.specs.Codes as codes
-use Rattle.smap_c.specs.Strings.{TextTold}
+use Rattle.smap_c.specs.Strings.{TextReported}
 
 -- The URL of its map that a script, or a style sheet, names in its text.
 abbrev pub link_in : Bool → List ℕ → Option (List ℕ)
 link_in true text = css_map_url text
 link_in false text = map_url text
 
-abbrev pub LinkTold : Bool → List ℕ → List ℕ → List ℕ → ℕ → ℕ → Type 0
-LinkTold css text before after len code = TextTold (link_in css text) before after len code
+abbrev pub LinkReported : Bool → List ℕ → List ℕ → List ℕ → ℕ → ℕ → Type 0
+LinkReported css text before after len code = TextReported (link_in css text) before after len code
 
 -- ---- bytes, none, or why not
 
@@ -109,8 +109,8 @@ abbrev pub FormGiven : Bool → List ℕ → Option (Vec ℕ) → Option (Vec �
 FormGiven with_query name old new code = Gives (Ok (Some (form_of with_query name))) old new code
 
 -- Two names have that in common.
-abbrev pub AlikeTold : List ℕ → List ℕ → Bool → Bool → ℕ → Type 0
-AlikeTold one other before after code =
+abbrev pub AlikeReported : List ℕ → List ℕ → Bool → Bool → ℕ → Type 0
+AlikeReported one other before after code =
     ((code ≡ codes.OK) × (after ≡ bytes_eq (normal_form one) (normal_form other)))
     ⊎ ((code ≡ codes.MEMORY) × (after ≡ before))
 

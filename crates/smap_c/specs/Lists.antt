@@ -4,7 +4,7 @@ use Rattle.smap_mappings.specs.declared.token.Token.{Token}
 use Rattle.smap_mappings.specs.declared.token.Original.{Original}
 use Rattle.smap_record.specs.Record.{Entry, ReadMap, record_of}
 use Rattle.smap_record.specs.Written.{Spelling}
-use Rattle.smap_c.specs.Strings.{copied, TextTold, ClosedTold}
+use Rattle.smap_c.specs.Strings.{copied, TextReported, ClosedReported}
 use Rattle.smap_c.specs.declared.lists.SmapListedMapping.{SmapListedMapping}
 use Rattle.smap_c.specs.declared.opened.Opened.{Opened}
 use Rattle.smap_c.specs.Codes as codes
@@ -42,16 +42,16 @@ with_original m None = m
 with_original m (Some o) = named (mapped m o) o.name
 
 -- A listed mapping's numbers.
-abbrev pub listed_told : Token → SmapListedMapping
-listed_told t = with_original (unmapped t.line t.column) t.original
+abbrev pub reported_listed_mapping : Token → SmapListedMapping
+reported_listed_mapping t = with_original (unmapped t.line t.column) t.original
 
 -- the number of a source among the distinct ones, or there is no such source in the list
 abbrev pub SourceIs : ReadMap → Option Entry → ℕ → ℕ → ℕ → Type 0
 SourceIs m None before after code = (code ≡ codes.RANGE) × (after ≡ before)
 SourceIs m (Some e) before after code = (code ≡ codes.OK) × (slice_get (record_of m).sources after ≡ Some e)
 
-abbrev pub SourceTold : ReadMap → ℕ → ℕ → ℕ → ℕ → Type 0
-SourceTold m i before after code = SourceIs m (slice_get m.listing.sources i) before after code
+abbrev pub SourceReported : ReadMap → ℕ → ℕ → ℕ → ℕ → Type 0
+SourceReported m i before after code = SourceIs m (slice_get m.listing.sources i) before after code
 
 -- the name is copied, or there is no such name
 abbrev pub NameIs : Option (List ℕ) → List ℕ → List ℕ → ℕ → ℕ → Type 0
@@ -59,47 +59,49 @@ NameIs None before after len code = (code ≡ codes.RANGE) × (len ≡ 0) × (af
 NameIs (Some name) before after len code =
     (code ≡ codes.OK) × (len ≡ length name) × (after ≡ copied name before)
 
-abbrev pub NameTold : ReadMap → ℕ → List ℕ → List ℕ → ℕ → ℕ → Type 0
-NameTold m i before after len code = NameIs (slice_get m.listing.names i) before after len code
+abbrev pub NameReported : ReadMap → ℕ → List ℕ → List ℕ → ℕ → ℕ → Type 0
+NameReported m i before after len code = NameIs (slice_get m.listing.names i) before after len code
 
 -- the mapping's numbers, or there is no such mapping
 abbrev pub TokenIs : Option Token → SmapListedMapping → SmapListedMapping → ℕ → Type 0
 TokenIs None before after code = (code ≡ codes.RANGE) × (after ≡ before)
-TokenIs (Some t) before after code = (code ≡ codes.OK) × (after ≡ listed_told t)
+TokenIs (Some t) before after code = (code ≡ codes.OK) × (after ≡ reported_listed_mapping t)
 
-abbrev pub TokenTold : ReadMap → ℕ → SmapListedMapping → SmapListedMapping → ℕ → Type 0
-TokenTold m i before after code = TokenIs (slice_get m.listing.tokens i) before after code
+abbrev pub TokenReported : ReadMap → ℕ → SmapListedMapping → SmapListedMapping → ℕ → Type 0
+TokenReported m i before after code = TokenIs (slice_get m.listing.tokens i) before after code
 
 -- of a source as it is written, or there is no such source
-abbrev pub SpellingTold : (Spelling → Option (List ℕ)) → Option Spelling → List ℕ → List ℕ → ℕ → ℕ → Type 0
-SpellingTold text None before after len code = (code ≡ codes.RANGE) × (len ≡ 0) × (after ≡ before)
-SpellingTold text (Some s) before after len code = TextTold (text s) before after len code
+abbrev pub SpellingReported : (Spelling → Option (List ℕ)) → Option Spelling → List ℕ → List ℕ → ℕ → ℕ
+    → Type 0
+SpellingReported text None before after len code = (code ≡ codes.RANGE) × (len ≡ 0) × (after ≡ before)
+SpellingReported text (Some s) before after len code = TextReported (text s) before after len code
 
-abbrev pub WrittenSourceTold : List Spelling → ℕ → List ℕ → List ℕ → ℕ → ℕ → Type 0
-WrittenSourceTold ss i before after len code =
-    SpellingTold (λ s. s.source) (slice_get ss i) before after len code
+abbrev pub WrittenSourceReported : List Spelling → ℕ → List ℕ → List ℕ → ℕ → ℕ → Type 0
+WrittenSourceReported ss i before after len code =
+    SpellingReported (λ s. s.source) (slice_get ss i) before after len code
 
-abbrev pub WrittenRootTold : List Spelling → ℕ → List ℕ → List ℕ → ℕ → ℕ → Type 0
-WrittenRootTold ss i before after len code = SpellingTold (λ s. s.root) (slice_get ss i) before after len code
+abbrev pub WrittenRootReported : List Spelling → ℕ → List ℕ → List ℕ → ℕ → ℕ → Type 0
+WrittenRootReported ss i before after len code =
+    SpellingReported (λ s. s.root) (slice_get ss i) before after len code
 
 -- ---- the same of a handle
 
 abbrev pub ListedSource : Option Opened → ℕ → ℕ → ℕ → ℕ → Type 0
 ListedSource None i before after code = (code ≡ codes.CLOSED) × (after ≡ before)
-ListedSource (Some o) i before after code = SourceTold o.map i before after code
+ListedSource (Some o) i before after code = SourceReported o.map i before after code
 
 abbrev pub ListedName : Option Opened → ℕ → List ℕ → List ℕ → ℕ → ℕ → Type 0
 ListedName None i before after len code = (code ≡ codes.CLOSED) × (len ≡ 0) × (after ≡ before)
-ListedName (Some o) i before after len code = NameTold o.map i before after len code
+ListedName (Some o) i before after len code = NameReported o.map i before after len code
 
 abbrev pub ListedToken : Option Opened → ℕ → SmapListedMapping → SmapListedMapping → ℕ → Type 0
 ListedToken None i before after code = (code ≡ codes.CLOSED) × (after ≡ before)
-ListedToken (Some o) i before after code = TokenTold o.map i before after code
+ListedToken (Some o) i before after code = TokenReported o.map i before after code
 
 abbrev pub WrittenSource : Option Opened → ℕ → List ℕ → List ℕ → ℕ → ℕ → Type 0
-WrittenSource None i before after len code = ClosedTold before after len code
-WrittenSource (Some o) i before after len code = WrittenSourceTold o.written i before after len code
+WrittenSource None i before after len code = ClosedReported before after len code
+WrittenSource (Some o) i before after len code = WrittenSourceReported o.written i before after len code
 
 abbrev pub WrittenRoot : Option Opened → ℕ → List ℕ → List ℕ → ℕ → ℕ → Type 0
-WrittenRoot None i before after len code = ClosedTold before after len code
-WrittenRoot (Some o) i before after len code = WrittenRootTold o.written i before after len code
+WrittenRoot None i before after len code = ClosedReported before after len code
+WrittenRoot (Some o) i before after len code = WrittenRootReported o.written i before after len code

@@ -1,4 +1,4 @@
--- What lookups tell, and what the calls that give a mapping by its number do.
+-- What lookups report, and what the calls that give a mapping by its number do.
 use Rattle.std.specs.Prelude.{◌≡◌, ℕ, true, false, Option, Some, None, IfSome, option_map, slice_get, List}
 use Rattle.std.specs.Prelude.{option_and_then}
 use Rattle.std.specs.Option.{is_some}
@@ -9,12 +9,12 @@ use Rattle.smap_record.specs.Views.{entry_of_view, mapping_of_view}
 use Rattle.smap_trace.specs.Lookup.{FallsTo, FallsToIndex}
 use Rattle.smap_c.specs.declared.lookups.SmapMapping.{SmapMapping}
 use Rattle.smap_c.specs.declared.opened.Opened.{Opened}
-use Rattle.smap_c.specs.Strings.{TextTold, ClosedTold}
+use Rattle.smap_c.specs.Strings.{TextReported, ClosedReported}
 use Rattle.smap_c.specs.Codes as codes
 
 -- a mapping's numbers
-abbrev pub told_from : ℕ → ℕ → Option OriginalView → SmapMapping
-told_from line column None = record {
+abbrev pub reported_mapping_at : ℕ → ℕ → Option OriginalView → SmapMapping
+reported_mapping_at line column None = record {
   line = line;
   column = column;
   has_source = false;
@@ -24,7 +24,7 @@ told_from line column None = record {
   source_column = 0;
   source = 0;
 }
-told_from line column (Some o) = record {
+reported_mapping_at line column (Some o) = record {
   line = line;
   column = column;
   has_source = true;
@@ -35,23 +35,23 @@ told_from line column (Some o) = record {
   source = o.source_number;
 }
 
-abbrev pub told : TokenView → SmapMapping
-told t = told_from t.line t.column t.original
+abbrev pub reported_mapping : TokenView → SmapMapping
+reported_mapping t = reported_mapping_at t.line t.column t.original
 
 -- its source's number is that of its source
 abbrev pub IsNumbered : Record → TokenView → Type 0
 IsNumbered r t = IfSome t.original (λ o. slice_get r.sources o.source_number ≡ Some (entry_of_view o.source))
 
--- the code, and what is told
-abbrev pub IsTold : Option TokenView → SmapMapping → SmapMapping → ℕ → Type 0
-IsTold None before after code = (code ≡ codes.NONE) × (after ≡ before)
-IsTold (Some t) before after code = (code ≡ codes.OK) × (after ≡ told t)
+-- the code, and what is reported
+abbrev pub IsReported : Option TokenView → SmapMapping → SmapMapping → ℕ → Type 0
+IsReported None before after code = (code ≡ codes.NONE) × (after ≡ before)
+IsReported (Some t) before after code = (code ≡ codes.OK) × (after ≡ reported_mapping t)
 
 -- The mapping that the position falls to, by its numbers.
 abbrev pub Finds : ReadMap → ℕ → ℕ → SmapMapping → SmapMapping → ℕ → Type 0
 Finds m line column before after code = (t : Option TokenView)
     × FallsTo (record_of m).mappings line column (option_map mapping_of_view t)
-    × IfSome t (IsNumbered (record_of m)) × IsTold t before after code
+    × IfSome t (IsNumbered (record_of m)) × IsReported t before after code
 
 -- The same of a handle.
 abbrev pub LooksUp : Option Opened → ℕ → ℕ → SmapMapping → SmapMapping → ℕ → Type 0
@@ -59,14 +59,14 @@ LooksUp None line column before after code = (code ≡ codes.CLOSED) × (after �
 LooksUp (Some o) line column before after code = Finds o.map line column before after code
 
 -- the code, and the index
-abbrev pub IsIndexTold : Option ℕ → ℕ → ℕ → ℕ → Type 0
-IsIndexTold None before after code = (code ≡ codes.NONE) × (after ≡ before)
-IsIndexTold (Some i) before after code = (code ≡ codes.OK) × (after ≡ i)
+abbrev pub IsIndexReported : Option ℕ → ℕ → ℕ → ℕ → Type 0
+IsIndexReported None before after code = (code ≡ codes.NONE) × (after ≡ before)
+IsIndexReported (Some i) before after code = (code ≡ codes.OK) × (after ≡ i)
 
 -- The index of the mapping that the position falls to.
 abbrev pub FindsIndex : ReadMap → ℕ → ℕ → ℕ → ℕ → ℕ → Type 0
 FindsIndex m line column before after code = (i : Option ℕ)
-    × FallsToIndex (record_of m).mappings line column i × IsIndexTold i before after code
+    × FallsToIndex (record_of m).mappings line column i × IsIndexReported i before after code
 
 -- The same of a handle.
 abbrev pub LooksUpIndex : Option Opened → ℕ → ℕ → ℕ → ℕ → ℕ → Type 0
@@ -75,21 +75,21 @@ LooksUpIndex (Some o) line column before after code = FindsIndex o.map line colu
 
 -- ---- one mapping, by its number
 
--- the code, and what is told
+-- the code, and what is reported
 abbrev pub IsGot : Option TokenView → SmapMapping → SmapMapping → ℕ → Type 0
 IsGot None before after code = (code ≡ codes.RANGE) × (after ≡ before)
-IsGot (Some t) before after code = (code ≡ codes.OK) × (after ≡ told t)
+IsGot (Some t) before after code = (code ≡ codes.OK) × (after ≡ reported_mapping t)
 
 -- the i-th mapping of the record, by its numbers
-abbrev pub TokenTold : ReadMap → ℕ → SmapMapping → SmapMapping → ℕ → Type 0
-TokenTold m i before after code = (t : Option TokenView)
+abbrev pub TokenReported : ReadMap → ℕ → SmapMapping → SmapMapping → ℕ → Type 0
+TokenReported m i before after code = (t : Option TokenView)
     × (slice_get (record_of m).mappings i ≡ option_map mapping_of_view t)
     × IfSome t (IsNumbered (record_of m)) × IsGot t before after code
 
 -- The same of a handle.
 abbrev pub Token : Option Opened → ℕ → SmapMapping → SmapMapping → ℕ → Type 0
 Token None i before after code = (code ≡ codes.CLOSED) × (after ≡ before)
-Token (Some o) i before after code = TokenTold o.map i before after code
+Token (Some o) i before after code = TokenReported o.map i before after code
 
 -- ---- names
 
@@ -98,11 +98,11 @@ abbrev pub name_of : Option Mapping → Option (List ℕ)
 name_of m = option_and_then (λ m. option_and_then (λ o. o.name) m.origin) m
 
 -- the name of the mapping that the position falls to
-abbrev pub NameTold : ReadMap → ℕ → ℕ → List ℕ → List ℕ → ℕ → ℕ → Type 0
-NameTold m line column before after len code = (found : Option Mapping)
-    × FallsTo (record_of m).mappings line column found × TextTold (name_of found) before after len code
+abbrev pub NameReported : ReadMap → ℕ → ℕ → List ℕ → List ℕ → ℕ → ℕ → Type 0
+NameReported m line column before after len code = (found : Option Mapping)
+    × FallsTo (record_of m).mappings line column found × TextReported (name_of found) before after len code
 
 -- The same of a handle.
 abbrev pub NameAt : Option Opened → ℕ → ℕ → List ℕ → List ℕ → ℕ → ℕ → Type 0
-NameAt None line column before after len code = ClosedTold before after len code
-NameAt (Some o) line column before after len code = NameTold o.map line column before after len code
+NameAt None line column before after len code = ClosedReported before after len code
+NameAt (Some o) line column before after len code = NameReported o.map line column before after len code

@@ -12,12 +12,12 @@ use Rattle.smap_record.specs.Written.{as_written, url_of}
 use Rattle.smap_record.specs.UrlBytes.{url_bytes}
 use Rattle.smap_mappings.specs.Text.{line_count}
 use Rattle.smap_c.specs.declared.maps.SmapLimits.{SmapLimits}
-use Rattle.smap_c.specs.Faults.{fault_told}
+use Rattle.smap_c.specs.Faults.{reported_fault}
 use Rattle.smap_c.specs.declared.faults.SmapFault.{SmapFault}
 use Rattle.smap_c.specs.declared.opened.Opened.{Opened}
 use Rattle.smap_c.specs.declared.maps.OpenFault.{OpenFault}
 use Rattle.smap_c.specs.declared.maps.SmapCounts.{SmapCounts}
-use Rattle.smap_c.specs.Strings.{TextTold, ClosedTold}
+use Rattle.smap_c.specs.Strings.{TextReported, ClosedReported}
 use Rattle.smap_c.specs.Codes as codes
 use Rattle.smap_c.specs.declared.maps.OpenFault.TheVariants as faults
 
@@ -61,23 +61,23 @@ Opens bytes base limits (Err faults.Limits) = AreLimits limits → ⊥
 Opens bytes base limits (Err faults.Memory) = Unit {0}
 
 -- the code and the fault
-abbrev pub FaultTold : OpenFault → SmapFault → SmapFault → ℕ → Type 0
-FaultTold (faults.Refused f) before after code = (code ≡ codes.REFUSED) × (after ≡ fault_told f)
-FaultTold faults.NotUrl before after code = (code ≡ codes.NOT_URL) × (after ≡ before)
-FaultTold faults.Limits before after code = (code ≡ codes.LIMITS) × (after ≡ before)
-FaultTold faults.Memory before after code = (code ≡ codes.MEMORY) × (after ≡ before)
+abbrev pub FaultReported : OpenFault → SmapFault → SmapFault → ℕ → Type 0
+FaultReported (faults.Refused f) before after code = (code ≡ codes.REFUSED) × (after ≡ reported_fault f)
+FaultReported faults.NotUrl before after code = (code ≡ codes.NOT_URL) × (after ≡ before)
+FaultReported faults.Limits before after code = (code ≡ codes.LIMITS) × (after ≡ before)
+FaultReported faults.Memory before after code = (code ≡ codes.MEMORY) × (after ≡ before)
 
 -- the handle has the map, or is as it was
-abbrev pub HandleTold : Result Opened OpenFault → Option Opened → Option Opened → SmapFault → SmapFault → ℕ
-    → Type 0
-HandleTold (Ok m) old new before after code = (code ≡ codes.OK) × (new ≡ Some m) × (after ≡ before)
-HandleTold (Err fault) old new before after code = FaultTold fault before after code × (new ≡ old)
+abbrev pub HandleReported : Result Opened OpenFault → Option Opened → Option Opened → SmapFault → SmapFault
+    → ℕ → Type 0
+HandleReported (Ok m) old new before after code = (code ≡ codes.OK) × (new ≡ Some m) × (after ≡ before)
+HandleReported (Err fault) old new before after code = FaultReported fault before after code × (new ≡ old)
 
 -- The handle has the map that the definition gives, or is as it was, and the code and the fault say why.
 abbrev pub OpensInto : List ℕ → List ℕ → SmapLimits → Option Opened → Option Opened → SmapFault → SmapFault
     → ℕ → Type 0
 OpensInto bytes base limits old new before after code =
-    (r : Result Opened OpenFault) × Opens bytes base limits r × HandleTold r old new before after code
+    (r : Result Opened OpenFault) × Opens bytes base limits r × HandleReported r old new before after code
 
 -- ---- opening within a number of bytes
 
@@ -99,10 +99,10 @@ OpensWithin bytes base limits most (Err faults.Memory) = Unit {0}
 -- the handle has the map, or is as it was
 abbrev pub HandleWithin : Result (Option Opened) OpenFault → Option Opened → Option Opened → SmapFault
     → SmapFault → ℕ → Type 0
-HandleWithin (Ok (Some m)) old new before after code = HandleTold (Ok m) old new before after code
+HandleWithin (Ok (Some m)) old new before after code = HandleReported (Ok m) old new before after code
 HandleWithin (Ok None) old new before after code =
     (code ≡ codes.URL_BYTES) × (after ≡ before) × (new ≡ old)
-HandleWithin (Err fault) old new before after code = HandleTold (Err fault) old new before after code
+HandleWithin (Err fault) old new before after code = HandleReported (Err fault) old new before after code
 
 -- for private contracts: the same against a base that was parsed, with what is allowed
 abbrev pub OpensAgainst : List ℕ → Parts → Allowed → ℕ → Result (Option Opened) OpenFault → Type 0
@@ -130,7 +130,7 @@ abbrev pub Shares : Option Opened → Option Opened → Option Opened → ℕ �
 Shares None old new code = (code ≡ codes.CLOSED) × (new ≡ old)
 Shares (Some o) old new code = ((code ≡ codes.OK) × (new ≡ Some o)) ⊎ ((code ≡ codes.MEMORY) × (new ≡ old))
 
--- Both are open and it is told whether their records are equal, or one is closed.
+-- Both are open and it is reported whether their records are equal, or one is closed.
 abbrev pub Compares : Option Opened → Option Opened → Bool → Bool → ℕ → Type 0
 Compares None other before after code = (code ≡ codes.CLOSED) × (after ≡ before)
 Compares (Some a) None before after code = (code ≡ codes.CLOSED) × (after ≡ before)
@@ -153,10 +153,10 @@ Counts (Some o) before after code = (code ≡ codes.OK) × (after ≡ counts_of 
 
 -- ---- the name of the generated file
 
-abbrev pub FileTold : ReadMap → List ℕ → List ℕ → ℕ → ℕ → Type 0
-FileTold m before after len code = TextTold m.labels.file before after len code
+abbrev pub FileReported : ReadMap → List ℕ → List ℕ → ℕ → ℕ → Type 0
+FileReported m before after len code = TextReported m.labels.file before after len code
 
 -- The same of a handle.
 abbrev pub File : Option Opened → List ℕ → List ℕ → ℕ → ℕ → Type 0
-File None before after len code = ClosedTold before after len code
-File (Some o) before after len code = FileTold o.map before after len code
+File None before after len code = ClosedReported before after len code
+File (Some o) before after len code = FileReported o.map before after len code

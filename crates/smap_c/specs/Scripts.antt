@@ -37,18 +37,18 @@ AddsScript url map old new code = (IsUtf8 url × AddsMap url map old new code)
     ⊎ ((IsUtf8 url → ⊥) × (code ≡ codes.NOT_URL) × (new ≡ old))
 
 -- counts as C sees them
-abbrev pub told_counts : Counts → SmapTraceCounts
-told_counts c = record { lines = c.lines; translated = c.translated; dropped = c.dropped }
+abbrev pub reported_counts : Counts → SmapTraceCounts
+reported_counts c = record { lines = c.lines; translated = c.translated; dropped = c.dropped }
 
 -- the translation of a trace whose lines become this, and its counts
-abbrev pub told_trace : (List ℕ → Fate) → List ℕ → List ℕ × Counts
-told_trace fates_of trace = (translation_by fates_of trace, counts_by fates_of trace)
+abbrev pub reported_trace : (List ℕ → Fate) → List ℕ → List ℕ × Counts
+reported_trace fates_of trace = (translation_by fates_of trace, counts_by fates_of trace)
 
 -- The handle has the text, with its counts; or memory ran out, and both are as they were.
 abbrev pub TranslatesInto : List ℕ × Counts → Option (Vec ℕ) → Option (Vec ℕ) → SmapTraceCounts
     → SmapTraceCounts → ℕ → Type 0
-TranslatesInto told old new before after code =
-    ((code ≡ codes.OK) × Holds told.0 new × (after ≡ told_counts told.1))
+TranslatesInto reported old new before after code =
+    ((code ≡ codes.OK) × Holds reported.0 new × (after ≡ reported_counts reported.1))
     ⊎ ((code ≡ codes.MEMORY) × (new ≡ old) × (after ≡ before))
 
 -- The translation by the handle's scripts.
@@ -57,4 +57,4 @@ abbrev pub TranslatesBy : Option (List Script) → List ℕ → ℕ → Option (
 TranslatesBy None trace how old new before after code =
     (code ≡ codes.CLOSED) × (new ≡ old) × (after ≡ before)
 TranslatesBy (Some scripts) trace how old new before after code =
-    TranslatesInto (told_trace (fates how scripts) trace) old new before after code
+    TranslatesInto (reported_trace (fates how scripts) trace) old new before after code

@@ -9,11 +9,11 @@ copied text old =
     take (min (length text) (length old)) text ++ drop (min (length text) (length old)) old
 
 -- the text is copied, or there is none
-abbrev pub TextTold : Option (List ℕ) → List ℕ → List ℕ → ℕ → ℕ → Type 0
-TextTold None before after len code = (code ≡ codes.NONE) × (len ≡ 0) × (after ≡ before)
-TextTold (Some text) before after len code =
+abbrev pub TextReported : Option (List ℕ) → List ℕ → List ℕ → ℕ → ℕ → Type 0
+TextReported None before after len code = (code ≡ codes.NONE) × (len ≡ 0) × (after ≡ before)
+TextReported (Some text) before after len code =
     (code ≡ codes.OK) × (len ≡ length text) × (after ≡ copied text before)
 
 -- the same of a handle that is closed
-abbrev pub ClosedTold : List ℕ → List ℕ → ℕ → ℕ → Type 0
-ClosedTold before after len code = (code ≡ codes.CLOSED) × (len ≡ 0) × (after ≡ before)
+abbrev pub ClosedReported : List ℕ → List ℕ → ℕ → ℕ → Type 0
+ClosedReported before after len code = (code ≡ codes.CLOSED) × (len ≡ 0) × (after ≡ before)

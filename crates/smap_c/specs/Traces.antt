@@ -47,17 +47,17 @@ AsksByBool how hide = (scripts : List Script) (line : List ℕ)
 -- ---- frames and lines
 
 -- where the parts of the frame lie
-abbrev pub PartsTold : Option FrameParts → SmapFrameParts → SmapFrameParts → ℕ → Type 0
-PartsTold None before after code = (code ≡ codes.NONE) × (after ≡ before)
-PartsTold (Some f) before after code = (code ≡ codes.OK) × (after ≡ record {
+abbrev pub PartsReported : Option FrameParts → SmapFrameParts → SmapFrameParts → ℕ → Type 0
+PartsReported None before after code = (code ≡ codes.NONE) × (after ≡ before)
+PartsReported (Some f) before after code = (code ≡ codes.OK) × (after ≡ record {
   url_from = length f.before;
   url_len = length f.url;
   line = f.line;
   column = f.column;
 })
 
-abbrev pub FrameTold : List ℕ → SmapFrameParts → SmapFrameParts → ℕ → Type 0
-FrameTold text before after code = PartsTold (frame_of text) before after code
+abbrev pub FrameReported : List ℕ → SmapFrameParts → SmapFrameParts → ℕ → Type 0
+FrameReported text before after code = PartsReported (frame_of text) before after code
 
 -- the number of what became of a line
 abbrev pub number_of : Fate → ℕ
@@ -66,27 +66,27 @@ number_of (translated text) = 1
 number_of dropped = 2
 
 -- the line's translation is copied, unless memory ran out
-abbrev pub LineTold : List ℕ → ReadMap → List ℕ → ℕ → List ℕ → List ℕ → ℕ → ℕ → ℕ → ℕ → Type 0
-LineTold url m line how before after len old_outcome outcome code =
+abbrev pub LineReported : List ℕ → ReadMap → List ℕ → ℕ → List ℕ → List ℕ → ℕ → ℕ → ℕ → ℕ → Type 0
+LineReported url m line how before after len old_outcome outcome code =
     ((code ≡ codes.OK) × (len ≡ length (line_translation_by (fates how ((url, record_of m) ∷ [])) line))
     × (after ≡ copied (line_translation_by (fates how ((url, record_of m) ∷ [])) line) before)
     × (outcome ≡ number_of (fates how ((url, record_of m) ∷ []) line)))
     ⊎ ((code ≡ codes.MEMORY) × (len ≡ 0) × (after ≡ before) × (outcome ≡ old_outcome))
 
--- nothing is told
-abbrev pub Untold : ℕ → List ℕ → List ℕ → ℕ → ℕ → ℕ → ℕ → Type 0
-Untold why before after len old_outcome outcome code =
+-- nothing is reported
+abbrev pub NothingReported : ℕ → List ℕ → List ℕ → ℕ → ℕ → ℕ → ℕ → Type 0
+NothingReported why before after len old_outcome outcome code =
     (code ≡ why) × (len ≡ 0) × (after ≡ before) × (outcome ≡ old_outcome)
 
 -- the same of a URL, which is UTF-8
 abbrev pub LineBy : List ℕ → ReadMap → List ℕ → ℕ → List ℕ → List ℕ → ℕ → ℕ → ℕ → ℕ → Type 0
 LineBy url m line how before after len old_outcome outcome code =
-    (IsUtf8 url × LineTold url m line how before after len old_outcome outcome code)
-    ⊎ ((IsUtf8 url → ⊥) × Untold codes.NOT_URL before after len old_outcome outcome code)
+    (IsUtf8 url × LineReported url m line how before after len old_outcome outcome code)
+    ⊎ ((IsUtf8 url → ⊥) × NothingReported codes.NOT_URL before after len old_outcome outcome code)
 
 -- The translation of the line by the map of this one script.
-abbrev pub TellsLine : Option Opened → List ℕ → List ℕ → ℕ → List ℕ → List ℕ → ℕ → ℕ → ℕ → ℕ → Type 0
-TellsLine None url line how before after len old_outcome outcome code =
-    Untold codes.CLOSED before after len old_outcome outcome code
-TellsLine (Some o) url line how before after len old_outcome outcome code =
+abbrev pub ReportsLine : Option Opened → List ℕ → List ℕ → ℕ → List ℕ → List ℕ → ℕ → ℕ → ℕ → ℕ → Type 0
+ReportsLine None url line how before after len old_outcome outcome code =
+    NothingReported codes.CLOSED before after len old_outcome outcome code
+ReportsLine (Some o) url line how before after len old_outcome outcome code =
     LineBy url o.map line how before after len old_outcome outcome code

@@ -1,4 +1,4 @@
--- How a version is told as one number.
+-- How a version is reported as one number.
 use Rattle.std.specs.Prelude.{ℕ, ◌+◌, ◌*◌}
 
 -- two decimal digits each for the minor and the patch version

@@ -12,7 +12,7 @@ ghost use Rattle.smap_c.specs.Handles.{held_bytes, held_map};
 ghost use Rattle.smap_c.specs.Faults.{IsWhole};
 
 use crate::codes::{CLOSED, MEMORY, OK};
-use crate::faults::{SmapFault, tell_fault};
+use crate::faults::{SmapFault, report_fault};
 use crate::handles::{Held, SmapBytes, SmapMap};
 use crate::strings::copy_out;
 use smap_canon::{canonical, canonical_mappings, canonical_relative, flatten};
@@ -214,7 +214,7 @@ pub extern "C" fn smap_respell(
 {
     match respelled(alloc, text) {
         Ok(spelled) => put(alloc, Ok(spelled), out),
-        Err(ReadError::Refused(refused)) => tell_fault(alloc, &refused, fault),
+        Err(ReadError::Refused(refused)) => report_fault(alloc, &refused, fault),
         Err(ReadError::Memory) => MEMORY,
     }
 }

@@ -4,7 +4,7 @@ ghost use Rattle.smap_record.specs.Kinds.{fault_name};
 ghost use Rattle.smap_record.specs.Messages.{fault_message};
 ghost use Rattle.smap_c.specs.Strings.{copied};
 ghost use Rattle.smap_c.specs.Faults.{FaultFits, KindFits, PlaceFits, padded_path, padded_text};
-ghost use Rattle.smap_c.specs.Faults.{told_with, IsWhole, TellsFault};
+ghost use Rattle.smap_c.specs.Faults.{reported_with, IsWhole, ReportsFault};
 
 use crate::codes::{MEMORY, REFUSED};
 use crate::strings::copy_out;
@@ -95,8 +95,8 @@ fn padded_path(path: &Path) -> [usize; 8]
 }
 
 /// The fault with its words.
-fn told(fault: &Fault, words: &[u8]) -> SmapFault
-    ensures { result ≡ told_with words.now fault.now }
+fn reported_with(fault: &Fault, words: &[u8]) -> SmapFault
+    ensures { result ≡ reported_with words.now fault.now }
 {
     let (kind, number) = fault.kind.code_and_number();
     let (line, segment) = match fault.place {
@@ -116,14 +116,14 @@ fn told(fault: &Fault, words: &[u8]) -> SmapFault
     }
 }
 
-/// Tells a fault, and answers that it is one; or that memory ran out.
-pub(crate) fn tell_fault(alloc: Global, fault: &Fault, out: &mut SmapFault) -> u32
-    ensures told { TellsFault fault.now out.old out.new result }
+/// Reports a fault, and answers that it is one; or that memory ran out.
+pub(crate) fn report_fault(alloc: Global, fault: &Fault, out: &mut SmapFault) -> u32
+    ensures reported { ReportsFault fault.now out.old out.new result }
     ensures whole { IsWhole out.new result }
 {
     match fault_text(alloc, fault) {
         Ok(words) => {
-            *out = told(fault, words.as_bytes());
+            *out = reported_with(fault, words.as_bytes());
             REFUSED
         }
         Err(_) => MEMORY,

@@ -13,7 +13,7 @@ ghost use Rattle.smap_c.specs.Links as spec;
 
 use crate::codes::{MEMORY, NONE, NOT_BASE64, NOT_URL, NOT_UTF8, OK};
 use crate::handles::{Held, SmapBytes};
-use crate::strings::tell_bytes;
+use crate::strings::report_bytes;
 use smap_link::{InlineFault, LinkFault, PathFault};
 use std::alloc::{AllocError, Global};
 
@@ -30,9 +30,9 @@ fn link_in<'a>(css: bool, text: &'a [u8]) -> Option<&'a [u8]>
 /// The URL of its map that a script, or a style sheet, names in its text.
 #[unsafe(no_mangle)]
 pub extern "C" fn smap_script_link(text: &[u8], css: bool, out: &mut [u8], len: &mut usize) -> u32
-    ensures { spec.LinkTold css text.now out.old out.new len.new result }
+    ensures { spec.LinkReported css text.now out.old out.new len.new result }
 {
-    tell_bytes(link_in(css, text), out, len)
+    report_bytes(link_in(css, text), out, len)
 }
 
 /// Puts an answer into a handle, or says why there is none.
@@ -261,7 +261,7 @@ fn are_alike(alloc: Global, one: &[u8], other: &[u8]) -> Result<bool, AllocError
 /// Whether two names are alike.
 #[unsafe(no_mangle)]
 pub extern "C" fn smap_alike(alloc: Global, one: &[u8], other: &[u8], out: &mut bool) -> u32
-    ensures { spec.AlikeTold one.now other.now out.old out.new result }
+    ensures { spec.AlikeReported one.now other.now out.old out.new result }
 {
     match are_alike(alloc, one, other) {
         Ok(alike) => {

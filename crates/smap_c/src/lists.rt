@@ -1,13 +1,14 @@
 //! What a map lists, by its numbers.
 ghost use Rattle.std.specs.Prelude.{◌≡◌};
-ghost use Rattle.smap_c.specs.Lists.{listed_told, SourceTold, NameTold, TokenTold, ListedSource, ListedName};
+ghost use Rattle.smap_c.specs.Lists.{reported_listed_mapping, SourceReported, NameReported, TokenReported};
+ghost use Rattle.smap_c.specs.Lists.{ListedSource, ListedName};
 ghost use Rattle.smap_c.specs.Lists.{ListedToken, WrittenSource, WrittenRoot};
-ghost use Rattle.smap_c.specs.Lists.{WrittenSourceTold, WrittenRootTold};
+ghost use Rattle.smap_c.specs.Lists.{WrittenSourceReported, WrittenRootReported};
 ghost use Rattle.smap_c.specs.Handles.{held_map};
 
 use crate::codes::{CLOSED, OK, RANGE};
 use crate::handles::SmapMap;
-use crate::strings::{copy_out, tell};
+use crate::strings::{copy_out, report_text};
 use smap_mappings::Token;
 use smap_record::{SourceMap, WrittenSources};
 use std::alloc::Global;
@@ -27,10 +28,10 @@ pub struct SmapListedMapping {
     pub name: u32,
 }
 
-fn listed_told(token: Token) -> SmapListedMapping
-    ensures { result ≡ listed_told token }
+fn reported_listed_mapping(token: Token) -> SmapListedMapping
+    ensures { result ≡ reported_listed_mapping token }
 {
-    let mut told = SmapListedMapping {
+    let mut reported = SmapListedMapping {
         line: token.line,
         column: token.column,
         has_source: false,
@@ -41,20 +42,20 @@ fn listed_told(token: Token) -> SmapListedMapping
         name: 0,
     };
     if let Some(original) = token.original {
-        told.has_source = true;
-        told.source_line = original.line;
-        told.source_column = original.column;
-        told.source = original.source;
+        reported.has_source = true;
+        reported.source_line = original.line;
+        reported.source_column = original.column;
+        reported.source = original.source;
         if let Some(name) = original.name {
-            told.has_name = true;
-            told.name = name;
+            reported.has_name = true;
+            reported.name = name;
         }
     }
-    told
+    reported
 }
 
 fn source_of(map: &SourceMap, i: usize, out: &mut usize) -> u32
-    ensures { SourceTold map.now i out.old out.new result }
+    ensures { SourceReported map.now i out.old out.new result }
 {
     if i < map.listed_count() {
         *out = map.listed(i);
@@ -65,7 +66,7 @@ fn source_of(map: &SourceMap, i: usize, out: &mut usize) -> u32
 }
 
 fn name_of(map: &SourceMap, i: usize, out: &mut [u8], len: &mut usize) -> u32
-    ensures { NameTold map.now i out.old out.new len.new result }
+    ensures { NameReported map.now i out.old out.new len.new result }
 {
     if i < map.name_count() {
         *len = copy_out(map.name(i).as_bytes(), out);
@@ -77,10 +78,10 @@ fn name_of(map: &SourceMap, i: usize, out: &mut [u8], len: &mut usize) -> u32
 }
 
 fn token_of(map: &SourceMap, i: usize, out: &mut SmapListedMapping) -> u32
-    ensures { TokenTold map.now i out.old out.new result }
+    ensures { TokenReported map.now i out.old out.new result }
 {
     if i < map.token_count() {
-        *out = listed_told(map.listed_token(i));
+        *out = reported_listed_mapping(map.listed_token(i));
         OK
     } else {
         RANGE
@@ -88,10 +89,10 @@ fn token_of(map: &SourceMap, i: usize, out: &mut SmapListedMapping) -> u32
 }
 
 fn written_source_of(written: &WrittenSources, i: usize, out: &mut [u8], len: &mut usize) -> u32
-    ensures { WrittenSourceTold written.now i out.old out.new len.new result }
+    ensures { WrittenSourceReported written.now i out.old out.new len.new result }
 {
     if i < written.len() {
-        tell(written.source(i), out, len)
+        report_text(written.source(i), out, len)
     } else {
         *len = 0;
         RANGE
@@ -99,10 +100,10 @@ fn written_source_of(written: &WrittenSources, i: usize, out: &mut [u8], len: &m
 }
 
 fn written_root_of(written: &WrittenSources, i: usize, out: &mut [u8], len: &mut usize) -> u32
-    ensures { WrittenRootTold written.now i out.old out.new len.new result }
+    ensures { WrittenRootReported written.now i out.old out.new len.new result }
 {
     if i < written.len() {
-        tell(written.root(i), out, len)
+        report_text(written.root(i), out, len)
     } else {
         *len = 0;
         RANGE
@@ -117,7 +118,7 @@ pub extern "C" fn smap_listed_source(
     i: usize,
     out: &mut usize,
 ) -> u32
-    ensures told { ListedSource (held_map map.old.owner.value) i out.old out.new result }
+    ensures reported { ListedSource (held_map map.old.owner.value) i out.old out.new result }
     ensures same { map.new.owner.value ≡ map.old.owner.value }
 {
     match mem::replace(map, SmapMap::closed(alloc)).into_box() {
@@ -139,7 +140,7 @@ pub extern "C" fn smap_listed_name(
     out: &mut [u8],
     len: &mut usize,
 ) -> u32
-    ensures told { ListedName (held_map map.old.owner.value) i out.old out.new len.new result }
+    ensures reported { ListedName (held_map map.old.owner.value) i out.old out.new len.new result }
     ensures same { map.new.owner.value ≡ map.old.owner.value }
 {
     match mem::replace(map, SmapMap::closed(alloc)).into_box() {
@@ -163,7 +164,7 @@ pub extern "C" fn smap_listed_token(
     i: usize,
     out: &mut SmapListedMapping,
 ) -> u32
-    ensures told { ListedToken (held_map map.old.owner.value) i out.old out.new result }
+    ensures reported { ListedToken (held_map map.old.owner.value) i out.old out.new result }
     ensures same { map.new.owner.value ≡ map.old.owner.value }
 {
     match mem::replace(map, SmapMap::closed(alloc)).into_box() {
@@ -185,7 +186,7 @@ pub extern "C" fn smap_written_source(
     out: &mut [u8],
     len: &mut usize,
 ) -> u32
-    ensures told { WrittenSource (held_map map.old.owner.value) i out.old out.new len.new result }
+    ensures reported { WrittenSource (held_map map.old.owner.value) i out.old out.new len.new result }
     ensures same { map.new.owner.value ≡ map.old.owner.value }
 {
     match mem::replace(map, SmapMap::closed(alloc)).into_box() {
@@ -210,7 +211,7 @@ pub extern "C" fn smap_written_root(
     out: &mut [u8],
     len: &mut usize,
 ) -> u32
-    ensures told { WrittenRoot (held_map map.old.owner.value) i out.old out.new len.new result }
+    ensures reported { WrittenRoot (held_map map.old.owner.value) i out.old out.new len.new result }
     ensures same { map.new.owner.value ≡ map.old.owner.value }
 {
     match mem::replace(map, SmapMap::closed(alloc)).into_box() {

@@ -1,13 +1,14 @@
 //! Lookups, and mappings by their numbers.
 ghost use Rattle.std.specs.Prelude.{◌≡◌, Some, None};
-ghost use Rattle.smap_c.specs.Lookups.{told, Finds, FindsIndex, LooksUp, LooksUpIndex, NameTold, NameAt};
-ghost use Rattle.smap_c.specs.Lookups.{TokenTold, Token};
+ghost use Rattle.smap_c.specs.Lookups.{reported_mapping, Finds, FindsIndex, LooksUp, LooksUpIndex};
+ghost use Rattle.smap_c.specs.Lookups.{NameReported, NameAt};
+ghost use Rattle.smap_c.specs.Lookups.{TokenReported, Token};
 ghost use Rattle.smap_c.specs.Handles.{held_map};
 
 use crate::codes::{CLOSED, NONE, OK, RANGE};
 use crate::handles::SmapMap;
 use crate::opened::Opened;
-use crate::strings::tell;
+use crate::strings::report_text;
 use smap_record::{SourceMap, TokenView};
 use smap_trace::{find_in, lookup_in};
 use std::alloc::Global;
@@ -28,8 +29,8 @@ pub struct SmapMapping {
     pub source: usize,
 }
 
-fn told(token: TokenView<'_>) -> SmapMapping
-    ensures { result ≡ told token.entry }
+fn reported_mapping(token: TokenView<'_>) -> SmapMapping
+    ensures { result ≡ reported_mapping token.entry }
 {
     match token.original {
         Some(original) => SmapMapping {
@@ -62,7 +63,7 @@ fn find_mapping(opened: &Opened, line: u32, column: u32, out: &mut SmapMapping) 
     let (found, _) = lookup_in(&opened.map, &opened.starts, line, column);
     match found {
         Some(token) => {
-            *out = told(token);
+            *out = reported_mapping(token);
             OK
         }
         None => NONE,
@@ -127,14 +128,14 @@ pub extern "C" fn smap_find(
 }
 
 fn name_at(opened: &Opened, line: u32, column: u32, out: &mut [u8], len: &mut usize) -> u32
-    ensures { NameTold opened.now.map line column out.old out.new len.new result }
+    ensures { NameReported opened.now.map line column out.old out.new len.new result }
 {
     match lookup_in(&opened.map, &opened.starts, line, column).0 {
         Some(token) => match token.original {
-            Some(original) => tell(original.name, out, len),
-            None => tell(None, out, len),
+            Some(original) => report_text(original.name, out, len),
+            None => report_text(None, out, len),
         },
-        None => tell(None, out, len),
+        None => report_text(None, out, len),
     }
 }
 
@@ -148,7 +149,7 @@ pub extern "C" fn smap_name_at(
     out: &mut [u8],
     len: &mut usize,
 ) -> u32
-    ensures told { NameAt (held_map map.old.owner.value) line column out.old out.new len.new result }
+    ensures reported { NameAt (held_map map.old.owner.value) line column out.old out.new len.new result }
     ensures same { map.new.owner.value ≡ map.old.owner.value }
 {
     match mem::replace(map, SmapMap::closed(alloc)).into_box() {
@@ -165,10 +166,10 @@ pub extern "C" fn smap_name_at(
 }
 
 fn token_of(map: &SourceMap, i: usize, out: &mut SmapMapping) -> u32
-    ensures { TokenTold map.now i out.old out.new result }
+    ensures { TokenReported map.now i out.old out.new result }
 {
     if i < map.token_count() {
-        *out = told(map.token(i));
+        *out = reported_mapping(map.token(i));
         OK
     } else {
         RANGE
@@ -183,7 +184,7 @@ pub extern "C" fn smap_token(
     i: usize,
     out: &mut SmapMapping,
 ) -> u32
-    ensures told { Token (held_map map.old.owner.value) i out.old out.new result }
+    ensures reported { Token (held_map map.old.owner.value) i out.old out.new result }
     ensures same { map.new.owner.value ≡ map.old.owner.value }
 {
     match mem::replace(map, SmapMap::closed(alloc)).into_box() {

@@ -2,17 +2,17 @@
 ghost use Rattle.std.specs.Prelude.{◌≡◌, ◌↔◌, IsSome, IfSome, IsTrue, Option, Some, None, IfOk};
 ghost use Rattle.smap_record.specs.Record.{record_of};
 ghost use Rattle.smap_c.specs.Maps.{allowed, AreLimits, or_usual, Opens, OpensInto, Shares, Compares};
-ghost use Rattle.smap_c.specs.Maps.{counts_of, Counts, FileTold, File};
+ghost use Rattle.smap_c.specs.Maps.{counts_of, Counts, FileReported, File};
 ghost use Rattle.smap_c.specs.Memory.{TakesMemory};
 ghost use Rattle.smap_c.specs.Faults.{IsWhole};
 ghost use Rattle.smap_c.specs.Handles.{held_map, is_map};
 
 use crate::codes::{CLOSED, LIMITS, MEMORY, NOT_URL, OK};
-use crate::faults::{SmapFault, tell_fault};
+use crate::faults::{SmapFault, report_fault};
 use crate::handles::{Held, SmapMap};
 use crate::memory::memory_with;
 use crate::opened::Opened;
-use crate::strings::tell;
+use crate::strings::report_text;
 use smap_canon::same;
 use smap_mappings::{MAX_LINES, Memory};
 use smap_record::{Base, BaseFault, Fault, Limits, ReadError, SourceMap};
@@ -150,7 +150,7 @@ pub extern "C" fn smap_open(
             }
             Err(_) => MEMORY,
         },
-        Err(OpenFault::Refused(refused)) => tell_fault(alloc, &refused, fault),
+        Err(OpenFault::Refused(refused)) => report_fault(alloc, &refused, fault),
         Err(OpenFault::NotUrl) => NOT_URL,
         Err(OpenFault::Limits) => LIMITS,
         Err(OpenFault::Memory) => MEMORY,
@@ -255,7 +255,7 @@ pub extern "C" fn smap_count(alloc: Global, map: &mut SmapMap, out: &mut SmapCou
 /// About how many bytes of memory a map takes.
 #[unsafe(no_mangle)]
 pub extern "C" fn smap_held(alloc: Global, map: &mut SmapMap, out: &mut usize) -> u32
-    ensures told { TakesMemory (held_map map.old.owner.value) out.old out.new result }
+    ensures reported { TakesMemory (held_map map.old.owner.value) out.old out.new result }
     ensures same { map.new.owner.value ≡ map.old.owner.value }
 {
     match mem::replace(map, SmapMap::closed(alloc)).into_box() {
@@ -269,9 +269,9 @@ pub extern "C" fn smap_held(alloc: Global, map: &mut SmapMap, out: &mut usize) -
 }
 
 fn file_of(map: &SourceMap, out: &mut [u8], len: &mut usize) -> u32
-    ensures { FileTold map.now out.old out.new len.new result }
+    ensures { FileReported map.now out.old out.new len.new result }
 {
-    tell(map.file(), out, len)
+    report_text(map.file(), out, len)
 }
 
 /// The name of the generated file.
@@ -282,7 +282,7 @@ pub extern "C" fn smap_file(
     out: &mut [u8],
     len: &mut usize,
 ) -> u32
-    ensures told { File (held_map map.old.owner.value) out.old out.new len.new result }
+    ensures reported { File (held_map map.old.owner.value) out.old out.new len.new result }
     ensures same { map.new.owner.value ≡ map.old.owner.value }
 {
     match mem::replace(map, SmapMap::closed(alloc)).into_box() {

@@ -4,7 +4,7 @@ ghost use Rattle.std.specs.Prelude.{string_bytes};
 ghost use Rattle.smap_record.specs.Record.{record_of};
 ghost use Rattle.smap_trace.specs.Translation.{AreDistinct};
 ghost use Rattle.smap_trace.specs.Views.{scripts_in};
-ghost use Rattle.smap_c.specs.Scripts.{with_script, Adds, AddsScript, told_counts, told_trace};
+ghost use Rattle.smap_c.specs.Scripts.{with_script, Adds, AddsScript, reported_counts, reported_trace};
 ghost use Rattle.smap_c.specs.Scripts.{TranslatesInto, TranslatesBy};
 ghost use Rattle.smap_c.specs.Handles.{held_bytes, held_map, held_scripts, is_scripts};
 ghost use Rattle.smap_c.specs.Traces.{fates};
@@ -172,8 +172,8 @@ pub extern "C" fn smap_close_scripts(alloc: Global, scripts: &mut SmapScripts)
     *scripts = SmapScripts::closed(alloc);
 }
 
-fn told_counts(counts: Counts) -> SmapTraceCounts
-    ensures { result ≡ told_counts counts }
+fn reported_counts(counts: Counts) -> SmapTraceCounts
+    ensures { result ≡ reported_counts counts }
 {
     SmapTraceCounts {
         lines: counts.lines,
@@ -189,8 +189,8 @@ fn translated(
     trace: &[u8],
     how: u8,
 ) -> Result<(Vec<u8>, Counts), Memory>
-    ensures { IfOk result (λ told. (told.0.items, told.1)
-        ≡ told_trace (fates how scripts.now) trace.now) }
+    ensures { IfOk result (λ reported. (reported.0.items, reported.1)
+        ≡ reported_trace (fates how scripts.now) trace.now) }
 {
     let pairs = scripts.pairs(alloc)?;
     let mut reader = Device::new(trace);
@@ -217,17 +217,17 @@ fn translate_into(
     out: &mut SmapBytes,
     counts: &mut SmapTraceCounts,
 ) -> u32
-    ensures { TranslatesInto (told_trace (fates how scripts.now) trace.now)
+    ensures { TranslatesInto (reported_trace (fates how scripts.now) trace.now)
         (held_bytes out.old.owner.value) (held_bytes out.new.owner.value) counts.old counts.new result }
 {
-    let Ok((bytes, told)) = translated(alloc, scripts, trace, how) else {
+    let Ok((bytes, reported)) = translated(alloc, scripts, trace, how) else {
         return MEMORY;
     };
     let Ok(held) = Held::Bytes(bytes).boxed(alloc) else {
         return MEMORY;
     };
     *out = SmapBytes::of(held);
-    *counts = told_counts(told);
+    *counts = reported_counts(reported);
     OK
 }
 
@@ -241,7 +241,7 @@ pub extern "C" fn smap_translate(
     out: &mut SmapBytes,
     counts: &mut SmapTraceCounts,
 ) -> u32
-    ensures told { TranslatesBy (held_scripts scripts.old.owner.value) trace.now how
+    ensures reported { TranslatesBy (held_scripts scripts.old.owner.value) trace.now how
         (held_bytes out.old.owner.value) (held_bytes out.new.owner.value) counts.old counts.new result }
     ensures same { scripts.new.owner.value ≡ scripts.old.owner.value }
 {

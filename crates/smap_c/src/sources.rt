@@ -1,20 +1,21 @@
 //! What a source has, by its number.
 ghost use Rattle.std.specs.Prelude.{◌≡◌};
-ghost use Rattle.smap_c.specs.Sources.{UrlTold, ContentTold, SourceUrl, SourceContent, IgnoredTold, Ignored};
+ghost use Rattle.smap_c.specs.Sources.{UrlReported, ContentReported, SourceUrl, SourceContent};
+ghost use Rattle.smap_c.specs.Sources.{IgnoredReported, Ignored};
 ghost use Rattle.smap_c.specs.Handles.{held_map};
 
 use crate::codes::{CLOSED, OK, RANGE};
 use crate::handles::SmapMap;
-use crate::strings::tell;
+use crate::strings::report_text;
 use smap_record::SourceMap;
 use std::alloc::Global;
 use std::mem;
 
 fn url_of(map: &SourceMap, i: usize, out: &mut [u8], len: &mut usize) -> u32
-    ensures { UrlTold map.now i out.old out.new len.new result }
+    ensures { UrlReported map.now i out.old out.new len.new result }
 {
     if i < map.source_count() {
-        tell(map.source(i).url, out, len)
+        report_text(map.source(i).url, out, len)
     } else {
         *len = 0;
         RANGE
@@ -22,10 +23,10 @@ fn url_of(map: &SourceMap, i: usize, out: &mut [u8], len: &mut usize) -> u32
 }
 
 fn content_of(map: &SourceMap, i: usize, out: &mut [u8], len: &mut usize) -> u32
-    ensures { ContentTold map.now i out.old out.new len.new result }
+    ensures { ContentReported map.now i out.old out.new len.new result }
 {
     if i < map.source_count() {
-        tell(map.source(i).content, out, len)
+        report_text(map.source(i).content, out, len)
     } else {
         *len = 0;
         RANGE
@@ -33,7 +34,7 @@ fn content_of(map: &SourceMap, i: usize, out: &mut [u8], len: &mut usize) -> u32
 }
 
 fn ignored_of(map: &SourceMap, i: usize, out: &mut bool) -> u32
-    ensures { IgnoredTold map.now i out.old out.new result }
+    ensures { IgnoredReported map.now i out.old out.new result }
 {
     if i < map.source_count() {
         *out = map.source(i).ignored;
@@ -52,7 +53,7 @@ pub extern "C" fn smap_source_url(
     out: &mut [u8],
     len: &mut usize,
 ) -> u32
-    ensures told { SourceUrl (held_map map.old.owner.value) i out.old out.new len.new result }
+    ensures reported { SourceUrl (held_map map.old.owner.value) i out.old out.new len.new result }
     ensures same { map.new.owner.value ≡ map.old.owner.value }
 {
     match mem::replace(map, SmapMap::closed(alloc)).into_box() {
@@ -77,7 +78,7 @@ pub extern "C" fn smap_source_content(
     out: &mut [u8],
     len: &mut usize,
 ) -> u32
-    ensures told { SourceContent (held_map map.old.owner.value) i out.old out.new len.new result }
+    ensures reported { SourceContent (held_map map.old.owner.value) i out.old out.new len.new result }
     ensures same { map.new.owner.value ≡ map.old.owner.value }
 {
     match mem::replace(map, SmapMap::closed(alloc)).into_box() {
@@ -96,7 +97,7 @@ pub extern "C" fn smap_source_content(
 /// Whether the i-th distinct source is ignored.
 #[unsafe(no_mangle)]
 pub extern "C" fn smap_is_ignored(alloc: Global, map: &mut SmapMap, i: usize, out: &mut bool) -> u32
-    ensures told { Ignored (held_map map.old.owner.value) i out.old out.new result }
+    ensures reported { Ignored (held_map map.old.owner.value) i out.old out.new result }
     ensures same { map.new.owner.value ≡ map.old.owner.value }
 {
     match mem::replace(map, SmapMap::closed(alloc)).into_box() {

@@ -1,6 +1,6 @@
 //! Strings that go out into a buffer of the caller's.
 ghost use Rattle.std.specs.Prelude.{◌≡◌, length, option_copied, option_map};
-ghost use Rattle.smap_c.specs.Strings.{copied, TextTold};
+ghost use Rattle.smap_c.specs.Strings.{copied, TextReported};
 
 use crate::codes::{NONE, OK};
 
@@ -16,8 +16,8 @@ pub(crate) fn copy_out<T: Copy>(text: &[T], out: &mut [T]) -> usize
 }
 
 /// Copies bytes out, where there are some.
-pub(crate) fn tell_bytes(text: Option<&[u8]>, out: &mut [u8], len: &mut usize) -> u32
-    ensures { TextTold (option_map (λ t. t.now) text.entry) out.old out.new len.new result }
+pub(crate) fn report_bytes(text: Option<&[u8]>, out: &mut [u8], len: &mut usize) -> u32
+    ensures { TextReported (option_map (λ t. t.now) text.entry) out.old out.new len.new result }
 {
     match text {
         Some(text) => {
@@ -32,8 +32,8 @@ pub(crate) fn tell_bytes(text: Option<&[u8]>, out: &mut [u8], len: &mut usize) -
 }
 
 /// Copies a text out, where there is one.
-pub(crate) fn tell(text: Option<&str>, out: &mut [u8], len: &mut usize) -> u32
-    ensures { TextTold (option_copied text.entry) out.old out.new len.new result }
+pub(crate) fn report_text(text: Option<&str>, out: &mut [u8], len: &mut usize) -> u32
+    ensures { TextReported (option_copied text.entry) out.old out.new len.new result }
 {
     match text {
         Some(text) => {

@@ -1,6 +1,6 @@
 //! The calls on the lines of a trace.
 ghost use Rattle.std.specs.Prelude.{◌≡◌};
-ghost use Rattle.smap_c.specs.Traces.{mode_in, hides, FrameTold, LineTold, LineBy, TellsLine};
+ghost use Rattle.smap_c.specs.Traces.{mode_in, hides, FrameReported, LineReported, LineBy, ReportsLine};
 ghost use Rattle.smap_c.specs.Handles.{held_map};
 
 use crate::codes::{CLOSED, MEMORY, NONE, NOT_URL, OK};
@@ -24,7 +24,7 @@ pub struct SmapFrameParts {
 /// The frame that a line of a trace is, if it is one.
 #[unsafe(no_mangle)]
 pub extern "C" fn smap_frame(text: &[u8], out: &mut SmapFrameParts) -> u32
-    ensures { FrameTold text.now out.old out.new result }
+    ensures { FrameReported text.now out.old out.new result }
 {
     match frame(text) {
         Some(frame) => {
@@ -77,7 +77,8 @@ fn line_of(
     len: &mut usize,
     outcome: &mut u32,
 ) -> u32
-    ensures { LineTold url.now map.now line.now how out.old out.new len.new outcome.old outcome.new result }
+    ensures { LineReported url.now map.now line.now how out.old out.new len.new outcome.old outcome.new
+        result }
 {
     let mut text = Vec::new(alloc);
     match translate_line_by(line, &[(url, map)], mode_in(how), hides(how), &mut text) {
@@ -131,7 +132,7 @@ pub extern "C" fn smap_translate_line(
     len: &mut usize,
     outcome: &mut u32,
 ) -> u32
-    ensures told { TellsLine (held_map map.old.owner.value) url.now line.now how out.old out.new len.new
+    ensures reported { ReportsLine (held_map map.old.owner.value) url.now line.now how out.old out.new len.new
         outcome.old outcome.new result }
     ensures same { map.new.owner.value ≡ map.old.owner.value }
 {

@@ -4,7 +4,7 @@ ghost use Rattle.smap_c.specs.Faults.{IsWhole};
 ghost use Rattle.smap_c.specs.Handles.{held_map};
 
 use crate::codes::{LIMITS, MEMORY, NOT_URL, OK, URL_BYTES};
-use crate::faults::{SmapFault, tell_fault};
+use crate::faults::{SmapFault, report_fault};
 use crate::handles::SmapMap;
 use crate::maps::{OpenFault, Shared, SmapLimits, limits_of};
 use crate::opened::Opened;
@@ -81,7 +81,7 @@ pub extern "C" fn smap_open_within(
             Err(_) => MEMORY,
         },
         Ok(None) => URL_BYTES,
-        Err(OpenFault::Refused(refused)) => tell_fault(alloc, &refused, fault),
+        Err(OpenFault::Refused(refused)) => report_fault(alloc, &refused, fault),
         Err(OpenFault::NotUrl) => NOT_URL,
         Err(OpenFault::Limits) => LIMITS,
         Err(OpenFault::Memory) => MEMORY,

@@ -9,7 +9,7 @@ returns-then-i-token_count c = (
   Some c.token.result,
   c.token.ensures.mapping,
   c.token.ensures.number,
-  (refl, c.told.ensures),
+  (refl, c.reported_mapping.ensures),
 )
 
 pub returns-else-i-token_count : goal.returns-else-i-token_count

@@ -2,7 +2,7 @@
 use Rattle.std.proofs.Common.{refl, Err}
 use Rattle.smap_c.specs.Handles.{held_map}
 use Rattle.smap_c.specs.declared.maps.OpenFault.TheVariants as faults
-use Rattle.smap_c.proofs.MapLemmas.{refused_told_within}
+use Rattle.smap_c.proofs.MapLemmas.{refused_reported_within}
 use Rattle.smap_c.proofs.within.smap_open_within.Goals as goal
 
 pub returns-in-Err-clause-opened : goal.returns-in-Err-clause-opened
@@ -10,7 +10,7 @@ returns-in-Err-clause-opened c = (Err faults.Memory, tt, ((refl, refl), refl))
 
 pub returns-in-Err-Refused-clause-opened : goal.returns-in-Err-Refused-clause-opened
 returns-in-Err-Refused-clause-opened c =
-    refused_told_within c.args.bytes.now c.args.base.now c.args.limits.now c.args.url_bytes
-    c.in-Err-Refused.refused (held_map c.args.map.now.owner.value) c.args.fault.now c.tell_fault.new.out
-    c.tell_fault.result
-    (rw c.in-Err-Refused.field-0-is at c.in-Err-Refused.ensures) c.tell_fault.ensures.told
+    refused_reported_within c.args.bytes.now c.args.base.now c.args.limits.now c.args.url_bytes
+    c.in-Err-Refused.refused (held_map c.args.map.now.owner.value) c.args.fault.now c.report_fault.new.out
+    c.report_fault.result
+    (rw c.in-Err-Refused.field-0-is at c.in-Err-Refused.ensures) c.report_fault.ensures.reported
