@@ -1,4 +1,4 @@
-/* Makes each call that takes memory with each of its growths refused in turn. The call is done, or answers
+/* Makes each call that takes memory with each of its allocations refused in turn. It is done, or answers
  * that memory ran out and leaves its handles as they were; and once more it is done. Link it with
  * -Wl,--wrap=malloc,--wrap=realloc. */
 #include "maps.h"
@@ -156,7 +156,7 @@ static uint32_t alike(void)
     return code;
 }
 
-/* Makes the call with the growth of each number refused, and counts them. */
+/* Makes the call with the allocation of each number refused, and counts them. */
 static void refuse(const char *name, uint32_t (*call)(void), uint32_t wanted)
 {
     long n = 0, refused = 0;
@@ -177,7 +177,7 @@ static void refuse(const char *name, uint32_t (*call)(void), uint32_t wanted)
         smap_close(&other);
     }
     CHECK(refused > 0);
-    printf("%s: %ld growths, %ld times out of memory\n", name, n - 1, refused);
+    printf("%s: %ld allocations, %ld times out of memory\n", name, n - 1, refused);
 }
 
 int main(void)

@@ -1,5 +1,5 @@
 //! A program for tests. It makes one call of the libraries on its standard input, twice, and prints both
-//! answers, or `memory` for one that ran out of memory. `tests/growths/run` runs it once for each
+//! answers, or `memory` for one that ran out of memory. `tests/allocation_failures/run` runs it once for each
 //! request for memory that the call makes, and refuses that request.
 #![tactic(auto)]
 
