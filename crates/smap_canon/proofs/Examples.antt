@@ -74,7 +74,8 @@ unfolding serde_json_on_literals digits digit_byte shortest_digits spelling mapp
 ignored = refl
 
 abbrev file_record : Record
-file_record = record { labels = record no_labels { file = Some (codes "x/y\t\u{b}") }; sources = []; mappings = [] }
+file_record =
+    record { labels = record no_labels { file = Some (codes "x/y\t\u{b}") }; sources = []; mappings = [] }
 
 escaped_file : canonical_text file_record ≡ codes
     "{\"file\":\"x/y\\t\\u000b\",\"mappings\":\"\",\"names\":[],\"sources\":[],\"version\":3}"

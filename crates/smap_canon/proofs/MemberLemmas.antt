@@ -1,6 +1,7 @@
 -- What is proved of the members of a layout, member by member.
 use Rattle.std.proofs.Common.{arith}
-use Rattle.std.proofs.Common.{◌≡◌, ℕ, List, [], ◌∷◌, Option, Some, None, ap, refl, Bool, true, false, cond, bytes_eq, not}
+use Rattle.std.proofs.Common.{◌≡◌, ℕ, List, [], ◌∷◌, Option, Some, None, ap, refl, Bool, true, false, cond}
+use Rattle.std.proofs.Common.{bytes_eq, not}
 use Rattle.std.specs.Prelude.{option_map, option_and_then, ◌&&◌, IfSome}
 use Rattle.std.specs.List.{list_all, AllByRecursion}
 use Rattle.std.specs.Option.{option_or}

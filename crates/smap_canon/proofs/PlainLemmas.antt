@@ -12,7 +12,8 @@ use Rattle.smap_shape.specs.Labels.{named}
 use Rattle.smap_record.specs.Record.{Entry, ReadMap}
 use Rattle.smap_record.proofs.ListLemmas.{all_weaker}
 use Rattle.smap_canon.specs.Layout.{layout, list_of, or_null, whole_number, ignored_from, has_content}
-use Rattle.smap_canon.specs.Layout.{unless_empty, written_contents, members_of, listing_members, label_members}
+use Rattle.smap_canon.specs.Layout.{unless_empty, written_contents, members_of, listing_members}
+use Rattle.smap_canon.specs.Layout.{label_members}
 use Rattle.smap_canon.proofs.EntryLemmas.{ignored_below}
 use Rattle.smap_canon.proofs.LabelLemmas.{labels_plain}
 use Rattle.smap_canon.proofs.MemberLemmas.{IsSaid, members_said, before_rest}

@@ -1,5 +1,6 @@
 -- For private contracts: what a layout sends to a serializer, member by member.
-use Rattle.std.specs.Prelude.{◌≡◌, ℕ, List, [], ◌++◌, map, Option, Some, None, is_some, option_map, option_copied}
+use Rattle.std.specs.Prelude.{◌≡◌, ℕ, List, [], ◌++◌, map, Option, Some, None, is_some, option_map}
+use Rattle.std.specs.Prelude.{option_copied}
 use Rattle.std.specs.Prelude.{if◌then◌else◌}
 use Rattle.serde.specs.Event.{Log, Logs, field_key}
 use Rattle.serde.specs.declared.name.Case.TheVariants.{AsIs}

@@ -16,7 +16,8 @@ use Rattle.smap_mappings.specs.declared.token.Original.{Original}
 use Rattle.smap_mappings.specs.declared.running.Running.{Running}
 use Rattle.smap_mappings.specs.declared.error.SegmentKind.{SegmentKind}
 use Rattle.smap_mappings.specs.Lines.{SegmentText, segments_of}
-use Rattle.smap_mappings.specs.Tokens.{Segment, Values, original_in, token_in, at_place, read_in, tokens_after}
+use Rattle.smap_mappings.specs.Tokens.{Segment, Values, original_in, token_in, at_place, read_in}
+use Rattle.smap_mappings.specs.Tokens.{tokens_after}
 use Rattle.smap_mappings.specs.Steps.{Sums, next_values, values_after, token_step, fields_or_kind, judge_step}
 use Rattle.smap_mappings.specs.Steps.{at_start}
 use Rattle.smap_mappings.specs.Text.{difference}
@@ -43,7 +44,8 @@ no_name : (bounds : Bounds) (v : Values) (last : ℕ) (name : Option ℕ) → Na
 no_name bounds v last None h = refl
 no_name bounds v last (Some n) h = absurd (let five : false ≡ true = h.1 in cc)
 
-one_name : (bounds : Bounds) (v : Values) (last : ℕ) (number : ℤ) (name : Option ℕ) → v.name ≡ pos last +ℤ number
+one_name : (bounds : Bounds) (v : Values) (last : ℕ) (number : ℤ) (name : Option ℕ)
+    → v.name ≡ pos last +ℤ number
     → NameTold bounds v 5 name → number ∷ [] ≡ name_from last name
 one_name bounds v last number None is h = absurd (let none : true ≡ false = h in cc)
 one_name bounds v last number (Some n) is h = ap (λ k. k ∷ []) (difference_is last n number (sym is ∙ h.0.0))

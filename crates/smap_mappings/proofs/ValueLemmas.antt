@@ -125,7 +125,9 @@ column_is bounds line z own at e = grind (arith, nat_tests)
 pub token_tells : (bounds : Bounds) (line : ℕ) (v : Values) (count : ℕ) (x : ℕ × Token)
     → token_in bounds line v count ≡ Ok x → TokenTold bounds line v count x
 token_tells bounds line v count x e =
-    let l = is_in bounds.lines (pos (placed bounds line 0).line) x.1.line (line_there bounds line v count x e) in
+    let l =
+    is_in bounds.lines (pos (placed bounds line 0).line) x.1.line
+    (line_there bounds line v count x e) in
     let c = column_is bounds line v.column x.0 x.1.column (column_there bounds line v count x e) in
     let same : x.1.line ≡ (placed bounds line 0).line = cc in
     record {
@@ -139,7 +141,8 @@ token_tells bounds line v count x e =
 
 -- ---- values that are read
 
-pub original_read : (bounds : Bounds) (v : Values) (count : ℕ) (o : Original) → IsIn bounds.sources v.source o.source
+pub original_read : (bounds : Bounds) (v : Values) (count : ℕ) (o : Original)
+    → IsIn bounds.sources v.source o.source
     → IsIn POSITIONS v.original_line o.line → IsIn POSITIONS v.original_column o.column
     → name_in bounds v count ≡ Ok o.name → eqb count 1 ≡ false → original_in bounds v count ≡ Ok (Some o)
 original_read bounds v count o source line column name several = grind (arith, nat_tests)

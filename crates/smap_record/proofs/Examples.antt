@@ -146,7 +146,11 @@ two_names = refl
 
 members_null : recorded usual (codes "{\"version\":3,\"file\":null,\"sections\":null,\"sources\":[null],"
     ++ codes "\"sourcesContent\":[\"t\"],\"mappings\":\"AAAA\"}")
-    ≡ Ok (Ok (record { labels = no_labels; sources = unnamed ∷ []; mappings = mapping 0 0 unnamed 0 0 None ∷ [] }))
+    ≡ Ok (Ok (record {
+      labels = no_labels;
+      sources = unnamed ∷ [];
+      mappings = mapping 0 0 unnamed 0 0 None ∷ [];
+    }))
 unfolding on_flat_maps
 members_null = refl
 

@@ -95,7 +95,8 @@ shape_fits tree =
     by : (labels : Labels) (o : Option Data) → Gives (flat_or_index labels o tree) FlatHasContents
     by labels None = then _ (flat_of labels tree) _
         (λ m ok. gives FlatHasContents (flat m) (flat_fits labels tree m ok))
-    by labels (Some sections) = then _ (index_of labels sections) _ (λ i _. gives FlatHasContents (index i) tt)
+    by labels (Some sections) =
+        then _ (index_of labels sections) _ (λ i _. gives FlatHasContents (index i) tt)
 
 -- ---- a flat map
 

@@ -40,7 +40,8 @@ tree_map_within base limits most tree =
       Ok (Some m))
     else Ok None
 
--- The labels and the listing of a map whose sources may take at most this many bytes, or its first fault; None
+-- The labels and the listing of a map whose sources may take at most this many bytes, or its first fault;
+-- None
 -- if they take more, whatever the fault is. A text that isn't JSON has no sources.
 abbrev pub reading_within : Parts → Allowed → ℕ → List ℕ → Checked (Option ReadMap)
 reading_within base limits most bytes =

@@ -12,7 +12,8 @@ use crate::view::{OriginalView, SourceView, TokenView};
 use smap_mappings::{Original, Token};
 use std::marker::Model;
 
-/// A source map that was read: its labels, as [`file`], its sources and names as listed, and its mappings, sorted by
+/// A source map that was read: its labels, as [`file`], its sources and names as listed, and its mappings,
+/// sorted by
 /// generated line and column.
 ///
 /// Two views of it have getters of their own. The *record* is what the map means, however it is written:

@@ -111,7 +111,8 @@ module _ (own : List (Option (List ℕ))) (x y : Data)
         rw (same (codes "sourceRoot") refl, same (codes "sources") refl, no_own, no_left) (grind arith)
 
     maps_alike : FlatsAre → (labels : Labels) (sections : Option Data)
-        → flat_or_index labels sections x ≡ map_value (map_with_contents own) (flat_or_index labels sections y)
+        → flat_or_index labels sections x
+        ≡ map_value (map_with_contents own) (flat_or_index labels sections y)
     maps_alike flats labels None = as_map own (flat_of labels x) (flat_of labels y) (flats labels)
     maps_alike flats labels (Some sections) = then_map_value _ (index_of labels sections) _ _ (λ _. refl)
 

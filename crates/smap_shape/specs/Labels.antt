@@ -1,4 +1,5 @@
--- The labels of a map: what it says of itself as a whole, whether it is a flat map or an index map, and what is
+-- The labels of a map: what it says of itself as a whole, whether it is a flat map or an index map, and
+-- what is
 -- kept as it is (ECMA-426, "Source map format").
 use Rattle.std.specs.Prelude.{List, [], ◌∷◌, ℕ, codes, Bool, bytes_eq, Option, None, Result, Ok}
 use Rattle.std.specs.List.{list_any}
@@ -9,7 +10,8 @@ use Rattle.smap_shape.specs.declared.fault.ShapeFault.{ShapeFault}
 use Rattle.smap_shape.specs.declared.fault.ShapeFault.TheVariants.{File}
 use Rattle.smap_shape.specs.OneMember.{or_fault, optional, member_of}
 
--- Each is a string, or None if it is absent or null. A further label is a field here, and a line in each of the
+-- Each is a string, or None if it is absent or null. A further label is a field here, and a line in each of
+-- the
 -- definitions below.
 pub record Labels : Type 0 where
   pub file : Option (List ℕ)

@@ -7,7 +7,8 @@ use Rattle.serde_json.specs.Events.{SendsValue, members_len}
 use Rattle.smap_mappings.specs.Text.{mappings_text}
 use Rattle.smap_record.specs.Record.{Entry}
 use Rattle.smap_canon.specs.Layout.{list_of, or_null, whole_number, ignored_from, unless_empty}
-use Rattle.smap_canon.specs.Layout.{written_contents, optional_member, layout, listing_members, label_member, written}
+use Rattle.smap_canon.specs.Layout.{written_contents, optional_member, layout, listing_members, label_member}
+use Rattle.smap_canon.specs.Layout.{written}
 use Rattle.smap_canon.specs.Spelling.{spelling_of}
 use Rattle.smap_canon.specs.Writing.{map_of, contents_tree, ignored_tree}
 use Rattle.smap_canon.proofs.SentLemmas.{member_sent, optional_sent, members_count, is_some-map, labels_same}
@@ -42,7 +43,8 @@ returns g c =
     on_ok_weaker c.end_map.result (λ e. (
       l0,
       subst (λ n. Logs old l0 (map_begins (Some n)))
-          (members_count (spelling_of self.spelling) m c.label_count.result c.is_some.result c.is_some-2.result
+          (members_count (spelling_of self.spelling) m c.label_count.result c.is_some.result
+          c.is_some-2.result
           (c.label_count.ensures ∙ ap (λ ms. members_len (written ms)) labels)
           (c.is_some.ensures ∙ is_some-map ignored_tree _ _ c.ignored_of-ignored.ensures)
           (c.is_some-2.ensures ∙ is_some-map contents_tree _ _ c.contents_of-contents.ensures))

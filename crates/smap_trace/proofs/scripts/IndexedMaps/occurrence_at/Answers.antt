@@ -32,13 +32,15 @@ loop-length-preserved c =
           c.longer-best.result c.loop-length.invariant.within c.occurrence_of_length-found.ensures.within
           c.longer-best.ensures.either;
       best = rw (c.longer-best.ensures.value, found) (next_length (at_length ignore scripts text)
-          c.args.self.now.lengths.items c.loop-length.length-index (option_map occurrence_in c.loop-length.best)
+          c.args.self.now.lengths.items c.loop-length.length-index
+          (option_map occurrence_in c.loop-length.best)
           (of_length ignore text scripts) (omega (arith, ap length items)) c.loop-length.invariant.best);
     }
 
 pub returns-clause-value : goal.returns-clause-value
 returns-clause-value c =
     let items = c.deref-length-items.ensures.value in
-    longest_of_all c.args.ignore_query c.args.text.now c.args.self.now.lengths.items c.loop-length.length-index
+    longest_of_all c.args.ignore_query c.args.text.now c.args.self.now.lengths.items
+    c.loop-length.length-index
     (scripts_in c.args.self.now.maps.entries) (option_map occurrence_in c.loop-length.best)
     (omega (arith, ap length items)) c.args.self.now.all_lengths c.loop-length.invariant.best
