@@ -169,7 +169,8 @@ class BindingsTest(unittest.TestCase):
         self.assert_asks("capi/node", "calls native.lookUp, which no file of native/ has, and is no getter")
 
     def test_a_kind_of_error_has_its_number_and_its_name(self):
-        self.change(KINDS, '    if n == 1 then', '    if n == 99 then codes "OneMore" else\n    if n == 1 then')
+        first = '    if n == 1 then'
+        self.change(KINDS, first, f'    if n == 99 then codes "OneMore" else\n{first}')
         self.assert_asks(PAGE, f"has no row for OneMore, which {KINDS} names")
         self.change(PAGE, "| Prefix |", "| OneMore | `m` | more than `all` | nothing |\n| Prefix |")
         self.assert_writes([HEADER, PYTHON, CRATE, WRAPPER, NODE])

@@ -61,7 +61,7 @@ declared_then() {
     sed -n 's/^[a-z][a-z0-9_]* \(smap_[a-z_]*\)(.*/\1/p' "$tests/0.1.0/smap.h" | sort
 }
 
-# `NAME 7` for each code, each bit or each kind of a fault, of the header; and of the definitions but for kinds.
+# `NAME 7` for each code, each bit or each kind of a fault of the header; for each code and bit of the definitions.
 numbered() {
     sed -n "s/^    $1\([A-Z0-9_]*\) = \([0-9]*\).*/\1 \2/p" "$lib/smap.h"
 }
@@ -72,8 +72,8 @@ defined() {
 
 # The same for the kinds of faults, as the definitions number and name them: `NOT_OBJECT 3` for NotObject.
 named() {
-    sed -n 's/^    if n == \([0-9]*\) then codes "\(.*\)" else.*/\2 \1/p' crates/smap_record/specs/Kinds.antt |
-        sed 's/\([a-z]\)\([A-Z]\)/\1_\2/g' | tr 'a-z' 'A-Z'
+    sed -n 's/^    if n == \([0-9]*\) then codes "\(.*\)" else.*/\2 \1/p' \
+        crates/smap_record/specs/Kinds.antt | sed 's/\([a-z]\)\([A-Z]\)/\1_\2/g' | tr 'a-z' 'A-Z'
 }
 
 numbers_agree() {

@@ -1,11 +1,11 @@
 -- A layout's tree is shallow, has no float, its numbers can be printed, and its JSON says it.
-use Rattle.std.proofs.Common.{◌≡◌, ℕ, ◌≤◌, ◌<◌, ◌^◌, List, [], ◌∷◌, length, map, Option, Some, None, ap, refl}
+use Rattle.std.proofs.Common.{ℕ, ◌≤◌, ◌<◌, ◌^◌, List, [], ◌∷◌, length, map, Option, Some, None, ap, refl}
 use Rattle.std.proofs.Common.{arith}
 use Rattle.std.specs.List.{AllByRecursion}
 use Rattle.std.specs.Prelude.{IfSome, option_map}
 use Rattle.std.proofs.lemmas.Bool.{cond_both}
 use Rattle.std.proofs.lemmas.Option.{IfSome_then}
-use Rattle.serde_json.specs.Data.{Data, object, string}
+use Rattle.serde_json.specs.Data.{object, string}
 use Rattle.smap_vlq.proofs.ListLemmas.{all_append}
 use Rattle.smap_mappings.specs.Text.{mappings_text}
 use Rattle.smap_shape.specs.Labels.{named}

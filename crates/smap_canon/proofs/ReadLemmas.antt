@@ -1,5 +1,5 @@
 -- The bytes of a listing are read as that listing.
-use Rattle.std.proofs.Common.{◌≡◌, ℕ, ◌≤◌, ◌+◌, List, [], length, map, Option, Some, None, Ok, ap, refl}
+use Rattle.std.proofs.Common.{◌≡◌, ℕ, ◌≤◌, ◌+◌, List, [], length, map, Some, None, Ok, ap, refl}
 use Rattle.std.proofs.Common.{◌∙◌, true, false, cond, arith}
 use Rattle.std.specs.Prelude.{nat_lt, option_map}
 use Rattle.std.specs.List.{AllByRecursion}

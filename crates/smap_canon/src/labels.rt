@@ -1,5 +1,5 @@
 //! The labels of a map, written one after another.
-ghost use Rattle.std.specs.Prelude.{◌≡◌, OnOk, map as mapped};
+ghost use Rattle.std.specs.Prelude.{◌≡◌, ◌≤◌, OnOk, length, map as mapped};
 ghost use Rattle.serde_json.specs.Events.{members_len};
 ghost use Rattle.smap_canon.specs.Layout.{written};
 ghost use Rattle.smap_canon.specs.Writing.{SendsAll, member_of_label};
@@ -10,7 +10,8 @@ use smap_record::LabelView;
 
 /// How many of the labels are written.
 pub(crate) fn label_count(labels: &[LabelView<'_>]) -> usize
-    ensures { result ≡ members_len (written (mapped member_of_label labels.now)) }
+    ensures count { result ≡ members_len (written (mapped member_of_label labels.now)) }
+    ensures few { result ≤ length labels.now }
 {
     let mut count: usize = 0;
     for i in 0..labels.len() {

@@ -14,5 +14,9 @@ loop-i-preserved c = elim c.if-is_some.branch [
       c.loop-i-test.true (sym w.if-is_some.false ∙ c.is_some.ensures) (omega arith) c.loop-i.invariant
 ]
 
-pub returns : goal.returns
-returns c = labels_counted c.args.labels.now c.loop-i.i c.loop-i.count c.loop-i-test.false c.loop-i.invariant
+pub returns-clause-count : goal.returns-clause-count
+returns-clause-count c =
+    labels_counted c.args.labels.now c.loop-i.i c.loop-i.count c.loop-i-test.false c.loop-i.invariant
+
+pub returns-clause-few : goal.returns-clause-few
+returns-clause-few c = omega (arith, c.loop-i.invariant.1, c.loop-i.auto.i-end)

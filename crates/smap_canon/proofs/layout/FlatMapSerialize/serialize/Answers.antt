@@ -1,4 +1,4 @@
-use Rattle.std.proofs.Common.{◌≡◌, map, Some, ap, ◌∙◌, subst}
+use Rattle.std.proofs.Common.{arith, map, Some, ap, ◌∙◌, subst}
 use Rattle.std.specs.Prelude.{codes, option_map}
 use Rattle.std.proofs.lemmas.Result.{on_ok_weaker}
 use Rattle.serde.specs.Event.{Logs, map_begins}
@@ -6,13 +6,32 @@ use Rattle.serde_json.specs.Data.{string, no_members, member}
 use Rattle.serde_json.specs.Events.{SendsValue, members_len}
 use Rattle.smap_mappings.specs.Text.{mappings_text}
 use Rattle.smap_record.specs.Record.{Entry}
-use Rattle.smap_canon.specs.Layout.{list_of, or_null, whole_number, ignored_from, unless_empty}
+use Rattle.smap_canon.specs.Layout.{list_of, or_null, whole_number}
 use Rattle.smap_canon.specs.Layout.{written_contents, optional_member, layout, listing_members, label_member}
 use Rattle.smap_canon.specs.Layout.{written}
 use Rattle.smap_canon.specs.Spelling.{spelling_of}
 use Rattle.smap_canon.specs.Writing.{map_of, contents_tree, ignored_tree}
 use Rattle.smap_canon.proofs.SentLemmas.{member_sent, optional_sent, members_count, is_some-map, labels_same}
+use Rattle.smap_canon.proofs.SentLemmas.{at_most_one, few_labels}
 use Rattle.smap_canon.proofs.layout.FlatMapSerialize.serialize.Goals as goal
+
+pub overflow_add-optional : goal.overflow_add-optional
+overflow_add-optional g c =
+    let few = few_labels c.labels-labels.result _ c.label_count.result c.labels-labels.ensures
+    c.label_count.ensures.few in
+    omega (arith, few, at_most_one c.is_some.result)
+
+pub overflow_add-optional-2 : goal.overflow_add-optional-2
+overflow_add-optional-2 g c =
+    let few = few_labels c.labels-labels.result _ c.label_count.result c.labels-labels.ensures
+    c.label_count.ensures.few in
+    omega (arith, few, at_most_one c.is_some.result, at_most_one c.is_some-2.result)
+
+pub overflow_add-optional-3 : goal.overflow_add-optional-3
+overflow_add-optional-3 g c =
+    let few = few_labels c.labels-labels.result _ c.label_count.result c.labels-labels.ensures
+    c.label_count.ensures.few in
+    omega (arith, few, at_most_one c.is_some.result, at_most_one c.is_some-2.result)
 
 pub returns : goal.returns
 unfolding layout
@@ -45,7 +64,7 @@ returns g c =
       subst (λ n. Logs old l0 (map_begins (Some n)))
           (members_count (spelling_of self.spelling) m c.label_count.result c.is_some.result
           c.is_some-2.result
-          (c.label_count.ensures ∙ ap (λ ms. members_len (written ms)) labels)
+          (c.label_count.ensures.count ∙ ap (λ ms. members_len (written ms)) labels)
           (c.is_some.ensures ∙ is_some-map ignored_tree _ _ c.ignored_of-ignored.ensures)
           (c.is_some-2.ensures ∙ is_some-map contents_tree _ _ c.contents_of-contents.ensures))
           c.in_ok-begin_map.ensures,
