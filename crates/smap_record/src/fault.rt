@@ -1,6 +1,5 @@
-//! Why a map is refused: every kind of fault with its section, its place and its message, and its number in
-//! C.
-//! Whoever prints a fault adds words such as `refused: ` before the message.
+//! Why a map is refused: every kind of fault with its section, its place and its message, and its number
+//! in C. Whoever prints a fault adds words such as `refused: ` before the message.
 ghost use Rattle.std.specs.Prelude.{◌≡◌, ◌++◌, Some, codes};
 ghost use Rattle.smap_record.specs.MessageView.{message_bytes};
 ghost use Rattle.smap_record.specs.Faults.{plain, segment_fault};
