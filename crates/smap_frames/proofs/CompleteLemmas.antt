@@ -2,8 +2,7 @@
 use Rattle.std.proofs.Common.{◌≡◌, ◌≢◌, ◌∙◌, ◌⊎◌, inl, inr, ℕ, ◌+◌, ◌-◌, ◌<◌, ◌≤◌, ◌==◌, Bool, true, false}
 use Rattle.std.proofs.Common.{not, List, [], ◌∷◌, ◌++◌, length, take, drop, reverse, Some, refl, sym, ap}
 use Rattle.std.proofs.Common.{arith, append_assoc, append-nil, slice_index, nat_eq, nat_le, nat_lt}
-use Rattle.std.proofs.Common.{length-take}
-use Rattle.std.proofs.Common.{length-append, codes, eqb}
+use Rattle.std.proofs.Common.{length-take, length-append, codes, eqb}
 use Rattle.std.specs.Char.{is_ascii_digit}
 use Rattle.std.specs.Cmp.{booleans_Decides}
 use Rattle.std.specs.List.{starts_with, ends_with, after_last, prefix_len, position_or_len, list_all}

@@ -72,29 +72,23 @@ pub same_first : (f g : Form → Option FrameParts) (rows : List Form) → ((for
 same_first f g [] h = refl
 same_first f g (form ∷ rows) h = rw (h form, same_first f g rows h) refl
 
+first_step : (get : Form → Option FrameParts) (rows : List Row) (i : ℕ) (d : Row) → i < length rows
+    → first_of get (map form_in (drop i rows))
+    ≡ option_or (get (form_in (get_or rows i d))) (first_of get (map form_in (drop (i + 1) rows)))
+first_step get rows i d lt = ap (λ (xs : List Row). first_of get (map form_in xs)) (drop_more rows i d lt)
+
 -- a row that gives a frame, and one that gives none
-module _ (get : Form → Option FrameParts) (rows : List Row) (i : ℕ) (d : Row) (o : Option Frame)
-    (lt : i < length rows) (is : option_map parts_in o ≡ get (form_in (get_or rows i d))) where
-  step : first_of get (map form_in (drop i rows))
-      ≡ option_or (option_map parts_in o) (first_of get (map form_in (drop (i + 1) rows)))
-  step = rw is (ap (λ (xs : List Row). first_of get (map form_in xs)) (drop_more rows i d lt))
+pub row_gives : (get : Form → Option FrameParts) (rows : List Row) (i : ℕ) (d : Row) (o : Option Frame)
+    → i < length rows → option_map parts_in o ≡ get (form_in (get_or rows i d)) → true ≡ is_some o
+    → option_map parts_in o ≡ first_of get (map form_in (drop i rows))
+row_gives get rows i d (Some f) lt is some = rw (first_step get rows i d lt, ← is) refl
+row_gives get rows i d None lt is some = cc
 
-  pub row_gives : true ≡ is_some o → option_map parts_in o ≡ first_of get (map form_in (drop i rows))
-  row_gives some = rw step (first o (first_of get (map form_in (drop (i + 1) rows))) some)
-    where
-      first : (o : Option Frame) (rest : Option FrameParts) → true ≡ is_some o
-          → option_map parts_in o ≡ option_or (option_map parts_in o) rest
-      first (Some f) rest e = refl
-      first None rest e = cc
-
-  pub row_gives_none : false ≡ is_some o
-      → first_of get (map form_in (drop (i + 1) rows)) ≡ first_of get (map form_in (drop i rows))
-  row_gives_none none = rw step (second o (first_of get (map form_in (drop (i + 1) rows))) none)
-    where
-      second : (o : Option Frame) (rest : Option FrameParts) → false ≡ is_some o
-          → rest ≡ option_or (option_map parts_in o) rest
-      second (Some f) rest e = cc
-      second None rest e = refl
+pub row_gives_none : (get : Form → Option FrameParts) (rows : List Row) (i : ℕ) (d : Row) (o : Option Frame)
+    → i < length rows → option_map parts_in o ≡ get (form_in (get_or rows i d)) → false ≡ is_some o
+    → first_of get (map form_in (drop (i + 1) rows)) ≡ first_of get (map form_in (drop i rows))
+row_gives_none get rows i d (Some f) lt is none = cc
+row_gives_none get rows i d None lt is none = rw (first_step get rows i d lt, ← is) refl
 
 pub no_row : (get : Form → Option FrameParts) (rows : List Row) (i : ℕ) → length rows ≤ i
     → None ≡ first_of get (map form_in (drop i rows))
