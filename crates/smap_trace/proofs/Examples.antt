@@ -2,7 +2,7 @@
 use Rattle.std.proofs.Common.{◌≡◌, ℕ, Bool, List, [], ◌∷◌, true, false, Some, None, refl, codes, ◌++◌}
 use Rattle.std.specs.Fmt.{digits}
 use Rattle.smap_frames.specs.Reading.{frame_of}
-use Rattle.smap_record.specs.Record.{Entry, Mapping}
+use Rattle.smap_record.specs.Record.{no_labels, Entry, Mapping}
 use Rattle.smap_trace.specs.Lookup.{mapping_at}
 use Rattle.smap_trace.specs.Translation.{Script, line_translation, translation}
 use Rattle.smap_trace.specs.Views.{counts_of}
