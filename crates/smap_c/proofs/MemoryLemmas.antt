@@ -2,13 +2,14 @@
 use Rattle.std.proofs.Common.{add-one}
 use Rattle.std.proofs.Common.{◌≡◌, ◌+◌, ◌^◌, ◌<◌, ◌≤◌, ◌∙◌, ℕ, zero, suc, List, [], ◌∷◌, Option, Some, None}
 use Rattle.std.proofs.Common.{arith, drop, false, length, option_copied, refl}
-use Rattle.std.proofs.Common.{slice_get, sym, take}
+use Rattle.std.proofs.Common.{map, slice_get, sym, take}
 use Rattle.std.proofs.Common.{Bool, Bor, bytes_eq}
 use Rattle.std.specs.Option.{option_eq}
 use Rattle.std.proofs.Math.ListN.{drop_of_length-le}
 use Rattle.std.proofs.lemmas.Option.{slice_get_past}
 use Rattle.smap_record.specs.Record.{same_text}
 use Rattle.std.specs.Prelude.{sum_by, option_map}
+use Rattle.std.specs.List.{fold}
 use Rattle.std.proofs.lemmas.Bool.Decides.{nat_tests}
 use Rattle.std.proofs.lemmas.List.Sums.{sum_by_push}
 use Rattle.smap_record.specs.Written.{Spelling}
@@ -22,8 +23,12 @@ use Rattle.smap_record.proofs.ListLemmas.{take_next}
 -- the texts of labels, by their views
 pub labels_summed : (vs : List LabelView)
     → sum_by (λ v. text_memory (option_copied v.text)) vs ≡ sum_by label_memory (map named_of_view vs)
-labels_summed [] = refl
-labels_summed (v ∷ vs) = ap (λ n. text_memory (option_copied v.text) + n) (labels_summed vs)
+labels_summed vs = from vs 0
+  where
+    from : (vs : List LabelView) (n : ℕ) → fold (λ n v. n + text_memory (option_copied v.text)) n vs
+        ≡ fold (λ n label. n + label_memory label) n (map named_of_view vs)
+    from [] n = refl
+    from (v ∷ vs) n = from vs (n + text_memory (option_copied v.text))
 
 -- a capped sum goes on
 pub capped_next : {A : Type 0} (f : A → ℕ) (xs : List A) (i : ℕ) (x : A) (so_far next : ℕ)

@@ -5,4 +5,4 @@ use Rattle.smap_c.proofs.memory.labels_memory.Goals as goal
 
 pub returns : goal.returns
 returns c = c.views_memory.ensures
-    ∙ ap capped (labels_summed c.labels.result ∙ ap (sum_by label_memory) c.labels.ensures)
+    ∙ ap capped (labels_summed c.labels-labels.result ∙ ap (sum_by label_memory) c.labels-labels.ensures)
