@@ -117,8 +117,8 @@ inline uint32_t source_content(Map &map, size_t source, std::string &out)
     return copied_of(map, out, smap_source_content, source);
 }
 
-/* The i-th source that the map lists, as its text writes it: not resolved, and without its `sourceRoot`.
- * */
+/* The i-th source that the map lists, as its text writes it: not resolved, and without its
+ * `sourceRoot`. */
 inline uint32_t written_source(Map &map, size_t i, std::string &out)
 {
     return copied_of(map, out, smap_written_source, i);

@@ -104,8 +104,9 @@ def cpp_text(getter):
     """A function that makes a string of a text of a map."""
     words = "".join(f"{one.type.name} {one.name}, " for one in getter.which)
     call = ", ".join(["map", "out", getter.name, *(one.name for one in getter.which)])
-    said = textwrap.wrap(f"/* {getter.sentence('Copies ')} */", WIDTH, subsequent_indent=" * ")
-    return "\n".join(said) + f"""
+    said = f"/* {getter.sentence('Copies ')}\u00a0*/"  # which isn't left alone on a line
+    lines = "\n".join(textwrap.wrap(said, WIDTH, subsequent_indent=" * ")).replace("\u00a0", " ")
+    return lines + f"""
 inline uint32_t {bare(getter.name)}(Map &map, {words}std::string &out)
 {{
     return copied_of({call});
