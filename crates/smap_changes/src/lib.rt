@@ -6,7 +6,5 @@ mod comparing;
 mod counting;
 mod entries;
 mod showing;
-#[cfg(test)]
-mod tests;
 
 pub use comparing::changes;

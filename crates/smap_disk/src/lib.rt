@@ -19,8 +19,6 @@ mod printing;
 mod reading;
 mod reasons;
 mod system;
-#[cfg(test)]
-mod tests;
 mod walking;
 mod watched;
 

@@ -7,8 +7,6 @@ mod members;
 mod naming;
 mod reading;
 mod sections;
-#[cfg(test)]
-mod tests;
 
 pub use members::Part;
 pub use naming::{bare_json, cut, json, shown_name};

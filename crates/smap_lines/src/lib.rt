@@ -16,8 +16,6 @@ mod runs;
 mod shown;
 mod source_lines;
 mod spans;
-#[cfg(test)]
-mod tests;
 
 pub use block::Block;
 pub use context::add_context;

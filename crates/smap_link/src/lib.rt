@@ -23,8 +23,6 @@ mod paths;
 mod resolve;
 mod table;
 mod tails;
-#[cfg(test)]
-mod tests;
 mod white;
 
 pub use alike::{key_of, normal_form, own_url};

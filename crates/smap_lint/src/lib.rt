@@ -15,8 +15,6 @@ mod members;
 mod paths;
 mod positions;
 mod share;
-#[cfg(test)]
-mod tests;
 mod texts;
 mod widths;
 

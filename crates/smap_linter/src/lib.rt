@@ -13,8 +13,6 @@ mod positions;
 mod program;
 mod scripts;
 mod source_files;
-#[cfg(test)]
-mod tests;
 mod wording;
 
 pub use asked::LintAsked;

@@ -5,8 +5,6 @@
 
 mod logs;
 mod naming;
-#[cfg(test)]
-mod tests;
 
 pub use logs::{Heeded, Log};
 pub use naming::{Names, names_in};

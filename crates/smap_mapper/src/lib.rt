@@ -16,7 +16,5 @@ mod repairing;
 mod replacing;
 mod reporting;
 mod targets;
-#[cfg(test)]
-mod tests;
 
 pub use program::run;

@@ -15,8 +15,6 @@ mod levels;
 mod messages;
 mod options;
 mod request;
-#[cfg(test)]
-mod tests;
 mod usage;
 mod values;
 

@@ -7,9 +7,6 @@ ghost use Rattle.std.specs.Prelude.{◌≡◌, IfOk, map, option_map};
 ghost use Rattle.clap.specs.Words.{first_of, found_of, rows_of};
 ghost use Rattle.smap_matches.specs.Rows as spec;
 
-#[cfg(test)]
-mod tests;
-
 use clap::ArgMatches;
 use std::alloc::{AllocError, Global};
 

@@ -5,7 +5,5 @@
 
 mod held;
 mod memory;
-#[cfg(test)]
-mod tests;
 
 pub use memory::{MemoryDisk, MemoryReader, MemoryWriter};

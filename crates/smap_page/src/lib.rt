@@ -13,8 +13,6 @@ mod mappings;
 mod measuring;
 mod numbers;
 mod steps;
-#[cfg(test)]
-mod tests;
 mod values;
 
 pub use embedding::embedded;

@@ -10,8 +10,6 @@ mod opening;
 mod picks;
 mod places;
 mod table;
-#[cfg(test)]
-mod tests;
 
 pub use linked::{LinkedFault, linked_name};
 pub use memory::{HeldFile, MemoryStore, NoFile};

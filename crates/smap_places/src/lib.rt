@@ -15,8 +15,6 @@ mod scan;
 mod segment;
 mod spelling;
 mod step;
-#[cfg(test)]
-mod tests;
 mod trial;
 mod walk;
 mod written;

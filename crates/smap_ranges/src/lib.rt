@@ -10,8 +10,6 @@ mod fault_range;
 mod json_error;
 mod json_start;
 mod member;
-#[cfg(test)]
-mod tests;
 
 pub use fault_range::range_of;
 pub use smap_places::{Point, TextRange, point_of};

@@ -21,8 +21,6 @@ mod repairing;
 mod scanning;
 mod source_repairs;
 mod spelling;
-#[cfg(test)]
-mod tests;
 
 pub use repair::{Change, Repair, sentence};
 pub use repairing::{Repaired, repair_text};

@@ -11,8 +11,6 @@ mod lines;
 mod phrases;
 mod reports;
 mod sarif;
-#[cfg(test)]
-mod tests;
 mod text;
 
 pub use findings::{Finding, LEVEL_WORDS, Level, Point, Report, Rule, has_error, level_named};

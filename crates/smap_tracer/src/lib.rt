@@ -9,8 +9,6 @@ mod listing;
 mod output;
 mod program;
 mod scripts;
-#[cfg(test)]
-mod tests;
 mod tracing;
 mod translating;
 

@@ -11,8 +11,6 @@ mod command;
 mod fault;
 mod messages;
 mod request;
-#[cfg(test)]
-mod tests;
 mod usage;
 
 pub use fault::WordFault;

@@ -18,7 +18,5 @@ mod scripts;
 mod sizing;
 mod status;
 mod template;
-#[cfg(test)]
-mod tests;
 
 pub use program::run;

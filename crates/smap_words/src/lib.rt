@@ -18,8 +18,6 @@ mod fault;
 mod messages;
 mod request;
 mod splits;
-#[cfg(test)]
-mod tests;
 mod usage;
 mod values;
 

@@ -1,9 +1,10 @@
 //! What no contract says: these calls with ample memory, and rows worked out by hand.
-use crate::{
+use crate::asserted::equal;
+use smap_link::ChoiceFault;
+use smap_pick::{
     Found, HeldFile, LinkedFault, MemoryStore, Place, add_folder, below, linked_name, open_named,
     pick_all, table_of, usual_place,
 };
-use smap_link::ChoiceFault;
 use std::alloc::Global;
 use std::test::Fail;
 
@@ -42,18 +43,25 @@ fn found_for(alloc: Global, name: &str, ignore_query: bool) -> Result<Found, Fai
 #[test]
 fn names_that_are_alike(rt: HostRuntime) -> Result<(), Fail> {
     let alloc = rt.alloc();
-    assert_eq!(rt; found_for(alloc, "https://h/a.js", false)?, Found::Given(0));
-    assert_eq!(rt;
+    equal(
+        &rt,
+        found_for(alloc, "https://h/a.js", false)?,
+        Found::Given(0),
+    );
+    equal(
+        &rt,
         found_for(alloc, "HTTPS://H:443/a.js", false)?,
-        Found::Given(0)
+        Found::Given(0),
     );
-    assert_eq!(rt;
+    equal(
+        &rt,
         found_for(alloc, "https://H/b.js?v=1", false)?,
-        Found::Given(1)
+        Found::Given(1),
     );
-    assert_eq!(rt;
+    equal(
+        &rt,
         found_for(alloc, "file:///srv/c.js", false)?,
-        Found::Given(2)
+        Found::Given(2),
     );
     Ok(())
 }
@@ -61,41 +69,56 @@ fn names_that_are_alike(rt: HostRuntime) -> Result<(), Fail> {
 #[test]
 fn queries(rt: HostRuntime) -> Result<(), Fail> {
     let alloc = rt.alloc();
-    assert_eq!(rt;
+    equal(
+        &rt,
         found_for(alloc, "https://h/a.js?v=1", false)?,
-        Found::Missing
+        Found::Missing,
     );
-    assert_eq!(rt;
+    equal(
+        &rt,
         found_for(alloc, "https://h/a.js?v=1", true)?,
-        Found::Given(0)
+        Found::Given(0),
     );
-    assert_eq!(rt;
+    equal(
+        &rt,
         found_for(alloc, "https://h/b.js?v=2", false)?,
-        Found::Missing
+        Found::Missing,
     );
-    assert_eq!(rt;
+    equal(
+        &rt,
         found_for(alloc, "https://h/b.js?v=2", true)?,
-        Found::Missing
+        Found::Missing,
     );
-    assert_eq!(rt; found_for(alloc, "/srv/c.js?t=1", false)?, Found::Missing);
-    assert_eq!(rt; found_for(alloc, "/srv/c.js?t=1", true)?, Found::Given(2));
+    equal(
+        &rt,
+        found_for(alloc, "/srv/c.js?t=1", false)?,
+        Found::Missing,
+    );
+    equal(
+        &rt,
+        found_for(alloc, "/srv/c.js?t=1", true)?,
+        Found::Given(2),
+    );
     Ok(())
 }
 
 #[test]
 fn ends_of_names(rt: HostRuntime) -> Result<(), Fail> {
     let alloc = rt.alloc();
-    assert_eq!(rt;
+    equal(
+        &rt,
         found_for(alloc, "https://h/static/js/main.js", false)?,
-        Found::ByEnd(0)
+        Found::ByEnd(0),
     );
-    assert_eq!(rt;
+    equal(
+        &rt,
         found_for(alloc, "https://h/js/main.js?v=1", false)?,
-        Found::Unclear(0, 1)
+        Found::Unclear(0, 1),
     );
-    assert_eq!(rt;
+    equal(
+        &rt,
         found_for(alloc, "https://h/domain.js", false)?,
-        Found::Missing
+        Found::Missing,
     );
     Ok(())
 }
@@ -105,9 +128,10 @@ fn a_script_that_two_places_name(rt: HostRuntime) -> Result<(), Fail> {
     let alloc = rt.alloc();
     let mut places = three(alloc)?;
     places.push(usual_place(alloc, b"https://h/a.js", b"other.map")?)?;
-    assert_eq!(rt;
+    equal(
+        &rt,
         table_of(alloc, &places).err(),
-        Some(ChoiceFault::Repeated(0, 3))
+        Some(ChoiceFault::Repeated(0, 3)),
     );
     Ok(())
 }
@@ -125,11 +149,11 @@ fn folders(rt: HostRuntime) -> Result<(), Fail> {
         &mut places,
     )?;
     assert_eq!(rt; places.len(), 2);
-    assert_eq!(rt; text(&places[1].script), "http://h/m/lib/b%20c.js");
-    assert_eq!(rt; text(&places[1].file), "dist/lib/b c.js.map");
-    assert_eq!(rt; text(&places[1].base), "http://h/m/lib/b%20c.js.map");
-    assert_eq!(rt; text(&below(alloc, b"dist/", b"a.map")?), "dist/a.map");
-    assert_eq!(rt; text(&below(alloc, b"", b"a.map")?), "a.map");
+    equal(&rt, text(&places[1].script), "http://h/m/lib/b%20c.js");
+    equal(&rt, text(&places[1].file), "dist/lib/b c.js.map");
+    equal(&rt, text(&places[1].base), "http://h/m/lib/b%20c.js.map");
+    equal(&rt, text(&below(alloc, b"dist/", b"a.map")?), "dist/a.map");
+    equal(&rt, text(&below(alloc, b"", b"a.map")?), "a.map");
     Ok(())
 }
 
@@ -165,9 +189,9 @@ fn maps_that_are_opened(rt: HostRuntime) -> Result<(), Fail> {
         names.as_slice(),
     )?;
     assert_eq!(rt; opened.maps.len(), 2);
-    assert_eq!(rt; text(&opened.maps[0]), "C");
-    assert_eq!(rt; text(&opened.maps[1]), "A");
-    assert_eq!(rt; store.opened.len(), 2);
+    equal(&rt, text(&opened.maps[0]), "C");
+    equal(&rt, text(&opened.maps[1]), "A");
+    equal(&rt, store.opened.len(), 2);
     Ok(())
 }
 
@@ -179,13 +203,13 @@ fn linked(alloc: Global, folder: &str, name: &str, url: &str) -> Result<Vec<u8>,
 fn maps_that_scripts_name(rt: HostRuntime) -> Result<(), Fail> {
     let alloc = rt.alloc();
     let name = linked(alloc, "http://h/m/", "a.js", "a.js.map")?;
-    assert_eq!(rt; text(&name), "a.js.map");
+    equal(&rt, text(&name), "a.js.map");
     let name = linked(alloc, "HTTP://h/m/", "lib/a.js", "../maps/a%20b.map?x")?;
-    assert_eq!(rt; text(&name), "maps/a b.map");
+    equal(&rt, text(&name), "maps/a b.map");
     let name = linked(alloc, "/srv/", "a.js", "/srv/%5Bx%5D.map")?;
-    assert_eq!(rt; text(&name), "[x].map");
+    equal(&rt, text(&name), "[x].map");
     let name = linked(alloc, "C:\\srv\\", "lib/a.js", "a.map")?;
-    assert_eq!(rt; text(&name), "lib/a.map");
+    equal(&rt, text(&name), "lib/a.map");
     Ok(())
 }
 
@@ -193,27 +217,36 @@ fn maps_that_scripts_name(rt: HostRuntime) -> Result<(), Fail> {
 fn maps_that_leave_the_folder(rt: HostRuntime) -> Result<(), Fail> {
     let alloc = rt.alloc();
     let leaves = Some(LinkedFault::Leaves);
-    assert_eq!(rt;
+    equal(
+        &rt,
         linked(alloc, "http://h/m/", "a.js", "../a.map").err(),
-        leaves
+        leaves,
     );
-    assert_eq!(rt;
+    equal(
+        &rt,
         linked(alloc, "http://h/m/", "a.js", "%2e%2e/a.map").err(),
-        leaves
+        leaves,
     );
-    assert_eq!(rt;
+    equal(
+        &rt,
         linked(alloc, "http://h/m/", "a.js", "..%2fa.map").err(),
-        leaves
+        leaves,
     );
-    assert_eq!(rt;
+    equal(
+        &rt,
         linked(alloc, "http://h/m/", "a.js", "http://g/m/a.map").err(),
-        leaves
+        leaves,
     );
-    assert_eq!(rt; linked(alloc, "/srv/", "a.js", "/etc/passwd").err(), leaves);
-    assert_eq!(rt; linked(alloc, "/srv/", "a.js", "").err(), None);
-    assert_eq!(rt;
+    equal(
+        &rt,
+        linked(alloc, "/srv/", "a.js", "/etc/passwd").err(),
+        leaves,
+    );
+    equal(&rt, linked(alloc, "/srv/", "a.js", "").err(), None);
+    equal(
+        &rt,
         linked(alloc, "/srv/", "a.js", "http://[").err(),
-        Some(LinkedFault::NotUrl)
+        Some(LinkedFault::NotUrl),
     );
     Ok(())
 }

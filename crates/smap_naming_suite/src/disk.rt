@@ -1,6 +1,9 @@
 //! Texts, and a walk over a disk that doesn't change.
 
-use crate::{EntryKind, FixedDisk, FixedEntry, FixedFile, FixedFolder, printable, reason, walk};
+use crate::asserted::equal;
+use smap_disk::{
+    EntryKind, FixedDisk, FixedEntry, FixedFile, FixedFolder, printable, reason, walk,
+};
 use std::io::{self, ErrorKind};
 use std::test::Fail;
 
@@ -13,7 +16,7 @@ fn control_characters_are_escaped(rt: HostRuntime) -> Result<(), Fail> {
         ("\u{80}\u{a0}", "\\u0080\u{a0}"),
     ] {
         let made = printable(rt.alloc(), text.as_bytes())?;
-        assert_eq!(rt; made.as_str(), want);
+        equal(&rt, made.as_str(), want);
     }
     Ok(())
 }
@@ -33,7 +36,7 @@ fn what_turns_the_direction_of_writing_is_escaped(rt: HostRuntime) -> Result<(),
         ),
     ] {
         let made = printable(rt.alloc(), text.as_bytes())?;
-        assert_eq!(rt; made.as_str(), want);
+        equal(&rt, made.as_str(), want);
     }
     Ok(())
 }
@@ -42,7 +45,7 @@ fn what_turns_the_direction_of_writing_is_escaped(rt: HostRuntime) -> Result<(),
 fn all_else_is_printed_as_it_is(rt: HostRuntime) -> Result<(), Fail> {
     for text in ["", "/app/x y.js", "©", "\\u001b", "日本\u{10ffff}~\u{a1}"] {
         let made = printable(rt.alloc(), text.as_bytes())?;
-        assert_eq!(rt; made.as_str(), text);
+        equal(&rt, made.as_str(), text);
     }
     Ok(())
 }
@@ -50,7 +53,7 @@ fn all_else_is_printed_as_it_is(rt: HostRuntime) -> Result<(), Fail> {
 #[test]
 fn bytes_that_are_no_text_are_replaced(rt: HostRuntime) -> Result<(), Fail> {
     let made = printable(rt.alloc(), b"a\xff\xc3\nb")?;
-    assert_eq!(rt; made.as_str(), "a\u{fffd}\u{fffd}\\u000ab");
+    equal(&rt, made.as_str(), "a\u{fffd}\u{fffd}\\u000ab");
     Ok(())
 }
 
@@ -62,7 +65,7 @@ fn a_reason_has_no_number(rt: HostRuntime) -> Result<(), Fail> {
         (28, "No space left on device"),
     ] {
         let words = reason(rt.alloc(), &io::Error::from_raw_os_error(code))?;
-        assert_eq!(rt; words.as_str(), want);
+        equal(&rt, words.as_str(), want);
     }
     Ok(())
 }
@@ -71,7 +74,7 @@ fn a_reason_has_no_number(rt: HostRuntime) -> Result<(), Fail> {
 fn a_reason_of_our_own_is_whole(rt: HostRuntime) -> Result<(), Fail> {
     let error = io::Error::new(ErrorKind::Other, "a text (os error 28)");
     let words = reason(rt.alloc(), &error)?;
-    assert_eq!(rt; words.as_str(), "a text (os error 28)");
+    equal(&rt, words.as_str(), "a text (os error 28)");
     Ok(())
 }
 
@@ -115,7 +118,7 @@ fn a_walk_over_a_fixed_disk_has_files_of_all_folders(rt: HostRuntime) -> Result<
         names.push_str(name)?;
         names.push_str(" ")?;
     }
-    assert_eq!(rt; names.as_str(), "b/a.map l.map z.map ");
-    assert_eq!(rt; found.only_links, false);
+    equal(&rt, names.as_str(), "b/a.map l.map z.map ");
+    equal(&rt, found.only_links, false);
     Ok(())
 }

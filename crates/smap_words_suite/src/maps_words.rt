@@ -1,4 +1,5 @@
-use crate::{
+use crate::asserted::{equal, holds};
+use smap_maps_words::{
     Asked, Format, HELP, MapsWords, Rewrite, RuleLevel, Task, VERSION, maps_words, message,
 };
 use smap_report::{FORMAT_WORDS, LEVEL_WORDS};
@@ -34,11 +35,12 @@ fn rewriting(rt: HostRuntime) -> Result<(), Fail> {
         drop: true,
         json: false,
     };
-    assert!(rt;
-        matches!(asked.task, Task::Tidy { relative: true, rewrite: found } if found == rewrite)
+    holds(
+        &rt,
+        matches!(asked.task, Task::Tidy { relative: true, rewrite: found } if found == rewrite),
     );
-    assert_eq!(rt; asked.base, Some("http://h/m/"));
-    assert_eq!(rt; asked.paths.as_slice(), ["dist", "-x.map"].as_slice());
+    equal(&rt, asked.base, Some("http://h/m/"));
+    equal(&rt, asked.paths.as_slice(), ["dist", "-x.map"].as_slice());
     Ok(())
 }
 
@@ -62,13 +64,13 @@ fn linting(rt: HostRuntime) -> Result<(), Fail> {
     else {
         return Err(Fail::from("another command"));
     };
-    assert_eq!(rt; *format, Format::Sarif);
-    assert_eq!(rt; *min_mapped, Some(90));
+    equal(&rt, *format, Format::Sarif);
+    equal(&rt, *min_mapped, Some(90));
     let rule = RuleLevel {
         rule: "no-content",
         level: None,
     };
-    assert_eq!(rt; rules.as_slice(), [rule].as_slice());
+    equal(&rt, rules.as_slice(), [rule].as_slice());
     Ok(())
 }
 
@@ -78,7 +80,7 @@ fn says(rt: &(impl Abort + AllocGlobal), words: [&str; 4], text: &str) -> Result
         Ok(_) => String::from_str(rt.alloc(), "nothing")?,
         Err(fault) => message(rt.alloc(), &fault)?,
     };
-    assert_eq!(rt; said.as_str(), text);
+    equal(rt, said.as_str(), text);
     Ok(())
 }
 
@@ -98,9 +100,15 @@ fn faults(rt: HostRuntime) -> Result<(), Fail> {
 #[test]
 fn requests(rt: HostRuntime) -> Result<(), Fail> {
     let words = ["smap-maps", "-h"];
-    assert!(rt; matches!(maps_words(rt.alloc(), words.as_slice()), Ok(Asked::Help)));
-    assert!(rt; HELP.starts_with("Usage: smap-maps check [--base URL]"));
-    assert!(rt; HELP.contains(FORMAT_WORDS) && HELP.contains(LEVEL_WORDS));
-    assert_eq!(rt; VERSION, "smap 0.2.0\n");
+    holds(
+        &rt,
+        matches!(maps_words(rt.alloc(), words.as_slice()), Ok(Asked::Help)),
+    );
+    holds(&rt, HELP.starts_with("Usage: smap-maps check [--base URL]"));
+    holds(
+        &rt,
+        HELP.contains(FORMAT_WORDS) && HELP.contains(LEVEL_WORDS),
+    );
+    equal(&rt, VERSION, "smap 0.2.0\n");
     Ok(())
 }

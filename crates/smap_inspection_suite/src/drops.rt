@@ -1,4 +1,5 @@
-use crate::{dropped, shown_name, tree_of};
+use crate::asserted::{equal, holds};
+use smap_drops::{dropped, shown_name, tree_of};
 use std::test::Fail;
 
 #[test]
@@ -10,11 +11,12 @@ fn of_sections_too(rt: HostRuntime) -> Result<(), Fail> {
         return Err(Fail::from("no tree"));
     };
     let drops = dropped(rt.alloc(), &tree)?;
-    assert!(rt; !drops.is_empty());
-    assert_eq!(rt; drops.own.as_slice(), ["names"].as_slice());
-    assert_eq!(rt;
+    holds(&rt, !drops.is_empty());
+    equal(&rt, drops.own.as_slice(), ["names"].as_slice());
+    equal(
+        &rt,
         drops.in_sections.as_slice(),
-        ["url", "file", "scopes"].as_slice()
+        ["url", "file", "scopes"].as_slice(),
     );
     Ok(())
 }
@@ -22,12 +24,12 @@ fn of_sections_too(rt: HostRuntime) -> Result<(), Fail> {
 #[test]
 fn names_as_json_writes_them(rt: HostRuntime) -> Result<(), Fail> {
     let name = shown_name(rt.alloc(), "x\"\\\n\u{e9}")?;
-    assert_eq!(rt; name.as_str(), "x\\\"\\\\\\n\u{e9}");
+    equal(&rt, name.as_str(), "x\\\"\\\\\\n\u{e9}");
     let long =
         "\u{e9}\u{e9}\u{e9}\u{e9}\u{e9}\u{e9}\u{e9}\u{e9}\u{e9}\u{e9}\u{e9}\u{e9}\u{e9}\u{e9}\u{e9}\u{e9}\
         \u{e9}\u{e9}\u{e9}\u{e9}\u{e9}\u{e9}\u{e9}\u{e9}\u{e9}\u{e9}\u{e9}\u{e9}\u{e9}\u{e9}\u{e9}\u{e9}\
         \u{e9}\u{e9}\u{e9}\u{e9}\u{e9}\u{e9}\u{e9}\u{e9}\u{e9}\u{e9}\u{e9}\u{e9}\u{e9}\u{e9}\u{e9}\u{e9}\
         \u{e9}x\u{e9}";
-    assert_eq!(rt; shown_name(rt.alloc(), long)?.as_str().len(), 99);
+    equal(&rt, shown_name(rt.alloc(), long)?.as_str().len(), 99);
     Ok(())
 }

@@ -1,6 +1,7 @@
 //! Rows for each repair, with what is said of it.
-use crate::{Repair, Repaired, repair_text, sentence};
+use crate::asserted::equal;
 use smap_record::{Base, Limits};
+use smap_repair::{Repair, Repaired, repair_text, sentence};
 use std::alloc::Global;
 use std::test::Fail;
 
@@ -28,11 +29,12 @@ fn said(alloc: Global, text: &[u8]) -> Result<String, Fail> {
 fn a_mark_and_halves(rt: HostRuntime) -> Result<(), Fail> {
     let text =
         b"\xef\xbb\xbf{\"version\":3,\"mappings\":\"\",\"x\":\"\\ud800\\ud83d\\ude00\\\\ud800\"}";
-    assert_eq!(rt;
+    equal(
+        &rt,
         said(rt.alloc(), text)?.as_str(),
         "{\"version\":3,\"mappings\":\"\",\"x\":\"\\ufffd\\ud83d\\ude00\\\\ud800\"}\n\
          byte order mark: removed\n\
-         byte 32: \\ud800 becomes \\ufffd"
+         byte 32: \\ud800 becomes \\ufffd",
     );
     Ok(())
 }
@@ -42,13 +44,14 @@ fn maps_of_sections(rt: HostRuntime) -> Result<(), Fail> {
     let text =
         b"{\"version\":3,\"mappings\":\"\",\"sections\":[{\"offset\":{\"line\":0,\"column\":0},\
         \"map\":{\"version\":\"3\", \"sources\":[null,\"w://a [b/c\"],\"mappings\":\"\"}}]}";
-    assert_eq!(rt;
+    equal(
+        &rt,
         said(rt.alloc(), text)?.as_str(),
         "{\"version\":3,\"mappings\":null,\"sections\":[{\"offset\":{\"line\":0,\"column\":0},\
          \"map\":{\"version\":3, \"sources\":[null,\"w://a%20%5Bb/c\"],\"mappings\":\"\"}}]}\n\
          mappings beside sections: \"\" becomes null\n\
          version of section 0: \"3\" becomes 3\n\
-         source 1 of section 0: \"w://a [b/c\" becomes \"w://a%20%5Bb/c\""
+         source 1 of section 0: \"w://a [b/c\" becomes \"w://a%20%5Bb/c\"",
     );
     Ok(())
 }

@@ -1,7 +1,8 @@
 //! Rows for points, and for ranges in a text with escapes and with a name that comes twice.
-use crate::{Key, Point, Step, TextRange, point_of, segment_range, there, value_range};
+use crate::asserted::equal;
 use serde_json::Value;
 use smap_mappings::SegmentPlace;
+use smap_places::{Key, Point, Step, TextRange, point_of, segment_range, there, value_range};
 use std::test::Fail;
 
 const TEXT: &str = concat!(
@@ -12,12 +13,12 @@ const TEXT: &str = concat!(
 #[test]
 fn points_of_a_text(rt: HostRuntime) -> Result<(), Fail> {
     let text = "a\r\n\u{1F600}b\rc\n\nd".as_bytes();
-    assert_eq!(rt; point_of(text, 0), Point { line: 1, column: 1 });
-    assert_eq!(rt; point_of(text, 3), Point { line: 2, column: 1 });
-    assert_eq!(rt; point_of(text, 7), Point { line: 2, column: 3 });
-    assert_eq!(rt; point_of(text, 9), Point { line: 3, column: 1 });
-    assert_eq!(rt; point_of(text, 11), Point { line: 4, column: 1 });
-    assert_eq!(rt; point_of(text, 99), Point { line: 5, column: 2 });
+    equal(&rt, point_of(text, 0), Point { line: 1, column: 1 });
+    equal(&rt, point_of(text, 3), Point { line: 2, column: 1 });
+    equal(&rt, point_of(text, 7), Point { line: 2, column: 3 });
+    equal(&rt, point_of(text, 9), Point { line: 3, column: 1 });
+    equal(&rt, point_of(text, 11), Point { line: 4, column: 1 });
+    equal(&rt, point_of(text, 99), Point { line: 5, column: 2 });
     Ok(())
 }
 
@@ -31,26 +32,28 @@ fn ranges_of_values(rt: HostRuntime) -> Result<(), Fail> {
         Step::Member(Key::Map),
     ];
     let range = value_range(rt.alloc(), text, &tree, &path)?;
-    assert_eq!(rt; range, Some(TextRange { start: 46, end: 49 }));
+    equal(&rt, range, Some(TextRange { start: 46, end: 49 }));
     let range = value_range(rt.alloc(), text, &tree, &[Step::Member(Key::File)])?;
-    assert_eq!(rt;
+    equal(
+        &rt,
         range,
         Some(TextRange {
             start: 115,
-            end: 119
-        })
+            end: 119,
+        }),
     );
     let range = value_range(rt.alloc(), text, &tree, &[])?;
-    assert_eq!(rt;
+    equal(
+        &rt,
         range,
         Some(TextRange {
             start: 0,
-            end: text.len()
-        })
+            end: text.len(),
+        }),
     );
     let missing = [Step::Member(Key::Sections), Step::Entry(3)];
-    assert_eq!(rt; value_range(rt.alloc(), text, &tree, &missing)?, None);
-    assert_eq!(rt; there(&tree, &missing).len(), 1);
+    equal(&rt, value_range(rt.alloc(), text, &tree, &missing)?, None);
+    equal(&rt, there(&tree, &missing).len(), 1);
     Ok(())
 }
 
@@ -64,30 +67,32 @@ fn ranges_of_segments(rt: HostRuntime) -> Result<(), Fail> {
         segment: 1,
     };
     let range = segment_range(rt.alloc(), text, &tree, &path, place)?;
-    assert_eq!(rt;
+    equal(
+        &rt,
         range,
         Some(TextRange {
             start: 93,
-            end: 102
-        })
+            end: 102,
+        }),
     );
     let place = SegmentPlace {
         line: 1,
         segment: 2,
     };
     let range = segment_range(rt.alloc(), text, &tree, &path, place)?;
-    assert_eq!(rt;
+    equal(
+        &rt,
         range,
         Some(TextRange {
             start: 103,
-            end: 103
-        })
+            end: 103,
+        }),
     );
     let place = SegmentPlace {
         line: 1,
         segment: 3,
     };
     let range = segment_range(rt.alloc(), text, &tree, &path, place)?;
-    assert_eq!(rt; range, None);
+    equal(&rt, range, None);
     Ok(())
 }

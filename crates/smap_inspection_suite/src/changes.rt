@@ -1,6 +1,6 @@
-use crate::changes;
-use crate::showing::count_text;
+use crate::asserted::equal;
 use serde_json::Value;
+use smap_changes::changes;
 use std::alloc::Global;
 use std::test::Fail;
 
@@ -28,14 +28,15 @@ fn each_member(rt: HostRuntime) -> Result<(), Fail> {
         "{\"version\":3,\"file\":\"b\",\"sources\":[\"b.js\",\"c.js\"],\"names\":[\"y\",\"x\"],\
          \"mappings\":\"AAAA\",\"ignoreList\":[0],\"sourcesContent\":[null]}",
     )?;
-    assert_eq!(rt;
+    equal(
+        &rt,
         lines.as_str(),
         "debugId: dropped, 1 byte\n\
          file: \"a\" to \"b\"\n\
          ignoreList: 1 entry, other ones\n\
          names: 2 entries, in another order\n\
          sources: 3 to 2 entries; without \"a.js\"; with \"c.js\"\n\
-         sourcesContent: added, 1 entry\n"
+         sourcesContent: added, 1 entry\n",
     );
     Ok(())
 }
@@ -49,7 +50,8 @@ fn counts_and_words(rt: HostRuntime) -> Result<(), Fail> {
         "{\"a\":\"1\",\"b\":[1],\"c\":null,\"d\":{},\"e\":0,\"mappings\":\"AAAA\",\"names\":[],\
          \"sources\":[\"1\",\"2\",\"3\",\"4\",\"5\"]}",
     )?;
-    assert_eq!(rt;
+    equal(
+        &rt,
         lines.as_str(),
         "a: another value\n\
          b: 0 to 1 entry, other ones\n\
@@ -57,7 +59,7 @@ fn counts_and_words(rt: HostRuntime) -> Result<(), Fail> {
          mappings: 2 to 4 bytes\n\
          names: 5 to 0 entries; without \"1\", \"2\", \"3\" and 1 more\n\
          sources: 0 to 5 entries; with \"1\", \"2\", \"3\" and 2 more\n\
-         e: added\n"
+         e: added\n",
     );
     Ok(())
 }
@@ -65,9 +67,10 @@ fn counts_and_words(rt: HostRuntime) -> Result<(), Fail> {
 #[test]
 fn the_same_members(rt: HostRuntime) -> Result<(), Fail> {
     let lines = lines_of(rt.alloc(), "{\"b\":[1],\"a\":0}", "{\"a\":0,\"b\":[1]}")?;
-    assert_eq!(rt;
+    equal(
+        &rt,
         lines.as_str(),
-        "the same members and values, written otherwise\n"
+        "the same members and values, written otherwise\n",
     );
     Ok(())
 }
@@ -83,12 +86,13 @@ fn long_names_and_texts(rt: HostRuntime) -> Result<(), Fail> {
          \"names\":[\"12345678901234567890123456789012345678901234567890123456789012\"]}",
         "{\"x\":\"\",\"names\":[]}",
     )?;
-    assert_eq!(rt;
+    equal(
+        &rt,
         lines.as_str(),
         "\\n2345678901234567890123456789012345678901234567890123456789...: dropped\n\
          12345678901234567890123456789012345678901234567890123456789...: dropped\n\
          names: 1 to 0 entries; without \"123456789012345678901234567890123456789012345678901234567890\"...\n\
-         x: 61 to 0 bytes\n"
+         x: 61 to 0 bytes\n",
     );
     Ok(())
 }
@@ -100,36 +104,59 @@ fn merged_and_reordered(rt: HostRuntime) -> Result<(), Fail> {
         "{\"sources\":[\"a\",\"b\",\"b\",\"a\",\"b\",\"c\",null],\"names\":[\"a\",\"a\",\"b\"]}",
         "{\"sources\":[\"a\",\"b\",\"d\"],\"names\":[\"a\",\"b\",\"b\"]}",
     )?;
-    assert_eq!(rt;
+    equal(
+        &rt,
         lines.as_str(),
         "names: 3 entries, \"a\" merged\n\
-         sources: 7 to 3 entries, \"a\", \"b\" merged; without \"c\"; with \"d\"\n"
+         sources: 7 to 3 entries, \"a\", \"b\" merged; without \"c\"; with \"d\"\n",
     );
     let lines = lines_of(
         rt.alloc(),
         "{\"sources\":[\"a\",\"b\",null,\"a\"],\"names\":[\"a\",null],\"x\":1}",
         "{\"sources\":[null,\"a\",\"a\",\"b\"],\"names\":[\"a\",\"a\"],\"x\":2}",
     )?;
-    assert_eq!(rt;
+    equal(
+        &rt,
         lines.as_str(),
         "names: 2 entries, other ones\n\
          sources: 4 entries, in another order\n\
-         x: another value\n"
+         x: another value\n",
     );
     Ok(())
 }
 
-#[test]
-fn numbers_with_commas(rt: HostRuntime) -> Result<(), Fail> {
-    for (count, text) in [
-        (0, "0"),
-        (999, "999"),
-        (1_000, "1,000"),
-        (10_233, "10,233"),
-        (100_000, "100,000"),
-        (1_234_567, "1,234,567"),
-    ] {
-        assert_eq!(rt; count_text(rt.alloc(), count)?.as_str(), text);
+/// What is said of a member whose text gets so many bytes.
+fn grown(alloc: Global, count: usize) -> Result<String, Fail> {
+    let mut after = String::from_str(alloc, "{\"x\":\"")?;
+    for _ in 0..count {
+        after.push('a')?;
     }
+    after.push_str("\"}")?;
+    lines_of(alloc, "{\"x\":\"\"}", after.as_str())
+}
+
+#[test]
+fn numbers_have_commas(rt: HostRuntime) -> Result<(), Fail> {
+    equal(&rt, grown(rt.alloc(), 999)?.as_str(), "x: 0 to 999 bytes\n");
+    equal(
+        &rt,
+        grown(rt.alloc(), 1_000)?.as_str(),
+        "x: 0 to 1,000 bytes\n",
+    );
+    equal(
+        &rt,
+        grown(rt.alloc(), 10_233)?.as_str(),
+        "x: 0 to 10,233 bytes\n",
+    );
+    equal(
+        &rt,
+        grown(rt.alloc(), 100_000)?.as_str(),
+        "x: 0 to 100,000 bytes\n",
+    );
+    equal(
+        &rt,
+        grown(rt.alloc(), 1_234_567)?.as_str(),
+        "x: 0 to 1,234,567 bytes\n",
+    );
     Ok(())
 }

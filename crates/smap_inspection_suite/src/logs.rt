@@ -1,5 +1,6 @@
 //! The names of lines, and readers that keep why they failed.
-use crate::{Heeded, names_in};
+use crate::asserted::{equal, holds};
+use smap_logs::{Heeded, names_in};
 use std::io::Read;
 use std::test::Fail;
 
@@ -11,16 +12,16 @@ fn names_stand_in_the_order_of_their_first_lines(rt: HostRuntime) -> Result<(), 
     let names = names_in(rt.alloc(), LINES, false)?;
     let frames = names.of_frames(rt.alloc())?;
     assert_eq!(rt; frames.len(), 2);
-    assert!(rt; frames[0] == b"b.js".as_slice());
-    assert!(rt; frames[1] == b"a.js".as_slice());
-    assert!(rt; names.of_others(rt.alloc())?.is_empty());
+    holds(&rt, frames[0] == b"b.js".as_slice());
+    holds(&rt, frames[1] == b"a.js".as_slice());
+    holds(&rt, names.of_others(rt.alloc())?.is_empty());
     Ok(())
 }
 
 #[test]
 fn the_most_frequent_name_is_that_of_most_lines(rt: HostRuntime) -> Result<(), Fail> {
     let names = names_in(rt.alloc(), LINES, false)?;
-    assert_eq!(rt; names.most_frequent(), Some(b"a.js".as_slice()));
+    equal(&rt, names.most_frequent(), Some(b"a.js".as_slice()));
     Ok(())
 }
 
@@ -29,9 +30,9 @@ fn a_log_ends_within_a_line_unless_a_line_feed_was_read_last(rt: HostRuntime) ->
     let mut reader = Heeded::new(b"ab\n".as_slice());
     let mut buffer = [0u8; 2];
     let _ = reader.read(&mut buffer);
-    assert!(rt; reader.ends_within_line());
+    holds(&rt, reader.ends_within_line());
     let _ = reader.read(&mut buffer);
-    assert!(rt; !reader.ends_within_line());
-    assert!(rt; reader.fault().is_none());
+    holds(&rt, !reader.ends_within_line());
+    holds(&rt, reader.fault().is_none());
     Ok(())
 }

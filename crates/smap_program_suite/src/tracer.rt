@@ -1,6 +1,7 @@
 //! Runs over files in memory: what is written, with which status, and what is left on the disk.
-use crate::{Input, InputKind, run};
+use crate::asserted::{equal, holds};
 use smap_memory_disk::MemoryDisk;
+use smap_tracer::{Input, InputKind, run};
 use std::io::ErrorKind;
 use std::test::Fail;
 
@@ -28,8 +29,8 @@ fn a_pipe_is_translated_with_a_map(rt: HostRuntime) -> Result<(), Fail> {
     disk.add_file("/x.map", MAP)?;
     let words = ["smap-trace", "http://h/m/out.js=/x.map"];
     let (status, out) = traced(&rt, &disk, &words, b"@http://h/m/out.js:1:2\nx")?;
-    assert_eq!(rt; status, 0);
-    assert!(rt; out.as_slice() == b"@http://h/m/a.js:11:3\nx".as_slice());
+    equal(&rt, status, 0);
+    equal(&rt, out.as_slice(), b"@http://h/m/a.js:11:3\nx".as_slice());
     Ok(())
 }
 
@@ -40,8 +41,12 @@ fn a_log_takes_the_files_whose_names_end_as_its_scripts_do(rt: HostRuntime) -> R
     disk.add_file("/crash.log", b"@http://h/m/js/out.js:1:5\n")?;
     let words = ["smap-trace", "/dist", "/crash.log"];
     let (status, out) = traced(&rt, &disk, &words, b"")?;
-    assert_eq!(rt; status, 0);
-    assert!(rt; out.as_slice() == b"@http://h/m/js/a.js:13:3\n".as_slice());
+    equal(&rt, status, 0);
+    equal(
+        &rt,
+        out.as_slice(),
+        b"@http://h/m/js/a.js:13:3\n".as_slice(),
+    );
     Ok(())
 }
 
@@ -59,9 +64,9 @@ fn a_refused_map_ends_the_run_and_the_output_file_stays(rt: HostRuntime) -> Resu
         "/crash.log",
     ];
     let (status, _) = traced(&rt, &disk, &words, b"")?;
-    assert_eq!(rt; status, 1);
-    assert!(rt; disk.bytes("/out")?.as_slice() == b"old".as_slice());
-    assert!(rt; disk.bytes("/.out.smap-1").is_err());
+    equal(&rt, status, 1);
+    equal(&rt, disk.bytes("/out")?.as_slice(), b"old".as_slice());
+    holds(&rt, disk.bytes("/.out.smap-1").is_err());
     Ok(())
 }
 
@@ -78,10 +83,14 @@ fn an_output_file_is_written_whole(rt: HostRuntime) -> Result<(), Fail> {
         "/crash.log",
     ];
     let (status, out) = traced(&rt, &disk, &words, b"")?;
-    assert_eq!(rt; status, 0);
-    assert!(rt; out.is_empty());
-    assert!(rt; disk.bytes("/out")?.as_slice() == b"@http://h/m/a.js:11:3\n".as_slice());
-    assert!(rt; disk.bytes("/.out.smap-1").is_err());
+    equal(&rt, status, 0);
+    holds(&rt, out.is_empty());
+    equal(
+        &rt,
+        disk.bytes("/out")?.as_slice(),
+        b"@http://h/m/a.js:11:3\n".as_slice(),
+    );
+    holds(&rt, disk.bytes("/.out.smap-1").is_err());
     Ok(())
 }
 
@@ -93,8 +102,8 @@ fn a_log_that_can_not_be_read_has_status_3(rt: HostRuntime) -> Result<(), Fail> 
     disk.fail_reads("/crash.log", ErrorKind::PermissionDenied)?;
     let words = ["smap-trace", "http://h/m/out.js=/x.map", "/crash.log"];
     let (status, out) = traced(&rt, &disk, &words, b"")?;
-    assert_eq!(rt; status, 3);
-    assert!(rt; out.is_empty());
+    equal(&rt, status, 3);
+    holds(&rt, out.is_empty());
     Ok(())
 }
 
@@ -112,8 +121,8 @@ fn an_output_file_that_can_not_be_written_is_left_out(rt: HostRuntime) -> Result
         "/crash.log",
     ];
     let (status, _) = traced(&rt, &disk, &words, b"")?;
-    assert_eq!(rt; status, 3);
-    assert!(rt; disk.bytes("/out").is_err());
+    equal(&rt, status, 3);
+    holds(&rt, disk.bytes("/out").is_err());
     Ok(())
 }
 
@@ -124,11 +133,11 @@ fn a_map_that_can_not_be_read_has_status_3(rt: HostRuntime) -> Result<(), Fail> 
     disk.fail("/dist/out.js.map", ErrorKind::PermissionDenied)?;
     let words = ["smap-trace", "http://h/m/=/dist"];
     let (status, out) = traced(&rt, &disk, &words, b"@http://h/m/out.js:1:2\n")?;
-    assert_eq!(rt; status, 3);
-    assert!(rt; out.is_empty());
+    equal(&rt, status, 3);
+    holds(&rt, out.is_empty());
     let words = ["smap-trace", "--skip-broken", "http://h/m/=/dist"];
     let (status, out) = traced(&rt, &disk, &words, b"@http://h/m/out.js:1:2\n")?;
-    assert_eq!(rt; status, 0);
-    assert!(rt; out.as_slice() == b"@http://h/m/out.js:1:2\n".as_slice());
+    equal(&rt, status, 0);
+    equal(&rt, out.as_slice(), b"@http://h/m/out.js:1:2\n".as_slice());
     Ok(())
 }

@@ -1,4 +1,5 @@
-use crate::{Asked, HELP, SizesForm, VERSION, ViewWords, message, view_words};
+use crate::asserted::{equal, holds};
+use smap_view_words::{Asked, HELP, SizesForm, VERSION, ViewWords, message, view_words};
 use std::alloc::Global;
 use std::process::Abort;
 use std::test::Fail;
@@ -27,12 +28,12 @@ fn options(rt: HostRuntime) -> Result<(), Fail> {
         "x.js",
     ];
     let asked = asked(rt.alloc(), words.as_slice())?;
-    assert_eq!(rt; asked.base, Some("http://h/m/"));
-    assert_eq!(rt; asked.output, Some("page.html"));
-    assert_eq!(rt; asked.sizes, Some(SizesForm::Tsv));
-    assert_eq!(rt; asked.budget, Some("b.json"));
-    assert_eq!(rt; asked.file, "-x.map");
-    assert_eq!(rt; asked.script, Some("x.js"));
+    equal(&rt, asked.base, Some("http://h/m/"));
+    equal(&rt, asked.output, Some("page.html"));
+    equal(&rt, asked.sizes, Some(SizesForm::Tsv));
+    equal(&rt, asked.budget, Some("b.json"));
+    equal(&rt, asked.file, "-x.map");
+    equal(&rt, asked.script, Some("x.js"));
     Ok(())
 }
 
@@ -42,7 +43,7 @@ fn says(rt: &(impl Abort + AllocGlobal), words: [&str; 4], text: &str) -> Result
         Ok(_) => String::from_str(rt.alloc(), "nothing")?,
         Err(fault) => message(rt.alloc(), &fault)?,
     };
-    assert_eq!(rt; said.as_str(), text);
+    equal(rt, said.as_str(), text);
     Ok(())
 }
 
@@ -67,8 +68,11 @@ fn faults(rt: HostRuntime) -> Result<(), Fail> {
 #[test]
 fn requests(rt: HostRuntime) -> Result<(), Fail> {
     let words = ["smap-view", "-h"];
-    assert!(rt; matches!(view_words(rt.alloc(), words.as_slice()), Ok(Asked::Help)));
-    assert!(rt; HELP.starts_with("Usage: smap-view [--base URL]"));
-    assert_eq!(rt; VERSION, "smap 0.2.0\n");
+    holds(
+        &rt,
+        matches!(view_words(rt.alloc(), words.as_slice()), Ok(Asked::Help)),
+    );
+    holds(&rt, HELP.starts_with("Usage: smap-view [--base URL]"));
+    equal(&rt, VERSION, "smap 0.2.0\n");
     Ok(())
 }

@@ -1,4 +1,5 @@
-use crate::{
+use crate::asserted::{equal, holds};
+use smap_words::{
     Argument, ArgumentFault, Asked, HELP, Kind, Prefix, Split, SplitFault, TraceWords, VERSION,
     WordFault, message, needs_url, path_message, place_message, split_message, trace_words,
 };
@@ -39,12 +40,13 @@ fn all_options(rt: HostRuntime) -> Result<(), Fail> {
         "--source-prefix=a=b=c",
     ];
     let asked = asked(rt.alloc(), words.as_slice())?;
-    assert!(rt; asked.anywhere && asked.verbose && asked.list);
-    assert!(rt;
-        !asked.ignore_query && !asked.hide_ignored && !asked.skip_broken && !asked.check_all
+    holds(&rt, asked.anywhere && asked.verbose && asked.list);
+    holds(
+        &rt,
+        !asked.ignore_query && !asked.hide_ignored && !asked.skip_broken && !asked.check_all,
     );
-    assert_eq!(rt; asked.output, Some("out.txt"));
-    assert_eq!(rt; asked.context, Some(3));
+    equal(&rt, asked.output, Some("out.txt"));
+    equal(&rt, asked.context, Some(3));
     let prefixes = [
         Prefix {
             from: "webpack://app/",
@@ -55,9 +57,9 @@ fn all_options(rt: HostRuntime) -> Result<(), Fail> {
             to: "b=c",
         },
     ];
-    assert_eq!(rt; asked.prefixes.as_slice(), prefixes.as_slice());
+    equal(&rt, asked.prefixes.as_slice(), prefixes.as_slice());
     let arguments = [Argument::Place("http://h/=dist/"), Argument::Path("logs")];
-    assert_eq!(rt; asked.arguments.as_slice(), arguments.as_slice());
+    equal(&rt, asked.arguments.as_slice(), arguments.as_slice());
     Ok(())
 }
 
@@ -78,12 +80,15 @@ fn other_flags(rt: HostRuntime) -> Result<(), Fail> {
         "-u=maps/trace.map",
     ];
     let asked = asked(rt.alloc(), words.as_slice())?;
-    assert!(rt; asked.ignore_query && asked.hide_ignored && asked.skip_broken && asked.check_all);
-    assert!(rt; !asked.anywhere && !asked.verbose && !asked.list);
-    assert_eq!(rt; asked.output, Some("b"), "the last counts");
-    assert_eq!(rt; asked.context, None);
+    holds(
+        &rt,
+        asked.ignore_query && asked.hide_ignored && asked.skip_broken && asked.check_all,
+    );
+    holds(&rt, !asked.anywhere && !asked.verbose && !asked.list);
+    equal(&rt, asked.output, Some("b"));
+    equal(&rt, asked.context, None);
     let arguments = [Argument::Place("-u=maps/trace.map")];
-    assert_eq!(rt; asked.arguments.as_slice(), arguments.as_slice());
+    equal(&rt, asked.arguments.as_slice(), arguments.as_slice());
     Ok(())
 }
 
@@ -91,26 +96,33 @@ fn other_flags(rt: HostRuntime) -> Result<(), Fail> {
 fn requests(rt: HostRuntime) -> Result<(), Fail> {
     for word in ["-h", "--help"] {
         let words = ["smap-trace", "u=f", word, "--more"];
-        assert!(rt; matches!(trace_words(rt.alloc(), words.as_slice()), Ok(Asked::Help)));
+        holds(
+            &rt,
+            matches!(trace_words(rt.alloc(), words.as_slice()), Ok(Asked::Help)),
+        );
     }
     for word in ["-V", "--version"] {
         let words = ["smap-trace", word];
-        assert!(rt;
+        holds(
+            &rt,
             matches!(
                 trace_words(rt.alloc(), words.as_slice()),
                 Ok(Asked::Version)
-            )
+            ),
         );
     }
-    assert!(rt; HELP.contains("Usage: smap-trace [OPTION]... URL=FILE[=BASE]... <crash.log\n"));
-    assert_eq!(rt; VERSION, "smap 0.2.0\n");
+    holds(
+        &rt,
+        HELP.contains("Usage: smap-trace [OPTION]... URL=FILE[=BASE]... <crash.log\n"),
+    );
+    equal(&rt, VERSION, "smap 0.2.0\n");
     Ok(())
 }
 
 /// Words behind the name of the program, and what is said of them.
 fn says(rt: &(impl Abort + AllocGlobal), words: [&str; 3], text: &str) -> Result<(), Fail> {
     let said = said(rt.alloc(), words.as_slice())?;
-    assert_eq!(rt; said.as_str(), text);
+    equal(rt, said.as_str(), text);
     Ok(())
 }
 
@@ -182,11 +194,11 @@ fn first_fault(rt: HostRuntime) {
     let words = ["smap-trace", "u=f", "", "=f"];
     match trace_words(rt.alloc(), words.as_slice()) {
         Err(WordFault::Argument { place, word, why }) => {
-            assert_eq!(rt; place, 1);
-            assert_eq!(rt; word, "");
-            assert_eq!(rt; why, ArgumentFault::Empty);
+            equal(&rt, place, 1);
+            equal(&rt, word, "");
+            equal(&rt, why, ArgumentFault::Empty);
         }
-        _ => assert!(rt; false, "an argument is wrong"),
+        _ => holds(&rt, false),
     }
 }
 
@@ -214,11 +226,12 @@ fn ways_to_read_a_place(rt: HostRuntime) -> Result<(), Fail> {
         write!(text, "{url} {file} {base}; ")?;
         split = way.following();
     }
-    assert_eq!(rt;
+    equal(
+        &rt,
         text.as_str(),
-        "u a=b=c none; u a=b c; u a b=c; u=a b=c none; u=a b c; u=a=b c none; "
+        "u a=b=c none; u a=b c; u a b=c; u=a b=c none; u=a b c; u=a=b c none; ",
     );
-    assert!(rt; Split::first("logs").is_none());
+    holds(&rt, Split::first("logs").is_none());
     Ok(())
 }
 
@@ -271,13 +284,14 @@ fn places(rt: HostRuntime) -> Result<(), Fail> {
     ];
     for (word, file, kind, text) in rows {
         let said = split_said(rt.alloc(), word, file, kind)?;
-        assert_eq!(rt; said.as_str(), text);
+        equal(&rt, said.as_str(), text);
     }
-    assert!(rt;
+    holds(
+        &rt,
         matches!(
             with_file("u=a=", "a").and_then(|split| split.fault(Kind::Folder)),
             Some(SplitFault::FolderBase)
-        )
+        ),
     );
     Ok(())
 }
@@ -285,24 +299,29 @@ fn places(rt: HostRuntime) -> Result<(), Fail> {
 #[test]
 fn what_is_not_there(rt: HostRuntime) -> Result<(), Fail> {
     let alloc = rt.alloc();
-    assert_eq!(rt;
+    equal(
+        &rt,
         place_message(alloc, "http://h/m/out.js=maps/none.map")?.as_str(),
-        "cannot read maps/none.map, the map of http://h/m/out.js"
+        "cannot read maps/none.map, the map of http://h/m/out.js",
     );
-    assert_eq!(rt;
+    equal(
+        &rt,
         place_message(alloc, "http://h/m/out.js?v=3=none.map")?.as_str(),
-        "no = in http://h/m/out.js?v=3=none.map is followed by the name of a file or folder that can be read"
+        "no = in http://h/m/out.js?v=3=none.map is followed by the name of a file or folder that can be read",
     );
-    assert_eq!(rt;
+    equal(
+        &rt,
         path_message(alloc, "http://h/m/out.js")?.as_str(),
-        "http://h/m/out.js: expected URL=FILE"
+        "http://h/m/out.js: expected URL=FILE",
     );
-    assert_eq!(rt;
+    equal(
+        &rt,
         path_message(alloc, "maps/trace.map")?.as_str(),
-        "maps/trace.map: expected URL=FILE, as https://example.org/app.js=maps/trace.map"
+        "maps/trace.map: expected URL=FILE, as https://example.org/app.js=maps/trace.map",
     );
-    assert!(rt;
-        needs_url("a.cjs") && needs_url("b/a.mjs") && needs_url("a.css") && !needs_url("a.json")
+    holds(
+        &rt,
+        needs_url("a.cjs") && needs_url("b/a.mjs") && needs_url("a.css") && !needs_url("a.json"),
     );
     Ok(())
 }

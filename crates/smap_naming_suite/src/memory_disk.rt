@@ -1,7 +1,8 @@
 //! What the disk in memory shows of `smap_disk`.
 
-use crate::MemoryDisk;
+use crate::asserted::{equal, holds};
 use smap_disk::{Disk, FileFault, Kind, Walk, WalkFault, Watched, create_beside, read_file, walk};
+use smap_memory_disk::MemoryDisk;
 use std::alloc::{AllocError, Global};
 use std::io::{self, ErrorKind, Write};
 use std::test::Fail;
@@ -55,7 +56,7 @@ fn a_kind_follows_links(rt: HostRuntime) -> Result<(), Fail> {
         ("top/pipe.map", Kind::Special),
         ("nothing", Kind::Missing),
     ] {
-        assert_eq!(rt; disk.kind(path), want, "{path}");
+        equal(&rt, disk.kind(path), want);
     }
     Ok(())
 }
@@ -66,9 +67,9 @@ fn a_walk_has_files_of_all_depths_in_byte_order(rt: HostRuntime) -> Result<(), F
     for folder in ["top", "top/"] {
         let found = walk(rt.alloc(), &disk, folder, &[".map", ".js"])?;
         let names = spaced(rt.alloc(), &found.names)?;
-        assert_eq!(rt; names.as_str(), "a.map a/z.map b.map link.js ");
-        assert_eq!(rt; found.unnamed, 0);
-        assert!(rt; !found.only_links);
+        equal(&rt, names.as_str(), "a.map a/z.map b.map link.js ");
+        equal(&rt, found.unnamed, 0);
+        holds(&rt, !found.only_links);
     }
     Ok(())
 }
@@ -78,7 +79,7 @@ fn a_walk_follows_a_link_that_it_is_given(rt: HostRuntime) -> Result<(), Fail> {
     let disk = make_tree(rt.alloc())?;
     let found = walk(rt.alloc(), &disk, "top/folder.js", &[".js"])?;
     let names = spaced(rt.alloc(), &found.names)?;
-    assert_eq!(rt; names.as_str(), "far.js ");
+    equal(&rt, names.as_str(), "far.js ");
     Ok(())
 }
 
@@ -89,7 +90,7 @@ fn a_walk_from_the_root_has_names_without_a_slash_before(rt: HostRuntime) -> Res
     disk.add_file("/c.map", b"")?;
     let found = walk(rt.alloc(), &disk, "/", &[".map"])?;
     let names = spaced(rt.alloc(), &found.names)?;
-    assert_eq!(rt; names.as_str(), "a/b.map c.map ");
+    equal(&rt, names.as_str(), "a/b.map c.map ");
     Ok(())
 }
 
@@ -100,7 +101,7 @@ fn names_that_are_no_text_are_counted(rt: HostRuntime) -> Result<(), Fail> {
     disk.add_unnamed("top/a/")?;
     disk.add_unnamed("out")?;
     let found = walk(rt.alloc(), &disk, "top", &[".map"])?;
-    assert_eq!(rt; found.unnamed, 2);
+    equal(&rt, found.unnamed, 2);
     Ok(())
 }
 
@@ -120,11 +121,11 @@ fn only_links(alloc: Global, disk: &MemoryDisk, folder: &str) -> Result<bool, Wa
 #[test]
 fn only_links_is_links_and_folders(rt: HostRuntime) -> Result<(), Fail> {
     let disk = links_alone(rt.alloc())?;
-    assert!(rt; only_links(rt.alloc(), &disk, "top")?);
-    assert!(rt; !only_links(rt.alloc(), &disk, "top/a/b")?);
-    assert!(rt; !only_links(rt.alloc(), &disk, "far")?);
+    holds(&rt, only_links(rt.alloc(), &disk, "top")?);
+    holds(&rt, !only_links(rt.alloc(), &disk, "top/a/b")?);
+    holds(&rt, !only_links(rt.alloc(), &disk, "far")?);
     disk.add_file("top/a/b/x.txt", b"")?;
-    assert!(rt; !only_links(rt.alloc(), &disk, "top")?);
+    holds(&rt, !only_links(rt.alloc(), &disk, "top")?);
     Ok(())
 }
 
@@ -132,10 +133,10 @@ fn only_links_is_links_and_folders(rt: HostRuntime) -> Result<(), Fail> {
 fn a_special_file_or_a_name_that_is_no_text_is_no_link(rt: HostRuntime) -> Result<(), Fail> {
     let disk = links_alone(rt.alloc())?;
     disk.add_special("top/a/b/pipe")?;
-    assert!(rt; !only_links(rt.alloc(), &disk, "top")?);
+    holds(&rt, !only_links(rt.alloc(), &disk, "top")?);
     let disk = links_alone(rt.alloc())?;
     disk.add_unnamed("top/a/b")?;
-    assert!(rt; !only_links(rt.alloc(), &disk, "top")?);
+    holds(&rt, !only_links(rt.alloc(), &disk, "top")?);
     Ok(())
 }
 
@@ -152,11 +153,11 @@ fn a_walk_names_the_folder_that_cannot_be_read(rt: HostRuntime) -> Result<(), Fa
     let disk = make_tree(rt.alloc())?;
     let walked = walk(rt.alloc(), &disk, "gone", &[".map"]);
     let text = fault_text(rt.alloc(), walked)?;
-    assert_eq!(rt; text.as_str(), "gone: entity not found");
+    equal(&rt, text.as_str(), "gone: entity not found");
     disk.fail("top/a", ErrorKind::PermissionDenied)?;
     let walked = walk(rt.alloc(), &disk, "top", &[".map"]);
     let text = fault_text(rt.alloc(), walked)?;
-    assert_eq!(rt; text.as_str(), "top/a: permission denied");
+    equal(&rt, text.as_str(), "top/a: permission denied");
     Ok(())
 }
 
@@ -186,7 +187,7 @@ fn a_file_is_read_up_to_the_limit(rt: HostRuntime) -> Result<(), Fail> {
         (0, "too long"),
     ] {
         let text = read_text(rt.alloc(), &disk, "four", most)?;
-        assert_eq!(rt; text.as_str(), want);
+        equal(&rt, text.as_str(), want);
     }
     Ok(())
 }
@@ -205,7 +206,7 @@ fn a_file_that_cannot_be_read_says_why(rt: HostRuntime) -> Result<(), Fail> {
         ("top/a/z.map", "memory"),
     ] {
         let text = read_text(rt.alloc(), &disk, path, 100)?;
-        assert_eq!(rt; text.as_str(), want);
+        equal(&rt, text.as_str(), want);
     }
     Ok(())
 }
@@ -216,14 +217,14 @@ fn a_writer_keeps_why_it_failed(rt: HostRuntime) -> Result<(), Fail> {
     disk.fail_writes("full", ErrorKind::StorageFull)?;
     let mut writer = Watched::new(disk.create_new("good")?);
     writer.write_all(b"text")?;
-    assert!(rt; writer.fault().is_none());
+    holds(&rt, writer.fault().is_none());
     let mut writer = Watched::new(disk.create_new("full")?);
-    assert!(rt; writer.write(b"text").is_err());
+    holds(&rt, writer.write(b"text").is_err());
     let fault = writer.fault().map(|error| error.kind());
-    assert_eq!(rt; fault, Some(ErrorKind::StorageFull));
+    equal(&rt, fault, Some(ErrorKind::StorageFull));
     writer.into_inner();
     let good = disk.bytes("good")?;
-    assert_eq!(rt; good.as_slice(), b"text".as_slice());
+    equal(&rt, good.as_slice(), b"text".as_slice());
     Ok(())
 }
 
@@ -242,10 +243,10 @@ fn a_file_beside_takes_its_name_at_the_end(rt: HostRuntime) -> Result<(), Fail> 
     let disk = make_tree(rt.alloc())?;
     disk.set_permissions("top/a.map", 0o600)?;
     let name = replaced(rt.alloc(), &disk, "top/a.map", b"new")?;
-    assert_eq!(rt; name.as_str(), "top/.a.map.smap-1");
-    assert_eq!(rt; disk.bytes("top/a.map")?.as_slice(), b"new".as_slice());
-    assert_eq!(rt; disk.permissions("top/a.map")?, 0o600);
-    assert_eq!(rt; disk.kind(&name), Kind::Missing);
+    equal(&rt, name.as_str(), "top/.a.map.smap-1");
+    equal(&rt, disk.bytes("top/a.map")?.as_slice(), b"new".as_slice());
+    equal(&rt, disk.permissions("top/a.map")?, 0o600);
+    equal(&rt, disk.kind(&name), Kind::Missing);
     Ok(())
 }
 
@@ -257,9 +258,9 @@ fn what_has_the_name_stays_until_the_end(rt: HostRuntime) -> Result<(), Fail> {
     let there = disk.kind("top/.a.map.smap-1");
     beside.abandon(&disk);
     written?;
-    assert_eq!(rt; there, Kind::File);
-    assert_eq!(rt; disk.bytes("top/a.map")?.as_slice(), b"a".as_slice());
-    assert_eq!(rt; disk.kind("top/.a.map.smap-1"), Kind::Missing);
+    equal(&rt, there, Kind::File);
+    equal(&rt, disk.bytes("top/a.map")?.as_slice(), b"a".as_slice());
+    equal(&rt, disk.kind("top/.a.map.smap-1"), Kind::Missing);
     Ok(())
 }
 
@@ -269,9 +270,9 @@ fn a_new_file_that_is_abandoned_leaves_nothing(rt: HostRuntime) -> Result<(), Fa
     let (beside, _writer) = create_beside(rt.alloc(), &disk, "new")?;
     let there = disk.kind(".new.smap-1");
     beside.abandon(&disk);
-    assert_eq!(rt; there, Kind::File);
-    assert_eq!(rt; disk.kind(".new.smap-1"), Kind::Missing);
-    assert_eq!(rt; disk.kind("new"), Kind::Missing);
+    equal(&rt, there, Kind::File);
+    equal(&rt, disk.kind(".new.smap-1"), Kind::Missing);
+    equal(&rt, disk.kind("new"), Kind::Missing);
     Ok(())
 }
 
@@ -281,10 +282,11 @@ fn a_file_beside_has_a_name_that_is_free(rt: HostRuntime) -> Result<(), Fail> {
     disk.add_file("top/.b.map.smap-1", b"another's")?;
     disk.add_link("top/.b.map.smap-2", "out/gone.js")?;
     let name = replaced(rt.alloc(), &disk, "top/b.map", b"")?;
-    assert_eq!(rt; name.as_str(), "top/.b.map.smap-3");
-    assert_eq!(rt;
+    equal(&rt, name.as_str(), "top/.b.map.smap-3");
+    equal(
+        &rt,
         disk.bytes("top/.b.map.smap-1")?.as_slice(),
-        b"another's".as_slice()
+        b"another's".as_slice(),
     );
     Ok(())
 }
@@ -293,10 +295,14 @@ fn a_file_beside_has_a_name_that_is_free(rt: HostRuntime) -> Result<(), Fail> {
 fn a_link_stays_and_its_file_is_written(rt: HostRuntime) -> Result<(), Fail> {
     let disk = make_tree(rt.alloc())?;
     let name = replaced(rt.alloc(), &disk, "top/link.js", b"near")?;
-    assert_eq!(rt; name.as_str(), "out/.far.js.smap-1");
-    assert_eq!(rt; disk.bytes("out/far.js")?.as_slice(), b"near".as_slice());
+    equal(&rt, name.as_str(), "out/.far.js.smap-1");
+    equal(
+        &rt,
+        disk.bytes("out/far.js")?.as_slice(),
+        b"near".as_slice(),
+    );
     let real = disk.real_path(rt.alloc(), "top/link.js")?;
-    assert_eq!(rt; real.as_str(), "out/far.js");
+    equal(&rt, real.as_str(), "out/far.js");
     Ok(())
 }
 
@@ -306,8 +312,8 @@ fn a_name_that_cannot_be_given_leaves_nothing(rt: HostRuntime) -> Result<(), Fai
     disk.fail("new", ErrorKind::PermissionDenied)?;
     let (beside, _writer) = create_beside(rt.alloc(), &disk, "new")?;
     let answer = beside.finish(&disk);
-    assert_eq!(rt; kind_of(answer), Some(ErrorKind::PermissionDenied));
-    assert_eq!(rt; disk.kind(".new.smap-1"), Kind::Missing);
+    equal(&rt, kind_of(answer), Some(ErrorKind::PermissionDenied));
+    equal(&rt, disk.kind(".new.smap-1"), Kind::Missing);
     Ok(())
 }
 
@@ -330,7 +336,7 @@ fn only_files_are_replaced(rt: HostRuntime) -> Result<(), Fail> {
         ("none/new", Some(ErrorKind::NotFound)),
         ("top/new", None),
     ] {
-        assert_eq!(rt; begun(rt.alloc(), &disk, path), want, "{path}");
+        equal(&rt, begun(rt.alloc(), &disk, path), want);
     }
     Ok(())
 }

@@ -1,6 +1,7 @@
 //! Rows for faults in a section, in a segment behind a prefix line, and in a text that isn't JSON.
-use crate::{TextRange, range_of};
+use crate::asserted::equal;
 use smap_mappings::SegmentPlace;
+use smap_ranges::{TextRange, range_of};
 use smap_record::{Fault, Kind, Path};
 use std::test::Fail;
 
@@ -19,18 +20,19 @@ fn ranges_in_sections(rt: HostRuntime) -> Result<(), Fail> {
         kind: Kind::SourceUrl(1),
     };
     let range = range_of(rt.alloc(), text.as_bytes(), &fault)?;
-    assert_eq!(rt; range, Some(TextRange { start: 91, end: 92 }));
+    equal(&rt, range, Some(TextRange { start: 91, end: 92 }));
     fault.kind = Kind::Order;
     let range = range_of(rt.alloc(), text.as_bytes(), &fault)?;
-    assert_eq!(rt; range, Some(TextRange { start: 35, end: 56 }));
+    equal(&rt, range, Some(TextRange { start: 35, end: 56 }));
     fault.kind = Kind::IgnoreList;
     let range = range_of(rt.alloc(), text.as_bytes(), &fault)?;
-    assert_eq!(rt;
+    equal(
+        &rt,
         range,
         Some(TextRange {
             start: 63,
-            end: 109
-        })
+            end: 109,
+        }),
     );
     Ok(())
 }
@@ -48,10 +50,10 @@ fn ranges_behind_a_prefix(rt: HostRuntime) -> Result<(), Fail> {
     };
     let text = b")]}'\n{\"mappings\":\";D\"}";
     let range = range_of(rt.alloc(), text, &fault)?;
-    assert_eq!(rt; range, Some(TextRange { start: 19, end: 20 }));
+    equal(&rt, range, Some(TextRange { start: 19, end: 20 }));
     let text = b")]}'\n{\"mappings\":;}";
     let range = range_of(rt.alloc(), text, &fault)?;
-    assert_eq!(rt; range, Some(TextRange { start: 17, end: 17 }));
-    assert_eq!(rt; range_of(rt.alloc(), b")]}'", &fault)?, None);
+    equal(&rt, range, Some(TextRange { start: 17, end: 17 }));
+    equal(&rt, range_of(rt.alloc(), b")]}'", &fault)?, None);
     Ok(())
 }

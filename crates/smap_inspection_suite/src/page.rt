@@ -1,5 +1,6 @@
 //! Sizes and mappings of a small map, by hand.
-use crate::{mappings_text, measured};
+use crate::asserted::equal;
+use smap_page::{mappings_text, measured};
 use smap_record::{Base, Limits, SourceMap};
 use std::alloc::Global;
 use std::test::Fail;
@@ -23,7 +24,7 @@ fn mappings_are_differences(rt: HostRuntime) -> Result<(), Fail> {
     let map = read(rt.alloc())?;
     // 1, 0, +1, +2; 4 * 2; a line step of 4 * 2 + 3; 4 * 1 + 2, 0, -1, -2, 0, each from `=` on
     let wanted = ">=?AEHC=>@=";
-    assert_eq!(rt; mappings_text(rt.alloc(), &map)?.as_str(), wanted);
+    equal(&rt, mappings_text(rt.alloc(), &map)?.as_str(), wanted);
     Ok(())
 }
 
@@ -37,7 +38,7 @@ fn bytes_have_the_source_of_their_mapping(rt: HostRuntime) -> Result<(), Fail> {
     )?;
     // of a.js `ab`, the e with its accent and the last line feed; of none the face and CR LF; free are the
     // mark, `xy` with its line separator, and `z`
-    assert_eq!(rt; sizes.bytes.as_slice(), [5, 6, 9].as_slice());
-    assert_eq!(rt; sizes.mappings.as_slice(), [2, 1].as_slice());
+    equal(&rt, sizes.bytes.as_slice(), [5, 6, 9].as_slice());
+    equal(&rt, sizes.mappings.as_slice(), [2, 1].as_slice());
     Ok(())
 }

@@ -1,4 +1,5 @@
-use crate::{
+use crate::asserted::{equal, holds};
+use smap_link::{
     Choice, ChoiceFault, InlineFault, Likeness, LinkFault, PathFault, choose, css_map_url,
     file_path, file_url, inline_map, map_url, maps_of_scripts, most_alike, normal_form, resolved,
     script_name, script_of_map, script_url, scripts_of_maps,
@@ -22,52 +23,69 @@ fn named_in_css(text: &str) -> &str {
 
 #[test]
 fn comments(rt: HostRuntime) -> Result<(), Fail> {
-    assert_eq!(rt; named("f()\n//# sourceMappingURL=a.map"), "a.map");
-    assert_eq!(rt; named("//# sourceMappingURL=a.map\r\n \n"), "a.map");
-    assert_eq!(rt; named("//@sourceMappingURL=a.map "), "a.map");
-    assert_eq!(rt; named("f() /*# sourceMappingURL=a.map */ // end"), "a.map");
-    assert_eq!(rt;
+    equal(&rt, named("f()\n//# sourceMappingURL=a.map"), "a.map");
+    equal(&rt, named("//# sourceMappingURL=a.map\r\n \n"), "a.map");
+    equal(&rt, named("//@sourceMappingURL=a.map "), "a.map");
+    equal(
+        &rt,
+        named("f() /*# sourceMappingURL=a.map */ // end"),
+        "a.map",
+    );
+    equal(
+        &rt,
         named("f() //#\u{a0}\u{feff}sourceMappingURL=a.map\u{3000}"),
-        "a.map"
+        "a.map",
     );
-    assert_eq!(rt; named("//# sourceMappingURL=a.map\nf()"), "none");
-    assert_eq!(rt;
+    equal(&rt, named("//# sourceMappingURL=a.map\nf()"), "none");
+    equal(
+        &rt,
         named("//# sourceMappingURL=a.map\n//# sourceMappingURL=b.map\n// end"),
-        "b.map"
+        "b.map",
     );
-    assert_eq!(rt; named("//# sourceMappingURL=a b.map"), "none");
-    assert_eq!(rt; named("//# sourceMappingURL="), "");
-    assert_eq!(rt; named("s = '//# sourceMappingURL=a.map'"), "a.map'");
-    assert_eq!(rt;
+    equal(&rt, named("//# sourceMappingURL=a b.map"), "none");
+    equal(&rt, named("//# sourceMappingURL="), "");
+    equal(&rt, named("s = '//# sourceMappingURL=a.map'"), "a.map'");
+    equal(
+        &rt,
         named("//# sourceMappingURL=a.map\u{2028}// end\u{2029}\u{2003}"),
-        "a.map"
+        "a.map",
     );
-    assert_eq!(rt; named("//# sourceMappingURL=a.map\u{2028}f()"), "none");
-    assert_eq!(rt; named("// f()\u{2028}//# sourceMappingURL=a.map"), "a.map");
+    equal(&rt, named("//# sourceMappingURL=a.map\u{2028}f()"), "none");
+    equal(
+        &rt,
+        named("// f()\u{2028}//# sourceMappingURL=a.map"),
+        "a.map",
+    );
     Ok(())
 }
 
 #[test]
 fn unclosed_comments(rt: HostRuntime) -> Result<(), Fail> {
-    assert_eq!(rt; named("/*# sourceMappingURL=a.map"), "none");
-    assert_eq!(rt; named("/*# sourceMappingURL=a.map\n*/"), "none");
-    assert_eq!(rt; named("//# sourceMappingURL=a.map\n/* f() \u{a0}"), "a.map");
-    assert_eq!(rt; named("//# sourceMappingURL=a.map\n/* f()"), "none");
-    assert_eq!(rt; named("//# sourceMappingURL=a.map\n/*"), "a.map");
-    assert_eq!(rt; named("//# sourceMappingURL=a.map\n/*/"), "none");
+    equal(&rt, named("/*# sourceMappingURL=a.map"), "none");
+    equal(&rt, named("/*# sourceMappingURL=a.map\n*/"), "none");
+    equal(
+        &rt,
+        named("//# sourceMappingURL=a.map\n/* f() \u{a0}"),
+        "a.map",
+    );
+    equal(&rt, named("//# sourceMappingURL=a.map\n/* f()"), "none");
+    equal(&rt, named("//# sourceMappingURL=a.map\n/*"), "a.map");
+    equal(&rt, named("//# sourceMappingURL=a.map\n/*/"), "none");
     Ok(())
 }
 
 #[test]
 fn style_sheets(rt: HostRuntime) -> Result<(), Fail> {
-    assert_eq!(rt;
+    equal(
+        &rt,
         named_in_css("a {}\n/*# sourceMappingURL=a.css.map */\n"),
-        "a.css.map"
+        "a.css.map",
     );
-    assert_eq!(rt; named_in_css("//# sourceMappingURL=a.css.map"), "none");
-    assert_eq!(rt;
+    equal(&rt, named_in_css("//# sourceMappingURL=a.css.map"), "none");
+    equal(
+        &rt,
         named_in_css("//*# sourceMappingURL=a.css.map */"),
-        "a.css.map"
+        "a.css.map",
     );
     Ok(())
 }
@@ -83,51 +101,57 @@ fn urls_of_files(rt: HostRuntime) -> Result<(), Fail> {
         .ok()
         .ok_or("err")?
         .ok_or("none")?;
-    assert_eq!(rt; url.as_str(), "file:///C:/a%20b/x.js");
+    equal(&rt, url.as_str(), "file:///C:/a%20b/x.js");
     let url = file_url(alloc, "/app/a#b?c%é.js".as_bytes())
         .ok()
         .ok_or("err")?
         .ok_or("none")?;
-    assert_eq!(rt; url.as_str(), "file:///app/a%23b%3Fc%25%C3%A9.js");
-    assert_eq!(rt;
+    equal(&rt, url.as_str(), "file:///app/a%23b%3Fc%25%C3%A9.js");
+    equal(
+        &rt,
         file_url(alloc, b"/app/\xff.js").err(),
-        Some(PathFault::NotUtf8)
+        Some(PathFault::NotUtf8),
     );
     let path = file_path(alloc, b"file:///app/a%23b%25%C3%A9.js?x#y")
         .ok()
         .ok_or("err")?
         .ok_or("none")?;
-    assert_eq!(rt; text(&path), "/app/a#b%é.js");
+    equal(&rt, text(&path), "/app/a#b%é.js");
     let path = file_path(alloc, b"FILE://localhost/C:/a%20b/x.js")
         .ok()
         .ok_or("err")?
         .ok_or("none")?;
-    assert_eq!(rt; text(&path), "C:\\a b\\x.js");
-    assert_eq!(rt;
+    equal(&rt, text(&path), "C:\\a b\\x.js");
+    equal(
+        &rt,
         file_path(alloc, b"file://h/a.js").err(),
-        Some(PathFault::Host)
+        Some(PathFault::Host),
     );
-    assert_eq!(rt;
+    equal(
+        &rt,
         file_path(alloc, b"file:///a%2Fb.js").err(),
-        Some(PathFault::Escape)
+        Some(PathFault::Escape),
     );
-    assert_eq!(rt;
+    equal(
+        &rt,
         file_path(alloc, b"file:///C:/a%5cb.js").err(),
-        Some(PathFault::Escape)
+        Some(PathFault::Escape),
     );
-    assert_eq!(rt;
+    equal(
+        &rt,
         file_path(alloc, b"file:///a%00b.js").err(),
-        Some(PathFault::Escape)
+        Some(PathFault::Escape),
     );
-    assert_eq!(rt;
+    equal(
+        &rt,
         file_path(alloc, b"file:///%ff").err(),
-        Some(PathFault::NotUtf8)
+        Some(PathFault::NotUtf8),
     );
     let path = file_path(alloc, b"file:///half%4")
         .ok()
         .ok_or("err")?
         .ok_or("none")?;
-    assert_eq!(rt; text(&path), "/half%4");
+    equal(&rt, text(&path), "/half%4");
     Ok(())
 }
 
@@ -135,11 +159,11 @@ fn urls_of_files(rt: HostRuntime) -> Result<(), Fail> {
 fn scripts_below_folders(rt: HostRuntime) -> Result<(), Fail> {
     let alloc = rt.alloc();
     let url = script_url(alloc, b"http://h/", "é [x].js".as_bytes())?;
-    assert_eq!(rt; text(&url), "http://h/%C3%A9%20[x].js");
+    equal(&rt, text(&url), "http://h/%C3%A9%20[x].js");
     let url = script_url(alloc, b"/srv/", b"a b/x.js")?;
-    assert_eq!(rt; text(&url), "/srv/a b/x.js");
+    equal(&rt, text(&url), "/srv/a b/x.js");
     let url = script_url(alloc, b"C:\\srv\\", b"a b/x.js")?;
-    assert_eq!(rt; text(&url), "C:\\srv\\a b\\x.js");
+    equal(&rt, text(&url), "C:\\srv\\a b\\x.js");
     Ok(())
 }
 
@@ -155,32 +179,39 @@ fn data_in(alloc: Global, url: &str) -> Result<Vec<u8>, Fail> {
 fn data_urls(rt: HostRuntime) -> Result<(), Fail> {
     let alloc = rt.alloc();
     let map = data_in(alloc, "data:application/json;charset=utf-8;base64,e30")?;
-    assert_eq!(rt; text(&map), "{}");
+    equal(&rt, text(&map), "{}");
     let map = data_in(alloc, "DATA:;BASE64,%65%33 0%3D#x")?;
-    assert_eq!(rt; text(&map), "{}");
+    equal(&rt, text(&map), "{}");
     let map = data_in(alloc, "data:; base64 ,e31")?;
-    assert_eq!(rt; text(&map), "{}");
+    equal(&rt, text(&map), "{}");
     let map = data_in(alloc, "data:application/json,%7B%22a%22:1%7D%4")?;
-    assert_eq!(rt; text(&map), "{\"a\":1}%4");
+    equal(&rt, text(&map), "{\"a\":1}%4");
     let map = data_in(alloc, "data:;base64=1,e30")?;
-    assert_eq!(rt; text(&map), "e30");
-    assert_eq!(rt;
+    equal(&rt, text(&map), "e30");
+    equal(
+        &rt,
         inline_map(alloc, b"data:;base64,e_0-").err(),
-        Some(InlineFault::Base64)
+        Some(InlineFault::Base64),
     );
-    assert_eq!(rt;
+    equal(
+        &rt,
         inline_map(alloc, b"data:;base64,e30==").err(),
-        Some(InlineFault::Base64)
+        Some(InlineFault::Base64),
     );
-    assert_eq!(rt;
+    equal(
+        &rt,
         inline_map(alloc, b"data:;base64,e").err(),
-        Some(InlineFault::Base64)
+        Some(InlineFault::Base64),
     );
-    assert_eq!(rt;
+    equal(
+        &rt,
         inline_map(alloc, b"data:application/json#,").err(),
-        Some(InlineFault::Form)
+        Some(InlineFault::Form),
     );
-    assert!(rt; inline_map(alloc, b"a.map").ok().ok_or("err")?.is_none());
+    holds(
+        &rt,
+        inline_map(alloc, b"a.map").ok().ok_or("err")?.is_none(),
+    );
     Ok(())
 }
 
@@ -193,15 +224,30 @@ fn are_alike(alloc: Global, a: &[u8], b: &[u8]) -> Result<bool, Fail> {
 #[test]
 fn alike(rt: HostRuntime) -> Result<(), Fail> {
     let alloc = rt.alloc();
-    assert!(rt; are_alike(alloc, b"HTTPS://H:443/a.js?v=1#x", b"https://h/a.js")?);
-    assert!(rt; !are_alike(alloc, b"https://h:444/a.js", b"https://h/a.js")?);
-    assert!(rt; !are_alike(alloc, b"https://h/A.js", b"https://h/a.js")?);
-    assert!(rt; are_alike(alloc, b"file:///a/%5Bx%5D.js", b"/a/[x].js")?);
-    assert!(rt; are_alike(alloc, b"c:\\a b\\x.js", b"file:///C:/a%20b/x.js")?);
-    assert!(rt; are_alike(alloc, b"C:/a.js", b"c:\\a.js")?);
-    assert!(rt; !are_alike(alloc, b"file://h/a.js", b"/a.js")?);
-    assert!(rt; !are_alike(alloc, b"/a?b.js", b"/a?c.js")?);
-    assert!(rt; are_alike(alloc, b"a.js", b"a.js")?);
+    holds(
+        &rt,
+        are_alike(alloc, b"HTTPS://H:443/a.js?v=1#x", b"https://h/a.js")?,
+    );
+    holds(
+        &rt,
+        !are_alike(alloc, b"https://h:444/a.js", b"https://h/a.js")?,
+    );
+    holds(
+        &rt,
+        !are_alike(alloc, b"https://h/A.js", b"https://h/a.js")?,
+    );
+    holds(
+        &rt,
+        are_alike(alloc, b"file:///a/%5Bx%5D.js", b"/a/[x].js")?,
+    );
+    holds(
+        &rt,
+        are_alike(alloc, b"c:\\a b\\x.js", b"file:///C:/a%20b/x.js")?,
+    );
+    holds(&rt, are_alike(alloc, b"C:/a.js", b"c:\\a.js")?);
+    holds(&rt, !are_alike(alloc, b"file://h/a.js", b"/a.js")?);
+    holds(&rt, !are_alike(alloc, b"/a?b.js", b"/a?c.js")?);
+    holds(&rt, are_alike(alloc, b"a.js", b"a.js")?);
     Ok(())
 }
 
@@ -212,17 +258,20 @@ fn ends_in_common(rt: HostRuntime) -> Result<(), Fail> {
         b"static/js/main.js".as_slice(),
         b"b/main.js".as_slice(),
     ];
-    assert_eq!(rt;
+    equal(
+        &rt,
         most_alike(b"h/static/js/main.js", names.as_slice()),
-        Likeness::Like(1)
+        Likeness::Like(1),
     );
-    assert_eq!(rt;
+    equal(
+        &rt,
         most_alike(b"h/c/main.js", names.as_slice()),
-        Likeness::Unclear(0, 1)
+        Likeness::Unclear(0, 1),
     );
-    assert_eq!(rt;
+    equal(
+        &rt,
         most_alike(b"h/c/xmain.js", names.as_slice()),
-        Likeness::Unlike
+        Likeness::Unlike,
     );
     Ok(())
 }
@@ -237,30 +286,40 @@ fn name_in(alloc: Global, folder: &str, url: &str) -> Result<Vec<u8>, Fail> {
 #[test]
 fn names_below_folders(rt: HostRuntime) -> Result<(), Fail> {
     let alloc = rt.alloc();
-    assert_eq!(rt;
+    equal(
+        &rt,
         text(&name_in(alloc, "http://h/", "http://h/%C3%A9%20[x].js")?),
-        "é [x].js"
+        "é [x].js",
     );
-    assert_eq!(rt;
+    equal(
+        &rt,
         text(&name_in(alloc, "http://h/", "http://h/a/../b.js")?),
-        "none"
+        "none",
     );
-    assert_eq!(rt;
+    equal(
+        &rt,
         text(&name_in(alloc, "http://h/", "http://h/%2e%2e/b.js")?),
-        "none"
+        "none",
     );
-    assert_eq!(rt; text(&name_in(alloc, "http://h/", "http://h/a%4")?), "none");
-    assert_eq!(rt;
+    equal(
+        &rt,
+        text(&name_in(alloc, "http://h/", "http://h/a%4")?),
+        "none",
+    );
+    equal(
+        &rt,
         text(&name_in(alloc, "http://h/", "http://h/a%2Fb.js")?),
-        "none"
+        "none",
     );
-    assert_eq!(rt;
+    equal(
+        &rt,
         text(&name_in(alloc, "http://h/", "http://g/b.js")?),
-        "none"
+        "none",
     );
-    assert_eq!(rt;
+    equal(
+        &rt,
         text(&name_in(alloc, "C:\\s\\", "C:\\s\\a b\\...\\x.js")?),
-        "a b/.../x.js"
+        "a b/.../x.js",
     );
     Ok(())
 }
@@ -275,41 +334,50 @@ fn url_from(alloc: Global, script: &str, url: &str) -> Result<String, Fail> {
 #[test]
 fn resolved_urls(rt: HostRuntime) -> Result<(), Fail> {
     let alloc = rt.alloc();
-    assert_eq!(rt;
+    equal(
+        &rt,
         url_from(alloc, "https://h/m/a.js?x", "a.js.map")?.as_str(),
-        "https://h/m/a.js.map"
+        "https://h/m/a.js.map",
     );
-    assert_eq!(rt;
+    equal(
+        &rt,
         url_from(alloc, "https://h/m/a.js", "../../b/a.map#y")?.as_str(),
-        "https://h/b/a.map#y"
+        "https://h/b/a.map#y",
     );
-    assert_eq!(rt;
+    equal(
+        &rt,
         url_from(alloc, "/srv/a b.js", "a b.js.map")?.as_str(),
-        "file:///srv/a%20b.js.map"
+        "file:///srv/a%20b.js.map",
     );
-    assert_eq!(rt;
+    equal(
+        &rt,
         url_from(alloc, "C:\\srv\\a.js", "//cdn/a.map")?.as_str(),
-        "file://cdn/a.map"
+        "file://cdn/a.map",
     );
-    assert_eq!(rt;
+    equal(
+        &rt,
         url_from(alloc, "https://h/m/a.js", "")?.as_str(),
-        "https://h/m/a.js"
+        "https://h/m/a.js",
     );
-    assert_eq!(rt;
+    equal(
+        &rt,
         resolved(alloc, b"a.js", b"a.js.map").err(),
-        Some(LinkFault::NoBase)
+        Some(LinkFault::NoBase),
     );
-    assert_eq!(rt;
+    equal(
+        &rt,
         resolved(alloc, b"https://h/a.js", b"http://[").err(),
-        Some(LinkFault::NotUrl)
+        Some(LinkFault::NotUrl),
     );
-    assert_eq!(rt;
+    equal(
+        &rt,
         resolved(alloc, b"https://h/a.js", b"\xff").err(),
-        Some(LinkFault::NotUtf8)
+        Some(LinkFault::NotUtf8),
     );
-    assert_eq!(rt;
+    equal(
+        &rt,
         resolved(alloc, b"/srv/\xff/a.js", b"a.js.map").err(),
-        Some(LinkFault::NotUtf8)
+        Some(LinkFault::NotUtf8),
     );
     Ok(())
 }
@@ -323,18 +391,21 @@ fn maps_by_their_ends(rt: HostRuntime) -> Result<(), Fail> {
         b"/srv/a b/main.js".as_slice(),
     ];
     let found = script_of_map(alloc, b"build/static/js/main.js.map", scripts.as_slice())?;
-    assert_eq!(rt; found, Likeness::Like(1));
-    assert_eq!(rt;
+    equal(&rt, found, Likeness::Like(1));
+    equal(
+        &rt,
         script_of_map(alloc, b"main.js.map", scripts.as_slice())?,
-        Likeness::Unclear(0, 1)
+        Likeness::Unclear(0, 1),
     );
-    assert_eq!(rt;
+    equal(
+        &rt,
         script_of_map(alloc, b"a b/main.js.map", scripts.as_slice())?,
-        Likeness::Like(2)
+        Likeness::Like(2),
     );
-    assert_eq!(rt;
+    equal(
+        &rt,
         script_of_map(alloc, b"ain.js.map", scripts.as_slice())?,
-        Likeness::Unlike
+        Likeness::Unlike,
     );
     let names = [
         b"build/static/js/main.js.map".as_slice(),
@@ -351,10 +422,10 @@ fn maps_by_their_ends(rt: HostRuntime) -> Result<(), Fail> {
         Likeness::Unlike,
     ];
     let found = scripts_of_maps(alloc, names.as_slice(), scripts.as_slice())?;
-    assert_eq!(rt; found.as_slice(), wanted.as_slice());
+    equal(&rt, found.as_slice(), wanted.as_slice());
     let wanted = [Likeness::Like(0), Likeness::Like(0), Likeness::Like(2)];
     let found = maps_of_scripts(alloc, scripts.as_slice(), names.as_slice())?;
-    assert_eq!(rt; found.as_slice(), wanted.as_slice());
+    equal(&rt, found.as_slice(), wanted.as_slice());
     Ok(())
 }
 
@@ -382,13 +453,14 @@ fn choices(rt: HostRuntime) -> Result<(), Fail> {
         Choice { name: 3, script: 2 },
         Choice { name: 4, script: 1 },
     ];
-    assert_eq!(rt; found.as_slice(), wanted.as_slice());
+    equal(&rt, found.as_slice(), wanted.as_slice());
     let found = choose(alloc, names.as_slice(), scripts.as_slice(), false)
         .ok()
         .ok_or("fault")?;
-    assert_eq!(rt;
+    equal(
+        &rt,
         found.as_slice(),
-        [Choice { name: 3, script: 2 }].as_slice()
+        [Choice { name: 3, script: 2 }].as_slice(),
     );
     let scripts = [
         b"https://h/a.js?v=2".as_slice(),
@@ -403,12 +475,13 @@ fn choices(rt: HostRuntime) -> Result<(), Fail> {
     let found = choose(alloc, names.as_slice(), scripts.as_slice(), true)
         .ok()
         .ok_or("fault")?;
-    assert_eq!(rt;
+    equal(
+        &rt,
         found.as_slice(),
-        [Choice { name: 2, script: 0 }].as_slice()
+        [Choice { name: 2, script: 0 }].as_slice(),
     );
     let scripts = [b"a.js".as_slice(), b"b.js".as_slice(), b"a.js".as_slice()];
     let fault = choose(alloc, names.as_slice(), scripts.as_slice(), true).err();
-    assert_eq!(rt; fault, Some(ChoiceFault::Repeated(0, 2)));
+    equal(&rt, fault, Some(ChoiceFault::Repeated(0, 2)));
     Ok(())
 }

@@ -1,5 +1,6 @@
-use crate::{is_set, text_in, texts_in};
+use crate::asserted::{equal, holds};
 use clap::{Arg, ArgAction, ArgMatches, Command};
+use smap_matches::{is_set, text_in, texts_in};
 use std::alloc::Global;
 use std::process::Abort;
 use std::test::Fail;
@@ -22,9 +23,9 @@ fn given(rt: HostRuntime) -> Result<(), Fail> {
     let words = ["tool", "--name=a", "--quiet", "--name", "b"];
     let matches = matched(rt.alloc(), words.as_slice())?;
     let names = texts_in(rt.alloc(), &matches, "name")?;
-    assert!(rt; is_set(&matches, "quiet"));
-    assert_eq!(rt; text_in(&matches, "name"), Some("a"));
-    assert_eq!(rt; names.as_slice(), ["a", "b"].as_slice());
+    holds(&rt, is_set(&matches, "quiet"));
+    equal(&rt, text_in(&matches, "name"), Some("a"));
+    equal(&rt, names.as_slice(), ["a", "b"].as_slice());
     Ok(())
 }
 
@@ -33,8 +34,8 @@ fn absent(rt: HostRuntime) -> Result<(), Fail> {
     let words = ["tool"];
     let matches = matched(rt.alloc(), words.as_slice())?;
     let names = texts_in(rt.alloc(), &matches, "name")?;
-    assert!(rt; !is_set(&matches, "quiet"));
-    assert_eq!(rt; text_in(&matches, "name"), None);
-    assert!(rt; names.is_empty());
+    holds(&rt, !is_set(&matches, "quiet"));
+    equal(&rt, text_in(&matches, "name"), None);
+    holds(&rt, names.is_empty());
     Ok(())
 }

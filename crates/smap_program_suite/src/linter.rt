@@ -1,7 +1,8 @@
 //! Runs over files in memory.
-use crate::{LintAsked, lint};
+use crate::asserted::{equal, holds};
 use smap_disk::Watched;
 use smap_host::Host;
+use smap_linter::{LintAsked, lint};
 use smap_memory_disk::MemoryDisk;
 use smap_report::Format;
 use std::test::Fail;
@@ -38,8 +39,8 @@ fn a_script_with_its_map_is_good(rt: HostRuntime) -> Result<(), Fail> {
     disk.add_file("/d/x.js", b"x()\n//# sourceMappingURL=x.js.map\n")?;
     disk.add_file("/d/x.js.map", MAP)?;
     let (status, out) = linted(&rt, &disk, "/d")?;
-    assert_eq!(rt; status, 0);
-    assert!(rt; out.is_empty());
+    equal(&rt, status, 0);
+    holds(&rt, out.is_empty());
     Ok(())
 }
 
@@ -48,10 +49,11 @@ fn a_named_map_that_is_not_there_is_an_error(rt: HostRuntime) -> Result<(), Fail
     let disk = MemoryDisk::new(rt.alloc());
     disk.add_file("/d/x.js", b"x()\n//# sourceMappingURL=y.map\n")?;
     let (status, out) = linted(&rt, &disk, "/d")?;
-    assert_eq!(rt; status, 1);
-    assert!(rt;
-        out.as_slice()
-            == b"/d/x.js: error: names a map that isn't there: y.map [comment-missing-file]\n".as_slice()
+    equal(&rt, status, 1);
+    equal(
+        &rt,
+        out.as_slice(),
+        b"/d/x.js: error: names a map that isn't there: y.map [comment-missing-file]\n".as_slice(),
     );
     Ok(())
 }

@@ -1,5 +1,6 @@
-use crate::run;
+use crate::asserted::equal;
 use smap_memory_disk::MemoryDisk;
+use smap_viewer::run;
 use std::io;
 use std::test::Fail;
 
@@ -12,8 +13,8 @@ fn a_script_is_followed_to_its_map(rt: HostRuntime) -> Result<(), Fail> {
     disk.add_file("/dist/y.map", MAP)?;
     disk.add_file("/budget.json", b"{\"a.js\":3}")?;
     let words = ["smap-view", "--budget", "/budget.json", "/dist/x.js"];
-    assert_eq!(rt; run(&rt, &disk, words.as_slice(), false, io::sink()), 1);
+    equal(&rt, run(&rt, &disk, words.as_slice(), false, io::sink()), 1);
     disk.add_file("/budget.json", b"{\"a.js\":4,\"\":31}")?;
-    assert_eq!(rt; run(&rt, &disk, words.as_slice(), false, io::sink()), 0);
+    equal(&rt, run(&rt, &disk, words.as_slice(), false, io::sink()), 0);
     Ok(())
 }

@@ -1,4 +1,5 @@
-use crate::run;
+use crate::asserted::equal;
+use smap_mapper::run;
 use smap_memory_disk::MemoryDisk;
 use std::io;
 use std::test::Fail;
@@ -10,7 +11,7 @@ fn a_map_that_would_lose_a_member_is_kept(rt: HostRuntime) -> Result<(), Fail> {
     disk.add_file("/dist/a.map", text.as_slice())?;
     let words = ["smap-maps", "tidy", "--write", "/dist"];
     let status = run(&rt, &disk, words.as_slice(), false, io::sink());
-    assert_eq!(rt; status, 1);
-    assert_eq!(rt; disk.bytes("/dist/a.map")?.as_slice(), text.as_slice());
+    equal(&rt, status, 1);
+    equal(&rt, disk.bytes("/dist/a.map")?.as_slice(), text.as_slice());
     Ok(())
 }

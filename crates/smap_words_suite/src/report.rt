@@ -1,6 +1,7 @@
 //! Lines as the documents of others have them.
 
-use crate::{
+use crate::asserted::{equal, holds};
+use smap_report::{
     FORMAT_WORDS, Finding, Format, LEVEL_WORDS, Level, Point, Report, Rule, format_named,
     has_error, level_named, report_text,
 };
@@ -61,7 +62,7 @@ fn examples_of_others(rt: HostRuntime) -> Result<(), Fail> {
         ),
     ] {
         let text = report_of(rt.alloc(), format, "app.js", point, "Missing semicolon")?;
-        assert_eq!(rt; text.as_str(), want);
+        equal(&rt, text.as_str(), want);
     }
     Ok(())
 }
@@ -72,11 +73,12 @@ fn escapes_of_the_toolkit(rt: HostRuntime) -> Result<(), Fail> {
     let file = "percent % percent % cr \r cr \r lf \n lf \n colon : colon : comma , comma ,";
     let message = "percent % percent % cr \r cr \r lf \n lf \n";
     let text = report_of(rt.alloc(), Format::Github, file, None, message)?;
-    assert_eq!(rt;
+    equal(
+        &rt,
         text.as_str(),
         "::error file=percent %25 percent %25 cr %0D cr %0D lf %0A lf %0A \
          colon %3A colon %3A comma %2C comma %2C,title=YOUR-TITLE::\
-         percent %25 percent %25 cr %0D cr %0D lf %0A lf %0A\n"
+         percent %25 percent %25 cr %0D cr %0D lf %0A lf %0A\n",
     );
     Ok(())
 }
@@ -85,13 +87,13 @@ fn escapes_of_the_toolkit(rt: HostRuntime) -> Result<(), Fail> {
 fn each_listed_word_names_a_form_or_a_level(rt: HostRuntime) {
     for words in FORMAT_WORDS.split(" or ") {
         for word in words.split(", ") {
-            assert!(rt; format_named(word).is_some());
+            holds(&rt, format_named(word).is_some());
         }
     }
     for words in LEVEL_WORDS.split(" or ") {
         for word in words.split(", ") {
-            assert!(rt; level_named(word).is_some());
+            holds(&rt, level_named(word).is_some());
         }
     }
-    assert!(rt; !has_error(&[]));
+    holds(&rt, !has_error(&[]));
 }
