@@ -1,1 +1,2 @@
 pub mod EmbeddingLemmas
+pub mod PlaceLemmas

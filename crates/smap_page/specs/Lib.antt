@@ -1,3 +1,4 @@
 pub mod Embedding
 pub mod Numbers
+pub mod Places
 pub mod Steps

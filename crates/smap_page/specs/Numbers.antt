@@ -1,6 +1,6 @@
 -- Numbers as characters. None of these is a `<`, a quotation mark or a control character, and one character
 -- is all that most numbers of a map take.
-use Rattle.std.specs.Prelude.{ℕ, ◌+◌, ◌*◌, ◌-◌, ◌/◌, ◌%◌, ◌<◌, nat_lt, List, [], ◌∷◌, encode_utf8, cond}
+use Rattle.std.specs.Prelude.{ℕ, ◌+◌, ◌*◌, ◌-◌, ◌/◌, ◌%◌, nat_lt, List, [], ◌∷◌, encode_utf8, cond}
 use Rattle.std.specs.List.{flat_map}
 
 -- a digit of base 16,384, or one that others follow, as a character from `=` (61) on

@@ -5,6 +5,10 @@ use Rattle.smap_page.specs.declared.steps.Last.{Last}
 use Rattle.smap_page.specs.declared.steps.Origin.{Origin}
 use Rattle.smap_page.specs.declared.steps.Place.{Place}
 
+-- Before the first mapping all is 0.
+abbrev pub first : Last
+first = record { line = 0; column = 0; source = 0; row = 0; offset = 0; name = 0 }
+
 -- How many lines a mapping goes on by, unless it stays on its line.
 abbrev pub line_step : Last → ℕ → Option ℕ
 line_step last line = cond (line == last.line) None (Some (line - last.line))
@@ -59,6 +63,6 @@ abbrev pub after : Last → Place → Last
 after last p = after_origin (record last { line = p.line; column = p.column }) p.original
 
 -- the numbers of all mappings
-pub all_numbers : Last → List Place → List ℕ
+abbrev pub all_numbers : Last → List Place → List ℕ
 all_numbers last [] = []
 all_numbers last (p ∷ ps) = numbers last p ++ all_numbers (after last p) ps

@@ -36,7 +36,9 @@ pub(crate) struct Last {
 
 impl Last {
     /// Before the first mapping.
-    pub(crate) fn new() -> Last {
+    pub(crate) fn new() -> Last
+        ensures { result ≡ spec.first }
+    {
         Last {
             line: 0,
             column: 0,
