@@ -1,2 +1,3 @@
 pub mod EmbeddingLemmas
 pub mod PlaceLemmas
+pub mod TreeLemmas

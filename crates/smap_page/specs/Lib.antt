@@ -2,3 +2,4 @@ pub mod Embedding
 pub mod Numbers
 pub mod Places
 pub mod Steps
+pub mod Trees
