@@ -1,3 +1,5 @@
 pub mod EmbeddingLemmas
+pub mod OwnerLemmas
 pub mod PlaceLemmas
 pub mod TreeLemmas
+mod Examples

@@ -1,5 +1,6 @@
 pub mod Embedding
 pub mod Numbers
+pub mod Owners
 pub mod Places
 pub mod Steps
 pub mod Trees

@@ -1,5 +1,10 @@
 //! How many bytes of a script each source has.
-ghost use Rattle.std.specs.Prelude.{◌≡◌, ◌+◌, ◌<◌, length};
+ghost use Rattle.std.specs.Prelude.{◌≡◌, ◌+◌, ◌-◌, ◌<◌, ◌≤◌, ◌^◌, IfOk, OnOk, Some, length, min, get_or, sum};
+ghost use Rattle.std.specs.Prelude.{set, slice_get, replicate};
+ghost use Rattle.std.specs.Char.{len_utf8};
+ghost use Rattle.smap_mappings.specs.Position.{POSITIONS};
+ghost use Rattle.smap_record.specs.Record.{record_of};
+ghost use Rattle.smap_page.specs.Owners as spec;
 
 use smap_record::SourceMap;
 use std::alloc::{AllocError, Global};
@@ -30,7 +35,9 @@ struct Cursor {
 
 impl Cursor {
     /// The beginning of the next line, where no mapping is yet.
-    fn next_line(self, free: usize) -> Cursor {
+    fn next_line(self, free: usize) -> Cursor
+        ensures { result.owner ≡ free }
+    {
         Cursor {
             line: self.line.saturating_add(1),
             column: 0,
@@ -40,7 +47,9 @@ impl Cursor {
         }
     }
 
-    fn next_column(self) -> Cursor {
+    fn next_column(self) -> Cursor
+        ensures { result.owner ≡ self.owner }
+    {
         Cursor {
             column: self.column.saturating_add(1),
             ..self
@@ -49,12 +58,17 @@ impl Cursor {
 }
 
 /// The number that stands for no mapping.
-fn free_of(map: &SourceMap) -> usize {
+fn free_of(map: &SourceMap) -> usize
+    ensures within { result < spec.owner_count (record_of map.now) }
+    ensures last { result ≡ min (length (record_of map.now).sources + 1) (2 ^ 64 - 1) }
+{
     map.source_count().saturating_add(1)
 }
 
 fn owner_of(map: &SourceMap, number: usize) -> usize
     requires { number < length map.now.listing.tokens }
+    ensures within { result ≤ length (record_of map.now).sources }
+    ensures owner { slice_get (spec.owners (record_of map.now)) number ≡ Some result }
 {
     match map.token(number).original {
         Some(original) => original.source_number,
@@ -63,7 +77,10 @@ fn owner_of(map: &SourceMap, number: usize) -> usize
 }
 
 /// Goes on to the last mapping that isn't behind the position.
-fn advanced(map: &SourceMap, cursor: Cursor) -> Cursor {
+fn advanced(map: &SourceMap, cursor: Cursor) -> Cursor
+    requires { cursor.owner < spec.owner_count (record_of map.now) }
+    ensures { result.owner < spec.owner_count (record_of map.now) }
+{
     let mut cursor = cursor;
     for number in cursor.next..map.token_count() {
         let token = map.listed_token(number);
@@ -78,14 +95,25 @@ fn advanced(map: &SourceMap, cursor: Cursor) -> Cursor {
     cursor
 }
 
-fn add(bytes: &mut [u64], number: usize, count: u64) {
-    if let Some(sum) = bytes.get_mut(number) {
-        *sum = sum.saturating_add(count);
+#[tactic(auto, using(crate::proofs::OwnerLemmas::sum_added))]
+fn add(bytes: &mut [u64], number: usize, count: u64)
+    ensures place { bytes.new ≡ set bytes.old number (min (get_or bytes.old number 0 + count) (2 ^ 64 - 1)) }
+    ensures sum { number < length bytes.old → sum bytes.old + count < 2 ^ 64
+        → sum bytes.new ≡ sum bytes.old + count }
+{
+    if number < bytes.len() {
+        bytes[number] = bytes[number].saturating_add(count);
     }
 }
 
 /// Takes a character of one UTF-16 unit, or of two that have two of its four bytes each.
-fn counted(map: &SourceMap, bytes: &mut [u64], cursor: Cursor, c: char) -> Cursor {
+fn counted(map: &SourceMap, bytes: &mut [u64], cursor: Cursor, c: char) -> Cursor
+    requires owner { cursor.owner < spec.owner_count (record_of map.now) }
+    requires bytes { length bytes.old ≡ spec.owner_count (record_of map.now) }
+    requires fits { sum bytes.old + len_utf8 c < 2 ^ 64 }
+    ensures owner { result.owner < spec.owner_count (record_of map.now) }
+    ensures sum { sum bytes.new ≡ sum bytes.old + len_utf8 c }
+{
     let cursor = advanced(map, cursor);
     let count = c.len_utf8() as u64;
     if count < 4 {
@@ -99,7 +127,13 @@ fn counted(map: &SourceMap, bytes: &mut [u64], cursor: Cursor, c: char) -> Curso
 }
 
 /// Takes the next character of a script.
-fn taken(map: &SourceMap, bytes: &mut [u64], cursor: Cursor, c: char) -> Cursor {
+fn taken(map: &SourceMap, bytes: &mut [u64], cursor: Cursor, c: char) -> Cursor
+    requires owner { cursor.owner < spec.owner_count (record_of map.now) }
+    requires bytes { length bytes.old ≡ spec.owner_count (record_of map.now) }
+    requires fits { sum bytes.old + len_utf8 c < 2 ^ 64 }
+    ensures owner { result.owner < spec.owner_count (record_of map.now) }
+    ensures sum { sum bytes.new ≡ sum bytes.old + len_utf8 c }
+{
     let cursor = if cursor.returned && c != '\n' {
         cursor.next_line(free_of(map))
     } else {
@@ -115,10 +149,27 @@ fn taken(map: &SourceMap, bytes: &mut [u64], cursor: Cursor, c: char) -> Cursor 
     }
 }
 
-fn byte_counts(alloc: Global, map: &SourceMap, text: &str) -> Result<Vec<u64>, AllocError> {
+fn zeros(alloc: Global, count: usize) -> Result<Vec<u64>, AllocError>
+    ensures { IfOk result (λ v. v.items ≡ replicate count 0) }
+{
+    vec![in alloc; 0u64; count]
+}
+
+/// A script without its byte order mark.
+fn unmarked(text: &str) -> &str
+    ensures { length result.now ≤ length text.now }
+{
+    text.strip_prefix('\u{feff}').unwrap_or(text)
+}
+
+fn byte_counts(alloc: Global, map: &SourceMap, text: &str) -> Result<Vec<u64>, AllocError>
+    requires { length (record_of map.now).sources < POSITIONS }
+    ensures len { IfOk result (λ b. length b.items ≡ spec.owner_count (record_of map.now)) }
+    ensures sum { IfOk result (λ b. sum b.items ≡ length text.now) }
+{
     let free = free_of(map);
-    let mut bytes = vec![in alloc; 0u64; free.saturating_add(1)]?;
-    let script = text.strip_prefix('\u{feff}').unwrap_or(text);
+    let mut bytes = zeros(alloc, free.saturating_add(1))?;
+    let script = unmarked(text);
     add(
         &mut bytes,
         free,
@@ -137,8 +188,11 @@ fn byte_counts(alloc: Global, map: &SourceMap, text: &str) -> Result<Vec<u64>, A
     Ok(bytes)
 }
 
-fn mapping_counts(alloc: Global, map: &SourceMap) -> Result<Vec<u64>, AllocError> {
-    let mut counts = vec![in alloc; 0u64; map.source_count().saturating_add(1)]?;
+fn mapping_counts(alloc: Global, map: &SourceMap) -> Result<Vec<u64>, AllocError>
+    ensures counts { IfOk result (λ c. c.items ≡ spec.mapping_counts (record_of map.now)) }
+    ensures few_sources { OnOk result (length (record_of map.now).sources < POSITIONS) }
+{
+    let mut counts = zeros(alloc, map.source_count().saturating_add(1))?;
     for number in 0..map.token_count() {
         add(&mut counts, owner_of(map, number), 1);
     }
@@ -151,9 +205,12 @@ fn mapping_counts(alloc: Global, map: &SourceMap) -> Result<Vec<u64>, AllocError
 /// # Errors
 ///
 /// `AllocError`.
-pub fn measured(alloc: Global, map: &SourceMap, text: &str) -> Result<Sizes, AllocError> {
-    Ok(Sizes {
-        bytes: byte_counts(alloc, map, text)?,
-        mappings: mapping_counts(alloc, map)?,
-    })
+pub fn measured(alloc: Global, map: &SourceMap, text: &str) -> Result<Sizes, AllocError>
+    ensures mappings { IfOk result (λ s. s.mappings.items ≡ spec.mapping_counts (record_of map.now)) }
+    ensures bytes { IfOk result (λ s. length s.bytes.items ≡ spec.owner_count (record_of map.now)) }
+    ensures sum { IfOk result (λ s. sum s.bytes.items ≡ length text.now) }
+{
+    let mappings = mapping_counts(alloc, map)?;
+    let bytes = byte_counts(alloc, map, text)?;
+    Ok(Sizes { bytes, mappings })
 }
