@@ -1,13 +1,15 @@
 -- Known answers, computed by the definitions.
 use Rattle.std.proofs.Common.{◌≡◌, ℕ, List, [], ◌∷◌, Option, Some, None, Bool, true, false, refl}
 use Rattle.std.specs.Prelude.{codes}
+use Rattle.std.specs.Str.{chars}
 use Rattle.smap_mappings.specs.declared.token.Token.{Token}
 use Rattle.smap_mappings.specs.declared.token.Original.{Original}
-use Rattle.smap_record.specs.Record.{Entry, Mapping, ReadMap, no_labels, distinct}
+use Rattle.smap_record.specs.Record.{Entry, Mapping, ReadMap, no_labels, distinct, Record}
 use Rattle.smap_page.specs.Steps.{first, all_numbers}
 use Rattle.smap_page.specs.Places.{places}
 use Rattle.smap_page.specs.Trees.{ignored}
 use Rattle.smap_page.specs.Owners.{mapping_counts}
+use Rattle.smap_page.specs.Bytes.{byte_counts}
 
 abbrev named : List ℕ → Bool → Entry
 named url is_ignored = record { url = Some url; content = None; ignored = is_ignored }
@@ -61,3 +63,25 @@ counts_of_three : mapping_counts (record {
   mappings = of_source b ∷ of_none ∷ of_source b ∷ [];
 }) ≡ 0 ∷ 2 ∷ 1 ∷ []
 counts_of_three = refl
+
+-- Two lines of three mappings: of `a`, of no source, and of `a`.
+abbrev of_two_lines : Record
+of_two_lines = record {
+  labels = no_labels;
+  sources = a ∷ [];
+  mappings = of_source a
+      ∷ record { line = 0; column = 2; origin = None }
+      ∷ record {
+        line = 2;
+        column = 1;
+        origin = Some (record { source = a; line = 0; column = 0; name = None });
+      }
+      ∷ [];
+}
+
+-- A mark, `ab`, a face, CR LF, `xy`, LS, `z`, an e with its accent, LF: the mark, `xy`, LS and `z` have no
+-- mapping, and the face, CR and LF no source.
+bytes_of_two_lines : byte_counts of_two_lines (239 ∷ 187 ∷ 191 ∷ 97 ∷ 98 ∷ 240 ∷ 159 ∷ 153 ∷ 130 ∷ 13 ∷ 10
+    ∷ 120 ∷ 121 ∷ 226 ∷ 128 ∷ 168 ∷ 122 ∷ 195 ∷ 169 ∷ 10 ∷ []) ≡ 5 ∷ 6 ∷ 9 ∷ []
+unfolding chars
+bytes_of_two_lines = refl

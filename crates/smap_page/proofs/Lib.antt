@@ -1,5 +1,6 @@
 pub mod EmbeddingLemmas
 pub mod OwnerLemmas
 pub mod PlaceLemmas
+pub mod ReachLemmas
 pub mod TreeLemmas
 mod Examples

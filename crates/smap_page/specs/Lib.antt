@@ -1,3 +1,5 @@
+pub mod Bytes
+pub mod Cursors
 pub mod Embedding
 pub mod Numbers
 pub mod Owners

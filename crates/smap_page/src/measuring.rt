@@ -1,11 +1,16 @@
 //! How many bytes of a script each source has.
-ghost use Rattle.std.specs.Prelude.{◌≡◌, ◌+◌, ◌-◌, ◌<◌, ◌≤◌, ◌^◌, IfOk, OnOk, Some, length, min, get_or, sum};
-ghost use Rattle.std.specs.Prelude.{set, slice_get, replicate};
+ghost use Rattle.std.specs.Prelude.{◌≡◌, ◌+◌, ◌-◌, ◌<◌, ◌≤◌, ◌^◌, ℕ, false, min, cond, IfOk, OnOk, Some};
+ghost use Rattle.std.specs.Prelude.{List, [], ◌∷◌, length, get_or, set, slice_get, replicate, sum};
+ghost use Rattle.std.specs.Prelude.{map as map_list};
 ghost use Rattle.std.specs.Char.{len_utf8};
+ghost use Rattle.std.specs.Str.{chars};
 ghost use Rattle.smap_mappings.specs.Position.{POSITIONS};
 ghost use Rattle.smap_record.specs.Record.{record_of};
+ghost use Rattle.smap_page.specs.Bytes as places;
+ghost use Rattle.smap_page.specs.Cursors as cursors;
 ghost use Rattle.smap_page.specs.Owners as spec;
 
+use smap_mappings::Token;
 use smap_record::SourceMap;
 use std::alloc::{AllocError, Global};
 
@@ -23,8 +28,8 @@ pub struct Sizes {
 /// A position in a script, and the mapping that a lookup finds there.
 #[derive(Clone, Copy)]
 struct Cursor {
-    line: u32,
-    column: u32,
+    line: usize,
+    column: usize,
     /// Whether a CR is before it, which ends the line unless an LF follows.
     returned: bool,
     /// The number of the mapping behind it.
@@ -36,10 +41,17 @@ struct Cursor {
 impl Cursor {
     /// The beginning of the next line, where no mapping is yet.
     fn next_line(self, free: usize) -> Cursor
-        ensures { result.owner ≡ free }
+        requires { self.line + 1 < 2 ^ 64 }
+        ensures { result ≡ record {
+          line = self.line + 1;
+          column = 0;
+          returned = false;
+          next = self.next;
+          owner = free;
+        } }
     {
         Cursor {
-            line: self.line.saturating_add(1),
+            line: self.line + 1,
             column: 0,
             returned: false,
             next: self.next,
@@ -48,10 +60,11 @@ impl Cursor {
     }
 
     fn next_column(self) -> Cursor
-        ensures { result.owner ≡ self.owner }
+        requires { self.column + 1 < 2 ^ 64 }
+        ensures { result ≡ record self { column = self.column + 1 } }
     {
         Cursor {
-            column: self.column.saturating_add(1),
+            column: self.column + 1,
             ..self
         }
     }
@@ -59,10 +72,10 @@ impl Cursor {
 
 /// The number that stands for no mapping.
 fn free_of(map: &SourceMap) -> usize
-    ensures within { result < spec.owner_count (record_of map.now) }
-    ensures last { result ≡ min (length (record_of map.now).sources + 1) (2 ^ 64 - 1) }
+    requires { length (record_of map.now).sources < POSITIONS }
+    ensures { result ≡ length (record_of map.now).sources + 1 }
 {
-    map.source_count().saturating_add(1)
+    map.source_count() + 1
 }
 
 fn owner_of(map: &SourceMap, number: usize) -> usize
@@ -76,21 +89,56 @@ fn owner_of(map: &SourceMap, number: usize) -> usize
     }
 }
 
+/// Whether a mapping is behind the position.
+fn is_after(cursor: Cursor, token: Token) -> bool
+    ensures { result ≡ cursors.is_after cursor token.line token.column }
+{
+    let (line, column) = (token.line as usize, token.column as usize);
+    line > cursor.line || line == cursor.line && column > cursor.column
+}
+
+/// Passes a mapping that isn't behind the position.
+fn passed(map: &SourceMap, cursor: Cursor, token: Token) -> Cursor
+    requires token { slice_get map.now.listing.tokens cursor.next ≡ Some token }
+    requires fits { cursor.next + 1 < 2 ^ 64 }
+    requires owner { cursor.owner < spec.owner_count (record_of map.now) }
+    requires reached { cursors.HasReached (record_of map.now) cursor }
+    requires there { cursors.is_after cursor token.line token.column ≡ false }
+    ensures owner { result.owner < spec.owner_count (record_of map.now) }
+    ensures next { result.next ≡ cursor.next + 1 }
+    ensures line { result.line ≡ cursor.line }
+    ensures column { result.column ≡ cursor.column }
+    ensures reached { cursors.HasReached (record_of map.now) result }
+{
+    let owner = if token.line as usize == cursor.line {
+        owner_of(map, cursor.next)
+    } else {
+        cursor.owner
+    };
+    Cursor {
+        owner,
+        next: cursor.next + 1,
+        ..cursor
+    }
+}
+
 /// Goes on to the last mapping that isn't behind the position.
 fn advanced(map: &SourceMap, cursor: Cursor) -> Cursor
-    requires { cursor.owner < spec.owner_count (record_of map.now) }
-    ensures { result.owner < spec.owner_count (record_of map.now) }
+    requires owner { cursor.owner < spec.owner_count (record_of map.now) }
+    requires reached { cursors.HasReached (record_of map.now) cursor }
+    ensures owner { result.owner < spec.owner_count (record_of map.now) }
+    ensures line { result.line ≡ cursor.line }
+    ensures column { result.column ≡ cursor.column }
+    ensures reached { cursors.HasReached (record_of map.now) result }
+    ensures found { result.owner ≡ places.owner_at (record_of map.now) (cursors.place_of cursor) }
 {
     let mut cursor = cursor;
     for number in cursor.next..map.token_count() {
         let token = map.listed_token(number);
-        if (token.line, token.column) > (cursor.line, cursor.column) {
+        if is_after(cursor, token) {
             break;
         }
-        if token.line == cursor.line {
-            cursor.owner = owner_of(map, number);
-        }
-        cursor.next = number + 1;
+        cursor = passed(map, cursor, token);
     }
     cursor
 }
@@ -106,40 +154,83 @@ fn add(bytes: &mut [u64], number: usize, count: u64)
     }
 }
 
+/// Counts bytes at a position, and goes on by a column.
+fn spot(map: &SourceMap, bytes: &mut [u64], cursor: Cursor, count: u64) -> Cursor
+    requires owner { cursor.owner < spec.owner_count (record_of map.now) }
+    requires bytes { length bytes.old ≡ spec.owner_count (record_of map.now) }
+    requires fits { sum bytes.old + count < 2 ^ 64 }
+    requires room { cursor.column + 1 < 2 ^ 64 }
+    requires reached { cursors.HasReached (record_of map.now) cursor }
+    ensures owner { result.owner < spec.owner_count (record_of map.now) }
+    ensures line { result.line ≡ cursor.line }
+    ensures column { result.column ≡ cursor.column + 1 }
+    ensures reached { cursors.HasReached (record_of map.now) result }
+    ensures sum { sum bytes.new ≡ sum bytes.old + count }
+    ensures added { cursors.Adds bytes.old
+        (replicate count (places.owner_at (record_of map.now) (cursors.place_of cursor))) bytes.new }
+{
+    let cursor = advanced(map, cursor);
+    add(bytes, cursor.owner, count);
+    cursor.next_column()
+}
+
 /// Takes a character of one UTF-16 unit, or of two that have two of its four bytes each.
 fn counted(map: &SourceMap, bytes: &mut [u64], cursor: Cursor, c: char) -> Cursor
     requires owner { cursor.owner < spec.owner_count (record_of map.now) }
     requires bytes { length bytes.old ≡ spec.owner_count (record_of map.now) }
     requires fits { sum bytes.old + len_utf8 c < 2 ^ 64 }
+    requires room { cursor.column + len_utf8 c < 2 ^ 64 }
+    requires reached { cursors.HasReached (record_of map.now) cursor }
     ensures owner { result.owner < spec.owner_count (record_of map.now) }
+    ensures line { result.line ≡ cursor.line }
+    ensures column { result.column ≤ cursor.column + len_utf8 c }
+    ensures place { cursors.place_of result ≡ places.next_columns (cursors.place_of cursor) c }
+    ensures reached { cursors.HasReached (record_of map.now) result }
     ensures sum { sum bytes.new ≡ sum bytes.old + len_utf8 c }
+    ensures added { cursors.Adds bytes.old
+        (map_list (places.owner_at (record_of map.now)) (places.spots (cursors.place_of cursor) c))
+        bytes.new }
 {
-    let cursor = advanced(map, cursor);
     let count = c.len_utf8() as u64;
     if count < 4 {
-        add(bytes, cursor.owner, count);
-        return cursor.next_column();
+        return spot(map, bytes, cursor, count);
     }
-    add(bytes, cursor.owner, 2);
-    let cursor = advanced(map, cursor.next_column());
-    add(bytes, cursor.owner, 2);
-    cursor.next_column()
+    let cursor = spot(map, bytes, cursor, 2);
+    spot(map, bytes, cursor, 2)
 }
 
-/// Takes the next character of a script.
-fn taken(map: &SourceMap, bytes: &mut [u64], cursor: Cursor, c: char) -> Cursor
+/// A line begins at a character behind CR, unless that is LF.
+fn begun(map: &SourceMap, cursor: Cursor, c: char) -> Cursor
+    requires few_sources { length (record_of map.now).sources < POSITIONS }
     requires owner { cursor.owner < spec.owner_count (record_of map.now) }
-    requires bytes { length bytes.old ≡ spec.owner_count (record_of map.now) }
-    requires fits { sum bytes.old + len_utf8 c < 2 ^ 64 }
+    requires room { cursor.line + 1 < 2 ^ 64 }
+    requires reached { cursors.HasReached (record_of map.now) cursor }
     ensures owner { result.owner < spec.owner_count (record_of map.now) }
-    ensures sum { sum bytes.new ≡ sum bytes.old + len_utf8 c }
+    ensures place { cursors.place_of result ≡ cursors.start_of cursor (c ∷ []) }
+    ensures line { result.line ≤ cursor.line + 1 }
+    ensures column { result.column ≤ cursor.column }
+    ensures reached { cursors.HasReached (record_of map.now) result }
 {
-    let cursor = if cursor.returned && c != '\n' {
-        cursor.next_line(free_of(map))
-    } else {
-        cursor
-    };
-    let cursor = counted(map, bytes, cursor, c);
+    if cursor.returned && c != '\n' {
+        return cursor.next_line(free_of(map));
+    }
+    cursor
+}
+
+/// A line ends behind LF, LS and PS.
+fn ended(map: &SourceMap, cursor: Cursor, c: char) -> Cursor
+    requires few_sources { length (record_of map.now).sources < POSITIONS }
+    requires owner { cursor.owner < spec.owner_count (record_of map.now) }
+    requires room { cursor.line + 1 < 2 ^ 64 }
+    requires reached { cursors.HasReached (record_of map.now) cursor }
+    ensures owner { result.owner < spec.owner_count (record_of map.now) }
+    ensures place { (later : List ℕ) → cursors.start_of result later
+        ≡ cond (places.ends_line c later)
+        (places.next_line (cursors.place_of cursor)) (cursors.place_of cursor) }
+    ensures line { result.line ≤ cursor.line + 1 }
+    ensures column { result.column ≤ cursor.column }
+    ensures reached { cursors.HasReached (record_of map.now) result }
+{
     if matches!(c, '\n' | '\u{2028}' | '\u{2029}') {
         return cursor.next_line(free_of(map));
     }
@@ -147,6 +238,31 @@ fn taken(map: &SourceMap, bytes: &mut [u64], cursor: Cursor, c: char) -> Cursor
         returned: c == '\r',
         ..cursor
     }
+}
+
+/// Takes the next character of a script.
+fn taken(map: &SourceMap, bytes: &mut [u64], cursor: Cursor, c: char) -> Cursor
+    requires few_sources { length (record_of map.now).sources < POSITIONS }
+    requires owner { cursor.owner < spec.owner_count (record_of map.now) }
+    requires bytes { length bytes.old ≡ spec.owner_count (record_of map.now) }
+    requires fits { sum bytes.old + len_utf8 c < 2 ^ 64 }
+    requires line { cursor.line + 2 < 2 ^ 64 }
+    requires column { cursor.column + len_utf8 c < 2 ^ 64 }
+    requires reached { cursors.HasReached (record_of map.now) cursor }
+    ensures owner { result.owner < spec.owner_count (record_of map.now) }
+    ensures place { (later : List ℕ) → cursors.start_of result later
+        ≡ places.behind (cursors.start_of cursor (c ∷ [])) c later }
+    ensures line { result.line ≤ cursor.line + 2 }
+    ensures column { result.column ≤ cursor.column + len_utf8 c }
+    ensures reached { cursors.HasReached (record_of map.now) result }
+    ensures sum { sum bytes.new ≡ sum bytes.old + len_utf8 c }
+    ensures added { cursors.Adds bytes.old
+        (map_list (places.owner_at (record_of map.now)) (places.spots (cursors.start_of cursor (c ∷ [])) c))
+        bytes.new }
+{
+    let cursor = begun(map, cursor, c);
+    let cursor = counted(map, bytes, cursor, c);
+    ended(map, cursor, c)
 }
 
 fn zeros(alloc: Global, count: usize) -> Result<Vec<u64>, AllocError>
@@ -157,18 +273,22 @@ fn zeros(alloc: Global, count: usize) -> Result<Vec<u64>, AllocError>
 
 /// A script without its byte order mark.
 fn unmarked(text: &str) -> &str
-    ensures { length result.now ≤ length text.now }
+    ensures chars { chars result.now ≡ places.unmarked (chars text.now) }
+    ensures len { length text.now ≡ length result.now + places.mark_length (chars text.now) }
 {
-    text.strip_prefix('\u{feff}').unwrap_or(text)
+    let Some(script) = text.strip_prefix('\u{feff}') else {
+        return text;
+    };
+    script
 }
 
 fn byte_counts(alloc: Global, map: &SourceMap, text: &str) -> Result<Vec<u64>, AllocError>
     requires { length (record_of map.now).sources < POSITIONS }
-    ensures len { IfOk result (λ b. length b.items ≡ spec.owner_count (record_of map.now)) }
+    ensures counts { IfOk result (λ b. b.items ≡ places.byte_counts (record_of map.now) text.now) }
     ensures sum { IfOk result (λ b. sum b.items ≡ length text.now) }
 {
     let free = free_of(map);
-    let mut bytes = zeros(alloc, free.saturating_add(1))?;
+    let mut bytes = zeros(alloc, free + 1)?;
     let script = unmarked(text);
     add(
         &mut bytes,
@@ -207,7 +327,7 @@ fn mapping_counts(alloc: Global, map: &SourceMap) -> Result<Vec<u64>, AllocError
 /// `AllocError`.
 pub fn measured(alloc: Global, map: &SourceMap, text: &str) -> Result<Sizes, AllocError>
     ensures mappings { IfOk result (λ s. s.mappings.items ≡ spec.mapping_counts (record_of map.now)) }
-    ensures bytes { IfOk result (λ s. length s.bytes.items ≡ spec.owner_count (record_of map.now)) }
+    ensures bytes { IfOk result (λ s. s.bytes.items ≡ places.byte_counts (record_of map.now) text.now) }
     ensures sum { IfOk result (λ s. sum s.bytes.items ≡ length text.now) }
 {
     let mappings = mapping_counts(alloc, map)?;
