@@ -7,6 +7,23 @@ use std::test::Fail;
 
 const MAP: &[u8] = b"{\"version\":3,\"sources\":[\"a.js\"],\"mappings\":\"AAUE,IAEA\"}";
 
+/// Words that write what becomes of a log into a file.
+const TO_A_FILE: [&str; 5] = [
+    "smap-trace",
+    "-o",
+    "/out",
+    "http://h/m/out.js=/x.map",
+    "/crash.log",
+];
+
+/// A disk with this map, and a log of one frame.
+fn with_log(rt: &HostRuntime, map: &[u8]) -> Result<MemoryDisk, Fail> {
+    let disk = MemoryDisk::new(rt.alloc());
+    disk.add_file("/x.map", map)?;
+    disk.add_file("/crash.log", b"@http://h/m/out.js:1:2\n")?;
+    Ok(disk)
+}
+
 /// The status of a run over this log as a pipe, and what it wrote.
 fn traced(
     rt: &HostRuntime,
@@ -52,18 +69,9 @@ fn a_log_takes_the_files_whose_names_end_as_its_scripts_do(rt: HostRuntime) -> R
 
 #[test]
 fn a_refused_map_ends_the_run_and_the_output_file_stays(rt: HostRuntime) -> Result<(), Fail> {
-    let disk = MemoryDisk::new(rt.alloc());
-    disk.add_file("/x.map", b"{\"version\":2}")?;
-    disk.add_file("/crash.log", b"@http://h/m/out.js:1:2\n")?;
+    let disk = with_log(&rt, b"{\"version\":2}")?;
     disk.add_file("/out", b"old")?;
-    let words = [
-        "smap-trace",
-        "-o",
-        "/out",
-        "http://h/m/out.js=/x.map",
-        "/crash.log",
-    ];
-    let (status, _) = traced(&rt, &disk, &words, b"")?;
+    let (status, _) = traced(&rt, &disk, &TO_A_FILE, b"")?;
     equal(&rt, status, 1);
     equal(&rt, disk.bytes("/out")?.as_slice(), b"old".as_slice());
     holds(&rt, disk.bytes("/.out.smap-1").is_err());
@@ -72,17 +80,8 @@ fn a_refused_map_ends_the_run_and_the_output_file_stays(rt: HostRuntime) -> Resu
 
 #[test]
 fn an_output_file_is_written_whole(rt: HostRuntime) -> Result<(), Fail> {
-    let disk = MemoryDisk::new(rt.alloc());
-    disk.add_file("/x.map", MAP)?;
-    disk.add_file("/crash.log", b"@http://h/m/out.js:1:2\n")?;
-    let words = [
-        "smap-trace",
-        "-o",
-        "/out",
-        "http://h/m/out.js=/x.map",
-        "/crash.log",
-    ];
-    let (status, out) = traced(&rt, &disk, &words, b"")?;
+    let disk = with_log(&rt, MAP)?;
+    let (status, out) = traced(&rt, &disk, &TO_A_FILE, b"")?;
     equal(&rt, status, 0);
     holds(&rt, out.is_empty());
     equal(
@@ -96,9 +95,7 @@ fn an_output_file_is_written_whole(rt: HostRuntime) -> Result<(), Fail> {
 
 #[test]
 fn a_log_that_can_not_be_read_has_status_3(rt: HostRuntime) -> Result<(), Fail> {
-    let disk = MemoryDisk::new(rt.alloc());
-    disk.add_file("/x.map", MAP)?;
-    disk.add_file("/crash.log", b"@http://h/m/out.js:1:2\n")?;
+    let disk = with_log(&rt, MAP)?;
     disk.fail_reads("/crash.log", ErrorKind::PermissionDenied)?;
     let words = ["smap-trace", "http://h/m/out.js=/x.map", "/crash.log"];
     let (status, out) = traced(&rt, &disk, &words, b"")?;
@@ -109,18 +106,9 @@ fn a_log_that_can_not_be_read_has_status_3(rt: HostRuntime) -> Result<(), Fail> 
 
 #[test]
 fn an_output_file_that_can_not_be_written_is_left_out(rt: HostRuntime) -> Result<(), Fail> {
-    let disk = MemoryDisk::new(rt.alloc());
-    disk.add_file("/x.map", MAP)?;
-    disk.add_file("/crash.log", b"@http://h/m/out.js:1:2\n")?;
+    let disk = with_log(&rt, MAP)?;
     disk.fail_writes("/.out.smap-1", ErrorKind::StorageFull)?;
-    let words = [
-        "smap-trace",
-        "-o",
-        "/out",
-        "http://h/m/out.js=/x.map",
-        "/crash.log",
-    ];
-    let (status, _) = traced(&rt, &disk, &words, b"")?;
+    let (status, _) = traced(&rt, &disk, &TO_A_FILE, b"")?;
     equal(&rt, status, 3);
     holds(&rt, disk.bytes("/out").is_err());
     Ok(())
