@@ -1,6 +1,6 @@
 //! Sizes and mappings of a small map, by hand.
 use crate::asserted::equal;
-use smap_page::{mappings_text, measured};
+use smap_page::{map_json, mappings_text, measured};
 use smap_record::{Base, Limits, SourceMap};
 use std::alloc::Global;
 use std::test::Fail;
@@ -40,5 +40,18 @@ fn bytes_have_the_source_of_their_mapping(rt: HostRuntime) -> Result<(), Fail> {
     // mark, `xy` with its line separator, and `z`
     equal(&rt, sizes.bytes.as_slice(), [5, 6, 9].as_slice());
     equal(&rt, sizes.mappings.as_slice(), [2, 1].as_slice());
+    Ok(())
+}
+
+#[test]
+fn a_map_is_an_object_of_lists(rt: HostRuntime) -> Result<(), Fail> {
+    let map = read(rt.alloc())?;
+    let sizes = measured(rt.alloc(), &map, "ab")?;
+    let json = map_json(rt.alloc(), &map, &sizes)?;
+    let wanted = concat!(
+        r#"{"bytes":[2,0,0],"counts":[2,1],"ignoreList":[],"mappings":">=?AEHC=>@=","#,
+        r#""names":["f"],"sources":["http://h/a.js"],"sourcesContent":[null]}"#,
+    );
+    equal(&rt, json.as_slice(), wanted.as_bytes());
     Ok(())
 }
