@@ -2,10 +2,13 @@
 
 import copy
 import json
+import random
+import re
 import sys
 import tracemalloc
 import unittest
 from pathlib import Path
+from unittest import mock
 
 TESTS = Path(__file__).resolve().parent
 sys.path.insert(0, str(TESTS.parent.parent / "capi" / "python"))
@@ -63,6 +66,41 @@ class FramesTest(unittest.TestCase):
         for column, context, lines in rows:
             (told,) = self.store.frames([frame(column)], context)
             self.assertEqual((told["pre_context"], told["context_line"], told["post_context"]), lines)
+
+    def test_lines_end_as_those_of_ecmascript(self):
+        # its LineTerminatorSequence; \v, \f, \x1c and \x85 end no line
+        pieces = ["\n", "\r", "\r\n", "\u2028", "\u2029", "\v\f\x1c\x85", "a", "\u00e4b", ""]
+        dice = random.Random(1)
+        for _ in range(300):
+            text = "".join(dice.choices(pieces, k=dice.randrange(12)))
+            wanted = re.split("\r\n|[\n\r\u2028\u2029]", text)
+            made = {"version": 3, "sources": ["a"], "sourcesContent": [text]}
+            made["mappings"] = ",".join(["AAAA"] + ["CACA"] * len(wanted))
+            store = smap.Store(lambda script: json.dumps(made).encode())
+            *told, past = store.frames([frame(column + 1) for column in range(len(wanted) + 1)], 1)
+            for at, line in enumerate(told):
+                self.assertEqual(line["context_line"], wanted[at], text)
+                self.assertEqual(line["pre_context"], wanted[max(0, at - 1) : at], text)
+                self.assertEqual(line["post_context"], wanted[at + 1 : at + 2], text)
+            self.assertNotIn("context_line", past)
+
+    def test_a_content_is_cut_once(self):
+        mappings = ",".join(["AAAA"] + ["CACA"] * 39)
+        # the second is too large to be kept from one call to the next
+        for content, calls in [("\n" * 700_000, 1), ("\u2713\n" * 2_000 + "x" * 17_000_000, 2)]:
+            made = {"version": 3, "sources": ["a"], "sourcesContent": [content], "mappings": mappings}
+            text = json.dumps(made).encode()
+            store, asked, cut = smap.Store(lambda script: text), [], smap.Map.content
+
+            def noted(opened, source):
+                asked.append(source)
+                return cut(opened, source)
+
+            with mock.patch.object(smap.Map, "content", noted):
+                for columns in (range(1, 21), range(21, 41)):
+                    told = store.frames([frame(column) for column in columns])
+                    self.assertEqual([at["lineno"] for at in told], list(columns))
+            self.assertEqual(asked, [0] * calls)
 
     def test_lines_of_the_script_do_not_stay(self):
         sent = {"pre_context": ["min"], "context_line": "min", "post_context": []}

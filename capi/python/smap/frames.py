@@ -4,8 +4,10 @@ from __future__ import annotations
 
 import re
 import sys
+from array import array
 from collections.abc import Mapping as AnyMapping
 from dataclasses import dataclass
+from operator import methodcaller
 from typing import Any, Dict, List, Optional, Tuple
 from urllib.parse import urlsplit
 
@@ -14,8 +16,8 @@ from .noted import Recent
 
 __all__ = ["SHAPES", "Known", "Originals", "code_point", "places_by_script", "translate_all"]
 
-# A line ends as in ECMAScript.
-ENDS = re.compile("\r\n|[\n\r\u2028\u2029]")
+# A line ends as in ECMAScript. This is searched for twice as fast as with a set of characters.
+ENDS = re.compile("\r\n?|\n|\u2028|\u2029")
 
 # The greatest line and column of a frame, which count from 1.
 GREATEST = 2_147_483_648
@@ -166,12 +168,41 @@ def translate_all(frames: List[Any], places: Dict[int, Place], shape: Shape, ori
     return done
 
 
+class Lines:
+    """The lines of a text, by where they begin: a str for each would take 50 bytes more."""
+
+    def __init__(self, text: str) -> None:
+        self._text = text
+        self._starts = array("Q", [0])
+        self._starts.extend(map(methodcaller("end"), ENDS.finditer(text)))
+
+    def around(self, number: int, context: int) -> Optional[Around]:
+        """A line with so many before and behind it; None where there is no such line."""
+        many = len(self._starts)
+        if number >= many:
+            return None
+        before = range(max(0, number - context), number)
+        behind = range(number + 1, min(many, number + 1 + context))
+        return list(map(self._line, before)), self._line(number), list(map(self._line, behind))
+
+    def _line(self, number: int) -> str:
+        start = self._starts[number]
+        if number + 1 == len(self._starts):
+            return self._text[start:]
+        end = self._starts[number + 1]
+        return self._text[start : end - (2 if self._text.endswith("\r\n", start, end) else 1)]
+
+    def size(self) -> int:
+        """How much memory they take, about."""
+        return BESIDE + sys.getsizeof(self._text) + sys.getsizeof(self._starts)
+
+
 class Known:
     """What was found lately, of all maps: positions in sources, and the lines of these."""
 
     def __init__(self) -> None:
         self.positions: Recent[Optional[Original]] = Recent(MOST_KNOWN)
-        self.lines: Recent[Optional[List[str]]] = Recent(MOST_KNOWN)
+        self.lines: Recent[Optional[Lines]] = Recent(MOST_KNOWN)
 
 
 class Originals:
@@ -184,6 +215,8 @@ class Originals:
         self._map, self._mark = opened, mark
         self._context = context
         self._known = known
+        # the source that was asked for last, and its lines, which may have too many bytes to be kept
+        self._last: Tuple[Optional[int], Optional[Lines]] = None, None
 
     def at(self, line: int, column: int) -> Optional[Original]:
         """A position, which counts from 1, in its source; None where that isn't known, or has no URL."""
@@ -203,23 +236,23 @@ class Originals:
 
     def _around(self, source: int, number: int) -> Optional[Around]:
         lines = self._lines_of(source)
-        if lines is None or number >= len(lines):
-            return None
-        first, end = max(0, number - self._context), number + 1 + self._context
-        return lines[first:number], lines[number], lines[number + 1 : end]
+        return None if lines is None else lines.around(number, self._context)
 
-    def _lines_of(self, source: int) -> Optional[List[str]]:
+    def _lines_of(self, source: int) -> Optional[Lines]:
         """The lines of a source; None where the map doesn't have its content."""
-        return self._known.lines.find((self._mark, source), lambda: self._cut(source), size_of_lines)
+        if source != self._last[0]:
+            lines = self._known.lines.find((self._mark, source), lambda: self._cut(source), size_of_lines)
+            self._last = source, lines
+        return self._last[1]
 
-    def _cut(self, source: int) -> Optional[List[str]]:
+    def _cut(self, source: int) -> Optional[Lines]:
         content = self._map.content(source)
-        return None if content is None else ENDS.split(content)
+        return None if content is None else Lines(content)
 
 
-def size_of_lines(lines: Optional[List[str]]) -> int:
-    """How much memory some lines take, about."""
-    return BESIDE + sum(map(sys.getsizeof, lines or []))
+def size_of_lines(lines: Optional[Lines]) -> int:
+    """How much memory the lines of a source take, about."""
+    return BESIDE if lines is None else lines.size()
 
 
 def size_of(found: Optional[Original]) -> int:
@@ -227,4 +260,5 @@ def size_of(found: Optional[Original]) -> int:
     if found is None:
         return BESIDE
     before, line, behind = found.around or ([], "", [])
-    return BESIDE + 2 * sys.getsizeof(found.url) + size_of_lines([*before, line, *behind])
+    lines = sum(map(sys.getsizeof, [*before, line, *behind]))
+    return 2 * BESIDE + 2 * sys.getsizeof(found.url) + lines
