@@ -254,6 +254,13 @@ class SaidTest(EventsCase):
             done = self.run_program(self.places, line, stdout=target)
         self.assertEqual((done.returncode, done.stderr), (141, b""))
 
+    def test_nothing_is_said_among_the_events_where_standard_error_is_closed(self):
+        data = json.dumps(SENTRY).encode() + b"\nno json\n"
+        wanted = self.run_program(self.places, data)
+        for words, stdout, status in [(self.places, wanted.stdout, 1), (["--no-such-option"], b"", 2)]:
+            done = self.run_program(words, data, preexec_fn=lambda: os.close(2))
+            self.assertEqual((done.stdout, done.returncode), (stdout, status))
+
     def test_a_device_that_is_full_is_told_of(self):
         with open("/dev/full", "wb") as target:
             done = self.run_program(self.places, b"{}\n", stdout=target)

@@ -7,6 +7,7 @@ it.
 from __future__ import annotations
 
 import argparse
+import io
 import json
 import math
 import os
@@ -608,6 +609,8 @@ def run(events: Events, files: List[str]) -> int:
 
 def main(words: Optional[Sequence[str]] = None) -> int:
     """Runs the program with these arguments, or those of the process, and returns its status."""
+    if sys.stderr is None:  # it is closed: print and argparse would write among the events
+        sys.stderr = io.StringIO()
     given = arguments(words)
     events = Events(given.store, not given.no_raw, given.context)
     status = run(events, given.files)
