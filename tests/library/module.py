@@ -2,18 +2,21 @@
 
 import base64
 import copy
+import ctypes
 import pickle
 import re
 import sys
 import threading
 import unittest
 from pathlib import Path, PurePosixPath, PureWindowsPath
+from unittest import mock
 from urllib.parse import quote, urljoin, urlsplit
 from urllib.request import url2pathname, urlopen
 
 sys.path.insert(0, str(Path(__file__).resolve().parents[2] / "capi" / "python"))
 import smap  # noqa: E402
 from smap import _declarations as declarations  # noqa: E402
+from smap import _library as library  # noqa: E402
 
 PLACES = Path(__file__).resolve().parent / "places.h"
 VERSION = PLACES.parent.parent.parent / "VERSION"
@@ -225,6 +228,19 @@ class ModuleTest(unittest.TestCase):
         text = '{"version":3,"sources":["a"],"names":["%s"],"mappings":"AAAAA"}' % name
         with smap.Map.open(text.encode(), BASE) as m:
             self.assertEqual(m.lookup(0, 0).name, name)
+
+    def test_an_answer_may_have_more_bytes_than_a_c_int_counts(self):
+        held, many = ctypes.c_uint8(), (1 << 32) + 5
+
+        def bytes_data(out, at, n):
+            at._obj.contents, n._obj.value = held, many
+
+        stand_in = mock.Mock(smap_bytes_data=bytes_data, smap_bytes_copy=lambda *_: many)
+        # they are counted, and not copied
+        counted = mock.patch.object(library, "bytes", len, create=True)
+        with mock.patch.object(library, "lib", stand_in), counted:
+            self.assertEqual(library.taken(declarations.Bytes()), many)
+        stand_in.smap_bytes_free.assert_called_once()
 
     def test_threads_share_a_map(self):
         wrong = []

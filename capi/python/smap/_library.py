@@ -5,7 +5,7 @@ from __future__ import annotations
 import ctypes
 import operator
 import os
-from ctypes import byref, c_size_t
+from ctypes import POINTER, addressof, byref, c_char, c_size_t, c_uint8
 from pathlib import Path
 from typing import Any, Callable, ClassVar, NoReturn, Optional, Tuple, Type, TypeVar
 
@@ -233,11 +233,13 @@ def written(call: Callable[..., int], *words: object) -> bytes:
 
 def taken(out: declared.Bytes) -> bytes:
     """The bytes of a handle, which is freed."""
-    n = lib.smap_bytes_copy(byref(out), 0, b"", 0)
-    text = ctypes.create_string_buffer(n + 1)
-    lib.smap_bytes_copy(byref(out), 0, text, n)
-    lib.smap_bytes_free(byref(out))
-    return ctypes.string_at(text, n)
+    at, n = POINTER(c_uint8)(), c_size_t()
+    lib.smap_bytes_data(byref(out), byref(at), byref(n))
+    try:
+        # an array has any size, while that of ctypes.string_at is a C int
+        return bytes((c_char * n.value).from_address(addressof(at.contents)))
+    finally:
+        lib.smap_bytes_free(byref(out))
 
 
 def how_bits(hide: bool, anywhere: bool, ignore_query: bool) -> int:
