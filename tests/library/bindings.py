@@ -123,7 +123,7 @@ class BindingsTest(unittest.TestCase):
         for line in [
             "    def more_of(self, i: int) -> int:\n",
             '        """How many more there are."""\n',
-            "        check(lib.smap_more_of(byref(self._handle), index_of(i), byref(out)))\n",
+            "        check(self._call(lib.smap_more_of, index_of(i), byref(out)))\n",
         ]:
             self.assertIn(line, self.read(METHODS))
         for line in [
@@ -161,7 +161,7 @@ class BindingsTest(unittest.TestCase):
         text = "    /// The map in one more form.\n    pub fn more_of(&self) -> Result<Vec<u8>, Error> {\n"
         self.assertIn(f"{text}        {call}\n", self.read(WRAPPER))
         self.assertIn('        """The map in one more form."""\n', self.read(METHODS))
-        self.assertIn("        return written(lib.smap_more_of, byref(self._handle))\n", self.read(METHODS))
+        self.assertIn("        return written(self._call, lib.smap_more_of)\n", self.read(METHODS))
         self.assertIn("    return written(env, info, smap_more_of);\n", self.read(GETTERS))
 
     def test_what_node_calls_is_somewhere(self):

@@ -3,8 +3,9 @@
 Maps are made together with what they say, so that lookups are compared with a model; a store is compared
 with maps that are all open. Numbers are those around the bounds of the C library's types, URLs are long and
 have many marks, maps are cut and changed. A call may raise what its manual says, and take a second or two of
-a processor, whatever it is given. Prints the seed first, so that it is known even where the process ends
-amid a call; one seed gives the same calls, but threads meet in another order.
+a processor, whatever it is given. The threads have maps and stores of their own, and others, and scripts, in
+common. Prints the seed first, so that it is known even where the process ends amid a call; one seed gives the
+same calls, but threads meet in another order.
 
 --plant frees a map twice, or uses one that is freed, which the address sanitizer has to see.
 """
@@ -233,7 +234,7 @@ def log_like(dice, scripts):
 
 
 class Shop:
-    """Maps of scripts, in a folder and behind a function, and what is open of them for one thread."""
+    """Maps of scripts, in a folder and behind a function, and open for all threads."""
 
     def __init__(self, dice, temp):
         names = ("a.js", "b/c.js", "d.js", "d.js?v=3", "e.js", "e.js.b")
@@ -241,6 +242,7 @@ class Shop:
         self.scripts = [*self.models, "http://h/m/none.js", "http://h/"]
         self.opened = {script: smap.Map.open(made.text, made.base) for script, made in self.models.items()}
         self.size = max(opened.held() for opened in self.opened.values())
+        self.together = smap.Scripts(self.opened)
         for script, made in self.models.items():
             file = temp / (script[len("http://h/m/") :].replace("?", "%3F") + ".map")
             file.parent.mkdir(exist_ok=True, parents=True)
@@ -252,12 +254,6 @@ class Shop:
         (temp / "b" / "inline.js").write_bytes(b"f() //@ sourceMappingURL=" + data + b"\n// end")
         (temp / "outside.js").write_bytes(b"//# sourceMappingURL=../x.map")
         self.asked = threading.local()
-
-    def again(self):
-        """The same for another thread: a map is for one at a time."""
-        other = copy.copy(self)
-        other.opened = {script: opened.share() for script, opened in self.opened.items()}
-        return other
 
     def find(self, script):
         self.asked.times = getattr(self.asked, "times", 0) + 1
@@ -289,8 +285,10 @@ def ask_log(dice, shop, store):
     before = getattr(shop.asked, "times", 0)
     told = store.translate(log, **way)
     asked = shop.asked.times - before if hasattr(shop.asked, "times") else 0
-    maps = {script: opened.share() for script, opened in shop.opened.items()}
-    same(told, smap.translate(log, maps, **way), log, way)
+    same(told, smap.translate(log, shop.opened, **way), log, way)
+    script = dice.choice(list(shop.models))
+    shop.together.add(script, shop.opened[script])
+    same(told, shop.together.translate(log, **way)[0], log, way)
     assert store.kept_bytes <= store.cache_bytes, (store.kept_bytes, store.cache_bytes)
     # a log that has no room is cut, and asked for in parts
     most = (MOST_SPELLINGS + 4) * (log.count(b"\n") + 1) * (1 if store.cache_bytes >> 30 else 20)
@@ -387,6 +385,8 @@ def ask_alike(dice, shop, temp):
 
 
 MAP_CALLS = [ask_lists, ask_position, ask_copies, ask_texts, ask_limits, ask_changed, ask_held]
+# those that leave the map open
+COMMON_CALLS = [ask_lists, ask_position, ask_texts, ask_held]
 STORE_CALLS = [ask_log, ask_frames, ask_lookup, ask_what_it_knows]
 
 
@@ -423,6 +423,9 @@ class Run:
             for call in dice.sample(MAP_CALLS, len(MAP_CALLS)):
                 with smap.Map.open(made.text, made.base) as opened:
                     self.timed(call, dice, made, opened)
+            script = dice.choice(list(shop.models))
+            for call in dice.sample(COMMON_CALLS, len(COMMON_CALLS)):
+                self.timed(call, dice, shop.models[script], shop.opened[script])
             own = store_like(dice, shop)
             for call in dice.choices(STORE_CALLS, k=8):
                 self.timed(call, dice, shop, dice.choice([own, common]))
@@ -455,7 +458,7 @@ def main():
     parser = argparse.ArgumentParser(description=__doc__.splitlines()[0])
     parser.add_argument("--seconds", type=float, default=20)
     parser.add_argument("--seed", type=int, default=random.SystemRandom().randrange(1 << 32))
-    parser.add_argument("--threads", type=int, default=3)
+    parser.add_argument("--threads", type=int, default=4)
     parser.add_argument("--plant", choices=["freed", "used"])
     words = parser.parse_args()
     if words.plant:
@@ -469,7 +472,7 @@ def main():
         shop = Shop(dice, temp)
         common = smap.Store(Finder(shop), 3 * shop.size)
         threads = [
-            threading.Thread(target=run.guarded, args=(number, shop.again(), common, temp))
+            threading.Thread(target=run.guarded, args=(number, shop, common, temp))
             for number in range(words.threads)
         ]
         for thread in threads:

@@ -283,52 +283,6 @@ class CacheTest(unittest.TestCase):
         self.assertEqual((len(store.opened), store.counts.translated), (10_000, 10_005))
 
 
-class ThreadsTest(unittest.TestCase):
-    def run_all(self, work, many=8):
-        wrong = []
-
-        def guarded(number):
-            try:
-                work(number)
-            except BaseException as error:
-                wrong.append(error)
-
-        threads = [threading.Thread(target=guarded, args=(number,)) for number in range(many)]
-        for thread in threads:
-            thread.start()
-        for thread in threads:
-            thread.join()
-        self.assertEqual(wrong, [])
-
-    def test_a_map_is_opened_once_for_all_threads(self):
-        asked = []
-
-        def finder(script):
-            asked.append(script)
-            time.sleep(0.05)
-            return MAP
-
-        store = smap.Store(finder)
-        self.run_all(lambda _: self.assertEqual(store.translate(frames(U)), "@http://h/a.js:11:3\n"))
-        self.assertEqual((asked, store.opened), ([U], {U: 1}))
-
-    def test_threads_share_a_small_cache(self):
-        scripts = [f"http://h/{number}.js" for number in range(12)]
-        store = smap.Store(Finder({s: MAP.replace(b"a.js", s[9:].encode()) for s in scripts}), 4 * (SIZE + 1))
-
-        def work(number):
-            mine = scripts[number:] + scripts[:number]
-            for _ in range(50):
-                self.assertEqual(store.translate(frames(*mine)), "".join(f"@{s}:11:3\n" for s in mine))
-                self.assertEqual(store.lookup(mine[0], 0, 0).url, mine[0])
-                (told,) = store.frames([{"abs_path": mine[1], "lineno": 1, "colno": 5}])
-                self.assertEqual(told["lineno"], 13)
-                self.assertLessEqual(store.kept_bytes, 4 * (SIZE + 1))
-
-        self.run_all(work)
-        self.assertEqual(store.counts, smap.StoreCounts(lines=8 * 50 * 14, translated=8 * 50 * 14))
-
-
 class LogTest(unittest.TestCase):
     def test_ways_of_translating(self):
         store = smap.Store(Finder({U: MAP, V: IGNORED, U + "?v=3": MAP.replace(b"a.js", b"c.js")}))

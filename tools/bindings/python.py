@@ -66,7 +66,7 @@ def number_method(getter):
     which = "".join(f"index_of({one.name}), " for one in getter.which)
     lines = f"""\
         out = {ctype(getter.kind)}()
-        check(lib.{getter.name}(byref(self._handle), {which}byref(out)))
+        check(self._call(lib.{getter.name}, {which}byref(out)))
         return out.value
 """
     result = "bool" if getter.kind.name == "bool" else "int"
@@ -80,7 +80,7 @@ def text_method(getter):
 
 
 def bytes_method(getter):
-    line = f"        return written(lib.{getter.name}, byref(self._handle))\n"
+    line = f"        return written(self._call, lib.{getter.name})\n"
     return method(getter, "bytes", getter.sentence(""), line)
 
 

@@ -14,8 +14,8 @@
 
 Over the C library libsmap by ctypes alone. The shared object is the one that the environment's SMAP_LIBRARY
 names, or one beside this file, or the one that was installed with it, or the system's. Lines and columns
-count from 0, but in traces from 1. A map may be used by one thread at a time; `share` gives another thread
-one of its own. A store may be used by all threads at once.
+count from 0, but in traces from 1. Maps, scripts and stores may be used by all threads at once. Calls of one
+map wait for one another; `share` gives a thread one of its own, which waits for no other.
 """
 
 from ._library import Counts, Error, RefusedError, TraceCounts, version

@@ -5,6 +5,7 @@ from __future__ import annotations
 import ctypes
 import operator
 import os
+import threading
 from ctypes import POINTER, addressof, byref, c_char, c_size_t, c_uint8
 from pathlib import Path
 from typing import Any, Callable, ClassVar, NoReturn, Optional, Tuple, Type, TypeVar
@@ -22,18 +23,30 @@ Owned = TypeVar("Owned", bound="Owner")
 class Owner:
     """What owns memory of the library through a handle, until it is closed. A copy would free that a second
     time, so there is none.
+
+    All threads may use it at once: each call of the library has the handle to itself.
     """
 
-    _handle: ctypes.Structure
     # the function of the library that closes the handle
     _free: ClassVar[Any]
+
+    def __init__(self, handle: ctypes.Structure) -> None:
+        # A thread may come again while it has the lock, by a finalizer or a signal handler. Python runs these
+        # before the library is called or behind that, when the handle is whole.
+        self._lock = threading.RLock()
+        self._handle = handle
 
     def __reduce__(self) -> NoReturn:
         raise TypeError(f"cannot copy or pickle '{type(self).__name__}' object: it owns memory of libsmap")
 
+    def _call(self, call: Callable[..., int], *words: object) -> int:
+        """The code of a call of the library, whose first parameter is the handle."""
+        with self._lock:
+            return call(byref(self._handle), *words)
+
     def close(self) -> None:
-        """Frees what it owns. Closing it twice does nothing."""
-        self._free(byref(self._handle))
+        """Frees what it owns, once no call of another thread uses it. Closing it twice does nothing."""
+        self._call(self._free)
 
     def __enter__(self: Owned) -> Owned:
         return self

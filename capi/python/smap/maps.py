@@ -59,7 +59,7 @@ class Map(Owner):
     _free = lib.smap_close
 
     def __init__(self) -> None:
-        self._handle = declared.Map()
+        super().__init__(declared.Map())
 
     @classmethod
     def open(
@@ -106,9 +106,9 @@ class Map(Owner):
         return cls.open(read_file(file), base, items, lines, url_bytes)
 
     def share(self) -> Map:
-        """The same map once more, as for another thread; nothing is copied."""
+        """The same map once more, as for a thread that doesn't wait for others; nothing is copied."""
         other = Map()
-        check(lib.smap_share(byref(self._handle), byref(other._handle)))
+        check(self._call(lib.smap_share, byref(other._handle)))
         return other
 
     def same(self, other: Map) -> bool:
@@ -116,20 +116,22 @@ class Map(Owner):
         if self is other:
             return True
         out = c_bool()
-        check(lib.smap_same(byref(self._handle), byref(other._handle), byref(out)))
+        # of two threads that have one of the maps each and wait for the other one, none would go on
+        with other.share() as own:
+            check(self._call(lib.smap_same, byref(own._handle), byref(out)))
         return out.value
 
     def counts(self) -> Counts:
         """How much the map holds."""
         counts = Counts()
-        check(lib.smap_count(byref(self._handle), byref(counts)))
+        check(self._call(lib.smap_count, byref(counts)))
         return counts
 
     def _text(self, call: Callable[..., int], *words: int) -> Optional[str]:
         n, room = c_size_t(), 512
         while True:
             out = create_string_buffer(room)
-            code = call(byref(self._handle), *words, out, room, byref(n))
+            code = self._call(call, *words, out, room, byref(n))
             if code == NONE:
                 return None
             check(code)
@@ -142,19 +144,19 @@ class Map(Owner):
     def held(self) -> int:
         """About how many bytes of memory the map takes, its strings and mappings included."""
         out = c_size_t()
-        check(lib.smap_held(byref(self._handle), byref(out)))
+        check(self._call(lib.smap_held, byref(out)))
         return out.value
 
     def is_ignored(self, source: int) -> bool:
         """Whether a source is ignored."""
         out = c_bool()
-        check(lib.smap_is_ignored(byref(self._handle), index_of(source), byref(out)))
+        check(self._call(lib.smap_is_ignored, index_of(source), byref(out)))
         return out.value
 
     def listed_source(self, i: int) -> int:
         """The number, among the distinct sources, of the i-th one that the map lists."""
         out = c_size_t()
-        check(lib.smap_listed_source(byref(self._handle), index_of(i), byref(out)))
+        check(self._call(lib.smap_listed_source, index_of(i), byref(out)))
         return out.value
 
     def file(self) -> Optional[str]:
@@ -175,11 +177,11 @@ class Map(Owner):
 
     def canonical_mappings(self) -> bytes:
         """The `mappings` of the canonical form alone."""
-        return written(lib.smap_canonical_mappings, byref(self._handle))
+        return written(self._call, lib.smap_canonical_mappings)
 
     def flatten(self) -> bytes:
         """The map as one flat map, with sources and names as listed."""
-        return written(lib.smap_flatten, byref(self._handle))
+        return written(self._call, lib.smap_flatten)
 
     # ---- sources
 
@@ -217,7 +219,7 @@ class Map(Owner):
         if not are_position(line, column):
             return None
         m = declared.Mapping()
-        code = lib.smap_lookup(byref(self._handle), line, column, byref(m))
+        code = self._call(lib.smap_lookup, line, column, byref(m))
         if code == NONE:
             return None
         check(code)
@@ -228,7 +230,7 @@ class Map(Owner):
         if not are_position(line, column):
             return None
         i = c_size_t()
-        code = lib.smap_find(byref(self._handle), line, column, byref(i))
+        code = self._call(lib.smap_find, line, column, byref(i))
         if code == NONE:
             return None
         check(code)
@@ -244,13 +246,12 @@ class Map(Owner):
         """All mappings, in order of line and column, without URLs and names."""
         m = declared.Mapping()
         for i in range(self.counts().mappings):
-            check(lib.smap_token(byref(self._handle), i, byref(m)))
+            check(self._call(lib.smap_token, i, byref(m)))
             yield self._mapping(m)
 
     def canonical(self, relative: bool = False) -> bytes:
         """The map in canonical form: the same bytes for all maps that say the same."""
-        call = lib.smap_canonical_relative if relative else lib.smap_canonical
-        return written(call, byref(self._handle))
+        return written(self._call, lib.smap_canonical_relative if relative else lib.smap_canonical)
 
     def translate_line(
         self, line: bytes, url: str, hide: bool = False, *, anywhere: bool = False, ignore_query: bool = False
@@ -261,12 +262,8 @@ class Map(Owner):
         how = how_bits(hide, anywhere, ignore_query)
         while True:
             out = create_string_buffer(room)
-            check(
-                lib.smap_translate_line(
-                    byref(self._handle), script, len(script), line, len(line), how, out, room, byref(n),
-                    byref(became)
-                )
-            )
+            words = script, len(script), line, len(line), how, out, room, byref(n), byref(became)
+            check(self._call(lib.smap_translate_line, *words))
             if n.value <= room:
                 return None if became.value == DROPPED else out.raw[: n.value]
             room = n.value

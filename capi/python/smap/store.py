@@ -98,7 +98,8 @@ class Store:
     Positions in sources that frames had lately, and lines of sources, are kept in 64 MiB at most besides.
 
     A finder's OSError and smap.Error make the map broken; all other exceptions come out of the call.
-    All threads may use a store at once. A pickled store has its finder and its bounds, and no maps.
+    All threads may use a store at once, but no finalizer and no signal handler, which may interrupt a call
+    that has its lock. A pickled store has its finder and its bounds, and no maps.
     """
 
     def __init__(

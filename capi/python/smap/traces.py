@@ -8,7 +8,7 @@ from dataclasses import dataclass
 from typing import TYPE_CHECKING, AnyStr, Dict, Iterable, Optional, Tuple
 
 from . import _declarations as declared
-from ._declarations import OK
+from ._declarations import CLOSED, OK
 from ._library import Owner, TraceCounts, as_data, as_url, check, how_bits, lib, taken
 
 if TYPE_CHECKING:
@@ -64,14 +64,16 @@ class Scripts(Owner):
     _free = lib.smap_close_scripts
 
     def __init__(self, scripts: Optional[Dict[str, Map]] = None) -> None:
-        self._handle = declared.Scripts()
+        super().__init__(declared.Scripts())
         for url, script in (scripts or {}).items():
             self.add(url, script)
 
     def add(self, url: str, script: Map) -> None:
         """Adds a script. One of the same URL gets this map in place of its own."""
         name = as_url("the name of a script", url)
-        check(lib.smap_add_script(byref(self._handle), name, len(name), byref(script._handle)))
+        # each thread has the map before it waits for the scripts, so that none waits for another in a circle
+        with script._lock:
+            check(self._call(lib.smap_add_script, name, len(name), byref(script._handle)))
 
     def translate(
         self, trace: bytes, hide: bool = False, *, anywhere: bool = False, ignore_query: bool = False
@@ -81,10 +83,11 @@ class Scripts(Owner):
         The words are those of `smap.translate`.
         """
         trace, out, counts = as_data("a trace", trace), declared.Bytes(), TraceCounts()
-        if not self._handle.is_open:
-            return trace, TraceCounts(trace.count(b"\n") + (trace[-1:] not in (b"", b"\n")), 0, 0)
         how = how_bits(hide, anywhere, ignore_query)
-        check(lib.smap_translate(byref(self._handle), trace, len(trace), how, byref(out), byref(counts)))
+        code = self._call(lib.smap_translate, trace, len(trace), how, byref(out), byref(counts))
+        if code == CLOSED:  # there are no scripts
+            return trace, TraceCounts(trace.count(b"\n") + (trace[-1:] not in (b"", b"\n")), 0, 0)
+        check(code)
         return taken(out), counts
 
 
