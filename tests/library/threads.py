@@ -189,5 +189,79 @@ class StoreTest(ThreadsCase):
         self.assertEqual(store.counts, smap.StoreCounts(lines=8 * 50 * 14, translated=8 * 50 * 14))
 
 
+class FinderTest(ThreadsCase):
+    """Finders that ask stores: for what waits for them, they get an Error."""
+
+    def asking(self, wanted, meet=None):
+        """A store whose finder asks another store, or itself, for a script first; and the Errors that it got.
+
+        `wanted` has for each script the store and the script that are asked for.
+        """
+        errors = []
+
+        def finder(script):
+            if script in wanted:
+                store, other = wanted[script]
+                if meet:
+                    meet.wait(LONG)
+                found = raised(store().lookup, other, 0, 0)
+                if isinstance(found, smap.Error):
+                    errors.append((script, str(found)))
+            return MAP
+
+        return smap.Store(finder), errors
+
+    def fault(self, script):
+        return f"a finder asks for the map of {script}, which waits for that finder"
+
+    def test_a_store_that_its_finder_asks_for_the_same_script_says_so(self):
+        sent = [{"abs_path": U, "lineno": 1, "colno": 1}]
+
+        def work(_):
+            for name, word in [("lookup", [U, 0, 0]), ("translate", [frames(U)]), ("frames", [sent])]:
+                store = smap.Store(lambda script: getattr(store, name)(*word))
+                self.assertEqual(store.translate(frames(U)), frames(U))
+                ((script, fault),) = store.broken.items()
+                self.assertEqual((script, str(fault)), (U, self.fault(U)))
+                store, errors = self.asking({U: (lambda: store, U)})
+                self.assertEqual(store.translate(frames(U)), "@http://h/a.js:11:3\n")
+                self.assertEqual(errors, [(U, self.fault(U))])
+
+        self.run_all(work, 1)
+
+    def test_a_finder_may_ask_for_other_scripts(self):
+        def work(_):
+            store, errors = self.asking({U: (lambda: store, V), V: (lambda: store, W)})
+            self.assertEqual(store.translate(frames(U)), "@http://h/a.js:11:3\n")
+            self.assertEqual((errors, store.opened), ([], {W: 1, V: 1, U: 1}))
+            store, errors = self.asking({U: (lambda: store, V), V: (lambda: store, U)})
+            self.assertEqual(store.translate(frames(U)), "@http://h/a.js:11:3\n")
+            self.assertEqual((errors, store.opened), ([(V, self.fault(U))], {V: 1, U: 1}))
+
+        self.run_all(work, 1)
+
+    def test_of_threads_that_would_wait_for_one_another_one_is_told(self):
+        for scripts in [(U, V), (U, V, W)]:
+            meet = threading.Barrier(len(scripts))
+            ring = dict(zip(scripts, [*scripts[1:], scripts[0]]))
+            store, errors = self.asking({one: (lambda: store, other) for one, other in ring.items()}, meet)
+
+            def work(number):
+                told = store.translate(frames(scripts[number]))
+                self.assertEqual(told, "@http://h/a.js:11:3\n")
+
+            self.run_all(work, len(scripts))
+            ((script, text),) = errors
+            self.assertEqual(text, self.fault(ring[script]))
+            self.assertEqual(store.opened, dict.fromkeys(scripts, 1))
+
+    def test_so_is_one_of_those_that_wait_in_two_stores(self):
+        meet = threading.Barrier(2)
+        one, errors = self.asking({U: (lambda: two, V)}, meet)
+        two, more = self.asking({V: (lambda: one, U)}, meet)
+        self.run_all(lambda number: self.assertIsNotNone([one, two][number].lookup([U, V][number], 0, 0)), 2)
+        self.assertIn(errors + more, [[(U, self.fault(V))], [(V, self.fault(U))]])
+
+
 if __name__ == "__main__":
     unittest.main()

@@ -5,11 +5,12 @@ from __future__ import annotations
 import threading
 from collections import OrderedDict
 from dataclasses import dataclass, field
-from typing import Callable, Dict, Iterable, Optional, Tuple
+from typing import Callable, ClassVar, Dict, Iterable, Optional, Tuple
 
+from ._declarations import REFUSED
 from ._library import Error
 from .files import too_large
-from .finders import Finder, Found, base_by_default
+from .finders import MOST_SHOWN, Finder, Found, base_by_default
 from .maps import Map
 from .noted import Noted
 
@@ -51,6 +52,47 @@ class Kept:
         return Kept(self.map.share(), self.size, self.script, self.mark)
 
 
+class Opening:
+    """A map that a thread finds and opens, for which other threads wait.
+
+    A thread that opens a map may wait for another one, as its finder may ask stores. Where such threads would
+    wait for one another, or one for itself, the last of them gets an Error.
+    """
+
+    # for which map each thread waits, in any cache, and the lock of that
+    _waiting: ClassVar[Dict[int, Opening]] = {}
+    _lock = threading.Lock()
+
+    def __init__(self) -> None:
+        self._thread = threading.get_ident()
+        self._done = threading.Event()
+
+    def end(self) -> None:
+        self._done.set()
+
+    def wait(self, script: str) -> None:
+        """Waits for the end. Raises Error where it waits for this thread."""
+        mine = threading.get_ident()
+        with self._lock:
+            if self._waits_for(mine):
+                shown = script[:MOST_SHOWN]
+                raise Error(REFUSED, f"a finder asks for the map of {shown}, which waits for that finder")
+            self._waiting[mine] = self
+        try:
+            self._done.wait()
+        finally:
+            self._waiting.pop(mine, None)
+
+    def _waits_for(self, thread: int) -> bool:
+        """Whether this waits for what a thread opens, or is that. The lock is held."""
+        other: Optional[Opening] = self
+        while other is not None and not other._done.is_set():
+            if other._thread == thread:
+                return True
+            other = self._waiting.get(other._thread)
+        return False
+
+
 def expected(data: bytes) -> int:
     """How much memory a map may take while it is opened, by its text, where it has no long `sourceRoot`."""
     return len(data) + MAPPING * sum(data.count(end) for end in ENDS_OF_MAPPINGS)
@@ -75,7 +117,7 @@ class Cache:
         self._bounds = bounds
         self._kept: OrderedDict[str, Kept] = OrderedDict()
         self._kept_size = 0
-        self._opening: Dict[str, threading.Event] = {}
+        self._opening: Dict[str, Opening] = {}
         self._opening_size = 0
         # the size of each map that was opened, and how often it was
         self._opened: Noted[Tuple[int, int]] = Noted()
@@ -185,15 +227,15 @@ class Cache:
                     return None
                 other = self._opening.get(script)
                 if other is None:
-                    mine = self._opening[script] = threading.Event()
+                    mine = self._opening[script] = Opening()
                     break
-            other.wait()
+            other.wait(script)
         try:
             return self._find(script)
         finally:
             with self.lock:
                 del self._opening[script]
-            mine.set()
+            mine.end()
 
     def _find(self, script: str) -> Optional[Kept]:
         """The same, for a script that the cache has neither as a map nor as a broken one."""
