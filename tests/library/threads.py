@@ -46,6 +46,9 @@ class ThreadsCase(unittest.TestCase):
         threads = [
             threading.Thread(target=guarded, args=(number,), daemon=True) for number in range(many)
         ]
+        # they meet as often as they can
+        self.addCleanup(sys.setswitchinterval, sys.getswitchinterval())
+        sys.setswitchinterval(1e-6)
         for thread in threads:
             thread.start()
         for thread in threads:
@@ -91,16 +94,16 @@ class HandlesTest(ThreadsCase):
         ]
 
     def test_threads_are_answered_what_one_is(self):
-        asks, until = self.asks() + self.asks_of_a_store(), time.monotonic() + 2
-        wanted = [ask() for ask in asks]
+        for asks in (self.asks(), self.asks_of_a_store()):
+            wanted, until = [ask() for ask in asks], time.monotonic() + 2
 
-        def work(number):
-            dice = random.Random(number)
-            while time.monotonic() < until:
-                at = dice.randrange(len(asks))
-                self.assertEqual(asks[at](), wanted[at], at)
+            def work(number):
+                dice = random.Random(number)
+                while time.monotonic() < until:
+                    at = dice.randrange(len(asks))
+                    self.assertEqual(asks[at](), wanted[at], at)
 
-        self.run_all(work)
+            self.run_all(work)
 
     def test_two_maps_and_scripts_may_be_asked_about_one_another(self):
         maps = [self.map, self.other, smap.Map.open(MAP, V + ".map")]
