@@ -187,7 +187,7 @@ class BindingsTest(unittest.TestCase):
             (PYTHON, "CLOSED = 5\n", "CLOSED = 6\n"),
             (CRATE, "    pub fn smap_close(map: *mut smap_map);\n", ""),
             (WRAPPER, "        pub fn smap_close(map: *mut Map);\n", ""),
-            (METHODS, "lib.smap_held(", "lib.smap_file("),
+            (METHODS, "lib.smap_held,", "lib.smap_file,"),
             (NODE, "'TooMany' | ", ""),
             (NODE, "  readonly listedSources: number;\n", ""),
             (GETTERS, '    {"count", do_count},\n', ""),
