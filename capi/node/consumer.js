@@ -1,6 +1,6 @@
 'use strict';
 // What the SourceMapConsumer of source-map 0.6 offers for reading maps, over libsmap.
-const { Lists, normal, prefixed, inOriginalOrder, firstFrom } = require('./lists.js');
+const { Lists, normal, prefixed, indices, inOriginalOrder, firstFrom } = require('./lists.js');
 
 const GENERATED_ORDER = 1;
 const ORIGINAL_ORDER = 2;
@@ -28,8 +28,28 @@ const compareNames = (t, a, b) => (t.name[a] >>> 0) - (t.name[b] >>> 0);
 const compareOriginals = (t, a, b) => (t.source[a] >>> 0) - (t.source[b] >>> 0) ||
   t.sourceLine[a] - t.sourceLine[b] || t.sourceColumn[a] - t.sourceColumn[b] || compareNames(t, a, b);
 
+// What a source may be asked for by, besides the URL that it is told by.
+function byText({ written, distinct, map }) {
+  return {
+    asWritten: indices(written.map(one => one.source)),
+    normalized: indices(written.map(one => one.source && normal(one.source))),
+    belowRoot: indices(written.map(one => (one.root ? one.source : null))),
+    resolved: indices(Array.from(distinct, number => map.sources[number])),
+  };
+}
+
+function indexOfURL(resolved, source, { root, base }) {
+  const names = root ? [source, prefixed(root, source)] : [source];
+  const urls = names.filter(name => URL.canParse(name, base)).map(name => new URL(name, base).href);
+  const found = urls.map(url => resolved.get(url)).filter(i => i !== undefined);
+  return found.length ? Math.min(...found) : undefined;
+}
+
 class SourceMapConsumer {
   #lists;
+  #byURL;
+  #byText;
+  #firsts = new Map();
   #order;
   #spans;
 
@@ -58,26 +78,15 @@ class SourceMapConsumer {
 
   // A source is asked for by its URL, as the map writes it, or with its root before it.
   #sourceIndex(source) {
-    const { written } = this.#lists;
-    const tries = [
-      () => this.sources.indexOf(source),
-      () => written.findIndex(one => one.source === source),
-      () => {
-        const plain = normal(source);
-        return written.findIndex(one => one.source !== null && normal(one.source) === plain);
-      },
-      () => written.findIndex(one => one.root && one.source === '/' + source),
-      () => this.#indexOfURL(source),
-    ];
-    return tries.reduce((i, next) => (i >= 0 ? i : next()), -1);
+    this.#byURL ??= indices(this.sources);
+    return this.#byURL.get(source) ?? this.#writtenIndex(source) ?? -1;
   }
 
-  #indexOfURL(source) {
+  #writtenIndex(source) {
     const own = this.#lists;
-    const { root } = own;
-    const names = root ? [source, prefixed(root, source)] : [source];
-    const urls = names.filter(name => URL.canParse(name, own.base)).map(name => new URL(name, own.base).href);
-    return own.distinct.findIndex(n => urls.includes(own.map.sources[n]));
+    const { asWritten, normalized, belowRoot, resolved } = (this.#byText ??= byText(own));
+    return asWritten.get(source) ?? normalized.get(normal(source)) ?? belowRoot.get('/' + source) ??
+      indexOfURL(resolved, source, own);
   }
 
   // The mapping for a position. Of mappings at one position, source-map takes the one with the first
@@ -90,10 +99,21 @@ class SourceMapConsumer {
       const next = found >= 0 ? found + 1 : t.starts[line - 1];
       found = next < t.starts[line] ? t.find(line - 1, t.column[next]) : -1;
     }
-    let best = found;
-    for (let i = found - 1; i >= t.starts[line - 1] && t.column[i] === t.column[found]; i--) {
+    return found < 0 ? found : this.#firstAt(found, t.starts[line - 1]);
+  }
+
+  // Of the mappings at a position, of which `last` is the last, the one with the first original. There may be
+  // many, so they are gone through once.
+  #firstAt(last, start) {
+    const t = this.#lists.table;
+    if (this.#firsts.has(last)) return this.#firsts.get(last);
+    let best = last;
+    let i = last;
+    while (i > start && t.column[i - 1] === t.column[last]) {
+      i--;
       if (compareOriginals(t, i, best) <= 0) best = i;
     }
+    if (i < last) this.#firsts.set(last, best);
     return best;
   }
 

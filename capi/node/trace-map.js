@@ -1,6 +1,6 @@
 'use strict';
 // What @jridgewell/trace-mapping offers for reading maps, over libsmap.
-const { Lists, DEEP, inOriginalOrder, firstFrom } = require('./lists.js');
+const { Lists, DEEP, indices, inOriginalOrder, firstFrom } = require('./lists.js');
 const { NONE, found, listedAt } = require('./inside.js');
 const { encode } = require('./vlq.js');
 
@@ -131,9 +131,9 @@ function index(table, line, column, bias) {
     const next = found >= 0 ? found + 1 : starts[line];
     return line < starts.length - 1 && next < starts[line + 1] ? next : -1;
   }
-  let i = found;
-  if (isExact && bias !== LEAST_UPPER_BOUND) while (i > starts[line] && table.column[i - 1] === column) i--;
-  return i;
+  if (!isExact || bias === LEAST_UPPER_BOUND) return found;
+  const before = table.find(line, column - 1);
+  return before < 0 ? starts[line] : before + 1;
 }
 
 // Whether the library is asked for a mapping, which is in `found` then: the first lookups don't need a table
@@ -228,9 +228,21 @@ function eachMapping(map, call) {
 
 // ---- sources
 
+// Where the sources stood in a list when one was first looked for there.
+const placesIn = new WeakMap();
+
+// Where a source stands in a list, or -1 if the program has moved it there.
+function placeIn(list, source) {
+  if (!placesIn.has(list)) placesIn.set(list, indices(list));
+  const i = placesIn.get(list).get(source) ?? -1;
+  return list[i] === source ? i : -1;
+}
+
 function sourceIndex(map, source) {
-  const i = map.sources.indexOf(source);
-  return i >= 0 ? i : map.resolvedSources.indexOf(source);
+  let i = placeIn(map.sources, source);
+  if (i < 0) i = placeIn(map.resolvedSources, source);
+  if (i < 0) i = map.sources.indexOf(source);
+  return i < 0 ? map.resolvedSources.indexOf(source) : i;
 }
 
 function sourceContentFor(map, source) {

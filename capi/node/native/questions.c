@@ -52,15 +52,24 @@ static void put_listed(const smap_listed_mapping *m, uint32_t *found)
     found[5] = m->has_name ? m->name : UINT32_MAX;
 }
 
-/* Of the mappings at the i-th one's position, the first. */
+/* Of the mappings at the i-th one's position, the first. There may be many, but mostly the one before is
+ * elsewhere, so that is asked for first. */
 static uint32_t first_there(smap_map *map, size_t i, smap_listed_mapping *m)
 {
-    smap_listed_mapping before;
-    uint32_t code = SMAP_OK;
-    while (i > 0 && (code = smap_listed_token(map, --i, &before)) == SMAP_OK && before.line == m->line &&
-           before.column == m->column)
-        *m = before;
-    return code;
+    smap_listed_mapping one;
+    size_t from = 0, middle = i - 1;
+    while (from < i) {
+        uint32_t code = smap_listed_token(map, middle, &one);
+        if (code != SMAP_OK) return code;
+        if (one.line == m->line && one.column == m->column) {
+            *m = one;
+            i = middle;
+        } else {
+            from = middle + 1;
+        }
+        middle = from + (i - from) / 2;
+    }
+    return SMAP_OK;
 }
 
 /* listedAt(map, line, column): whether there is a mapping, of the listing, and the first of those that are at

@@ -2,8 +2,10 @@
 const assert = require('node:assert');
 const { test } = require('node:test');
 const ours = require('smap/source-map');
+const { encode } = require('../vlq.js');
 const { makeMap } = require('./many-maps.js');
 const { peer, needs } = require('./peers.js');
+const { isQuick } = require('./quick.js');
 
 const { SourceMapConsumer } = ours;
 const map = {
@@ -61,6 +63,31 @@ test('flat and indexed maps', () => {
   assert.equal(indexed.sourceContentFor('src/a.js'), 'A');
 });
 
+test('each of many sources is found at once, by each of its names', () => {
+  const sources = Array.from({ length: 10000 }, (_, i) => `src/${i}.js`);
+  const mappings = encode([sources.map((_, i) => [i, i, 0, 0])]);
+  const many = { version: 3, sources, names: [], sourcesContent: sources, mappings };
+  const consumer = new SourceMapConsumer(many, 'http://h/out.js.map');
+  isQuick(() => sources.forEach((source, i) => {
+    for (const name of [source, `./${source}`, `/${source}`, `http://h/${source}`]) {
+      assert.equal(consumer.sourceContentFor(name), source);
+      assert.equal(consumer.generatedPositionFor({ source: name, line: 1, column: 0 }).column, i);
+      assert.equal(consumer.allGeneratedPositionsFor({ source: name, line: 1 })[0].column, i);
+    }
+    assert.equal(consumer.sourceContentFor(`no/${source}`, true), null);
+  }));
+});
+
+test('of many mappings at one position the one with the first original is found at once', () => {
+  const count = 300000;
+  const segments = Array.from({ length: count }, (_, i) => [7, 0, count - i, 3]);
+  const map = { version: 3, sources: ['a.js'], names: [], mappings: encode([segments]) };
+  const consumer = new SourceMapConsumer(map);
+  isQuick(() => {
+    for (let i = 0; i < 3000; i++) assert.equal(consumer.originalPositionFor({ line: 1, column: 7 }).line, 2);
+  });
+});
+
 // ---- beside source-map
 
 const theirs = peer('source-map');
@@ -78,7 +105,7 @@ function both(ask) {
       assert.deepEqual(has, wants, `${call} of ${JSON.stringify(text)} at ${url}`);
       return has;
     };
-    count += ask(both, all[0]);
+    count += ask(both, ...all, text);
   }
   assert.ok(count > MAPS, `${count} answers`);
 }
@@ -106,6 +133,17 @@ test('the sources are those of source-map', needs('source-map', theirs), () => {
 
 test('contents are those of source-map', needs('source-map', theirs), () => {
   both(ask => ask(map => map.sources).map(source => ask(map => map.sourceContentFor(source, true))).length);
+});
+
+// source-map doesn't find all of these.
+test('by a name in the map a source is that of source-map', needs('source-map', theirs), () => {
+  both((_, consumer, other, { sources }) => sources.filter(source => {
+    const needle = { source, line: 9, column: 9 };
+    const wants = other.generatedPositionFor(needle);
+    if (wants.line === null) return false;
+    assert.deepEqual(consumer.generatedPositionFor(needle), wants);
+    return true;
+  }).length);
 });
 
 test('lookups are those of source-map', needs('source-map', theirs), () => {

@@ -2,8 +2,10 @@
 const assert = require('node:assert');
 const { test } = require('node:test');
 const ours = require('smap/trace-mapping');
-const { makeMap } = require('./many-maps.js');
+const { encode } = require('../vlq.js');
+const { makeMap, numbers } = require('./many-maps.js');
 const { peer, needs } = require('./peers.js');
+const { isQuick } = require('./quick.js');
 
 const map = {
   version: 3, sourceRoot: 'src', sources: ['a.js', './my b.js', 'webpack:///c d.js', null],
@@ -56,12 +58,71 @@ test('the first lookups find what the others do', () => {
   }
 });
 
+// Segments that have up to `most` at each position, told apart by their original lines.
+function crowded(next, most) {
+  let count = 0;
+  let column = 0;
+  const group = size => Array.from({ length: size }, () => [column, 0, count++, 0]);
+  const groups = () => {
+    column = 0;
+    return Array.from({ length: next(6) }, () => ((column += next(3)), group(1 + next(most)))).flat();
+  };
+  return Array.from({ length: 1 + next(4) }, groups);
+}
+
+const tracedOf = lines => new ours.TraceMap({ version: 3, sources: ['a.js'], names: [], mappings: encode(lines) });
+
+test('of many mappings at one position the first is found', () => {
+  const next = numbers(17);
+  for (let turn = 0; turn < 60; turn++) {
+    const lines = crowded(next, 1 + turn);
+    const later = tracedOf(lines);
+    // With this bias the library isn't asked, but a table.
+    ours.originalPositionFor(later, { line: 1, column: 0, bias: ours.LEAST_UPPER_BOUND });
+    for (const [line, segments] of lines.entries()) {
+      for (let column = 0; column < 12; column++) {
+        const there = segments.find(one => one[0] === column);
+        const wants = there ?? segments.findLast(one => one[0] < column) ?? null;
+        for (const traced of [tracedOf(lines), later]) {
+          assert.deepEqual(ours.traceSegment(traced, line, column), wants);
+        }
+      }
+    }
+  }
+});
+
+test('that takes no longer than where there are few', () => {
+  const traced = tracedOf([Array.from({ length: 400000 }, (_, i) => [7, 0, i, 3])]);
+  // The library is asked for a sixteenth as many lookups as there are mappings.
+  for (const count of [20000, 20000]) {
+    isQuick(() => {
+      for (let i = 0; i < count; i++) assert.equal(ours.traceSegment(traced, 0, 7)[2], 0);
+    });
+  }
+});
+
+test('each of many sources is found at once', () => {
+  const sources = Array.from({ length: 20000 }, (_, i) => `src/${i}.js`);
+  const mappings = encode([sources.map((_, i) => [i, i, 0, 0])]);
+  const many = { version: 3, sources, names: [], sourcesContent: sources, mappings };
+  const traced = new ours.TraceMap(many, 'http://h/out.js.map');
+  isQuick(() => sources.forEach((name, i) => {
+    for (const source of [name, `http://h/${name}`]) {
+      assert.equal(ours.sourceContentFor(traced, source), name);
+      assert.equal(ours.generatedPositionFor(traced, { source, line: 1, column: 0 }).column, i);
+    }
+  }));
+});
+
 test('lists that a program has changed are told as it changed them', () => {
   const traced = new ours.TraceMap(map);
+  assert.equal(ours.sourceContentFor(traced, 'a.js'), 'A');
   traced.names[0] = 'm';
   traced.resolvedSources[0] = 'z.js';
   const found = ours.originalPositionFor(traced, { line: 1, column: 0 });
   assert.deepEqual(found, { source: 'z.js', line: 1, column: 0, name: 'm' });
+  assert.equal(ours.sourceContentFor(traced, 'z.js'), 'A');
+  assert.equal(ours.sourceContentFor(traced, 'src/a.js'), null);
 });
 
 test('mappings may be segments, and the map a map that was read', () => {
