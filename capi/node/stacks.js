@@ -183,6 +183,7 @@ function firstIn(stack) {
 
 function getErrorSource(error) {
   const { stack } = error;
+  if (typeof stack !== 'string') return null;
   const at = firsts.has(error) ? firsts.get(error) : firstIn(stack);
   const code = at && maps.lineOf(at.source, at.line);
   if (!code) return null;
@@ -201,17 +202,25 @@ function writeError(text) {
   }
 }
 
-// As Node prints it, but for the line of the source. Where that isn't known, Node prints the error itself.
-function printAndExit(error) {
-  const source = getErrorSource(error);
-  if (!source) return false;
-  const colors = Boolean(process.stderr.isTTY && process.stderr.hasColors());
-  writeError(`${source}\n\n${inspect(error, { colors })}\n\nNode.js ${process.version}\n`);
-  return process.exit(1);
+// As Node prints it, but for the line of the source. Where that isn't known, or the error's own code throws, Node
+// prints the error itself.
+function printed(error) {
+  try {
+    const source = getErrorSource(error);
+    if (!source) return null;
+    const colors = Boolean(process.stderr.isTTY && process.stderr.hasColors());
+    return `${source}\n\n${inspect(error, { colors })}\n\nNode.js ${process.version}\n`;
+  } catch {
+    return null;
+  }
 }
 
 function tell(error) {
-  if (typeof error?.stack === 'string') printAndExit(error);
+  const text = printed(error);
+  if (text) {
+    writeError(text);
+    process.exit(1);
+  }
   if (!types.isNativeError(error)) tellSource();
 }
 
