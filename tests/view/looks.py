@@ -1,5 +1,6 @@
 """Tests of what is seen: bytes by source, contrasts, sizes of the window, and a large map."""
 
+import json
 import time
 
 import pages
@@ -111,6 +112,34 @@ def zooms(browser, url):
     browser.press("-")
     equal(sorted(browser.run(leaves)),
           sorted([*parts, "http://h/m/src/app.js", "http://h/m/src/util/dates.js"]))
+
+
+def long_paths(browser, folder):
+    """What a source in very many folders takes grows with the length of its name, and the areas keep room."""
+    steps = 20000
+    name = "a/" * (steps - 1) + "b.js"
+    (folder / "deep.js").write_text("f();g()")
+    (folder / "deep.js.map").write_text(json.dumps(
+        {"version": 3, "sources": [name, "c.js"], "names": [], "mappings": "AAAA,ICAA"}))
+    browser.open(make_page(folder, "deep.js.map", "--base", "http://h/m", "deep.js.map"))
+    taken = browser.run("""
+        const start = performance.now();
+        document.getElementById('bytes-tab').click();
+        [...document.querySelectorAll('#tree > .folder')].find(one => one.title.startsWith('/a')).click();
+        document.getElementById('tree').getBoundingClientRect();
+        return performance.now() - start;""")
+    assert taken < 4000, f"{taken:.0f} ms"
+    shown = """
+        const texts = id => [...document.querySelectorAll(`#${id} > button`)].map(one => one.title || one.textContent);
+        return [texts('tree'), texts('path')];"""
+    leaf, path = f"http://h/m/{name}: 4 bytes, 57.1%", ["all", "http://h", "/m", *["/a"] * (steps - 1)]
+    assert browser.run(shown) == [[leaf], path]
+    room, height = browser.run("return ['tree', 'areas'].map(id => document.getElementById(id).offsetHeight)")
+    assert room > height * 0.7, (room, height)
+    browser.press("-")
+    assert browser.run(shown) == [[leaf], path[:-1]]
+    browser.press("+")
+    assert browser.run(shown) == [[leaf], path]
 
 
 # ---- what it looks like

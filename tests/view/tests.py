@@ -53,6 +53,7 @@ def try_browser(browser, folder, made, url, simple_url, count):
     test(f"{browser.name}: folders", looks.folders_nest, browser, url)
     test(f"{browser.name}: labels of areas", looks.labels_end, browser, url)
     test(f"{browser.name}: a folder of the areas", looks.zooms, browser, url)
+    test(f"{browser.name}: a source in very many folders", looks.long_paths, browser, folder)
     test(f"{browser.name}: the table", looks.table_sorts, browser, url)
     test(f"{browser.name}: keyboard", marks.keyboard, browser, simple_url)
     test(f"{browser.name}: keyboard and bytes", marks.keyboard_bytes, browser, simple_url)
