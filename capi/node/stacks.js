@@ -202,8 +202,8 @@ function writeError(text) {
   }
 }
 
-// As Node prints it, but for the line of the source. Where that isn't known, or the error's own code throws, Node
-// prints the error itself.
+// As Node prints it, but for the line of the source. Where that isn't known, or the error's own code throws,
+// Node prints the error itself.
 function printed(error) {
   try {
     const source = getErrorSource(error);

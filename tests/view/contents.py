@@ -250,6 +250,18 @@ def several(browser, folder):
     equal(follow(browser, "#generated=1:1"), "1:1 to 1:4 comes from 1:1 of http://h/m/src/a.ts")
 
 
+def many_sources(browser, folder):
+    """Each source is listed, also where there are more than a call takes arguments."""
+    sources = [f"{number}.js" for number in range(150000)]
+    (folder / "many.js").write_text("f()")
+    (folder / "many.js.map").write_text(json.dumps({"version": 3, "sources": sources, "mappings": "AAAA"}))
+    browser.open(make_page(folder, "many.js.map", "--base", "http://h/m", "many.js.map"))
+    equal(browser.run("""
+        const { options } = document.getElementById('sources');
+        return [options.length, options[options.length - 1].textContent];"""),
+          [len(sources), f"http://h/m/{sources[-1]}"])
+
+
 # ---- what isn't there
 
 

@@ -130,8 +130,8 @@ def long_paths(browser, folder):
         return performance.now() - start;""")
     assert taken < 4000, f"{taken:.0f} ms"
     shown = """
-        const texts = id => [...document.querySelectorAll(`#${id} > button`)].map(one => one.title || one.textContent);
-        return [texts('tree'), texts('path')];"""
+        const all = id => [...document.querySelectorAll(`#${id} > button`)];
+        return [all('tree').map(one => one.title), all('path').map(one => one.textContent)];"""
     leaf, path = f"http://h/m/{name}: 4 bytes, 57.1%", ["all", "http://h", "/m", *["/a"] * (steps - 1)]
     assert browser.run(shown) == [[leaf], path]
     room, height = browser.run("return ['tree', 'areas'].map(id => document.getElementById(id).offsetHeight)")

@@ -75,6 +75,7 @@ def try_browser(browser, folder, made, url, simple_url, count):
     test(f"{browser.name}: refused maps", contents.refusals, browser, folder)
     test(f"{browser.name}: a long refused map", contents.long_refusal, browser, folder)
     test(f"{browser.name}: several scripts", contents.several, browser, folder)
+    test(f"{browser.name}: many sources", contents.many_sources, browser, folder)
     test(f"{browser.name}: a source without contents", contents.no_content, browser, folder)
     test(f"{browser.name}: the console", console_is_quiet, browser, url)
     test(f"{browser.name}: hostile maps", contents.hostile, browser, folder)

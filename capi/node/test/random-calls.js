@@ -320,6 +320,16 @@ const CALLS_OF = {
     const worker = new Worker(code, { eval: true, workerData: [HEAVY, 'http://h/' + given.string()] });
     given.later.push(new Promise(done => setTimeout(done, given.next(80))).then(() => worker.terminate()));
   },
+  // Another thread calls the maps of this one, which goes on with them.
+  shared(given) {
+    if (given.next(10)) return;
+    const numbers = given.maps.map(map => outcome(() => map.share())).filter(Number.isInteger);
+    const code = `const { workerData } = require('node:worker_threads');
+      require(${JSON.stringify(__filename)}).callShared(...workerData);`;
+    const worker = new Worker(code, { eval: true, workerData: [given.next(2 ** 31), numbers] });
+    if (given.next(3) === 0) setTimeout(() => worker.terminate(), given.next(80));
+    given.later.push(new Promise((done, failed) => worker.on('error', failed).on('exit', done)));
+  },
   spoil,
   collect,
 };
@@ -374,4 +384,11 @@ async function round(seed, tell) {
   return CALLS;
 }
 
-module.exports = { round };
+/** Makes calls of maps that another thread shares under these numbers. */
+function callShared(seed, numbers) {
+  const given = new Given(seed);
+  given.maps = numbers.map(number => SourceMap.take(number));
+  for (let i = 0; i < CALLS; i++) measured('map', () => CALLS_OF.map(given));
+}
+
+module.exports = { round, callShared };

@@ -70,7 +70,8 @@ function crowded(next, most) {
   return Array.from({ length: 1 + next(4) }, groups);
 }
 
-const tracedOf = lines => new ours.TraceMap({ version: 3, sources: ['a.js'], names: [], mappings: encode(lines) });
+const tracedOf = lines =>
+  new ours.TraceMap({ version: 3, sources: ['a.js'], names: [], mappings: encode(lines) });
 
 test('of many mappings at one position the first is found', () => {
   const next = numbers(17);
