@@ -51,6 +51,7 @@ SORTED = "return [...document.querySelectorAll('thead th')].map(one => one.getAt
 
 
 def table_sorts(browser, url):
+    browser.open("about:blank")
     browser.open(f"{url}#bytes")
     for head, column in (1, 1), (0, 0), (3, 3):
         for direction in "ascending", "descending":
