@@ -1,7 +1,6 @@
 //! Maps that are accepted or refused. The result of reading is written as a line of text: everything that
 //! the map's getters return, or where and why it is refused. Each row of a table has that line, which was
 //! found by hand. Many more maps that are refused are in the tables of `tests/rows/`.
-mod apart;
 mod limits;
 mod maps;
 mod messages;

@@ -23,4 +23,3 @@ pub mod LevelLemmas
 pub mod OneLevelLemmas
 mod Examples
 pub mod StabilityLemmas
-mod ApartLemmas

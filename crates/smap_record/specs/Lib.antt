@@ -25,5 +25,4 @@ pub mod Owned
 pub mod WrittenView
 pub mod Messages
 pub mod MessageView
-pub mod ReadApart
 pub mod Scripts

@@ -16,7 +16,7 @@ use std::alloc::{AllocError, AllocFailed};
 use std::fmt;
 
 /// What is wrong with a map. A map is refused for the first fault that is met; `docs/FORMAT.md` has the
-/// order, and what to do about each fault is in `docs/OUTPUT.md`. `Display` writes its message.
+/// order, and what to do about each fault is in `docs/ERRORS.md`. `Display` writes its message.
 #[derive(Clone, Copy, Debug, PartialEq, Eq)]
 pub enum Kind {
     /// The input begins with `)]}'` and has no line feed.
@@ -83,7 +83,7 @@ pub enum Kind {
     Name,
 }
 
-/// The first fault of a map: what is wrong, and where. `Display` writes the message that `docs/OUTPUT.md`
+/// The first fault of a map: what is wrong, and where. `Display` writes the message that `docs/ERRORS.md`
 /// gives, as in
 ///
 /// ```

@@ -5,8 +5,8 @@
 //! members, and of a flat map or of each section the number of sources and names, the sources, the
 //! mappings. The first fault is the answer, and no map is handed out then. Each section of an index map is
 //! read after what is listed before it; an index map in a section is read by its own sections, eight levels
-//! deep at most. An index map's text is cut at its sections where it can be, and then a tree is made of one
-//! section at a time. Each source URL is resolved, and kept once in a hashed table. Names are copied out of
+//! deep at most. An index map is one JSON tree, as a flat map is, and its sections are read out of it in
+//! their order. Each source URL is resolved, and kept once in a hashed table. Names are copied out of
 //! the JSON tree once, and so are the contents of sections; those of a flat map are moved out of the tree.
 #![tactic(auto)]
 
@@ -22,7 +22,6 @@ mod path;
 mod reading;
 mod reading_as_written;
 mod reading_within;
-mod section_texts;
 mod sections;
 mod source_urls;
 mod sources;

@@ -1,8 +1,7 @@
 //! From bytes to a source map: the JSON text after the prefix line is parsed into a tree, then the tree's
 //! members are read, then the map they describe. The contents are moved out of the tree, everything else that
 //! the map keeps is copied, and the tree is freed at the end. So reading takes a few times the memory of the
-//! input. An index map without a fault is read section by section where its text can be cut
-//! (`section_texts.rt`), and then has a tree of one section at a time.
+//! input.
 ghost use Rattle.std.specs.Prelude.{IfOk};
 ghost use Rattle.serde_json.specs.View.{view};
 ghost use Rattle.smap_shape.specs.Contents.{map_with_contents};
@@ -18,7 +17,6 @@ use crate::fault::{Kind, ReadError, refused};
 use crate::flat::flat_map;
 use crate::limits::Limits;
 use crate::map::SourceMap;
-use crate::section_texts::sectioned_map;
 use crate::sections::index_map;
 use crate::source_urls::Base;
 use crate::text::map_tree_of;
@@ -66,8 +64,7 @@ impl SourceMap {
     /// which its sources are resolved; [`Limits::usual`] serve most callers.
     ///
     /// The bytes are parsed into a JSON tree. Contents are moved out of it, or copied where they are a
-    /// section's, and all else that the map keeps is copied. An index map whose last member is `sections` is
-    /// parsed section by section, and as a whole only if there is a fault in it.
+    /// section's, and all else that the map keeps is copied.
     ///
     /// The time is linear in the length of the input, except for two products: each source takes the length
     /// of its `sourceRoot`, and each source URL that of the base. Mappings are sorted only where columns
@@ -94,16 +91,13 @@ impl SourceMap {
         ensures fits { IfOk result (λ m. Fits base.now limits (record_of m)) }
         ensures listing_fits { IfOk result (λ m. ListingFits base.now limits m.listing) }
     {
-        if let Some(map) = sectioned_map(alloc, bytes, base, limits)? {
-            return Ok(map);
-        }
         let tree = map_tree_of(alloc, bytes)?;
         tree_map_of(alloc, tree, base, limits)
     }
 
     /// Answers what [`from_slice`](SourceMap::from_slice) answers, for bytes that are handed over: they are
     /// freed as soon as their JSON tree is there, so that the input isn't held next to the tree and the
-    /// map. While an index map is read section by section they are held.
+    /// map.
     ///
     /// # Errors
     ///
@@ -119,9 +113,6 @@ impl SourceMap {
         ensures fits { IfOk result (λ m. Fits base.now limits (record_of m)) }
         ensures listing_fits { IfOk result (λ m. ListingFits base.now limits m.listing) }
     {
-        if let Some(map) = sectioned_map(alloc, bytes.as_slice(), base, limits)? {
-            return Ok(map);
-        }
         let tree = map_tree_of(alloc, bytes.as_slice())?;
         drop(bytes);
         tree_map_of(alloc, tree, base, limits)

@@ -138,7 +138,7 @@ fn with_map(
 /// is listed before it, and the section's own offset; or the section's first fault. `last` is the own offset
 /// of the previous section.
 #[cycle(nested)]
-pub(crate) fn with_section(
+fn with_section(
     alloc: Global,
     before: Listing,
     last: Option<Position>,

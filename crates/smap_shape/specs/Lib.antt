@@ -6,4 +6,3 @@ pub mod Reading
 pub mod Inside
 pub mod Views
 pub mod Contents
-pub mod Beside

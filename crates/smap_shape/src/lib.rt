@@ -11,7 +11,6 @@
 //! most maps: it moves them out of the tree.
 #![tactic(auto)]
 
-mod beside;
 mod contents;
 mod fault;
 mod flat;
@@ -22,7 +21,6 @@ mod map;
 mod member;
 mod sections;
 
-pub use beside::labels_beside_sections;
 pub use contents::split_contents;
 pub use fault::ShapeFault;
 pub use flat::FlatShape;

@@ -1,2 +1,0 @@
-mod ValueLemmas
-mod SectionLemmas
