@@ -3,6 +3,7 @@ pub mod Fixed
 pub mod Held
 pub mod Paths
 pub mod Printing
+pub mod Rights
 pub mod Tree
 pub mod Walking
 pub mod Watched

@@ -19,14 +19,10 @@ pub record IsParted (path folder name : List ℕ) : Type 0 where
   pub before : 0 < length folder → slice_index folder (length folder - 1) ≡ 47
   pub own : All (λ b. b ≢ 47) name
 
--- The name for a file beside this one of a folder, with a number.
-abbrev pub beside : List ℕ → List ℕ → ℕ → List ℕ
-beside folder name number = folder ++ (codes "." ++ (name ++ (codes ".smap-" ++ decimal number)))
-
--- A name for a file beside this path.
+-- A name for a file beside this path, with a number.
 abbrev pub IsBeside : List ℕ → ℕ → List ℕ → Type 0
 IsBeside path number made = (folder : List ℕ) × (name : List ℕ) × IsParted path folder name
-    × (made ≡ beside folder name number)
+    × (made ≡ folder ++ (codes ".smap-" ++ decimal number))
 
 -- One of the thousand names beside this path.
 abbrev pub IsOneBeside : List ℕ → List ℕ → Type 0

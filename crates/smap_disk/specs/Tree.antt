@@ -34,3 +34,7 @@ entries_in l = map entry_in l.entries.items
 abbrev pub IsListed : Told → List ℕ → Listing → Type 0
 IsListed None path listing = ⊤
 IsListed (Some t) path listing = t.entries path ≡ Some (entries_in listing)
+
+-- Nothing is said.
+abbrev pub IsUntold : Told → Type 0
+IsUntold told = told ≡ None

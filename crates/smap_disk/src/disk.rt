@@ -1,10 +1,12 @@
 //! What a program asks of a file system. Paths are text, in UTF-8.
 ghost use Rattle.std.specs.Prelude.{List, MatchResult, Option, ℕ, IfOk};
 ghost use Rattle.smap_disk.specs.Held.{GivesHeld, HasSize, IsNotHeld};
-ghost use Rattle.smap_disk.specs.Tree.{IsKind, IsListed, Told};
+ghost use Rattle.smap_disk.specs.Tree.{IsKind, IsListed, IsUntold, Told};
+ghost use Rattle.std.specs.Prelude.{◌≡◌, IfErr};
+ghost use Rattle.std.specs.IoError.{error_kind};
 
 use std::alloc::Global;
-use std::io::{self, Read, Write};
+use std::io::{self, ErrorKind, Read, Write};
 
 /// What is there under a name, links followed.
 #[derive(Clone, Copy, Debug, PartialEq, Eq)]
@@ -38,6 +40,19 @@ pub struct Entry {
 pub struct Listing {
     pub entries: Vec<Entry>,
     pub unnamed: u64,
+}
+
+/// What tells a file from the one that it was before, or that another has put into its place.
+#[derive(Clone, Copy, Debug, PartialEq, Eq)]
+pub struct Stamp {
+    /// Of the file system that it is on.
+    pub device: u64,
+    /// Its number there.
+    pub inode: u64,
+    /// In bytes.
+    pub size: u64,
+    /// When it was last written, in seconds since 1970, and the nanoseconds beyond.
+    pub written: (i64, i64),
 }
 
 /// Linux's number for it.
@@ -85,9 +100,10 @@ pub trait Disk {
     ///
     /// # Errors
     ///
-    /// The system's.
+    /// The system's: `NotFound` where there is no such folder, or none any more.
     fn list(&self, alloc: Global, path: &str) -> io::Result<Listing>
-        ensures { IfOk result (IsListed (tree self.now) path.now) };
+        ensures entries { IfOk result (IsListed (tree self.now) path.now) }
+        ensures gone { IfErr result (λ e. error_kind e ≡ ErrorKind.NotFound → IsUntold (tree self.now)) };
 
     /// The absolute path once links are followed.
     ///
@@ -110,19 +126,35 @@ pub trait Disk {
     /// Those of `create_new`.
     fn create_private(&self, path: &str) -> io::Result<Self::Writer>;
 
-    /// Whether a file may be written; a link is followed. Nothing is written.
+    /// The path that a link leads to; `None` where the path ends in no link.
     ///
     /// # Errors
     ///
-    /// The system's, where it may not.
-    fn check_writable(&self, path: &str) -> io::Result<()>;
+    /// `PermissionDenied` where the link belongs to a user who is neither the program's nor root, or the
+    /// system's.
+    fn link(&self, alloc: Global, path: &str) -> io::Result<Option<String>>;
 
-    /// Gives a file the permissions of another, and its owner and group where the system allows that.
+    /// A file that is there, to be written. Nothing of it is changed.
+    ///
+    /// # Errors
+    ///
+    /// `PermissionDenied` where another user may have put it there for this one to write, or the system's.
+    fn open_existing(&self, path: &str) -> io::Result<Self::Writer>;
+
+    /// Gives a file the permissions of another, and its owner and group as far as the system allows that.
+    /// Where a group can't be given, nobody may do more than before.
     ///
     /// # Errors
     ///
     /// The system's, of the permissions.
-    fn copy_permissions(&self, from: &str, to: &str) -> io::Result<()>;
+    fn copy_permissions(&self, from: &Self::Writer, to: &Self::Writer) -> io::Result<()>;
+
+    /// What a file is now, links followed.
+    ///
+    /// # Errors
+    ///
+    /// The system's.
+    fn stamp(&self, path: &str) -> io::Result<Stamp>;
 
     /// Waits until what was written to a file is on the medium.
     ///

@@ -3,7 +3,7 @@ ghost use Rattle.std.specs.Prelude.{◌≡◌, IfOk, MatchResult, None, Some, ma
 ghost use Rattle.smap_disk.specs.Fixed as spec;
 ghost use Rattle.smap_disk.specs.Tree.{entries_in, entry_in};
 
-use crate::disk::{Disk, Entry, EntryKind, Kind, Listing};
+use crate::disk::{Disk, Entry, EntryKind, Kind, Listing, Stamp};
 use std::alloc::{AllocError, Global};
 use std::io::{self, ErrorKind};
 
@@ -132,7 +132,10 @@ impl<'a> Disk for FixedDisk<'a> {
 
     fn list(&self, alloc: Global, path: &str) -> io::Result<Listing> {
         match entries_of(self.folders, path) {
-            Some(entries) => Ok(listing_of(alloc, entries)?),
+            Some(entries) => match listing_of(alloc, entries) {
+                Ok(listing) => Ok(listing),
+                Err(_) => Err(io::Error::from(ErrorKind::OutOfMemory)),
+            },
             None => Err(io::Error::from(ErrorKind::NotADirectory)),
         }
     }
@@ -150,12 +153,26 @@ impl<'a> Disk for FixedDisk<'a> {
         refused()
     }
 
-    fn check_writable(&self, _path: &str) -> io::Result<()> {
+    fn link(&self, _alloc: Global, _path: &str) -> io::Result<Option<String>> {
+        Ok(None)
+    }
+
+    fn open_existing(&self, _path: &str) -> io::Result<Vec<u8>> {
         refused()
     }
 
-    fn copy_permissions(&self, _from: &str, _to: &str) -> io::Result<()> {
+    fn copy_permissions(&self, _from: &Vec<u8>, _to: &Vec<u8>) -> io::Result<()> {
         refused()
+    }
+
+    fn stamp(&self, path: &str) -> io::Result<Stamp> {
+        let size = self.size(path)?;
+        Ok(Stamp {
+            device: 0,
+            inode: 0,
+            size,
+            written: (0, 0),
+        })
     }
 
     fn sync(&self, _file: &Vec<u8>) -> io::Result<()> {

@@ -18,12 +18,13 @@ mod paths;
 mod printing;
 mod reading;
 mod reasons;
+mod rights;
 mod system;
 mod walking;
 mod watched;
 
-pub use beside::{Beside, create_beside};
-pub use disk::{Disk, Entry, EntryKind, Kind, Listing};
+pub use beside::{Beside, BesideFault, create_beside};
+pub use disk::{Disk, Entry, EntryKind, Kind, Listing, Stamp};
 pub use fixed::{FixedDisk, FixedEntry, FixedFile, FixedFolder};
 pub use found::{Walk, WalkFault};
 pub use paths::{joined, parted};

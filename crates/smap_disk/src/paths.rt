@@ -35,16 +35,10 @@ pub fn parted(path: &str) -> (&str, &str)
     }
 }
 
-fn beside_name(alloc: Global, folder: &str, name: &str, number: u64) -> Result<String, AllocError>
-    ensures { IfOk result (λ t. string_bytes t ≡ spec.beside folder.now name.now number) }
-{
-    format!(in alloc; "{folder}.{name}.smap-{number}")
-}
-
 /// A name for a file beside another one.
 pub(crate) fn beside(alloc: Global, path: &str, number: u64) -> Result<String, AllocError>
     ensures { IfOk result (λ t. IsBeside path.now number (string_bytes t)) }
 {
-    let (folder, name) = parted(path);
-    beside_name(alloc, folder, name, number)
+    let (folder, _) = parted(path);
+    format!(in alloc; "{folder}.smap-{number}")
 }

@@ -13,6 +13,7 @@ fn is_unsafe(c: char) -> bool
         c,
         '\0'..='\u{1f}'
             | '\u{7f}'..='\u{9f}'
+            | '\u{61c}'
             | '\u{200e}'..='\u{200f}'
             | '\u{2028}'..='\u{202e}'
             | '\u{2066}'..='\u{2069}'
@@ -70,8 +71,8 @@ fn safe_text(alloc: Global, text: &str) -> Result<String, AllocError>
 }
 
 /// A text as a terminal may have it: control characters (C0 with LF and TAB, DEL, C1), U+2028, U+2029 and the
-/// characters that turn the direction of writing (U+200E, U+200F, U+202A to U+202E, U+2066 to U+2069) as
-/// `\u001b`, four small hexadecimal digits. Bytes that aren't UTF-8 become U+FFFD. All else is as it is.
+/// characters that turn the direction of writing (U+061C, U+200E, U+200F, U+202A to U+202E, U+2066 to U+2069)
+/// as `\u001b`, four small hexadecimal digits. Bytes that aren't UTF-8 become U+FFFD. All else is as it is.
 ///
 /// # Errors
 ///

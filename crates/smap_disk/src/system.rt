@@ -2,11 +2,14 @@
 ghost use Rattle.std.specs.Prelude.{◌≡◌};
 ghost use Rattle.std.specs.Fs.{IsDir, IsFile, IsSymlink, file_type};
 
-use crate::disk::{Disk, Entry, EntryKind, Kind, Listing, is_a_folder};
+use crate::disk::{Disk, Entry, EntryKind, Kind, Listing, Stamp, is_a_folder};
+use crate::paths::{joined, parted};
+use crate::rights::rights;
 use std::alloc::Global;
-use std::fs::{self, DirEntry, FileType, Metadata, OpenFile, OpenOptions};
+use std::fs::{self, DirEntry, FileType, Metadata, OpenFile, OpenOptions, Permissions};
 use std::io::{self, ErrorKind};
-use std::os::unix::fs::{MetadataExt, OpenOptionsExt};
+use std::os::fd::AsFd;
+use std::os::unix::fs::{MetadataExt, OpenOptionsExt, PermissionsExt, fchown};
 use std::rt::Files;
 
 /// The file system of the machine, or what a runtime has in place of it.
@@ -68,7 +71,38 @@ fn add_entry<R: Files>(
     Ok(())
 }
 
-impl<R: Files + AllocGlobal + Clone + Drop> Disk for System<'_, R> {
+/// The path that a link leads to.
+fn target_of<R: Files>(rt: &R, alloc: Global, path: &str) -> io::Result<String> {
+    let target = rt.read_link(alloc, path)?.into_string();
+    if target.starts_with('/') {
+        return Ok(target);
+    }
+    Ok(joined(alloc, parted(path).0, &target)?)
+}
+
+/// Whether this is the user who runs the program, to whom `/proc` gives its process.
+fn is_this_user<R: Files>(rt: &R, user: u32) -> bool {
+    fs::metadata(rt, "/proc/self").is_ok_and(|process| process.uid() == user)
+}
+
+/// Whether another user may have put a file where this one would write it: in a folder in which others can
+/// make files and only their owners can remove them, as in `/tmp`. Linux refuses `>` there too.
+fn is_planted<R: Files>(rt: &R, path: &str, file: &Metadata) -> bool {
+    let folder = match parted(path).0 {
+        "" => ".",
+        folder => folder,
+    };
+    let Ok(folder) = fs::metadata(rt, folder) else {
+        return true;
+    };
+    let is_shared = folder.mode() & 0o1000 != 0 && folder.mode() & 0o022 != 0;
+    is_shared && file.uid() != folder.uid() && !is_this_user(rt, file.uid())
+}
+
+impl<R: Files + AllocGlobal + Clone + Drop> Disk for System<'_, R>
+where
+    R::File: AsFd,
+{
     ghost use Rattle.std.specs.Prelude.{None};
 
     type Reader = R::File;
@@ -135,18 +169,48 @@ impl<R: Files + AllocGlobal + Clone + Drop> Disk for System<'_, R> {
             .open(self.rt, path)
     }
 
-    fn check_writable(&self, path: &str) -> io::Result<()> {
-        let file = OpenOptions::new().write(true).open(self.rt, path)?;
-        drop(file);
-        Ok(())
+    fn link(&self, alloc: Global, path: &str) -> io::Result<Option<String>> {
+        let metadata = match fs::symlink_metadata(self.rt, path) {
+            Ok(metadata) => metadata,
+            Err(error) if error.kind() == ErrorKind::NotFound => return Ok(None),
+            Err(error) => return Err(error),
+        };
+        if !metadata.is_symlink() {
+            return Ok(None);
+        }
+        if metadata.uid() != 0 && !is_this_user(self.rt, metadata.uid()) {
+            let why = "it is a link of another user";
+            return Err(io::Error::new(ErrorKind::PermissionDenied, why));
+        }
+        Ok(Some(target_of(self.rt, alloc, path)?))
     }
 
-    fn copy_permissions(&self, from: &str, to: &str) -> io::Result<()> {
-        let metadata = fs::metadata(self.rt, from)?;
-        let _ = self
-            .rt
-            .chown(to, Some(metadata.uid()), Some(metadata.gid()));
-        fs::set_permissions(self.rt, to, metadata.permissions())
+    fn open_existing(&self, path: &str) -> io::Result<R::File> {
+        let file = OpenOptions::new().write(true).open(self.rt, path)?;
+        if is_planted(self.rt, path, &file.metadata()?) {
+            let why = "it is another user's, in a folder that all may write to";
+            return Err(io::Error::new(ErrorKind::PermissionDenied, why));
+        }
+        Ok(file)
+    }
+
+    // By the open files alone: what has a name can be another file by now.
+    fn copy_permissions(&self, from: &R::File, to: &R::File) -> io::Result<()> {
+        let metadata = from.metadata()?;
+        let keeps_group = fchown(to, None, Some(metadata.gid())).is_ok();
+        let keeps_owner = fchown(to, Some(metadata.uid()), None).is_ok();
+        let mode = rights(metadata.mode(), keeps_owner, keeps_group);
+        to.set_permissions(Permissions::from_mode(mode))
+    }
+
+    fn stamp(&self, path: &str) -> io::Result<Stamp> {
+        let metadata = fs::metadata(self.rt, path)?;
+        Ok(Stamp {
+            device: metadata.dev(),
+            inode: metadata.ino(),
+            size: metadata.len(),
+            written: (metadata.mtime(), metadata.mtime_nsec()),
+        })
     }
 
     fn sync(&self, file: &R::File) -> io::Result<()> {

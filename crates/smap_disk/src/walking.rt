@@ -249,7 +249,7 @@ fn fault_of(path: String, error: io::Error) -> WalkFault {
     }
 }
 
-/// The entries of a folder below the root.
+/// The entries of a folder below the root; none of one that is gone by now.
 fn listing_of<D: Disk>(
     alloc: Global,
     disk: &D,
@@ -261,7 +261,14 @@ fn listing_of<D: Disk>(
     let path = joined(alloc, root, folder)?;
     match disk.list(alloc, &path) {
         Ok(listing) => Ok(listing),
-        Err(error) => Err(fault_of(path, error)),
+        Err(error) => match error.kind() {
+            // it is gone since the folder above it was read
+            ErrorKind::NotFound if !folder.is_empty() => Ok(Listing {
+                entries: Vec::new(alloc),
+                unnamed: 0,
+            }),
+            _ => Err(fault_of(path, error)),
+        },
     }
 }
 

@@ -1,6 +1,6 @@
 //! What a disk in memory holds.
 
-use smap_disk::{Entry, EntryKind, Kind, Listing, joined, parted};
+use smap_disk::{Entry, EntryKind, Kind, Listing, Stamp, joined, parted};
 use std::alloc::{AllocError, Global};
 use std::cell::RefCell;
 use std::io::{self, ErrorKind};
@@ -17,7 +17,7 @@ pub(crate) type Shared = Rc<RefCell<Vec<u8>>>;
 pub(crate) enum Content {
     File(Shared),
     Folder,
-    Link(String),
+    Link { target: String, is_own: bool },
     Special,
 }
 
@@ -27,6 +27,8 @@ pub(crate) struct Node {
     path: String,
     content: Content,
     permissions: u32,
+    /// Tells it from what else has or had its name.
+    number: u64,
 }
 
 /// Which calls fail.
@@ -52,6 +54,8 @@ struct Refusal {
 #[derive(Drop)]
 pub(crate) struct Table {
     nodes: Vec<Node>,
+    /// How many nodes there were.
+    made: u64,
     refusals: Vec<Refusal>,
     /// The folder of each entry whose name isn't UTF-8.
     unnamed: Vec<String>,
@@ -98,7 +102,7 @@ fn entry_kind(content: &Content) -> EntryKind {
     match content {
         Content::File(_) => EntryKind::File,
         Content::Folder => EntryKind::Folder,
-        Content::Link(_) => EntryKind::Link,
+        Content::Link { .. } => EntryKind::Link,
         Content::Special => EntryKind::Special,
     }
 }
@@ -108,7 +112,7 @@ fn kind_of(content: &Content) -> Kind {
         Content::File(_) => Kind::File,
         Content::Folder => Kind::Folder,
         Content::Special => Kind::Special,
-        Content::Link(_) => Kind::Missing,
+        Content::Link { .. } => Kind::Missing,
     }
 }
 
@@ -138,7 +142,7 @@ fn count_of(folders: &[String], folder: &str) -> u64 {
 /// The path that a link at the front of this one leads to, if there is such a link.
 fn link_step(alloc: Global, nodes: &[Node], path: &str) -> Result<Option<String>, AllocError> {
     for node in nodes {
-        if let Content::Link(target) = &node.content {
+        if let Content::Link { target, .. } = &node.content {
             if let Some(rest) = rest_of(path, &node.path) {
                 return Ok(Some(joined(alloc, clean(target), rest)?));
             }
@@ -151,6 +155,7 @@ impl Table {
     pub(crate) fn new(alloc: Global) -> Table {
         Table {
             nodes: Vec::new(alloc),
+            made: 0,
             refusals: Vec::new(alloc),
             unnamed: Vec::new(alloc),
         }
@@ -185,10 +190,12 @@ impl Table {
 
     fn push(&mut self, alloc: Global, path: &str, content: Content) -> io::Result<()> {
         let path = String::from_str(alloc, path)?;
+        self.made = self.made.saturating_add(1);
         self.nodes.push(Node {
             path,
             content,
             permissions: 0o644,
+            number: self.made,
         })?;
         Ok(())
     }
@@ -322,13 +329,45 @@ impl Table {
         })
     }
 
+    /// Where the link under this very name leads, if there is one.
+    pub(crate) fn link(&self, alloc: Global, path: &str) -> io::Result<Option<String>> {
+        let Ok(path) = self.own_path(alloc, path) else {
+            return Ok(None);
+        };
+        match self.find(&path) {
+            Some(node) => match &node.content {
+                Content::Link { target, is_own } if *is_own => {
+                    Ok(Some(String::from_str(alloc, target)?))
+                }
+                Content::Link { .. } => Err(io::Error::from(ErrorKind::PermissionDenied)),
+                Content::File(_) | Content::Folder | Content::Special => Ok(None),
+            },
+            None => Ok(None),
+        }
+    }
+
+    /// What tells the file under this name from others.
+    pub(crate) fn stamp(&self, alloc: Global, path: &str) -> io::Result<Stamp> {
+        let size = self.file(alloc, path)?.try_borrow()?.len() as u64;
+        let path = self.real_path(alloc, path)?;
+        match self.find(&path) {
+            Some(node) => Ok(Stamp {
+                device: 0,
+                inode: node.number,
+                size,
+                written: (0, 0),
+            }),
+            None => Err(io::Error::from(ErrorKind::NotFound)),
+        }
+    }
+
     /// The bytes of the file under this name.
     pub(crate) fn file(&self, alloc: Global, path: &str) -> io::Result<Shared> {
         let path = self.real_path(alloc, path)?;
         match self.find(&path) {
             Some(node) => match &node.content {
                 Content::File(bytes) => Ok(bytes.clone()?),
-                Content::Special | Content::Link(_) => {
+                Content::Special | Content::Link { .. } => {
                     Err(io::Error::from(ErrorKind::Unsupported))
                 }
                 Content::Folder => Err(io::Error::from(ErrorKind::IsADirectory)),

@@ -1,7 +1,7 @@
 //! A disk in memory, for tests.
 
 use crate::held::{Content, Shared, Step, Table};
-use smap_disk::{Disk, Kind, Listing};
+use smap_disk::{Disk, Kind, Listing, Stamp};
 use std::alloc::Global;
 use std::cell::RefCell;
 use std::io::{self, ErrorKind, Read, Write};
@@ -13,6 +13,8 @@ use std::rc::Rc;
 pub struct MemoryDisk {
     alloc: Global,
     table: RefCell<Table>,
+    /// A file that another program writes once one is synchronized.
+    meanwhile: RefCell<Option<(String, Vec<u8>)>>,
 }
 
 /// Reads a file of a [`MemoryDisk`], as it was when it was opened.
@@ -26,6 +28,8 @@ pub struct MemoryReader {
 /// Writes a file of a [`MemoryDisk`].
 #[derive(Drop)]
 pub struct MemoryWriter {
+    /// The name that it was opened by.
+    path: String,
     bytes: Shared,
     fault: Option<ErrorKind>,
 }
@@ -36,6 +40,7 @@ impl MemoryDisk {
         MemoryDisk {
             alloc,
             table: RefCell::new(Table::new(alloc)),
+            meanwhile: RefCell::new(None),
         }
     }
 
@@ -62,7 +67,33 @@ impl MemoryDisk {
     /// Adds a link. What it leads to is a whole path, from the top.
     pub fn add_link(&self, path: &str, target: &str) -> io::Result<()> {
         let target = String::from_str(self.alloc, target)?;
-        self.add(path, Content::Link(target))
+        self.add(
+            path,
+            Content::Link {
+                target,
+                is_own: true,
+            },
+        )
+    }
+
+    /// Adds a link of another user.
+    pub fn add_link_of_another(&self, path: &str, target: &str) -> io::Result<()> {
+        let target = String::from_str(self.alloc, target)?;
+        self.add(
+            path,
+            Content::Link {
+                target,
+                is_own: false,
+            },
+        )
+    }
+
+    /// Once a file is next synchronized, another program has put this one there.
+    pub fn put_meanwhile(&self, path: &str, bytes: &[u8]) -> io::Result<()> {
+        let path = String::from_str(self.alloc, path)?;
+        let bytes = Vec::from_slice(self.alloc, bytes)?;
+        *self.meanwhile.try_borrow_mut()? = Some((path, bytes));
+        Ok(())
     }
 
     /// Adds a pipe or a device, which can't be opened.
@@ -81,7 +112,7 @@ impl MemoryDisk {
             .refuse(self.alloc, path, step, kind)
     }
 
-    /// From now on, each call that is given this path fails, but for `kind`.
+    /// From now on, each call that is given this path fails, but for `kind` and `link`.
     pub fn fail(&self, path: &str, kind: ErrorKind) -> io::Result<()> {
         self.refuse(path, Step::Name, kind)
     }
@@ -171,7 +202,8 @@ impl Disk for MemoryDisk {
         let mut table = self.table.try_borrow_mut()?;
         let fault = table.refusal(path, Step::Write);
         let bytes = table.create(self.alloc, path)?;
-        Ok(MemoryWriter { bytes, fault })
+        let path = String::from_str(self.alloc, path)?;
+        Ok(MemoryWriter { path, bytes, fault })
     }
 
     fn create_private(&self, path: &str) -> io::Result<MemoryWriter> {
@@ -180,19 +212,34 @@ impl Disk for MemoryDisk {
         Ok(writer)
     }
 
-    fn check_writable(&self, path: &str) -> io::Result<()> {
+    fn link(&self, alloc: Global, path: &str) -> io::Result<Option<String>> {
+        self.table.try_borrow()?.link(alloc, path)
+    }
+
+    fn open_existing(&self, path: &str) -> io::Result<MemoryWriter> {
         if self.permissions(path)? & 0o200 == 0 {
             return Err(io::Error::from(ErrorKind::PermissionDenied));
         }
-        Ok(())
+        let table = self.table.try_borrow()?;
+        let bytes = table.file(self.alloc, path)?;
+        let fault = table.refusal(path, Step::Write);
+        let path = String::from_str(self.alloc, path)?;
+        Ok(MemoryWriter { path, bytes, fault })
     }
 
-    fn copy_permissions(&self, from: &str, to: &str) -> io::Result<()> {
-        let permissions = self.permissions(from)?;
-        self.set_permissions(to, permissions)
+    fn copy_permissions(&self, from: &MemoryWriter, to: &MemoryWriter) -> io::Result<()> {
+        let permissions = self.permissions(&from.path)?;
+        self.set_permissions(&to.path, permissions)
+    }
+
+    fn stamp(&self, path: &str) -> io::Result<Stamp> {
+        self.table.try_borrow()?.stamp(self.alloc, path)
     }
 
     fn sync(&self, file: &MemoryWriter) -> io::Result<()> {
+        if let Some((path, bytes)) = self.meanwhile.try_borrow_mut()?.take() {
+            self.add_file(&path, &bytes)?;
+        }
         match file.fault {
             Some(kind) => Err(io::Error::from(kind)),
             None => Ok(()),

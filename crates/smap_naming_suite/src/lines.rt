@@ -290,12 +290,18 @@ fn control_characters_are_escaped(rt: HostRuntime) -> Result<(), Fail> {
     Ok(())
 }
 
-/// A text of this many `a`, and `b` behind them.
-fn long_text(alloc: Global, count: usize, behind: &str) -> Result<String, AllocError> {
+/// A text of this character, so often.
+fn repeated(alloc: Global, c: char, count: usize) -> Result<String, AllocError> {
     let mut text = String::new(alloc);
     for _ in 0..count {
-        text.push('a')?;
+        text.push(c)?;
     }
+    Ok(text)
+}
+
+/// A text of this many `a`, and this behind them.
+fn long_text(alloc: Global, count: usize, behind: &str) -> Result<String, AllocError> {
+    let mut text = repeated(alloc, 'a', count)?;
     text.push_str(behind)?;
     Ok(text)
 }
@@ -312,6 +318,20 @@ fn a_long_line_is_cut_around_the_column(rt: HostRuntime) -> Result<(), Fail> {
     for _ in 0..199 {
         want.push(' ')?;
     }
+    want.push_str("^\n")?;
+    equal(&rt, shown.as_slice(), want.as_bytes());
+    Ok(())
+}
+
+#[test]
+fn a_long_line_is_cut_on_both_sides(rt: HostRuntime) -> Result<(), Fail> {
+    let alloc = rt.alloc();
+    let text = repeated(alloc, '\u{1f600}', 400)?;
+    let shown = context(alloc, text.as_str(), 1, 501, 0)?;
+    let mut want = String::from_str(alloc, "> 1 | …")?;
+    want.push_str(&repeated(alloc, '\u{1f600}', 200)?)?;
+    want.push_str("…\n    |  ")?;
+    want.push_str(&repeated(alloc, ' ', 200)?)?;
     want.push_str("^\n")?;
     equal(&rt, shown.as_slice(), want.as_bytes());
     Ok(())

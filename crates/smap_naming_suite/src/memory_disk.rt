@@ -1,8 +1,10 @@
 //! What the disk in memory shows of `smap_disk`.
 
 use crate::asserted::{equal, holds};
-use smap_disk::{Disk, FileFault, Kind, Walk, WalkFault, Watched, create_beside, read_file, walk};
-use smap_memory_disk::MemoryDisk;
+use smap_disk::{
+    Beside, Disk, FileFault, Kind, Walk, WalkFault, Watched, create_beside, read_file, walk,
+};
+use smap_memory_disk::{MemoryDisk, MemoryWriter};
 use std::alloc::{AllocError, Global};
 use std::io::{self, ErrorKind, Write};
 use std::test::Fail;
@@ -228,9 +230,16 @@ fn a_writer_keeps_why_it_failed(rt: HostRuntime) -> Result<(), Fail> {
     Ok(())
 }
 
+fn begin(alloc: Global, disk: &MemoryDisk, path: &str) -> io::Result<(Beside, MemoryWriter)> {
+    match create_beside(alloc, disk, path) {
+        Ok(made) => Ok(made),
+        Err(fault) => Err(fault.into_error()),
+    }
+}
+
 /// Gives a file these bytes by way of one beside it, whose name is answered.
 fn replaced(alloc: Global, disk: &MemoryDisk, path: &str, bytes: &[u8]) -> io::Result<String> {
-    let (beside, mut writer) = create_beside(alloc, disk, path)?;
+    let (beside, mut writer) = begin(alloc, disk, path)?;
     let name = String::from_str(alloc, &beside.temporary);
     let written = writer.write_all(bytes);
     beside.finish(disk)?;
@@ -243,7 +252,7 @@ fn a_file_beside_takes_its_name_at_the_end(rt: HostRuntime) -> Result<(), Fail> 
     let disk = make_tree(rt.alloc())?;
     disk.set_permissions("top/a.map", 0o600)?;
     let name = replaced(rt.alloc(), &disk, "top/a.map", b"new")?;
-    equal(&rt, name.as_str(), "top/.a.map.smap-1");
+    equal(&rt, name.as_str(), "top/.smap-1");
     equal(&rt, disk.bytes("top/a.map")?.as_slice(), b"new".as_slice());
     equal(&rt, disk.permissions("top/a.map")?, 0o600);
     equal(&rt, disk.kind(&name), Kind::Missing);
@@ -253,25 +262,25 @@ fn a_file_beside_takes_its_name_at_the_end(rt: HostRuntime) -> Result<(), Fail> 
 #[test]
 fn what_has_the_name_stays_until_the_end(rt: HostRuntime) -> Result<(), Fail> {
     let disk = make_tree(rt.alloc())?;
-    let (beside, mut writer) = create_beside(rt.alloc(), &disk, "top/a.map")?;
+    let (beside, mut writer) = begin(rt.alloc(), &disk, "top/a.map")?;
     let written = writer.write_all(b"new");
-    let there = disk.kind("top/.a.map.smap-1");
+    let there = disk.kind("top/.smap-1");
     beside.abandon(&disk);
     written?;
     equal(&rt, there, Kind::File);
     equal(&rt, disk.bytes("top/a.map")?.as_slice(), b"a".as_slice());
-    equal(&rt, disk.kind("top/.a.map.smap-1"), Kind::Missing);
+    equal(&rt, disk.kind("top/.smap-1"), Kind::Missing);
     Ok(())
 }
 
 #[test]
 fn a_new_file_that_is_abandoned_leaves_nothing(rt: HostRuntime) -> Result<(), Fail> {
     let disk = MemoryDisk::new(rt.alloc());
-    let (beside, _writer) = create_beside(rt.alloc(), &disk, "new")?;
-    let there = disk.kind(".new.smap-1");
+    let (beside, _writer) = begin(rt.alloc(), &disk, "new")?;
+    let there = disk.kind(".smap-1");
     beside.abandon(&disk);
     equal(&rt, there, Kind::File);
-    equal(&rt, disk.kind(".new.smap-1"), Kind::Missing);
+    equal(&rt, disk.kind(".smap-1"), Kind::Missing);
     equal(&rt, disk.kind("new"), Kind::Missing);
     Ok(())
 }
@@ -279,13 +288,13 @@ fn a_new_file_that_is_abandoned_leaves_nothing(rt: HostRuntime) -> Result<(), Fa
 #[test]
 fn a_file_beside_has_a_name_that_is_free(rt: HostRuntime) -> Result<(), Fail> {
     let disk = make_tree(rt.alloc())?;
-    disk.add_file("top/.b.map.smap-1", b"another's")?;
-    disk.add_link("top/.b.map.smap-2", "out/gone.js")?;
+    disk.add_file("top/.smap-1", b"another's")?;
+    disk.add_link("top/.smap-2", "out/gone.js")?;
     let name = replaced(rt.alloc(), &disk, "top/b.map", b"")?;
-    equal(&rt, name.as_str(), "top/.b.map.smap-3");
+    equal(&rt, name.as_str(), "top/.smap-3");
     equal(
         &rt,
-        disk.bytes("top/.b.map.smap-1")?.as_slice(),
+        disk.bytes("top/.smap-1")?.as_slice(),
         b"another's".as_slice(),
     );
     Ok(())
@@ -295,7 +304,7 @@ fn a_file_beside_has_a_name_that_is_free(rt: HostRuntime) -> Result<(), Fail> {
 fn a_link_stays_and_its_file_is_written(rt: HostRuntime) -> Result<(), Fail> {
     let disk = make_tree(rt.alloc())?;
     let name = replaced(rt.alloc(), &disk, "top/link.js", b"near")?;
-    equal(&rt, name.as_str(), "out/.far.js.smap-1");
+    equal(&rt, name.as_str(), "out/.smap-1");
     equal(
         &rt,
         disk.bytes("out/far.js")?.as_slice(),
@@ -310,15 +319,15 @@ fn a_link_stays_and_its_file_is_written(rt: HostRuntime) -> Result<(), Fail> {
 fn a_name_that_cannot_be_given_leaves_nothing(rt: HostRuntime) -> Result<(), Fail> {
     let disk = MemoryDisk::new(rt.alloc());
     disk.fail("new", ErrorKind::PermissionDenied)?;
-    let (beside, _writer) = create_beside(rt.alloc(), &disk, "new")?;
+    let (beside, _writer) = begin(rt.alloc(), &disk, "new")?;
     let answer = beside.finish(&disk);
     equal(&rt, kind_of(answer), Some(ErrorKind::PermissionDenied));
-    equal(&rt, disk.kind(".new.smap-1"), Kind::Missing);
+    equal(&rt, disk.kind(".smap-1"), Kind::Missing);
     Ok(())
 }
 
 fn begun(alloc: Global, disk: &MemoryDisk, path: &str) -> Option<ErrorKind> {
-    match create_beside(alloc, disk, path) {
+    match begin(alloc, disk, path) {
         Ok((beside, _writer)) => {
             beside.abandon(disk);
             None
@@ -338,5 +347,49 @@ fn only_files_are_replaced(rt: HostRuntime) -> Result<(), Fail> {
     ] {
         equal(&rt, begun(rt.alloc(), &disk, path), want);
     }
+    Ok(())
+}
+
+#[test]
+fn what_may_not_be_written_is_not_replaced(rt: HostRuntime) -> Result<(), Fail> {
+    let disk = make_tree(rt.alloc())?;
+    disk.set_permissions("top/a.map", 0o444)?;
+    disk.add_link_of_another("top/theirs.map", "top/b.map")?;
+    disk.add_link("top/mine.map", "top/theirs.map")?;
+    disk.add_link("top/round.map", "top/round.map")?;
+    for (path, want) in [
+        ("top/a.map", ErrorKind::PermissionDenied),
+        ("top/theirs.map", ErrorKind::PermissionDenied),
+        ("top/mine.map", ErrorKind::PermissionDenied),
+        ("top/round.map", ErrorKind::FilesystemLoop),
+    ] {
+        equal(&rt, begun(rt.alloc(), &disk, path), Some(want));
+    }
+    equal(&rt, disk.kind("top/.smap-1"), Kind::Missing);
+    Ok(())
+}
+
+#[test]
+fn a_file_is_made_where_a_link_leads(rt: HostRuntime) -> Result<(), Fail> {
+    let disk = make_tree(rt.alloc())?;
+    let name = replaced(rt.alloc(), &disk, "top/gone.js", b"new")?;
+    equal(&rt, name.as_str(), "out/.smap-1");
+    equal(
+        &rt,
+        disk.bytes("out/gone.js")?.as_slice(),
+        b"new".as_slice(),
+    );
+    Ok(())
+}
+
+#[test]
+fn a_folder_that_goes_while_it_is_walked_has_no_files(rt: HostRuntime) -> Result<(), Fail> {
+    let disk = make_tree(rt.alloc())?;
+    disk.fail("top/a", ErrorKind::NotFound)?;
+    let names = match walk(rt.alloc(), &disk, "top", &[".map"]) {
+        Ok(found) => spaced(rt.alloc(), &found.names)?,
+        Err(_) => String::from_str(rt.alloc(), "a fault")?,
+    };
+    equal(&rt, names.as_str(), "a.map b.map ");
     Ok(())
 }
