@@ -7,7 +7,8 @@
 
 mod standard;
 
-use smap_disk::System;
+use clap::Error;
+use smap_disk::{System, printable};
 use smap_io::Device;
 use smap_tool::{RunFault, WordsFault, run, status, task_of};
 use standard::{input, is_output_closed, placeholders};
@@ -53,46 +54,69 @@ fn name<'a>(words: &[&'a str]) -> &'a str {
     }
 }
 
-/// Runs `smap-trace`.
-fn trace(rt: &HostRuntime, words: &[&str]) -> u8 {
+/// Runs the tool that is called by this name, over the file system.
+fn tool(rt: &HostRuntime, name: &str, words: &[&str]) -> u8 {
     let disk = System::new(rt);
     if is_output_closed(&disk) {
-        let _ = eprint!(rt; "smap-trace: cannot write: standard output is closed\n");
+        let _ = eprint!(rt; "{name}: cannot write: standard output is closed\n");
         return 3;
     }
     let input = input(rt, &disk);
     let held = placeholders(rt.alloc(), &disk);
-    let status = smap_tracer::run(rt, &disk, words, input, io::writer(rt));
+    let status = match name {
+        "smap-trace" => smap_tracer::run(rt, &disk, words, input, io::writer(rt)),
+        "smap-maps" => {
+            let on_terminal = rt.stderr().is_terminal();
+            smap_mapper::run(rt, &disk, words, on_terminal, io::writer(rt))
+        }
+        _ => {
+            let on_terminal = rt.stdout().is_terminal();
+            smap_viewer::run(rt, &disk, words, on_terminal, io::writer(rt))
+        }
+    };
     drop(held);
     status
 }
 
-/// Runs `smap-maps`.
-fn maps(rt: &HostRuntime, words: &[&str]) -> u8 {
-    let disk = System::new(rt);
-    if is_output_closed(&disk) {
-        let _ = eprint!(rt; "smap-maps: cannot write: standard output is closed\n");
-        return 3;
+/// The lines of a text, each as a terminal may have it.
+fn printable_lines(alloc: Global, text: &str) -> Result<String, AllocError> {
+    let mut lines = String::new(alloc);
+    for (number, line) in text.split('\n').enumerate() {
+        if number > 0 {
+            lines.push('\n')?;
+        }
+        lines.push_str(&printable(alloc, line.as_bytes())?)?;
     }
-    let held = placeholders(rt.alloc(), &disk);
-    let on_terminal = rt.stderr().is_terminal();
-    let status = smap_mapper::run(rt, &disk, words, on_terminal, io::writer(rt));
-    drop(held);
-    status
+    Ok(lines)
 }
 
-/// Runs `smap-view`.
-fn view(rt: &HostRuntime, words: &[&str]) -> u8 {
-    let disk = System::new(rt);
-    if is_output_closed(&disk) {
-        let _ = eprint!(rt; "smap-view: cannot write: standard output is closed\n");
-        return 3;
+/// Says what is wrong with the arguments, which a stranger may have chosen, and answers the exit status.
+fn refuse(rt: &HostRuntime, error: &Error) -> u8 {
+    let text = match format!(in rt.alloc(); "{error}") {
+        Ok(text) => printable_lines(rt.alloc(), &text),
+        Err(error) => Err(error),
+    };
+    match text {
+        Ok(text) => {
+            let _ = eprint!(rt; "{text}");
+            2
+        }
+        Err(_) => {
+            let _ = eprint!(rt; "{OUT_OF_MEMORY}");
+            4
+        }
     }
-    let held = placeholders(rt.alloc(), &disk);
-    let on_terminal = rt.stdout().is_terminal();
-    let status = smap_viewer::run(rt, &disk, words, on_terminal, io::writer(rt));
-    drop(held);
-    status
+}
+
+/// Writes help or the version, and answers the exit status.
+fn help(rt: &HostRuntime, text: &Error) -> u8 {
+    match text.print(rt) {
+        Ok(()) => 0,
+        Err(_) => {
+            let _ = eprint!(rt; "{}", message(RunFault::Write));
+            3
+        }
+    }
 }
 
 /// Runs `smap`.
@@ -112,8 +136,11 @@ fn map(rt: &HostRuntime, words: &[&str]) -> u8 {
             status(&answer)
         }
         Err(WordsFault::Words(error)) => {
-            let _ = error.print(rt);
-            error.exit_code() as u8
+            if error.use_stderr() {
+                refuse(rt, &error)
+            } else {
+                help(rt, &error)
+            }
         }
         Err(WordsFault::Memory) => {
             let _ = eprint!(rt; "{OUT_OF_MEMORY}");
@@ -140,9 +167,7 @@ fn main(rt: HostRuntime) -> ExitCode {
     };
     let words = words.as_slice();
     ExitCode::from(match name(words) {
-        "smap-trace" => trace(&rt, words),
-        "smap-maps" => maps(&rt, words),
-        "smap-view" => view(&rt, words),
+        name @ ("smap-trace" | "smap-maps" | "smap-view") => tool(&rt, name, words),
         _ => map(&rt, words),
     })
 }

@@ -1,4 +1,4 @@
-//! What the arguments name: maps, files of folders, logs.
+//! What the arguments name: maps, files of folders, logs; and how much a map may take.
 ghost use Rattle.std.specs.Prelude.{◌≡◌, ◌==◌, ◌&&◌, length};
 ghost use Rattle.smap_arguments.specs.Lists.{lists_of, no_lists};
 ghost use Rattle.smap_arguments.specs.WantedView as spec;
@@ -27,7 +27,7 @@ pub enum Origin {
     Below(usize),
 }
 
-/// What the arguments name.
+/// What the arguments name, and how much a map of that may take.
 #[derive(Drop)]
 pub struct Wanted<'a> {
     /// The maps of scripts with names, and scripts that may name their maps.
@@ -42,6 +42,8 @@ pub struct Wanted<'a> {
     pub map_count: usize,
     pub roots: Vec<Root>,
     pub logs: Vec<&'a str>,
+    /// How many bytes the URLs of a map's sources may take: none, until that is said.
+    pub url_bytes: usize,
 }
 
 impl<'a> Wanted<'a> {
@@ -58,6 +60,7 @@ impl<'a> Wanted<'a> {
             map_count: 0,
             roots: Vec::new(alloc),
             logs: Vec::new(alloc),
+            url_bytes: 0,
         }
     }
 

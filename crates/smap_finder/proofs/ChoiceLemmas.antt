@@ -1,7 +1,7 @@
 -- Names of a log, and what they have.
 use Rattle.std.proofs.Common.{arith, ◌≡◌, ◌∙◌, ◌<◌, ◌≤◌, ◌+◌, ◌++◌, ◌∷◌, ap, refl, sym, inl, ℕ, Bor, List, []}
 use Rattle.std.proofs.Common.{length, take}
-use Rattle.std.proofs.Common.{Option, Some, None, get_or, map, subst, option_map, true, false}
+use Rattle.std.proofs.Common.{Some, None, get_or, map, subst, option_map, true, false}
 use Rattle.std.proofs.lemmas.List.{get_or-map, length-map, map_push, take_all, take_more}
 use Rattle.std.proofs.lemmas.List.Elements.{All-push}
 use Rattle.std.specs.Global.{Vec}
@@ -11,7 +11,7 @@ use Rattle.smap_disk.specs.Held.{Held, IsHeld}
 use Rattle.smap_finder.specs.Choice.{AreChoices, ArePicksIn, ArePicksOf, IsFoundIn, NamesMap, files_of}
 use Rattle.smap_finder.specs.Choice.{is_half_unclear}
 use Rattle.smap_finder.specs.Choice.{places_of}
-use Rattle.smap_opening.specs.Given.{Folder, IsFollowed, Names, folder_for}
+use Rattle.smap_opening.specs.Given.{Folder, IsFollowed}
 use Rattle.smap_opening.specs.declared.following.Followed.TheVariants as followed
 use Rattle.smap_arguments.specs.declared.wanted.Wanted.{Wanted}
 use Rattle.smap_pick.specs.Picks.{IsPick}
@@ -29,15 +29,12 @@ file_at w i v is = slice_get-map (λ (f : Vec ℕ). f.items) w.files.items i
     ∙ ap (option_map (λ (f : Vec ℕ). f.items)) is
 
 -- a script whose text was followed to this file names it
-pub names_map : (held : Held) (root : Option Folder) (script : MapPlace) (text file : List ℕ) (place : Place)
-    → IsHeld held script.file text → IsFollowed (folder_for root script) script text (followed.File place)
-    → place.file.items ≡ file → NamesMap held root script file
-names_map None root script text file place is followed same = tt
-names_map (Some held) root script text file place is followed same = record {
-  text = text;
-  held_is = is;
-  names = subst (Names (folder_for root script) script.file text) same followed.0;
-}
+pub names_map : (held : Held) (folder : Folder) (script : MapPlace) (text : List ℕ) (place : Place)
+    → IsHeld held script.file text → IsFollowed folder script text (followed.File place)
+    → NamesMap held folder script.file place.file.items
+names_map None folder script text place is followed = tt
+names_map (Some held) folder script text place is followed =
+    record { text = text; held_is = is; names = followed.0 }
 
 abbrev names_in : List (Bor (List ℕ)) → List (List ℕ)
 names_in names = map (λ (n : Bor (List ℕ)). n.now) names

@@ -21,10 +21,11 @@ use Rattle.smap_finder.specs.ChosenView.{IsFor, IsLeft, IsNotOpened}
 use Rattle.smap_finder.specs.ChosenView.{IsFind, IsServedBy, IsSettledIn, IsTried, Serves}
 use Rattle.smap_finder.specs.declared.chosen.Opening.{Opening}
 
-refused_worse : (held : Held) (root : Option Folder) (has_base : Bool) (place : MapPlace) (worst worse : ℕ)
-    → worst ≤ worse → GivesNone held root has_base place worst → GivesNone held root has_base place worse
-refused_worse held root has_base place worst worse le (inl out) = inl out
-refused_worse held root has_base place worst worse le (inr refused) =
+refused_worse : (most : ℕ) (held : Held) (root : Option Folder) (has_base : Bool) (place : MapPlace)
+    (worst worse : ℕ) → worst ≤ worse → GivesNone most held root has_base place worst
+    → GivesNone most held root has_base place worse
+refused_worse most held root has_base place worst worse le (inl out) = inl out
+refused_worse most held root has_base place worst worse le (inr refused) =
     let bad = refused.is_bad in
     inr (record { is_bad = omega (arith, le, bad); why = refused.why; reached = refused.reached })
 
@@ -32,7 +33,9 @@ pub unopened_worse : (held : Held) (w : Wanted) (name : List ℕ) (found : Found
     → worst ≤ worse → IsUnopened held w name found worst → IsUnopened held w name found worse
 unopened_worse held w name found worst worse le (inl none) = inl none
 unopened_worse held w name found worst worse le (inr (place, is, gives)) =
-    inr (place, is, refused_worse held (root_of w found) (has_base w found) place worst worse le gives)
+    let none =
+    refused_worse w.url_bytes held (root_of w found) (has_base w found) place worst worse le gives in
+    inr (place, is, none)
 
 -- what became of opening the map of what a name has
 pub tried_as : {E : Type 0} (held : Held) (w : Wanted) (worst : ℕ) (name under : List ℕ) (found : Found)

@@ -2,4 +2,5 @@ pub mod ChoiceLemmas
 pub mod ChosenLemmas
 pub mod EndLemmas
 pub mod GrowthLemmas
+pub mod LinkLemmas
 pub mod MapLemmas

@@ -1,7 +1,8 @@
 -- Which map a name of a log has, of those that the arguments name.
 use Rattle.std.specs.Prelude.{◌≡◌, ◌⊎◌, ◌+◌, ℕ, Bool, true, false, not, ◌==◌, ◌&&◌, ◌||◌}
 use Rattle.std.specs.Prelude.{nat_eq, nat_lt, List, ◌++◌, codes, cond, drop, length, map, min, take, ⊤}
-use Rattle.std.specs.Prelude.{Option, Some, None, option_and_then, option_map}
+use Rattle.std.specs.Prelude.{IfSome, Option, Some, None, option_and_then, option_map}
+use Rattle.std.specs.Global.{Vec}
 use Rattle.std.specs.Char.{is_ascii_alphanumeric}
 use Rattle.std.specs.List.{All, list_any, prefix_len, slice_get, starts_with}
 use Rattle.smap_disk.specs.Held.{Held}
@@ -11,12 +12,12 @@ use Rattle.smap_link.specs.Urls.{is_path}
 use Rattle.smap_pick.specs.Picks.{ArePicks, IsFound}
 use Rattle.smap_pick.specs.Opening.{found_place}
 use Rattle.smap_pick.specs.PlaceView.{places_in}
-use Rattle.smap_pick.specs.Places.{MapPlace, scripts_of, usual_place}
+use Rattle.smap_pick.specs.Places.{MapPlace, scripts_of}
 use Rattle.smap_pick.specs.declared.picks.Found.{Found}
 use Rattle.smap_pick.specs.declared.picks.Found.TheVariants.{Given, ByEnd, Unclear, Missing}
 use Rattle.smap_pick.specs.declared.picks.Pick.{Pick}
 use Rattle.smap_record.specs.Record.{ReadMap}
-use Rattle.smap_opening.specs.Given.{Folder, Names, folder_for}
+use Rattle.smap_opening.specs.Given.{Folder, Names}
 use Rattle.smap_opening.specs.Opened.{GivesNone, IsOpened}
 use Rattle.smap_opening.specs.RootView.{folder_in}
 use Rattle.smap_arguments.specs.declared.wanted.Origin.{Origin}
@@ -78,24 +79,33 @@ abbrev pub ArePicksIn : Wanted → List (List ℕ) → List (List ℕ) → List 
 ArePicksIn w files names picks = ArePicks true (scripts_of (places_of w)) files names picks
 
 -- The text of a script names the file of a map, seen from this folder.
-pub record NamesFile (held : List ℕ → Option (List ℕ)) (root : Option Folder) (script : MapPlace)
-    (file : List ℕ) : Type 0 where
+pub record NamesFile (held : List ℕ → Option (List ℕ)) (folder : Folder) (script file : List ℕ) : Type 0 where
   pub text : List ℕ
-  pub held_is : held script.file ≡ Some text
-  pub names : Names (folder_for root script) script.file text file
+  pub held_is : held script ≡ Some text
+  pub names : Names folder script text file
 
 -- The same, where it is said what files hold.
-abbrev pub NamesMap : Held → Option Folder → MapPlace → List ℕ → Type 0
-NamesMap None root script file = ⊤
-NamesMap (Some held) root script file = NamesFile held root script file
+abbrev pub NamesMap : Held → Folder → List ℕ → List ℕ → Type 0
+NamesMap None folder script file = ⊤
+NamesMap (Some held) folder script file = NamesFile held folder script file
 
--- The script with this number among the files, which is to have this name, names the map with that.
-pub record Links (held : Held) (w : Wanted) (name : List ℕ) (script file : ℕ) : Type 0 where
+-- The script with this number among the files names this file, seen from the folder that it was found in:
+-- whatever name of a log it is to have.
+pub record IsNamedBy (held : Held) (w : Wanted) (script : ℕ) (file : List ℕ) : Type 0 where
+  pub folder : Folder
+  pub folder_is : root_of w (ByEnd script) ≡ Some folder
   pub script_name : List ℕ
   pub script_is : slice_get (files_of w) script ≡ Some script_name
-  pub file_name : List ℕ
-  pub file_is : slice_get (files_of w) file ≡ Some file_name
-  pub names : NamesMap held (root_of w (ByEnd script)) (usual_place name script_name) file_name
+  pub names : NamesMap held folder script_name file
+
+-- It names the map with that number.
+abbrev pub Links : Held → Wanted → ℕ → ℕ → Type 0
+Links held w script file =
+    (name : List ℕ) × (slice_get (files_of w) file ≡ Some name) × IsNamedBy held w script name
+
+-- What is kept of scripts: the file that each names, if it names one.
+abbrev pub AreLinks : Held → Wanted → List (ℕ × Option (Vec ℕ)) → Type 0
+AreLinks held w kept = All (λ e. IfSome e.1 (λ file. IsNamedBy held w e.0 file.items)) kept
 
 -- A script ends alike with the name, and names the map that does so.
 pub record IsThrough (held : Held) (w : Wanted) (name : List ℕ) (found : Found) : Type 0 where
@@ -104,7 +114,7 @@ pub record IsThrough (held : Held) (w : Wanted) (name : List ℕ) (found : Found
   pub by_script : IsFoundIn w (script_files_of w) name (ByEnd script)
   pub by_map : IsFoundIn w (map_files_of w) name (ByEnd file)
   pub found_is : found ≡ ByEnd (map_count_of w + script)
-  pub links : Links held w name (map_count_of w + script) file
+  pub links : Links held w (map_count_of w + script) file
 
 -- A map ends alike, and another file does.
 abbrev pub is_half_unclear : Wanted → Found → Bool
@@ -206,13 +216,13 @@ opening_name w name Missing = name
 pub record IsOpenedAs (held : Held) (w : Wanted) (name : List ℕ) (found : Found) (m : ReadMap) : Type 0 where
   pub place : MapPlace
   pub is_place : found_place (places_of w) (files_of w) name found ≡ Some place
-  pub opened : IsOpened held (root_of w found) (has_base w found) place m
+  pub opened : IsOpened w.url_bytes held (root_of w found) (has_base w found) place m
 
 -- None was opened by this name for this, and so much is the worst since: it has no place, or that gives none.
 abbrev pub IsUnopened : Held → Wanted → List ℕ → Found → ℕ → Type 0
 IsUnopened held w name found worst = (found_place (places_of w) (files_of w) name found ≡ None)
     ⊎ ((place : MapPlace) × (found_place (places_of w) (files_of w) name found ≡ Some place)
-    × GivesNone held (root_of w found) (has_base w found) place worst)
+    × GivesNone w.url_bytes held (root_of w found) (has_base w found) place worst)
 
 -- The map of what a name of a log has.
 abbrev pub IsOpenedFor : Held → Wanted → List ℕ → Found → ReadMap → Type 0

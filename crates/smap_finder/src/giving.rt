@@ -280,7 +280,8 @@ fn give_names<E: Eprint + AllocGlobal, D: Disk>(
     if names.is_empty() {
         return Ok(());
     }
-    let picks = picks_of(host, &mut opener.table, wanted, in_frames, names)?;
+    let (table, links) = (&mut opener.table, &mut opener.links);
+    let picks = picks_of(host, table, links, wanted, in_frames, names)?;
     let store = &mut opener.store;
     give_all(host, store, how, wanted, in_frames, &picks, chosen)
 }

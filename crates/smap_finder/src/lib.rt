@@ -8,6 +8,7 @@
 mod checking;
 mod chosen;
 mod giving;
+mod links;
 mod opening;
 mod picking;
 mod roots;

@@ -6,6 +6,7 @@ ghost use Rattle.smap_finder.specs.ChosenView.{IsOver};
 ghost use Rattle.smap_pick.specs.Opening.{found_place};
 ghost use Rattle.smap_pick.specs.PlaceView.{place_in};
 
+use crate::links::Links;
 use crate::roots::{has_base, root_of};
 use smap_arguments::Wanted;
 use smap_disk::Disk;
@@ -20,6 +21,7 @@ use std::alloc::{AllocError, Global};
 #[derive(Drop)]
 pub struct Opener<'a, D> {
     pub(crate) table: ScriptTable,
+    pub(crate) links: Links,
     pub(crate) store: FileStore<'a, D>,
 }
 
@@ -33,6 +35,7 @@ impl<'a, D> Opener<'a, D> {
         match table_of(alloc, wanted.places.as_slice()) {
             Ok(table) => Ok(Opener {
                 table,
+                links: Links::new(alloc),
                 store: FileStore::new(alloc, disk),
             }),
             Err(ChoiceFault::Memory) => Err(Stop::Memory),
@@ -87,6 +90,7 @@ pub(crate) fn opened_map<E: Eprint + AllocGlobal, D: Disk>(
         place,
         root: root_of(wanted, pick.found),
         has_base: has_base(wanted, pick.found),
+        url_bytes: wanted.url_bytes,
     };
     match smap_pick::Store::open(store, alloc, &subject.place) {
         Ok(content) => settle_content(host, store, how, &subject, content, worst),

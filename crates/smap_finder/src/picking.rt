@@ -4,19 +4,19 @@ ghost use Rattle.std.specs.List.{All};
 ghost use Rattle.smap_link.specs.Table.{IsTable};
 ghost use Rattle.smap_pick.specs.Places.{scripts_of};
 ghost use Rattle.smap_finder.specs.Choice as spec;
-ghost use Rattle.smap_finder.specs.Choice.{AreChoices, ArePicked, ArePicksIn, IsChoice, IsChoiceOf};
+ghost use Rattle.smap_finder.specs.Choice.{AreChoices, AreLinks, ArePicked, ArePicksIn, IsChoice, IsChoiceOf};
 ghost use Rattle.smap_finder.specs.Choice.{IsFoundIn};
-ghost use Rattle.smap_finder.specs.Choice.{IsHalfUnclear, Links, files_of, places_of};
+ghost use Rattle.smap_finder.specs.Choice.{IsHalfUnclear, files_of, places_of};
 ghost use Rattle.smap_arguments.specs.declared.wanted.Wanted.{Wanted};
 ghost use Rattle.smap_disk.specs.Held.{Held};
 
-use crate::roots::{root_of, slices};
-use smap_arguments::{LIMIT, Wanted};
-use smap_disk::{Disk, read_file};
+use crate::links::{Links, names_this};
+use crate::roots::slices;
+use smap_arguments::Wanted;
+use smap_disk::Disk;
 use smap_host::{Host, Stop};
 use smap_link::{ScriptTable, bare, is_path, own_url};
-use smap_opening::{Followed, follow};
-use smap_pick::{Found, Pick, Place, pick_all, usual_place};
+use smap_pick::{Found, Pick, pick_all};
 use std::alloc::{AllocError, Global};
 
 /// What stands for what was found in the table of what was opened: a map in a folder without a URL is
@@ -133,43 +133,6 @@ fn has_half_unclear(wanted: &Wanted<'_>, picks: &[Pick<'_>]) -> bool
     false
 }
 
-/// Whether a place is in this file.
-fn is_file(place: &Place, file: &[u8]) -> bool
-    ensures { result ≡ true → place.now.file.items ≡ file.now }
-{
-    if place.file.as_slice() == file {
-        return true;
-    }
-    false
-}
-
-/// Whether the script with this number in the list of files names the map with the other.
-fn names_this<E: Eprint + AllocGlobal, D: Disk>(
-    host: &Host<'_, E, D>,
-    wanted: &Wanted<'_>,
-    name: &[u8],
-    script: usize,
-    map: usize,
-) -> Result<bool, Stop>
-    ensures { IfOk result (λ b. b ≡ true → Links (D.held host.now.disk.now) wanted.now name.now script map) }
-{
-    let alloc = host.alloc();
-    let (Some(file), Some(map)) = (wanted.files.get(script), wanted.files.get(map)) else {
-        return Ok(false);
-    };
-    let Ok(path) = std::str::from_utf8(file) else {
-        return Ok(false);
-    };
-    let Ok(text) = read_file(alloc, host.disk, path, LIMIT) else {
-        return Ok(false);
-    };
-    let place = usual_place(alloc, name, file)?;
-    match follow(host, &place, root_of(wanted, Found::ByEnd(script)), &text)? {
-        Followed::File(found) => Ok(is_file(&found, map)),
-        _ => Ok(false),
-    }
-}
-
 /// The script that was found if it names the map that was, and else the map.
 fn script_or_map<E: Eprint + AllocGlobal, D: Disk>(
     host: &Host<'_, E, D>,
@@ -177,15 +140,18 @@ fn script_or_map<E: Eprint + AllocGlobal, D: Disk>(
     name: &[u8],
     script: Found,
     map: Found,
+    links: &mut Links,
 ) -> Result<Found, Stop>
+    requires links { AreLinks (D.held host.now.disk.now) wanted.now links.old.named.entries }
     requires unclear { IsHalfUnclear wanted.now name.now }
     requires script { IsFoundIn wanted.now (spec.script_files_of wanted.now) name.now script }
     requires map { IsFoundIn wanted.now (spec.map_files_of wanted.now) name.now map }
-    ensures { IfOk result (IsChoice (D.held host.now.disk.now) wanted.now name.now) }
+    ensures choice { IfOk result (IsChoice (D.held host.now.disk.now) wanted.now name.now) }
+    ensures links { AreLinks (D.held host.now.disk.now) wanted.now links.new.named.entries }
 {
     if let (Found::ByEnd(i), Found::ByEnd(of_map)) = (script, map) {
         if let Some(number) = map_count(wanted).checked_add(i) {
-            if names_this(host, wanted, name, number, of_map)? {
+            if names_this(host, wanted, number, of_map, links)? {
                 return Ok(Found::ByEnd(number));
             }
         }
@@ -201,14 +167,17 @@ fn settled_found<E: Eprint + AllocGlobal, D: Disk>(
     found: Found,
     script: Found,
     map: Found,
+    links: &mut Links,
 ) -> Result<Found, Stop>
+    requires links { AreLinks (D.held host.now.disk.now) wanted.now links.old.named.entries }
     requires found { IsFoundIn wanted.now (files_of wanted.now) name.now found }
     requires script { IsFoundIn wanted.now (spec.script_files_of wanted.now) name.now script }
     requires map { IsFoundIn wanted.now (spec.map_files_of wanted.now) name.now map }
-    ensures { IfOk result (IsChoice (D.held host.now.disk.now) wanted.now name.now) }
+    ensures choice { IfOk result (IsChoice (D.held host.now.disk.now) wanted.now name.now) }
+    ensures links { AreLinks (D.held host.now.disk.now) wanted.now links.new.named.entries }
 {
     if is_half_unclear(wanted, found) {
-        return script_or_map(host, wanted, name, script, map);
+        return script_or_map(host, wanted, name, script, map, links);
     }
     Ok(found)
 }
@@ -221,20 +190,23 @@ fn settle_each<'a, E: Eprint + AllocGlobal, D: Disk>(
     picks: &[Pick<'a>],
     by_script: &[Pick<'a>],
     by_map: &[Pick<'a>],
+    links: &mut Links,
 ) -> Result<Vec<Pick<'a>>, Stop>
+    requires links { AreLinks (D.held host.now.disk.now) wanted.now links.old.named.entries }
     requires picks { ArePicksIn wanted.now (files_of wanted.now) (map (λ n. n.now) names.now) picks.now }
     requires scripts { ArePicksIn wanted.now (spec.script_files_of wanted.now) (map (λ n. n.now) names.now)
         by_script.now }
     requires maps { ArePicksIn wanted.now (spec.map_files_of wanted.now)
         (map (λ n. n.now) names.now) by_map.now }
-    ensures { IfOk result (λ all. AreChoices (D.held host.now.disk.now) wanted.now
+    ensures choices { IfOk result (λ all. AreChoices (D.held host.now.disk.now) wanted.now
         (map (λ n. n.now) names.now) all.items) }
+    ensures links { AreLinks (D.held host.now.disk.now) wanted.now links.new.named.entries }
 {
     let mut settled = Vec::with_capacity(host.alloc(), names.len())?;
     for i in 0..names.len() {
         let name = names[i];
         let (script, map) = (by_script[i].found, by_map[i].found);
-        let found = settled_found(host, wanted, name, picks[i].found, script, map)?;
+        let found = settled_found(host, wanted, name, picks[i].found, script, map, links)?;
         settled.push(Pick { name, found })?;
     }
     Ok(settled)
@@ -245,17 +217,20 @@ fn settle_each<'a, E: Eprint + AllocGlobal, D: Disk>(
 fn settled<'a, E: Eprint + AllocGlobal, D: Disk>(
     host: &Host<'_, E, D>,
     table: &mut ScriptTable,
+    links: &mut Links,
     wanted: &Wanted<'_>,
     files: &[&[u8]],
     names: &[&'a [u8]],
     picks: Vec<Pick<'a>>,
 ) -> Result<Vec<Pick<'a>>, Stop>
     requires table { IsTable table.old (scripts_of (places_of wanted.now)) }
+    requires links { AreLinks (D.held host.now.disk.now) wanted.now links.old.named.entries }
     requires files { map (λ f. f.now) files.now ≡ files_of wanted.now }
     requires picks { ArePicksIn wanted.now (files_of wanted.now) (map (λ n. n.now) names.now) picks.items }
     ensures picked { IfOk result (λ all. AreChoices (D.held host.now.disk.now) wanted.now
         (map (λ n. n.now) names.now) all.items) }
     ensures table { IsTable table.new (scripts_of (places_of wanted.now)) }
+    ensures links { AreLinks (D.held host.now.disk.now) wanted.now links.new.named.entries }
 {
     if !has_half_unclear(wanted, &picks) {
         return Ok(picks);
@@ -264,7 +239,7 @@ fn settled<'a, E: Eprint + AllocGlobal, D: Disk>(
     let (maps, scripts) = files.split_at(map_count(wanted));
     let by_script = pick_all(alloc, table, scripts, true, names)?;
     let by_map = pick_all(alloc, table, maps, true, names)?;
-    settle_each(host, wanted, names, &picks, &by_script, &by_map)
+    settle_each(host, wanted, names, &picks, &by_script, &by_map, links)
 }
 
 /// These picks, but none by its end for a name that may not belong to a file by it.
@@ -289,19 +264,22 @@ fn all_within<'a>(
 pub(crate) fn picks_of<'a, E: Eprint + AllocGlobal, D: Disk>(
     host: &Host<'_, E, D>,
     table: &mut ScriptTable,
+    links: &mut Links,
     wanted: &Wanted<'_>,
     in_frames: bool,
     names: &[&'a [u8]],
 ) -> Result<Vec<Pick<'a>>, Stop>
-    requires { IsTable table.old (scripts_of (places_of wanted.now)) }
+    requires table { IsTable table.old (scripts_of (places_of wanted.now)) }
+    requires links { AreLinks (D.held host.now.disk.now) wanted.now links.old.named.entries }
     ensures picked { IfOk result (λ all. ArePicked (D.held host.now.disk.now) wanted.now in_frames
         (map (λ n. n.now) names.now) all.items) }
     ensures table { IsTable table.new (scripts_of (places_of wanted.now)) }
+    ensures links { AreLinks (D.held host.now.disk.now) wanted.now links.new.named.entries }
 {
     let alloc = host.alloc();
     let files = slices(alloc, wanted.files.as_slice())?;
     let picks = pick_all(alloc, table, &files, true, names)?;
-    let picks = settled(host, table, wanted, &files, names, picks)?;
+    let picks = settled(host, table, links, wanted, &files, names, picks)?;
     Ok(all_within(alloc, in_frames, &picks)?)
 }
 

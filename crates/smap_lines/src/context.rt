@@ -1,17 +1,14 @@
 //! The lines of a source around a position.
 ghost use Rattle.std.specs.Io.{StartsWith};
 
-use crate::shown::{add_blanks, add_text, count_units, window_of};
-use crate::source_lines::{count_lines, line_at};
+use crate::shown::{add_blanks, add_text, count_units, near, window_of};
+use crate::source_lines::lines_between;
 use std::alloc::{AllocError, Global};
 
-/// Which lines are shown, and how: those around the marked one, from this first to this last, numbers padded
-/// to this width.
+/// Which line is marked, and where, and how wide the numbers are.
 #[derive(Clone, Copy)]
 struct Shown {
-    first: u32,
     marked: u32,
-    last: u32,
     /// From 1, in UTF-16 units.
     column: u32,
     width: usize,
@@ -32,16 +29,12 @@ fn add_head(mark: &str, number: &str, width: usize, row: &mut String) -> Result<
     row.push_str(" | ")
 }
 
-/// Adds the line with `^` under the column, if the text has this column or ends before it.
-fn add_caret(text: &str, shown: Shown, row: &mut String) -> Result<(), AllocError> {
-    if shown.column == 0 {
-        return Ok(());
-    }
-    let unit = shown.column as usize - 1;
+/// Adds the line with `^` under this unit of the text, if the text has it or ends before it.
+fn add_caret(text: &str, unit: usize, width: usize, row: &mut String) -> Result<(), AllocError> {
     if unit > count_units(text) {
         return Ok(());
     }
-    add_head("  ", "", shown.width, row)?;
+    add_head("  ", "", width, row)?;
     add_blanks(text, window_of(text, unit), unit, row)?;
     row.push_str("^\n")
 }
@@ -55,6 +48,7 @@ fn add_other(
     row: &mut String,
 ) -> Result<(), AllocError> {
     add_head("  ", number, width, row)?;
+    let (text, _) = near(text, 0);
     add_text(alloc, text, window_of(text, 0), row)?;
     row.push('\n')
 }
@@ -67,11 +61,14 @@ fn add_marked(
     shown: Shown,
     row: &mut String,
 ) -> Result<(), AllocError> {
-    let unit = (shown.column as usize).saturating_sub(1);
+    let (text, unit) = near(text, (shown.column as usize).saturating_sub(1));
     add_head("> ", number, shown.width, row)?;
     add_text(alloc, text, window_of(text, unit), row)?;
     row.push('\n')?;
-    add_caret(text, shown, row)
+    if shown.column == 0 {
+        return Ok(());
+    }
+    add_caret(text, unit, shown.width, row)
 }
 
 /// Adds what is shown of a line with this number.
@@ -94,19 +91,22 @@ fn add_row(
     out.extend_from_slice(row.as_bytes())
 }
 
-/// Adds the lines that are shown.
-fn add_rows(alloc: Global, source: &str, shown: Shown, out: &mut Vec<u8>) -> Result<(), AllocError>
+/// Adds the lines that are shown, of which the first has this number.
+fn add_rows(
+    alloc: Global,
+    source: &str,
+    lines: &[(usize, usize)],
+    first: u32,
+    shown: Shown,
+    out: &mut Vec<u8>,
+) -> Result<(), AllocError>
     ensures { StartsWith out.new.items out.old.items }
 {
-    let mut at = 0;
-    for before in 0..shown.last {
-        let number = before + 1;
-        let found = line_at(source.as_bytes(), at);
-        if number >= shown.first {
-            let text = source.get(at..found.end).unwrap_or("");
-            add_row(alloc, text, number, shown, out)?;
-        }
-        at = found.next;
+    let mut number = first;
+    for line in lines {
+        let text = source.get(line.0..line.1).unwrap_or("");
+        add_row(alloc, text, number, shown, out)?;
+        number = number.saturating_add(1);
     }
     Ok(())
 }
@@ -133,18 +133,17 @@ pub fn add_context(
 ) -> Result<(), AllocError>
     ensures { StartsWith out.new.items out.old.items }
 {
-    let last = count_lines(source.as_bytes(), line.saturating_add(count));
+    let alloc = *out.allocator();
+    let first = line.saturating_sub(count).max(1);
+    let (lines, last) = lines_between(alloc, source.as_bytes(), first, line.saturating_add(count))?;
     if line == 0 || line > last {
         return Ok(());
     }
-    let alloc = *out.allocator();
     let digits = format!(in alloc; "{last}")?;
     let shown = Shown {
-        first: line.saturating_sub(count),
         marked: line,
-        last,
         column,
         width: digits.len(),
     };
-    add_rows(alloc, source, shown, out)
+    add_rows(alloc, source, &lines, first, shown, out)
 }

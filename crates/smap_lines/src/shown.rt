@@ -1,5 +1,5 @@
 //! The text of a line of a source, as it is shown: cut, and with control characters escaped.
-ghost use Rattle.std.specs.Prelude.{◌≡◌, ◌+◌, ◌≤◌, ◌||◌, min};
+ghost use Rattle.std.specs.Prelude.{◌≡◌, ◌+◌, ◌≤◌, ◌||◌, length, min};
 ghost use Rattle.smap_lines.specs.Shown as spec;
 
 use std::alloc::{AllocError, Global};
@@ -61,6 +61,78 @@ pub(crate) fn count_units(text: &str) -> usize {
         units = units.saturating_add(c.len_utf16());
     }
     units
+}
+
+/// Whether a byte isn't the first one of its character.
+fn goes_on(b: u8) -> bool {
+    b & 0xc0 == 0x80
+}
+
+/// Where the character is that has this UTF-16 unit, and how many units are before it; the end of the text if
+/// none has.
+fn place_of_unit(text: &[u8], unit: usize) -> (usize, usize)
+    ensures { result.0 ≤ length text.now }
+{
+    let mut units = 0usize;
+    let mut next = 0usize;
+    for at in 0..text.len() {
+        let b = text[at];
+        if !goes_on(b) {
+            units = next;
+            next = next.saturating_add(if b >= 0xf0 { 2 } else { 1 });
+            if next > unit {
+                return (at, units);
+            }
+        }
+    }
+    (text.len(), next)
+}
+
+/// Where the character is that many before this place, or the beginning.
+fn back(text: &[u8], place: usize, count: usize) -> usize
+    requires { place ≤ length text.now }
+    ensures { result ≤ place }
+{
+    let mut left = count;
+    for at in (0..place).rev() {
+        if !goes_on(text[at]) {
+            left = left.saturating_sub(1);
+            if left == 0 {
+                return at;
+            }
+        }
+    }
+    0
+}
+
+/// Where the character is that many behind this place, or the end.
+fn forth(text: &[u8], place: usize, count: usize) -> usize {
+    let mut left = count;
+    for at in place..text.len() {
+        if !goes_on(text[at]) {
+            if left == 0 {
+                return at;
+            }
+            left = left.saturating_sub(1);
+        }
+    }
+    text.len()
+}
+
+/// The part of a text of which characters may be shown around this UTF-16 unit, with one more on each side
+/// where there is one; and which unit of the part it is. A line may be a whole program: of it this reads once
+/// what is before the unit.
+pub(crate) fn near(text: &str, unit: usize) -> (&str, usize) {
+    let bytes = text.as_bytes();
+    let (place, units) = place_of_unit(bytes, unit);
+    let start = back(bytes, place, MAX_SHOWN + 1);
+    let end = forth(bytes, place, MAX_SHOWN + 1);
+    let front = count_units(text.get(start..place).unwrap_or(""));
+    let left_out = units.saturating_sub(front);
+    (
+        text.get(start..end).unwrap_or(""),
+        unit.saturating_sub(left_out),
+    )
 }
 
 /// The characters that are shown of a text: those around this UTF-16 unit, counted from 0.

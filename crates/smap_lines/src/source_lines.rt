@@ -2,6 +2,7 @@
 ghost use Rattle.std.specs.Prelude.{◌≤◌, length};
 
 use memchr::memchr3;
+use std::alloc::{AllocError, Global};
 
 /// How many bytes the line terminator has with which a text begins; 0 if it begins with none.
 fn terminator_len(text: &[u8]) -> usize
@@ -50,14 +51,25 @@ pub(crate) fn line_at(source: &[u8], start: usize) -> SourceLine
     }
 }
 
-/// How many lines a source has, counted up to this number. Nothing behind the last terminator is no line.
-pub(crate) fn count_lines(source: &[u8], limit: u32) -> u32 {
+/// The lines of a source with these numbers, from 1: those that there are, each from where it begins to where
+/// its text ends; and the number of the last one. Nothing behind the last terminator is no line.
+pub(crate) fn lines_between(
+    alloc: Global,
+    source: &[u8],
+    first: u32,
+    last: u32,
+) -> Result<(Vec<(usize, usize)>, u32), AllocError> {
+    let mut lines = Vec::new(alloc);
     let mut at = 0;
-    for count in 0..limit {
+    for before in 0..last {
         if at >= source.len() {
-            return count;
+            return Ok((lines, before));
         }
-        at = line_at(source, at).next;
+        let found = line_at(source, at);
+        if before + 1 >= first {
+            lines.push((at, found.end))?;
+        }
+        at = found.next;
     }
-    limit
+    Ok((lines, last))
 }

@@ -1,7 +1,8 @@
 -- The names that lines of a log have.
-use Rattle.std.specs.Prelude.{◌==◌, ◌<◌, ℕ, not, Option, get_or, Bool, List, [], ◌++◌, bytes_eq, cond, drop}
-use Rattle.std.specs.Prelude.{filter, flat_map, length, map, slice_range}
+use Rattle.std.specs.Prelude.{◌==◌, ◌||◌, ◌<◌, ℕ, not, Option, get_or, Bool, List, [], ◌++◌, bytes_eq, cond}
+use Rattle.std.specs.Prelude.{drop, filter, flat_map, length, map, nat_lt, slice_range}
 use Rattle.std.specs.Borrow.{Bor}
+use Rattle.std.specs.Global.{Vec}
 use Rattle.std.specs.List.{Contains, list_any, slice_split}
 use Rattle.indexmap.specs.IndexMap.{keys}
 use Rattle.smap_disk.specs.Held.{GivesHeld, Held}
@@ -49,6 +50,16 @@ others_in_line line = filter has_plain_query (map (name_in line) (spans line))
 -- such texts of lines
 abbrev pub others_in : List ℕ → List (List ℕ)
 others_in text = flat_map others_in_line (slice_split is_feed text)
+
+-- a space, a control character
+abbrev pub is_control : ℕ → Bool
+is_control b = nat_lt b 33 || b == 127
+
+-- Whether a text with a position behind it may be looked for. Whoever reads a URL leaves some control
+-- characters out, so that a text which holds one would be taken for another name: it is a name only if a
+-- script is given by it.
+abbrev pub is_sought : List (Vec ℕ) → List ℕ → Bool
+is_sought given name = not (list_any is_control name) || list_any (λ g. bytes_eq name g.items) given
 
 -- those of these names that aren't among those
 abbrev pub without : List (List ℕ) → List (List ℕ) → List (List ℕ)

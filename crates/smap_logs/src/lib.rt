@@ -7,4 +7,4 @@ mod logs;
 mod naming;
 
 pub use logs::{Heeded, Log};
-pub use naming::{Names, names_in};
+pub use naming::{Names, has_control, names_in};

@@ -1,6 +1,6 @@
 //! The scripts that lines of a log name.
-ghost use Rattle.std.specs.Prelude.{◌≡◌, ◌++◌, ◌≤◌, [], ◌∷◌, IfOk, OnOk, filter, length, map};
-ghost use Rattle.std.specs.List.{prefix_len};
+ghost use Rattle.std.specs.Prelude.{◌≡◌, ◌++◌, ◌≤◌, [], ◌∷◌, IfOk, OnOk, bytes_eq, filter, length, map};
+ghost use Rattle.std.specs.List.{list_any, prefix_len};
 ghost use Rattle.std.specs.Map.{keys_of};
 ghost use Rattle.smap_frames.specs.Places.{is_query_byte, marked_len};
 ghost use Rattle.smap_trace.specs.Naming.{urls_of};
@@ -57,15 +57,23 @@ impl Names {
         slices(alloc, self.frames.keys().as_slice())
     }
 
-    /// The others.
+    /// The others that may be looked for, where scripts are given by these names with control characters.
     ///
     /// # Errors
     ///
     /// `AllocError`.
-    pub fn of_others(&self, alloc: Global) -> Result<Vec<&[u8]>, AllocError>
-        ensures { IfOk result (λ all. map (λ name. name.now) all.items ≡ others_of self.now) }
+    pub fn of_others(&self, alloc: Global, given: &[Vec<u8>]) -> Result<Vec<&[u8]>, AllocError>
+        ensures { IfOk result (λ all. map (λ name. name.now) all.items
+            ≡ filter (spec.is_sought given.now) (others_of self.now)) }
     {
-        slices(alloc, self.others.as_slice())
+        let others = self.others.as_slice();
+        let mut sought = Vec::new(alloc);
+        for name in others {
+            if is_sought(given, name) {
+                sought.push(name.as_slice())?;
+            }
+        }
+        Ok(sought)
     }
 
     /// Counts lines whose frames have this name.
@@ -244,6 +252,27 @@ fn marked_len(mark: &[u8], text: &[u8]) -> usize
         return 0;
     }
     query_byte_count(&text[1..]) + 1
+}
+
+/// Whether a name has a space or a control character.
+pub fn has_control(name: &[u8]) -> bool
+    ensures { result ≡ list_any spec.is_control name.now }
+{
+    name.iter().any(|b| *b <= b' ' || *b == 0x7f)
+}
+
+/// Whether one of these is the name.
+fn is_given(given: &[Vec<u8>], name: &[u8]) -> bool
+    ensures { result ≡ list_any (λ g. bytes_eq name.now g.items) given.now }
+{
+    given.iter().any(|g| name == g.as_slice())
+}
+
+/// Whether a text with a position behind it may be looked for.
+fn is_sought(given: &[Vec<u8>], name: &[u8]) -> bool
+    ensures { result ≡ spec.is_sought given.now name.now }
+{
+    !has_control(name) || is_given(given, name)
 }
 
 /// What stands behind the path of a URL.

@@ -18,8 +18,9 @@ use Rattle.smap_link.specs.Urls.{is_slash}
 use Rattle.smap_link.specs.declared.resolve.LinkFault.{LinkFault}
 use Rattle.smap_pick.specs.Linked.{linked}
 use Rattle.smap_pick.specs.Places.{MapPlace}
-use Rattle.smap_record.specs.Reading.{reading}
+use Rattle.smap_record.specs.Faults.{Checked}
 use Rattle.smap_record.specs.Record.{ReadMap, usual}
+use Rattle.smap_record.specs.UrlBytes.{reading_within}
 use Rattle.smap_opening.specs.declared.following.Followed.{Followed}
 use Rattle.smap_opening.specs.declared.following.Followed.TheVariants as followed
 use Rattle.smap_opening.specs.declared.loading.Content.{Content}
@@ -29,24 +30,26 @@ use Rattle.smap_opening.specs.declared.loading.Loaded.TheVariants as loaded
 use Rattle.smap_opening.specs.declared.loading.MapFault.{MapFault}
 use Rattle.smap_opening.specs.declared.loading.MapFault.TheVariants as fault
 
--- These bytes are this map, whose own URL is this.
-abbrev pub IsMap : List ℕ → List ℕ → ReadMap → Type 0
-IsMap url bytes m = (base : Parts) × (parse_url None url ≡ Ok base) × (reading base usual bytes ≡ Ok m)
+-- These bytes, with this URL of their own, are read so, where the URLs of a map's sources may take so many
+-- bytes.
+abbrev pub IsReading : ℕ → List ℕ → List ℕ → Checked (Option ReadMap) → Type 0
+IsReading most url bytes read =
+    (base : Parts) × (parse_url None url ≡ Ok base) × (reading_within base usual most bytes ≡ read)
 
 -- What is wrong with these bytes as a map with this URL.
-abbrev pub IsFault : List ℕ → List ℕ → MapFault → Type 0
-IsFault url bytes fault.Unread = ⊥
-IsFault url bytes fault.TooLong = ⊥
-IsFault url bytes fault.NotUtf8 = is_utf8 url ≡ false
-IsFault url bytes fault.NotUrl = IsErr (parse_url None url)
-IsFault url bytes (fault.Link what) = ⊥
-IsFault url bytes (fault.Refused e start) =
-    (base : Parts) × (parse_url None url ≡ Ok base) × (reading base usual bytes ≡ Err e)
+abbrev pub IsFault : ℕ → List ℕ → List ℕ → MapFault → Type 0
+IsFault most url bytes fault.Unread = ⊥
+IsFault most url bytes fault.TooLong = ⊥
+IsFault most url bytes fault.NotUtf8 = is_utf8 url ≡ false
+IsFault most url bytes fault.NotUrl = IsErr (parse_url None url)
+IsFault most url bytes (fault.Link what) = ⊥
+IsFault most url bytes (fault.Refused e start) = IsReading most url bytes (Err e)
+IsFault most url bytes (fault.UrlBytes n) = (n ≡ most) × IsReading most url bytes (Ok None)
 
 -- What became of these bytes: the map that they are, or what is wrong with them.
-abbrev pub IsRead : List ℕ → List ℕ → Loaded → Type 0
-IsRead url bytes (loaded.Map m) = IsMap url bytes m
-IsRead url bytes (loaded.Broken e) = IsFault url bytes e
+abbrev pub IsRead : ℕ → List ℕ → List ℕ → Loaded → Type 0
+IsRead most url bytes (loaded.Map m) = IsReading most url bytes (Ok (Some m))
+IsRead most url bytes (loaded.Broken e) = IsFault most url bytes e
 
 abbrev pub IsUnreadBy : MapFault → Type 0
 IsUnreadBy fault.Unread = ⊤
@@ -55,6 +58,7 @@ IsUnreadBy fault.NotUtf8 = ⊥
 IsUnreadBy fault.NotUrl = ⊥
 IsUnreadBy (fault.Link what) = ⊥
 IsUnreadBy (fault.Refused e start) = ⊥
+IsUnreadBy (fault.UrlBytes n) = ⊥
 
 -- A file can't be read, or is too long.
 abbrev pub IsUnread : Loaded → Type 0
@@ -62,14 +66,15 @@ IsUnread (loaded.Map m) = ⊥
 IsUnread (loaded.Broken e) = IsUnreadBy e
 
 -- What became of the file of a map, where it is said what files hold.
-abbrev pub IsLoaded : (List ℕ → Option (List ℕ)) → MapPlace → Loaded → Type 0
-IsLoaded held place it =
-    IsUnread it ⊎ ((bytes : List ℕ) × (held place.file ≡ Some bytes) × IsRead place.base bytes it)
+abbrev pub IsLoaded : ℕ → (List ℕ → Option (List ℕ)) → MapPlace → Loaded → Type 0
+IsLoaded most held place it =
+    IsUnread it ⊎ ((bytes : List ℕ) × (held place.file ≡ Some bytes) × IsRead most place.base bytes it)
 
--- What the file of a place holds: the text of a script, or what became of it as a map.
+-- What the file of a place holds: the text of a script, or other bytes; or it can't be read.
 abbrev pub IsContent : (List ℕ → Option (List ℕ)) → MapPlace → Content → Type 0
-IsContent held place (content.Loaded it) = IsLoaded held place it
+IsContent held place (content.Bytes bytes) = held place.file ≡ Some bytes.items
 IsContent held place (content.Script text) = held place.file ≡ Some text.items
+IsContent held place (content.Unread why) = IsUnreadBy why
 
 -- ---- what a script names
 

@@ -54,20 +54,20 @@ abbrev pub Gives : (List ℕ → Option (List ℕ)) → Option Folder → Bool �
 Gives held root has_base place base bytes = IsItself held place base bytes
     ⊎ (IsWithin held has_base place base bytes ⊎ IsBeside held root has_base place base bytes)
 
--- What became of them.
-pub record IsGiven (held : List ℕ → Option (List ℕ)) (root : Option Folder) (has_base : Bool)
+-- What became of them, where the URLs of a map's sources may take so many bytes.
+pub record IsGiven (most : ℕ) (held : List ℕ → Option (List ℕ)) (root : Option Folder) (has_base : Bool)
     (place : MapPlace) (it : Loaded) : Type 0 where
   pub base : List ℕ
   pub bytes : List ℕ
   pub gives : Gives held root has_base place base bytes
-  pub read : IsRead base bytes it
+  pub read : IsRead most base bytes it
 
 -- ---- a map was opened
 
 -- The map of the file of a place, where it is said what files hold.
-abbrev pub IsOpened : Held → Option Folder → Bool → MapPlace → ReadMap → Type 0
-IsOpened None root has_base place m = ⊤
-IsOpened (Some held) root has_base place m = IsGiven held root has_base place (loaded.Map m)
+abbrev pub IsOpened : ℕ → Held → Option Folder → Bool → MapPlace → ReadMap → Type 0
+IsOpened most None root has_base place m = ⊤
+IsOpened most (Some held) root has_base place m = IsGiven most held root has_base place (loaded.Map m)
 
 -- ---- or none was
 
@@ -80,6 +80,7 @@ IsLink (loaded.Broken fault.NotUtf8) = ⊥
 IsLink (loaded.Broken fault.NotUrl) = ⊥
 IsLink (loaded.Broken (fault.Link what)) = ⊤
 IsLink (loaded.Broken (fault.Refused e start)) = ⊥
+IsLink (loaded.Broken (fault.UrlBytes n)) = ⊥
 
 -- A script that was found in no folder names what can't be had.
 pub record IsUnlinked (held : List ℕ → Option (List ℕ)) (root : Option Folder) (place : MapPlace)
@@ -92,17 +93,17 @@ pub record IsUnlinked (held : List ℕ → Option (List ℕ)) (root : Option Fol
 
 -- What became of the map of a place: its file, or that which a script names, can't be read; the script names
 -- what can't be had; or there are bytes for the map.
-abbrev pub IsReached : Held → Option Folder → Bool → MapPlace → Loaded → Type 0
-IsReached None root has_base place it = ⊤
-IsReached (Some held) root has_base place it =
-    IsUnread it ⊎ (IsUnlinked held root place it ⊎ IsGiven held root has_base place it)
+abbrev pub IsReached : ℕ → Held → Option Folder → Bool → MapPlace → Loaded → Type 0
+IsReached most None root has_base place it = ⊤
+IsReached most (Some held) root has_base place it =
+    IsUnread it ⊎ (IsUnlinked held root place it ⊎ IsGiven most held root has_base place it)
 
 -- It is no map, which ends the run with this status or a greater one, unless such maps are skipped.
-pub record IsRefused (held : Held) (root : Option Folder) (has_base : Bool) (place : MapPlace) (worst : ℕ)
-    : Type 0 where
+pub record IsRefused (most : ℕ) (held : Held) (root : Option Folder) (has_base : Bool) (place : MapPlace)
+    (worst : ℕ) : Type 0 where
   pub is_bad : 0 < worst
   pub why : MapFault
-  pub reached : IsReached held root has_base place (loaded.Broken why)
+  pub reached : IsReached most held root has_base place (loaded.Broken why)
 
 -- A script in a folder is left out: its text names nothing, or what can't be had.
 pub record IsLeftOut (held : Held) (root : Option Folder) (place : MapPlace) : Type 0 where
@@ -113,6 +114,6 @@ pub record IsLeftOut (held : Held) (root : Option Folder) (place : MapPlace) : T
   pub names : NamesNothing place.file text ⊎ NamesUnfound folder place.file text
 
 -- The file of a place gives no map.
-abbrev pub GivesNone : Held → Option Folder → Bool → MapPlace → ℕ → Type 0
-GivesNone held root has_base place worst =
-    IsLeftOut held root place ⊎ IsRefused held root has_base place worst
+abbrev pub GivesNone : ℕ → Held → Option Folder → Bool → MapPlace → ℕ → Type 0
+GivesNone most held root has_base place worst =
+    IsLeftOut held root place ⊎ IsRefused most held root has_base place worst

@@ -1,6 +1,6 @@
 //! The files of maps, read.
 ghost use Rattle.std.specs.Prelude.{◌≡◌, ◌++◌, ◌∷◌, [], IfOk, OnErr, OnOk, map};
-ghost use Rattle.smap_opening.specs.Given.{IsContent, IsLoaded, IsRead, IsUnread};
+ghost use Rattle.smap_opening.specs.Given.{IsContent, IsLoaded, IsRead, IsUnreadBy};
 ghost use Rattle.smap_pick.specs.Memory.{names_in};
 ghost use Rattle.smap_pick.specs.Opening.{IsMadeOf};
 ghost use Rattle.smap_pick.specs.PlaceView.{place_in};
@@ -37,6 +37,8 @@ pub enum MapFault {
     Link(String),
     /// It isn't accepted.
     Refused(Fault, Start),
+    /// The URLs of its sources take more than this many bytes, which are allowed.
+    UrlBytes(usize),
 }
 
 /// What a file gives for a map.
@@ -51,10 +53,12 @@ pub enum Loaded {
 /// What a file holds.
 #[derive(Drop)]
 pub enum Content {
-    /// What it gives for a map.
-    Loaded(Loaded),
+    /// Bytes, to be read as a map.
+    Bytes(Vec<u8>),
     /// The text of a script, which may name its map.
     Script(Vec<u8>),
+    /// It can't be read.
+    Unread(MapFault),
 }
 
 fn start_of(bytes: &[u8]) -> Start {
@@ -67,11 +71,17 @@ fn start_of(bytes: &[u8]) -> Start {
     }
 }
 
-/// The map that these bytes are, or what is wrong with them.
-pub(crate) fn loaded_from(alloc: Global, bytes: Vec<u8>, base: &[u8]) -> Result<Loaded, AllocError>
-    ensures { IfOk result (IsRead base.now bytes.items) }
+/// The map that these bytes are, the URLs of whose sources may take so many bytes, or what is wrong with
+/// them.
+pub(crate) fn loaded_from(
+    alloc: Global,
+    bytes: &[u8],
+    base: &[u8],
+    url_bytes: usize,
+) -> Result<Loaded, AllocError>
+    ensures { IfOk result (IsRead url_bytes base.now bytes.now) }
 {
-    let start = start_of(&bytes);
+    let start = start_of(bytes);
     let Ok(base) = std::str::from_utf8(base) else {
         return Ok(Loaded::Broken(MapFault::NotUtf8));
     };
@@ -80,8 +90,9 @@ pub(crate) fn loaded_from(alloc: Global, bytes: Vec<u8>, base: &[u8]) -> Result<
         Err(BaseFault::NotUrl) => return Ok(Loaded::Broken(MapFault::NotUrl)),
         Err(BaseFault::Memory) => return Err(AllocError),
     };
-    match SourceMap::from_vec(alloc, bytes, &base, Limits::usual()) {
-        Ok(map) => Ok(Loaded::Map(map)),
+    match SourceMap::from_slice_within(alloc, bytes, &base, Limits::usual(), url_bytes) {
+        Ok(Some((map, _))) => Ok(Loaded::Map(map)),
+        Ok(None) => Ok(Loaded::Broken(MapFault::UrlBytes(url_bytes))),
         Err(ReadError::Refused(fault)) => Ok(Loaded::Broken(MapFault::Refused(fault, start))),
         Err(ReadError::Memory) => Err(AllocError),
     }
@@ -100,27 +111,32 @@ pub struct FileStore<'a, D> {
     opened: Vec<Vec<u8>>,
 }
 
-/// What a file gives that isn't read.
-fn unread(fault: FileFault) -> Result<Loaded, AllocError>
-    ensures { IfOk result IsUnread }
+/// Why a file isn't read.
+fn unread(fault: FileFault) -> Result<MapFault, AllocError>
+    ensures { IfOk result IsUnreadBy }
 {
     match fault {
-        FileFault::TooLong => Ok(Loaded::Broken(MapFault::TooLong)),
-        FileFault::Read(_) => Ok(Loaded::Broken(MapFault::Unread)),
+        FileFault::TooLong => Ok(MapFault::TooLong),
+        FileFault::Read(_) => Ok(MapFault::Unread),
         FileFault::Memory => Err(AllocError),
     }
 }
 
 /// The map that a file is, whatever its name, or what is wrong with it.
-fn load_map<D: Disk>(alloc: Global, disk: &D, place: &Place) -> Result<Loaded, AllocError>
-    ensures { IfOk result (IsMadeOf IsLoaded (D.held disk.now) (place_in place.now)) }
+fn load_map<D: Disk>(
+    alloc: Global,
+    disk: &D,
+    place: &Place,
+    url_bytes: usize,
+) -> Result<Loaded, AllocError>
+    ensures { IfOk result (IsMadeOf (IsLoaded url_bytes) (D.held disk.now) (place_in place.now)) }
 {
     let Ok(file) = std::str::from_utf8(&place.file) else {
         return Ok(Loaded::Broken(MapFault::Unread));
     };
     match read_file(alloc, disk, file, LIMIT) {
-        Ok(bytes) => loaded_from(alloc, bytes, &place.base),
-        Err(fault) => unread(fault),
+        Ok(bytes) => loaded_from(alloc, &bytes, &place.base, url_bytes),
+        Err(fault) => Ok(Loaded::Broken(unread(fault)?)),
     }
 }
 
@@ -129,14 +145,14 @@ fn load<D: Disk>(alloc: Global, disk: &D, place: &Place) -> Result<Content, Allo
     ensures { IfOk result (IsMadeOf IsContent (D.held disk.now) (place_in place.now)) }
 {
     let Ok(file) = std::str::from_utf8(&place.file) else {
-        return Ok(Content::Loaded(Loaded::Broken(MapFault::Unread)));
+        return Ok(Content::Unread(MapFault::Unread));
     };
     match read_file(alloc, disk, file, LIMIT) {
         Ok(bytes) if may_name_map(&place.file) && disk.kind(file) == Kind::File => {
             Ok(Content::Script(bytes))
         }
-        Ok(bytes) => Ok(Content::Loaded(loaded_from(alloc, bytes, &place.base)?)),
-        Err(fault) => Ok(Content::Loaded(unread(fault)?)),
+        Ok(bytes) => Ok(Content::Bytes(bytes)),
+        Err(fault) => Ok(Content::Unread(unread(fault)?)),
     }
 }
 
@@ -166,14 +182,20 @@ impl<'a, D> FileStore<'a, D> {
     }
 
     /// Opens the file of a map, whatever its name.
-    pub(crate) fn open_map(&mut self, alloc: Global, place: &Place) -> Result<Loaded, AllocError>
+    pub(crate) fn open_map(
+        &mut self,
+        alloc: Global,
+        place: &Place,
+        url_bytes: usize,
+    ) -> Result<Loaded, AllocError>
     where
         D: Disk,
-        ensures loaded { IfOk result (IsMadeOf IsLoaded (D.held self.old.disk.now) (place_in place.now)) }
+        ensures loaded { IfOk result
+            (IsMadeOf (IsLoaded url_bytes) (D.held self.old.disk.now) (place_in place.now)) }
         ensures disk { self.new.disk ≡ self.old.disk }
     {
         self.note(alloc, &place.file)?;
-        load_map(alloc, self.disk, place)
+        load_map(alloc, self.disk, place, url_bytes)
     }
 }
 

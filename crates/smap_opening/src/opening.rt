@@ -37,6 +37,8 @@ pub struct Subject<'a> {
     pub root: Option<&'a Root>,
     /// Whether its base was given.
     pub has_base: bool,
+    /// How many bytes the URLs of its sources may take.
+    pub url_bytes: usize,
 }
 
 /// The same place, with texts of its own.
@@ -68,15 +70,15 @@ fn inline_loaded<E: Eprint + AllocGlobal, D: Disk>(
     subject: &Subject<'_>,
     bytes: Vec<u8>,
 ) -> Result<(Place, Loaded), Stop>
-    ensures { IfOk result (λ f. IsRead (within_base subject.now.has_base (place_in subject.now.place))
-        bytes.items f.1) }
+    ensures { IfOk result (λ f. IsRead subject.now.url_bytes
+        (within_base subject.now.has_base (place_in subject.now.place)) bytes.items f.1) }
 {
     let alloc = host.alloc();
     say_used(host, how, subject, "inline map")?;
     let base = inline_base(alloc, &subject.place.script)?;
     let mut own = copied(alloc, &subject.place)?;
     own.base = given_base(alloc, subject, base)?;
-    let loaded = loaded_from(alloc, bytes, &own.base)?;
+    let loaded = loaded_from(alloc, &bytes, &own.base, subject.url_bytes)?;
     Ok((own, loaded))
 }
 
@@ -88,13 +90,13 @@ fn itself_loaded<E: Eprint + AllocGlobal, D: Disk>(
     text: Vec<u8>,
 ) -> Result<Option<(Place, Loaded)>, Stop>
     ensures { IfOk result (λ found. MatchOption found (IsSome (folder_of subject.now.root))
-        (λ f. IsRead subject.now.place.base.items text.items f.1)) }
+        (λ f. IsRead subject.now.url_bytes subject.now.place.base.items text.items f.1)) }
 {
     let alloc = host.alloc();
     if subject.root.is_some() {
         return left_out(host, how, subject, "names no map");
     }
-    let loaded = loaded_from(alloc, text, &subject.place.base)?;
+    let loaded = loaded_from(alloc, &text, &subject.place.base, subject.url_bytes)?;
     Ok(Some((copied(alloc, &subject.place)?, loaded)))
 }
 
@@ -106,7 +108,7 @@ fn beside_loaded<E: Eprint + AllocGlobal, D: Disk>(
     subject: &Subject<'_>,
     found: Place,
 ) -> Result<(Place, Loaded), Stop>
-    ensures found { IfOk result (λ f. IsMadeOf IsLoaded (D.held store.old.disk.now)
+    ensures found { IfOk result (λ f. IsMadeOf (IsLoaded subject.now.url_bytes) (D.held store.old.disk.now)
         (with_base subject.now.has_base subject.now.place.base.items (place_in found)) f.1) }
     ensures held { D.held store.new.disk.now ≡ D.held store.old.disk.now }
 {
@@ -146,8 +148,8 @@ fn map_of_script<E: Eprint + AllocGlobal, D: Disk>(
     requires { IsHeld (D.held store.old.disk.now) subject.now.place.file.items text.items }
     ensures reached { IfOk result (λ found. MatchOption found
         (IsLeftOut (D.held store.old.disk.now) (folder_of subject.now.root) (place_in subject.now.place))
-        (λ f. IsReached (D.held store.old.disk.now) (folder_of subject.now.root) subject.now.has_base
-        (place_in subject.now.place) f.1)) }
+        (λ f. IsReached subject.now.url_bytes (D.held store.old.disk.now) (folder_of subject.now.root)
+        subject.now.has_base (place_in subject.now.place) f.1)) }
     ensures held { D.held store.new.disk.now ≡ D.held store.old.disk.now }
 {
     match follow(host, &subject.place, subject.root, &text)? {
@@ -168,7 +170,7 @@ fn open_found<D: Disk>(
     subject: &Subject<'_>,
     found: Place,
 ) -> Result<(Place, Loaded), Stop>
-    ensures found { IfOk result (λ f. IsMadeOf IsLoaded (D.held store.old.disk.now)
+    ensures found { IfOk result (λ f. IsMadeOf (IsLoaded subject.now.url_bytes) (D.held store.old.disk.now)
         (with_base subject.now.has_base subject.now.place.base.items (place_in found)) f.1) }
     ensures held { D.held store.new.disk.now ≡ D.held store.old.disk.now }
 {
@@ -177,7 +179,7 @@ fn open_found<D: Disk>(
         file: found.file,
         base: given_base(alloc, subject, found.base)?,
     };
-    let loaded = store.open_map(alloc, &found)?;
+    let loaded = store.open_map(alloc, &found, subject.url_bytes)?;
     Ok((found, loaded))
 }
 
@@ -230,10 +232,10 @@ pub fn settle_content<E: Eprint + AllocGlobal, D: Disk>(
 ) -> Result<Option<SourceMap>, Stop>
     requires { IsMadeOf IsContent (D.held store.old.disk.now) (place_in subject.now.place) content }
     ensures settled { IfOk result (λ found. MatchOption found
-        (GivesNone (D.held store.old.disk.now) (folder_of subject.now.root) subject.now.has_base
-        (place_in subject.now.place) worst.new)
-        (IsOpened (D.held store.old.disk.now) (folder_of subject.now.root) subject.now.has_base
-        (place_in subject.now.place))) }
+        (GivesNone subject.now.url_bytes (D.held store.old.disk.now) (folder_of subject.now.root)
+        subject.now.has_base (place_in subject.now.place) worst.new)
+        (IsOpened subject.now.url_bytes (D.held store.old.disk.now) (folder_of subject.now.root)
+        subject.now.has_base (place_in subject.now.place))) }
     ensures worst { worst.old ≤ worst.new }
     ensures held { D.held store.new.disk.now ≡ D.held store.old.disk.now }
 {
@@ -242,6 +244,11 @@ pub fn settle_content<E: Eprint + AllocGlobal, D: Disk>(
             Some((place, loaded)) => map_in(host, &place, loaded, worst),
             None => Ok(None),
         },
-        Content::Loaded(loaded) => map_in(host, &subject.place, loaded, worst),
+        Content::Bytes(bytes) => {
+            let base = &subject.place.base;
+            let loaded = loaded_from(host.alloc(), &bytes, base, subject.url_bytes)?;
+            map_in(host, &subject.place, loaded, worst)
+        }
+        Content::Unread(why) => map_in(host, &subject.place, Loaded::Broken(why), worst),
     }
 }

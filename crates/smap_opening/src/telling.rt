@@ -76,6 +76,13 @@ fn words_of(alloc: Global, place: &Place, fault: &MapFault) -> Result<(String, u
             let hint = hint(fault, *start, &place.file);
             Ok((format!(in alloc; "{fault}{hint}")?, 1))
         }
+        MapFault::UrlBytes(most) => {
+            let most = *most;
+            let text = format!(in alloc;
+                "the URLs of its sources take more than {most} bytes (--url-bytes allows more)"
+            )?;
+            Ok((text, 1))
+        }
     }
 }
 

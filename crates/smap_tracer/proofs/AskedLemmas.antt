@@ -1,7 +1,7 @@
 -- Names that logs have, and files that are opened for these.
 use Rattle.std.proofs.Common.{◌≡◌, ◌∙◌, ap, sym, subst, refl, ℕ, ◌<◌, inl, inr, Bool, true, false, cond, List}
 use Rattle.std.proofs.Common.{[], ◌∷◌, ◌++◌, map, length, flat_map, bytes_eq, get_or, not, Bor, append_assoc}
-use Rattle.std.proofs.Common.{append-nil, arith, Option, Some, None, option_map}
+use Rattle.std.proofs.Common.{append-nil, arith, filter, Option, Some, None, option_map}
 use Rattle.std.specs.Prelude.{◌⊎◌}
 use Rattle.std.specs.Io.KnownBytes.{Consumes, prepend_known}
 use Rattle.std.specs.List.{Contains, list_any, onto_first, slice_split}
@@ -281,6 +281,12 @@ both_kept held w names others old middle new keep then asked all before = then a
     (λ n has. All-contains (Contains asked) (names ++ others) n all
     (Contains-append_right names others n has)) others
     (All-contains_itself others)) (first_kept held w names others old middle keep asked all before)
+
+-- not all of these names were looked for
+pub fewer_kept : (held : Held) (w : Wanted) (sought : List ℕ → Bool) (names : List (List ℕ))
+    (old new : Choices) → KeepEnds held w (filter sought names) old new → KeepEnds held w names old new
+fewer_kept held w sought names old new keep asked all =
+    keep asked (All-filter sought (Contains asked) names all)
 
 pub same_ends : (held : Held) (w : Wanted) (asked : Option (List (List ℕ))) (old new : Choices)
     → new.ends ≡ old.ends → AreEndsAmong held w asked old → AreEndsAmong held w asked new

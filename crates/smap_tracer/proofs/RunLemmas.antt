@@ -1,16 +1,33 @@
 -- What a run answers to its words.
 use Rattle.std.proofs.Common.{◌≡◌, ◌∙◌, ◌==◌, [], ◌∷◌, Bor, false, length, map, subst, ℕ, List, Option, None}
-use Rattle.std.proofs.Common.{Result, Ok, Err, OnOk}
+use Rattle.std.proofs.Common.{Result, Ok, Err, OnOk, inl, inr}
+use Rattle.std.specs.Prelude.{⊤}
 use Rattle.smap_disk.specs.Held.{Held}
 use Rattle.smap_disk.specs.Tree.{Told}
 use Rattle.smap_arguments.specs.declared.wanted.Wanted.{Wanted}
 use Rattle.smap_tracer.specs.Runs.{AreFound, IsAnswered, IsJobOf, IsTracedAsked, IsTracedJob, IsTracedRun}
-use Rattle.smap_tracer.specs.Written.{AreTraced}
+use Rattle.smap_tracer.specs.Runs.{IsTracedRedirected}
+use Rattle.smap_tracer.specs.Written.{AreTraced, IsTracedFront, IsTracedTextIn}
+use Rattle.smap_tracer.specs.declared.program.TheConstants.{STDIN}
 use Rattle.smap_tracer.specs.declared.program.InputKind.{InputKind}
 use Rattle.smap_tracer.specs.declared.tracing.Job.{Job}
 use Rattle.smap_words.specs.Request.{IsAsked}
 use Rattle.smap_words.specs.declared.request.Asked.{Asked}
 use Rattle.smap_words.specs.declared.request.TraceWords.{TraceWords}
+
+-- standard input that is a file, as far as it went
+pub to_its_size : {A E : Type 0} (held : Held) (job : Job) (left before after : Option (List ℕ))
+    (result : Result A E) → OnOk result (IsTracedFront held job STDIN.now left before after)
+    → OnOk result (IsTracedRedirected held job left before after)
+to_its_size held job left before after (Ok a) is = inl is
+to_its_size held job left before after (Err e) is = tt
+
+-- and to its end
+pub to_its_end : {A E : Type 0} (held : Held) (job : Job) (left before after : Option (List ℕ))
+    (result : Result A E) → OnOk result (IsTracedTextIn held job (λ name. ⊤) left before after)
+    → OnOk result (IsTracedRedirected held job left before after)
+to_its_end held job left before after (Ok a) is = inr is
+to_its_end held job left before after (Err e) is = tt
 
 pub traced_asked : {A E : Type 0} (held : Held) (asked : TraceWords) (wanted : Wanted) (job : Job)
     (kind : InputKind)

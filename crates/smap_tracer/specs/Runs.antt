@@ -1,5 +1,5 @@
 -- What a run writes of its logs.
-use Rattle.std.specs.Prelude.{◌≡◌, ℕ, false, List, [], ◌∷◌, map, ⊤, Option, None}
+use Rattle.std.specs.Prelude.{◌≡◌, ◌⊎◌, ℕ, false, List, [], ◌∷◌, map, ⊤, Option, None}
 use Rattle.std.specs.Borrow.{Bor}
 use Rattle.std.specs.Io.KnownBytes.{Appends}
 use Rattle.smap_disk.specs.Held.{Held}
@@ -18,10 +18,16 @@ use Rattle.smap_words.specs.declared.request.Asked.TheVariants.{Help, Trace, Ver
 use Rattle.smap_words.specs.declared.request.TraceWords.{TraceWords}
 use Rattle.smap_words.specs.declared.values.Prefix.{Prefix}
 
--- Standard input was translated and written to its end, or as far as it went if it is a file.
+-- Standard input that is a file was translated and written as far as it went, if it can be read from its
+-- beginning as well, or else to its end.
+abbrev pub IsTracedRedirected : Held → Job → Option (List ℕ) → Option (List ℕ) → Option (List ℕ) → Type 0
+IsTracedRedirected held job left before after =
+    IsTracedFront held job STDIN.now left before after ⊎ IsTracedTextIn held job (λ name. ⊤) left before after
+
+-- Standard input was translated and written so, or, if it is none, to its end.
 abbrev pub IsTracedInput : Held → Job → InputKind → Option (List ℕ) → Option (List ℕ) → Option (List ℕ)
     → Type 0
-IsTracedInput held job File left before after = IsTracedFront held job STDIN.now left before after
+IsTracedInput held job File left before after = IsTracedRedirected held job left before after
 IsTracedInput held job Closed left before after = IsTracedTextIn held job (λ name. ⊤) left before after
 IsTracedInput held job Terminal left before after = IsTracedTextIn held job (λ name. ⊤) left before after
 IsTracedInput held job Other left before after = IsTracedTextIn held job (λ name. ⊤) left before after
@@ -58,11 +64,13 @@ pub record IsJobOf (asked : TraceWords) (job : Job) : Type 0 where
   pub context : job.style.context ≡ asked.context
   pub prefixes : pairs_of job.style.prefixes.now ≡ prefixes_of asked.prefixes.items
 
--- These are the maps and logs that the arguments of these words name, one map for each script.
+-- These are the maps and logs that the arguments of these words name, one map for each script, and the URLs
+-- of a map's sources may take as many bytes as the words say.
 pub record AreFound (told : Told) (held : Held) (asked : TraceWords) (wanted : Wanted) : Type 0 where
   pub named : Wanted
   pub names : NamesAll told held asked.arguments.items no_lists (lists_of named)
   pub settled : IsSettled named wanted
+  pub url_bytes : wanted.url_bytes ≡ asked.url_bytes
 
 -- What is wanted was translated and written by a run that does what these words ask for.
 pub record IsTracedAsked (held : Held) (wanted : Wanted) (asked : TraceWords) (kind : InputKind)

@@ -1,6 +1,6 @@
 //! Lines translated with what `--source-prefix` and `--context` ask for. Each position is translated by
 //! itself, as the translation of the whole line has it, so that its URL is known.
-ghost use Rattle.std.specs.Prelude.{◌≡◌};
+ghost use Rattle.std.specs.Prelude.{◌≡◌, ◌≤◌, length};
 ghost use Rattle.smap_trace.specs.Translation.{AreDistinct};
 ghost use Rattle.smap_trace.specs.Views.{scripts_in};
 ghost use Rattle.smap_tracer.specs.Written.{is_plain_style};
@@ -32,11 +32,11 @@ impl Style<'_> {
     }
 }
 
-/// Translates these lines.
+/// Translates these lines. Where positions are found anywhere, these are all scripts; a frame names its own.
 pub(crate) fn decorate(
     alloc: Global,
     lines: &[u8],
-    scripts: &Scripts<'_>,
+    scripts: Option<&Scripts<'_>>,
     chosen: &Chosen,
     style: &Style<'_>,
     out: &mut Vec<u8>,
@@ -61,7 +61,7 @@ pub(crate) fn decorate(
 fn decorate_line(
     alloc: Global,
     line: &[u8],
-    scripts: &Scripts<'_>,
+    scripts: Option<&Scripts<'_>>,
     chosen: &Chosen,
     style: &Style<'_>,
     out: &mut Vec<u8>,
@@ -71,7 +71,12 @@ fn decorate_line(
         None => (line, b"".as_slice()),
     };
     let mut plain = Vec::new(alloc);
-    let outcome = translated_line(text, &scripts.list, style.mode, style.hide, &mut plain)?;
+    let outcome = match scripts {
+        Some(scripts) => {
+            translated_line(text, &scripts.list, style.mode, style.hide, &mut plain)?
+        }
+        None => translated_frame(text, chosen, style, &mut plain)?,
+    };
     match outcome {
         LineOutcome::Dropped => {}
         LineOutcome::Kept => {
@@ -103,6 +108,29 @@ fn translated_line(
     }
 }
 
+/// The script with this name, if it has a map.
+fn script_of<'a>(name: &'a [u8], chosen: &'a Chosen) -> Option<(&'a str, &'a SourceMap)> {
+    let name = std::str::from_utf8(name).ok()?;
+    Some((name, chosen.map_of(name.as_bytes())?))
+}
+
+/// Translates a line by the script of its frame alone, however many there are.
+fn translated_frame(
+    line: &[u8],
+    chosen: &Chosen,
+    style: &Style<'_>,
+    out: &mut Vec<u8>,
+) -> Result<LineOutcome, AllocError> {
+    let Some(f) = frame(line) else {
+        return Ok(LineOutcome::Kept);
+    };
+    let Some(script) = script_of(f.url, chosen) else {
+        return Ok(LineOutcome::Kept);
+    };
+    let scripts = [script];
+    translated_line(line, scripts.as_slice(), style.mode, style.hide, out)
+}
+
 /// Where the positions of the line are whose scripts have maps, from left to right.
 fn spans_of(
     alloc: Global,
@@ -128,7 +156,20 @@ fn spans_of(
     Ok(spans)
 }
 
-/// Adds a position behind those that are there; of several with one end that with the longest name.
+/// How many of these positions, from the left, begin before this place.
+fn count_before(spans: &[Span], place: usize) -> usize
+    ensures { result ≤ length spans.now }
+{
+    for i in (0..spans.len()).rev() {
+        if spans[i].start < place {
+            return i + 1;
+        }
+    }
+    0
+}
+
+/// Adds a position that ends no earlier than those that are there. Of several that overlap, that one counts
+/// which begins first, and of those that begin there the longest.
 fn add_span(
     line: &[u8],
     span: Span,
@@ -141,13 +182,11 @@ fn add_span(
     if chosen.map_of(name).is_none() {
         return Ok(());
     }
-    if let Some(last) = spans.last().copied() {
-        if last.end == span.end && span.start < last.start {
-            let _ = spans.pop();
-        } else if span.start < last.end {
-            return Ok(());
-        }
+    let kept = count_before(spans, span.start);
+    if kept > 0 && span.start < spans[kept - 1].end {
+        return Ok(());
     }
+    spans.truncate(kept);
     spans.push(span)?;
     Ok(())
 }
@@ -184,10 +223,10 @@ fn piece_of(
     ) else {
         return Ok(None);
     };
-    let (Ok(name), Some(map)) = (std::str::from_utf8(name), chosen.map_of(name)) else {
+    let Some(script) = script_of(name, chosen) else {
         return Ok(None);
     };
-    let scripts = [(name, map)];
+    let scripts = [script];
     let mode = MatchMode {
         anywhere: true,
         ignore_query: false,

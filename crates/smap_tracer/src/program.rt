@@ -4,7 +4,7 @@ ghost use Rattle.smap_finder.specs.ChosenView.{AreChosen, IsOver, choices_of};
 ghost use Rattle.smap_logs.specs.Naming.{names_of};
 ghost use Rattle.smap_tracer.specs.OutputView.{contents_of};
 ghost use Rattle.smap_tracer.specs.Runs.{AreFound, IsAnswered, IsJobOf, IsTracedAsked, IsTracedInput};
-ghost use Rattle.smap_tracer.specs.Runs.{IsTracedJob};
+ghost use Rattle.smap_tracer.specs.Runs.{IsTracedJob, IsTracedRedirected};
 ghost use Rattle.smap_tracer.specs.Runs.{pairs_of, prefixes_of};
 ghost use Rattle.smap_tracer.specs.Written.{AreNamed};
 ghost use Rattle.smap_words.specs.Request.{IsAsked};
@@ -12,6 +12,7 @@ ghost use Rattle.smap_words.specs.Request.{IsAsked};
 use crate::decorating::Style;
 use crate::listing::{Listed, hint_at_list, list_log, list_text};
 use crate::output::Output;
+use crate::scripts::with_controls;
 use crate::tracing::{
     Job, State, new_state, open_names, say_nothing, trace_files, trace_input, trace_stream,
     trace_streams,
@@ -57,6 +58,39 @@ fn are_files<D: Disk>(disk: &D, paths: &[&str]) -> bool {
     !paths.is_empty()
 }
 
+/// Whether standard input, which is a file, can be read from its beginning by its name: it may be opened so,
+/// and says how long it is. The kernel says 0 of files of its own that aren't empty, as of those of `/proc`.
+fn has_name<D: Disk>(disk: &D) -> bool {
+    match disk.size(STDIN) {
+        Ok(size) => size > 0 && disk.open(STDIN).is_ok(),
+        Err(_) => false,
+    }
+}
+
+/// Translates standard input that is a file.
+fn trace_redirected<E: Eprint + AllocGlobal, D: Disk, I: Read, W: Write + Drop>(
+    host: &Host<'_, E, D>,
+    job: &Job<'_>,
+    opener: &mut Opener<'_, D>,
+    reader: I,
+    state: &mut State,
+    output: &mut Output<W>,
+) -> Result<(), Stop>
+where
+    I: Drop,
+    requires logs { job.now.wanted.logs.items ≡ [] }
+    requires none { names_of state.old.names ≡ [] }
+    requires named { AreNamed (D.held host.now.disk.now) job.now state.old.chosen }
+    requires over { IsOver D.held (D.held host.now.disk.now) job.now.wanted opener.old }
+    ensures { OnOk result (IsTracedRedirected (D.held host.now.disk.now) job.now (I.remaining reader)
+        (contents_of W.contents output.old) (contents_of W.contents output.new)) }
+{
+    if has_name(host.disk) {
+        return trace_input(host, job, opener, STDIN, reader, state, output);
+    }
+    trace_stream(host, job, opener, reader, state, output)
+}
+
 /// Translates standard input.
 fn trace_standard<E: Eprint + AllocGlobal, D: Disk, I: Read, W: Write + Drop>(
     host: &Host<'_, E, D>,
@@ -77,7 +111,7 @@ where
 {
     let Input { reader, kind } = input;
     match kind {
-        InputKind::File => trace_input(host, job, opener, STDIN, reader, state, output),
+        InputKind::File => trace_redirected(host, job, opener, reader, state, output),
         InputKind::Closed | InputKind::Terminal | InputKind::Other => {
             trace_stream(host, job, opener, reader, state, output)
         }
@@ -262,7 +296,7 @@ where
     }
     let (beside, writer) = match create_beside(host.alloc(), host.disk, file) {
         Ok(made) => made,
-        Err(error) => return Err(host.fail_writing(&error)),
+        Err(fault) => return Err(host.fail_writing(&fault.into_error())),
     };
     let mut output = Output::new(writer);
     let answer = run_with(host, job, input, &mut output);
@@ -289,6 +323,7 @@ fn found<'a, E: Eprint + AllocGlobal, D: Disk>(
 {
     let mut wanted = wanted_by(host, &asked.arguments)?;
     settle(host, asked.skip_broken, &mut wanted)?;
+    wanted.url_bytes = asked.url_bytes;
     if wanted.is_empty() && !asked.list {
         return Err(host.fail(
             2,
@@ -303,6 +338,7 @@ fn found<'a, E: Eprint + AllocGlobal, D: Disk>(
 fn job_of<'a>(
     asked: &TraceWords<'a>,
     wanted: Wanted<'a>,
+    with_controls: Vec<Vec<u8>>,
     prefixes: &'a [(&'a str, &'a str)],
 ) -> Job<'a>
     requires { pairs_of prefixes.now ≡ prefixes_of asked.now.prefixes.items }
@@ -314,6 +350,7 @@ fn job_of<'a>(
         list: asked.list,
         check_all: asked.check_all,
         wanted,
+        with_controls,
         how: How {
             skip: asked.skip_broken,
             verbose: asked.verbose,
@@ -345,7 +382,8 @@ where
         (I.remaining input.reader) (contents_of W.contents output.old) (contents_of W.contents output.new)) }
 {
     let prefixes = prefixes(host.alloc(), &asked.prefixes)?;
-    let job = job_of(asked, wanted, &prefixes);
+    let with_controls = with_controls(host.alloc(), &wanted)?;
+    let job = job_of(asked, wanted, with_controls, &prefixes);
     match asked.output {
         Some(file) => run_to_file(host, &job, input, file),
         None => run_with(host, &job, input, output),

@@ -6,9 +6,11 @@ ghost use Rattle.smap_trace.specs.Translation.{AreDistinct};
 ghost use Rattle.smap_trace.specs.Views.{scripts_in};
 ghost use Rattle.smap_tracer.specs.Written.{AreAll, HasMapOf};
 
+use smap_arguments::Wanted;
 use smap_finder::Chosen;
 use smap_host::Stop;
 use smap_link::{ChoiceFault, choose};
+use smap_logs::has_control;
 use smap_record::SourceMap;
 use std::alloc::{AllocError, Global};
 
@@ -60,4 +62,18 @@ pub(crate) fn scripts_of(alloc: Global, chosen: &Chosen) -> Result<Scripts<'_>, 
         Some(scripts) => Ok(scripts),
         None => Err(Stop::Memory),
     }
+}
+
+/// The scripts that are given by names with control characters.
+pub(crate) fn with_controls(
+    alloc: Global,
+    wanted: &Wanted<'_>,
+) -> Result<Vec<Vec<u8>>, AllocError> {
+    let mut names = Vec::new(alloc);
+    for place in &wanted.places {
+        if has_control(&place.script) {
+            names.push(Vec::from_slice(alloc, &place.script)?)?;
+        }
+    }
+    Ok(names)
 }

@@ -34,6 +34,8 @@ pub(crate) struct Job<'a> {
     pub(crate) list: bool,
     pub(crate) check_all: bool,
     pub(crate) wanted: Wanted<'a>,
+    /// The scripts that are given by names with control characters.
+    pub(crate) with_controls: Vec<Vec<u8>>,
     pub(crate) how: How,
     pub(crate) style: Style<'a>,
 }
@@ -84,7 +86,7 @@ pub(crate) fn open_names<E: Eprint + AllocGlobal, D: Disk>(
     let (how, wanted) = (job.how, &job.wanted);
     let frames = names.of_frames(alloc)?;
     open_for(host, opener, how, wanted, true, frames.as_slice(), chosen)?;
-    let others = names.of_others(alloc)?;
+    let others = names.of_others(alloc, &job.with_controls)?;
     open_for(host, opener, how, wanted, false, others.as_slice(), chosen)
 }
 
@@ -344,6 +346,10 @@ pub(crate) fn trace_files<E: Eprint + AllocGlobal, D: Disk, W: Write + Drop>(
         (contents_of W.contents output.new)) }
 {
     let sizes = open_files(host, job, opener, paths, state)?;
+    if sizes.contains(&0) {
+        // The kernel says 0 of files of its own that aren't empty, such as those of /proc.
+        return follow_paths(host, job, opener, paths, state, output);
+    }
     translate_files(host, job, paths, &sizes, state, output)
 }
 
@@ -404,8 +410,8 @@ fn follow_path<E: Eprint + AllocGlobal, D: Disk, W: Write + Drop>(
     }
 }
 
-/// Translates logs of which one can be read only once.
-pub(crate) fn trace_streams<E: Eprint + AllocGlobal, D: Disk, W: Write + Drop>(
+/// Translates logs with these names that are read once, one after another.
+fn follow_paths<E: Eprint + AllocGlobal, D: Disk, W: Write + Drop>(
     host: &Host<'_, E, D>,
     job: &Job<'_>,
     opener: &mut Opener<'_, D>,
@@ -423,6 +429,26 @@ pub(crate) fn trace_streams<E: Eprint + AllocGlobal, D: Disk, W: Write + Drop>(
     for path in paths {
         follow_path(host, job, opener, path, state, output)?;
     }
+    Ok(())
+}
+
+/// Translates logs of which one can be read only once.
+pub(crate) fn trace_streams<E: Eprint + AllocGlobal, D: Disk, W: Write + Drop>(
+    host: &Host<'_, E, D>,
+    job: &Job<'_>,
+    opener: &mut Opener<'_, D>,
+    paths: &[&str],
+    state: &mut State,
+    output: &mut Output<W>,
+) -> Result<(), Stop>
+    requires logs { AreLogs (D.held host.now.disk.now) job.now paths.now }
+    requires named { AreNamed (D.held host.now.disk.now) job.now state.old.chosen }
+    requires over { IsOver D.held (D.held host.now.disk.now) job.now.wanted opener.old }
+    ensures { OnOk result (AreTraced (D.held host.now.disk.now) job.now
+        (map (λ p. p.now) paths.now) (contents_of W.contents output.old)
+        (contents_of W.contents output.new)) }
+{
+    follow_paths(host, job, opener, paths, state, output)?;
     tell_count(host, job.how, &job.wanted, &state.chosen)
 }
 

@@ -100,12 +100,17 @@ pub(crate) fn translate_lines<E: Eprint + AllocGlobal, D: Disk, W: Write + Drop>
         (contents_of W.contents output.old) (contents_of W.contents output.new)) }
 {
     let alloc = host.alloc();
-    let scripts = scripts_of(alloc, chosen)?;
     if style.is_plain() {
+        let scripts = scripts_of(alloc, chosen)?;
         return translate_all(host, lines, &scripts, style, output, tally);
     }
+    let scripts = if style.mode.anywhere {
+        Some(scripts_of(alloc, chosen)?)
+    } else {
+        None
+    };
     let mut out = Vec::new(alloc);
-    let counts = decorate(alloc, lines, &scripts, chosen, style, &mut out)?;
+    let counts = decorate(alloc, lines, scripts.as_ref(), chosen, style, &mut out)?;
     output.write(host, &out)?;
     tally.add(counts);
     tally.ends_within_line = !lines.ends_with(b"\n");

@@ -4,3 +4,4 @@ pub mod ReadingLemmas
 pub mod RequestLemmas
 pub mod SplitLemmas
 mod Examples
+mod LimitLemmas

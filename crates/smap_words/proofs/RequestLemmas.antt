@@ -12,8 +12,8 @@ use Rattle.clap.specs.declared.error.kind.ErrorKind.TheVariants as kind
 use Rattle.smap_words.specs.Line.{trace}
 use Rattle.smap_words.specs.Readings.{IsArgumentAt, IsPrefixAt, is_argument, is_prefix}
 use Rattle.smap_words.specs.Request.{Answers, Asks, ContextPasses, Fails, IsArgumentFault, IsAsked, IsFault}
-use Rattle.smap_words.specs.Request.{IsPrefixFault, OutputPasses, PrefixesPass, arguments_of, asks_nothing}
-use Rattle.smap_words.specs.Request.{prefixes_of}
+use Rattle.smap_words.specs.Request.{IsPrefixFault, OutputPasses, PrefixesPass, UrlBytesPass, arguments_of}
+use Rattle.smap_words.specs.Request.{asks_nothing, prefixes_of}
 use Rattle.smap_matches.specs.Rows.{is_set}
 use Rattle.smap_words.specs.declared.request.Asked.{Asked}
 use Rattle.smap_words.specs.declared.request.Asked.TheVariants.{Help, Trace, Version}
@@ -23,30 +23,34 @@ use Rattle.smap_words.specs.declared.fault.WordFault.{WordFault}
 use Rattle.smap_words.specs.declared.fault.WordFault.TheVariants as fault
 
 pub prefix_fails : (rows : List Row) (texts : List Text) (e : WordFault) → texts ≡ prefixes_of rows
-    → OutputPasses rows → ContextPasses rows → IsPrefixFault texts e → Fails rows e
-prefix_fails rows texts fault.Memory is output context h = tt
-prefix_fails rows texts (fault.Refused e) is output context h = absurd h
-prefix_fails rows texts fault.Output is output context h = absurd h
-prefix_fails rows texts (fault.Context word) is output context h = absurd h
-prefix_fails rows texts (fault.Prefix place word) is output context h =
-    (output, context, subst (λ (ts : List Text). IsPrefixFault ts (fault.Prefix place word)) is h)
-prefix_fails rows texts (fault.Argument place word why) is output context h = absurd h
-prefix_fails rows texts fault.Nothing is output context h = absurd h
+    → OutputPasses rows → ContextPasses rows → UrlBytesPass rows → IsPrefixFault texts e → Fails rows e
+prefix_fails rows texts fault.Memory is output context bytes h = tt
+prefix_fails rows texts (fault.Refused e) is output context bytes h = absurd h
+prefix_fails rows texts fault.Output is output context bytes h = absurd h
+prefix_fails rows texts (fault.Context word) is output context bytes h = absurd h
+prefix_fails rows texts (fault.UrlBytes word) is output context bytes h = absurd h
+prefix_fails rows texts (fault.Prefix place word) is output context bytes h =
+    (output, context, bytes, subst (λ (ts : List Text). IsPrefixFault ts (fault.Prefix place word)) is h)
+prefix_fails rows texts (fault.Argument place word why) is output context bytes h = absurd h
+prefix_fails rows texts fault.Nothing is output context bytes h = absurd h
 
 pub argument_fails : (rows : List Row) (texts : List Text) (e : WordFault) → texts ≡ arguments_of rows
-    → OutputPasses rows → ContextPasses rows → PrefixesPass rows → IsArgumentFault texts e → Fails rows e
-argument_fails rows texts fault.Memory is output context prefixes h = tt
-argument_fails rows texts (fault.Refused e) is output context prefixes h = absurd h
-argument_fails rows texts fault.Output is output context prefixes h = absurd h
-argument_fails rows texts (fault.Context word) is output context prefixes h = absurd h
-argument_fails rows texts (fault.Prefix place word) is output context prefixes h = absurd h
-argument_fails rows texts (fault.Argument place word why) is output context prefixes h = (
+    → OutputPasses rows → ContextPasses rows → UrlBytesPass rows → PrefixesPass rows → IsArgumentFault texts e
+    → Fails rows e
+argument_fails rows texts fault.Memory is output context bytes prefixes h = tt
+argument_fails rows texts (fault.Refused e) is output context bytes prefixes h = absurd h
+argument_fails rows texts fault.Output is output context bytes prefixes h = absurd h
+argument_fails rows texts (fault.Context word) is output context bytes prefixes h = absurd h
+argument_fails rows texts (fault.UrlBytes word) is output context bytes prefixes h = absurd h
+argument_fails rows texts (fault.Prefix place word) is output context bytes prefixes h = absurd h
+argument_fails rows texts (fault.Argument place word why) is output context bytes prefixes h = (
   output,
   context,
+  bytes,
   prefixes,
   subst (λ (ts : List Text). IsArgumentFault ts (fault.Argument place word why)) is h,
 )
-argument_fails rows texts fault.Nothing is output context prefixes h = absurd h
+argument_fails rows texts fault.Nothing is output context bytes prefixes h = absurd h
 
 -- a fault of what `clap` has matched is one of the words
 pub fault_told : (words : List Text) (rows : List Row) (e : WordFault) → fault_of trace words ≡ []
@@ -56,6 +60,8 @@ fault_told words rows (fault.Refused e) none is h = absurd h
 fault_told words rows fault.Output none is h = (none, subst (λ (r : List Row). Fails r fault.Output) is h)
 fault_told words rows (fault.Context word) none is h =
     (none, subst (λ (r : List Row). Fails r (fault.Context word)) is h)
+fault_told words rows (fault.UrlBytes word) none is h =
+    (none, subst (λ (r : List Row). Fails r (fault.UrlBytes word)) is h)
 fault_told words rows (fault.Prefix place word) none is h =
     (none, subst (λ (r : List Row). Fails r (fault.Prefix place word)) is h)
 fault_told words rows (fault.Argument place word why) none is h =
@@ -75,6 +81,7 @@ prefix_fault texts i t fault.Memory lt at passed h = tt
 prefix_fault texts i t (fault.Refused e) lt at passed h = absurd h
 prefix_fault texts i t fault.Output lt at passed h = absurd h
 prefix_fault texts i t (fault.Context word) lt at passed h = absurd h
+prefix_fault texts i t (fault.UrlBytes word) lt at passed h = absurd h
 prefix_fault texts i t (fault.Prefix place word) lt at passed h =
     rw (h.0, h.1) (first_failing is_prefix texts i t lt at h.2 passed)
 prefix_fault texts i t (fault.Argument place word why) lt at passed h = absurd h
@@ -87,6 +94,7 @@ argument_fault_told texts i t fault.Memory lt at passed h = tt
 argument_fault_told texts i t (fault.Refused e) lt at passed h = absurd h
 argument_fault_told texts i t fault.Output lt at passed h = absurd h
 argument_fault_told texts i t (fault.Context word) lt at passed h = absurd h
+argument_fault_told texts i t (fault.UrlBytes word) lt at passed h = absurd h
 argument_fault_told texts i t (fault.Prefix place word) lt at passed h = absurd h
 argument_fault_told texts i t (fault.Argument place word why) lt at passed h =
     rw (h.0, h.1) (first_failing is_argument texts i t lt at h.2 passed, h.3)
@@ -131,6 +139,7 @@ answered_err words e (Err (fault.Refused x)) (inr among) h = (
 )
 answered_err words e (Err fault.Output) has h = absurd h
 answered_err words e (Err (fault.Context word)) has h = absurd h
+answered_err words e (Err (fault.UrlBytes word)) has h = absurd h
 answered_err words e (Err (fault.Prefix place word)) has h = absurd h
 answered_err words e (Err (fault.Argument place word why)) has h = absurd h
 answered_err words e (Err fault.Nothing) has h = absurd h

@@ -23,6 +23,9 @@ output_rule = record (new_rule (codes "output")) { short = Some 111; value_names
 abbrev pub context_rule : Rule
 context_rule = option_named (codes "context")
 
+abbrev pub url_bytes_rule : Rule
+url_bytes_rule = option_named (codes "url-bytes")
+
 -- an option that may be given more than once
 abbrev pub prefix_rule : Rule
 prefix_rule = record (option_named (codes "source-prefix")) { action = Some Append }
@@ -49,7 +52,8 @@ with_map_flags a = with_rule (with_rule (with_rule a (flag (codes "skip-broken")
     (flag (codes "check-all"))) (flag (codes "list"))
 
 abbrev pub with_options : App → App
-with_options a = with_rule (with_rule (with_rule a verbose_rule) output_rule) context_rule
+with_options a = with_rule (with_rule (with_rule (with_rule a verbose_rule) output_rule) context_rule)
+    url_bytes_rule
 
 abbrev pub with_lists : App → App
 with_lists a = with_rule (with_rule a prefix_rule) argument_rule

@@ -4,6 +4,7 @@ use Rattle.std.specs.Prelude.{Option, Some, None, is_none, nat_lt, slice_get, if
 use Rattle.std.specs.List.{after_first, before_first, list_all, position_or_len}
 use Rattle.std.specs.Str.Parse.{IsNumeral, digits_value, without_leading_plus}
 use Rattle.clap.specs.Words.{Text}
+use Rattle.smap_words.specs.Limits.{most_url_bytes}
 use Rattle.smap_words.specs.Urls.{can_be_url, is_nothing}
 use Rattle.smap_words.specs.declared.argument.Argument.{Argument}
 use Rattle.smap_words.specs.declared.argument.Argument.TheVariants.{Place, Path}
@@ -33,15 +34,20 @@ abbrev pub is_named : Option Text → Bool
 is_named None = true
 is_named (Some name) = not (is_nothing name)
 
+-- ---- numbers
+
+-- decimal digits, after a plus sign or without, of a number that so many bits hold
+abbrev pub IsNumber : ℕ → Text → Type 0
+IsNumber bits text =
+    IsNumeral 10 (without_leading_plus text) × (digits_value 10 (without_leading_plus text) < 2 ^ bits)
+
+abbrev pub number_in : Text → ℕ
+number_in text = digits_value 10 (without_leading_plus text)
+
 -- ---- how many lines of context
 
--- decimal digits, after a plus sign or without, of a number that 32 bits hold
 abbrev pub IsCount : Text → Type 0
-IsCount text =
-    IsNumeral 10 (without_leading_plus text) × (digits_value 10 (without_leading_plus text) < 2 ^ 32)
-
-abbrev pub count_in : Text → ℕ
-count_in text = digits_value 10 (without_leading_plus text)
+IsCount text = IsNumber 32 text
 
 -- The option isn't given, or its value is a count.
 abbrev pub HasCount : Option Text → Type 0
@@ -50,8 +56,22 @@ HasCount (Some text) = IsCount text
 
 abbrev pub IsCountOf : Option Text → Option ℕ → Type 0
 IsCountOf None None = Unit {0}
-IsCountOf (Some text) (Some n) = n ≡ count_in text
+IsCountOf (Some text) (Some n) = n ≡ number_in text
 IsCountOf given n = ⊥
+
+-- ---- how many bytes the URLs of a map's sources may take
+
+abbrev pub IsSize : Text → Type 0
+IsSize text = IsNumber 64 text
+
+-- The option isn't given, or its value is a size.
+abbrev pub HasSize : Option Text → Type 0
+HasSize None = Unit {0}
+HasSize (Some text) = IsSize text
+
+abbrev pub url_bytes_in : Option Text → ℕ
+url_bytes_in None = most_url_bytes
+url_bytes_in (Some text) = number_in text
 
 -- ---- a prefix of source URLs: FROM=TO, of which TO may be empty and may hold a `=`
 

@@ -6,7 +6,8 @@ use Rattle.clap.specs.Words.{IsAmong, Row, Text, fault_of, first_of, kind_of, ma
 use Rattle.clap.specs.declared.error.kind.ErrorKind.{ErrorKind}
 use Rattle.clap.specs.declared.error.kind.ErrorKind.TheVariants as kind
 use Rattle.smap_words.specs.Line.{trace}
-use Rattle.smap_words.specs.Readings.{HasCount, IsCount, IsCountOf, IsFirstFailing, argument_fault}
+use Rattle.smap_words.specs.Readings.{HasCount, HasSize, IsCount, IsCountOf, IsFirstFailing, IsSize}
+use Rattle.smap_words.specs.Readings.{argument_fault, url_bytes_in}
 use Rattle.smap_words.specs.Readings.{argument_meant, argument_view, is_argument, is_named}
 use Rattle.smap_words.specs.Readings.{is_prefix, prefix_meant, prefix_view}
 use Rattle.smap_matches.specs.Rows.{is_set, values_of}
@@ -24,6 +25,9 @@ output_of rows = first_of (codes "output") rows
 abbrev pub context_of : List Row → Option Text
 context_of rows = first_of (codes "context") rows
 
+abbrev pub url_bytes_of : List Row → Option Text
+url_bytes_of rows = first_of (codes "url-bytes") rows
+
 abbrev pub prefixes_of : List Row → List Text
 prefixes_of rows = values_of (codes "source-prefix") rows
 
@@ -35,6 +39,9 @@ OutputPasses rows = is_named (output_of rows) ≡ true
 
 abbrev pub ContextPasses : List Row → Type 0
 ContextPasses rows = HasCount (context_of rows)
+
+abbrev pub UrlBytesPass : List Row → Type 0
+UrlBytesPass rows = HasSize (url_bytes_of rows)
 
 abbrev pub PrefixesPass : List Row → Type 0
 PrefixesPass rows = list_all is_prefix (prefixes_of rows) ≡ true
@@ -61,6 +68,8 @@ pub record Asks (rows : List Row) (asked : TraceWords) : Type 0 where
   pub output_passes : OutputPasses rows
   pub context : IsCountOf (context_of rows) asked.context
   pub context_passes : ContextPasses rows
+  pub url_bytes : asked.url_bytes ≡ url_bytes_in (url_bytes_of rows)
+  pub url_bytes_pass : UrlBytesPass rows
   pub prefixes : map prefix_view asked.prefixes.items ≡ map prefix_meant (prefixes_of rows)
   pub prefixes_pass : PrefixesPass rows
   pub arguments : map argument_view asked.arguments.items ≡ map argument_meant (arguments_of rows)
@@ -88,13 +97,16 @@ Fails rows (fault.Refused e) = ⊥
 Fails rows fault.Output = is_named (output_of rows) ≡ false
 Fails rows (fault.Context word) =
     OutputPasses rows × (context_of rows ≡ Some word.now) × (IsCount word.now → ⊥)
+Fails rows (fault.UrlBytes word) =
+    OutputPasses rows × ContextPasses rows × (url_bytes_of rows ≡ Some word.now) × (IsSize word.now → ⊥)
 Fails rows (fault.Prefix place word) =
-    OutputPasses rows × ContextPasses rows × IsFirstFailing is_prefix (prefixes_of rows) place word.now
+    OutputPasses rows × ContextPasses rows × UrlBytesPass rows
+    × IsFirstFailing is_prefix (prefixes_of rows) place word.now
 Fails rows (fault.Argument place word why) =
-    OutputPasses rows × ContextPasses rows × PrefixesPass rows
+    OutputPasses rows × ContextPasses rows × UrlBytesPass rows × PrefixesPass rows
     × IsArgumentFault (arguments_of rows) (fault.Argument place word why)
 Fails rows fault.Nothing =
-    OutputPasses rows × ContextPasses rows × PrefixesPass rows × ArgumentsPass rows
+    OutputPasses rows × ContextPasses rows × UrlBytesPass rows × PrefixesPass rows × ArgumentsPass rows
     × (asks_nothing rows ≡ true)
 
 -- ---- the words

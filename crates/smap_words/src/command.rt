@@ -43,6 +43,16 @@ fn context_option<'a>(alloc: Global) -> Arg<'a>
     Arg::new(alloc, "context").long("context").value_name("N")
 }
 
+/// `--url-bytes N`.
+fn url_bytes_option<'a>(alloc: Global) -> Arg<'a>
+    ensures rule { rule_of result ≡ line.url_bytes_rule }
+    ensures local { result.global ≡ false }
+{
+    Arg::new(alloc, "url-bytes")
+        .long("url-bytes")
+        .value_name("N")
+}
+
 /// `--source-prefix FROM=TO`, which may be given more than once.
 fn prefix_option<'a>(alloc: Global) -> Arg<'a>
     ensures rule { rule_of result ≡ line.prefix_rule }
@@ -108,7 +118,7 @@ fn with_map_flags<'a>(alloc: Global, command: Command<'a>) -> Result<Command<'a>
     with_flag(alloc, command, "list")
 }
 
-/// With what says how much is written, and where.
+/// With what says how much is written, and where, and how much a map may take.
 fn with_options<'a>(alloc: Global, command: Command<'a>) -> Result<Command<'a>, AllocError>
     requires { (fields_of command).has_globals ≡ false }
     ensures shape { IfOk result (λ c. app_of c ≡ line.with_options (app_of command.entry)) }
@@ -116,7 +126,8 @@ fn with_options<'a>(alloc: Global, command: Command<'a>) -> Result<Command<'a>, 
 {
     let command = command.arg(verbose_flag(alloc))?;
     let command = command.arg(output_option(alloc))?;
-    command.arg(context_option(alloc))
+    let command = command.arg(context_option(alloc))?;
+    command.arg(url_bytes_option(alloc))
 }
 
 /// With what may be given more than once.

@@ -4,7 +4,8 @@ use clap::Error;
 use std::alloc::{AllocError, AllocFailed};
 
 /// What is wrong with a command line: the first of all faults. Those that `clap` finds come first, then
-/// those of the output, of the context, of the prefixes, of the arguments, and that there are none.
+/// those of the output, of the context, of the bytes of URLs, of the prefixes, of the arguments, and that
+/// there are none.
 #[derive(Debug, Drop)]
 pub enum WordFault<'a> {
     /// An option that there isn't, one without its value, or a flag with one.
@@ -13,6 +14,8 @@ pub enum WordFault<'a> {
     Output,
     /// The value of `--context` is no count.
     Context(&'a str),
+    /// The value of `--url-bytes` is no number of bytes.
+    UrlBytes(&'a str),
     /// A value of `--source-prefix` isn't `FROM=TO`, with something for `FROM`.
     Prefix {
         /// Its place among the values of `--source-prefix`, counted from 0.

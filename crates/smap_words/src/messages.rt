@@ -56,6 +56,9 @@ pub fn message(alloc: Global, fault: &WordFault<'_>) -> Result<String, AllocErro
         WordFault::Context(word) => {
             format!(in alloc; "--context: expected a number of lines: '{word}'")
         }
+        WordFault::UrlBytes(word) => {
+            format!(in alloc; "--url-bytes: expected a number of bytes: '{word}'")
+        }
         WordFault::Prefix { place: _, word } => {
             format!(in alloc; "--source-prefix: expected FROM=TO: '{word}'")
         }

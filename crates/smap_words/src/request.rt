@@ -6,7 +6,7 @@ ghost use Rattle.smap_words.specs.Request.{Answers, Asks, Fails, IsAsked, IsFaul
 use crate::argument::{Argument, arguments_in};
 use crate::command::trace_command;
 use crate::fault::WordFault;
-use crate::values::{Prefix, context_in, output_in, prefixes_in};
+use crate::values::{Prefix, context_in, output_in, prefixes_in, url_bytes_in};
 use clap::error::ErrorKind;
 use clap::{ArgMatches, Error};
 use smap_matches::{is_set, texts_in};
@@ -33,6 +33,8 @@ pub struct TraceWords<'a> {
     pub output: Option<&'a str>,
     /// `--context`: how many lines of a source are shown.
     pub context: Option<u32>,
+    /// `--url-bytes`: how many bytes the URLs of a map's sources may take.
+    pub url_bytes: usize,
     /// `--source-prefix`, in the order of the words.
     pub prefixes: Vec<Prefix<'a>>,
     /// The arguments, in the order of the words. There is one at least, unless `list` is set.
@@ -63,6 +65,7 @@ fn request_in<'a>(alloc: Global, matches: &ArgMatches<'a>) -> Result<TraceWords<
 {
     let output = output_in(matches)?;
     let context = context_in(matches)?;
+    let url_bytes = url_bytes_in(matches)?;
     let froms = texts_in(alloc, matches, "source-prefix")?;
     let prefixes = prefixes_in(alloc, froms.as_slice())?;
     let texts = texts_in(alloc, matches, "argument")?;
@@ -81,6 +84,7 @@ fn request_in<'a>(alloc: Global, matches: &ArgMatches<'a>) -> Result<TraceWords<
         verbose: is_set(matches, "verbose"),
         output,
         context,
+        url_bytes,
         prefixes,
         arguments,
     })
@@ -100,8 +104,8 @@ fn answer_to<'a>(error: Error) -> Result<Asked<'a>, WordFault<'a>>
 
 /// Reads a command line. The first word is the name of the program, and isn't looked at.
 ///
-/// Options may stand anywhere before `--`, behind which all words are arguments. Of `-o` and `--context` the
-/// last use counts.
+/// Options may stand anywhere before `--`, behind which all words are arguments. Of `-o`, `--context` and
+/// `--url-bytes` the last use counts.
 ///
 /// # Errors
 ///

@@ -25,6 +25,7 @@ Rewrites the stack traces in a log: positions in scripts become positions in the
   --check-all      Check every map, those too whose scripts the log doesn't name
   --list           List the scripts that the log names: how often, and whether each has a map
   --context N      Show N lines of the source around each position, where the map has its text
+  --url-bytes N    Refuse a map if the URLs of its sources take more than N bytes (default 67108864)
   --source-prefix FROM=TO
                    Write TO for FROM at the start of a source's URL. Of several the first that fits counts
   -o FILE          Write to FILE, which changes only when all is written

@@ -5,8 +5,8 @@ ghost use Rattle.std.specs.List.{list_all};
 ghost use Rattle.std.specs.Option.{SomeIff};
 ghost use Rattle.clap.specs.Words.{found_of, rows_of};
 ghost use Rattle.smap_words.specs.Readings as spec;
-ghost use Rattle.smap_words.specs.Request.{ContextPasses, Fails, IsPrefixFault, OutputPasses};
-ghost use Rattle.smap_words.specs.Request.{context_of, output_of};
+ghost use Rattle.smap_words.specs.Request.{ContextPasses, Fails, IsPrefixFault, OutputPasses, UrlBytesPass};
+ghost use Rattle.smap_words.specs.Request.{context_of, output_of, url_bytes_of};
 
 use crate::fault::WordFault;
 use clap::ArgMatches;
@@ -38,9 +38,12 @@ pub(crate) fn output_in<'a>(matches: &ArgMatches<'a>) -> Result<Option<&'a str>,
     Ok(Some(name))
 }
 
+/// How many bytes the URLs of a map's sources take at most, unless it is asked for another number: 64 MiB.
+const URL_BYTES: usize = 67_108_864;
+
 /// The count that this is.
 fn count_in(text: &str) -> Option<u32>
-    ensures { SomeIff result (spec.IsCount text.now) (spec.count_in text.now) }
+    ensures { SomeIff result (spec.IsCount text.now) (spec.number_in text.now) }
 {
     match text.parse::<u32>() {
         Ok(n) => Some(n),
@@ -61,6 +64,32 @@ pub(crate) fn context_in<'a>(matches: &ArgMatches<'a>) -> Result<Option<u32>, Wo
     match count_in(text) {
         Some(n) => Ok(Some(n)),
         None => Err(WordFault::Context(text)),
+    }
+}
+
+/// The number of bytes that this is.
+fn size_in(text: &str) -> Option<usize>
+    ensures { SomeIff result (spec.IsSize text.now) (spec.number_in text.now) }
+{
+    match text.parse::<usize>() {
+        Ok(n) => Some(n),
+        Err(_) => None,
+    }
+}
+
+/// How many bytes the URLs of a map's sources may take.
+pub(crate) fn url_bytes_in<'a>(matches: &ArgMatches<'a>) -> Result<usize, WordFault<'a>>
+    ensures value { IfOk result (λ n. n ≡ spec.url_bytes_in (url_bytes_of (rows_of (found_of matches.now)))) }
+    ensures passes { OnOk result (UrlBytesPass (rows_of (found_of matches.now))) }
+    ensures fault { IfErr result (λ e. OutputPasses (rows_of (found_of matches.now))
+        → ContextPasses (rows_of (found_of matches.now)) → Fails (rows_of (found_of matches.now)) e) }
+{
+    let Some(text) = text_in(matches, "url-bytes") else {
+        return Ok(URL_BYTES);
+    };
+    match size_in(text) {
+        Some(n) => Ok(n),
+        None => Err(WordFault::UrlBytes(text)),
     }
 }
 

@@ -3,13 +3,12 @@ use Rattle.smap_pick.specs.declared.picks.Found.TheVariants.{ByEnd}
 use Rattle.smap_finder.specs.Choice.{Links, map_count_of}
 use Rattle.smap_finder.proofs.picking.script_or_map.Goals as goal
 
-pub returns-then-branch : goal.returns-then-branch
-returns-then-branch g c =
+pub returns-then-branch-clause-choice : goal.returns-then-branch-clause-choice
+returns-then-branch-clause-choice g c =
     let w = c.args.wanted.now in
     let sum : c.in-Some.number ≡ map_count_of w + c.in-ByEnd-ByEnd.i = search rules in
-    let links : Links (g.D.Disk.held c.args.host.now.disk.now) w c.args.name.now c.in-Some.number
-    c.in-ByEnd-ByEnd.of_map =
-    c.in_ok-names_this.ensures c.if-branch.true in
+    let links : Links (g.D.Disk.held c.args.host.now.disk.now) w c.in-Some.number c.in-ByEnd-ByEnd.of_map =
+    c.in_ok-names_this.ensures.link c.if-branch.true in
     inr (record {
       unclear = c.requires.unclear;
       settled = inr (record {

@@ -15,11 +15,16 @@ pub settled_found-requires-clause-map : goal.settled_found-requires-clause-map
 settled_found-requires-clause-map g c = found_at c.args.wanted.now (map_files_of c.args.wanted.now)
     c.args.names.now c.args.by_map.now c.loop-i.i _ _ c.requires.maps c.loop-i-test.true
 
+pub settled_found-requires-clause-links : goal.settled_found-requires-clause-links
+settled_found-requires-clause-links g c = c.loop-i.invariant.1
+
 pub loop-i-preserved : goal.loop-i-preserved
 loop-i-preserved g c =
     let Is = IsChoiceOf (g.D.Disk.held c.args.host.now.disk.now) c.args.wanted.now in
     let name_of = λ (n : Bor (List ℕ)). n.now in
-    let names = c.args.names.now in
-    subst (ArePicksOf Is (take (c.loop-i.i + 1) (map name_of names))) (sym c.in_ok-push.ensures.items)
-    (one_more Is name_of names c.loop-i.i c.loop-i.settled.items _ _ c.loop-i.invariant c.loop-i-test.true
-    refl c.in_ok-found.ensures)
+    let names = c.args.names.now in (
+      subst (ArePicksOf Is (take (c.loop-i.i + 1) (map name_of names))) (sym c.in_ok-push.ensures.items)
+          (one_more Is name_of names c.loop-i.i c.loop-i.settled.items _ _ c.loop-i.invariant.0
+          c.loop-i-test.true refl c.in_ok-found.ensures.choice),
+      c.in_ok-found.ensures.links,
+    )

@@ -1,9 +1,5 @@
-use Rattle.std.proofs.Common.{◌≤◌, length}
 use Rattle.std.specs.Io.{StartsWith}
 use Rattle.smap_lines.proofs.context.add_rows.Given as goal
 
-abbrev pub invariant-loop-before : goal.invariant-loop-before
-invariant-loop-before l = record {
-  at : l.at ≤ length l.source;
-  starts : StartsWith l.out.items l.initial.out.items;
-}
+abbrev pub invariant-loop-line : goal.invariant-loop-line
+invariant-loop-line l = StartsWith l.out.items l.initial.out.items

@@ -1,7 +1,7 @@
-use Rattle.std.proofs.Common.{◌∙◌, Bor, List, ℕ, ap, map}
+use Rattle.std.proofs.Common.{◌∙◌, Bor, List, ℕ, ap, filter, map}
 use Rattle.smap_finder.specs.ChosenView.{choices_of}
-use Rattle.smap_logs.specs.Naming.{frames_of, others_of}
-use Rattle.smap_tracer.proofs.AskedLemmas.{both_kept, first_names_kept, names_kept}
+use Rattle.smap_logs.specs.Naming.{frames_of, is_sought, others_of}
+use Rattle.smap_tracer.proofs.AskedLemmas.{both_kept, fewer_kept, first_names_kept, names_kept}
 use Rattle.smap_tracer.proofs.SettledLemmas.{names_settled}
 use Rattle.smap_tracer.proofs.tracing.open_names.Goals as goal
 
@@ -21,11 +21,13 @@ returns-clause-ends g c =
     let old = choices_of c.args.chosen.now in
     let middle = choices_of c.open_for.new.chosen in
     let new = choices_of c.open_for-2.new.chosen in
+    let sought = is_sought c.deref.result.now in
     both_kept held w frames others old middle new
     (names_kept held w frames old middle _ _ c.as_slice.ensures.value c.in_ok-frames.ensures
     c.open_for.ensures.ends)
-    (names_kept held w others middle new _ _ c.as_slice-2.ensures.value c.in_ok-others.ensures
-    c.open_for-2.ensures.ends)
+    (fewer_kept held w sought others middle new
+    (names_kept held w (filter sought others) middle new _ _ c.as_slice-2.ensures.value
+    c.in_ok-others.ensures c.open_for-2.ensures.ends))
 
 pub returns-in_err-open_for-clause-ends : goal.returns-in_err-open_for-clause-ends
 returns-in_err-open_for-clause-ends g c =

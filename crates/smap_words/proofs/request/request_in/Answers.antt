@@ -17,13 +17,21 @@ returns-in_err-context-clause-fault c =
     err_from_is_err_and c.from_residual-in_err-context.result c.from_residual-in_err-context.ensures.1 in
     rw (p.1, p.2) (c.in_err-context.ensures.fault c.in_ok-output.ensures.passes)
 
+pub returns-in_err-url_bytes-clause-fault : goal.returns-in_err-url_bytes-clause-fault
+returns-in_err-url_bytes-clause-fault c =
+    let residual = c.from_residual-in_err-url_bytes in
+    let p = err_from_is_err_and residual.result residual.ensures.1 in
+    rw (p.1, p.2) (c.in_err-url_bytes.ensures.fault c.in_ok-output.ensures.passes
+    c.in_ok-context.ensures.passes)
+
 pub returns-in_err-prefixes-clause-fault : goal.returns-in_err-prefixes-clause-fault
 returns-in_err-prefixes-clause-fault c =
     let residual = c.from_residual-in_err-prefixes in
     let p = err_from_is_err_and residual.result residual.ensures.1 in
     let froms = texts_are c.as_slice.ensures.value c.in_ok-froms.ensures in
     rw (p.1, p.2) (prefix_fails (rows_of (found_of c.args.matches.now)) _ _ froms
-    c.in_ok-output.ensures.passes c.in_ok-context.ensures.passes c.in_err-prefixes.ensures.fault)
+    c.in_ok-output.ensures.passes c.in_ok-context.ensures.passes c.in_ok-url_bytes.ensures.passes
+    c.in_err-prefixes.ensures.fault)
 
 pub returns-in_err-arguments-clause-fault : goal.returns-in_err-arguments-clause-fault
 returns-in_err-arguments-clause-fault c =
@@ -35,7 +43,8 @@ returns-in_err-arguments-clause-fault c =
       p.1,
       p.2,
     ) (argument_fails (rows_of (found_of c.args.matches.now)) _ _ texts c.in_ok-output.ensures.passes
-    c.in_ok-context.ensures.passes (pass_too is_prefix _ _ froms c.in_ok-prefixes.ensures.passes)
+    c.in_ok-context.ensures.passes c.in_ok-url_bytes.ensures.passes
+    (pass_too is_prefix _ _ froms c.in_ok-prefixes.ensures.passes)
     c.in_err-arguments.ensures.fault)
 
 pub returns-then-asks_nothing-clause-fault : goal.returns-then-asks_nothing-clause-fault
@@ -46,6 +55,7 @@ returns-then-asks_nothing-clause-fault c =
     (texts_are c.as_slice-3.ensures.value c.in_ok-texts.ensures) c.is_set-list.ensures in (
       c.in_ok-output.ensures.passes,
       c.in_ok-context.ensures.passes,
+      c.in_ok-url_bytes.ensures.passes,
       pass_too is_prefix _ _ froms c.in_ok-prefixes.ensures.passes,
       pass_too is_argument _ _ texts c.in_ok-arguments.ensures.passes,
       sym nothing ∙ sym c.asks_nothing.ensures ∙ c.if-asks_nothing.true,

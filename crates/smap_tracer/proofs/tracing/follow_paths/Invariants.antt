@@ -2,7 +2,7 @@ use Rattle.std.proofs.Common.{map, take}
 use Rattle.smap_finder.specs.ChosenView.{IsOver}
 use Rattle.smap_tracer.specs.OutputView.{contents_of}
 use Rattle.smap_tracer.specs.Written.{AreNamed, AreTraced}
-use Rattle.smap_tracer.proofs.tracing.trace_streams.Given as goal
+use Rattle.smap_tracer.proofs.tracing.follow_paths.Given as goal
 
 abbrev pub invariant-loop-path : goal.invariant-loop-path
 invariant-loop-path g l = record {

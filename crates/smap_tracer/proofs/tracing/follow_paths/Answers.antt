@@ -1,6 +1,6 @@
 use Rattle.std.proofs.Common.{arith}
 use Rattle.smap_tracer.proofs.TracedLemmas.{one_more_path}
-use Rattle.smap_tracer.proofs.tracing.trace_streams.Goals as goal
+use Rattle.smap_tracer.proofs.tracing.follow_paths.Goals as goal
 
 pub loop-path-preserved : goal.loop-path-preserved
 loop-path-preserved g c = record {

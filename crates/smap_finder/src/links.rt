@@ -1,0 +1,101 @@
+//! What the scripts of folders without a URL name for their maps.
+ghost use Rattle.std.specs.Prelude.{◌≡◌, IfOk, IfSome, List, Option, Some, true, ℕ};
+ghost use Rattle.std.specs.Global.{Vec};
+ghost use Rattle.smap_disk.specs.Held.{Held};
+ghost use Rattle.smap_arguments.specs.declared.wanted.Wanted.{Wanted};
+ghost use Rattle.smap_finder.specs.Choice.{AreLinks, IsNamedBy, Links as IsLink};
+
+use crate::roots::root_of;
+use indexmap::IndexMap;
+use smap_arguments::{LIMIT, Wanted};
+use smap_disk::{Disk, read_file};
+use smap_host::{Host, Stop};
+use smap_opening::{Followed, follow};
+use smap_pick::{Found, usual_place};
+use std::alloc::Global;
+
+/// The files that scripts name, each script read once: any number of names of a log may end as one script
+/// does, and what that names is the same for all.
+#[derive(Drop)]
+pub(crate) struct Links {
+    /// By the number of the script among the files; none where it names no file.
+    pub(crate) named: IndexMap<usize, Option<Vec<u8>>>,
+}
+
+impl Links {
+    /// No script was read.
+    pub(crate) fn new(alloc: Global) -> Links
+        ensures { (held : Held) (wanted : Wanted) → AreLinks held wanted result.named.entries }
+    {
+        Links {
+            named: IndexMap::new(alloc),
+        }
+    }
+}
+
+/// The file that the script with this number names for its map.
+fn named_by<E: Eprint + AllocGlobal, D: Disk>(
+    host: &Host<'_, E, D>,
+    wanted: &Wanted<'_>,
+    script: usize,
+) -> Result<Option<Vec<u8>>, Stop>
+    ensures { IfOk result (λ named. IfSome named
+        (λ file. IsNamedBy (D.held host.now.disk.now) wanted.now script file.items)) }
+{
+    let alloc = host.alloc();
+    let (Some(file), Some(root)) = (
+        wanted.files.get(script),
+        root_of(wanted, Found::ByEnd(script)),
+    ) else {
+        return Ok(None);
+    };
+    let Ok(path) = std::str::from_utf8(file) else {
+        return Ok(None);
+    };
+    let Ok(text) = read_file(alloc, host.disk, path, LIMIT) else {
+        return Ok(None);
+    };
+    let place = usual_place(alloc, file, file)?;
+    match follow(host, &place, Some(root), &text)? {
+        Followed::File(found) => Ok(Some(found.file)),
+        _ => Ok(None),
+    }
+}
+
+/// Whether it is this file that is named.
+fn is_named(named: &Option<Vec<u8>>, file: &[u8]) -> bool
+    ensures { result ≡ true → (name : Vec ℕ) × (named.now ≡ Some name) × (name.items ≡ file.now) }
+{
+    let Some(name) = named else {
+        return false;
+    };
+    if name.as_slice() == file {
+        return true;
+    }
+    false
+}
+
+/// Whether the script with this number in the list of files names the map with the other.
+pub(crate) fn names_this<E: Eprint + AllocGlobal, D: Disk>(
+    host: &Host<'_, E, D>,
+    wanted: &Wanted<'_>,
+    script: usize,
+    map: usize,
+    links: &mut Links,
+) -> Result<bool, Stop>
+    requires { AreLinks (D.held host.now.disk.now) wanted.now links.old.named.entries }
+    ensures link { IfOk result
+        (λ b. b ≡ true → IsLink (D.held host.now.disk.now) wanted.now script map) }
+    ensures links { AreLinks (D.held host.now.disk.now) wanted.now links.new.named.entries }
+{
+    let Some(map) = wanted.files.get(map) else {
+        return Ok(false);
+    };
+    if let Some((_, key, named)) = links.named.get_full(&script) {
+        return Ok(*key == script && is_named(named, map));
+    }
+    let named = named_by(host, wanted, script)?;
+    let answer = is_named(&named, map);
+    links.named.insert(script, named)?;
+    Ok(answer)
+}
