@@ -26,5 +26,5 @@ pub use members::{Members, Paths, members_of};
 pub use paths::{file_agrees, is_machine_path};
 pub use positions::{count_past_end, first_past_end};
 pub use share::{mapped_units, unit_count};
-pub use texts::{has_separator, same_text};
+pub use texts::{has_separator, normal_text, same_text};
 pub use widths::{is_within, line_widths};

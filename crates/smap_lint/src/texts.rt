@@ -1,5 +1,5 @@
 //! Whether two texts are the same but for how their lines end.
-ghost use Rattle.std.specs.Prelude.{◌≡◌, ◌==◌, IfOk, filter, not};
+ghost use Rattle.std.specs.Prelude.{◌≡◌, ◌==◌, IfOk, List, ℕ, filter, not};
 ghost use Rattle.smap_lint.specs.Texts as spec;
 
 use std::alloc::{AllocError, Global};
@@ -21,7 +21,11 @@ fn leave_out_returns(text: &mut Vec<u8>)
 }
 
 /// A text without a byte order mark before it and without carriage returns.
-fn normal(alloc: Global, text: &[u8]) -> Result<Vec<u8>, AllocError>
+///
+/// # Errors
+///
+/// `AllocError`.
+pub fn normal_text(alloc: Global, text: &[u8]) -> Result<Vec<u8>, AllocError>
     ensures { IfOk result (λ bytes. bytes.items ≡ spec.normal text.now) }
 {
     let mut bytes = Vec::from_slice(alloc, unmarked(text))?;
@@ -29,17 +33,18 @@ fn normal(alloc: Global, text: &[u8]) -> Result<Vec<u8>, AllocError>
     Ok(bytes)
 }
 
-/// Whether two texts are the same once byte order marks before them and carriage returns are left out.
+/// Whether two texts are the same once byte order marks before them and carriage returns are left out; of one
+/// that is compared with many, `normal` is its [`normal_text`].
 ///
 /// # Errors
 ///
 /// `AllocError`.
-pub fn same_text(alloc: Global, one: &[u8], other: &[u8]) -> Result<bool, AllocError>
-    ensures { IfOk result (λ same. same ≡ spec.same_text one.now other.now) }
+pub fn same_text(alloc: Global, normal: &[u8], other: &[u8]) -> Result<bool, AllocError>
+    ensures { IfOk result (λ same. (one : List ℕ) → normal.now ≡ spec.normal one
+        → same ≡ spec.same_text one other.now) }
 {
-    let one = normal(alloc, one)?;
-    let other = normal(alloc, other)?;
-    Ok(one.as_slice() == other.as_slice())
+    let other = normal_text(alloc, other)?;
+    Ok(normal == other.as_slice())
 }
 
 /// Whether a text begins with U+2028 or U+2029.

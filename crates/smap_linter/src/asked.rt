@@ -15,6 +15,8 @@ pub struct LintAsked<'a> {
     pub rules: Vec<(&'a str, Option<Level>)>,
     /// How much of a script has to have an original, in percent of its UTF-16 units.
     pub min_mapped: Option<u32>,
+    /// How many bytes the URLs of a map's sources may take.
+    pub url_bytes: usize,
     /// The version of the program, as a report has it.
     pub version: &'a str,
 }

@@ -15,10 +15,17 @@ pub(crate) struct Book {
     pub(crate) unread: bool,
     /// How much of a script has to have an original, in percent.
     pub(crate) min_mapped: Option<u32>,
+    /// How many bytes the URLs of a map's sources may take.
+    pub(crate) url_bytes: usize,
 }
 
 impl Book {
-    pub(crate) fn new(alloc: Global, levels: Vec<Option<Level>>, min_mapped: Option<u32>) -> Book {
+    pub(crate) fn new(
+        alloc: Global,
+        levels: Vec<Option<Level>>,
+        min_mapped: Option<u32>,
+        url_bytes: usize,
+    ) -> Book {
         Book {
             alloc,
             levels,
@@ -26,6 +33,7 @@ impl Book {
             files: Vec::new(alloc),
             unread: false,
             min_mapped,
+            url_bytes,
         }
     }
 

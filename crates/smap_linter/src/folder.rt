@@ -163,12 +163,21 @@ impl<'a> Folder<'a> {
     }
 }
 
+/// Whether a file is empty by its size. So are streams, as those of `/proc`, which may have no end: nothing
+/// with that size is opened.
+pub(crate) fn has_no_size<D: Disk>(disk: &D, path: &str) -> bool {
+    matches!(disk.size(path), Ok(0))
+}
+
 /// What a file holds; none if it can't be read, which is said.
 pub(crate) fn read<E: Eprint + AllocGlobal, D: Disk>(
     host: &Host<'_, E, D>,
     path: &str,
 ) -> Result<Option<Vec<u8>>, Stop> {
     let alloc = host.alloc();
+    if has_no_size(host.disk, path) {
+        return Ok(Some(Vec::new(alloc)));
+    }
     match read_file(alloc, host.disk, path, LIMIT) {
         Ok(bytes) => Ok(Some(bytes)),
         Err(FileFault::Memory) => Err(Stop::Memory),

@@ -80,6 +80,19 @@ fn add_refused(
     book.add_at(Check::RefusedMap, pair.file, point, message)
 }
 
+/// Notes that the URLs of a map's sources take more than so many bytes.
+fn add_long_urls(
+    alloc: Global,
+    book: &mut Book,
+    pair: &Pair<'_>,
+    url_bytes: usize,
+) -> Result<(), AllocError> {
+    let message = format!(in alloc;
+        "the URLs of its sources take more than {url_bytes} bytes (--url-bytes allows more)"
+    )?;
+    book.add(Check::RefusedMap, pair.file, message)
+}
+
 /// The map that these bytes are; none where it is refused, as is noted.
 fn map_of(
     alloc: Global,
@@ -91,8 +104,13 @@ fn map_of(
     let Some(base) = base_of(alloc, folder, pair.name)? else {
         return Ok(None);
     };
-    match SourceMap::from_slice(alloc, bytes, &base, Limits::usual()) {
-        Ok(map) => Ok(Some(map)),
+    let most = book.url_bytes;
+    match SourceMap::from_slice_within(alloc, bytes, &base, Limits::usual(), most) {
+        Ok(Some((map, _))) => Ok(Some(map)),
+        Ok(None) => {
+            add_long_urls(alloc, book, pair, most)?;
+            Ok(None)
+        }
         Err(ReadError::Refused(fault)) => {
             add_refused(alloc, book, pair, bytes, &fault)?;
             Ok(None)

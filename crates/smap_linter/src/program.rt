@@ -92,7 +92,7 @@ fn lint_folders<E: Eprint + AllocGlobal, D: Disk>(
     asked: &LintAsked<'_>,
 ) -> Result<Book, Stop> {
     let levels = levels_of(host, asked)?;
-    let mut book = Book::new(host.alloc(), levels, asked.min_mapped);
+    let mut book = Book::new(host.alloc(), levels, asked.min_mapped, asked.url_bytes);
     for given in &asked.folders {
         let mut folder = Folder::new(host, given)?;
         lint_scripts(host, &mut book, &mut folder)?;

@@ -1,24 +1,50 @@
 //! The files of sources.
 use crate::book::Book;
-use crate::folder::{Folder, LIMIT};
+use crate::folder::{Folder, LIMIT, has_no_size};
 use crate::pairs::Pair;
 use crate::wording::{example, one_or_more, some_of};
-use smap_disk::{Disk, FileFault, Kind, read_file};
+use smap_disk::{Disk, Kind};
 use smap_host::Host;
 use smap_link::{PathFault, file_path, script_url};
-use smap_lint::{Check, same_text};
+use smap_lint::{Check, normal_text, same_text};
 use smap_record::{SourceMap, SourceView};
 use std::alloc::{AllocError, Global};
+use std::cmp::Ordering;
+use std::io::{ErrorKind, Read};
 
-/// How a source is found.
-#[derive(Clone, Copy, Debug, PartialEq, Eq)]
-enum State {
+/// What there is of a source.
+#[derive(Drop)]
+enum Found {
     /// Nothing is wrong with it, or it can't be looked at.
     Good,
     /// It has no content and no file.
     Missing,
-    /// Its content isn't that of its file.
-    Stale,
+    /// It has a content, and a file with this path.
+    Both(String),
+}
+
+/// The content of the source with this number, to be compared with its file.
+#[derive(Drop)]
+struct Kept<'a> {
+    number: usize,
+    path: String,
+    content: &'a str,
+}
+
+/// The contents that aren't those of their files: how many, and the number of the first.
+#[derive(Clone, Copy)]
+struct Stale {
+    count: usize,
+    first: usize,
+}
+
+impl Stale {
+    fn with(self, number: usize) -> Stale {
+        Stale {
+            count: self.count.saturating_add(1),
+            first: self.first.min(number),
+        }
+    }
 }
 
 /// Sources that are wrong in one way: how many, and the first one's URL.
@@ -63,31 +89,17 @@ fn is_remote(url: &str) -> bool {
     url.starts_with("http://") || url.starts_with("https://")
 }
 
-/// How the content of a source compares with its file.
-fn compared<D: Disk>(
-    alloc: Global,
-    disk: &D,
-    path: &str,
-    content: &str,
-) -> Result<State, AllocError> {
-    match read_file(alloc, disk, path, LIMIT) {
-        Ok(bytes) if same_text(alloc, &bytes, content.as_bytes())? => Ok(State::Good),
-        Ok(_) => Ok(State::Stale),
-        Err(FileFault::Memory) => Err(AllocError),
-        Err(_) => Ok(State::Good),
-    }
-}
-
-/// How a source with this URL is found. That of a script that was written over its source can't be looked at.
-fn state_of<D: Disk>(
+/// What there is of a source with this URL. That of a script that was written over its source can't be looked
+/// at.
+fn look_for<D: Disk>(
     alloc: Global,
     disk: &D,
     script: &[u8],
     url: &str,
     content: Option<&str>,
-) -> Result<State, AllocError> {
+) -> Result<Found, AllocError> {
     if url.as_bytes() == script {
-        return Ok(State::Good);
+        return Ok(Found::Good);
     }
     let path = path_of(alloc, url)?;
     let is_file = match &path {
@@ -95,10 +107,76 @@ fn state_of<D: Disk>(
         None => false,
     };
     match (content, path) {
-        (Some(content), Some(path)) if is_file => compared(alloc, disk, path.as_str(), content),
-        (None, _) if !is_file && !is_remote(url) => Ok(State::Missing),
-        _ => Ok(State::Good),
+        (Some(_), Some(path)) if is_file => Ok(Found::Both(path)),
+        (None, _) if !is_file && !is_remote(url) => Ok(Found::Missing),
+        _ => Ok(Found::Good),
     }
+}
+
+/// The first bytes of a file, at most so many; none if it can't be read.
+fn front_of<D: Disk>(
+    alloc: Global,
+    disk: &D,
+    path: &str,
+    most: u64,
+) -> Result<Option<Vec<u8>>, AllocError> {
+    let Ok(reader) = disk.open(path) else {
+        return Ok(None);
+    };
+    let mut bytes = Vec::new(alloc);
+    match reader.take(most).read_to_end(&mut bytes) {
+        Ok(_) => Ok(Some(bytes)),
+        Err(error) if error.kind() == ErrorKind::OutOfMemory => Err(AllocError),
+        Err(_) => Ok(None),
+    }
+}
+
+/// The text of a file as it is compared with contents of at most so many bytes; none if it can't be read. No
+/// more is read than they need: with a carriage return for each of their bytes, and a byte order mark, they
+/// have `2 * most + 3`. Only a file that has still more carriage returns is read to its end.
+fn text_of<D: Disk>(
+    alloc: Global,
+    disk: &D,
+    path: &str,
+    most: usize,
+) -> Result<Option<Vec<u8>>, AllocError> {
+    if has_no_size(disk, path) {
+        return Ok(Some(Vec::new(alloc)));
+    }
+    let enough = (most as u64).saturating_mul(2).saturating_add(4);
+    for limit in [enough.min(LIMIT), LIMIT] {
+        let Some(bytes) = front_of(alloc, disk, path, limit)? else {
+            return Ok(None);
+        };
+        let text = normal_text(alloc, &bytes)?;
+        if (bytes.len() as u64) < limit || text.len() > most {
+            return Ok(Some(text));
+        }
+    }
+    Ok(None)
+}
+
+/// Which of these contents aren't those of their files. Those of one file stand side by side, the longest one
+/// first, so that it is read once for all of them.
+fn stale_among<D: Disk>(alloc: Global, disk: &D, kept: &[Kept<'_>]) -> Result<Stale, AllocError> {
+    let mut stale = Stale {
+        count: 0,
+        first: usize::MAX,
+    };
+    let mut path = "";
+    let mut text = None;
+    for one in kept {
+        if one.path.as_str() != path {
+            path = one.path.as_str();
+            text = text_of(alloc, disk, path, one.content.len())?;
+        }
+        if let Some(text) = &text {
+            if !same_text(alloc, text, one.content.as_bytes())? {
+                stale = stale.with(one.number);
+            }
+        }
+    }
+    Ok(stale)
 }
 
 /// A URL below a folder without the folder's.
@@ -127,19 +205,39 @@ fn add_missing(
 fn add_stale(
     alloc: Global,
     book: &mut Book,
+    folder: &Folder<'_>,
     pair: &Pair<'_>,
-    stale: Tally<'_>,
-    total: usize,
+    map: &SourceMap,
+    stale: Stale,
 ) -> Result<(), AllocError> {
-    let Tally { count, first } = stale;
-    if count == 0 {
+    let total = map.source_count();
+    let Stale { count, first } = stale;
+    if first >= total {
         return Ok(());
     }
+    let first = own_part(folder, map.source(first).url.unwrap_or(""));
     let sources = some_of(alloc, count, total, "source")?;
     let example = example(alloc, count, first)?;
     let files = one_or_more(count, "its file", "their files");
     let message = format!(in alloc; "the content of {sources} differs from {files}{example}")?;
     book.add(Check::StaleContent, pair.file, message)
+}
+
+/// Lints the sources of a map that have a content and a file.
+fn lint_kept<E: Eprint + AllocGlobal, D: Disk>(
+    host: &Host<'_, E, D>,
+    book: &mut Book,
+    folder: &Folder<'_>,
+    pair: &Pair<'_>,
+    map: &SourceMap,
+    mut kept: Vec<Kept<'_>>,
+) -> Result<(), AllocError> {
+    kept.sort_by(|a, b| match a.path.as_str().cmp(b.path.as_str()) {
+        Ordering::Equal => b.content.len().cmp(&a.content.len()),
+        other => other,
+    })?;
+    let stale = stale_among(host.alloc(), host.disk, &kept)?;
+    add_stale(host.alloc(), book, folder, pair, map, stale)
 }
 
 /// Lints the sources of a map.
@@ -153,21 +251,29 @@ pub(crate) fn lint_sources<E: Eprint + AllocGlobal, D: Disk>(
     let alloc = host.alloc();
     let script = script_of(alloc, folder, pair)?;
     let total = map.source_count();
-    let none = Tally {
+    let mut missing = Tally {
         count: 0,
         first: "",
     };
-    let (mut missing, mut stale) = (none, none);
-    for i in 0..total {
-        let SourceView { url, content, .. } = map.source(i);
-        if let Some(url) = url {
-            match state_of(alloc, host.disk, &script, url, content)? {
-                State::Good => {}
-                State::Missing => missing = missing.with(own_part(folder, url)),
-                State::Stale => stale = stale.with(own_part(folder, url)),
+    let mut kept = Vec::new(alloc);
+    for number in 0..total {
+        let SourceView { url, content, .. } = map.source(number);
+        let Some(url) = url else {
+            continue;
+        };
+        match look_for(alloc, host.disk, &script, url, content)? {
+            Found::Good => {}
+            Found::Missing => missing = missing.with(own_part(folder, url)),
+            Found::Both(path) => {
+                let content = content.unwrap_or("");
+                kept.push(Kept {
+                    number,
+                    path,
+                    content,
+                })?;
             }
         }
     }
     add_missing(alloc, book, pair, missing, total)?;
-    add_stale(alloc, book, pair, stale, total)
+    lint_kept(host, book, folder, pair, map, kept)
 }

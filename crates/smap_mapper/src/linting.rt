@@ -1,13 +1,13 @@
 //! What a command line asks of `lint`, in the words of `smap_linter`.
 use smap_linter::LintAsked;
-use smap_maps_words::{NUMBER, RuleLevel};
+use smap_maps_words::{MapsWords, NUMBER, RuleLevel};
 use smap_report::Format;
 use std::alloc::{AllocError, Global};
 
 /// What is asked of `lint`.
 pub(crate) fn lint_asked<'a>(
     alloc: Global,
-    paths: &[&'a str],
+    asked: &MapsWords<'a>,
     format: Format,
     rules: &[RuleLevel<'a>],
     min_mapped: Option<u32>,
@@ -17,10 +17,11 @@ pub(crate) fn lint_asked<'a>(
         levels.push((rule.rule, rule.level))?;
     }
     Ok(LintAsked {
-        folders: Vec::from_slice(alloc, paths)?,
+        folders: Vec::from_slice(alloc, &asked.paths)?,
         format,
         rules: levels,
         min_mapped,
+        url_bytes: asked.url_bytes,
         version: NUMBER,
     })
 }

@@ -6,7 +6,7 @@ use crate::replacing::replace;
 use crate::targets::Target;
 use serde_json::Value;
 use smap_changes::changes;
-use smap_disk::{Disk, FileFault, read_file};
+use smap_disk::{Disk, FileFault, Stamp, read_file};
 use smap_drops::{Drops, dropped, tree_of};
 use smap_maps_words::Rewrite;
 use smap_record::{Base, BaseFault};
@@ -35,6 +35,18 @@ pub(crate) fn bytes_of<D: Disk>(alloc: Global, disk: &D, path: &str) -> Result<V
     }
 }
 
+/// A file's bytes, and what the file was before they were read.
+pub(crate) fn stamped<D: Disk>(
+    alloc: Global,
+    disk: &D,
+    path: &str,
+) -> Result<(Stamp, Vec<u8>), Verdict> {
+    let Ok(stamp) = disk.stamp(path) else {
+        return Err(Verdict::Failed(Failure::Unread));
+    };
+    Ok((stamp, bytes_of(alloc, disk, path)?))
+}
+
 pub(crate) fn base_of(alloc: Global, url: &[u8]) -> Result<Base, Verdict> {
     let Ok(url) = std::str::from_utf8(url) else {
         return Err(Verdict::NotUrl);
@@ -46,15 +58,25 @@ pub(crate) fn base_of(alloc: Global, url: &[u8]) -> Result<Base, Verdict> {
     }
 }
 
-fn checked<D: Disk>(alloc: Global, disk: &D, target: &Target) -> Result<Verdict, Verdict> {
+fn checked<D: Disk>(
+    alloc: Global,
+    disk: &D,
+    target: &Target,
+    url_bytes: usize,
+) -> Result<Verdict, Verdict> {
     let bytes = bytes_of(alloc, disk, target.file.as_str())?;
     let base = base_of(alloc, &target.url)?;
-    Ok(judged(alloc, &base, &bytes))
+    Ok(judged(alloc, &base, &bytes, url_bytes))
 }
 
-/// Checks a map.
-pub(crate) fn check<D: Disk>(alloc: Global, disk: &D, target: &Target) -> Outcome {
-    match checked(alloc, disk, target) {
+/// Checks a map, with at most so many bytes for the URLs of its sources.
+pub(crate) fn check<D: Disk>(
+    alloc: Global,
+    disk: &D,
+    target: &Target,
+    url_bytes: usize,
+) -> Outcome {
+    match checked(alloc, disk, target, url_bytes) {
         Ok(verdict) | Err(verdict) => plain(alloc, verdict),
     }
 }
@@ -118,13 +140,14 @@ pub(crate) fn change<D: Disk>(
     alloc: Global,
     disk: &D,
     path: &str,
+    stamp: Stamp,
     text: &[u8],
     deed: Deed,
 ) -> Verdict {
     match deed {
         Deed::Tell | Deed::Show => Verdict::Changed,
         Deed::Keep => Verdict::Kept,
-        Deed::Write => match replace(alloc, disk, path, text) {
+        Deed::Write => match replace(alloc, disk, path, stamp, text) {
             Ok(()) => Verdict::Rewritten,
             Err(failure) => Verdict::Failed(failure),
         },
@@ -138,12 +161,14 @@ fn compared<D: Disk>(
     target: &Target,
     form: Form,
     rewrite: Rewrite,
+    url_bytes: usize,
 ) -> Result<Outcome, Verdict> {
     let path = target.file.as_str();
-    let bytes = bytes_of(alloc, disk, path)?;
+    let (stamp, bytes) = stamped(alloc, disk, path)?;
     let base = base_of(alloc, &target.url)?;
-    let text = match formed(alloc, form, &base, &bytes) {
-        Ok(text) => text,
+    let text = match formed(alloc, form, &base, &bytes, url_bytes) {
+        Ok(Some(text)) => text,
+        Ok(None) => return Err(Verdict::LongUrls(url_bytes)),
         Err(error) => return Err(unread(alloc, &bytes, error)),
     };
     if text.as_slice() == bytes.as_slice() {
@@ -157,6 +182,7 @@ fn compared<D: Disk>(
         alloc,
         disk,
         path,
+        stamp,
         &text,
         decided(rewrite, !drops.is_empty()),
     );
@@ -167,15 +193,16 @@ fn compared<D: Disk>(
     })
 }
 
-/// Tidies or flattens a map.
+/// Tidies or flattens a map, with at most so many bytes for the URLs of its sources.
 pub(crate) fn compare<D: Disk>(
     alloc: Global,
     disk: &D,
     target: &Target,
     form: Form,
     rewrite: Rewrite,
+    url_bytes: usize,
 ) -> Outcome {
-    match compared(alloc, disk, target, form, rewrite) {
+    match compared(alloc, disk, target, form, rewrite, url_bytes) {
         Ok(outcome) => outcome,
         Err(verdict) => plain(alloc, verdict),
     }

@@ -45,11 +45,19 @@ impl Work {
         }
     }
 
-    fn outcome<D: Disk>(self, alloc: Global, disk: &D, target: &Target) -> Outcome {
+    fn outcome<D: Disk>(
+        self,
+        alloc: Global,
+        disk: &D,
+        target: &Target,
+        url_bytes: usize,
+    ) -> Outcome {
         match self {
-            Work::Check { .. } => check(alloc, disk, target),
-            Work::Compare { form, rewrite } => compare(alloc, disk, target, form, rewrite),
-            Work::Repair { write } => repair(alloc, disk, target, write),
+            Work::Check { .. } => check(alloc, disk, target, url_bytes),
+            Work::Compare { form, rewrite } => {
+                compare(alloc, disk, target, form, rewrite, url_bytes)
+            }
+            Work::Repair { write } => repair(alloc, disk, target, write, url_bytes),
         }
     }
 }
@@ -58,6 +66,7 @@ impl Work {
 fn look_at_all<E: Eprint + AllocGlobal + Clock, D: Disk, W: Write>(
     host: &Host<'_, E, D>,
     work: Work,
+    url_bytes: usize,
     targets: &[Target],
     progress: &mut Progress,
     writer: &mut Watched<W>,
@@ -66,7 +75,7 @@ fn look_at_all<E: Eprint + AllocGlobal + Clock, D: Disk, W: Write>(
     let style = work.style();
     for (done, target) in targets.iter().enumerate() {
         progress.show(host.rt, done);
-        let outcome = work.outcome(host.alloc(), host.disk, target);
+        let outcome = work.outcome(host.alloc(), host.disk, target, url_bytes);
         tally = tally.with(outcome.verdict.status());
         if says_something(style, &outcome.verdict) {
             progress.erase(host.rt);
@@ -111,7 +120,7 @@ fn work_on<E: Eprint + AllocGlobal + Clock, D: Disk, W: Write>(
 ) -> Result<(), Stop> {
     let targets = targets(host, asked)?;
     let mut progress = Progress::new(targets.len(), on_terminal);
-    let answer = look_at_all(host, work, &targets, &mut progress, writer);
+    let answer = look_at_all(host, work, asked.url_bytes, &targets, &mut progress, writer);
     progress.erase(host.rt);
     let tally = answer?;
     if work == (Work::Check { json: false }) {
@@ -151,7 +160,8 @@ fn do_task<E: Eprint + AllocGlobal + Clock, D: Disk, W: Write>(
             if asked.base.is_some() {
                 return Err(host.fail(2, "lint has no --base"));
             }
-            let asked = lint_asked(host.alloc(), &asked.paths, *format, rules, *min_mapped)?;
+            let alloc = host.alloc();
+            let asked = lint_asked(alloc, asked, *format, rules, *min_mapped)?;
             return lint(host, &asked, writer);
         }
     };

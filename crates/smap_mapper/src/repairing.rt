@@ -1,9 +1,9 @@
 //! One map that is refused: repaired, and rewritten if that is wanted.
 
 use crate::deciding::Deed;
-use crate::looking::{base_of, bytes_of, change, plain};
+use crate::looking::{base_of, change, plain, stamped};
 use crate::targets::Target;
-use smap_disk::Disk;
+use smap_disk::{Disk, Stamp};
 use smap_record::{Base, Fault, Limits};
 use smap_repair::{Repair, Repaired, repair_text, sentence};
 use smap_verdicts::{Failure, Outcome, Verdict, refused_for};
@@ -45,9 +45,15 @@ fn refused(alloc: Global, bytes: &[u8], fault: Fault, left: &Option<Fault>) -> O
 }
 
 /// What becomes of these bytes: the mended text with what was done, or what the map is without a repair.
-fn mended(alloc: Global, base: &Base, bytes: &[u8]) -> Result<(Vec<u8>, Vec<String>), Outcome> {
-    match repair_text(alloc, bytes, base, Limits::usual()) {
+fn mended(
+    alloc: Global,
+    base: &Base,
+    bytes: &[u8],
+    url_bytes: usize,
+) -> Result<(Vec<u8>, Vec<String>), Outcome> {
+    match repair_text(alloc, bytes, base, Limits::usual(), url_bytes) {
         Ok(Repaired::Sound) => Err(plain(alloc, Verdict::Unchanged)),
+        Ok(Repaired::LongUrls) => Err(plain(alloc, Verdict::LongUrls(url_bytes))),
         Ok(Repaired::Refused { fault, left }) => Err(refused(alloc, bytes, fault, &left)),
         Ok(Repaired::Mended { text, repairs }) => match sentences(alloc, &repairs) {
             Ok(sentences) => Ok((text, sentences)),
@@ -62,14 +68,15 @@ fn repaired<D: Disk>(
     alloc: Global,
     disk: &D,
     target: &Target,
-    bytes: &[u8],
+    (stamp, bytes): (Stamp, &[u8]),
     base: &Base,
     write: bool,
+    url_bytes: usize,
 ) -> Outcome {
     let deed = if write { Deed::Write } else { Deed::Show };
-    match mended(alloc, base, bytes) {
+    match mended(alloc, base, bytes, url_bytes) {
         Ok((text, changes)) => Outcome {
-            verdict: change(alloc, disk, target.file.as_str(), &text, deed),
+            verdict: change(alloc, disk, target.file.as_str(), stamp, &text, deed),
             drops: Vec::new(alloc),
             changes,
         },
@@ -77,14 +84,28 @@ fn repaired<D: Disk>(
     }
 }
 
-/// Repairs a map.
-pub(crate) fn repair<D: Disk>(alloc: Global, disk: &D, target: &Target, write: bool) -> Outcome {
-    let bytes = match bytes_of(alloc, disk, target.file.as_str()) {
-        Ok(bytes) => bytes,
+/// Repairs a map, with at most so many bytes for the URLs of its sources.
+pub(crate) fn repair<D: Disk>(
+    alloc: Global,
+    disk: &D,
+    target: &Target,
+    write: bool,
+    url_bytes: usize,
+) -> Outcome {
+    let (stamp, bytes) = match stamped(alloc, disk, target.file.as_str()) {
+        Ok(read) => read,
         Err(verdict) => return plain(alloc, verdict),
     };
     match base_of(alloc, &target.url) {
-        Ok(base) => repaired(alloc, disk, target, &bytes, &base, write),
+        Ok(base) => repaired(
+            alloc,
+            disk,
+            target,
+            (stamp, &bytes),
+            &base,
+            write,
+            url_bytes,
+        ),
         Err(verdict) => plain(alloc, verdict),
     }
 }

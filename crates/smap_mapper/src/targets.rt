@@ -1,6 +1,6 @@
 //! The maps that the paths name, with their URLs.
 
-use smap_disk::{Disk, Kind, walk};
+use smap_disk::{Disk, Kind, parted, walk};
 use smap_host::{Host, Stop};
 use smap_link::{own_url, script_url};
 use smap_record::{Base, BaseFault};
@@ -13,17 +13,6 @@ pub(crate) struct Target {
     pub(crate) file: String,
     /// Its URL, against which its sources are resolved.
     pub(crate) url: Vec<u8>,
-}
-
-/// A path as its folder, which is empty or ends in a slash, and its name there.
-fn parted(path: &str) -> (&str, &str) {
-    match path.rsplit_once('/') {
-        Some((folder, name)) => (
-            path.get(..folder.len().saturating_add(1)).unwrap_or(""),
-            name,
-        ),
-        None => ("", path),
-    }
 }
 
 fn holds_space(text: &str) -> bool {

@@ -20,6 +20,7 @@ rule_fault texts i t fault.Nothing lt at h = absurd h
 rule_fault texts i t (fault.NoCommand word) lt at h = absurd h
 rule_fault texts i t (fault.Options k why) lt at h = absurd h
 rule_fault texts i t (fault.Jobs word) lt at h = absurd h
+rule_fault texts i t (fault.UrlBytes word) lt at h = absurd h
 rule_fault texts i t (fault.Format word) lt at h = absurd h
 rule_fault texts i t (fault.Rule word) lt at h =
     (i, slice_get-get_or texts i [] lt ∙ ap Some (sym at ∙ sym h.0), rw h.0 h.1)

@@ -25,6 +25,8 @@ fault_told words rows (fault.Options k why) none is h =
     (none, subst (λ (r : List Row). Fails r (fault.Options k why)) is h)
 fault_told words rows (fault.Jobs word) none is h =
     (none, subst (λ (r : List Row). Fails r (fault.Jobs word)) is h)
+fault_told words rows (fault.UrlBytes word) none is h =
+    (none, subst (λ (r : List Row). Fails r (fault.UrlBytes word)) is h)
 fault_told words rows (fault.Format word) none is h =
     (none, subst (λ (r : List Row). Fails r (fault.Format word)) is h)
 fault_told words rows (fault.Rule word) none is h =
@@ -70,6 +72,7 @@ answered_err words e (Err fault.Nothing) has h = absurd h
 answered_err words e (Err (fault.NoCommand word)) has h = absurd h
 answered_err words e (Err (fault.Options k why)) has h = absurd h
 answered_err words e (Err (fault.Jobs word)) has h = absurd h
+answered_err words e (Err (fault.UrlBytes word)) has h = absurd h
 answered_err words e (Err (fault.Format word)) has h = absurd h
 answered_err words e (Err (fault.Rule word)) has h = absurd h
 answered_err words e (Err (fault.Percent word)) has h = absurd h

@@ -38,7 +38,8 @@ with_form_flags a = with_rule (with_rule (with_rule a (flag (codes "relative")))
     (flag (codes "json"))
 
 abbrev pub with_options : App → App
-with_options a = with_rule (with_rule a (option_named (codes "base"))) (option_named (codes "jobs"))
+with_options a = with_rule (with_rule (with_rule a (option_named (codes "base")))
+    (option_named (codes "jobs"))) (option_named (codes "url-bytes"))
 
 abbrev pub with_lint_options : App → App
 with_lint_options a = with_rule (with_rule a (option_named (codes "format")))

@@ -10,7 +10,8 @@ use Rattle.smap_maps_words.specs.Line.{maps}
 use Rattle.smap_maps_words.specs.Options.{option_fault}
 use Rattle.smap_matches.specs.Rows.{is_set, values_of}
 use Rattle.smap_report.specs.Formats.{format_named}
-use Rattle.smap_maps_words.specs.Values.{HasJobs, IsFormatOf, IsJobs, IsPercent, IsPercentOf}
+use Rattle.smap_maps_words.specs.Values.{HasJobs, IsFormatOf, IsJobs, IsPercent, IsPercentOf, IsUrlBytes}
+use Rattle.smap_maps_words.specs.Values.{IsUrlBytesOf}
 use Rattle.smap_maps_words.specs.Values.{rule_meant, wanted_view}
 use Rattle.smap_maps_words.specs.declared.fault.WordFault.{WordFault}
 use Rattle.smap_maps_words.specs.declared.fault.WordFault.TheVariants as fault
@@ -28,6 +29,9 @@ use Rattle.smap_maps_words.specs.declared.request.Task.TheVariants as task
 
 abbrev pub jobs_of : List Row → Option Text
 jobs_of rows = first_of (codes "jobs") rows
+
+abbrev pub url_bytes_of : List Row → Option Text
+url_bytes_of rows = first_of (codes "url-bytes") rows
 
 abbrev pub format_of : List Row → Option Text
 format_of rows = first_of (codes "format") rows
@@ -78,7 +82,7 @@ AsksFor rows k t = ⊥
 -- The values are those that the matches have, and nothing is wrong with them.
 abbrev pub Asks : List Row → MapsWords → Type 0
 Asks rows asked = (k : Kind) × (kind_asked (arguments_of rows) ≡ Some k) × (option_fault rows k ≡ None)
-    × HasJobs (jobs_of rows) × AsksFor rows k asked.task
+    × HasJobs (jobs_of rows) × IsUrlBytesOf (url_bytes_of rows) asked.url_bytes × AsksFor rows k asked.task
     × (option_map (λ url. url.now) asked.base ≡ first_of (codes "base") rows)
     × (map (λ path. path.now) asked.paths.items ≡ drop 1 (arguments_of rows))
     × (nat_lt 1 (length (arguments_of rows)) ≡ true)
@@ -96,6 +100,7 @@ IsOptionFault rows asked f = ⊥
 
 abbrev pub IsValueFault : List Row → WordFault → Type 0
 IsValueFault rows (fault.Jobs word) = (jobs_of rows ≡ Some word.now) × (IsJobs word.now → ⊥)
+IsValueFault rows (fault.UrlBytes word) = (url_bytes_of rows ≡ Some word.now) × (IsUrlBytes word.now → ⊥)
 IsValueFault rows (fault.Format word) = (format_of rows ≡ Some word.now) × (format_named word.now ≡ None)
 IsValueFault rows (fault.Percent word) = (percent_of rows ≡ Some word.now) × (IsPercent word.now → ⊥)
 IsValueFault rows f = ⊥
@@ -116,6 +121,7 @@ Fails rows (fault.NoCommand word) = IsKindFault (arguments_of rows) (fault.NoCom
 Fails rows (fault.Options k why) =
     (kind_asked (arguments_of rows) ≡ Some k) × (option_fault rows k ≡ Some why)
 Fails rows (fault.Jobs word) = IsValueFault rows (fault.Jobs word)
+Fails rows (fault.UrlBytes word) = IsValueFault rows (fault.UrlBytes word)
 Fails rows (fault.Format word) = IsValueFault rows (fault.Format word)
 Fails rows (fault.Percent word) = IsValueFault rows (fault.Percent word)
 Fails rows (fault.Rule word) = IsRuleFault (rules_of rows) (fault.Rule word)

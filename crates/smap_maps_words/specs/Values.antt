@@ -41,6 +41,18 @@ IsPercentOf None None = Unit {0}
 IsPercentOf (Some text) (Some n) = IsPercent text × (n ≡ count_in text)
 IsPercentOf given n = ⊥
 
+-- ---- a bound on the bytes of URLs
+
+-- decimal digits, after a plus sign or without, of a number that 64 bits hold
+abbrev pub IsUrlBytes : Text → Type 0
+IsUrlBytes text =
+    IsNumeral 10 (without_leading_plus text) × (digits_value 10 (without_leading_plus text) < 2 ^ 64)
+
+-- 64 MiB, where nothing is said.
+abbrev pub IsUrlBytesOf : Option Text → ℕ → Type 0
+IsUrlBytesOf None n = n ≡ 2 ^ 26
+IsUrlBytesOf (Some text) n = IsUrlBytes text × (n ≡ count_in text)
+
 -- ---- formats
 
 -- Text, where nothing is said.

@@ -111,7 +111,8 @@ fn with_options<'a>(alloc: Global, command: Command<'a>) -> Result<Command<'a>, 
     ensures local { IfOk result (λ c. (fields_of c).has_globals ≡ false) }
 {
     let command = with_option(alloc, command, "base", "URL")?;
-    with_option(alloc, command, "jobs", "N")
+    let command = with_option(alloc, command, "jobs", "N")?;
+    with_option(alloc, command, "url-bytes", "N")
 }
 
 /// With those of `lint`.

@@ -17,6 +17,8 @@ pub enum WordFault<'a> {
     Options(Kind, OptionFault),
     /// The value of `--jobs` is no number from 1.
     Jobs(&'a str),
+    /// The value of `--url-bytes` is no number below 2^64.
+    UrlBytes(&'a str),
     /// The value of `--format` is no format.
     Format(&'a str),
     /// A value of `--rule` isn't NAME=LEVEL.

@@ -21,6 +21,7 @@ fn refusal_text(alloc: Global, error: &Error) -> Result<String, AllocError> {
     match lacking_option(text) {
         Some("--base <URL>") => String::from_str(alloc, "--base needs a URL"),
         Some("--jobs <N>") => String::from_str(alloc, "--jobs needs a number from 1"),
+        Some("--url-bytes <N>") => String::from_str(alloc, "--url-bytes needs a number of bytes"),
         _ => String::from_str(alloc, text),
     }
 }
@@ -91,6 +92,10 @@ pub fn message(alloc: Global, fault: &WordFault<'_>) -> Result<String, AllocErro
         WordFault::Options(kind, fault) => options_text(alloc, *kind, *fault),
         WordFault::Jobs("") => String::from_str(alloc, "--jobs needs a number from 1"),
         WordFault::Jobs(word) => format!(in alloc; "--jobs needs a number from 1: {word}"),
+        WordFault::UrlBytes("") => String::from_str(alloc, "--url-bytes needs a number of bytes"),
+        WordFault::UrlBytes(word) => {
+            format!(in alloc; "--url-bytes needs a number of bytes: {word}")
+        }
         WordFault::Format(word) => { format!(in alloc; "--format is {FORMAT_WORDS}: {word}") }
         WordFault::Rule(word) => {
             format!(in alloc; "--rule is NAME=LEVEL, and LEVEL is off, {LEVEL_WORDS}: {word}")

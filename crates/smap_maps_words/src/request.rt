@@ -10,7 +10,7 @@ use crate::fault::WordFault;
 use crate::kinds::Kind;
 use crate::levels::RuleLevel;
 use crate::options::check_options;
-use crate::values::{check_jobs, format_in, percent_in, rules_in};
+use crate::values::{check_jobs, format_in, percent_in, rules_in, url_bytes_in};
 use clap::error::ErrorKind;
 use clap::{ArgMatches, Error};
 use smap_matches::{is_set, text_in, texts_in};
@@ -70,6 +70,8 @@ pub enum Task<'a> {
 pub struct MapsWords<'a> {
     /// `--base`: the URL of folders.
     pub base: Option<&'a str>,
+    /// `--url-bytes`: how many bytes the URLs of a map's sources may take; 67,108,864 unless it is given.
+    pub url_bytes: usize,
     pub task: Task<'a>,
     /// The paths of files and folders, in the order of the words; there is one at least.
     pub paths: Vec<&'a str>,
@@ -194,10 +196,12 @@ fn request_in<'a>(alloc: Global, matches: &ArgMatches<'a>) -> Result<MapsWords<'
     let kind = first_kind(&texts)?;
     check_options(matches, kind)?;
     check_jobs(matches)?;
+    let url_bytes = url_bytes_in(matches)?;
     let task = task_in(alloc, matches, kind)?;
     let paths = paths_in(alloc, &texts, kind)?;
     Ok(MapsWords {
         base: text_in(matches, "base"),
+        url_bytes,
         task,
         paths,
     })

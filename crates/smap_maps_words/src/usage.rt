@@ -30,6 +30,8 @@ Checks, tidies, flattens, lints or repairs source maps: files, and each *.map in
               How much a rule counts: off, note, warning or error (lint)
   --min-mapped N
               The least part of a script, in percent, that has to be mapped (lint)
+  --url-bytes N
+              Refuse a map if the URLs of its sources take more than N bytes (default 67108864)
   --jobs N    Taken for older calls, and starts nothing: maps are looked at one after the other. For several
               at once run several: find dist -name '*.map' -print0 | xargs -0 -P 4 -n 50 smap-maps check
   -V, --version

@@ -4,6 +4,7 @@ ghost use Rattle.std.specs.Option.{SomeIff};
 ghost use Rattle.clap.specs.Words.{found_of, rows_of};
 ghost use Rattle.smap_maps_words.specs.Values as spec;
 ghost use Rattle.smap_maps_words.specs.Request.{IsValueFault, IsRuleFault, format_of, jobs_of, percent_of};
+ghost use Rattle.smap_maps_words.specs.Request.{url_bytes_of};
 
 use crate::fault::WordFault;
 use crate::levels::RuleLevel;
@@ -33,6 +34,23 @@ pub(crate) fn check_jobs<'a>(matches: &ArgMatches<'a>) -> Result<(), WordFault<'
     match count_in(text) {
         Some(n) if n > 0 => Ok(()),
         _ => Err(WordFault::Jobs(text)),
+    }
+}
+
+/// How many bytes the URLs of a map's sources may take unless another number is given.
+const URL_BYTES: usize = 67_108_864;
+
+/// How many bytes the URLs of a map's sources may take.
+pub(crate) fn url_bytes_in<'a>(matches: &ArgMatches<'a>) -> Result<usize, WordFault<'a>>
+    ensures value { IfOk result (spec.IsUrlBytesOf (url_bytes_of (rows_of (found_of matches.now)))) }
+    ensures fault { IfErr result (IsValueFault (rows_of (found_of matches.now))) }
+{
+    let Some(text) = text_in(matches, "url-bytes") else {
+        return Ok(URL_BYTES);
+    };
+    match text.parse::<usize>() {
+        Ok(n) => Ok(n),
+        Err(_) => Err(WordFault::UrlBytes(text)),
     }
 }
 

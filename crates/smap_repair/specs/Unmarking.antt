@@ -1,10 +1,10 @@
 -- A text that begins with a byte order mark.
 use Rattle.std.specs.Prelude.{◌≡◌, ℕ, true, Bool, bytes_eq, length, List, [], drop, take, string_bytes, IsErr}
-use Rattle.std.specs.Prelude.{IsOk}
 use Rattle.url.specs.Parts.{Parts}
 use Rattle.smap_record.specs.Record.{Allowed}
-use Rattle.smap_record.specs.Reading.{reading}
+use Rattle.smap_record.specs.UrlBytes.{reading_within}
 use Rattle.smap_repair.specs.Listed.{mark}
+use Rattle.smap_repair.specs.Repairing.{IsRead}
 use Rattle.smap_repair.specs.declared.repair.Change.TheVariants as change
 use Rattle.smap_repair.specs.declared.repair.Repair.{Repair}
 use Rattle.smap_repair.specs.declared.repairing.Repaired.{Repaired}
@@ -25,9 +25,9 @@ abbrev pub IsUnmarked : List ℕ → List ℕ → List Repair → Type 0
 IsUnmarked text new repairs = (new ≡ drop 3 text) × (length repairs ≡ 1)
 
 -- The mark alone keeps this text from being read.
-abbrev pub IsMarkedOnly : Parts → Allowed → List ℕ → Type 0
-IsMarkedOnly base limits text = IsErr (reading base limits text)
-    × ((is_marked text ≡ true) × IsOk (reading base limits (drop 3 text)))
+abbrev pub IsMarkedOnly : Parts → Allowed → ℕ → List ℕ → Type 0
+IsMarkedOnly base limits most text = IsErr (reading_within base limits most text)
+    × ((is_marked text ≡ true) × IsRead base limits most (drop 3 text))
 
 -- what is answered then
 abbrev pub LosesMark : List ℕ → Repaired → Type 0

@@ -1,8 +1,9 @@
 //! A text that is read, and where it is refused, repaired and read again.
-ghost use Rattle.std.specs.Prelude.{◌≡◌, IfOk, ℕ, List, IfSome, IsOk, IsErr, Ok, Err};
-ghost use Rattle.smap_record.specs.Reading.{reading};
+ghost use Rattle.std.specs.Prelude.{◌≡◌, IfOk, ℕ, List, IfSome, Err};
+ghost use Rattle.smap_record.specs.Results.{Returns};
+ghost use Rattle.smap_record.specs.UrlBytes.{reading_within};
 ghost use Rattle.smap_repair.specs.Leading.{Leads};
-ghost use Rattle.smap_repair.specs.Repairing.{IsRepaired};
+ghost use Rattle.smap_repair.specs.Repairing.{IsRepaired, IsState};
 ghost use Rattle.smap_repair.specs.Unmarking.{IsMarkedOnly, LosesMark};
 
 use crate::edits::{edits_of_halves, edits_of_maps};
@@ -31,25 +32,49 @@ pub enum Repaired {
         /// The first fault that the repairs leave; none where there is nothing to repair.
         left: Option<Fault>,
     },
+    /// The URLs of its sources take more bytes than they may, as it is or once it is repaired.
+    LongUrls,
 }
 
-/// The first fault of a text; none if it is read.
-fn fault_of(
+/// What a text is.
+#[derive(Drop)]
+enum State {
+    Sound,
+    LongUrls,
+    Faulty(Fault),
+}
+
+/// The map that a text is; none where the URLs of its sources take more bytes.
+fn map_of(
     alloc: Global,
     text: &[u8],
     base: &Base,
     limits: Limits,
-) -> Result<Option<Fault>, AllocError>
-    ensures read { IfOk result (λ o. o ≡ None → IsOk (reading base.now limits text.now)) }
-    ensures refused { IfOk result (λ o. IfSome o (λ f. reading base.now limits text.now ≡ Err f)) }
+    url_bytes: usize,
+) -> Result<Option<SourceMap>, ReadError>
+    ensures { Returns (λ o. o) result (reading_within base.now limits url_bytes text.now) }
 {
-    let error = match SourceMap::from_slice(alloc, text, base, limits) {
-        Ok(_map) => return Ok(None),
-        Err(error) => error,
-    };
-    match error {
-        ReadError::Refused(fault) => Ok(Some(fault)),
-        ReadError::Memory => Err(AllocError),
+    match SourceMap::from_slice_within(alloc, text, base, limits, url_bytes)? {
+        Some((map, _)) => Ok(Some(map)),
+        None => Ok(None),
+    }
+}
+
+/// What a text is, with at most so many bytes for the URLs of its sources.
+fn state_of(
+    alloc: Global,
+    text: &[u8],
+    base: &Base,
+    limits: Limits,
+    url_bytes: usize,
+) -> Result<State, AllocError>
+    ensures { IfOk result (IsState (reading_within base.now limits url_bytes text.now)) }
+{
+    match map_of(alloc, text, base, limits, url_bytes) {
+        Ok(Some(_)) => Ok(State::Sound),
+        Ok(None) => Ok(State::LongUrls),
+        Err(ReadError::Refused(fault)) => Ok(State::Faulty(fault)),
+        Err(ReadError::Memory) => Err(AllocError),
     }
 }
 
@@ -97,16 +122,18 @@ fn repaired_further(
     mended: Mended,
     base: &Base,
     limits: Limits,
+    url_bytes: usize,
 ) -> Result<Repaired, AllocError>
-    ensures { IfOk result (λ a. (old : List ℕ) → reading base.now limits old ≡ Err fault
-        → Leads mended.repairs.items old mended.text.items → IsRepaired base.now limits old a) }
+    ensures { IfOk result (λ a. (old : List ℕ) → reading_within base.now limits url_bytes old ≡ Err fault
+        → Leads mended.repairs.items old mended.text.items → IsRepaired base.now limits url_bytes old a) }
 {
     let Some(Mended { text, repairs }) = further_mended(alloc, mended, base)? else {
         return Ok(Repaired::Refused { fault, left: None });
     };
-    match fault_of(alloc, &text, base, limits)? {
-        None => Ok(Repaired::Mended { text, repairs }),
-        Some(left) => Ok(Repaired::Refused {
+    match state_of(alloc, &text, base, limits, url_bytes)? {
+        State::Sound => Ok(Repaired::Mended { text, repairs }),
+        State::LongUrls => Ok(Repaired::LongUrls),
+        State::Faulty(left) => Ok(Repaired::Refused {
             fault,
             left: Some(left),
         }),
@@ -115,7 +142,8 @@ fn repaired_further(
 
 /// Repairs the text of a map, if it is refused as it is and the closed list of repairs suffices.
 ///
-/// `base` and `limits` are those with which the map is read, before and after. The text is looked through a
+/// `base` and `limits` are those with which the map is read, before and after, and `url_bytes` is how many
+/// bytes the URLs of its sources may take ([`SourceMap::from_slice_within`]). The text is looked through a
 /// few times, whatever the number of repairs, and read twice, or three times if it begins with a byte order
 /// mark: where that alone keeps it from being read, it is all that is removed. A map that needs anything else
 /// besides stays refused, and so does one that needs more than 65,536 repairs. Which section and which index
@@ -129,22 +157,26 @@ pub fn repair_text(
     text: &[u8],
     base: &Base,
     limits: Limits,
+    url_bytes: usize,
 ) -> Result<Repaired, AllocError>
-    ensures answer { IfOk result (IsRepaired base.now limits text.now) }
-    ensures mark { IfOk result (λ a. IsMarkedOnly base.now limits text.now → LosesMark text.now a) }
+    ensures answer { IfOk result (IsRepaired base.now limits url_bytes text.now) }
+    ensures mark { IfOk result (λ a. IsMarkedOnly base.now limits url_bytes text.now → LosesMark text.now a) }
 {
-    let Some(fault) = fault_of(alloc, text, base, limits)? else {
-        return Ok(Repaired::Sound);
+    let fault = match state_of(alloc, text, base, limits, url_bytes)? {
+        State::Sound => return Ok(Repaired::Sound),
+        State::LongUrls => return Ok(Repaired::LongUrls),
+        State::Faulty(fault) => fault,
     };
     let mended = without_mark(alloc, text)?;
     if mended.repairs.is_empty() {
-        return repaired_further(alloc, fault, mended, base, limits);
+        return repaired_further(alloc, fault, mended, base, limits, url_bytes);
     }
-    match fault_of(alloc, &mended.text, base, limits)? {
-        None => Ok(Repaired::Mended {
+    match state_of(alloc, &mended.text, base, limits, url_bytes)? {
+        State::Sound => Ok(Repaired::Mended {
             text: mended.text,
             repairs: mended.repairs,
         }),
-        Some(_) => repaired_further(alloc, fault, mended, base, limits),
+        State::LongUrls => Ok(Repaired::LongUrls),
+        State::Faulty(_) => repaired_further(alloc, fault, mended, base, limits, url_bytes),
     }
 }

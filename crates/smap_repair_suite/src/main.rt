@@ -48,11 +48,12 @@ fn said(rt: &HostRuntime, text: &[u8], answer: &Repaired) -> u8 {
             }
             1
         }
+        Repaired::LongUrls => 1,
     }
 }
 
 fn repair(rt: &HostRuntime, text: &[u8], base: &Base) -> u8 {
-    match repair_text(rt.alloc(), text, base, Limits::usual()) {
+    match repair_text(rt.alloc(), text, base, Limits::usual(), usize::MAX) {
         Ok(answer) => said(rt, text, &answer),
         Err(_) => 4,
     }

@@ -2,19 +2,16 @@
 use lib.Utf8.{encode, next}
 use Rattle.std.proofs.Common.{◌≡◌, ℕ, ◌+◌, ◌/◌, ◌%◌, ◌<◌, ◌≤◌, ◌^◌, ◌==◌, Bool, true, false, cond, List, []}
 use Rattle.std.proofs.Common.{◌∷◌, ◌++◌, append_assoc, arith, chars, codes, decimal, nat_lt, Option, Some}
-use Rattle.std.proofs.Common.{None, option_map, refl, string_bytes, subst, sym}
+use Rattle.std.proofs.Common.{None, refl, string_bytes, subst, sym}
 use Rattle.std.specs.Char.{digit_char}
 use Rattle.std.specs.List.{flat_map}
-use Rattle.std.specs.Prelude.{MatchOption, encode_utf8, if◌then◌else◌}
-use Rattle.std.specs.Option.{option_map_or}
+use Rattle.std.specs.Prelude.{encode_utf8, if◌then◌else◌}
 use Rattle.std.specs.Str.Lossy.{utf8_lossy}
 use Rattle.std.proofs.lemmas.Bool.Decides.{nat_tests}
 use Rattle.std.proofs.lemmas.Fmt.{decimal_by_steps}
 use Rattle.std.proofs.lemmas.List.Concat.{flat_map-cons}
 use Rattle.std.proofs.lemmas.List.Folds.{list_any-append}
-use Rattle.json.specs.Print.{escape_byte, escape_letter, quoted}
-use Rattle.serde_json.specs.Data.{Data, Members, member, no_members, string}
-use Rattle.serde_json.specs.Written.{comma_if, compact_text, members_text}
+use Rattle.serde_json.specs.Written.{compact_text}
 use Rattle.smap_disk.specs.Printing.{escaped as control, hex_byte, is_unsafe, printable, safe_char}
 use Rattle.smap_report.specs.declared.escapes.Place.TheVariants.{Data as message_data, Property, Xml}
 use Rattle.smap_report.specs.declared.findings.Finding.{Finding}
@@ -22,11 +19,10 @@ use Rattle.smap_report.specs.declared.findings.Level.{Level}
 use Rattle.smap_report.specs.declared.findings.Level.TheVariants.{Note, Warning, Error}
 use Rattle.smap_report.specs.declared.findings.Point.{Point}
 use Rattle.smap_report.specs.declared.findings.Rule.{Rule}
-use Rattle.smap_report.specs.Escapes.{escape, escaped, escaped_char, xml}
+use Rattle.smap_report.specs.Escapes.{escaped, json_text, shown, xml}
 use Rattle.smap_report.specs.Findings.{level_word, rule_name}
 use Rattle.smap_report.specs.Laws.{AreNamed, FindingsAreLines, holds_byte, IsLine, IsPlace}
 use Rattle.smap_report.specs.Lines.{command, github_line, github_place, gnu_line, json_line, json_tree}
-use Rattle.smap_report.specs.Lines.{number_or_null}
 use Rattle.smap_report.specs.Junit.{case_line}
 use Rattle.smap_report.specs.Text.{level_column, row}
 use Rattle.smap_report.specs.Phrases.{place_text}
@@ -93,37 +89,6 @@ safe_split false c e = encoded c (safe_differs c e)
 printable_plain : (text : List ℕ) → IsPlain (printable text)
 printable_plain text = mapped safe_char (λ (c : ℕ). safe_split (is_unsafe c) c refl) (chars (utf8_lossy text))
 
--- what is written for a character, if something is
-written : (o : Option (List ℕ)) (c : ℕ) → MatchOption o ((c == 10) ≡ false) IsPlain
-    → IsPlain (option_map_or (λ text. text) o (encode_utf8 c))
-written None c h = encoded c h
-written (Some text) c h = h
-
-data_plain : (p q r : Bool) (c : ℕ) → (c == 10) ≡ r → MatchOption
-    (cond p (Some (codes "%25")) (cond q (Some (codes "%0D")) (cond r (Some (codes "%0A")) None)))
-    ((c == 10) ≡ false) IsPlain
-data_plain true q r c e = fixed (codes "%25") refl
-data_plain false true r c e = fixed (codes "%0D") refl
-data_plain false false true c e = fixed (codes "%0A") refl
-data_plain false false false c e = e
-
-property_plain : (p q : Bool) (o : Option (List ℕ)) (c : ℕ) → MatchOption o ((c == 10) ≡ false) IsPlain
-    → MatchOption (cond p (Some (codes "%3A")) (cond q (Some (codes "%2C")) o))
-    ((c == 10) ≡ false) IsPlain
-property_plain true q o c h = fixed (codes "%3A") refl
-property_plain false true o c h = fixed (codes "%2C") refl
-property_plain false false o c h = h
-
-data_text : (text : List ℕ) → IsPlain (escaped message_data text)
-data_text text = mapped (escaped_char message_data) (λ (c : ℕ). written (escape message_data c) c
-    (data_plain (c == 37) (c == 13) (c == 10) c refl)) (chars text)
-
-property_text : (text : List ℕ) → IsPlain (escaped Property text)
-property_text text = mapped (escaped_char Property) (λ (c : ℕ). written (escape Property c) c
-    (property_plain (c == 58) (c == 44) (escape message_data c) c
-    (data_plain (c == 37) (c == 13) (c == 10) c refl)))
-    (chars text)
-
 decimal_plain : (n : ℕ) → n < 2 ^ 64 → IsPlain (decimal n)
 decimal_plain n h = decimal_by_steps (λ (k : ℕ) (ds : List ℕ). IsPlain ds)
     (λ (k : ℕ) (low : k < 10). above (48 + k) [] (omega arith) (fixed [] refl))
@@ -157,69 +122,6 @@ column_plain Note = fixed (codes "note   ") refl
 column_plain Warning = fixed (codes "warning") refl
 column_plain Error = fixed (codes "error  ") refl
 
--- what stands in a string of JSON for a byte
-letter_differs : (x : ℕ) → (escape_letter x == 10) ≡ false
-letter_differs x = grind (arith, nat_tests)
-
-no_letter : (x : ℕ) → nat_lt 0 (escape_letter x) ≡ false → nat_lt x 32 ≡ false → (x == 10) ≡ false
-no_letter x p q = grind (arith, nat_tests)
-
-byte_split : (s t : Bool) (x : ℕ) → nat_lt 0 (escape_letter x) ≡ s → nat_lt x 32 ≡ t
-    → IsPlain (cond s (92 ∷ escape_letter x ∷ [])
-    (cond t (92 ∷ 117 ∷ 48 ∷ 48 ∷ digit_char (x / 16) ∷ digit_char (x % 16) ∷ []) (x ∷ [])))
-byte_split true t x p q = fixed (92 ∷ escape_letter x ∷ []) (rw (letter_differs x) refl)
-byte_split false true x p q = after (92 ∷ 117 ∷ 48 ∷ 48 ∷ []) _ refl (hex_plain x)
-byte_split false false x p q = fixed (x ∷ []) (rw (no_letter x p q) refl)
-
-byte_plain : (x : ℕ) → IsPlain (escape_byte x)
-unfolding escape_byte
-byte_plain x = byte_split (nat_lt 0 (escape_letter x)) (nat_lt x 32) x refl refl
-
-quoted_plain : (text : List ℕ) → IsPlain (quoted text)
-quoted_plain text = above 34 _ (omega arith) (joined (flat_map escape_byte text) (codes "\"")
-    (mapped escape_byte byte_plain text) (fixed (codes "\"") refl))
-
-comma_plain : (later : Bool) → IsPlain (comma_if later)
-comma_plain true = fixed (codes ",") refl
-comma_plain false = fixed [] refl
-
-record IsPlainData (d : Data) : Type 0 where
-  text : IsPlain (compact_text d)
-
-record ArePlain (later : Bool) (ms : Members) : Type 0 where
-  text : IsPlain (members_text later ms)
-
-none_plain : ArePlain true no_members
-none_plain = record { text = fixed (codes "}") refl }
-
-member_plain : (later : Bool) (k : List ℕ) (d : Data) (ms : Members) → IsPlainData d → ArePlain true ms
-    → ArePlain later (member k d ms)
-member_plain later k d ms p q = record {
-  text = joined (comma_if later) _ (comma_plain later) (joined (quoted k) _ (quoted_plain k)
-      (above 58 _ (omega arith) (joined (compact_text d) (members_text true ms) p.text q.text)));
-}
-
-string_plain : (text : List ℕ) → IsPlainData (string text)
-string_plain text = record { text = quoted_plain text }
-
-line_number : (point : Option Point) → IsPlace point
-    → IsPlainData (number_or_null (option_map (λ p. p.line) point))
-line_number None h = record { text = fixed (codes "null") refl }
-line_number (Some at) h = record { text = decimal_plain at.line h.0 }
-
-column_number : (point : Option Point) → IsPlace point
-    → IsPlainData (number_or_null (option_map (λ p. p.column) point))
-column_number None h = record { text = fixed (codes "null") refl }
-column_number (Some at) h = record { text = decimal_plain at.column h.1 }
-
-abbrev json_members : List Rule → Finding → Members
-json_members rules f = member (codes "column") (number_or_null (option_map (λ p. p.column) f.point))
-    (member (codes "file") (string (string_bytes f.file))
-    (member (codes "level") (string (level_word f.level))
-    (member (codes "line") (number_or_null (option_map (λ p. p.line) f.point))
-    (member (codes "message") (string (string_bytes f.message))
-    (member (codes "rule") (string (rule_name rules f.rule)) no_members)))))
-
 -- the lines without their ends
 abbrev gnu_body : List Rule → Finding → List ℕ
 gnu_body rules f = printable (string_bytes f.file) ++ (place_text (codes ":") f.point [] ++ (codes ": "
@@ -228,9 +130,9 @@ gnu_body rules f = printable (string_bytes f.file) ++ (place_text (codes ":") f.
 
 abbrev github_body : List Rule → Finding → List ℕ
 github_body rules f = codes "::" ++ (command f.level ++ (codes " file="
-    ++ (escaped Property (string_bytes f.file) ++ (github_place f.point ++ (codes ",title="
-    ++ (escaped Property (rule_name rules f.rule) ++ (codes "::"
-    ++ escaped message_data (string_bytes f.message))))))))
+    ++ (shown Property (string_bytes f.file) ++ (github_place f.point ++ (codes ",title="
+    ++ (shown Property (rule_name rules f.rule) ++ (codes "::"
+    ++ shown message_data (string_bytes f.message))))))))
 
 abbrev row_body : List Rule → Finding → List ℕ
 row_body rules f = codes "  " ++ (level_column f.level ++ (codes "  " ++ (place_text [] f.point (codes "  ")
@@ -256,21 +158,10 @@ module _ (rules : List Rule) (f : Finding) (named : AreNamed rules) (place : IsP
 
   github_plain : IsPlain (github_body rules f)
   github_plain = after (codes "::") _ refl (joined _ _ (command_plain f.level)
-      (after (codes " file=") _ refl (joined _ _ (property_text (string_bytes f.file))
+      (after (codes " file=") _ refl (joined _ _ (printable_plain (escaped Property (string_bytes f.file)))
       (joined _ _ (properties_plain f.point place) (after (codes ",title=") _ refl
-      (joined _ _ (property_text (rule_name rules f.rule)) (after (codes "::") _ refl
-      (data_text (string_bytes f.message)))))))))
-
-  members_plain : ArePlain false (json_members rules f)
-  members_plain = member_plain false _ _ _ (column_number f.point place)
-      (member_plain true _ _ _ (string_plain (string_bytes f.file))
-      (member_plain true _ _ _ (string_plain (level_word f.level))
-      (member_plain true _ _ _ (line_number f.point place)
-      (member_plain true _ _ _ (string_plain (string_bytes f.message))
-      (member_plain true _ _ _ (string_plain (rule_name rules f.rule)) none_plain)))))
-
-  json_plain : IsPlain (compact_text (json_tree rules f))
-  json_plain = above 123 (members_text false (json_members rules f)) (omega arith) members_plain.text
+      (joined _ _ (printable_plain (escaped Property (rule_name rules f.rule))) (after (codes "::") _ refl
+      (printable_plain (escaped message_data (string_bytes f.message))))))))))
 
   row_plain : IsPlain (row_body rules f)
   row_plain = after (codes "  ") _ refl (joined _ _ (column_plain f.level) (after (codes "  ") _ refl
@@ -292,8 +183,8 @@ are_lines rules f named place = record {
   for_gnu = ended (gnu_body rules f) (gnu_line rules f) (simp append_assoc) (gnu_plain rules f named place);
   for_github = ended (github_body rules f) (github_line rules f) (simp append_assoc)
       (github_plain rules f named place);
-  for_json = ended (compact_text (json_tree rules f)) (json_line rules f) refl
-      (json_plain rules f named place);
+  for_json = ended (json_text (json_tree rules f)) (json_line rules f) refl
+      (printable_plain (compact_text (json_tree rules f)));
   in_junit = ended (case_body rules f) (case_line rules f) (simp append_assoc)
       (case_plain rules f named place);
 }

@@ -2,6 +2,8 @@
 use Rattle.std.specs.Prelude.{ℕ, ◌==◌, cond, List, chars, codes, encode_utf8, Option, Some, None}
 use Rattle.std.specs.List.{flat_map}
 use Rattle.std.specs.Option.{option_map_or}
+use Rattle.serde_json.specs.Data.{Data as Json}
+use Rattle.serde_json.specs.Written.{compact_text}
 use Rattle.smap_disk.specs.Printing.{printable}
 use Rattle.smap_report.specs.declared.escapes.Place.{Place}
 use Rattle.smap_report.specs.declared.escapes.Place.TheVariants.{Data, Property, Xml}
@@ -34,6 +36,14 @@ escaped_char place c = option_map_or (λ written. written) (escape place c) (enc
 abbrev pub escaped : Place → List ℕ → List ℕ
 escaped place text = flat_map (escaped_char place) (chars text)
 
--- a text in XML, its control characters, most of which XML can't have, as `\u001b`
+-- the same, with the characters that a terminal may take for something else as `\u001b`; XML can't have most
+abbrev pub shown : Place → List ℕ → List ℕ
+shown place text = printable (escaped place text)
+
 abbrev pub xml : List ℕ → List ℕ
-xml text = printable (escaped Xml text)
+xml text = shown Xml text
+
+-- A tree as JSON, as serde_json writes it, with such characters as `\u001b`. They stand in strings alone,
+-- where that is JSON's own escape.
+abbrev pub json_text : Json → List ℕ
+json_text tree = printable (compact_text tree)

@@ -2,7 +2,6 @@
 use Rattle.std.specs.Prelude.{ℕ, List, [], ◌++◌, codes, decimal, Option, option_map, string_bytes}
 use Rattle.std.specs.Option.{option_map_or}
 use Rattle.serde_json.specs.Data.{Data, null, number, unsigned, string, object, member, no_members}
-use Rattle.serde_json.specs.Written.{compact_text}
 use Rattle.smap_disk.specs.Printing.{printable}
 use Rattle.smap_report.specs.declared.escapes.Place.TheVariants.{Data as message_data, Property}
 use Rattle.smap_report.specs.declared.findings.Finding.{Finding}
@@ -12,7 +11,7 @@ use Rattle.smap_report.specs.declared.findings.Point.{Point}
 use Rattle.smap_report.specs.declared.findings.Rule.{Rule}
 use Rattle.smap_report.specs.declared.lines.LineForm.{LineForm}
 use Rattle.smap_report.specs.declared.lines.LineForm.TheVariants.{Gnu, Github, Json}
-use Rattle.smap_report.specs.Escapes.{escaped}
+use Rattle.smap_report.specs.Escapes.{json_text, shown}
 use Rattle.smap_report.specs.Findings.{level_word, rule_name}
 use Rattle.smap_report.specs.Phrases.{place_text}
 
@@ -34,9 +33,9 @@ github_place point =
 -- `::error file=FILE,line=LINE,col=COLUMN,title=rule::message`: a workflow command of GitHub Actions.
 abbrev pub github_line : List Rule → Finding → List ℕ
 github_line rules f = codes "::" ++ (command f.level ++ (codes " file="
-    ++ (escaped Property (string_bytes f.file) ++ (github_place f.point ++ (codes ",title="
-    ++ (escaped Property (rule_name rules f.rule) ++ (codes "::"
-    ++ (escaped message_data (string_bytes f.message) ++ codes "\n"))))))))
+    ++ (shown Property (string_bytes f.file) ++ (github_place f.point ++ (codes ",title="
+    ++ (shown Property (rule_name rules f.rule) ++ (codes "::"
+    ++ (shown message_data (string_bytes f.message) ++ codes "\n"))))))))
 
 abbrev pub number_or_null : Option ℕ → Data
 number_or_null n = option_map_or (λ k. number (unsigned k)) n null
@@ -51,7 +50,7 @@ json_tree rules f = object (member (codes "column") (number_or_null (option_map 
     (member (codes "rule") (string (rule_name rules f.rule)) no_members))))))
 
 abbrev pub json_line : List Rule → Finding → List ℕ
-json_line rules f = compact_text (json_tree rules f) ++ codes "\n"
+json_line rules f = json_text (json_tree rules f) ++ codes "\n"
 
 abbrev pub line : LineForm → List Rule → Finding → List ℕ
 line Gnu rules f = gnu_line rules f

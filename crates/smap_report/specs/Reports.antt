@@ -1,12 +1,12 @@
 -- A report in each of its forms.
 use Rattle.std.specs.Prelude.{ℕ, List, ◌++◌, codes, length, map, string_bytes}
 use Rattle.std.specs.List.{flat_map}
-use Rattle.serde_json.specs.Written.{compact_text}
 use Rattle.smap_report.specs.declared.findings.Report.{Report}
 use Rattle.smap_report.specs.declared.formats.Format.{Format}
 use Rattle.smap_report.specs.declared.formats.Format.TheVariants as formats
 use Rattle.smap_report.specs.declared.lines.LineForm.{LineForm}
 use Rattle.smap_report.specs.declared.lines.LineForm.TheVariants.{Gnu, Github, Json}
+use Rattle.smap_report.specs.Escapes.{json_text}
 use Rattle.smap_report.specs.Junit.{suite, case_files}
 use Rattle.smap_report.specs.Lines.{line}
 use Rattle.smap_report.specs.Sarif.{sarif_tree}
@@ -22,9 +22,9 @@ text r = rows r.rules.now r.findings.now (length r.findings.now)
 abbrev pub lines : LineForm → Report → List ℕ
 lines form r = flat_map (line form r.rules.now) r.findings.now
 
--- SARIF in one line, as serde_json writes it
+-- SARIF in one line
 abbrev pub sarif : Report → List ℕ
-sarif r = compact_text (sarif_tree r.tool.now r.version.now r.rules.now r.findings.now) ++ codes "\n"
+sarif r = json_text (sarif_tree r.tool.now r.version.now r.rules.now r.findings.now) ++ codes "\n"
 
 -- JUnit's XML, with a test case for each file
 abbrev pub junit : Report → List ℕ

@@ -1,7 +1,10 @@
 //! Characters that stand for something else where a text is put.
-ghost use Rattle.std.specs.Prelude.{◌≡◌, ◌++◌, IfOk, OnOk, chars, option_map, string_bytes};
+ghost use Rattle.std.specs.Prelude.{◌≡◌, ◌++◌, IfOk, OnOk, chars, false, option_map, string_bytes};
+ghost use Rattle.serde_json.specs.View.{view};
+ghost use Rattle.serde_json.specs.Written.{has_float};
 ghost use Rattle.smap_report.specs.Escapes as spec;
 
+use serde_json::Value;
 use smap_disk::printable;
 use std::alloc::{AllocError, Global};
 
@@ -74,7 +77,7 @@ fn push_escaped(text: &mut String, place: Place, c: char) -> Result<(), AllocErr
 }
 
 /// A text as it is written there.
-pub(crate) fn escaped(alloc: Global, place: Place, text: &str) -> Result<String, AllocError>
+fn escaped(alloc: Global, place: Place, text: &str) -> Result<String, AllocError>
     ensures { IfOk result (λ t. string_bytes t ≡ spec.escaped place text.now) }
 {
     let mut made = String::new(alloc);
@@ -84,10 +87,27 @@ pub(crate) fn escaped(alloc: Global, place: Place, text: &str) -> Result<String,
     Ok(made)
 }
 
-/// A text as it is written in XML, its control characters as `\u001b`.
+/// A text as it is written there, with the characters that a terminal may take for something else as
+/// `\u001b`.
+pub(crate) fn shown(alloc: Global, place: Place, text: &str) -> Result<String, AllocError>
+    ensures { IfOk result (λ t. string_bytes t ≡ spec.shown place text.now) }
+{
+    let text = escaped(alloc, place, text)?;
+    printable(alloc, text.as_bytes())
+}
+
+/// A text as it is written in XML.
 pub(crate) fn xml(alloc: Global, text: &str) -> Result<String, AllocError>
     ensures { IfOk result (λ t. string_bytes t ≡ spec.xml text.now) }
 {
-    let text = escaped(alloc, Place::Xml, text)?;
-    printable(alloc, text.as_bytes())
+    shown(alloc, Place::Xml, text)
+}
+
+/// A value as JSON, its strings with such characters as `\u001b`, which is JSON's escape too.
+pub(crate) fn json_text(alloc: Global, value: &Value) -> Result<String, AllocError>
+    ensures { IfOk result (λ t. has_float (view value.now) ≡ false
+        → string_bytes t ≡ spec.json_text (view value.now)) }
+{
+    let json = value.to_string(alloc)?;
+    printable(alloc, json.as_bytes())
 }

@@ -4,7 +4,7 @@ ghost use Rattle.serde_json.specs.View.{view};
 ghost use Rattle.smap_report.specs.Lines as spec;
 ghost use Rattle.smap_report.specs.Reports as whole;
 
-use crate::escapes::{Place, escaped};
+use crate::escapes::{Place, json_text, shown};
 use crate::findings::{Finding, Level, Point, Report, Rule, level_word, rule_name};
 use crate::phrases::place_text;
 use serde_json::{Value, json};
@@ -59,10 +59,10 @@ fn github_line(alloc: Global, rules: &[Rule], finding: &Finding) -> Result<Strin
     ensures { IfOk result (λ t. string_bytes t ≡ spec.github_line rules.now finding.now) }
 {
     let command = command(finding.level);
-    let file = escaped(alloc, Place::Property, &finding.file)?;
+    let file = shown(alloc, Place::Property, &finding.file)?;
     let place = github_place(alloc, finding.point)?;
-    let rule = escaped(alloc, Place::Property, rule_name(rules, finding.rule))?;
-    let message = escaped(alloc, Place::Data, &finding.message)?;
+    let rule = shown(alloc, Place::Property, rule_name(rules, finding.rule))?;
+    let message = shown(alloc, Place::Data, &finding.message)?;
     format!(in alloc; "::{command} file={file}{place},title={rule}::{message}\n")
 }
 
@@ -84,7 +84,7 @@ fn json_value(alloc: Global, rules: &[Rule], finding: &Finding) -> Result<Value,
 fn json_line(alloc: Global, rules: &[Rule], finding: &Finding) -> Result<String, AllocError>
     ensures { IfOk result (λ t. string_bytes t ≡ spec.json_line rules.now finding.now) }
 {
-    let mut line = json_value(alloc, rules, finding)?.to_string(alloc)?;
+    let mut line = json_text(alloc, &json_value(alloc, rules, finding)?)?;
     line.push('\n')?;
     Ok(line)
 }

@@ -5,6 +5,7 @@ ghost use Rattle.serde_json.specs.View.{items_of, view};
 ghost use Rattle.smap_report.specs.Reports as whole;
 ghost use Rattle.smap_report.specs.Sarif as spec;
 
+use crate::escapes::json_text;
 use crate::findings::{Finding, Point, Report, Rule, level_word, rule_name};
 use percent_encoding::{AsciiSet, NON_ALPHANUMERIC, ascii_set, utf8_percent_encode};
 use serde_json::{Value, json};
@@ -148,7 +149,7 @@ const SCHEMA: &str =
 pub(crate) fn sarif(alloc: Global, report: &Report<'_>) -> Result<String, AllocError>
     ensures { IfOk result (λ t. string_bytes t ≡ whole.sarif report.now) }
 {
-    let mut text = sarif_value(alloc, report)?.to_string(alloc)?;
+    let mut text = json_text(alloc, &sarif_value(alloc, report)?)?;
     text.push('\n')?;
     Ok(text)
 }

@@ -22,7 +22,12 @@ failure_text failure.TooLong = codes "input too long"
 failure_text failure.Unwritable = codes "cannot write it"
 failure_text failure.Folder = codes "cannot write in its folder"
 failure_text failure.NotWritten = codes "write failed"
+failure_text failure.Changed = codes "it changed meanwhile, and stays as it is"
 failure_text failure.Memory = codes "out of memory"
+
+-- what is wrong with a map of which the URLs of the sources take more than this many bytes
+abbrev pub long_urls : ℕ → List ℕ
+long_urls most = codes "the URLs of its sources take more than " ++ (decimal most ++ codes " bytes")
 
 -- a text as JSON, as `serde_json` writes it
 abbrev pub json_text : List ℕ → List ℕ
@@ -32,6 +37,7 @@ json_text text = compact_text (string text)
 abbrev pub fault_message : Verdict → Option (List ℕ)
 fault_message (verdict.Refused why) = Some (kind_message why.fault.kind)
 fault_message verdict.NotUrl = Some (codes "base is no URL")
+fault_message (verdict.LongUrls most) = Some (long_urls most)
 fault_message (verdict.Failed why) = Some (failure_text why)
 fault_message verdict.Accepted = None
 fault_message verdict.Unchanged = None

@@ -1,5 +1,6 @@
 -- What is said of a map that was read.
-use Rattle.std.specs.Prelude.{◌≡◌, ℕ, List, [], ◌∷◌, Ok, Err, IfSome, if◌then◌else◌, nat_eq}
+use Rattle.std.specs.Prelude.{◌≡◌, ℕ, List, [], ◌∷◌, Ok, Err, Option, Some, None, IfSome, if◌then◌else◌}
+use Rattle.std.specs.Prelude.{nat_eq}
 use Rattle.std.specs.List.{starts_with}
 use Rattle.smap_record.specs.Faults.{Checked}
 use Rattle.smap_record.specs.Record.{ReadMap}
@@ -32,13 +33,14 @@ start_of bytes =
 abbrev pub IsTold : List ℕ → Refusal → Type 0
 IsTold bytes why = (why.start ≡ start_of bytes) × IfSome why.place (IsPlaceOf bytes why.fault)
 
--- The fault that is told is the map's first one, and it is accepted where it has none. That memory ran out
--- says nothing about the map.
-abbrev pub IsJudged : Checked ReadMap → List ℕ → Verdict → Type 0
-IsJudged expected bytes verdict.Accepted = (m : ReadMap) × (expected ≡ Ok m)
-IsJudged expected bytes (verdict.Refused why) = (expected ≡ Err why.fault) × IsTold bytes why
-IsJudged expected bytes (verdict.Failed Memory) = Unit {0}
-IsJudged expected bytes v = ⊥
+-- A map is accepted exactly if the reading within a bound on the bytes of its URLs accepts it: the fault that
+-- is told is its first one, and else its URLs take more. That memory ran out says nothing about the map.
+abbrev pub IsJudged : Checked (Option ReadMap) → ℕ → List ℕ → Verdict → Type 0
+IsJudged expected most bytes verdict.Accepted = (m : ReadMap) × (expected ≡ Ok (Some m))
+IsJudged expected most bytes (verdict.LongUrls n) = (expected ≡ Ok None) × (n ≡ most)
+IsJudged expected most bytes (verdict.Refused why) = (expected ≡ Err why.fault) × IsTold bytes why
+IsJudged expected most bytes (verdict.Failed Memory) = Unit {0}
+IsJudged expected most bytes v = ⊥
 
 abbrev pub IsRefusedFor : List ℕ → Fault → Verdict → Type 0
 IsRefusedFor bytes fault (verdict.Refused why) = (why.fault ≡ fault) × IsTold bytes why

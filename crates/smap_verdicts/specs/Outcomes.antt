@@ -15,6 +15,7 @@ name verdict.Kept = codes "kept"
 name verdict.Rewritten = codes "rewritten"
 name (verdict.Refused why) = codes "refused"
 name verdict.NotUrl = codes "refused"
+name (verdict.LongUrls most) = codes "refused"
 name (verdict.Failed why) = codes "failed"
 
 abbrev pub failure_status : Failure → ℕ
@@ -30,6 +31,7 @@ status verdict.Kept = 1
 status verdict.Rewritten = 0
 status (verdict.Refused why) = 1
 status verdict.NotUrl = 1
+status (verdict.LongUrls most) = 1
 status (verdict.Failed why) = failure_status why
 
 -- no map yet

@@ -7,7 +7,7 @@ use Rattle.smap_drops.specs.Naming.{shown_name}
 use Rattle.smap_record.specs.Messages.{fault_message}
 use Rattle.smap_record.specs.declared.fault.Kind.{Kind}
 use Rattle.smap_record.specs.declared.fault.Kind.TheVariants as kinds
-use Rattle.smap_verdicts.specs.JsonLines.{failure_text}
+use Rattle.smap_verdicts.specs.JsonLines.{failure_text, long_urls}
 use Rattle.smap_verdicts.specs.declared.outcome.Outcome.{Outcome}
 use Rattle.smap_verdicts.specs.declared.outcome.Refusal.{Refusal}
 use Rattle.smap_verdicts.specs.declared.outcome.Start.{Start}
@@ -54,6 +54,7 @@ drops_text drops = cond (length drops == 0) None (Some (codes "drops " ++ names_
 abbrev pub said_of : Verdict → List (String Global) → List (String Global) → Option (List ℕ)
 said_of (verdict.Refused why) drops changes = Some (refusal_text why (slice_get changes 0))
 said_of verdict.NotUrl drops changes = Some (codes "base is no URL")
+said_of (verdict.LongUrls most) drops changes = Some (long_urls most ++ codes " (--url-bytes allows more)")
 said_of (verdict.Failed why) drops changes = Some (failure_text why)
 said_of verdict.Kept drops changes =
     Some (codes "not rewritten, since that drops " ++ (names_text drops ++ codes " (--drop allows it)"))

@@ -21,6 +21,7 @@ pub(crate) fn failure_text(failure: Failure) -> &'static str
         Failure::Unwritable => "cannot write it",
         Failure::Folder => "cannot write in its folder",
         Failure::NotWritten => "write failed",
+        Failure::Changed => "it changed meanwhile, and stays as it is",
         Failure::Memory => "out of memory",
     }
 }
@@ -33,6 +34,13 @@ fn json_text(alloc: Global, text: &str) -> Result<String, AllocError>
     value.to_string(alloc)
 }
 
+/// What is wrong with a map of which the URLs of the sources take more than this many bytes.
+pub(crate) fn long_urls(alloc: Global, most: usize) -> Result<String, AllocError>
+    ensures { IfOk result (λ t. string_bytes t ≡ spec.long_urls most) }
+{
+    format!(in alloc; "the URLs of its sources take more than {most} bytes")
+}
+
 /// What is wrong with a map, without its place.
 fn fault_message(alloc: Global, verdict: &Verdict) -> Result<Option<String>, AllocError>
     ensures { IfOk result (λ o. option_map string_bytes o ≡ spec.fault_message verdict.now) }
@@ -43,6 +51,7 @@ fn fault_message(alloc: Global, verdict: &Verdict) -> Result<Option<String>, All
             Ok(Some(format!(in alloc; "{kind}")?))
         }
         Verdict::NotUrl => Ok(Some(String::from_str(alloc, "base is no URL")?)),
+        Verdict::LongUrls(most) => Ok(Some(long_urls(alloc, *most)?)),
         Verdict::Failed(failure) => { Ok(Some(String::from_str(alloc, failure_text(*failure))?)) }
         _ => Ok(None),
     }

@@ -29,6 +29,8 @@ pub enum Failure {
     Folder,
     /// The new file wasn't written in full.
     NotWritten,
+    /// Another program has written it since it was read.
+    Changed,
     /// Out of memory.
     Memory,
 }
@@ -70,6 +72,8 @@ pub enum Verdict {
     Refused(Refusal),
     /// Its own URL is none.
     NotUrl,
+    /// The URLs of its sources take more than this many bytes, which is how many they may take.
+    LongUrls(usize),
     /// It is neither accepted nor refused, or can't be replaced.
     Failed(Failure),
 }
@@ -85,7 +89,7 @@ impl Verdict {
             Verdict::Changed => "changed",
             Verdict::Kept => "kept",
             Verdict::Rewritten => "rewritten",
-            Verdict::Refused(_) | Verdict::NotUrl => "refused",
+            Verdict::Refused(_) | Verdict::NotUrl | Verdict::LongUrls(_) => "refused",
             Verdict::Failed(_) => "failed",
         }
     }
@@ -98,7 +102,8 @@ impl Verdict {
     {
         match self {
             Verdict::Accepted | Verdict::Unchanged | Verdict::Rewritten => 0,
-            Verdict::Changed | Verdict::Kept | Verdict::Refused(_) | Verdict::NotUrl => 1,
+            Verdict::Changed | Verdict::Kept => 1,
+            Verdict::Refused(_) | Verdict::NotUrl | Verdict::LongUrls(_) => 1,
             Verdict::Failed(Failure::Memory) => 4,
             Verdict::Failed(_) => 3,
         }

@@ -2,7 +2,7 @@
 ghost use Rattle.std.specs.Prelude.{◌≡◌, IfOk, option_copied, option_map, string_bytes};
 ghost use Rattle.smap_verdicts.specs.Remarks as spec;
 
-use crate::json_lines::failure_text;
+use crate::json_lines::{failure_text, long_urls};
 use crate::outcome::{Outcome, Refusal, Start, TextPlace, Verdict};
 use smap_drops::shown_name;
 use smap_record::{Fault, Kind};
@@ -90,6 +90,11 @@ pub fn remark(alloc: Global, outcome: &Outcome) -> Result<Option<String>, AllocE
     match &outcome.verdict {
         Verdict::Refused(why) => Ok(Some(refusal_text(alloc, why, outcome.changes.first())?)),
         Verdict::NotUrl => Ok(Some(String::from_str(alloc, "base is no URL")?)),
+        Verdict::LongUrls(most) => {
+            let fault = long_urls(alloc, *most)?;
+            let fault = fault.as_str();
+            Ok(Some(format!(in alloc; "{fault} (--url-bytes allows more)")?))
+        }
         Verdict::Failed(failure) => { Ok(Some(String::from_str(alloc, failure_text(*failure))?)) }
         Verdict::Kept => {
             let names = names_text(alloc, &outcome.drops)?;
