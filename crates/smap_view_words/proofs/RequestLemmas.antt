@@ -20,6 +20,8 @@ fault_told words rows fault.Memory none is h = tt
 fault_told words rows (fault.Refused e) none is h = absurd h
 fault_told words rows (fault.Sizes word) none is h =
     (none, subst (λ (r : List Row). Fails r (fault.Sizes word)) is h)
+fault_told words rows (fault.UrlBytes word) none is h =
+    (none, subst (λ (r : List Row). Fails r (fault.UrlBytes word)) is h)
 fault_told words rows fault.Nothing none is h = (none, subst (λ (r : List Row). Fails r fault.Nothing) is h)
 fault_told words rows (fault.Excess word) none is h =
     (none, subst (λ (r : List Row). Fails r (fault.Excess word)) is h)
@@ -57,5 +59,6 @@ answered_err words e (Err (fault.Refused x)) (inr among) h = (
   λ is. h.3 (sym h.0 ∙ is),
 )
 answered_err words e (Err (fault.Sizes word)) has h = absurd h
+answered_err words e (Err (fault.UrlBytes word)) has h = absurd h
 answered_err words e (Err fault.Nothing) has h = absurd h
 answered_err words e (Err (fault.Excess word)) has h = absurd h

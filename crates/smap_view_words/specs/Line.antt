@@ -25,8 +25,11 @@ alone = record (new_app (codes "smap-view")) {
   };
 }
 
+abbrev pub with_map_options : App → App
+with_map_options a = with_rule (with_rule a (option_named (codes "base"))) (option_named (codes "url-bytes"))
+
 abbrev pub with_page_options : App → App
-with_page_options a = with_rule (with_rule a (option_named (codes "base"))) output_rule
+with_page_options a = with_rule (with_map_options a) output_rule
 
 abbrev pub with_size_options : App → App
 with_size_options a = with_rule (with_rule a (option_named (codes "sizes"))) (option_named (codes "budget"))

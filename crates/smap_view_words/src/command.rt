@@ -58,13 +58,23 @@ fn with_option<'a>(
     command.arg(option(alloc, name, value))
 }
 
+/// With the options of maps.
+fn with_map_options<'a>(alloc: Global, command: Command<'a>) -> Result<Command<'a>, AllocError>
+    requires { (fields_of command).has_globals ≡ false }
+    ensures shape { IfOk result (λ c. app_of c ≡ line.with_map_options (app_of command.entry)) }
+    ensures local { IfOk result (λ c. (fields_of c).has_globals ≡ false) }
+{
+    let command = with_option(alloc, command, "base", "URL")?;
+    with_option(alloc, command, "url-bytes", "N")
+}
+
 /// With the options of a page.
 fn with_page_options<'a>(alloc: Global, command: Command<'a>) -> Result<Command<'a>, AllocError>
     requires { (fields_of command).has_globals ≡ false }
     ensures shape { IfOk result (λ c. app_of c ≡ line.with_page_options (app_of command.entry)) }
     ensures local { IfOk result (λ c. (fields_of c).has_globals ≡ false) }
 {
-    let command = with_option(alloc, command, "base", "URL")?;
+    let command = with_map_options(alloc, command)?;
     command.arg(output_option(alloc))
 }
 

@@ -3,13 +3,15 @@ use clap::Error;
 use std::alloc::{AllocError, AllocFailed};
 
 /// What is wrong with a command line. Faults that `clap` finds come first, then what is wrong with the value
-/// of `--sizes`, and then with the arguments.
+/// of `--sizes`, with that of `--url-bytes`, and then with the arguments.
 #[derive(Debug, Drop)]
 pub enum WordFault<'a> {
     /// An option that there isn't, one without its value, or a flag with one.
     Refused(Error),
     /// The value of `--sizes` is no form.
     Sizes(&'a str),
+    /// The value of `--url-bytes` is no number of bytes.
+    UrlBytes(&'a str),
     /// There is no argument.
     Nothing,
     /// This is the third argument.

@@ -29,6 +29,7 @@ fn refusal_text(alloc: Global, error: &Error) -> Result<String, AllocError> {
     }
     match lacking_option(text) {
         Some("--base <URL>") => String::from_str(alloc, "--base needs a URL"),
+        Some("--url-bytes <N>") => String::from_str(alloc, "--url-bytes needs a number of bytes"),
         Some("-o <FILE>") => String::from_str(alloc, "-o needs a file"),
         Some("--sizes <FORMAT>") => String::from_str(alloc, "--sizes needs table, tsv or json"),
         Some("--budget <FILE>") => String::from_str(alloc, "--budget needs a file"),
@@ -46,6 +47,9 @@ pub fn message(alloc: Global, fault: &WordFault<'_>) -> Result<String, AllocErro
     match fault {
         WordFault::Refused(error) => refusal_text(alloc, error),
         WordFault::Sizes(word) => format!(in alloc; "--sizes is table, tsv or json: {word}"),
+        WordFault::UrlBytes(word) => {
+            format!(in alloc; "--url-bytes needs a number of bytes: {word}")
+        }
         WordFault::Nothing => String::from_str(alloc, "no map, script or folder"),
         WordFault::Excess(word) => format!(in alloc; "more than a map and its script: {word}"),
         WordFault::Memory => String::from_str(alloc, "out of memory"),

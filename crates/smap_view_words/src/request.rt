@@ -1,9 +1,11 @@
 //! What a command line asks for.
 ghost use Rattle.std.specs.Prelude.{◌≡◌, IfErr, IfOk, map, option_map};
+ghost use Rattle.std.specs.Option.{SomeIff};
 ghost use Rattle.clap.specs.Words.{found_of, kind_of, rows_of};
 ghost use Rattle.smap_view_words.specs.Request.{Answers, Asks, Fails, IsAsked, IsFault, IsArguments};
 ghost use Rattle.smap_view_words.specs.Request.{IsArgumentFault, IsSizesFault, IsSizesOf, sizes_named};
-ghost use Rattle.smap_view_words.specs.Request.{sizes_of};
+ghost use Rattle.smap_view_words.specs.Request.{IsCount, IsUrlBytesFault, IsUrlBytesOf, count_in};
+ghost use Rattle.smap_view_words.specs.Request.{sizes_of, url_bytes_of, usual_url_bytes};
 
 use crate::command::view_command;
 use crate::fault::WordFault;
@@ -11,6 +13,9 @@ use clap::error::ErrorKind;
 use clap::{ArgMatches, Error};
 use smap_matches::{text_in, texts_in};
 use std::alloc::Global;
+
+/// How many bytes the URLs of a map's sources may take where nothing is said: 64 MiB.
+const USUAL_URL_BYTES: usize = 67_108_864;
 
 /// How the sizes of sources are written.
 #[derive(Clone, Copy, Debug, PartialEq, Eq)]
@@ -27,6 +32,9 @@ pub enum SizesForm {
 pub struct ViewWords<'a> {
     /// `--base`: the URL of the map's folder.
     pub base: Option<&'a str>,
+    /// `--url-bytes`: how many bytes the URLs of a map's sources may take together, 64 MiB where nothing is
+    /// said.
+    pub url_bytes: usize,
     /// `-o`: the file of the page.
     pub output: Option<&'a str>,
     /// `--sizes`: sizes are written in place of a page.
@@ -76,6 +84,27 @@ fn sizes_in<'a>(matches: &ArgMatches<'a>) -> Result<Option<SizesForm>, WordFault
     }
 }
 
+/// The count of bytes that this is.
+fn count_in(text: &str) -> Option<usize>
+    ensures { SomeIff result (IsCount text.now) (count_in text.now) }
+{
+    text.parse::<usize>().ok()
+}
+
+/// How many bytes the URLs of a map's sources may take.
+fn url_bytes_in<'a>(matches: &ArgMatches<'a>) -> Result<usize, WordFault<'a>>
+    ensures value { IfOk result (IsUrlBytesOf (url_bytes_of (rows_of (found_of matches.now)))) }
+    ensures fault { IfErr result (IsUrlBytesFault (url_bytes_of (rows_of (found_of matches.now)))) }
+{
+    let Some(text) = text_in(matches, "url-bytes") else {
+        return Ok(USUAL_URL_BYTES);
+    };
+    match count_in(text) {
+        Some(count) => Ok(count),
+        None => Err(WordFault::UrlBytes(text)),
+    }
+}
+
 /// The arguments: a map, a script or a folder, and the script of a map.
 fn arguments_in<'a>(texts: &[&'a str]) -> Result<(&'a str, Option<&'a str>), WordFault<'a>>
     ensures value { IfOk result (λ r. IsArguments (map (λ s. s.now) texts.now) r.0.now
@@ -95,10 +124,12 @@ fn request_in<'a>(alloc: Global, matches: &ArgMatches<'a>) -> Result<ViewWords<'
     ensures fault { IfErr result (Fails (rows_of (found_of matches.now))) }
 {
     let sizes = sizes_in(matches)?;
+    let url_bytes = url_bytes_in(matches)?;
     let texts = texts_in(alloc, matches, "argument")?;
     let (file, script) = arguments_in(&texts)?;
     Ok(ViewWords {
         base: text_in(matches, "base"),
+        url_bytes,
         output: text_in(matches, "output"),
         sizes,
         budget: text_in(matches, "budget"),

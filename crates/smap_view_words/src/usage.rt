@@ -2,8 +2,8 @@
 
 /// What `--help` prints. It is printed on standard error where no argument is given.
 pub const HELP: &str = "\
-Usage: smap-view [--base URL] [-o FILE] MAP|SCRIPT|FOLDER [SCRIPT] >page.html
-       smap-view [--base URL] --sizes FORMAT [--budget FILE] MAP|SCRIPT|FOLDER [SCRIPT]
+Usage: smap-view [--base URL] [--url-bytes N] [-o FILE] MAP|SCRIPT|FOLDER [SCRIPT] >page.html
+       smap-view [--base URL] [--url-bytes N] --sizes FORMAT [--budget FILE] MAP|SCRIPT|FOLDER [SCRIPT]
 
 Writes an HTML page to look at a source map: the script beside its sources with each mapping coloured, and how
 many bytes of the script come from which source. The page holds all that it shows, and requests nothing.
@@ -16,6 +16,9 @@ many bytes of the script come from which source. The page holds all that it show
 
   --base URL  The map's URL is URL/ and its name, instead of the file: URL of the file; that of a map in a
               folder is URL/ and its path below the folder
+  --url-bytes N
+              Refuse a map if the URLs of its sources take more than N bytes, by default 67108864 (64 MiB): a
+              long sourceRoot goes before each source, so a small map may have URLs of gigabytes
   -o FILE     Write the page to FILE, which appears once it is whole
   --sizes FORMAT
               Write no page, but the bytes and mappings of each source: table, tsv or json
@@ -27,11 +30,12 @@ many bytes of the script come from which source. The page holds all that it show
               Print the version
   -h, --help  Print help
 
-If the map is refused, the page has the error and the part of the map where it is.
+If the map is refused, the page has the error and the part of the map where it is. Of a folder a script that
+can't be shown is named and left out.
 
-Status: 0 done; 1 a map is refused, or there are more bytes than the budget allows; 2 the command line is
-wrong, or there is no script or no map; 3 a file can't be read, or the output can't be written; 4 out of
-memory; 141 nobody reads the output any more.
+Status: 0 done; 1 a map is refused, a script of a folder left out, or there are more bytes than the budget
+allows; 2 the command line is wrong, or there is no script or no map; 3 a file can't be read, or the output
+can't be written; 4 out of memory; 141 nobody reads the output any more.
 ";
 
 /// The number of the release.

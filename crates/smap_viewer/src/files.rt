@@ -1,4 +1,7 @@
 //! Files that are named on the command line, and where they are.
+ghost use Rattle.std.specs.Prelude.{◌≡◌};
+ghost use Rattle.smap_viewer.specs.Files as spec;
+
 use smap_disk::{Disk, FileFault, Kind, read_file};
 use smap_host::{Host, Stop};
 use std::alloc::{AllocError, Global};
@@ -19,7 +22,7 @@ pub(crate) fn parted(path: &str) -> (&str, &str) {
 }
 
 /// What a file that is there holds.
-pub(crate) fn read<E: Eprint + AllocGlobal, D: Disk>(
+fn read<E: Eprint + AllocGlobal, D: Disk>(
     host: &Host<'_, E, D>,
     path: &str,
 ) -> Result<Vec<u8>, Stop> {
@@ -76,12 +79,18 @@ fn real_path<D: Disk>(alloc: Global, disk: &D, path: &str) -> Result<Option<Stri
     }
 }
 
-/// Whether a path is below that of a folder.
-fn is_below(folder: &str, path: &str) -> bool {
-    match path.strip_prefix(folder) {
-        Some(rest) => rest.starts_with('/') || folder == "/",
-        None => false,
-    }
+/// Whether an absolute path is below that of a folder.
+fn is_below(folder: &str, path: &str) -> bool
+    ensures { result ≡ spec.is_below folder.now path.now }
+{
+    folder == "/" || is_behind(folder.as_bytes(), path.as_bytes())
+}
+
+/// Whether a path is that of a folder, a slash, and anything behind it.
+fn is_behind(folder: &[u8], path: &[u8]) -> bool
+    ensures { result ≡ spec.is_behind folder.now path.now }
+{
+    path.starts_with(folder) && path[folder.len()..].starts_with(b"/")
 }
 
 /// Whether a file stands in a folder or below it once links are followed.

@@ -1,6 +1,6 @@
 //! A map and its script, read.
 use crate::bases::{file_url_of, folder_url};
-use crate::files::{parted, read_named, text_of};
+use crate::files::{parted, read_named, stays, text_of};
 use crate::links::{Home, Link, link_of};
 use crate::refusals::{hint, place_of};
 use crate::scripts::script_of;
@@ -9,6 +9,15 @@ use smap_disk::Disk;
 use smap_host::{Host, Stop};
 use smap_link::{FileKind, file_kind};
 use smap_record::{Base, BaseFault, Fault, Limits, ReadError, SourceMap};
+
+/// How maps are read.
+#[derive(Clone, Copy)]
+pub(crate) struct Reading<'a> {
+    /// The URL of the folder, with a slash at its end, if one is given.
+    pub(crate) base: Option<&'a str>,
+    /// How many bytes the URLs of a map's sources may take.
+    pub(crate) url_bytes: usize,
+}
 
 /// What is to be looked at.
 #[derive(Clone, Copy)]
@@ -22,6 +31,8 @@ pub(crate) enum Item<'a> {
     Script {
         folder: &'a str,
         name: &'a str,
+        /// Whether it was found there: what is named is the folder.
+        found: bool,
     },
 }
 
@@ -62,7 +73,26 @@ struct Script {
     bytes: Vec<u8>,
 }
 
-/// Says why a map is refused.
+/// Says why a map is refused, and what may help.
+fn refuse<E: Eprint + AllocGlobal, D: Disk>(
+    host: &Host<'_, E, D>,
+    found: Found,
+    error: String,
+    hint: &str,
+    place: Value,
+) -> Result<Loaded, Stop> {
+    let alloc = host.alloc();
+    let (path, text) = (found.path.as_str(), error.as_str());
+    let said = format!(in alloc; "{path}: {text}{hint}")?;
+    host.say(said.as_str());
+    Ok(Loaded {
+        map: found.name,
+        url: found.url,
+        script: String::new(alloc),
+        content: Content::Refused(error, place),
+    })
+}
+
 fn refuse_map<E: Eprint + AllocGlobal, D: Disk>(
     host: &Host<'_, E, D>,
     found: Found,
@@ -70,20 +100,24 @@ fn refuse_map<E: Eprint + AllocGlobal, D: Disk>(
 ) -> Result<Loaded, Stop> {
     let alloc = host.alloc();
     let error = format!(in alloc; "{fault}")?;
-    let (path, text, hint) = (
-        found.path.as_str(),
-        error.as_str(),
-        hint(&found.bytes, fault),
-    );
-    let said = format!(in alloc; "{path}: {text}{hint}")?;
-    host.say(said.as_str());
+    let hint = hint(&found.bytes, fault);
     let place = place_of(alloc, &found.bytes, fault)?;
-    Ok(Loaded {
-        map: found.name,
-        url: found.url,
-        script: String::new(alloc),
-        content: Content::Refused(error, place),
-    })
+    refuse(host, found, error, hint, place)
+}
+
+fn refuse_urls<E: Eprint + AllocGlobal, D: Disk>(
+    host: &Host<'_, E, D>,
+    found: Found,
+    most: usize,
+) -> Result<Loaded, Stop> {
+    let error = format!(in host.alloc(); "the URLs of its sources take more than {most} bytes")?;
+    refuse(
+        host,
+        found,
+        error,
+        " (--url-bytes allows more)",
+        Value::Null,
+    )
 }
 
 fn base_of<E: Eprint + AllocGlobal, D: Disk>(
@@ -121,13 +155,16 @@ fn script_for<E: Eprint + AllocGlobal, D: Disk>(
 fn load_found<E: Eprint + AllocGlobal, D: Disk>(
     host: &Host<'_, E, D>,
     found: Found,
+    url_bytes: usize,
     script: Option<Script>,
     named: Option<&str>,
 ) -> Result<Loaded, Stop> {
     let alloc = host.alloc();
     let base = base_of(host, &found)?;
-    let map = match SourceMap::from_slice(alloc, &found.bytes, &base, Limits::usual()) {
-        Ok(map) => map,
+    let (bytes, limits) = (found.bytes.as_slice(), Limits::usual());
+    let map = match SourceMap::from_slice_within(alloc, bytes, &base, limits, url_bytes) {
+        Ok(Some((map, _))) => map,
+        Ok(None) => return refuse_urls(host, found, url_bytes),
         Err(ReadError::Memory) => return Err(Stop::Memory),
         Err(ReadError::Refused(fault)) => return refuse_map(host, found, &fault),
     };
@@ -176,52 +213,76 @@ fn fail_alone<E: Eprint + AllocGlobal, D: Disk>(
     }
 }
 
-/// Reads the script with this name and its map.
+/// What a script holds. Nobody has named one that was found in a folder, so a link that leads out of it isn't
+/// followed.
+fn read_script<E: Eprint + AllocGlobal, D: Disk>(
+    host: &Host<'_, E, D>,
+    home: Home<'_>,
+    path: &str,
+    found: bool,
+) -> Result<Vec<u8>, Stop> {
+    if found && !stays(host.alloc(), host.disk, home.folder, path)? {
+        let text = format!(in host.alloc(); "{path} is a link to elsewhere")?;
+        return Err(host.fail(1, text.as_str()));
+    }
+    read_named(host, path)
+}
+
+/// Reads a script and its map. One that was found in a folder may have none.
 fn load_script<E: Eprint + AllocGlobal, D: Disk>(
     host: &Host<'_, E, D>,
-    folder: &str,
-    base: Option<&str>,
-    name: &str,
-) -> Result<Loaded, Stop> {
+    reading: Reading<'_>,
+    home: Home<'_>,
+    found: bool,
+) -> Result<Option<Loaded>, Stop> {
     let alloc = host.alloc();
+    let Home { folder, url, name } = home;
     let path = format!(in alloc; "{folder}{name}")?;
-    let bytes = read_named(host, path.as_str())?;
-    let url = folder_url(host, base, folder)?;
-    let home = Home {
-        folder,
-        url: &url,
-        name,
-    };
-    let found = match link_of(alloc, host.disk, home, &bytes)? {
-        Link::File(map) => found_in(host, folder, &url, map.as_str())?,
+    let bytes = read_script(host, home, path.as_str(), found)?;
+    let map = match link_of(alloc, host.disk, home, &bytes)? {
+        Link::File(map) => found_in(host, folder, url, map.as_str())?,
         Link::Inline(map) => Found {
             path: String::from_str(alloc, path.as_str())?,
             name: String::from_str(alloc, parted(name).1)?,
-            url: file_url_of(host, &url, name)?,
+            url: file_url_of(host, url, name)?,
             bytes: map,
         },
+        Link::Nothing | Link::Broken if found => return Ok(None),
         Link::Nothing => return Err(fail_alone(host, path.as_str(), "it names no map")),
         Link::Broken => {
             let what = "the map that it names isn't here";
             return Err(fail_alone(host, path.as_str(), what));
         }
     };
-    load_found(host, found, Some(Script { path, bytes }), None)
+    let script = Some(Script { path, bytes });
+    Ok(Some(load_found(host, map, reading.url_bytes, script, None)?))
 }
 
-/// Reads what is to be looked at.
+/// Reads what is to be looked at: nothing where a script that was found in a folder has no map.
 pub(crate) fn load<E: Eprint + AllocGlobal, D: Disk>(
     host: &Host<'_, E, D>,
-    base: Option<&str>,
+    reading: Reading<'_>,
     item: Item<'_>,
-) -> Result<Loaded, Stop> {
+) -> Result<Option<Loaded>, Stop> {
     match item {
-        Item::Script { folder, name } => load_script(host, folder, base, name),
+        Item::Script {
+            folder,
+            name,
+            found,
+        } => {
+            let url = folder_url(host, reading.base, folder)?;
+            let home = Home {
+                folder,
+                url: &url,
+                name,
+            };
+            load_script(host, reading, home, found)
+        }
         Item::Map { path, script } => {
             let (folder, name) = parted(path);
-            let url = folder_url(host, base, folder)?;
-            let found = found_in(host, folder, &url, name)?;
-            load_found(host, found, None, script)
+            let url = folder_url(host, reading.base, folder)?;
+            let map = found_in(host, folder, &url, name)?;
+            Ok(Some(load_found(host, map, reading.url_bytes, None, script)?))
         }
     }
 }
@@ -231,7 +292,11 @@ pub(crate) fn item_of<'a>(path: &'a str, script: Option<&'a str>) -> Item<'a> {
     match (file_kind(path.as_bytes()), script) {
         (FileKind::Script | FileKind::StyleSheet, None) => {
             let (folder, name) = parted(path);
-            Item::Script { folder, name }
+            Item::Script {
+                folder,
+                name,
+                found: false,
+            }
         }
         _ => Item::Map { path, script },
     }

@@ -2,7 +2,7 @@
 use crate::bases::base_given;
 use crate::budget::Budget;
 use crate::folders::{scripts_in, with_slash};
-use crate::loading::{Content, Item, Loaded, item_of, load};
+use crate::loading::{Content, Item, Loaded, Reading, item_of, load};
 use crate::page::{data_of, write_data};
 use crate::sizing::sizes_text;
 use crate::status::Verdict;
@@ -16,32 +16,77 @@ use std::io::Write;
 /// What a run does.
 #[derive(Clone, Copy)]
 struct Job<'a> {
-    /// The URL of the folder, with a slash at its end, if one is given.
-    base: Option<&'a str>,
+    /// The first argument.
+    given: &'a str,
+    reading: Reading<'a>,
     items: &'a [Item<'a>],
 }
 
-/// Writes the page into its template, and answers whether a map was refused.
+/// What there is to show of an item. Of the scripts of a folder nothing is shown if there is no map, or if it
+/// can't be shown, as it is said then: it is left out, and the others are shown.
+fn loaded<E: Eprint + AllocGlobal, D: Disk>(
+    host: &Host<'_, E, D>,
+    job: &Job<'_>,
+    item: Item<'_>,
+    verdict: &mut Verdict,
+) -> Result<Option<Loaded>, Stop> {
+    match (load(host, job.reading, item), item) {
+        (Err(Stop::Reported(status)), Item::Script { found: true, .. }) => {
+            *verdict = verdict.with_left_out(status);
+            Ok(None)
+        }
+        (Ok(Some(loaded)), _) => {
+            verdict.refused |= matches!(loaded.content, Content::Refused(..));
+            Ok(Some(loaded))
+        }
+        (answer, _) => answer,
+    }
+}
+
+/// Says that there is nothing to show. Why scripts were left out has been said.
+fn fail_empty<E: Eprint + AllocGlobal, D: Disk>(
+    host: &Host<'_, E, D>,
+    job: &Job<'_>,
+    verdict: Verdict,
+) -> Stop {
+    let given = job.given;
+    let (status, what) = match verdict.status() {
+        0 => (2, "no script with a map in"),
+        status => (status, "nothing that can be shown in"),
+    };
+    match format!(in host.alloc(); "{what} {given}") {
+        Ok(text) => host.fail(status, text.as_str()),
+        Err(_) => Stop::Memory,
+    }
+}
+
+/// Writes the page into its template.
 fn write_page<E: Eprint + AllocGlobal, D: Disk, W: Write>(
     host: &Host<'_, E, D>,
     job: &Job<'_>,
     template: &str,
     writer: &mut Watched<W>,
-) -> Result<bool, Stop> {
+) -> Result<Verdict, Stop> {
     let (head, tail) = parts(template);
-    let mut refused = false;
-    for (done, item) in job.items.iter().enumerate() {
-        let loaded = load(host, job.base, *item)?;
-        refused |= matches!(loaded.content, Content::Refused(..));
+    let mut verdict = Verdict::new();
+    let mut shown: usize = 0;
+    for item in job.items {
+        let Some(loaded) = loaded(host, job, *item, &mut verdict)? else {
+            continue;
+        };
         let data = data_of(host.alloc(), loaded)?;
-        // what can fail in the first one has failed by now, and then nothing is written
-        if done == 0 {
+        // nothing is written before there is something to show
+        if shown == 0 {
             host.write(head.as_bytes(), writer)?;
         }
-        write_data(host, done.saturating_add(1), &data, writer)?;
+        shown = shown.saturating_add(1);
+        write_data(host, shown, &data, writer)?;
+    }
+    if shown == 0 {
+        return Err(fail_empty(host, job, verdict));
     }
     host.write(tail.as_bytes(), writer)?;
-    Ok(refused)
+    Ok(verdict)
 }
 
 /// Writes the page to the file that `-o` names, beside it until all is written.
@@ -50,21 +95,21 @@ fn write_file<E: Eprint + AllocGlobal, D: Disk>(
     job: &Job<'_>,
     template: &str,
     file: &str,
-) -> Result<bool, Stop> {
+) -> Result<Verdict, Stop> {
     if host.disk.kind(file) == Kind::Special {
         let text = "-o: expected the name of a file, which no pipe or device is";
         return Err(host.fail(2, text));
     }
     let (beside, writer) = match create_beside(host.alloc(), host.disk, file) {
         Ok(made) => made,
-        Err(error) => return Err(host.fail_writing(&error)),
+        Err(fault) => return Err(host.fail_writing(&fault.into_error())),
     };
     let mut writer = Watched::new(writer);
     let answer = write_page(host, job, template, &mut writer);
     drop(writer);
     match answer {
-        Ok(refused) => match beside.finish(host.disk) {
-            Ok(()) => Ok(refused),
+        Ok(verdict) => match beside.finish(host.disk) {
+            Ok(()) => Ok(verdict),
             Err(error) => Err(host.fail_writing(&error)),
         },
         Err(stop) => {
@@ -107,10 +152,16 @@ fn write_sizes<E: Eprint + AllocGlobal, D: Disk, W: Write>(
         None => Budget::none(host.alloc()),
     };
     let mut verdict = Verdict::new();
+    let mut shown = false;
     for item in job.items {
-        let loaded = load(host, job.base, *item)?;
-        verdict.refused |= matches!(loaded.content, Content::Refused(..));
+        let Some(loaded) = loaded(host, job, *item, &mut verdict)? else {
+            continue;
+        };
+        shown = true;
         measure(host, asked.sizes, &mut budget, &loaded, writer)?;
+    }
+    if !shown {
+        return Err(fail_empty(host, job, verdict));
     }
     verdict.over_budget = budget.tell(host)?;
     Ok(verdict)
@@ -130,19 +181,23 @@ fn show<'x, E: Eprint + AllocGlobal, D: Disk, W: Write>(
     items: &'x [Item<'x>],
     writer: &mut Watched<W>,
 ) -> Result<Verdict, Stop> {
-    let job = Job { base, items };
+    let reading = Reading {
+        base,
+        url_bytes: asked.url_bytes,
+    };
+    let job = Job {
+        given: asked.file,
+        reading,
+        items,
+    };
     if is_about_sizes(asked) {
         return write_sizes(host, &job, asked, writer);
     }
     let template = read_template(host, program)?;
-    let refused = match asked.output {
-        Some(file) => write_file(host, &job, template.as_str(), file)?,
-        None => write_page(host, &job, template.as_str(), writer)?,
-    };
-    Ok(Verdict {
-        refused,
-        over_budget: false,
-    })
+    match asked.output {
+        Some(file) => write_file(host, &job, template.as_str(), file),
+        None => write_page(host, &job, template.as_str(), writer),
+    }
 }
 
 /// Shows the scripts of a folder that have a map.
@@ -159,12 +214,13 @@ fn show_folder<E: Eprint + AllocGlobal, D: Disk, W: Write>(
         return Err(host.fail(2, text.as_str()));
     }
     let folder = with_slash(alloc, asked.file)?;
-    let names = scripts_in(host, base, asked.file, folder.as_str())?;
+    let names = scripts_in(host, asked.file, folder.as_str())?;
     let mut items = Vec::with_capacity(alloc, names.len())?;
     for name in &names {
         items.push(Item::Script {
             folder: folder.as_str(),
             name: name.as_str(),
+            found: true,
         })?;
     }
     show(host, program, asked, base, &items, writer)
@@ -236,9 +292,9 @@ fn answer<E: Eprint + AllocGlobal, D: Disk, W: Write>(
 
 /// Runs `smap-view`. The first word is the name of the program, by which its template is found where it has a
 /// folder. `on_terminal` says whether the output is a terminal, to which no page is written. Answers the exit
-/// status: 0 where it is done, 1 where a map is refused or sources have more bytes than the budget allows, 2
-/// where the command line is wrong, or a map or a script isn't there, 3 where a file can't be read or
-/// written, 4 where memory ran out, 141 where nobody reads the output any more.
+/// status: 0 where it is done, 1 where a map is refused, a script of a folder is left out or sources have
+/// more bytes than the budget allows, 2 where the command line is wrong, or a map or a script isn't there, 3
+/// where a file can't be read or written, 4 where memory ran out, 141 where nobody reads the output any more.
 pub fn run<E: Eprint + AllocGlobal, D: Disk, W: Write>(
     rt: &E,
     disk: &D,

@@ -116,7 +116,8 @@ fn source_values(alloc: Global, map: &SourceMap, sizes: &Sizes) -> Result<Value,
     Ok(Value::Array(values))
 }
 
-/// The sizes of a script as JSON, in one line.
+/// The sizes of a script as JSON, in one line. Names come from strangers: a character that a terminal may
+/// take for something else than what it shows stands in a string, where `printable` escapes it as JSON does.
 fn line(
     alloc: Global,
     loaded: &Loaded,
@@ -138,7 +139,8 @@ fn line(
         "unmapped": unmapped,
         "unsourced": unsourced
     })?;
-    let mut text = value.to_string(alloc)?;
+    let text = value.to_string(alloc)?;
+    let mut text = printable(alloc, text.as_bytes())?;
     text.push('\n')?;
     Ok(text)
 }
