@@ -14,7 +14,7 @@ fn names_stand_in_the_order_of_their_first_lines(rt: HostRuntime) -> Result<(), 
     assert_eq!(rt; frames.len(), 2);
     holds(&rt, frames[0] == b"b.js".as_slice());
     holds(&rt, frames[1] == b"a.js".as_slice());
-    holds(&rt, names.of_others(rt.alloc())?.is_empty());
+    holds(&rt, names.of_others(rt.alloc(), &[])?.is_empty());
     Ok(())
 }
 

@@ -15,15 +15,39 @@ fn mended_words(alloc: Global, text: &[u8], repairs: &[Repair]) -> Result<String
     Ok(words)
 }
 
-/// What becomes of a text.
-fn said(alloc: Global, text: &[u8]) -> Result<String, Fail> {
+/// What becomes of a text with so many bytes for its URLs.
+fn said(alloc: Global, text: &[u8], url_bytes: usize) -> Result<String, Fail> {
     let base = Base::new(alloc, "http://h/m/out.js.map")?;
-    match repair_text(alloc, text, &base, Limits::usual())? {
+    match repair_text(alloc, text, &base, Limits::usual(), url_bytes)? {
         Repaired::Sound => Ok(String::from_str(alloc, "sound")?),
         Repaired::Refused { .. } => Ok(String::from_str(alloc, "refused")?),
+        Repaired::LongUrls => Ok(String::from_str(alloc, "long URLs")?),
         Repaired::Mended { text, repairs } => mended_words(alloc, &text, &repairs),
     }
 }
+
+const LONG: [(&[u8], usize, &str); 4] = [
+    (
+        b"{\"version\":3,\"sources\":[\"a\"],\"mappings\":\"\"}",
+        12,
+        "sound",
+    ),
+    (
+        b"{\"version\":3,\"sources\":[\"a\"],\"mappings\":\"\"}",
+        11,
+        "long URLs",
+    ),
+    (
+        b"\xef\xbb\xbf{\"version\":3,\"sources\":[\"a\"],\"mappings\":\"\"}",
+        11,
+        "long URLs",
+    ),
+    (
+        b"{\"version\":3,\"sources\":[\"w://a b/\"],\"mappings\":\"\"}",
+        9,
+        "long URLs",
+    ),
+];
 
 #[test]
 fn a_mark_and_halves(rt: HostRuntime) -> Result<(), Fail> {
@@ -31,7 +55,7 @@ fn a_mark_and_halves(rt: HostRuntime) -> Result<(), Fail> {
         b"\xef\xbb\xbf{\"version\":3,\"mappings\":\"\",\"x\":\"\\ud800\\ud83d\\ude00\\\\ud800\"}";
     equal(
         &rt,
-        said(rt.alloc(), text)?.as_str(),
+        said(rt.alloc(), text, usize::MAX)?.as_str(),
         "{\"version\":3,\"mappings\":\"\",\"x\":\"\\ufffd\\ud83d\\ude00\\\\ud800\"}\n\
          byte order mark: removed\n\
          byte 32: \\ud800 becomes \\ufffd",
@@ -46,12 +70,21 @@ fn maps_of_sections(rt: HostRuntime) -> Result<(), Fail> {
         \"map\":{\"version\":\"3\", \"sources\":[null,\"w://a [b/c\"],\"mappings\":\"\"}}]}";
     equal(
         &rt,
-        said(rt.alloc(), text)?.as_str(),
+        said(rt.alloc(), text, usize::MAX)?.as_str(),
         "{\"version\":3,\"mappings\":null,\"sections\":[{\"offset\":{\"line\":0,\"column\":0},\
          \"map\":{\"version\":3, \"sources\":[null,\"w://a%20%5Bb/c\"],\"mappings\":\"\"}}]}\n\
          mappings beside sections: \"\" becomes null\n\
          version of section 0: \"3\" becomes 3\n\
          source 1 of section 0: \"w://a [b/c\" becomes \"w://a%20%5Bb/c\"",
     );
+    Ok(())
+}
+
+/// The URL `http://h/m/a` has 12 bytes, and `w://a%20b` that a repair makes has 9.
+#[test]
+fn urls_that_take_more(rt: HostRuntime) -> Result<(), Fail> {
+    for (text, url_bytes, want) in &LONG {
+        equal(&rt, said(rt.alloc(), text, *url_bytes)?.as_str(), *want);
+    }
     Ok(())
 }

@@ -74,7 +74,7 @@ fn a_refused_map_ends_the_run_and_the_output_file_stays(rt: HostRuntime) -> Resu
     let (status, _) = traced(&rt, &disk, &TO_A_FILE, b"")?;
     equal(&rt, status, 1);
     equal(&rt, disk.bytes("/out")?.as_slice(), b"old".as_slice());
-    holds(&rt, disk.bytes("/.out.smap-1").is_err());
+    holds(&rt, disk.bytes("/.smap-1").is_err());
     Ok(())
 }
 
@@ -89,7 +89,7 @@ fn an_output_file_is_written_whole(rt: HostRuntime) -> Result<(), Fail> {
         disk.bytes("/out")?.as_slice(),
         b"@http://h/m/a.js:11:3\n".as_slice(),
     );
-    holds(&rt, disk.bytes("/.out.smap-1").is_err());
+    holds(&rt, disk.bytes("/.smap-1").is_err());
     Ok(())
 }
 
@@ -107,7 +107,7 @@ fn a_log_that_can_not_be_read_has_status_3(rt: HostRuntime) -> Result<(), Fail> 
 #[test]
 fn an_output_file_that_can_not_be_written_is_left_out(rt: HostRuntime) -> Result<(), Fail> {
     let disk = with_log(&rt, MAP)?;
-    disk.fail_writes("/.out.smap-1", ErrorKind::StorageFull)?;
+    disk.fail_writes("/.smap-1", ErrorKind::StorageFull)?;
     let (status, _) = traced(&rt, &disk, &TO_A_FILE, b"")?;
     equal(&rt, status, 3);
     holds(&rt, disk.bytes("/out").is_err());

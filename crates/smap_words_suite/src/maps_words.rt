@@ -31,6 +31,7 @@ fn rewriting(rt: HostRuntime) -> Result<(), Fail> {
         "-x.map",
     ];
     let asked = asked(rt.alloc(), words.as_slice())?;
+    equal(&rt, asked.url_bytes, 67_108_864);
     let rewrite = Rewrite::Write {
         drop: true,
         json: false,
@@ -54,8 +55,10 @@ fn linting(rt: HostRuntime) -> Result<(), Fail> {
         "no-content=off",
         "dist",
         "--min-mapped=90",
+        "--url-bytes=18446744073709551615",
     ];
     let asked = asked(rt.alloc(), words.as_slice())?;
+    equal(&rt, asked.url_bytes, usize::MAX);
     let Task::Lint {
         format,
         rules,
@@ -93,6 +96,16 @@ fn faults(rt: HostRuntime) -> Result<(), Fail> {
         &rt,
         ["", "check", "--jobs=0", "m"],
         "--jobs needs a number from 1: 0",
+    )?;
+    says(
+        &rt,
+        ["", "check", "m", "--url-bytes"],
+        "--url-bytes needs a number of bytes",
+    )?;
+    says(
+        &rt,
+        ["", "check", "--url-bytes=64M", "m"],
+        "--url-bytes needs a number of bytes: 64M",
     )?;
     Ok(())
 }

@@ -83,6 +83,18 @@ fn escapes_of_the_toolkit(rt: HostRuntime) -> Result<(), Fail> {
     Ok(())
 }
 
+/// JSON's escapes of DEL, U+009B and U+202E (RFC 8259, section 7).
+#[test]
+fn escapes_of_json(rt: HostRuntime) -> Result<(), Fail> {
+    let (name, written) = ("\u{7f}\u{9b}\u{202e}", "\\u007f\\u009b\\u202e");
+    for format in [Format::Json, Format::Sarif, Format::Github, Format::Junit] {
+        let text = report_of(rt.alloc(), format, name, None, name)?;
+        holds(&rt, text.contains(written));
+        holds(&rt, !text.contains(name));
+    }
+    Ok(())
+}
+
 #[test]
 fn each_listed_word_names_a_form_or_a_level(rt: HostRuntime) {
     for words in FORMAT_WORDS.split(" or ") {

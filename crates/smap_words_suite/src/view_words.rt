@@ -23,6 +23,7 @@ fn options(rt: HostRuntime) -> Result<(), Fail> {
         "--sizes",
         "tsv",
         "--budget=b.json",
+        "--url-bytes=1000",
         "--",
         "-x.map",
         "x.js",
@@ -32,8 +33,23 @@ fn options(rt: HostRuntime) -> Result<(), Fail> {
     equal(&rt, asked.output, Some("page.html"));
     equal(&rt, asked.sizes, Some(SizesForm::Tsv));
     equal(&rt, asked.budget, Some("b.json"));
+    equal(&rt, asked.url_bytes, 1000);
     equal(&rt, asked.file, "-x.map");
     equal(&rt, asked.script, Some("x.js"));
+    Ok(())
+}
+
+/// How many bytes URLs may take by the words behind the name of the program.
+fn takes(rt: &(impl Abort + AllocGlobal), words: [&str; 4], count: usize) -> Result<(), Fail> {
+    equal(rt, asked(rt.alloc(), words.as_slice())?.url_bytes, count);
+    Ok(())
+}
+
+#[test]
+fn bytes_of_urls(rt: HostRuntime) -> Result<(), Fail> {
+    takes(&rt, ["", "a", "--base", "http://h/"], 64 * 1024 * 1024)?;
+    takes(&rt, ["", "a", "--url-bytes", "0"], 0)?;
+    takes(&rt, ["", "a", "--url-bytes=1", "--url-bytes=20"], 20)?;
     Ok(())
 }
 
@@ -57,6 +73,22 @@ fn faults(rt: HostRuntime) -> Result<(), Fail> {
     says(&rt, ["", "a", "b", "--base"], "--base needs a URL")?;
     says(&rt, ["", "a", "b", "-o"], "-o needs a file")?;
     says(&rt, ["", "a", "b", "--what"], "no such option: --what")?;
+    says(
+        &rt,
+        ["", "a", "b", "--url-bytes"],
+        "--url-bytes needs a number of bytes",
+    )?;
+    says(
+        &rt,
+        ["", "a", "--url-bytes", "64M"],
+        "--url-bytes needs a number of bytes: 64M",
+    )?;
+    // a number that 64 bits don't hold: 2 to the 64th
+    says(
+        &rt,
+        ["", "a", "--url-bytes", "18446744073709551616"],
+        "--url-bytes needs a number of bytes: 18446744073709551616",
+    )?;
     says(
         &rt,
         ["", "a", "--sizes", "csv"],

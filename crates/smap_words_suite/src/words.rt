@@ -33,6 +33,7 @@ fn all_options(rt: HostRuntime) -> Result<(), Fail> {
         "-vo",
         "out.txt",
         "--context=3",
+        "--url-bytes=4294967296",
         "--source-prefix",
         "webpack://app/=/srv/app/",
         "logs",
@@ -47,6 +48,7 @@ fn all_options(rt: HostRuntime) -> Result<(), Fail> {
     );
     equal(&rt, asked.output, Some("out.txt"));
     equal(&rt, asked.context, Some(3));
+    equal(&rt, asked.url_bytes, 4_294_967_296);
     let prefixes = [
         Prefix {
             from: "webpack://app/",
@@ -87,6 +89,7 @@ fn other_flags(rt: HostRuntime) -> Result<(), Fail> {
     holds(&rt, !asked.anywhere && !asked.verbose && !asked.list);
     equal(&rt, asked.output, Some("b"));
     equal(&rt, asked.context, None);
+    equal(&rt, asked.url_bytes, 67_108_864);
     let arguments = [Argument::Place("-u=maps/trace.map")];
     equal(&rt, asked.arguments.as_slice(), arguments.as_slice());
     Ok(())
@@ -153,6 +156,11 @@ fn faults(rt: HostRuntime) -> Result<(), Fail> {
         &rt,
         ["smap-trace", "--context", "few"],
         "--context: expected a number of lines: 'few'",
+    )?;
+    says(
+        &rt,
+        ["smap-trace", "--url-bytes", "64M"],
+        "--url-bytes: expected a number of bytes: '64M'",
     )?;
     says(
         &rt,
