@@ -13,7 +13,7 @@ CPP, PYTHON, METHODS = "capi/cpp/smap.hpp", "capi/python/smap/_declarations.py",
 CRATE, WRAPPER, NODE = "capi/rust/smap-sys/src/bindings.rs", "capi/rust/smap.rs", "capi/node/index.d.ts"
 GETTERS, INDEX = "capi/node/native/getters.c", "capi/node/index.js"
 ORDER, PLACES = "crates/smap_c/specs/Order.antt", "tests/library/places.h"
-KINDS, PAGE = "crates/smap_record/specs/Kinds.antt", "docs/OUTPUT.md"
+KINDS, PAGE = "crates/smap_record/specs/Kinds.antt", "docs/ERRORS.md"
 # What the tool reads and writes, files and folders.
 ALL = [TOOL, "tools/bindings", "capi", ORDER, PLACES, KINDS, PAGE]
 

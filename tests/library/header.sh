@@ -86,7 +86,7 @@ numbers_agree() {
 
 # The page of errors has each kind of the header, in its order.
 kinds_are_explained() {
-    sed -n '/^## Error lines/,/^## `/s/^| \([A-Z][^|]*\) | .*/\1/p' docs/OUTPUT.md |
+    sed -n '/^## Errors of a map/,/^## `/s/^| \([A-Z][^|]*\) | .*/\1/p' docs/ERRORS.md |
         sed 's/^Number(W, \(.*\))/\1/; s/([A-Z])//; s/, /\n/g' | tr 'A-Z' 'a-z' >"$work/explained"
     numbered SMAP_FAULT_ | sed 's/ .*//; s/_//g' | tr 'A-Z' 'a-z' | diff "$work/explained" - &&
         [ -s "$work/explained" ]
@@ -138,7 +138,7 @@ test_header() {
         try 'inline functions call those of the library' strict_are_the_same
     fi
     try 'the header has the numbers of the definitions' numbers_agree
-    try 'docs/OUTPUT.md explains each kind of error' kinds_are_explained
+    try 'docs/ERRORS.md explains each kind of error' kinds_are_explained
     try 'the pages name what the header declares' pages_name_what_is_declared
     if has objdump 'the name of the shared object, the versions of its names'; then
         try 'the shared object has its name' soname

@@ -1,4 +1,4 @@
-"""Where the fault of a source map is in its text, found by a scanner of its own: see docs/OUTPUT.md for the
+"""Where the fault of a source map is in its text, found by a scanner of its own: see docs/ERRORS.md for the
 messages of faults. Nothing here is taken from the program under test but the message."""
 
 import dataclasses

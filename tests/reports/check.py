@@ -3,8 +3,9 @@
 
 What is wrong is said in a line each, and the status is 1. Otherwise the report is summed up in lines that
 don't depend on its form: for each file with findings, by name, how many errors, warnings and notes it has,
-and in the end how many findings there are. So these lines are the same for all forms of one report, as long
-as no name of a file has control characters.
+and in the end how many findings there are. So these lines are the same for all forms of one report: of a name
+that JSON or a URI gives back as it is, control characters are shown as the other forms write them. No form has
+such a character but line feeds.
 
 gnu     each line is FILE:LINE:COLUMN: LEVEL: MESSAGE [RULE], or FILE: LEVEL: MESSAGE [RULE]
 github  each line is a workflow command, and its escapes are GitHub's
@@ -18,6 +19,7 @@ import json
 import pathlib
 import re
 import sys
+import unicodedata
 import urllib.parse
 import xml.dom.minidom
 
@@ -155,6 +157,18 @@ def junit(text: str, wrong: list[str]) -> Counts:
     return found
 
 
+# Unicode's Bidi_Control (PropList.txt), and the separators of lines and paragraphs.
+TURNING = {0x061C, 0x200E, 0x200F, 0x2028, 0x2029, *range(0x202A, 0x202F), *range(0x2066, 0x206A)}
+
+
+def is_control(c: str) -> bool:
+    return unicodedata.category(c) == "Cc" or ord(c) in TURNING
+
+
+def shown(name: str) -> str:
+    return "".join(f"\\u{ord(c):04x}" if is_control(c) else c for c in name)
+
+
 READERS = {"gnu": gnu, "github": github, "json": json_lines, "sarif": sarif, "junit": junit}
 
 
@@ -166,13 +180,15 @@ def main() -> int:
     text = pathlib.Path(sys.argv[2]).read_bytes().decode("utf-8")
     if text and not text.endswith("\n"):
         wrong.append("no line feed at the end")
+    for c in sorted({c for c in text if is_control(c)} - {"\n"}):
+        wrong.append(f"it has the character {shown(c)}")
     found = READERS[sys.argv[1]](text, wrong)
     for line in wrong:
         print(line)
     if wrong:
         return 1
     for path, counts in sorted(found.items()):
-        print(f"{path}: {words(counts)}")
+        print(f"{shown(path)}: {words(counts)}")
     print(f"{sum(sum(counts.values()) for counts in found.values())} findings")
     return 0
 

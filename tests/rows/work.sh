@@ -30,6 +30,23 @@ maps_at() {
     done
 }
 
+# Writes what `smap translate --anywhere` makes of standard input with the map of http://h/m/out.js; and where
+# `smap-trace --anywhere` with these arguments makes something else of it, as a file or as a pipe, that.
+as_translated() {
+    cat >log
+    {
+        echo 'map http://h/m/out.js http://h/m/out.js.map 55'
+        cat "$rows/maps/trace.map"
+        printf '\ntrace\n'
+        cat log
+    } | smap translate --anywhere >translated
+    smap-trace --anywhere "$@" log >traced 2>/dev/null
+    cmp traced translated || cat traced
+    tail -n +1 log | smap-trace --anywhere "$@" >traced 2>/dev/null
+    cmp traced translated || cat traced
+    cat translated
+}
+
 # Runs a command with the rights of nobody, where it would have those of root. The programs are copied
 # to where nobody can read them.
 as_nobody() {
