@@ -2,22 +2,22 @@
 
     python3 bench/hostile.py crates/smap/out/smap
     python3 bench/hostile.py crates/smap/out/smap --only sections
-    python3 bench/hostile.py crates/smap/out/smap --into docs/PERFORMANCE.md
+    python3 bench/hostile.py crates/smap/out/smap --library capi/out --write
     python3 bench/hostile.py crates/smap/out/smap --once
     python3 bench/hostile.py crates/smap/out/smap --library capi/out
 
 Each input is long or deep in one respect, and its answer is made beside it, without the program. Prints the
 processor time and the peak memory at the largest size, and the exponent of growth from an eighth of it: time
 goes with the bytes that are read and written to that power. The last line says how many answers were wrong.
-With --into the table is put between the two lines of that file that hold `figures of hostile.py`. A command
-that the program doesn't have is left out. With --library, which takes the folder that tools/build-capi made,
-the C library also opens inputs, without and with a bound on the bytes of their URLs, by the Python module.
+With --write the rows that were run are put into bench/hostile.tsv, and the others stay there. A command that
+the program doesn't have is left out. With --library, which takes the folder that tools/build-capi made, the C
+library also opens inputs, without and with a bound on the bytes of their URLs, by the Python module.
 
-With --once each input is run at its largest size alone, and the run has to keep to what docs/PERFORMANCE.md
+With --once each input is run at its largest size alone, and the run has to keep to what bench/hostile.tsv
 states of it. It passes where the answer is right, the processor time is at most five times that of the table
 and a second more, and in any case at most 60 seconds, and the peak memory is at most one and a quarter times
 that of the table and 8 MB more. An input without figures there fails, and so does a command that the program
-doesn't have; a run that passes its 60 seconds is ended. What failed is told with the reason, and the last
+doesn't have; a run that passes its 60 seconds is ended. What failed is reported with the reason, and the last
 line is `N passed, N failed`.
 """
 
@@ -30,7 +30,7 @@ import tempfile
 from pathlib import Path
 
 from make_map import BASE, SCRIPT, difference, spelled
-from measure import exponent, has_command, put_into, run, starter, words_of
+from measure import exponent, has_command, machine, run, starter, words_of
 
 HERE = BASE.rpartition("/")[0] + "/"
 GREATEST = 2**31 - 1
@@ -39,10 +39,10 @@ GREATEST = 2**31 - 1
 DEEPEST = 127
 MOST_INDEX_MAPS = 8
 
-HEAD = "| command | input | MB read and written | time, ms | memory, MB | exponent |\n" + "|---" * 6 + "|"
-
-# Where the table stands that says what a run takes, and the time that none may pass.
-FIGURES = Path(__file__).resolve().parent.parent / "docs" / "PERFORMANCE.md"
+# The table that says what a run takes, its first lines, and the time that none may pass.
+FIGURES = Path(__file__).resolve().parent / "hostile.tsv"
+PURPOSE = "# What each run of bench/hostile.py takes at its largest size; with --once it is held to that."
+HEAD = "\t".join(["# command", "input", "MB read and written", "time, ms", "memory, MB", "exponent"])
 MOST_SECONDS = 60
 
 
@@ -510,14 +510,24 @@ def rows_of(part, library):
     return [row for row in rows if part.replace("_", " ") in row[3].rpartition(", ")[0]]
 
 
+def rows_in(path):
+    """The rows of a table, each as its line, by the command and the label."""
+    lines = Path(path).read_text(encoding="utf-8").splitlines()
+    return {tuple(line.split("\t")[:2]): line for line in lines if not line.startswith("#")}
+
+
 def figures_in(path):
-    """The seconds and the memory in MB that a file's tables state, by the command and the label."""
-    stated = {}
-    for line in Path(path).read_text(encoding="utf-8").split("\n"):
-        cells = [cell.strip() for cell in line.strip("|").split("|")]
-        if len(cells) == 6 and cells[3].isdigit() and cells[4].isdigit():
-            stated[cells[0].strip("`"), cells[1]] = float(cells[3]) / 1e3, float(cells[4])
-    return stated
+    """The seconds and the memory in MB that a table states, by the command and the label."""
+    cells = {row: line.split("\t") for row, line in rows_in(path).items()}
+    return {row: (float(each[3]) / 1e3, float(each[4])) for row, each in cells.items()}
+
+
+def write_figures(path, measured):
+    """Puts the lines that were measured into a table, in the order of the rows; others stay as they are."""
+    lines = rows_in(path) | measured
+    names = [(command, label) for command, _, _, label in rows_of("", library=True)]
+    kept = [lines[name] for name in names if name in lines]
+    Path(path).write_text("\n".join([PURPOSE, f"# {machine()}", HEAD, *kept, ""]), encoding="utf-8")
 
 
 def faults_of(right, seconds, memory, stated):
@@ -555,10 +565,10 @@ def run_once(program, library, part):
     return failed
 
 
-def run_at_four_sizes(program, library, part, into):
+def run_at_four_sizes(program, library, part, write):
     """Prints the table, and answers how many rows were answered wrongly."""
-    lines = [HEAD]
     print(HEAD, flush=True)
+    measured = {}
     wrong = 0
     with tempfile.TemporaryDirectory() as folder:
         for command, size, make, label in rows_of(part, library):
@@ -572,12 +582,12 @@ def run_at_four_sizes(program, library, part, into):
                 print(f"{command}, {label}: WRONG", file=sys.stderr)
             (small, before, _, _), (large, seconds, memory, _) = seen[0], seen[-1]
             grows = exponent((small, before), (large, seconds))
-            figures = f"{large / 1e6:.1f} | {seconds * 1e3:.0f} | {memory:.0f} | {grows:.2f} |"
-            lines.append(f"| `{command}` | {label} | {figures}")
-            print(lines[-1], flush=True)
+            figures = [f"{large / 1e6:.1f}", f"{seconds * 1e3:.0f}", f"{memory:.0f}", f"{grows:.2f}"]
+            measured[command, label] = "\t".join([command, label, *figures])
+            print(measured[command, label], flush=True)
     print(f"{wrong} wrong", file=sys.stderr)
-    if into:
-        put_into(into, "figures of hostile.py", "\n".join(lines))
+    if write:
+        write_figures(FIGURES, measured)
     return wrong
 
 
@@ -587,13 +597,13 @@ def main():
     parser.add_argument("program", help="the built program")
     parser.add_argument("--library", type=Path, help="the folder of the built C library")
     parser.add_argument("--only", default="", help="a part of the names of the inputs that are run")
-    parser.add_argument("--into", help="a file to put the table into")
+    parser.add_argument("--write", action="store_true", help="put what is run into bench/hostile.tsv")
     parser.add_argument("--once", action="store_true", help="run each input once, and hold it to the table")
     options = parser.parse_args()
     if options.once:
         wrong = run_once(options.program, options.library, options.only)
     else:
-        wrong = run_at_four_sizes(options.program, options.library, options.only, options.into)
+        wrong = run_at_four_sizes(options.program, options.library, options.only, options.write)
     return 1 if wrong else 0
 
 

@@ -8,9 +8,9 @@
 // module.SourceMap. For maps of three sizes, made by make_map.py, it prints a table: opening with the first
 // lookup, since others decode then, in a fresh process and in a warm one; lookups at random positions and at
 // rising ones, after 150,000 others; all mappings; and how much the process grows up to the first lookup.
-// Each figure is the best of N processes, 3 unless given. A second table has the parts of opening the
-// smallest map. With --into they are put between the two lines of that file that hold `figures of node.js`,
-// and `parts of node.js`. Time is processor time. Let nothing else run meanwhile.
+// Each figure is the best of N processes, 3 unless given. A second table, in wall-clock time, has the parts of
+// opening the smallest map. With --into the first is put between the two lines of that file that hold `figures
+// of node.js`. Its time is processor time. Let nothing else run meanwhile.
 const fs = require('node:fs');
 const os = require('node:os');
 const path = require('node:path');
@@ -237,7 +237,7 @@ function table(runs, maps) {
     const rounds = Array.from({ length: runs }, () => names.map(name => measured(name, map)));
     for (const [i, name] of names.entries()) {
       const [first, again, ...rest] = bestOf(rounds.map(round => round[i])).map(shown);
-      const columns = [`${map.name}, ${map.count} mappings`, name, `${first} / ${again}`, ...rest];
+      const columns = [i ? '' : `${map.name}, ${map.count} mappings`, name, `${first} / ${again}`, ...rest];
       lines.push(`| ${columns.join(' | ')} |`);
     }
   }
@@ -275,14 +275,10 @@ function main(words) {
   const folder = fs.mkdtempSync(path.join(os.tmpdir(), 'smap-bench-'));
   try {
     const maps = SIZES.map(size => makeMap(folder, size));
-    const all = {
-      'parts of node.js': tableOfParts(maps[0]),
-      'figures of node.js': table(+(option('--runs') ?? 3), maps),
-    };
-    for (const [mark, text] of Object.entries(all)) {
-      console.log(`${text}\n`);
-      if (option('--into')) putInto(option('--into'), mark, text);
-    }
+    console.log(`${tableOfParts(maps[0])}\n`);
+    const text = table(+(option('--runs') ?? 3), maps);
+    console.log(text);
+    if (option('--into')) putInto(option('--into'), 'figures of node.js', text);
   } finally {
     fs.rmSync(folder, { recursive: true });
   }
