@@ -12,6 +12,7 @@ complete -c smap-maps -n 'not __fish_seen_subcommand_from check tidy flatten lin
 
 complete -c smap-maps -n '__fish_seen_subcommand_from check tidy flatten lint repair' -x -l base -d 'The URL of the folder'
 complete -c smap-maps -n '__fish_seen_subcommand_from check tidy flatten lint repair' -x -l jobs -d 'Taken for older calls'
+complete -c smap-maps -n '__fish_seen_subcommand_from check tidy flatten lint repair' -x -l url-bytes -d 'How many bytes the URLs of the sources of a map may take'
 complete -c smap-maps -n '__fish_seen_subcommand_from check tidy flatten' -l json -d 'Write a JSON object for each map'
 complete -c smap-maps -n '__fish_seen_subcommand_from tidy' -l absolute -d 'Write source URLs as absolute URLs'
 complete -c smap-maps -n '__fish_seen_subcommand_from tidy' -l relative -d 'Write source URLs relative to the map'

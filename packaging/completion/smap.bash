@@ -14,15 +14,15 @@ smap lookup: --help
 smap respell: --help
 smap scripts: --help
 smap translate: --hide-ignored --anywhere --ignore-query --help
-smap-trace: --anywhere --ignore-query --hide-ignored --skip-broken --check-all --list --context --source-prefix --verbose --version --help
-smap-view: --base --sizes --budget --version --help
+smap-trace: --anywhere --ignore-query --hide-ignored --skip-broken --check-all --list --context --url-bytes --source-prefix --verbose --version --help
+smap-view: --base --url-bytes --sizes --budget --version --help
 smap-events: --no-raw --context --version --help
 smap-maps: --version --help
-smap-maps check: --base --jobs --json --version --help
-smap-maps tidy: --base --jobs --json --absolute --relative --write --drop --diff --version --help
-smap-maps flatten: --base --jobs --json --write --drop --diff --version --help
-smap-maps lint: --base --jobs --format --rule --min-mapped --version --help
-smap-maps repair: --base --jobs --write --version --help
+smap-maps check: --base --jobs --url-bytes --json --version --help
+smap-maps tidy: --base --jobs --url-bytes --json --absolute --relative --write --drop --diff --version --help
+smap-maps flatten: --base --jobs --url-bytes --json --write --drop --diff --version --help
+smap-maps lint: --base --jobs --url-bytes --format --rule --min-mapped --version --help
+smap-maps repair: --base --jobs --url-bytes --write --version --help
 '
 
 # Writes what a program takes next: the options of one of its commands, or with one argument its commands.
@@ -154,7 +154,7 @@ _smap() {
     before=${words[last - 1]}
     if [[ $program == smap || $program == smap-maps ]]; then
         for ((i = 1; i < last; i++)); do
-            if [[ ${words[i]} == --base || ${words[i]} == --jobs ]]; then
+            if [[ ${words[i]} == --base || ${words[i]} == --jobs || ${words[i]} == --url-bytes ]]; then
                 ((i++))
             elif [[ ${words[i]} == [\<\>] ]]; then
                 break
@@ -181,6 +181,7 @@ _smap() {
         return
         ;;
     smap-maps:--base | smap-maps:--jobs | smap-view:--base) return ;;
+    *:--url-bytes) return ;;
     smap-view:--sizes)
         _smap_choose 'table tsv json' "$word"
         return
@@ -189,7 +190,7 @@ _smap() {
         _smap_files "$word" '' any
         return
         ;;
-    smap-maps:--rule | smap-maps:--min-mapped) return ;;
+    smap-maps:--rule | smap-maps:--min-mapped | smap-maps:--url-bytes) return ;;
     smap-trace:--context | smap-trace:--source-prefix | smap-events:--context) return ;;
     esac
     case $program:$word in

@@ -9,11 +9,11 @@ KINDS = "crates/smap_record/specs/Kinds.antt"
 
 def meaning_of(kind):
     """What a kind of error means, by the page of errors."""
-    page = text_of("docs/OUTPUT.md").split("\n## Error lines\n")[-1].split("\n## ")[0]
+    page = text_of("docs/ERRORS.md").split("\n## Errors of a map\n")[-1].split("\n## ")[0]
     for names, meaning in re.findall(r"^\| ([^|]*) \| [^|]* \| ([^|]*) \|", page, re.M):
         if kind in re.findall(r"\w+", names):
             return meaning
-    raise Refused(f"docs/OUTPUT.md has no row for {kind}, which {KINDS} names")
+    raise Refused(f"docs/ERRORS.md has no row for {kind}, which {KINDS} names")
 
 
 def with_kinds():
