@@ -129,7 +129,7 @@ enum {
     SMAP_FAULT_NAME = 33             /* a name index is out of range */
 };
 
-/* Copies the name of a kind of error, as docs/OUTPUT.md has it, into `out`, such as "SourceUrl", and returns
+/* Copies the name of a kind of error, as docs/ERRORS.md has it, into `out`, such as "SourceUrl", and returns
  * its length, or 0 if the number is no kind. */
 SMAP_INLINE size_t smap_fault_name(uint32_t kind, char *out, size_t room);
 

@@ -36,7 +36,7 @@ pub struct Fault {
 }
 
 impl Fault {
-    /// What docs/OUTPUT.md calls its kind, such as "SourceUrl".
+    /// What docs/ERRORS.md calls its kind, such as "SourceUrl".
     pub fn name(&self) -> String {
         named(|out, room| unsafe { smap_fault_name(self.kind, out, room) })
     }

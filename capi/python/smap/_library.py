@@ -94,7 +94,7 @@ class Error(Exception):
 class RefusedError(Error):
     """A map or a mappings text with a fault.
 
-    `kind` is one of smap.h's SMAP_FAULT_.., and `kind_name` what docs/OUTPUT.md calls it, such as
+    `kind` is one of smap.h's SMAP_FAULT_.., and `kind_name` what docs/ERRORS.md calls it, such as
     "SourceUrl"; `section` is the path of the section that it is in, () for none; `line` and `segment` say
     where in the mappings text it is, or are None; `number` is that of the source, or that in the segment,
     where the kind has one.
@@ -172,7 +172,7 @@ def code_name(code: int) -> str:
 
 
 def fault_name(kind: int) -> str:
-    """What docs/OUTPUT.md calls a kind of fault, such as "SourceUrl"."""
+    """What docs/ERRORS.md calls a kind of fault, such as "SourceUrl"."""
     out = ctypes.create_string_buffer(64)
     n = lib.smap_fault_name(kind, out, 64)
     return out.raw[:n].decode()
