@@ -209,7 +209,7 @@ has_pages() {
         name=${package##*/}
         name=${name%%_*}
         docs=$work/unpacked/$name/usr/share/doc/$name
-        find "$work/unpacked/$name/usr" -path "$docs" -prune -o -type f -exec zgrep -I -o -h '[A-Z][A-Z]*\.md' {} + |
+        find "$work/unpacked/$name/usr" -path "$docs" -prune -o -type f -exec zgrep -I -o -h '[A-Z]*\.md' {} + |
             sort -u >"$work/pages"
         while IFS= read -r page; do
             [ -e "$docs/$page" ] || [ -e "$docs/$page.gz" ] || {
