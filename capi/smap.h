@@ -413,6 +413,26 @@ SMAP_INLINE uint32_t smap_script_url(const char *folder, size_t folder_len, cons
 SMAP_INLINE uint32_t smap_script_name(const char *folder, size_t folder_len, const char *url,
                                       size_t url_len, smap_bytes *out);
 
+/* What a script names for its map. */
+enum {
+    SMAP_NAMED_UNSAID = 0,  /* nothing, in a text of white space and comments: what is before it would say */
+    SMAP_NAMED_NOTHING = 1, /* nothing */
+    SMAP_NAMED_INLINE = 2,  /* the map itself, in a data: URL */
+    SMAP_NAMED_FILE = 3,    /* a file below the script's folder */
+    SMAP_NAMED_GARBLED = 4, /* a data: URL that can't be decoded */
+    SMAP_NAMED_NO_NAME = 5, /* an empty URL, or one of more than 65,536 bytes */
+    SMAP_NAMED_NOT_URL = 6, /* what makes no URL with the script's */
+    SMAP_NAMED_LEAVES = 7   /* a URL of no file below the folder */
+};
+
+/* What the script, or the style sheet (.css), with this name below a folder names for its map, as *kind
+ * (`kind` may be NULL) says. The folder has a URL or a path that ends in a slash; the text is the script's,
+ * or its last lines. OK: `out` holds the map, or its file's name below the folder; NONE: *kind is another;
+ * MEMORY. */
+SMAP_INLINE uint32_t smap_named_map(const char *folder, size_t folder_len, const char *name,
+                                    size_t name_len, const void *text, size_t len, smap_bytes *out,
+                                    uint32_t *kind);
+
 /* What all names of a script have in common: those are alike for which these bytes are the same. With
  * `with_query` what those have in common that also have the same query, since a script with another query is
  * another one. OK, MEMORY. */
@@ -515,6 +535,13 @@ static inline uint32_t smap_script_name_text(const char *folder, const char *url
     return smap_script_name(folder, smap_length_(folder), url, smap_length_(url), out);
 }
 
+static inline uint32_t smap_named_map_text(const char *folder, const char *name, const char *text,
+                                           smap_bytes *out, uint32_t *kind)
+{
+    return smap_named_map(folder, smap_length_(folder), name, smap_length_(name), text,
+                          smap_length_(text), out, kind);
+}
+
 static inline uint32_t smap_normal_form_text(const char *name, bool with_query, smap_bytes *out)
 {
     return smap_normal_form(name, smap_length_(name), with_query, out);
@@ -565,6 +592,8 @@ uint32_t smap_script_url_strict(const char *folder, size_t folder_len, const cha
                                 smap_bytes *out);
 uint32_t smap_script_name_strict(const char *folder, size_t folder_len, const char *url, size_t url_len,
                                  smap_bytes *out);
+uint32_t smap_named_map_strict(const char *folder, size_t folder_len, const char *name, size_t name_len,
+                               const void *text, size_t len, smap_bytes *out, uint32_t *kind);
 uint32_t smap_normal_form_strict(const char *name, size_t len, bool with_query, smap_bytes *out);
 uint32_t smap_alike_strict(const char *one, size_t one_len, const char *other, size_t other_len,
                            bool *out);
@@ -740,6 +769,15 @@ static inline uint32_t smap_script_name(const char *folder, size_t folder_len, c
 {
     return smap_script_name_strict(folder ? folder : smap_no_text_, folder_len, url ? url : smap_no_text_,
                                    url_len, out);
+}
+
+static inline uint32_t smap_named_map(const char *folder, size_t folder_len, const char *name,
+                                      size_t name_len, const void *text, size_t len, smap_bytes *out,
+                                      uint32_t *kind)
+{
+    uint32_t no_kind;
+    return smap_named_map_strict(folder ? folder : smap_no_text_, folder_len, name ? name : smap_no_text_,
+                                 name_len, text ? text : smap_no_text_, len, out, kind ? kind : &no_kind);
 }
 
 static inline uint32_t smap_normal_form(const char *name, size_t len, bool with_query, smap_bytes *out)

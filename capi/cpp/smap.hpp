@@ -198,6 +198,14 @@ inline uint32_t script_name(const std::string &folder, const std::string &url, B
     return smap_script_name(folder.data(), folder.size(), url.data(), url.size(), out.handle());
 }
 
+/* What the script with this name below a folder names for its map: `kind`, and the map or its file's name. */
+inline uint32_t named_map(const std::string &folder, const std::string &name, const std::string &text,
+                          Bytes &out, uint32_t &kind)
+{
+    return smap_named_map(folder.data(), folder.size(), name.data(), name.size(), text.data(), text.size(),
+                          out.handle(), &kind);
+}
+
 /* What all names of a script have in common, or with_query those that have the same query too. */
 inline uint32_t normal_form(const std::string &name, Bytes &out, bool with_query = false)
 {

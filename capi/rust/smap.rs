@@ -214,6 +214,46 @@ pub fn script_name(folder: &[u8], url: &[u8]) -> Result<Option<Vec<u8>>, LinkErr
     })
 }
 
+/// What a script names for its map.
+#[derive(Clone, Debug, PartialEq, Eq)]
+pub enum Named {
+    /// Nothing, in a text of white space and comments: what is before it would say.
+    Unsaid,
+    Nothing,
+    /// The map itself, in a data: URL.
+    Inline(Vec<u8>),
+    /// A file below the script's folder, by its name there.
+    File(Vec<u8>),
+    /// A data: URL that can't be decoded.
+    Garbled,
+    /// An empty URL, or one of more than 65,536 bytes.
+    NoName,
+    /// What makes no URL with the script's.
+    NotUrl,
+    /// A URL of no file below the folder.
+    Leaves,
+}
+
+/// What the script, or the style sheet, with this name below a folder names for its map. The folder has a URL
+/// or a path that ends in a slash; the text is the script's, or its last lines.
+pub fn named_map(folder: &[u8], name: &[u8], text: &[u8]) -> Result<Named, LinkError> {
+    let (at, folder_len, name_at, name_len) = (folder.as_ptr(), folder.len(), name.as_ptr(), name.len());
+    let mut kind = NAMED_NOTHING;
+    let found = given(|out| unsafe {
+        smap_named_map(at, folder_len, name_at, name_len, text.as_ptr(), text.len(), out, &mut kind)
+    })?;
+    Ok(match (kind, found) {
+        (NAMED_UNSAID, _) => Named::Unsaid,
+        (NAMED_INLINE, Some(map)) => Named::Inline(map),
+        (NAMED_FILE, Some(name)) => Named::File(name),
+        (NAMED_GARBLED, _) => Named::Garbled,
+        (NAMED_NO_NAME, _) => Named::NoName,
+        (NAMED_NOT_URL, _) => Named::NotUrl,
+        (NAMED_LEAVES, _) => Named::Leaves,
+        _ => Named::Nothing,
+    })
+}
+
 /// What all names of a script have in common, or `with_query` those that have the same query too.
 pub fn normal_form(name: &[u8], with_query: bool) -> Result<Vec<u8>, LinkError> {
     let call = |out| unsafe { smap_normal_form(name.as_ptr(), name.len(), with_query, out) };
@@ -650,6 +690,14 @@ mod raw {
     pub const HIDE_IGNORED: u32 = 1;
     pub const ANYWHERE: u32 = 2;
     pub const IGNORE_QUERY: u32 = 4;
+    pub const NAMED_UNSAID: u32 = 0;
+    pub const NAMED_NOTHING: u32 = 1;
+    pub const NAMED_INLINE: u32 = 2;
+    pub const NAMED_FILE: u32 = 3;
+    pub const NAMED_GARBLED: u32 = 4;
+    pub const NAMED_NO_NAME: u32 = 5;
+    pub const NAMED_NOT_URL: u32 = 6;
+    pub const NAMED_LEAVES: u32 = 7;
 
     #[repr(C)]
     #[derive(Clone, Copy, Debug, PartialEq, Eq)]
@@ -845,6 +893,10 @@ mod raw {
         ) -> u32;
         pub fn smap_script_name(
             folder: *const u8, folder_len: usize, url: *const u8, url_len: usize, out: *mut Bytes,
+        ) -> u32;
+        pub fn smap_named_map(
+            folder: *const u8, folder_len: usize, name: *const u8, name_len: usize, text: *const u8,
+            len: usize, out: *mut Bytes, kind: *mut u32,
         ) -> u32;
         pub fn smap_normal_form(name: *const u8, len: usize, with_query: bool, out: *mut Bytes) -> u32;
         pub fn smap_alike(

@@ -61,7 +61,7 @@ declared_then() {
     sed -n 's/^[a-z][a-z0-9_]* \(smap_[a-z_]*\)(.*/\1/p' "$tests/0.1.0/smap.h" | sort
 }
 
-# `NAME 7` for each code, each bit or each kind of a fault of the header; for each code and bit of the definitions.
+# `NAME 7` for each number of the header that begins so; for each of the definitions, but the kinds of faults.
 numbered() {
     sed -n "s/^    $1\([A-Z0-9_]*\) = \([0-9]*\).*/\1 \2/p" "$lib/smap.h"
 }
@@ -79,7 +79,7 @@ named() {
 numbers_agree() {
     numbered SMAP_ | grep -v '^FAULT_' >"$work/codes"
     numbered SMAP_FAULT_ >"$work/kinds"
-    { defined Codes && defined Traces; } | diff "$work/codes" - &&
+    { defined Codes && defined Traces && defined Named; } | diff "$work/codes" - &&
         named | diff "$work/kinds" - &&
         [ -s "$work/codes" ] && [ -s "$work/kinds" ]
 }

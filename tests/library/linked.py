@@ -18,7 +18,7 @@ from files_case import MAP, FilesCase, status
 
 sys.path.insert(0, str(Path(__file__).resolve().parents[2] / "capi" / "python"))
 import smap  # noqa: E402
-from smap.files import link_in  # noqa: E402
+from smap.files import from_end  # noqa: E402
 
 INLINE = b"data:application/json;base64," + base64.b64encode(MAP)
 
@@ -262,7 +262,7 @@ class LinkTest(FilesCase):
         with open(file, "ab") as out:
             out.write(b"\n//# sourceMappingURL=a.map")
         start = time.process_time()
-        self.assertEqual(link_in(str(file), False), b"a.map")
+        self.assertEqual(from_end(str(file), smap.script_link), b"a.map")
         self.assertLess(time.process_time() - start, 1)
 
     def test_a_line_without_an_end_is_not_read_for_ever(self):
@@ -282,35 +282,36 @@ class LinkTest(FilesCase):
         self.assertEqual(store.translate("@http://h/x.js:1:1"), "@http://h/a.js:11:3")
 
     def test_parts_of_a_script_say_what_the_whole_does(self):
-        dice, file = random.Random(1), self.write("x.js", b"")
+        dice, find = random.Random(1), smap.Folders({})
         pieces = [b"//", b"/*", b"*/", b"#", b"@", b" ", b"sourceMappingURL=", b"a", b"b.map", b"\n", b"\r"]
         pieces += ["\u2028".encode(), "\u00a0".encode(), b"f()", b"//# sourceMappingURL=", b"\n\n\n", b"/"]
         pieces += [b"/*@sourceMappingURL=", b"//# sourceMappingURL=c\n", b"\n// d\n"]
         seen = set()
         for _ in range(1_500):
             text = b"".join(dice.choices(pieces, k=dice.randrange(16)))
-            file.write_bytes(text)
-            for css in (False, True):
+            for name, css in (("x.js", False), ("x.css", True)):
+                self.write(name, text)
                 with mock.patch("smap.files.FIRST_LOOK", dice.randrange(1, 12)):
-                    found = link_in(str(file), css)
-                self.assertEqual(found, smap.script_link(text, css), text)
-                seen.add(found)
+                    found = [link.url for link in find._links(str(self.temp), name)]
+                url = smap.script_link(text, css)
+                self.assertEqual(found, [] if url is None else [url], text)
+                seen.add(url)
         self.assertGreater(len(seen), 10)
 
     def test_a_script_that_changes_while_it_is_read_is_read_again(self):
         file = self.write("x.js", b"//# sourceMappingURL=a.map")
         times = iter([1, 2, 2, 2])
         with mock.patch("os.fstat", lambda _: status(26, next(times))):
-            self.assertEqual(link_in(str(file), False), b"a.map")
+            self.assertEqual(from_end(str(file), smap.script_link), b"a.map")
         self.assertEqual(list(times), [])
         times = itertools.count()
         with mock.patch("os.fstat", lambda _: status(26, next(times))):
             with self.assertRaisesRegex(OSError, "it changes while it is read: .*x.js"):
-                link_in(str(file), False)
+                from_end(str(file), smap.script_link)
         # one that was cut off meanwhile
         with mock.patch("os.fstat", lambda _: status(27, 1)):
             with self.assertRaisesRegex(OSError, "it changes while it is read: .*x.js"):
-                link_in(str(file), False)
+                from_end(str(file), smap.script_link)
 
 
 class AlikeTest(FilesCase):

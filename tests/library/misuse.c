@@ -336,6 +336,64 @@ static bool holds(smap_bytes *bytes, const char *text)
 
 #define STRING(text) text, strlen(text)
 
+/* ---- what a script named a.js below http://h/m/ names, and what is then in the handle */
+
+static const struct {
+    const char *text;
+    uint32_t code, kind;
+    const char *held;
+} names[] = {
+    {"//# sourceMappingURL=maps/a%20b.map?x#y", SMAP_OK, SMAP_NAMED_FILE, "maps/a b.map"},
+    {"//# sourceMappingURL=../m/a.map\n\n// x\n", SMAP_OK, SMAP_NAMED_FILE, "a.map"},
+    {"/*@ sourceMappingURL=http://h/m/a.map */", SMAP_OK, SMAP_NAMED_FILE, "a.map"},
+    {"//# sourceMappingURL=data:;base64,e30", SMAP_OK, SMAP_NAMED_INLINE, "{}"},
+    {"//# sourceMappingURL=data:,", SMAP_OK, SMAP_NAMED_INLINE, ""},
+    {"", SMAP_NONE, SMAP_NAMED_UNSAID, "-"},
+    {"\n// x\n/* sourceMappingURL=a.map */ \n", SMAP_NONE, SMAP_NAMED_UNSAID, "-"},
+    {"f()", SMAP_NONE, SMAP_NAMED_NOTHING, "-"},
+    {"//# sourceMappingURL=a.map\nf()\n//", SMAP_NONE, SMAP_NAMED_NOTHING, "-"},
+    {"//# sourceMappingURL=data:;base64,e-_0", SMAP_NONE, SMAP_NAMED_GARBLED, "-"},
+    {"//# sourceMappingURL=data:x", SMAP_NONE, SMAP_NAMED_GARBLED, "-"},
+    {"//# sourceMappingURL=", SMAP_NONE, SMAP_NAMED_NO_NAME, "-"},
+    {"//# sourceMappingURL=http://[", SMAP_NONE, SMAP_NAMED_NOT_URL, "-"},
+    {"//# sourceMappingURL=\xff.map", SMAP_NONE, SMAP_NAMED_NOT_URL, "-"},
+    {"//# sourceMappingURL=../a.map", SMAP_NONE, SMAP_NAMED_LEAVES, "-"},
+    {"//# sourceMappingURL=/n/a.map", SMAP_NONE, SMAP_NAMED_LEAVES, "-"},
+    {"//# sourceMappingURL=b%2Fa.map", SMAP_NONE, SMAP_NAMED_LEAVES, "-"},
+    {"//# sourceMappingURL=http://k/m/a.map", SMAP_NONE, SMAP_NAMED_LEAVES, "-"},
+    {"//# sourceMappingURL=%ff.map", SMAP_NONE, SMAP_NAMED_LEAVES, "-"},
+};
+
+static void named_maps(void)
+{
+    static char text[21 + 65537 + 1] = "//# sourceMappingURL=";
+    smap_bytes out = {0};
+    for (size_t i = 0; i < sizeof names / sizeof names[0]; i++) {
+        uint32_t kind = 99;
+        CHECK(smap_data_url(STRING("data:,-"), &out) == SMAP_OK);
+        CHECK(smap_named_map(STRING("http://h/m/"), STRING("a.js"), STRING(names[i].text), &out, &kind) ==
+              names[i].code);
+        CHECK(kind == names[i].kind && holds(&out, names[i].held));
+        CHECK(smap_named_map(STRING("http://h/m/"), STRING("a.js"), STRING(names[i].text), &out, NULL) ==
+              names[i].code);
+    }
+    for (size_t len = 65536; len <= 65537; len++) {
+        uint32_t kind = 99;
+        memset(text + 21, 'x', len);
+        CHECK(smap_named_map(STRING("/"), STRING("a.js"), text, 21 + len, &out, &kind) ==
+              (len > 65536 ? SMAP_NONE : SMAP_OK));
+        CHECK(kind == (len > 65536 ? SMAP_NAMED_NO_NAME : SMAP_NAMED_FILE));
+    }
+    uint32_t kind = 99;
+    CHECK(smap_named_map(STRING("/"), STRING("a.css"), STRING("//# sourceMappingURL=a.map"), &out, &kind) ==
+          SMAP_NONE);
+    CHECK(kind == SMAP_NAMED_NOTHING);
+    CHECK(smap_named_map(NULL, 0, NULL, 0, STRING("//# sourceMappingURL=a.map"), &out, &kind) == SMAP_NONE);
+    CHECK(kind == SMAP_NAMED_NOT_URL);
+    CHECK(smap_named_map(NULL, 0, NULL, 0, NULL, 0, &out, NULL) == SMAP_NONE);
+    smap_bytes_free(&out);
+}
+
 static void links(void)
 {
     smap_bytes out = {0};
@@ -491,6 +549,7 @@ int main(void)
     traces(&map);
     scripts_of(&map);
     links();
+    named_maps();
     ways_of(&map);
     callers_with_bool(&map);
     faults();

@@ -60,6 +60,9 @@ int main()
     CHECK(smap::text(bytes) == "http://h/a%20b.js");
     CHECK(smap::script_name("http://h/", "http://h/a%20b.js", bytes) == SMAP_OK);
     CHECK(smap::text(bytes) == "a b.js");
+    uint32_t kind = 99;
+    CHECK(smap::named_map("/s/", "a.js", "//# sourceMappingURL=b%20c.map", bytes, kind) == SMAP_OK);
+    CHECK(kind == SMAP_NAMED_FILE && smap::text(bytes) == "b c.map");
     CHECK(smap::normal_form("HTTP://H:80/a.js?x", bytes) == SMAP_OK && smap::text(bytes) == "http://h/a.js");
     std::string query;
     CHECK(smap::normal_form("HTTP://H:80/a.js?x#y", bytes, true) == SMAP_OK);

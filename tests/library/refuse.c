@@ -138,6 +138,32 @@ static uint32_t script_name(void)
     return smap_script_name("http://h/", 9, "http://h/a%20b.js", 17, &out);
 }
 
+/* What a script names that is below a folder with this URL. */
+static uint32_t named(const char *url, uint32_t wanted)
+{
+    char text[64];
+    uint32_t kind = 8, code;
+    int len = snprintf(text, sizeof text, "//# sourceMappingURL=%s", url);
+    code = smap_named_map("http://h/", 9, "a b.js", 6, text, (size_t)len, &out, &kind);
+    CHECK(kind == (code == SMAP_MEMORY ? 8 : wanted));
+    return code;
+}
+
+static uint32_t named_inline(void)
+{
+    return named("data:;base64,e3%30", SMAP_NAMED_INLINE);
+}
+
+static uint32_t named_file(void)
+{
+    return named("%61.map", SMAP_NAMED_FILE);
+}
+
+static uint32_t named_elsewhere(void)
+{
+    return named("http://k/a.map", SMAP_NAMED_LEAVES);
+}
+
 static uint32_t resolve(void)
 {
     return smap_resolve("/a b.js", 7, "a.map", 5, &out);
@@ -199,6 +225,9 @@ int main(void)
     refuse("the path of a URL", file_path, SMAP_OK);
     refuse("the URL of a script", script_url, SMAP_OK);
     refuse("the name of a script", script_name, SMAP_OK);
+    refuse("a map within a script", named_inline, SMAP_OK);
+    refuse("the file that a script names", named_file, SMAP_OK);
+    refuse("a script that names no file of its folder", named_elsewhere, SMAP_NONE);
     refuse("resolve", resolve, SMAP_OK);
     refuse("a normal form", normal_form, SMAP_OK);
     refuse("names that are alike", alike, SMAP_OK);

@@ -68,6 +68,8 @@ static void links(void)
     CHECK(smap_file_path_text("file:///C:/a%20b.js", &out) == SMAP_OK && holds(&out, "C:\\a b.js"));
     CHECK(smap_script_url_text("http://h/", "a b.js", &out) == SMAP_OK && holds(&out, "http://h/a%20b.js"));
     CHECK(smap_script_name_text("/s/", "/s/a b.js", &out) == SMAP_OK && holds(&out, "a b.js"));
+    CHECK(smap_named_map_text("/s/", "a.js", "//# sourceMappingURL=%61", &out, NULL) == SMAP_OK);
+    CHECK(holds(&out, "a"));
     CHECK(smap_normal_form_text("HTTP://H:80/a.js?x#y", false, &out) == SMAP_OK);
     CHECK(holds(&out, "http://h/a.js"));
     CHECK(smap_alike_text("c:\\a.js", "file:///C:/a.js", &flag) == SMAP_OK && flag);

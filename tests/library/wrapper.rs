@@ -2,7 +2,8 @@
 #[path = "../../capi/rust/smap.rs"]
 mod smap;
 
-use smap::{Counts, Error, Limits, Line, ListedMapping, Map, Mapping, Scripts, TraceCounts, TraceOptions};
+use smap::{Counts, Error, Limits, Line, ListedMapping, Map, Mapping, Named, Scripts, TraceCounts};
+use smap::TraceOptions;
 
 const BASE: &str = "http://h/m/out.js.map";
 const TEXT: &[u8] = br#"{"version":3,"file":"out.js","sources":["a.js","b.js","a.js",null],
@@ -147,6 +148,23 @@ fn errors(map: &Map) -> Result<(), Error> {
     Ok(())
 }
 
+fn names_of_maps() {
+    let named = |text: &[u8]| smap::named_map(b"http://h/m/", b"a.js", text).unwrap();
+    let rows: [(&[u8], Named); 8] = [
+        (b"", Named::Unsaid),
+        (b"f()", Named::Nothing),
+        (b"//# sourceMappingURL=data:;base64,e30", Named::Inline(b"{}".to_vec())),
+        (b"//# sourceMappingURL=b%20c.map", Named::File(b"b c.map".to_vec())),
+        (b"//# sourceMappingURL=data:x", Named::Garbled),
+        (b"//# sourceMappingURL=", Named::NoName),
+        (b"//# sourceMappingURL=http://[", Named::NotUrl),
+        (b"//# sourceMappingURL=../a.map", Named::Leaves),
+    ];
+    for (text, wanted) in rows {
+        assert_eq!(named(text), wanted);
+    }
+}
+
 fn main() -> Result<(), Error> {
     let map = Map::open(TEXT, BASE)?;
     sources_and_lists(&map);
@@ -155,6 +173,7 @@ fn main() -> Result<(), Error> {
     errors(&map)?;
     fields()?;
     fields_of_a_fault();
+    names_of_maps();
     let other = map.share()?;
     let found = std::thread::spawn(move || other.lookup(0, 5)).join().unwrap();
     assert_eq!(found, map.lookup(0, 5));

@@ -58,6 +58,14 @@ DROPPED = 2
 HIDE_IGNORED = 1
 ANYWHERE = 2
 IGNORE_QUERY = 4
+NAMED_UNSAID = 0
+NAMED_NOTHING = 1
+NAMED_INLINE = 2
+NAMED_FILE = 3
+NAMED_GARBLED = 4
+NAMED_NO_NAME = 5
+NAMED_NOT_URL = 6
+NAMED_LEAVES = 7
 
 
 class Fault(Structure):
@@ -171,6 +179,10 @@ FUNCTIONS: List[Tuple[Any, ...]] = [
     ("smap_file_path", c_uint32, c_char_p, c_size_t, POINTER(Bytes)),
     ("smap_script_url", c_uint32, c_char_p, c_size_t, c_char_p, c_size_t, POINTER(Bytes)),
     ("smap_script_name", c_uint32, c_char_p, c_size_t, c_char_p, c_size_t, POINTER(Bytes)),
+    (
+        "smap_named_map", c_uint32, c_char_p, c_size_t, c_char_p, c_size_t, c_char_p, c_size_t,
+        POINTER(Bytes), POINTER(c_uint32),
+    ),
     ("smap_normal_form", c_uint32, c_char_p, c_size_t, c_bool, POINTER(Bytes)),
     ("smap_alike", c_uint32, c_char_p, c_size_t, c_char_p, c_size_t, POINTER(c_bool)),
 ]

@@ -7,18 +7,13 @@ import os
 import stat
 from typing import BinaryIO, Callable, Optional, TypeVar
 
-from .links import script_link
-
-__all__ = ["MOST_BYTES", "link_in", "read_file", "too_large"]
+__all__ = ["MOST_BYTES", "from_end", "read_file", "too_large"]
 
 # How many bytes a map has at most, as for the program smap.
 MOST_BYTES = 268_435_456
 
 # How much of a script is looked at first.
 FIRST_LOOK = 65_536
-
-# A line that names a map, in scripts and in style sheets.
-NAMES_A_MAP = b"/*# sourceMappingURL=x */\n"
 
 Value = TypeVar("Value")
 
@@ -68,17 +63,21 @@ def read_file(path: str, most: int = MOST_BYTES) -> bytes:
     return _unchanged(path, read)
 
 
-def link_in(path: str, css: bool, most: int = MOST_BYTES) -> Optional[bytes]:
-    """The URL of its map that the script in a file names, or the style sheet; None if it names none.
+def from_end(
+    path: str, ask: Callable[[bytes], Optional[Value]], most: int = MOST_BYTES
+) -> Optional[Value]:
+    """What the last lines of a script say: of so many that `ask` doesn't give None for them, or of all.
 
     The file is read from its end, as far as it is needed, and so much of it at most that a map of `most`
     bytes has room in its last line, as base64. Raises OSError.
     """
     bound = most * 4 // 3 + FIRST_LOOK
-    return _unchanged(path, lambda file, size: _link_from_end(file, size, css, bound, path))
+    return _unchanged(path, lambda file, size: _from_end(file, size, ask, bound, path))
 
 
-def _link_from_end(file: BinaryIO, size: int, css: bool, bound: int, path: str) -> Optional[bytes]:
+def _from_end(
+    file: BinaryIO, size: int, ask: Callable[[bytes], Optional[Value]], bound: int, path: str
+) -> Optional[Value]:
     """The same of an open file. More and more of its end is read, until the whole lines of that decide."""
     many = FIRST_LOOK
     while True:
@@ -90,14 +89,9 @@ def _link_from_end(file: BinaryIO, size: int, css: bool, bound: int, path: str) 
         # what is before the first line feed may be the rest of a line
         lines = end if many == size else end.partition(b"\n")[2]
         del end
-        link = script_link(lines, css)
-        if link is not None or many == size or not _leave_open(lines, css):
-            return link
+        found = ask(lines)
+        if found is not None or many == size:
+            return found
         if many == bound:
             raise OSError(errno.EFBIG, f"the last {many} bytes don't say which map it has", path)
         many *= 4
-
-
-def _leave_open(lines: bytes, css: bool) -> bool:
-    """Whether lines say neither that there is a map nor that there is none, so that those before decide."""
-    return script_link(NAMES_A_MAP + lines, css) is not None

@@ -11,10 +11,12 @@ from contextlib import contextmanager
 from dataclasses import dataclass
 from typing import Callable, Dict, Iterable, Iterator, List, NamedTuple, Optional, Tuple, Union
 
-from ._declarations import NOT_URL, REFUSED
+from ._declarations import NAMED_FILE, NAMED_INLINE, NAMED_LEAVES, NAMED_NO_NAME, NAMED_NOTHING
+from ._declarations import NAMED_UNSAID, NOT_UTF8, REFUSED
 from ._library import Error
-from .files import MOST_BYTES, link_in, read_file, too_large
-from .links import as_bytes, data_url, file_path, file_url, normal_form, resolve, script_name, script_url
+from .files import MOST_BYTES, from_end, read_file, too_large
+from .links import as_bytes, data_url, file_path, file_url, named_map, normal_form, resolve, script_link
+from .links import script_name, script_url
 
 __all__ = ["Finder", "Folders", "Found", "OutsideFolderError", "RepeatedError", "base_by_default"]
 
@@ -25,8 +27,7 @@ IS_STYLE_SHEET = {".js": False, ".mjs": False, ".cjs": False, ".css": True}
 # of the other.
 SOME_FOLDER = b"/the folder of the script/"
 
-# How many bytes the URL of a file has at most, however it is spelled, and how many of them an error shows.
-LONGEST_URL = 65_536
+# How many bytes of a URL an error shows.
 MOST_SHOWN = 200
 
 # What is said of a folder without the URL of its scripts.
@@ -131,10 +132,14 @@ def _ending(name: str) -> str:
 
 @dataclass(frozen=True)
 class Link:
-    """What a script names as its map: a URL, as it stands in the script of this name in a folder."""
+    """What the script of this name in a folder names as its map: one of NAMED_.., the map or the name of its
+    file, and unless it is the map the URL, as it stands in the script.
+    """
 
     place: str
     name: str
+    kind: int
+    found: bytes
     url: bytes
 
     @property
@@ -144,10 +149,9 @@ class Link:
 
     def file(self) -> Optional[str]:
         """The file of the map, where all links are followed; None if there is none. Raises Error."""
-        name = self._name()
-        if name is None:
-            raise self._outside()
-        file = os.path.join(self.place, os.fsdecode(name))
+        if self.kind != NAMED_FILE:
+            raise self._fault()
+        file = os.path.join(self.place, os.fsdecode(self.found))
         if not os.path.exists(file):
             return None
         file = os.path.realpath(file)
@@ -155,22 +159,29 @@ class Link:
             raise self._outside()
         return file
 
-    def _name(self) -> Optional[bytes]:
-        """The name of the map below the folder; None where the URL leads elsewhere."""
-        if len(self.url) > LONGEST_URL:
-            return None
-        url = resolve(script_url(SOME_FOLDER, os.fsencode(self.name)), self.url)
-        try:
-            path = file_path(url)
-        except Error as fault:
-            if fault.code != NOT_URL:
-                raise
-            return None
-        return None if path is None else script_name(SOME_FOLDER, path)
+    def _fault(self) -> Error:
+        """Why it names no file: what the library says of the URL, or that that leads elsewhere."""
+        if self.kind != NAMED_NO_NAME:
+            try:
+                data_url(self.url)
+                file_path(resolve(script_url(SOME_FOLDER, os.fsencode(self.name)), self.url))
+            except Error as fault:
+                if self.kind != NAMED_LEAVES or fault.code == NOT_UTF8:
+                    return fault
+        return self._outside()
 
     def _outside(self) -> OutsideFolderError:
         shown = self.url[:MOST_SHOWN].decode("utf-8", "replace")
         return OutsideFolderError(self.script, shown + "..." * (len(self.url) > MOST_SHOWN))
+
+
+def _link_in(place: str, name: str, lines: bytes) -> Optional[Link]:
+    """What the last lines of a script in a folder name; None where those before them would say."""
+    kind, found = named_map(SOME_FOLDER, os.fsencode(name), lines)
+    if kind == NAMED_UNSAID:
+        return None
+    url = None if kind == NAMED_INLINE else script_link(lines, IS_STYLE_SHEET[_ending(name)])
+    return Link(place, name, kind, found or b"", url or b"")
 
 
 @contextmanager
@@ -244,9 +255,10 @@ class Folders:
 
     def _links(self, place: str, name: str) -> Iterator[Link]:
         """What a script in a folder names, if it names a map."""
-        url = link_in(os.path.join(place, name), IS_STYLE_SHEET[_ending(name)], self._map_bytes)
-        if url is not None:
-            yield Link(place, name, url)
+        file = os.path.join(place, name)
+        link = from_end(file, lambda lines: _link_in(place, name, lines), self._map_bytes)
+        if link is not None and link.kind != NAMED_NOTHING:
+            yield link
 
     def _in_scripts(self, script: str, below: List[Tuple[Folder, str]]) -> Optional[Found]:
         """The map that a script names, whose file is in one of these folders under this name."""
@@ -269,16 +281,15 @@ class Folders:
 
     def _linked(self, script: str, link: Link) -> Optional[Found]:
         """The map that a script names, if it is there."""
-        with _named_by(link.script):
-            data = data_url(link.url)
-            if data is None:
+        if link.kind != NAMED_INLINE:
+            with _named_by(link.script):
                 file = link.file()
                 if file is None:
                     return None
                 return self._read(file, resolve(as_bytes(script), link.url).decode())
-        if len(data) > self._map_bytes:
+        if len(link.found) > self._map_bytes:
             raise too_large(self._map_bytes, link.script)
-        return Found(data, _own_url(script))
+        return Found(link.found, _own_url(script))
 
     def meant_by(self, name: str) -> Optional[str]:
         """The first script with a map to whose name this one is alike (`smap.alike`), which has none itself.

@@ -7,13 +7,13 @@ with any other half of a surrogate pair isn't UTF-8, which raises Error (its cod
 
 from __future__ import annotations
 
-from ctypes import byref, c_bool, c_size_t, create_string_buffer
-from typing import AnyStr, Callable, Iterable, Optional, Union
+from ctypes import byref, c_bool, c_size_t, c_uint32, create_string_buffer
+from typing import AnyStr, Callable, Iterable, Optional, Tuple, Union
 
 from ._declarations import NONE, NOT_UTF8, Bytes
 from ._library import Error, check, lib, taken, written
 
-__all__ = ["alike", "as_bytes", "data_url", "file_path", "file_url", "normal_form", "resolve"]
+__all__ = ["alike", "as_bytes", "data_url", "file_path", "file_url", "named_map", "normal_form", "resolve"]
 __all__ += ["script_link", "script_name", "script_url"]
 
 
@@ -115,6 +115,17 @@ def script_name(folder: AnyStr, url: AnyStr) -> Optional[AnyStr]:
     """
     found = _given(lib.smap_script_name, as_bytes(folder), as_bytes(url))
     return None if found is None else _like(found, url)
+
+
+def named_map(folder: bytes, name: bytes, text: bytes) -> Tuple[int, Optional[bytes]]:
+    """What the script, or the style sheet, with this name below a folder names for its map.
+
+    The number says what, one of SMAP_NAMED_.. in smap.h; the bytes are the map, or the name of its file below
+    the folder. The folder's own name ends in a slash. The text is the script's, or its last lines.
+    """
+    kind = c_uint32()
+    found = _given(lambda *words: lib.smap_named_map(*words, byref(kind)), folder, name, text)
+    return kind.value, found
 
 
 def normal_form(name: AnyStr, with_query: bool = False) -> AnyStr:

@@ -8,13 +8,14 @@
 mod standard;
 
 use clap::Error;
-use smap_disk::{System, printable};
+use smap_disk::{Disk, System, printable};
 use smap_io::Device;
 use smap_tool::{RunFault, WordsFault, run, status, task_of};
+use smap_tracer::{Input, Output};
 use standard::{input, is_output_closed, placeholders};
 use std::alloc::{AllocError, Global};
 use std::env;
-use std::io::{self, BufReader, ErrorKind, IsTerminal};
+use std::io::{self, BufReader, ErrorKind, IsTerminal, Stdin};
 use std::process::ExitCode;
 use std::rt::Env;
 
@@ -54,6 +55,12 @@ fn name<'a>(words: &[&'a str]) -> &'a str {
     }
 }
 
+/// Runs `smap-trace`.
+fn trace<D: Disk>(rt: &HostRuntime, disk: &D, words: &[&str], input: Input<Stdin>) -> u8 {
+    let mut output = Output::new(io::writer(rt));
+    smap_tracer::run(rt, disk, words, input, &mut output)
+}
+
 /// Runs the tool that is called by this name, over the file system.
 fn tool(rt: &HostRuntime, name: &str, words: &[&str]) -> u8 {
     let disk = System::new(rt);
@@ -64,7 +71,7 @@ fn tool(rt: &HostRuntime, name: &str, words: &[&str]) -> u8 {
     let input = input(rt, &disk);
     let held = placeholders(rt.alloc(), &disk);
     let status = match name {
-        "smap-trace" => smap_tracer::run(rt, &disk, words, input, io::writer(rt)),
+        "smap-trace" => trace(rt, &disk, words, input),
         "smap-maps" => {
             let on_terminal = rt.stderr().is_terminal();
             smap_mapper::run(rt, &disk, words, on_terminal, io::writer(rt))

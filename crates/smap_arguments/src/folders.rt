@@ -13,14 +13,11 @@ ghost use Rattle.smap_pick.specs.Places as places;
 use crate::settling::{add_text, chosen};
 use crate::wanted::{Origin, Root, Wanted, may_name_map};
 use indexmap::IndexSet;
-use smap_disk::{Disk, read_file, walk};
+use smap_disk::{Disk, LIMIT, read_file, walk};
 use smap_host::{Host, Stop, shown};
 use smap_link::{link_in, script_url};
 use smap_pick::{Place, below, usual_place};
 use std::alloc::{AllocError, Global};
-
-/// The most bytes that a map or a script may have.
-pub const LIMIT: u64 = 268_435_456;
 
 const ENDINGS: [&str; 5] = [".map", ".js", ".mjs", ".cjs", ".css"];
 

@@ -1,10 +1,13 @@
 -- What handles hold.
-use Rattle.std.specs.Prelude.{ℕ, Bool, true, false, List, Option, Some, None}
+use Rattle.std.specs.Prelude.{◌≡◌, ℕ, Bool, true, false, List, Option, Some, None}
+use Rattle.std.specs.Fn.{Once}
+use denote.Ref.{Bor, MutBor}
 use Rattle.std.specs.Global.{Vec}
 use Rattle.smap_trace.specs.Translation.{Script}
 use Rattle.smap_c.specs.declared.handles.Held.{Held}
 use Rattle.smap_c.specs.declared.handles.Held.TheVariants as held
 use Rattle.smap_c.specs.declared.opened.Opened.{Opened}
+use Rattle.smap_c.specs.Codes as codes
 
 -- ---- what it is
 
@@ -39,3 +42,23 @@ held_bytes h = None
 abbrev pub held_scripts : Option Held → Option (List Script)
 held_scripts (Some (held.Scripts ss)) = Some ss
 held_scripts h = None
+
+-- ---- what is asked of a map, for private contracts
+
+-- The map is asked so, or the handle is closed.
+abbrev pub IsAsked : {F O : Type 0}
+    → Once F (Bor Opened × (MutBor O × Unit {0})) (ℕ × (MutBor O × Unit {0})) → F → Option Opened → O → O → ℕ
+    → Type 0
+IsAsked g f None before after code = (code ≡ codes.CLOSED) × (after ≡ before)
+IsAsked {F} {O} g f (Some o) before after code = (p : Bor Opened) × (q : MutBor O) × (left : MutBor O)
+    × (p.now ≡ o) × (q.now ≡ before) × (left.now ≡ after) × g.post f (p, (q, tt)) (code, (left, tt))
+
+-- The same of what copies a text out.
+abbrev pub IsTextAsked : {F : Type 0}
+    → Once F (Bor Opened × (MutBor (List ℕ) × (MutBor ℕ × Unit {0})))
+    (ℕ × (MutBor (List ℕ) × (MutBor ℕ × Unit {0}))) → F → Option Opened → List ℕ → List ℕ → ℕ → ℕ → Type 0
+IsTextAsked g f None before after len code = (code ≡ codes.CLOSED) × (len ≡ 0) × (after ≡ before)
+IsTextAsked {F} g f (Some o) before after len code = (p : Bor Opened)
+    × (q : MutBor (List ℕ)) × (n : MutBor ℕ) × (q' : MutBor (List ℕ)) × (n' : MutBor ℕ)
+    × (p.now ≡ o) × (q.now ≡ before) × (q'.now ≡ after) × (n'.now ≡ len)
+    × g.post f (p, (q, (n, tt))) (code, (q', (n', tt)))

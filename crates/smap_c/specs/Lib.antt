@@ -7,10 +7,10 @@ pub mod Lists
 pub mod Lookups
 pub mod Maps
 pub mod Memory
+pub mod Named
 pub mod Order
 pub mod Owned
 pub mod Scripts
-pub mod ScriptsView
 pub mod Sources
 pub mod Strings
 pub mod Threads

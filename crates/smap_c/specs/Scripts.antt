@@ -1,7 +1,8 @@
 -- What the calls on scripts come to.
-use Rattle.std.specs.Prelude.{◌≡◌, ◌⊎◌, ℕ, List, [], ◌∷◌, bytes_eq, IsUtf8, Option, Some, None, if◌then◌else◌}
+use Rattle.std.specs.Prelude.{◌≡◌, ◌⊎◌, ℕ, List, [], IsUtf8, Option, Some, None}
 use Rattle.std.specs.Global.{Vec}
 use Rattle.smap_record.specs.Record.{Record, record_of}
+use Rattle.smap_trace.specs.Scripts.{with_script}
 use Rattle.smap_trace.specs.Translation.{Fate, Script, translation_by}
 use Rattle.smap_trace.specs.Views.{counts_by}
 use Rattle.smap_trace.specs.declared.outcome.Counts.{Counts}
@@ -10,11 +11,6 @@ use Rattle.smap_c.specs.Traces.{fates}
 use Rattle.smap_c.specs.declared.opened.Opened.{Opened}
 use Rattle.smap_c.specs.declared.scripts.SmapTraceCounts.{SmapTraceCounts}
 use Rattle.smap_c.specs.Codes as codes
-
--- the scripts with this one: in place of one with the same URL, or else after the others
-abbrev pub with_script : List ℕ → Record → List Script → List Script
-with_script url r [] = (url, r) ∷ []
-with_script url r (s ∷ ss) = if bytes_eq url s.0 then (s.0, r) ∷ ss else s ∷ with_script url r ss
 
 -- a closed handle has none
 abbrev pub or_none : Option (List Script) → List Script

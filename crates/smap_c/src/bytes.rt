@@ -7,13 +7,13 @@ ghost use Rattle.smap_mappings.specs.Text.{IsEncodable};
 ghost use Rattle.smap_mappings.specs.Limits.{widest};
 ghost use Rattle.smap_c.specs.Strings.{copied};
 ghost use Rattle.smap_c.specs.Bytes.{Tidies, TidiesRelative, Flattens, SpellsMappings, Puts, IsCopied, IsAt};
-ghost use Rattle.smap_c.specs.Bytes.{respelling, Respells, ReturnsText};
+ghost use Rattle.smap_c.specs.Bytes.{respelling, Respells, ReturnsText, Writes};
 ghost use Rattle.smap_c.specs.Handles.{held_bytes, held_map};
 ghost use Rattle.smap_c.specs.Faults.{IsWhole};
 
 use crate::codes::{CLOSED, MEMORY, OK};
 use crate::faults::{SmapFault, report_fault};
-use crate::handles::{Held, SmapBytes, SmapMap};
+use crate::handles::{Held, SmapBytes, SmapMap, with_open};
 use crate::strings::copy_out;
 use smap_canon::{canonical, canonical_mappings, canonical_relative, flatten};
 use smap_mappings::{MappingsError, Memory, Token, WIDEST, decode, encode};
@@ -100,14 +100,9 @@ pub extern "C" fn smap_canonical(alloc: Global, map: &mut SmapMap, out: &mut Sma
         (held_bytes out.new.owner.value) result }
     ensures same { map.new.owner.value ≡ map.old.owner.value }
 {
-    match mem::replace(map, SmapMap::closed(alloc)).into_box() {
-        None => CLOSED,
-        Some(held) => {
-            let answer = canonical(alloc, &held.opened().map);
-            *map = SmapMap::of(held);
-            put(alloc, answer, out)
-        }
-    }
+    with_open(alloc, map, out, |opened, out| {
+        put(alloc, canonical(alloc, &opened.map), out)
+    })
 }
 
 /// The canonical bytes of a map, its sources as seen from its base.
@@ -121,20 +116,20 @@ pub extern "C" fn smap_canonical_relative(
         (held_bytes out.new.owner.value) result }
     ensures same { map.new.owner.value ≡ map.old.owner.value }
 {
-    match mem::replace(map, SmapMap::closed(alloc)).into_box() {
-        None => CLOSED,
-        Some(held) => {
-            let answer = canonical_relative(alloc, &held.opened().map, &held.opened().base);
-            *map = SmapMap::of(held);
-            put(alloc, answer, out)
-        }
-    }
+    with_open(alloc, map, out, |opened, out| {
+        put(
+            alloc,
+            canonical_relative(alloc, &opened.map, &opened.base),
+            out,
+        )
+    })
 }
 
-fn mappings_of(alloc: Global, map: &SourceMap) -> Result<Vec<u8>, Memory>
-    ensures { IfOk result (λ text. text.items ≡ canonical_mappings_text (record_of map.now)) }
+fn put_mappings(alloc: Global, map: &SourceMap, out: &mut SmapBytes) -> u32
+    ensures { Writes (canonical_mappings_text (record_of map.now)) (held_bytes out.old.owner.value)
+        (held_bytes out.new.owner.value) result }
 {
-    canonical_mappings(alloc, map)
+    put(alloc, canonical_mappings(alloc, map), out)
 }
 
 /// The canonical mappings text of a map.
@@ -148,14 +143,9 @@ pub extern "C" fn smap_canonical_mappings(
         (held_bytes out.new.owner.value) result }
     ensures same { map.new.owner.value ≡ map.old.owner.value }
 {
-    match mem::replace(map, SmapMap::closed(alloc)).into_box() {
-        None => CLOSED,
-        Some(held) => {
-            let answer = mappings_of(alloc, &held.opened().map);
-            *map = SmapMap::of(held);
-            put(alloc, answer, out)
-        }
-    }
+    with_open(alloc, map, out, |opened, out| {
+        put_mappings(alloc, &opened.map, out)
+    })
 }
 
 /// A map as one flat map, its lists as they are.
@@ -165,14 +155,9 @@ pub extern "C" fn smap_flatten(alloc: Global, map: &mut SmapMap, out: &mut SmapB
         (held_bytes out.new.owner.value) result }
     ensures same { map.new.owner.value ≡ map.old.owner.value }
 {
-    match mem::replace(map, SmapMap::closed(alloc)).into_box() {
-        None => CLOSED,
-        Some(held) => {
-            let answer = flatten(alloc, &held.opened().map);
-            *map = SmapMap::of(held);
-            put(alloc, answer, out)
-        }
-    }
+    with_open(alloc, map, out, |opened, out| {
+        put(alloc, flatten(alloc, &opened.map), out)
+    })
 }
 
 /// The tokens of a text that starts at line 0 and column 0; no list bounds its indices.

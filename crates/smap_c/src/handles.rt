@@ -3,22 +3,24 @@
 ghost use Rattle.std.specs.Prelude.{◌≡◌, ◌↔◌, Option, Some, None, IfOk, IfSome, IsSome, IsTrue, MatchOption};
 ghost use Rattle.std.specs.Box.Ownership.{box_owns};
 ghost use Rattle.smap_c.specs.Handles.{held_bytes, held_map, held_scripts, is_bytes, is_map, is_scripts};
-ghost use Rattle.smap_c.specs.Handles.{is_none_or};
+ghost use Rattle.smap_c.specs.Handles.{IsAsked, IsTextAsked, is_none_or};
 ghost use Rattle.smap_c.specs.declared.handles.Held.{Held};
 
+use crate::codes::CLOSED;
 use crate::maps::Shared;
 use crate::opened::Opened;
-use crate::scripts::Scripts;
 use smap_mappings::Memory;
+use smap_trace::Scripts;
 use std::alloc::{Allocator, Global};
 use std::marker::Model;
+use std::mem;
 
 /// What a handle holds: a share in a map, bytes, or scripts.
 #[derive(Drop)]
 pub enum Held {
     Map(Shared),
     Bytes(Vec<u8>),
-    Scripts(Scripts),
+    Scripts(Scripts<Shared>),
 }
 
 impl Held {
@@ -63,7 +65,7 @@ impl Held {
     }
 
     /// The scripts.
-    pub(crate) fn scripts(&self) -> &Scripts
+    pub(crate) fn scripts(&self) -> &Scripts<Shared>
         requires { IsTrue (is_scripts self.now) }
         ensures { held_scripts (Some self.now) ≡ Some result.now }
     {
@@ -301,5 +303,51 @@ impl SmapScripts {
     {
         let SmapScripts { is_open, owner } = self;
         owner.into_box(is_open)
+    }
+}
+
+/// What is asked of an open map, which stays as it is: the code of the answer, or that it is closed.
+pub(crate) fn with_open<O, F: FnOnce(&Opened, &mut O) -> u32>(
+    alloc: Global,
+    map: &mut SmapMap,
+    out: &mut O,
+    ask: F,
+) -> u32
+    requires { F.IsAlwaysCallable ask }
+    ensures asked { IsAsked F.FnOnce ask (held_map map.old.owner.value) out.old out.new result }
+    ensures same { map.new.owner.value ≡ map.old.owner.value }
+{
+    match mem::replace(map, SmapMap::closed(alloc)).into_box() {
+        None => CLOSED,
+        Some(held) => {
+            let code = ask(held.opened(), out);
+            *map = SmapMap::of(held);
+            code
+        }
+    }
+}
+
+/// The same of what copies a text out.
+pub(crate) fn with_text<F: FnOnce(&Opened, &mut [u8], &mut usize) -> u32>(
+    alloc: Global,
+    map: &mut SmapMap,
+    out: &mut [u8],
+    len: &mut usize,
+    ask: F,
+) -> u32
+    requires { F.IsAlwaysCallable ask }
+    ensures asked { IsTextAsked F.FnOnce ask (held_map map.old.owner.value) out.old out.new len.new result }
+    ensures same { map.new.owner.value ≡ map.old.owner.value }
+{
+    match mem::replace(map, SmapMap::closed(alloc)).into_box() {
+        None => {
+            *len = 0;
+            CLOSED
+        }
+        Some(held) => {
+            let code = ask(held.opened(), out, len);
+            *map = SmapMap::of(held);
+            code
+        }
     }
 }

@@ -15,6 +15,7 @@ mod lists;
 mod lookups;
 mod maps;
 mod memory;
+mod named;
 mod opened;
 mod scripts;
 mod sources;

@@ -6,13 +6,12 @@ ghost use Rattle.smap_c.specs.Lists.{ListedToken, WrittenSource, WrittenRoot};
 ghost use Rattle.smap_c.specs.Lists.{WrittenSourceReported, WrittenRootReported};
 ghost use Rattle.smap_c.specs.Handles.{held_map};
 
-use crate::codes::{CLOSED, OK, RANGE};
-use crate::handles::SmapMap;
+use crate::codes::{OK, RANGE};
+use crate::handles::{SmapMap, with_open, with_text};
 use crate::strings::{copy_out, report_text};
 use smap_mappings::Token;
 use smap_record::{SourceMap, WrittenSources};
 use std::alloc::Global;
-use std::mem;
 
 /// A mapping by places in the lists of sources and names; what it doesn't have is 0.
 #[repr(C)]
@@ -121,14 +120,9 @@ pub extern "C" fn smap_listed_source(
     ensures reported { ListedSource (held_map map.old.owner.value) i out.old out.new result }
     ensures same { map.new.owner.value ≡ map.old.owner.value }
 {
-    match mem::replace(map, SmapMap::closed(alloc)).into_box() {
-        None => CLOSED,
-        Some(held) => {
-            let code = source_of(&held.opened().map, i, out);
-            *map = SmapMap::of(held);
-            code
-        }
-    }
+    with_open(alloc, map, out, |opened, out| {
+        source_of(&opened.map, i, out)
+    })
 }
 
 /// The i-th listed name.
@@ -143,17 +137,9 @@ pub extern "C" fn smap_listed_name(
     ensures reported { ListedName (held_map map.old.owner.value) i out.old out.new len.new result }
     ensures same { map.new.owner.value ≡ map.old.owner.value }
 {
-    match mem::replace(map, SmapMap::closed(alloc)).into_box() {
-        None => {
-            *len = 0;
-            CLOSED
-        }
-        Some(held) => {
-            let code = name_of(&held.opened().map, i, out, len);
-            *map = SmapMap::of(held);
-            code
-        }
-    }
+    with_text(alloc, map, out, len, |opened, out, len| {
+        name_of(&opened.map, i, out, len)
+    })
 }
 
 /// The i-th mapping by places in the lists, in order of position.
@@ -167,14 +153,7 @@ pub extern "C" fn smap_listed_token(
     ensures reported { ListedToken (held_map map.old.owner.value) i out.old out.new result }
     ensures same { map.new.owner.value ≡ map.old.owner.value }
 {
-    match mem::replace(map, SmapMap::closed(alloc)).into_box() {
-        None => CLOSED,
-        Some(held) => {
-            let code = token_of(&held.opened().map, i, out);
-            *map = SmapMap::of(held);
-            code
-        }
-    }
+    with_open(alloc, map, out, |opened, out| token_of(&opened.map, i, out))
 }
 
 /// The i-th listed source as the text of the map writes it.
@@ -189,17 +168,9 @@ pub extern "C" fn smap_written_source(
     ensures reported { WrittenSource (held_map map.old.owner.value) i out.old out.new len.new result }
     ensures same { map.new.owner.value ≡ map.old.owner.value }
 {
-    match mem::replace(map, SmapMap::closed(alloc)).into_box() {
-        None => {
-            *len = 0;
-            CLOSED
-        }
-        Some(held) => {
-            let code = written_source_of(&held.opened().written, i, out, len);
-            *map = SmapMap::of(held);
-            code
-        }
-    }
+    with_text(alloc, map, out, len, |opened, out, len| {
+        written_source_of(&opened.written, i, out, len)
+    })
 }
 
 /// The `sourceRoot` that applies to the i-th listed source.
@@ -214,15 +185,7 @@ pub extern "C" fn smap_written_root(
     ensures reported { WrittenRoot (held_map map.old.owner.value) i out.old out.new len.new result }
     ensures same { map.new.owner.value ≡ map.old.owner.value }
 {
-    match mem::replace(map, SmapMap::closed(alloc)).into_box() {
-        None => {
-            *len = 0;
-            CLOSED
-        }
-        Some(held) => {
-            let code = written_root_of(&held.opened().written, i, out, len);
-            *map = SmapMap::of(held);
-            code
-        }
-    }
+    with_text(alloc, map, out, len, |opened, out, len| {
+        written_root_of(&opened.written, i, out, len)
+    })
 }

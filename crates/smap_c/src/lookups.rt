@@ -5,14 +5,13 @@ ghost use Rattle.smap_c.specs.Lookups.{NameReported, NameAt};
 ghost use Rattle.smap_c.specs.Lookups.{TokenReported, Token};
 ghost use Rattle.smap_c.specs.Handles.{held_map};
 
-use crate::codes::{CLOSED, NONE, OK, RANGE};
-use crate::handles::SmapMap;
+use crate::codes::{NONE, OK, RANGE};
+use crate::handles::{SmapMap, with_open, with_text};
 use crate::opened::Opened;
 use crate::strings::report_text;
 use smap_record::{SourceMap, TokenView};
 use smap_trace::{find_in, lookup_in};
 use std::alloc::Global;
-use std::mem;
 
 /// A mapping's numbers: a generated line and column; the number of its source among the distinct ones, a
 /// line and a column of it; and whether it has a name. All count from 0.
@@ -82,14 +81,9 @@ pub extern "C" fn smap_lookup(
     ensures found { LooksUp (held_map map.old.owner.value) line column out.old out.new result }
     ensures same { map.new.owner.value ≡ map.old.owner.value }
 {
-    match mem::replace(map, SmapMap::closed(alloc)).into_box() {
-        None => CLOSED,
-        Some(held) => {
-            let code = find_mapping(held.opened(), line, column, out);
-            *map = SmapMap::of(held);
-            code
-        }
-    }
+    with_open(alloc, map, out, |opened, out| {
+        find_mapping(opened, line, column, out)
+    })
 }
 
 /// The number of the mapping that a generated position falls to, or that there is none.
@@ -117,14 +111,9 @@ pub extern "C" fn smap_find(
     ensures found { LooksUpIndex (held_map map.old.owner.value) line column out.old out.new result }
     ensures same { map.new.owner.value ≡ map.old.owner.value }
 {
-    match mem::replace(map, SmapMap::closed(alloc)).into_box() {
-        None => CLOSED,
-        Some(held) => {
-            let code = find_index(held.opened(), line, column, out);
-            *map = SmapMap::of(held);
-            code
-        }
-    }
+    with_open(alloc, map, out, |opened, out| {
+        find_index(opened, line, column, out)
+    })
 }
 
 fn name_at(opened: &Opened, line: u32, column: u32, out: &mut [u8], len: &mut usize) -> u32
@@ -152,17 +141,9 @@ pub extern "C" fn smap_name_at(
     ensures reported { NameAt (held_map map.old.owner.value) line column out.old out.new len.new result }
     ensures same { map.new.owner.value ≡ map.old.owner.value }
 {
-    match mem::replace(map, SmapMap::closed(alloc)).into_box() {
-        None => {
-            *len = 0;
-            CLOSED
-        }
-        Some(held) => {
-            let code = name_at(held.opened(), line, column, out, len);
-            *map = SmapMap::of(held);
-            code
-        }
-    }
+    with_text(alloc, map, out, len, |opened, out, len| {
+        name_at(opened, line, column, out, len)
+    })
 }
 
 fn token_of(map: &SourceMap, i: usize, out: &mut SmapMapping) -> u32
@@ -187,12 +168,5 @@ pub extern "C" fn smap_token(
     ensures reported { Token (held_map map.old.owner.value) i out.old out.new result }
     ensures same { map.new.owner.value ≡ map.old.owner.value }
 {
-    match mem::replace(map, SmapMap::closed(alloc)).into_box() {
-        None => CLOSED,
-        Some(held) => {
-            let code = token_of(&held.opened().map, i, out);
-            *map = SmapMap::of(held);
-            code
-        }
-    }
+    with_open(alloc, map, out, |opened, out| token_of(&opened.map, i, out))
 }

@@ -9,13 +9,14 @@ ghost use Rattle.smap_c.specs.Handles.{held_map, is_map};
 
 use crate::codes::{CLOSED, LIMITS, MEMORY, NOT_URL, OK};
 use crate::faults::{SmapFault, report_fault};
-use crate::handles::{Held, SmapMap};
+use crate::handles::{Held, SmapMap, with_open, with_text};
 use crate::memory::memory_with;
 use crate::opened::Opened;
 use crate::strings::report_text;
 use smap_canon::same;
 use smap_mappings::{MAX_LINES, Memory};
 use smap_record::{Base, BaseFault, Fault, Limits, ReadError, SourceMap};
+use smap_trace::HasMap;
 use std::alloc::Global;
 use std::sync::Arc;
 use std::{mem, str};
@@ -86,11 +87,12 @@ impl Shared {
     {
         &self.arc
     }
+}
 
-    /// Its map.
-    pub(crate) fn map(&self) -> &SourceMap
-        ensures { result.now ≡ self.now.arc.value.map }
-    {
+impl HasMap for Shared {
+    ghost held_map = { λ shared. shared.arc.value.map };
+
+    fn map(&self) -> &SourceMap {
         &self.opened().map
     }
 }
@@ -242,14 +244,10 @@ pub extern "C" fn smap_count(alloc: Global, map: &mut SmapMap, out: &mut SmapCou
     ensures counts { Counts (held_map map.old.owner.value) out.old out.new result }
     ensures same { map.new.owner.value ≡ map.old.owner.value }
 {
-    match mem::replace(map, SmapMap::closed(alloc)).into_box() {
-        None => CLOSED,
-        Some(held) => {
-            *out = counts_of(&held.opened().map);
-            *map = SmapMap::of(held);
-            OK
-        }
-    }
+    with_open(alloc, map, out, |opened, out| {
+        *out = counts_of(&opened.map);
+        OK
+    })
 }
 
 /// About how many bytes of memory a map takes.
@@ -258,14 +256,10 @@ pub extern "C" fn smap_held(alloc: Global, map: &mut SmapMap, out: &mut usize) -
     ensures reported { TakesMemory (held_map map.old.owner.value) out.old out.new result }
     ensures same { map.new.owner.value ≡ map.old.owner.value }
 {
-    match mem::replace(map, SmapMap::closed(alloc)).into_box() {
-        None => CLOSED,
-        Some(held) => {
-            *out = memory_with(held.opened());
-            *map = SmapMap::of(held);
-            OK
-        }
-    }
+    with_open(alloc, map, out, |opened, out| {
+        *out = memory_with(opened);
+        OK
+    })
 }
 
 fn file_of(map: &SourceMap, out: &mut [u8], len: &mut usize) -> u32
@@ -285,15 +279,7 @@ pub extern "C" fn smap_file(
     ensures reported { File (held_map map.old.owner.value) out.old out.new len.new result }
     ensures same { map.new.owner.value ≡ map.old.owner.value }
 {
-    match mem::replace(map, SmapMap::closed(alloc)).into_box() {
-        None => {
-            *len = 0;
-            CLOSED
-        }
-        Some(held) => {
-            let code = file_of(&held.opened().map, out, len);
-            *map = SmapMap::of(held);
-            code
-        }
-    }
+    with_text(alloc, map, out, len, |opened, out, len| {
+        file_of(&opened.map, out, len)
+    })
 }

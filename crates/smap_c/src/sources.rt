@@ -4,12 +4,11 @@ ghost use Rattle.smap_c.specs.Sources.{UrlReported, ContentReported, SourceUrl, 
 ghost use Rattle.smap_c.specs.Sources.{IgnoredReported, Ignored};
 ghost use Rattle.smap_c.specs.Handles.{held_map};
 
-use crate::codes::{CLOSED, OK, RANGE};
-use crate::handles::SmapMap;
+use crate::codes::{OK, RANGE};
+use crate::handles::{SmapMap, with_open, with_text};
 use crate::strings::report_text;
 use smap_record::SourceMap;
 use std::alloc::Global;
-use std::mem;
 
 fn url_of(map: &SourceMap, i: usize, out: &mut [u8], len: &mut usize) -> u32
     ensures { UrlReported map.now i out.old out.new len.new result }
@@ -56,17 +55,9 @@ pub extern "C" fn smap_source_url(
     ensures reported { SourceUrl (held_map map.old.owner.value) i out.old out.new len.new result }
     ensures same { map.new.owner.value ≡ map.old.owner.value }
 {
-    match mem::replace(map, SmapMap::closed(alloc)).into_box() {
-        None => {
-            *len = 0;
-            CLOSED
-        }
-        Some(held) => {
-            let code = url_of(&held.opened().map, i, out, len);
-            *map = SmapMap::of(held);
-            code
-        }
-    }
+    with_text(alloc, map, out, len, |opened, out, len| {
+        url_of(&opened.map, i, out, len)
+    })
 }
 
 /// The content of a source.
@@ -81,17 +72,9 @@ pub extern "C" fn smap_source_content(
     ensures reported { SourceContent (held_map map.old.owner.value) i out.old out.new len.new result }
     ensures same { map.new.owner.value ≡ map.old.owner.value }
 {
-    match mem::replace(map, SmapMap::closed(alloc)).into_box() {
-        None => {
-            *len = 0;
-            CLOSED
-        }
-        Some(held) => {
-            let code = content_of(&held.opened().map, i, out, len);
-            *map = SmapMap::of(held);
-            code
-        }
-    }
+    with_text(alloc, map, out, len, |opened, out, len| {
+        content_of(&opened.map, i, out, len)
+    })
 }
 
 /// Whether the i-th distinct source is ignored.
@@ -100,12 +83,7 @@ pub extern "C" fn smap_is_ignored(alloc: Global, map: &mut SmapMap, i: usize, ou
     ensures reported { Ignored (held_map map.old.owner.value) i out.old out.new result }
     ensures same { map.new.owner.value ≡ map.old.owner.value }
 {
-    match mem::replace(map, SmapMap::closed(alloc)).into_box() {
-        None => CLOSED,
-        Some(held) => {
-            let code = ignored_of(&held.opened().map, i, out);
-            *map = SmapMap::of(held);
-            code
-        }
-    }
+    with_open(alloc, map, out, |opened, out| {
+        ignored_of(&opened.map, i, out)
+    })
 }

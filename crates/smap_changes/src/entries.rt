@@ -118,21 +118,33 @@ fn merged_told(alloc: Global, texts: &[&str]) -> Result<String, AllocError>
     format!(in alloc; ", {named} merged")
 }
 
-/// Which texts are merged, which are gone, and which are new.
-fn all_told(
-    alloc: Global,
-    merged: &[&str],
-    gone: &[&str],
-    added: &[&str],
-) -> Result<String, AllocError>
-    ensures { IfOk result (λ t. string_bytes t ≡ spec.all_told (map (λ n. n.now) merged.now)
-        (map (λ n. n.now) gone.now) (map (λ n. n.now) added.now)) }
-{
-    let merged = merged_told(alloc, merged)?;
-    let gone = told(alloc, "without", gone)?;
-    let added = told(alloc, "with", added)?;
-    let (merged, gone, added) = (merged.as_str(), gone.as_str(), added.as_str());
-    format!(in alloc; "{merged}{gone}{added}")
+/// Texts of a list that are others once it is rewritten.
+#[derive(Drop)]
+struct Difference<'v> {
+    merged: Vec<&'v str>,
+    gone: Vec<&'v str>,
+    added: Vec<&'v str>,
+}
+
+impl Difference<'_> {
+    fn is_empty(&self) -> bool
+        ensures { result ≡ (length self.now.merged.items == 0 && (length self.now.gone.items == 0
+            && length self.now.added.items == 0)) }
+    {
+        self.merged.is_empty() && self.gone.is_empty() && self.added.is_empty()
+    }
+
+    /// Which texts are merged, which are gone, and which are new.
+    fn all_told(&self, alloc: Global) -> Result<String, AllocError>
+        ensures { IfOk result (λ t. string_bytes t ≡ spec.all_told (map (λ n. n.now) self.now.merged.items)
+            (map (λ n. n.now) self.now.gone.items) (map (λ n. n.now) self.now.added.items)) }
+    {
+        let merged = merged_told(alloc, &self.merged)?;
+        let gone = told(alloc, "without", &self.gone)?;
+        let added = told(alloc, "with", &self.added)?;
+        let (merged, gone, added) = (merged.as_str(), gone.as_str(), added.as_str());
+        format!(in alloc; "{merged}{gone}{added}")
+    }
 }
 
 /// What is told where no text is merged, gone or new.
@@ -151,17 +163,16 @@ fn texts_change(
     alloc: Global,
     is_as_long: bool,
     are_reordered: bool,
-    merged: &[&str],
-    gone: &[&str],
-    added: &[&str],
+    difference: &Difference<'_>,
 ) -> Result<String, AllocError>
     ensures { IfOk result (λ t. string_bytes t ≡ spec.texts_change is_as_long are_reordered
-        (map (λ n. n.now) merged.now) (map (λ n. n.now) gone.now) (map (λ n. n.now) added.now)) }
+        (map (λ n. n.now) difference.now.merged.items) (map (λ n. n.now) difference.now.gone.items)
+        (map (λ n. n.now) difference.now.added.items)) }
 {
-    if is_as_long && merged.is_empty() && gone.is_empty() && added.is_empty() {
+    if is_as_long && difference.is_empty() {
         return String::from_str(alloc, order_told(are_reordered));
     }
-    all_told(alloc, merged, gone, added)
+    difference.all_told(alloc)
 }
 
 /// The texts that are merged, gone and new, by how often they stood in a list and stand there now.
@@ -177,10 +188,12 @@ fn texts_told(
         (table.missing_in (table.rows_of now.now.entries) (table.rows_of before.now.entries))
         (table.missing_in (table.rows_of before.now.entries) (table.rows_of now.now.entries))) }
 {
-    let merged = fewer(alloc, now, before)?;
-    let gone = missing(alloc, now, before)?;
-    let added = missing(alloc, before, now)?;
-    texts_change(alloc, is_as_long, are_reordered, &merged, &gone, &added)
+    let difference = Difference {
+        merged: fewer(alloc, now, before)?,
+        gone: missing(alloc, now, before)?,
+        added: missing(alloc, before, now)?,
+    };
+    texts_change(alloc, is_as_long, are_reordered, &difference)
 }
 
 /// Whether no text stands in a list more often now, and what isn't a text is null.

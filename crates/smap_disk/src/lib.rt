@@ -29,7 +29,7 @@ pub use fixed::{FixedDisk, FixedEntry, FixedFile, FixedFolder};
 pub use found::{Walk, WalkFault};
 pub use paths::{joined, parted};
 pub use printing::printable;
-pub use reading::{FileFault, read_file};
+pub use reading::{FileFault, LIMIT, read_file};
 pub use reasons::reason;
 pub use system::System;
 pub use walking::walk;

@@ -6,6 +6,9 @@ use crate::disk::Disk;
 use std::alloc::Global;
 use std::io::{self, ErrorKind, Read};
 
+/// The longest file that the tools read, in bytes, which is the longest input of all.
+pub const LIMIT: u64 = smap_io::LIMIT as u64;
+
 /// Why a file isn't read.
 #[derive(Debug, Drop)]
 pub enum FileFault {

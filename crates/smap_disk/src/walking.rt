@@ -16,6 +16,15 @@ use crate::paths::joined;
 use std::alloc::{AllocError, Global};
 use std::io::{self, ErrorKind};
 
+/// Which files a walk is for, and below which folder.
+#[derive(Drop)]
+struct Search<'a, D> {
+    alloc: Global,
+    disk: &'a D,
+    root: &'a str,
+    endings: &'a [&'a str],
+}
+
 /// A walk that isn't over.
 #[derive(Drop)]
 struct State {
@@ -61,42 +70,59 @@ fn is_file(kind: Kind) -> bool
     }
 }
 
-/// Whether a link leads to a file.
-fn leads_to_file<D: Disk>(
-    alloc: Global,
-    disk: &D,
-    root: &str,
-    name: &str,
-) -> Result<bool, AllocError>
-    ensures { (t : Tree) → D.tree disk.now ≡ Some t
-        → IfOk result (λ b. b ≡ spec.is_file (t.kinds (joined_path root.now name.now))) }
-{
-    let path = joined(alloc, root, name)?;
-    Ok(is_file(disk.kind(&path)))
+fn fault_of(path: String, error: io::Error) -> WalkFault {
+    if error.kind() == ErrorKind::OutOfMemory {
+        WalkFault::Memory
+    } else {
+        WalkFault::Folder { path, error }
+    }
 }
 
-/// Whether an entry with this name below the root counts.
-fn is_wanted<D: Disk>(
-    alloc: Global,
-    disk: &D,
-    root: &str,
-    name: &str,
-    entry: &Entry,
-    endings: &[&str],
-) -> Result<bool, AllocError>
-    ensures ending { IfOk result (λ b. b ≡ true
-        → spec.has_ending endings.now (string_bytes entry.now.name) ≡ true) }
-    ensures counts { (t : Tree) → D.tree disk.now ≡ Some t → IfOk result (λ b.
-        b ≡ (spec.has_ending endings.now (string_bytes entry.now.name)
-        && spec.counts t (joined_path root.now name.now) entry.now.kind)) }
-{
-    if !has_ending(&entry.name, endings) {
-        return Ok(false);
+impl<D: Disk> Search<'_, D> {
+    /// Whether a link with this name below the root leads to a file.
+    fn leads_to_file(&self, name: &str) -> Result<bool, AllocError>
+        ensures { (t : Tree) → D.tree self.now.disk.now ≡ Some t
+            → IfOk result (λ b. b ≡ spec.is_file (t.kinds (joined_path self.now.root.now name.now))) }
+    {
+        let path = joined(self.alloc, self.root, name)?;
+        Ok(is_file(self.disk.kind(&path)))
     }
-    match entry.kind {
-        EntryKind::File => Ok(true),
-        EntryKind::Link => leads_to_file(alloc, disk, root, name),
-        EntryKind::Folder | EntryKind::Special => Ok(false),
+
+    /// Whether an entry with this name below the root counts.
+    fn is_wanted(&self, name: &str, entry: &Entry) -> Result<bool, AllocError>
+        ensures ending { IfOk result (λ b. b ≡ true
+            → spec.has_ending self.now.endings.now (string_bytes entry.now.name) ≡ true) }
+        ensures counts { (t : Tree) → D.tree self.now.disk.now ≡ Some t → IfOk result (λ b.
+            b ≡ (spec.has_ending self.now.endings.now (string_bytes entry.now.name)
+            && spec.counts t (joined_path self.now.root.now name.now) entry.now.kind)) }
+    {
+        if !has_ending(&entry.name, self.endings) {
+            return Ok(false);
+        }
+        match entry.kind {
+            EntryKind::File => Ok(true),
+            EntryKind::Link => self.leads_to_file(name),
+            EntryKind::Folder | EntryKind::Special => Ok(false),
+        }
+    }
+
+    /// The entries of a folder below the root; none of one that is gone by now.
+    fn listing_of(&self, folder: &str) -> Result<Listing, WalkFault>
+        ensures { IfOk result
+            (IsListed (D.tree self.now.disk.now) (joined_path self.now.root.now folder.now)) }
+    {
+        let path = joined(self.alloc, self.root, folder)?;
+        match self.disk.list(self.alloc, &path) {
+            Ok(listing) => Ok(listing),
+            Err(error) => match error.kind() {
+                // it is gone since the folder above it was read
+                ErrorKind::NotFound if !folder.is_empty() => Ok(Listing {
+                    entries: Vec::new(self.alloc),
+                    unnamed: 0,
+                }),
+                _ => Err(fault_of(path, error)),
+            },
+        }
     }
 }
 
@@ -157,27 +183,25 @@ impl State {
     /// Takes in an entry of a folder below the root.
     fn add<D: Disk>(
         &mut self,
-        alloc: Global,
-        disk: &D,
-        root: &str,
+        search: &Search<'_, D>,
         folder: &str,
         entry: &Entry,
-        endings: &[&str],
     ) -> Result<(), AllocError>
-        ensures wanted { AreWanted endings.now self.old.names.items
-            → OnOk result (AreWanted endings.now self.new.names.items) }
+        ensures wanted { AreWanted search.now.endings.now self.old.names.items
+            → OnOk result (AreWanted search.now.endings.now self.new.names.items) }
         ensures folders { OnOk result (texts self.new.folders.items
             ≡ texts self.old.folders.items ++ folders_in folder.now (entry_in entry.now ∷ [])) }
-        ensures files { (t : Tree) → D.tree disk.now ≡ Some t → OnOk result (texts self.new.names.items
-            ≡ texts self.old.names.items
-            ++ files_in t root.now (spec.has_ending endings.now) folder.now (entry_in entry.now ∷ [])) }
+        ensures files { (t : Tree) → D.tree search.now.disk.now ≡ Some t
+            → OnOk result (texts self.new.names.items ≡ texts self.old.names.items
+            ++ files_in t search.now.root.now (spec.has_ending search.now.endings.now) folder.now
+            (entry_in entry.now ∷ [])) }
     {
         self.note(entry.kind);
-        let name = joined(alloc, folder, &entry.name)?;
+        let name = joined(search.alloc, folder, &entry.name)?;
         if is_folder(entry.kind) {
             return self.add_folder(name);
         }
-        if is_wanted(alloc, disk, root, &name, entry, endings)? {
+        if search.is_wanted(&name, entry)? {
             return self.add_name(name);
         }
         Ok(())
@@ -186,24 +210,22 @@ impl State {
     /// Takes in all entries of a folder below the root.
     fn add_all<D: Disk>(
         &mut self,
-        alloc: Global,
-        disk: &D,
-        root: &str,
+        search: &Search<'_, D>,
         folder: &str,
         listing: &Listing,
-        endings: &[&str],
     ) -> Result<(), AllocError>
-        ensures wanted { AreWanted endings.now self.old.names.items
-            → OnOk result (AreWanted endings.now self.new.names.items) }
+        ensures wanted { AreWanted search.now.endings.now self.old.names.items
+            → OnOk result (AreWanted search.now.endings.now self.new.names.items) }
         ensures folders { OnOk result (texts self.new.folders.items
             ≡ texts self.old.folders.items ++ folders_in folder.now (entries_in listing.now)) }
-        ensures files { (t : Tree) → D.tree disk.now ≡ Some t → OnOk result (texts self.new.names.items
-            ≡ texts self.old.names.items
-            ++ files_in t root.now (spec.has_ending endings.now) folder.now (entries_in listing.now)) }
+        ensures files { (t : Tree) → D.tree search.now.disk.now ≡ Some t
+            → OnOk result (texts self.new.names.items ≡ texts self.old.names.items
+            ++ files_in t search.now.root.now (spec.has_ending search.now.endings.now) folder.now
+            (entries_in listing.now)) }
     {
         self.note_unnamed(listing.unnamed);
         for i in 0..listing.entries.len() {
-            self.add(alloc, disk, root, folder, &listing.entries[i], endings)?;
+            self.add(search, folder, &listing.entries[i])?;
         }
         Ok(())
     }
@@ -241,37 +263,6 @@ impl State {
     }
 }
 
-fn fault_of(path: String, error: io::Error) -> WalkFault {
-    if error.kind() == ErrorKind::OutOfMemory {
-        WalkFault::Memory
-    } else {
-        WalkFault::Folder { path, error }
-    }
-}
-
-/// The entries of a folder below the root; none of one that is gone by now.
-fn listing_of<D: Disk>(
-    alloc: Global,
-    disk: &D,
-    root: &str,
-    folder: &str,
-) -> Result<Listing, WalkFault>
-    ensures { IfOk result (IsListed (D.tree disk.now) (joined_path root.now folder.now)) }
-{
-    let path = joined(alloc, root, folder)?;
-    match disk.list(alloc, &path) {
-        Ok(listing) => Ok(listing),
-        Err(error) => match error.kind() {
-            // it is gone since the folder above it was read
-            ErrorKind::NotFound if !folder.is_empty() => Ok(Listing {
-                entries: Vec::new(alloc),
-                unnamed: 0,
-            }),
-            _ => Err(fault_of(path, error)),
-        },
-    }
-}
-
 /// The files at any depth below a folder whose names end in one of these with something before it. Links to
 /// files count, links to folders aren't followed, pipes and devices don't count.
 ///
@@ -289,13 +280,19 @@ pub fn walk<D: Disk>(
     ensures below { IfOk result (λ w. AreFilesBelow (D.tree disk.now) folder.now
         (spec.has_ending endings.now) w.names.items) }
 {
+    let search = Search {
+        alloc,
+        disk,
+        root: folder,
+        endings,
+    };
     let mut state = State::new(alloc)?;
     for number in 0..usize::MAX {
         let Some(below) = state.folder(alloc, number)? else {
             return Ok(state.finish()?);
         };
-        let listing = listing_of(alloc, disk, folder, &below)?;
-        state.add_all(alloc, disk, folder, &below, &listing, endings)?;
+        let listing = search.listing_of(&below)?;
+        state.add_all(&search, &below, &listing)?;
     }
     Err(WalkFault::Memory)
 }

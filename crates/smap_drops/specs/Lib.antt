@@ -1,3 +1,2 @@
 pub mod Drops
 pub mod Naming
-pub mod Text

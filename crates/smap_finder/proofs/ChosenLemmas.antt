@@ -1,17 +1,13 @@
 -- What was chosen, as lists.
-use Rattle.std.proofs.Common.{◌≡◌, ◌++◌, ◌∷◌, ◌+◌, ◌<◌, [], refl, suc, zero, ℕ, Bool, true, List, length}
-use Rattle.std.proofs.Common.{Some, string_bytes, inl, inr, not, false, arith, get_or, map, subst}
+use Rattle.std.proofs.Common.{◌≡◌, ◌++◌, ◌∷◌, ◌<◌, [], refl, suc, zero, ℕ, Bool, true, List, length}
+use Rattle.std.proofs.Common.{Some, not, false, arith, get_or, map, subst}
 use Rattle.std.specs.Bool.{beq}
 use Rattle.std.specs.List.{All, Contains, slice_get}
-use Rattle.std.proofs.lemmas.Bool.{cases_lt, cond_both}
+use Rattle.std.proofs.lemmas.Bool.{cond_both}
 use Rattle.std.proofs.lemmas.List.{get_or-map, length-map, map-append}
 use Rattle.std.proofs.lemmas.List.Elements.{All-cons, All-head, All-nil, All-tail, Contains-append_left}
 use Rattle.std.proofs.lemmas.List.Elements.{Contains-get_or, Contains-push}
 use Rattle.indexmap.specs.IndexMap.{insert_entry}
-use Rattle.smap_finder.specs.ChosenView.{Choices, Has, Serves}
-use Rattle.smap_finder.specs.declared.chosen.MappedName.{MappedName}
-use Rattle.smap_finder.specs.declared.chosen.Opening.{Opening}
-use Rattle.smap_record.specs.Record.{ReadMap}
 
 pub same_bool : (a b : Bool) → not (beq a b) ≡ false → a ≡ b
 same_bool a b e = grind arith
@@ -45,25 +41,12 @@ all_inserted P eq (e ∷ es) k v all same p =
     (λ _. All-cons P e (insert_entry eq es k v) (All-head P e es all)
     (all_inserted P eq es k v (All-tail P e es all) same p))
 
-pub serves_same : (o p : Opening) (n k : MappedName) (name : List ℕ) → o ≡ p → n ≡ k
-    → name ≡ string_bytes k.name
-    → Serves p.name.items p.found name k.found → Serves o.name.items o.found (string_bytes n.name) n.found
-serves_same o p n k name eo en is s = rw (eo, en) (rw is at s)
-
 -- what stands in a list is among its texts
 pub mapped_among : {X : Type 0} (f : X → List ℕ) (xs : List X) (i : ℕ) (d : X) → i < length xs
     → Contains (map f xs) (f (get_or xs i d))
 mapped_among f xs i d lt = let long = length-map xs f in
     subst (Contains (map f xs)) (get_or-map f xs i d (f d) lt)
     (Contains-get_or (map f xs) i (f d) (omega arith))
-
--- the names up to this one are listed
-pub next_listed : (c : Choices) (i : ℕ) (names : List (List ℕ))
-    → ((name : List ℕ) (m : ReadMap) (h : Has c name m) → h.at < i → Contains names name)
-    → ((name : List ℕ) (m : ReadMap) (h : Has c name m) → h.at ≡ i → Contains names name)
-    → (name : List ℕ) (m : ReadMap) (h : Has c name m) → h.at < i + 1 → Contains names name
-next_listed c i names old new name m h lt = elim (cases_lt h.at i)
-    [ inl less ↦ old name m h less | inr more ↦ new name m h (omega arith) ]
 
 -- one more is listed
 pub listed_last : {X : Type 0} (f : X → List ℕ) (xs : List X) (x : X) (name : List ℕ) → Some (f x) ≡ Some name

@@ -1,5 +1,6 @@
 -- What was chosen stays while more is.
-use Rattle.std.proofs.Common.{◌≡◌, ◌⊎◌, ◌≤◌, arith, inl, inr, refl, subst, ℕ, Bool, List, Bor, get_or}
+use Rattle.std.proofs.Common.{◌≡◌, ◌⊎◌, ◌≤◌, ap, arith, true, is_some, inl, inr, refl, subst, ℕ, Bool, List}
+use Rattle.std.proofs.Common.{Bor, get_or}
 use Rattle.std.proofs.Common.{Option, None, Some, Result, Ok, Err, IfNone, IfOk, IfSome, MatchResult, OnOk}
 use Rattle.std.proofs.Common.{option_map, sym}
 use Rattle.std.specs.List.{All, Contains}
@@ -9,13 +10,15 @@ use Rattle.smap_disk.specs.Held.{Held}
 use Rattle.smap_pick.specs.declared.picks.Found.{Found}
 use Rattle.smap_pick.specs.declared.picks.Found.TheVariants.{Given, ByEnd, Unclear, Missing}
 use Rattle.smap_pick.specs.declared.picks.Pick.{Pick}
-use Rattle.smap_record.specs.Record.{ReadMap}
+use Rattle.smap_record.specs.Record.{ReadMap, Record}
+use Rattle.smap_trace.specs.Scripts.{Script, map_of}
+use Rattle.smap_trace.proofs.TableLemmas.{found_there, names_of}
 use Rattle.smap_finder.proofs.ChoiceLemmas.{one_of}
 use Rattle.smap_finder.specs.Choice.{IsOpenedAs, IsUnopened, has_base, opening_name, root_of}
 use Rattle.smap_opening.specs.Given.{Folder}
 use Rattle.smap_opening.specs.Opened.{GivesNone}
 use Rattle.smap_pick.specs.Places.{MapPlace}
-use Rattle.smap_finder.specs.ChosenView.{AreChosen, Choices, Ends, IsCrowded, IsWithoutMap, Grows, HasMap}
+use Rattle.smap_finder.specs.ChosenView.{AreChosen, Choices, Ends, IsCrowded, IsWithoutMap, Grows, map_in}
 use Rattle.smap_finder.specs.ChosenView.{HasNone}
 use Rattle.smap_finder.specs.ChosenView.{IsFor, IsLeft, IsNotOpened}
 use Rattle.smap_finder.specs.ChosenView.{IsFind, IsServedBy, IsSettledIn, IsTried, Serves}
@@ -90,7 +93,7 @@ left_worse held w in_frames c d name a le (inr (found, picked, none)) =
 -- the same choices, once files were opened for more names and worse maps refused
 abbrev pub further : Choices → Ends → ℕ → Choices
 further c ends worst = record {
-  mapped = c.mapped;
+  scripts = c.scripts;
   openings = c.openings;
   left = c.left;
   ends = ends;
@@ -101,9 +104,9 @@ pub chosen_further : (held : Held) (w : Wanted) (c : Choices) (ends : Ends) (wor
     → StayCrowded c.ends ends
     → c.worst ≤ worst → AreChosen held w c → AreChosen held w (further c ends worst)
 chosen_further held w c ends worst a le chosen = record {
-  names = chosen.names;
+  scripts = chosen.scripts;
   openings = λ k d lt. let o : Opening = get_or c.openings k d in
-      tried_worse held w c.worst worst o.name.items o.found o.map le (chosen.openings k d lt);
+      tried_worse held w c.worst worst o.name.items o.found (map_in o) le (chosen.openings k d lt);
   left = λ k d lt. left_worse held w (get_or c.left k d).1 c (further c ends worst)
       (get_or c.left k d).0.items a le (chosen.left k d lt);
 }
@@ -115,7 +118,7 @@ chosen_worse held w c worst le chosen = chosen_further held w c c.ends worst (λ
 pub grows_further : (c : Choices) (ends : Ends) (worst : ℕ) → StayCrowded c.ends ends → c.worst ≤ worst
     → Grows c (further c ends worst)
 grows_further c ends worst a le = record {
-  mapped = λ i n is. is;
+  names = λ name has. has;
   openings = λ i o is. is;
   crowded = a;
   worst = le;
@@ -129,7 +132,7 @@ serves_self name Missing f = f
 
 pub grows_self : (c : Choices) → Grows c c
 grows_self c = record {
-  mapped = λ i n is. is;
+  names = λ name has. has;
   openings = λ i o is. is;
   crowded = λ i is. is;
   worst = omega arith;
@@ -137,29 +140,15 @@ grows_self c = record {
 
 pub grows_on : (a b c : Choices) → Grows a b → Grows b c → Grows a c
 grows_on a b c p q = record {
-  mapped = λ i n is. q.mapped i n (p.mapped i n is);
+  names = λ name has. q.names name (p.names name has);
   openings = λ i o is. q.openings i o (p.openings i o is);
   crowded = λ i is. q.crowded i (p.crowded i is);
   worst = omega (arith, p.worst, q.worst);
 }
 
-pub has_grown : (c d : Choices) (name : List ℕ) → Grows c d → HasMap c name → HasMap d name
-has_grown c d name g (m, has) = (
-  m,
-  record {
-    at = has.at;
-    mapped = has.mapped;
-    mapped_is = g.mapped has.at has.mapped has.mapped_is;
-    name_is = has.name_is;
-    opening = has.opening;
-    served = (g.openings has.mapped.number has.opening has.served.0, has.served.1);
-    map_is = has.map_is;
-  },
-)
-
 pub settled_grown : (held : Held) (w : Wanted) (in_frames : Bool) (c d : Choices) (name : List ℕ) → Grows c d
     → IsSettledIn held w in_frames c name → IsSettledIn held w in_frames d name
-settled_grown held w in_frames c d name g (inl has) = inl (has_grown c d name g has)
+settled_grown held w in_frames c d name g (inl has) = inl (g.names name has)
 settled_grown held w in_frames c d name g (inr left) =
     inr (left_worse held w in_frames c d name g.crowded g.worst left)
 
@@ -200,7 +189,7 @@ none_given held w c name Missing gives = tt
 -- what was looked for gave no map
 pub none_opened : (held : Held) (w : Wanted) (c : Choices) (name : List ℕ) (found : Found) (number : ℕ)
     (o : Opening)
-    → AreChosen held w c → IsServedBy c number name found o → o.map ≡ None → HasNone held w c name found
+    → AreChosen held w c → IsServedBy c number name found o → map_in o ≡ None → HasNone held w c name found
 none_opened held w c name found number o chosen served none =
     let tried = one_of (IsFor held w c.worst) c.openings o number chosen.openings served.0 in
     none_given held w c name found (record {
@@ -222,7 +211,16 @@ pub no_text : {A E : Type 0} (P : A → Type 0) (Q : E → Type 0) (IsText : Typ
 no_text P Q IsText (Ok a) m never = absurd (never a refl)
 no_text P Q IsText (Err e) m never = m.0
 
-pub none_at : {M : Type 0} (r : Option (Bor M)) (m : Option M) → option_map (λ (b : Bor M). b.now) r ≡ m
-    → ((b : Bor M) → r ≡ Some b → ⊥) → m ≡ None
-none_at None m e never = sym e
-none_at (Some b) m e never = absurd (never b refl)
+pub none_in : {A : Type 0} (r : Option (Bor A)) (o : Option A) (value : A → ReadMap)
+    → option_map (λ (b : Bor A). b.now) r ≡ o → ((b : Bor A) → r ≡ Some b → ⊥) → option_map value o ≡ None
+none_in None o value e never = ap (option_map value) (sym e)
+none_in (Some b) o value e never = absurd (never b refl)
+
+pub some_in : {A : Type 0} (r : Option (Bor A)) (o : Option A) (value : A → ReadMap) (b : Bor A) (m : ReadMap)
+    → option_map (λ (x : Bor A). x.now) r ≡ o → r ≡ Some b → m ≡ value b.now → option_map value o ≡ Some m
+some_in r o value b m e is same = rw (← e, is, same) refl
+
+pub known_there : {A : Type 0} (f : A → Record) (r : Option A) (ss : List Script) (name : List ℕ)
+    → option_map f r ≡ map_of ss name → is_some r ≡ true → Contains (names_of ss) name
+known_there f None ss name e some = absurd cc
+known_there f (Some a) ss name e some = found_there ss name (f a) (sym e)

@@ -1,12 +1,13 @@
 -- The map that is kept for a name of a log is the one that the name has.
-use Rattle.std.proofs.Common.{◌≡◌, sym, ℕ, Bool, true, false, cond, List, subst, refl}
+use Rattle.std.proofs.Common.{◌≡◌, sym, Some, ℕ, Bool, true, false, cond, List, subst, refl}
 use Rattle.smap_disk.specs.Held.{Held}
 use Rattle.smap_pick.specs.declared.picks.Found.{Found}
 use Rattle.smap_pick.specs.declared.picks.Found.TheVariants.{Given, ByEnd, Unclear, Missing}
 use Rattle.smap_record.specs.Record.{ReadMap}
 use Rattle.smap_finder.proofs.ChoiceLemmas.{one_of}
 use Rattle.smap_finder.specs.Choice.{IsChoice, IsMapOf, IsOpenedFor, IsPicked, may_end_alike, within_ends}
-use Rattle.smap_finder.specs.ChosenView.{AreChosen, Choices, Has, IsFor, IsNamed, IsTried, Serves}
+use Rattle.smap_finder.specs.ChosenView.{AreChosen, Choices, IsFor, IsServedBy, IsTried, Serves, map_in}
+use Rattle.smap_finder.specs.declared.chosen.Opening.{Opening}
 use Rattle.smap_arguments.specs.declared.wanted.Wanted.{Wanted}
 
 none_given : (t : Bool) (found : Found) (i : ℕ) → Given i ≡ cond t found Missing → found ≡ Given i
@@ -76,13 +77,11 @@ served_map held w in_frames opened Missing name (ByEnd j) m s p o = elim s [ ]
 served_map held w in_frames opened Missing name (Unclear j _) m s p o = elim s [ ]
 served_map held w in_frames opened Missing name Missing m s p o = elim s [ ]
 
-pub has_map : (held : Held) (w : Wanted) (c : Choices) (name : List ℕ) (m : ReadMap) → AreChosen held w c
-    → Has c name m → IsMapOf held w name m
-has_map held w c name m chosen has =
-    let named = one_of (IsNamed held w) c.mapped has.mapped has.at chosen.names has.mapped_is in
-    let tried =
-    one_of (IsFor held w c.worst) c.openings has.opening has.mapped.number chosen.openings has.served.0 in
-    let o = has.opening in
-    served_map held w named.0 o.name.items o.found name has.mapped.found m has.served.1
-    (subst (λ (n : List ℕ). IsPicked held w named.0 n has.mapped.found) (sym has.name_is) named.1)
-    (subst (IsTried held w c.worst o.name.items o.found) has.map_is tried)
+-- the map of an opening that serves a name
+pub opened_map : (held : Held) (w : Wanted) (in_frames : Bool) (c : Choices) (number : ℕ) (name : List ℕ)
+    (found : Found) (o : Opening) (m : ReadMap) → AreChosen held w c → IsPicked held w in_frames name found
+    → IsServedBy c number name found o → map_in o ≡ Some m → IsMapOf held w name m
+opened_map held w in_frames c number name found o m chosen picked served is =
+    let tried = one_of (IsFor held w c.worst) c.openings o number chosen.openings served.0 in
+    served_map held w in_frames o.name.items o.found name found m served.1 picked
+    (subst (IsTried held w c.worst o.name.items o.found) is tried)

@@ -1,6 +1,6 @@
 -- What contracts say of the maps that were opened for a log.
 use Rattle.std.specs.Prelude.{◌≡◌, ◌⊎◌, ◌≤◌, ℕ, Bool, List, [], Option, None, Some, bytes_eq, is_some, length}
-use Rattle.std.specs.Prelude.{nat_eq, string_bytes, true, ⊤}
+use Rattle.std.specs.Prelude.{map, nat_eq, option_map, true, ⊤}
 use Rattle.std.specs.Global.{Vec}
 use Rattle.std.specs.Str.{IsUtf8}
 use Rattle.std.specs.List.{All, Contains, IsDistinct, slice_get}
@@ -11,11 +11,11 @@ use Rattle.smap_link.specs.Table.{IsTable}
 use Rattle.smap_pick.specs.Places.{scripts_of}
 use Rattle.smap_pick.specs.declared.picks.Found.{Found}
 use Rattle.smap_pick.specs.declared.picks.Found.TheVariants.{Given, ByEnd, Unclear, Missing}
-use Rattle.smap_record.specs.Record.{ReadMap}
-use Rattle.smap_finder.specs.Choice.{AreLinks, IsOpenedFor, IsPicked, IsWithout, places_of}
+use Rattle.smap_record.specs.Record.{ReadMap, record_of}
+use Rattle.smap_trace.specs.Scripts.{Script}
+use Rattle.smap_finder.specs.Choice.{AreLinks, IsMapOf, IsOpenedFor, IsPicked, IsWithout, places_of}
 use Rattle.smap_finder.specs.declared.giving.TheConstants.{MOST_AGAIN}
 use Rattle.smap_finder.specs.declared.chosen.Chosen.{Chosen}
-use Rattle.smap_finder.specs.declared.chosen.MappedName.{MappedName}
 use Rattle.smap_finder.specs.declared.chosen.Opening.{Opening}
 use Rattle.smap_finder.specs.declared.opening.Opener.{Opener}
 use Rattle.smap_arguments.specs.declared.wanted.Wanted.{Wanted}
@@ -29,7 +29,7 @@ pub record Ends : Type 0 where
 -- What was chosen: the names that have maps, the openings, the names that are left without maps, those for
 -- which files were opened that end as they do, and the greatest status of a map that was refused.
 pub record Choices : Type 0 where
-  pub mapped : List MappedName
+  pub scripts : List Script
   pub openings : List Opening
   pub left : List (Vec ℕ × Bool)
   pub ends : Ends
@@ -37,7 +37,7 @@ pub record Choices : Type 0 where
 
 abbrev pub choices_of : Chosen → Choices
 choices_of c = record {
-  mapped = c.mapped.items;
+  scripts = c.scripts;
   openings = c.openings.items;
   left = c.left.entries;
   ends = record { firsts = c.files.entries; further = c.again.keys };
@@ -48,7 +48,7 @@ abbrev pub no_ends : Ends
 no_ends = record { firsts = []; further = [] }
 
 abbrev pub no_choices : Choices
-no_choices = record { mapped = []; openings = []; left = []; ends = no_ends; worst = 0 }
+no_choices = record { scripts = []; openings = []; left = []; ends = no_ends; worst = 0 }
 
 -- what the files of its disk hold
 abbrev pub held_of : {D : Type 0} → (D → Held) → Opener D → Held
@@ -80,18 +80,9 @@ abbrev pub IsServedBy : Choices → ℕ → List ℕ → Found → Opening → T
 IsServedBy c number name found opening =
     (slice_get c.openings number ≡ Some opening) × Serves opening.name.items opening.found name found
 
--- This name has this map.
-pub record Has (c : Choices) (name : List ℕ) (m : ReadMap) : Type 0 where
-  pub at : ℕ
-  pub mapped : MappedName
-  pub mapped_is : slice_get c.mapped at ≡ Some mapped
-  pub name_is : name ≡ string_bytes mapped.name
-  pub opening : Opening
-  pub served : IsServedBy c mapped.number name mapped.found opening
-  pub map_is : opening.map ≡ Some m
-
+-- The name has a map.
 abbrev pub HasMap : Choices → List ℕ → Type 0
-HasMap c name = (m : ReadMap) × Has c name m
+HasMap c name = Contains (map (λ script. script.0) c.scripts) name
 
 -- ---- names without a map
 
@@ -166,30 +157,34 @@ AreEndsOf held w Asked c = AreEnds (IsEndOf held w Asked) c.ends
 
 -- ---- all of them
 
--- The name has what it is noted to have.
-abbrev pub IsNamed : Held → Wanted → MappedName → Type 0
-IsNamed held w n = (in_frames : Bool) × IsPicked held w in_frames (string_bytes n.name) n.found
+-- A script has a map that the arguments name, the one that it has by the definition.
+abbrev pub HasNamedMap : Held → Wanted → Script → Type 0
+HasNamedMap held w script = (m : ReadMap) × IsMapOf held w script.0 m × (script.1 ≡ record_of m)
 
 -- What became of opening what a name has.
 abbrev pub IsTried : Held → Wanted → ℕ → List ℕ → Found → Option ReadMap → Type 0
 IsTried held w worst name found (Some m) = IsOpenedFor held w name found m
 IsTried held w worst name found None = IsWithout held w worst name found
 
+-- the map that an opening gave
+abbrev pub map_in : Opening → Option ReadMap
+map_in o = option_map (λ arc. arc.value) o.map
+
 abbrev pub IsFor : Held → Wanted → ℕ → Opening → Type 0
-IsFor held w worst o = IsTried held w worst o.name.items o.found o.map
+IsFor held w worst o = IsTried held w worst o.name.items o.found (map_in o)
 
 abbrev pub IsLeftName : Held → Wanted → Choices → Vec ℕ × Bool → Type 0
 IsLeftName held w c left = IsLeft held w left.1 c left.0.items
 
 -- All of them are those that the arguments name.
 pub record AreChosen (held : Held) (w : Wanted) (c : Choices) : Type 0 where
-  pub names : All (IsNamed held w) c.mapped
+  pub scripts : All (HasNamedMap held w) c.scripts
   pub openings : All (IsFor held w c.worst) c.openings
   pub left : All (IsLeftName held w c) c.left
 
 -- What was chosen stays, and more may be.
 pub record Grows (old new : Choices) : Type 0 where
-  pub mapped : (i : ℕ) (n : MappedName) → slice_get old.mapped i ≡ Some n → slice_get new.mapped i ≡ Some n
+  pub names : (name : List ℕ) → HasMap old name → HasMap new name
   pub openings : (i : ℕ) (o : Opening) → slice_get old.openings i ≡ Some o → slice_get new.openings i ≡ Some o
   pub crowded : (file : ℕ) → IsCrowded old.ends file → IsCrowded new.ends file
   pub worst : old.worst ≤ new.worst

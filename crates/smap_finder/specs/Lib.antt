@@ -1,2 +1,4 @@
 pub mod Choice
 pub mod ChosenView
+pub mod Finding
+pub mod Searching

@@ -1,23 +1,26 @@
 //! The maps that were opened for the names of a log.
-ghost use Rattle.std.specs.Prelude.{◌≡◌, Bool, IfOk, IfSome, List, OnOk, Some, false, is_some, map, nat_eq};
+ghost use Rattle.std.specs.Prelude.{◌≡◌, Bool, IfOk, IfSome, List, OnOk, Some, false, is_some, nat_eq};
 ghost use Rattle.std.specs.Prelude.{option_map, true, ℕ};
 ghost use Rattle.std.specs.Global.{Vec};
-ghost use Rattle.std.specs.List.{All, Contains, slice_get};
+ghost use Rattle.std.specs.List.{slice_get};
 ghost use Rattle.std.specs.Map.{lookup};
 ghost use Rattle.smap_disk.specs.Held.{Held};
-ghost use Rattle.smap_finder.specs.Choice.{IsPicked};
-ghost use Rattle.smap_finder.specs.ChosenView.{AreChosen, Grows, Has, HasMap, IsLeft, IsOther, IsServedBy};
+ghost use Rattle.smap_finder.specs.Choice.{IsMapOf};
+ghost use Rattle.smap_finder.specs.ChosenView.{AreChosen, Grows, HasMap, IsLeft, IsOther, IsServedBy};
 ghost use Rattle.smap_finder.specs.ChosenView.{IsSettledIn, IsTried, KeepsEnd, KeepsEnds, Serves, choices_of};
 ghost use Rattle.smap_finder.specs.ChosenView.{no_choices};
 ghost use Rattle.smap_finder.specs.declared.chosen.Opening.{Opening};
-ghost use Rattle.smap_record.specs.Record.{ReadMap};
+ghost use Rattle.smap_record.specs.Record.{record_of};
+ghost use Rattle.smap_trace.specs.Scripts.{map_of};
 ghost use Rattle.smap_arguments.specs.declared.wanted.Wanted.{Wanted};
 
 use indexmap::{IndexMap, IndexSet};
 use smap_link::bare;
-use smap_pick::Found;
+use smap_pick::{Found, Pick};
 use smap_record::SourceMap;
+use smap_trace::{Maps, Scripts};
 use std::alloc::{AllocError, Global};
+use std::sync::Arc;
 
 /// So many names without a map are remembered at most, and, where a log is read once, so many with one.
 const MOST_NAMES: usize = 100_000;
@@ -29,17 +32,8 @@ pub(crate) struct Opening {
     pub(crate) name: Vec<u8>,
     /// What that name has.
     pub(crate) found: Found,
-    /// None where there is none, or it is refused.
-    pub(crate) map: Option<SourceMap>,
-}
-
-/// A name of the log that has a map.
-#[derive(Drop)]
-pub(crate) struct MappedName {
-    pub(crate) name: String,
-    pub(crate) found: Found,
-    /// The number of its opening.
-    pub(crate) number: usize,
+    /// None where there is none, or it is refused. Names that have the map share it.
+    pub(crate) map: Option<Arc<SourceMap>>,
 }
 
 /// Whether an opening for one name serves another.
@@ -65,15 +59,24 @@ fn is_name(key: &[u8], name: &[u8]) -> bool
     false
 }
 
+/// The map, to be shared.
+fn shared(alloc: Global, map: Option<SourceMap>) -> Result<Option<Arc<SourceMap>>, AllocError>
+    ensures { IfOk result (λ arc. option_map (λ a. a.value) arc ≡ map) }
+{
+    match map {
+        Some(map) => Ok(Some(Arc::new(alloc, map)?)),
+        None => Ok(None),
+    }
+}
+
 /// The maps that were opened, and the names of the log that have them.
 #[derive(Drop)]
-pub struct Chosen {
+pub(crate) struct Chosen {
     pub(crate) openings: Vec<Opening>,
     /// The numbers of the openings, by what stands for a find.
     pub(crate) numbers: IndexMap<Vec<u8>, usize>,
-    pub(crate) mapped: Vec<MappedName>,
-    /// The places of the names in that list.
-    pub(crate) names: IndexMap<String, usize>,
+    /// The names that have maps.
+    pub(crate) scripts: Scripts<Arc<SourceMap>>,
     /// Names that have no map, and whether they were looked for as those of frames.
     pub(crate) left: IndexMap<Vec<u8>, bool>,
     /// The files of folders without a URL that were opened, and the name for which each was first, without
@@ -94,14 +97,13 @@ pub struct Chosen {
 }
 
 impl Chosen {
-    pub fn new(alloc: Global) -> Chosen
+    pub(crate) fn new(alloc: Global) -> Chosen
         ensures { choices_of result ≡ no_choices }
     {
         Chosen {
             openings: Vec::new(alloc),
             numbers: IndexMap::new(alloc),
-            mapped: Vec::new(alloc),
-            names: IndexMap::new(alloc),
+            scripts: Scripts::new(alloc),
             left: IndexMap::new(alloc),
             files: IndexMap::new(alloc),
             again: IndexSet::new(alloc),
@@ -114,79 +116,38 @@ impl Chosen {
     }
 
     /// Whether it was told of a name that it isn't clear which map it has.
-    pub fn is_unclear(&self) -> bool {
+    pub(crate) fn is_unclear(&self) -> bool {
         self.is_unclear
     }
 
     /// How many files gave maps.
-    pub fn opened_count(&self) -> usize {
+    pub(crate) fn opened_count(&self) -> usize {
         self.count
     }
 
-    /// The name with this place in the list, and its map.
-    fn mapped_at(&self, at: usize) -> Option<(&str, &SourceMap)>
-        ensures has { IfSome result (λ s. Has (choices_of self.now) s.0.now s.1.now) }
-        ensures all { (name : List ℕ) (m : ReadMap) (h : Has (choices_of self.now) name m) → h.at ≡ at
-            → option_map (λ s. s.0.now) result ≡ Some name }
+    /// The names that have maps, as scripts.
+    pub(crate) fn scripts(&self) -> &Scripts<Arc<SourceMap>>
+        ensures { result.now ≡ (choices_of self.now).scripts }
     {
-        let Some(mapped) = self.mapped.get(at) else {
-            return None;
-        };
-        let Some(opening) = self.openings.get(mapped.number) else {
-            return None;
-        };
-        let name = mapped.name.as_str();
-        if !serves(&opening.name, opening.found, name.as_bytes(), mapped.found) {
-            return None;
-        }
-        match &opening.map {
-            Some(map) => Some((name, map)),
-            None => None,
-        }
+        &self.scripts
     }
 
     /// The map of a name.
-    pub fn map_of(&self, name: &[u8]) -> Option<&SourceMap>
-        ensures { IfSome result (λ m. Has (choices_of self.now) name.now m.now) }
+    pub(crate) fn map_of(&self, name: &[u8]) -> Option<&SourceMap>
+        ensures { option_map (λ m. record_of m.now) result ≡ map_of (choices_of self.now).scripts name.now }
     {
-        let Ok(text) = std::str::from_utf8(name) else {
-            return None;
-        };
-        let (mapped, map) = self.mapped_at(*self.names.get(text)?)?;
-        if mapped.as_bytes() == name {
-            Some(map)
-        } else {
-            None
-        }
-    }
-
-    /// The scripts with their maps.
-    pub fn scripts(&self, alloc: Global) -> Result<Vec<(&str, &SourceMap)>, AllocError>
-        ensures have_maps { IfOk result
-            (λ list. All (λ s. Has (choices_of self.now) s.0.now s.1.now) list.items) }
-        ensures all { IfOk result (λ list. (name : List ℕ) → HasMap (choices_of self.now) name
-            → Contains (map (λ s. s.0.now) list.items) name) }
-    {
-        let mut scripts = Vec::with_capacity(alloc, self.mapped.len())?;
-        for i in 0..self.mapped.len() {
-            let Some(script) = self.mapped_at(i) else {
-                continue;
-            };
-            scripts.push(script)?;
-        }
-        Ok(scripts)
+        self.scripts.map_of(name)
     }
 
     /// Forgets the names that have maps, once there are many; the maps stay open, and names that come again
     /// find them.
-    pub fn forget_many(&mut self, alloc: Global)
+    pub(crate) fn forget_many(&mut self, alloc: Global)
         ensures chosen { (held : Held) (wanted : Wanted) → AreChosen held wanted (choices_of self.old)
             → AreChosen held wanted (choices_of self.new) }
         ensures ends { (choices_of self.new).ends ≡ (choices_of self.old).ends }
     {
-        if self.names.len() >= MOST_NAMES {
-            self.names = IndexMap::new(alloc);
-            self.mapped = Vec::new(alloc);
+        if self.scripts.len() >= MOST_NAMES {
+            self.scripts = Scripts::new(alloc);
         }
     }
 
@@ -204,7 +165,7 @@ impl Chosen {
     }
 
     /// The map of the opening with this number, if it gave one.
-    pub(crate) fn map_at(&self, number: usize) -> Option<&SourceMap>
+    pub(crate) fn map_at(&self, number: usize) -> Option<&Arc<SourceMap>>
         ensures { (o : Opening) → slice_get (choices_of self.now).openings number ≡ Some o
             → option_map (λ m. m.now) result ≡ o.map }
     {
@@ -217,23 +178,27 @@ impl Chosen {
         &mut self,
         alloc: Global,
         key: Vec<u8>,
-        name: &[u8],
-        found: Found,
+        pick: &Pick<'_>,
         map: Option<SourceMap>,
     ) -> Result<usize, AllocError>
         ensures chosen { (held : Held) (wanted : Wanted)
-            → IsTried held wanted self.old.worst name.now found map
+            → IsTried held wanted self.old.worst pick.now.name.now pick.now.found map
             → AreChosen held wanted (choices_of self.old) → AreChosen held wanted (choices_of self.new) }
         ensures number { IfOk result (λ n. (o : Opening)
             × (slice_get (choices_of self.new).openings n ≡ Some o)
-            × (o.name.items ≡ name.now) × (o.found ≡ found)) }
+            × (o.name.items ≡ pick.now.name.now) × (o.found ≡ pick.now.found)) }
         ensures grows { Grows (choices_of self.old) (choices_of self.new) }
         ensures ends { (choices_of self.new).ends ≡ (choices_of self.old).ends }
     {
         let number = self.openings.len();
-        let name = Vec::from_slice(alloc, name)?;
+        let name = Vec::from_slice(alloc, pick.name)?;
+        let map = shared(alloc, map)?;
         self.numbers.insert(key, number)?;
-        self.openings.push(Opening { name, found, map })?;
+        self.openings.push(Opening {
+            name,
+            found: pick.found,
+            map,
+        })?;
         Ok(number)
     }
 
@@ -308,32 +273,24 @@ impl Chosen {
         Ok(())
     }
 
-    /// Notes that a name has the map with this number.
+    /// Notes that a name has this map.
     pub(crate) fn note_mapped(
         &mut self,
         alloc: Global,
-        name: &str,
-        found: Found,
-        number: usize,
+        name: &[u8],
+        map: Arc<SourceMap>,
     ) -> Result<(), AllocError>
-        ensures chosen { (held : Held) (wanted : Wanted) (in_frames : Bool)
-            → IsPicked held wanted in_frames name.now found → AreChosen held wanted (choices_of self.old)
-            → AreChosen held wanted (choices_of self.new) }
-        ensures has { OnOk result ((o : Opening) (m : ReadMap)
-            → IsServedBy (choices_of self.old) number name.now found o
-            → o.map ≡ Some m → Has (choices_of self.new) name.now m) }
+        ensures chosen { (held : Held) (wanted : Wanted) → IsMapOf held wanted name.now map.value
+            → AreChosen held wanted (choices_of self.old) → AreChosen held wanted (choices_of self.new) }
+        ensures has { OnOk result (HasMap (choices_of self.new) name.now) }
         ensures grows { Grows (choices_of self.old) (choices_of self.new) }
         ensures ends { (choices_of self.new).ends ≡ (choices_of self.old).ends }
     {
-        let key = String::from_str(alloc, name)?;
-        let name = String::from_str(alloc, name)?;
-        self.names.insert(key, self.mapped.len())?;
-        self.mapped.push(MappedName {
-            name,
-            found,
-            number,
-        })?;
-        Ok(())
+        let name = Vec::from_slice(alloc, name)?;
+        match self.scripts.put(name, map) {
+            Ok(()) => Ok(()),
+            Err(_) => Err(AllocError),
+        }
     }
 
     /// Whether a name is noted to have no map.

@@ -1,5 +1,5 @@
 //! The maps of the scripts that a log names, of those that arguments name (`smap_arguments`), opened as the
-//! log first names them ([`open_for`]). Which map a script has is decided by `smap_pick`; what its file
+//! log first names them ([`Finder`]). Which map a script has is decided by `smap_pick`; what its file
 //! gives, by `smap_opening`.
 //! The file system is `smap_disk`'s trait, so that tests have it in memory. What is wrong is said on standard
 //! error, with the status of that (`smap_host`).
@@ -7,6 +7,7 @@
 
 mod checking;
 mod chosen;
+mod finder;
 mod giving;
 mod links;
 mod opening;
@@ -14,9 +15,5 @@ mod picking;
 mod roots;
 mod telling;
 
-pub use checking::check_all;
-pub use chosen::Chosen;
-pub use giving::open_for;
-pub use opening::Opener;
+pub use finder::Finder;
 pub use smap_opening::How;
-pub use telling::tell_count;

@@ -4,11 +4,13 @@ ghost use Rattle.std.specs.Global.{Vec};
 ghost use Rattle.smap_disk.specs.Held.{Held};
 ghost use Rattle.smap_arguments.specs.declared.wanted.Wanted.{Wanted};
 ghost use Rattle.smap_finder.specs.Choice.{AreLinks, IsNamedBy, Links as IsLink};
+ghost use Rattle.smap_finder.specs.Searching.{held_in, wanted_in};
 
+use crate::opening::Search;
 use crate::roots::root_of;
 use indexmap::IndexMap;
-use smap_arguments::{LIMIT, Wanted};
-use smap_disk::{Disk, read_file};
+use smap_arguments::Wanted;
+use smap_disk::{Disk, LIMIT, read_file};
 use smap_host::{Host, Stop};
 use smap_opening::{Followed, follow};
 use smap_pick::{Found, usual_place};
@@ -33,35 +35,6 @@ impl Links {
     }
 }
 
-/// The file that the script with this number names for its map.
-fn named_by<E: Eprint + AllocGlobal, D: Disk>(
-    host: &Host<'_, E, D>,
-    wanted: &Wanted<'_>,
-    script: usize,
-) -> Result<Option<Vec<u8>>, Stop>
-    ensures { IfOk result (λ named. IfSome named
-        (λ file. IsNamedBy (D.held host.now.disk.now) wanted.now script file.items)) }
-{
-    let alloc = host.alloc();
-    let (Some(file), Some(root)) = (
-        wanted.files.get(script),
-        root_of(wanted, Found::ByEnd(script)),
-    ) else {
-        return Ok(None);
-    };
-    let Ok(path) = std::str::from_utf8(file) else {
-        return Ok(None);
-    };
-    let Ok(text) = read_file(alloc, host.disk, path, LIMIT) else {
-        return Ok(None);
-    };
-    let place = usual_place(alloc, file, file)?;
-    match follow(host, &place, Some(root), &text)? {
-        Followed::File(found) => Ok(Some(found.file)),
-        _ => Ok(None),
-    }
-}
-
 /// Whether it is this file that is named.
 fn is_named(named: &Option<Vec<u8>>, file: &[u8]) -> bool
     ensures { result ≡ true → (name : Vec ℕ) × (named.now ≡ Some name) × (name.items ≡ file.now) }
@@ -75,27 +48,54 @@ fn is_named(named: &Option<Vec<u8>>, file: &[u8]) -> bool
     false
 }
 
-/// Whether the script with this number in the list of files names the map with the other.
-pub(crate) fn names_this<E: Eprint + AllocGlobal, D: Disk>(
-    host: &Host<'_, E, D>,
-    wanted: &Wanted<'_>,
-    script: usize,
-    map: usize,
-    links: &mut Links,
-) -> Result<bool, Stop>
-    requires { AreLinks (D.held host.now.disk.now) wanted.now links.old.named.entries }
-    ensures link { IfOk result
-        (λ b. b ≡ true → IsLink (D.held host.now.disk.now) wanted.now script map) }
-    ensures links { AreLinks (D.held host.now.disk.now) wanted.now links.new.named.entries }
-{
-    let Some(map) = wanted.files.get(map) else {
-        return Ok(false);
-    };
-    if let Some((_, key, named)) = links.named.get_full(&script) {
-        return Ok(*key == script && is_named(named, map));
+impl<E: Eprint + AllocGlobal, D: Disk> Search<'_, E, D> {
+    /// The file that the script with this number names for its map.
+    fn named_by(&self, script: usize) -> Result<Option<Vec<u8>>, Stop>
+        ensures { IfOk result (λ named. IfSome named
+            (λ file. IsNamedBy (held_in D.held self.now) (wanted_in self.now) script file.items)) }
+    {
+        let (host, wanted) = (self.host, self.wanted);
+        let alloc = host.alloc();
+        let (Some(file), Some(root)) = (
+            wanted.files.get(script),
+            root_of(wanted, Found::ByEnd(script)),
+        ) else {
+            return Ok(None);
+        };
+        let Ok(path) = std::str::from_utf8(file) else {
+            return Ok(None);
+        };
+        let Ok(text) = read_file(alloc, host.disk, path, LIMIT) else {
+            return Ok(None);
+        };
+        let place = usual_place(alloc, file, file)?;
+        match follow(host, &place, Some(root), &text)? {
+            Followed::File(found) => Ok(Some(found.file)),
+            _ => Ok(None),
+        }
     }
-    let named = named_by(host, wanted, script)?;
-    let answer = is_named(&named, map);
-    links.named.insert(script, named)?;
-    Ok(answer)
+
+    /// Whether the script with this number in the list of files names the map with the other.
+    pub(crate) fn names_this(
+        &self,
+        script: usize,
+        map: usize,
+        links: &mut Links,
+    ) -> Result<bool, Stop>
+        requires { AreLinks (held_in D.held self.now) (wanted_in self.now) links.old.named.entries }
+        ensures link { IfOk result
+            (λ b. b ≡ true → IsLink (held_in D.held self.now) (wanted_in self.now) script map) }
+        ensures links { AreLinks (held_in D.held self.now) (wanted_in self.now) links.new.named.entries }
+    {
+        let Some(map) = self.wanted.files.get(map) else {
+            return Ok(false);
+        };
+        if let Some((_, key, named)) = links.named.get_full(&script) {
+            return Ok(*key == script && is_named(named, map));
+        }
+        let named = self.named_by(script)?;
+        let answer = is_named(&named, map);
+        links.named.insert(script, named)?;
+        Ok(answer)
+    }
 }

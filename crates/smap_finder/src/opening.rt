@@ -5,6 +5,7 @@ ghost use Rattle.smap_finder.specs.Choice.{IsOpenedAs, IsUnopened, files_of, pla
 ghost use Rattle.smap_finder.specs.ChosenView.{IsOver};
 ghost use Rattle.smap_pick.specs.Opening.{found_place};
 ghost use Rattle.smap_pick.specs.PlaceView.{place_in};
+ghost use Rattle.smap_finder.specs.Searching.{wanted_in};
 
 use crate::links::Links;
 use crate::roots::{has_base, root_of};
@@ -17,9 +18,17 @@ use smap_pick::{Found, Pick, Place, table_of, usual_place};
 use smap_record::SourceMap;
 use std::alloc::{AllocError, Global};
 
+/// What is searched: the machine, how maps are opened, and what the arguments name.
+#[derive(Drop)]
+pub(crate) struct Search<'a, E, D> {
+    pub(crate) host: &'a Host<'a, E, D>,
+    pub(crate) how: How,
+    pub(crate) wanted: &'a Wanted<'a>,
+}
+
 /// What opens the maps.
 #[derive(Drop)]
-pub struct Opener<'a, D> {
+pub(crate) struct Opener<'a, D> {
     pub(crate) table: ScriptTable,
     pub(crate) links: Links,
     pub(crate) store: FileStore<'a, D>,
@@ -27,7 +36,11 @@ pub struct Opener<'a, D> {
 
 impl<'a, D> Opener<'a, D> {
     /// Over maps of which no two have the same script.
-    pub fn new(alloc: Global, disk: &'a D, wanted: &Wanted<'_>) -> Result<Opener<'a, D>, Stop>
+    pub(crate) fn new(
+        alloc: Global,
+        disk: &'a D,
+        wanted: &Wanted<'_>,
+    ) -> Result<Opener<'a, D>, Stop>
     where
         D: Disk,
         ensures { IfOk result (IsOver D.held (D.held disk.now) wanted.now) }
@@ -66,34 +79,34 @@ fn place_of(
     }
 }
 
-/// The map of a pick, opened.
-pub(crate) fn opened_map<E: Eprint + AllocGlobal, D: Disk>(
-    host: &Host<'_, E, D>,
-    store: &mut FileStore<'_, D>,
-    how: How,
-    wanted: &Wanted<'_>,
-    pick: &Pick<'_>,
-    worst: &mut u8,
-) -> Result<Option<SourceMap>, Stop>
-    ensures named { IfOk result (λ found. IfSome found (IsOpenedAs (D.held store.old.disk.now) wanted.now
-        pick.now.name.now pick.now.found)) }
-    ensures none { IfOk result (λ found. IfNone found (IsUnopened (D.held store.old.disk.now) wanted.now
-        pick.now.name.now pick.now.found worst.new)) }
-    ensures worst { worst.old ≤ worst.new }
-    ensures held { D.held store.new.disk.now ≡ D.held store.old.disk.now }
-{
-    let alloc = host.alloc();
-    let Some(place) = place_of(alloc, wanted, pick)? else {
-        return Ok(None);
-    };
-    let subject = Subject {
-        place,
-        root: root_of(wanted, pick.found),
-        has_base: has_base(wanted, pick.found),
-        url_bytes: wanted.url_bytes,
-    };
-    match smap_pick::Store::open(store, alloc, &subject.place) {
-        Ok(content) => settle_content(host, store, how, &subject, content, worst),
-        Err(_) => Err(Stop::Memory),
+impl<E: Eprint + AllocGlobal, D: Disk> Search<'_, E, D> {
+    /// The map of a pick, opened.
+    pub(crate) fn opened_map(
+        &self,
+        store: &mut FileStore<'_, D>,
+        pick: &Pick<'_>,
+        worst: &mut u8,
+    ) -> Result<Option<SourceMap>, Stop>
+        ensures named { IfOk result (λ found. IfSome found (IsOpenedAs (D.held store.old.disk.now)
+            (wanted_in self.now) pick.now.name.now pick.now.found)) }
+        ensures none { IfOk result (λ found. IfNone found (IsUnopened (D.held store.old.disk.now) (wanted_in
+            self.now) pick.now.name.now pick.now.found worst.new)) }
+        ensures worst { worst.old ≤ worst.new }
+        ensures held { D.held store.new.disk.now ≡ D.held store.old.disk.now }
+    {
+        let (alloc, wanted) = (self.host.alloc(), self.wanted);
+        let Some(place) = place_of(alloc, wanted, pick)? else {
+            return Ok(None);
+        };
+        let subject = Subject {
+            place,
+            root: root_of(wanted, pick.found),
+            has_base: has_base(wanted, pick.found),
+            url_bytes: wanted.url_bytes,
+        };
+        match smap_pick::Store::open(store, alloc, &subject.place) {
+            Ok(content) => settle_content(self.host, store, self.how, &subject, content, worst),
+            Err(_) => Err(Stop::Memory),
+        }
     }
 }

@@ -1,16 +1,17 @@
 //! Which file each name of a log has.
 ghost use Rattle.std.specs.Prelude.{◌≡◌, IfOk, List, false, map, option_map, true, ℕ};
 ghost use Rattle.std.specs.List.{All};
-ghost use Rattle.smap_link.specs.Table.{IsTable};
-ghost use Rattle.smap_pick.specs.Places.{scripts_of};
 ghost use Rattle.smap_finder.specs.Choice as spec;
 ghost use Rattle.smap_finder.specs.Choice.{AreChoices, AreLinks, ArePicked, ArePicksIn, IsChoice, IsChoiceOf};
 ghost use Rattle.smap_finder.specs.Choice.{IsFoundIn};
 ghost use Rattle.smap_finder.specs.Choice.{IsHalfUnclear, files_of, places_of};
 ghost use Rattle.smap_arguments.specs.declared.wanted.Wanted.{Wanted};
 ghost use Rattle.smap_disk.specs.Held.{Held};
+ghost use Rattle.smap_finder.specs.ChosenView.{IsOver};
+ghost use Rattle.smap_finder.specs.Searching.{held_in, wanted_in};
 
-use crate::links::{Links, names_this};
+use crate::links::Links;
+use crate::opening::{Opener, Search};
 use crate::roots::slices;
 use smap_arguments::Wanted;
 use smap_disk::Disk;
@@ -133,113 +134,20 @@ fn has_half_unclear(wanted: &Wanted<'_>, picks: &[Pick<'_>]) -> bool
     false
 }
 
-/// The script that was found if it names the map that was, and else the map.
-fn script_or_map<E: Eprint + AllocGlobal, D: Disk>(
-    host: &Host<'_, E, D>,
-    wanted: &Wanted<'_>,
-    name: &[u8],
-    script: Found,
-    map: Found,
-    links: &mut Links,
-) -> Result<Found, Stop>
-    requires links { AreLinks (D.held host.now.disk.now) wanted.now links.old.named.entries }
-    requires unclear { IsHalfUnclear wanted.now name.now }
-    requires script { IsFoundIn wanted.now (spec.script_files_of wanted.now) name.now script }
-    requires map { IsFoundIn wanted.now (spec.map_files_of wanted.now) name.now map }
-    ensures choice { IfOk result (IsChoice (D.held host.now.disk.now) wanted.now name.now) }
-    ensures links { AreLinks (D.held host.now.disk.now) wanted.now links.new.named.entries }
-{
-    if let (Found::ByEnd(i), Found::ByEnd(of_map)) = (script, map) {
-        if let Some(number) = map_count(wanted).checked_add(i) {
-            if names_this(host, wanted, number, of_map, links)? {
-                return Ok(Found::ByEnd(number));
-            }
-        }
-    }
-    Ok(map)
+/// What is found for a name among all files, among the scripts, and among the maps.
+#[derive(Clone, Copy)]
+struct Finds {
+    of_all: Found,
+    of_scripts: Found,
+    of_maps: Found,
 }
 
-/// What is found for a name, of which this is found among all files, among the scripts, and among the maps.
-fn settled_found<E: Eprint + AllocGlobal, D: Disk>(
-    host: &Host<'_, E, D>,
-    wanted: &Wanted<'_>,
-    name: &[u8],
-    found: Found,
-    script: Found,
-    map: Found,
-    links: &mut Links,
-) -> Result<Found, Stop>
-    requires links { AreLinks (D.held host.now.disk.now) wanted.now links.old.named.entries }
-    requires found { IsFoundIn wanted.now (files_of wanted.now) name.now found }
-    requires script { IsFoundIn wanted.now (spec.script_files_of wanted.now) name.now script }
-    requires map { IsFoundIn wanted.now (spec.map_files_of wanted.now) name.now map }
-    ensures choice { IfOk result (IsChoice (D.held host.now.disk.now) wanted.now name.now) }
-    ensures links { AreLinks (D.held host.now.disk.now) wanted.now links.new.named.entries }
-{
-    if is_half_unclear(wanted, found) {
-        return script_or_map(host, wanted, name, script, map, links);
-    }
-    Ok(found)
-}
-
-/// The same of each name.
-fn settle_each<'a, E: Eprint + AllocGlobal, D: Disk>(
-    host: &Host<'_, E, D>,
-    wanted: &Wanted<'_>,
-    names: &[&'a [u8]],
-    picks: &[Pick<'a>],
-    by_script: &[Pick<'a>],
-    by_map: &[Pick<'a>],
-    links: &mut Links,
-) -> Result<Vec<Pick<'a>>, Stop>
-    requires links { AreLinks (D.held host.now.disk.now) wanted.now links.old.named.entries }
-    requires picks { ArePicksIn wanted.now (files_of wanted.now) (map (λ n. n.now) names.now) picks.now }
-    requires scripts { ArePicksIn wanted.now (spec.script_files_of wanted.now) (map (λ n. n.now) names.now)
-        by_script.now }
-    requires maps { ArePicksIn wanted.now (spec.map_files_of wanted.now)
-        (map (λ n. n.now) names.now) by_map.now }
-    ensures choices { IfOk result (λ all. AreChoices (D.held host.now.disk.now) wanted.now
-        (map (λ n. n.now) names.now) all.items) }
-    ensures links { AreLinks (D.held host.now.disk.now) wanted.now links.new.named.entries }
-{
-    let mut settled = Vec::with_capacity(host.alloc(), names.len())?;
-    for i in 0..names.len() {
-        let name = names[i];
-        let (script, map) = (by_script[i].found, by_map[i].found);
-        let found = settled_found(host, wanted, name, picks[i].found, script, map, links)?;
-        settled.push(Pick { name, found })?;
-    }
-    Ok(settled)
-}
-
-/// What each name has, of which these are found among all files: where a script and a map end alike with it,
-/// the map, through the script if that names it.
-fn settled<'a, E: Eprint + AllocGlobal, D: Disk>(
-    host: &Host<'_, E, D>,
-    table: &mut ScriptTable,
-    links: &mut Links,
-    wanted: &Wanted<'_>,
-    files: &[&[u8]],
-    names: &[&'a [u8]],
-    picks: Vec<Pick<'a>>,
-) -> Result<Vec<Pick<'a>>, Stop>
-    requires table { IsTable table.old (scripts_of (places_of wanted.now)) }
-    requires links { AreLinks (D.held host.now.disk.now) wanted.now links.old.named.entries }
-    requires files { map (λ f. f.now) files.now ≡ files_of wanted.now }
-    requires picks { ArePicksIn wanted.now (files_of wanted.now) (map (λ n. n.now) names.now) picks.items }
-    ensures picked { IfOk result (λ all. AreChoices (D.held host.now.disk.now) wanted.now
-        (map (λ n. n.now) names.now) all.items) }
-    ensures table { IsTable table.new (scripts_of (places_of wanted.now)) }
-    ensures links { AreLinks (D.held host.now.disk.now) wanted.now links.new.named.entries }
-{
-    if !has_half_unclear(wanted, &picks) {
-        return Ok(picks);
-    }
-    let alloc = host.alloc();
-    let (maps, scripts) = files.split_at(map_count(wanted));
-    let by_script = pick_all(alloc, table, scripts, true, names)?;
-    let by_map = pick_all(alloc, table, maps, true, names)?;
-    settle_each(host, wanted, names, &picks, &by_script, &by_map, links)
+/// What is found for each of a list of names, likewise.
+#[derive(Drop)]
+struct PicksByKind<'p, 'n> {
+    all: &'p [Pick<'n>],
+    scripts: &'p [Pick<'n>],
+    maps: &'p [Pick<'n>],
 }
 
 /// These picks, but none by its end for a name that may not belong to a file by it.
@@ -260,27 +168,133 @@ fn all_within<'a>(
     Ok(all)
 }
 
-/// What each name has.
-pub(crate) fn picks_of<'a, E: Eprint + AllocGlobal, D: Disk>(
-    host: &Host<'_, E, D>,
-    table: &mut ScriptTable,
-    links: &mut Links,
-    wanted: &Wanted<'_>,
-    in_frames: bool,
-    names: &[&'a [u8]],
-) -> Result<Vec<Pick<'a>>, Stop>
-    requires table { IsTable table.old (scripts_of (places_of wanted.now)) }
-    requires links { AreLinks (D.held host.now.disk.now) wanted.now links.old.named.entries }
-    ensures picked { IfOk result (λ all. ArePicked (D.held host.now.disk.now) wanted.now in_frames
-        (map (λ n. n.now) names.now) all.items) }
-    ensures table { IsTable table.new (scripts_of (places_of wanted.now)) }
-    ensures links { AreLinks (D.held host.now.disk.now) wanted.now links.new.named.entries }
-{
-    let alloc = host.alloc();
-    let files = slices(alloc, wanted.files.as_slice())?;
-    let picks = pick_all(alloc, table, &files, true, names)?;
-    let picks = settled(host, table, links, wanted, &files, names, picks)?;
-    Ok(all_within(alloc, in_frames, &picks)?)
+impl<E: Eprint + AllocGlobal, D: Disk> Search<'_, E, D> {
+    /// The script that was found if it names the map that was, and else the map.
+    fn script_or_map(
+        &self,
+        name: &[u8],
+        script: Found,
+        map: Found,
+        links: &mut Links,
+    ) -> Result<Found, Stop>
+        requires links { AreLinks (held_in D.held self.now) (wanted_in self.now) links.old.named.entries }
+        requires unclear { IsHalfUnclear (wanted_in self.now) name.now }
+        requires script { IsFoundIn (wanted_in self.now) (spec.script_files_of (wanted_in self.now))
+            name.now script }
+        requires map { IsFoundIn (wanted_in self.now) (spec.map_files_of (wanted_in self.now)) name.now map }
+        ensures choice { IfOk result (IsChoice (held_in D.held self.now) (wanted_in self.now) name.now) }
+        ensures links { AreLinks (held_in D.held self.now) (wanted_in self.now) links.new.named.entries }
+    {
+        if let (Found::ByEnd(i), Found::ByEnd(of_map)) = (script, map) {
+            if let Some(number) = map_count(self.wanted).checked_add(i) {
+                if self.names_this(number, of_map, links)? {
+                    return Ok(Found::ByEnd(number));
+                }
+            }
+        }
+        Ok(map)
+    }
+
+    /// What is found for a name, of which this is found among the files.
+    fn settled_found(&self, name: &[u8], finds: Finds, links: &mut Links) -> Result<Found, Stop>
+        requires links { AreLinks (held_in D.held self.now) (wanted_in self.now) links.old.named.entries }
+        requires found { IsFoundIn (wanted_in self.now) (files_of (wanted_in self.now)) name.now
+            finds.of_all }
+        requires script { IsFoundIn (wanted_in self.now) (spec.script_files_of (wanted_in self.now)) name.now
+            finds.of_scripts }
+        requires map { IsFoundIn (wanted_in self.now) (spec.map_files_of (wanted_in self.now)) name.now
+            finds.of_maps }
+        ensures choice { IfOk result (IsChoice (held_in D.held self.now) (wanted_in self.now) name.now) }
+        ensures links { AreLinks (held_in D.held self.now) (wanted_in self.now) links.new.named.entries }
+    {
+        if is_half_unclear(self.wanted, finds.of_all) {
+            return self.script_or_map(name, finds.of_scripts, finds.of_maps, links);
+        }
+        Ok(finds.of_all)
+    }
+
+    /// The same of each name.
+    fn settle_each<'n>(
+        &self,
+        names: &[&'n [u8]],
+        picks: &PicksByKind<'_, 'n>,
+        links: &mut Links,
+    ) -> Result<Vec<Pick<'n>>, Stop>
+        requires links { AreLinks (held_in D.held self.now) (wanted_in self.now) links.old.named.entries }
+        requires picks { ArePicksIn (wanted_in self.now) (files_of (wanted_in self.now)) (map (λ n. n.now)
+            names.now) picks.now.all.now }
+        requires scripts { ArePicksIn (wanted_in self.now) (spec.script_files_of (wanted_in self.now)) (map
+            (λ n. n.now) names.now) picks.now.scripts.now }
+        requires maps { ArePicksIn (wanted_in self.now) (spec.map_files_of (wanted_in self.now))
+            (map (λ n. n.now) names.now) picks.now.maps.now }
+        ensures choices { IfOk result (λ all. AreChoices (held_in D.held self.now) (wanted_in self.now)
+            (map (λ n. n.now) names.now) all.items) }
+        ensures links { AreLinks (held_in D.held self.now) (wanted_in self.now) links.new.named.entries }
+    {
+        let mut settled = Vec::with_capacity(self.host.alloc(), names.len())?;
+        for i in 0..names.len() {
+            let name = names[i];
+            let finds = Finds {
+                of_all: picks.all[i].found,
+                of_scripts: picks.scripts[i].found,
+                of_maps: picks.maps[i].found,
+            };
+            let found = self.settled_found(name, finds, links)?;
+            settled.push(Pick { name, found })?;
+        }
+        Ok(settled)
+    }
+
+    /// What each name has, of which these are found among all files: where a script and a map end alike
+    /// with it, the map, through the script if that names it.
+    fn settled<'n>(
+        &self,
+        opener: &mut Opener<'_, D>,
+        files: &[&[u8]],
+        names: &[&'n [u8]],
+        picks: Vec<Pick<'n>>,
+    ) -> Result<Vec<Pick<'n>>, Stop>
+        requires over { IsOver D.held (held_in D.held self.now) (wanted_in self.now) opener.old }
+        requires files { map (λ f. f.now) files.now ≡ files_of (wanted_in self.now) }
+        requires picks { ArePicksIn (wanted_in self.now) (files_of (wanted_in self.now)) (map (λ n. n.now)
+            names.now) picks.items }
+        ensures picked { IfOk result (λ all. AreChoices (held_in D.held self.now) (wanted_in self.now)
+            (map (λ n. n.now) names.now) all.items) }
+        ensures over { IsOver D.held (held_in D.held self.now) (wanted_in self.now) opener.new }
+    {
+        if !has_half_unclear(self.wanted, &picks) {
+            return Ok(picks);
+        }
+        let alloc = self.host.alloc();
+        let (maps, scripts) = files.split_at(map_count(self.wanted));
+        let by_script = pick_all(alloc, &mut opener.table, scripts, true, names)?;
+        let by_map = pick_all(alloc, &mut opener.table, maps, true, names)?;
+        let picks = PicksByKind {
+            all: picks.as_slice(),
+            scripts: by_script.as_slice(),
+            maps: by_map.as_slice(),
+        };
+        self.settle_each(names, &picks, &mut opener.links)
+    }
+
+    /// What each name has.
+    pub(crate) fn picks_of<'n>(
+        &self,
+        opener: &mut Opener<'_, D>,
+        in_frames: bool,
+        names: &[&'n [u8]],
+    ) -> Result<Vec<Pick<'n>>, Stop>
+        requires over { IsOver D.held (held_in D.held self.now) (wanted_in self.now) opener.old }
+        ensures picked { IfOk result (λ all. ArePicked (held_in D.held self.now) (wanted_in self.now)
+            in_frames (map (λ n. n.now) names.now) all.items) }
+        ensures over { IsOver D.held (held_in D.held self.now) (wanted_in self.now) opener.new }
+    {
+        let alloc = self.host.alloc();
+        let files = slices(alloc, self.wanted.files.as_slice())?;
+        let picks = pick_all(alloc, &mut opener.table, &files, true, names)?;
+        let picks = self.settled(opener, &files, names, picks)?;
+        Ok(all_within(alloc, in_frames, &picks)?)
+    }
 }
 
 /// The URL by which a file that has none is checked.

@@ -3,43 +3,14 @@ ghost use Rattle.std.specs.Prelude.{◌≡◌};
 ghost use Rattle.smap_finder.specs.ChosenView.{choices_of};
 
 use crate::chosen::Chosen;
-use smap_arguments::Wanted;
+use crate::opening::Search;
 use smap_disk::Disk;
 use smap_host::{Host, Stop, shown};
 use smap_link::bare;
-use smap_opening::How;
 use smap_pick::{Found, Pick, Place};
 
 /// So many names are told to be taken for others at most.
 const MOST_TOLD: usize = 1_000;
-
-/// Says which script a name was taken for, and that it is unclear which.
-pub(crate) fn tell_pick<E: Eprint + AllocGlobal, D: Disk>(
-    host: &Host<'_, E, D>,
-    how: How,
-    wanted: &Wanted<'_>,
-    pick: &Pick<'_>,
-    chosen: &mut Chosen,
-) -> Result<(), Stop>
-    ensures { choices_of chosen.new ≡ choices_of chosen.old }
-{
-    match pick.found {
-        Found::Given(i) if how.verbose => match wanted.places.get(i) {
-            Some(place) if place.script.as_slice() != pick.name => {
-                tell_alike(host, place, pick.name, chosen)
-            }
-            _ => Ok(()),
-        },
-        Found::Unclear(i, j) => match (wanted.files.get(i), wanted.files.get(j)) {
-            (Some(first), Some(second)) => {
-                chosen.is_unclear = true;
-                say_unclear(host, pick.name, first, second)
-            }
-            _ => Ok(()),
-        },
-        _ => Ok(()),
-    }
-}
 
 fn tell_alike<E: Eprint + AllocGlobal, D: Disk>(
     host: &Host<'_, E, D>,
@@ -84,20 +55,41 @@ fn say_unclear<E: Eprint + AllocGlobal, D: Disk>(
     Ok(())
 }
 
-/// Says how many maps were opened.
-pub fn tell_count<E: Eprint + AllocGlobal, D: Disk>(
-    host: &Host<'_, E, D>,
-    how: How,
-    wanted: &Wanted<'_>,
-    chosen: &Chosen,
-) -> Result<(), Stop> {
-    if !how.verbose {
-        return Ok(());
+impl<E: Eprint + AllocGlobal, D: Disk> Search<'_, E, D> {
+    /// Says which script a name was taken for, and that it is unclear which.
+    pub(crate) fn tell_pick(&self, pick: &Pick<'_>, chosen: &mut Chosen) -> Result<(), Stop>
+        ensures { choices_of chosen.new ≡ choices_of chosen.old }
+    {
+        let (host, wanted) = (self.host, self.wanted);
+        match pick.found {
+            Found::Given(i) if self.how.verbose => match wanted.places.get(i) {
+                Some(place) if place.script.as_slice() != pick.name => {
+                    tell_alike(host, place, pick.name, chosen)
+                }
+                _ => Ok(()),
+            },
+            Found::Unclear(i, j) => match (wanted.files.get(i), wanted.files.get(j)) {
+                (Some(first), Some(second)) => {
+                    chosen.is_unclear = true;
+                    say_unclear(host, pick.name, first, second)
+                }
+                _ => Ok(()),
+            },
+            _ => Ok(()),
+        }
     }
-    let alloc = host.alloc();
-    let opened = chosen.opened_count();
-    let all = wanted.places.len().saturating_add(wanted.files.len());
-    let text = format!(in alloc; "{opened} of {all} maps are opened")?;
-    host.say(text.as_str());
-    Ok(())
+
+    /// Says how many maps were opened.
+    pub(crate) fn tell_count(&self, chosen: &Chosen) -> Result<(), Stop> {
+        if !self.how.verbose {
+            return Ok(());
+        }
+        let (host, wanted) = (self.host, self.wanted);
+        let alloc = host.alloc();
+        let opened = chosen.opened_count();
+        let all = wanted.places.len().saturating_add(wanted.files.len());
+        let text = format!(in alloc; "{opened} of {all} maps are opened")?;
+        host.say(text.as_str());
+        Ok(())
+    }
 }

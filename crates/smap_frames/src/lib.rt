@@ -15,5 +15,5 @@ mod position_text;
 
 pub use frames::frame;
 pub use parts::Frame;
-pub use places::{Place, may_begin, place_after};
+pub use places::{Place, may_begin, place_after, query_len};
 pub use position_text::push_position;

@@ -124,8 +124,8 @@ fn marked_len(mark: &[u8], text: &[u8]) -> usize
     query_byte_count(&text[1..]) + 1
 }
 
-/// How many bytes of a query and of a fragment the text begins with.
-fn query_len(text: &[u8]) -> usize
+/// How many bytes of a query and of a fragment that may be left out the text begins with.
+pub fn query_len(text: &[u8]) -> usize
     ensures value { result ≡ spec.query_len text.now }
     ensures within { result ≤ length text.now }
 {

@@ -1,5 +1,5 @@
 //! The machine of a run: its file system, and standard error.
-ghost use Rattle.std.specs.Prelude.{◌≡◌, OnOk};
+ghost use Rattle.std.specs.Prelude.{◌≡◌, OnErr, OnOk};
 ghost use Rattle.std.specs.Io.KnownBytes.{Appends};
 ghost use Rattle.smap_disk.specs.Watched.{inner_of};
 ghost use Rattle.smap_host.specs.Status.{status_of};
@@ -74,6 +74,32 @@ impl<E: Eprint + AllocGlobal, D: Disk> Host<'_, E, D> {
             Ok(why) => self.fail_with(3, what, why.as_str()),
             Err(_) => Stop::Memory,
         }
+    }
+
+    /// Prints the help of a command line that asks for nothing, with status 2.
+    pub fn fail_with_help(&self, help: &str) -> Stop
+        ensures { result ≡ Stop.Reported 2 }
+    {
+        let rt = self.rt;
+        let _ = eprint!(rt; "{help}");
+        Stop::Reported(2)
+    }
+
+    /// Says what is wrong with a command line, with status 2; what helps then, if that is given, is on the
+    /// next line.
+    pub fn fail_words(&self, message: Result<String, AllocError>, advice: Option<&str>) -> Stop
+        ensures said { OnOk message (result ≡ Stop.Reported 2) }
+        ensures memory { OnErr message (result ≡ Stop.Memory) }
+    {
+        let Ok(message) = message else {
+            return Stop::Memory;
+        };
+        self.say(message.as_str());
+        if let Some(advice) = advice {
+            let rt = self.rt;
+            let _ = eprintln!(rt; "{advice}");
+        }
+        Stop::Reported(2)
     }
 
     /// The exit status of a run that ends so. That memory ran out is said.

@@ -1,5 +1,6 @@
 use crate::asserted::{equal, holds};
-use smap_drops::{dropped, shown_name, tree_of};
+use smap_drops::{dropped, shown_name};
+use smap_record::map_tree;
 use std::test::Fail;
 
 #[test]
@@ -7,7 +8,7 @@ fn of_sections_too(rt: HostRuntime) -> Result<(), Fail> {
     let text = ")]}'\n{\"version\":3,\"sections\":[{\"offset\":{},\"url\":\"u\",\"map\":\
         {\"version\":3,\"file\":\"g\",\"sections\":[{\"offset\":{},\"map\":{\"scopes\":\"\",\"file\":1}}]}}],\
         \"names\":[],\"file\":\"f\"}";
-    let Ok(tree) = tree_of(rt.alloc(), text.as_bytes()) else {
+    let Ok(tree) = map_tree(rt.alloc(), text.as_bytes()) else {
         return Err(Fail::from("no tree"));
     };
     let drops = dropped(rt.alloc(), &tree)?;

@@ -1,33 +1,14 @@
 -- Where a URL may begin, one place after the other.
-use Rattle.std.proofs.Common.{◌≡◌, ℕ, zero, suc, ◌+◌, ◌-◌, ◌<◌, ◌≤◌, Bool, true, false, ◌||◌, cond, List, []}
-use Rattle.std.proofs.Common.{◌∷◌, Option, None, Some, nat_lt, nat_eq, take, length, get_or, refl, ap, sym}
+use Rattle.std.proofs.Common.{◌≡◌, ℕ, zero, suc, ◌-◌, ◌<◌, ◌≤◌, Bool, true, false, ◌||◌, cond, List, []}
+use Rattle.std.proofs.Common.{◌∷◌, Option, None, Some, nat_lt, take, get_or, refl, ap, sym}
 use Rattle.std.proofs.Common.{◌∙◌, arith}
-use Rattle.std.specs.List.{ends_with, find, slice_get, slice_range, suffix_len}
+use Rattle.std.specs.List.{find, slice_get, slice_range}
 use Rattle.std.specs.Option.{option_or}
 use Rattle.std.proofs.lemmas.Bool.Decides.{nat_tests}
-use Rattle.std.proofs.lemmas.List.Sums.{suffix_len_is}
-use Rattle.smap_lines.specs.Beginnings.{begins_with_root, begins_with_scheme, chosen, ends_in_parameters}
-use Rattle.smap_lines.specs.Beginnings.{last, may_begin_behind, starts_below}
-use Rattle.smap_lines.specs.Bytes.{ends_url, is_colour_parameter}
+use Rattle.smap_frames.specs.Places.{may_begin}
+use Rattle.smap_lines.specs.Beginnings.{begins_with_root, begins_with_scheme, chosen, last, starts_below}
+use Rattle.smap_lines.specs.Bytes.{ends_url}
 use Rattle.smap_lines.specs.declared.beginnings.Beginnings.{Beginnings}
-
--- a text ends in parameters up to a byte that is none
-pub parameters_up_to : (text : List ℕ) (n : ℕ) → n ≤ length text
-    → ((k : ℕ) → n ≤ k → k < length text → is_colour_parameter (get_or text k 0) ≡ true)
-    → (0 < n → is_colour_parameter (get_or text (n - 1) 0) ≡ false)
-    → ends_with nat_eq (take n text) (27 ∷ 91 ∷ []) ≡ ends_in_parameters text
-parameters_up_to text n low all none =
-    let e : n ≡ length text - suffix_len is_colour_parameter text =
-    omega (arith, suffix_len_is is_colour_parameter text n 0 low all none) in
-    ap (λ (m : ℕ). ends_with nat_eq (take m text) (27 ∷ 91 ∷ [])) e
-
-pub parameters_behind : (text : List ℕ) (at : ℕ) → at < length text
-    → ((k : ℕ) → at < k → k < length text → is_colour_parameter (get_or text k 0) ≡ true)
-    → is_colour_parameter (get_or text at 0) ≡ false
-    → ends_with nat_eq (take (at + 1) text) (27 ∷ 91 ∷ []) ≡ ends_in_parameters text
-parameters_behind text at low all none =
-    let e : at + 1 - 1 ≡ at = omega arith in
-    parameters_up_to text (at + 1) (omega arith) (λ k h i. all k (omega arith) i) (λ _. rw e none)
 
 -- what was found, and behind it the same of these places
 abbrev pub extended : List ℕ → ℕ → Beginnings → List ℕ → Beginnings
@@ -117,12 +98,12 @@ module _ (line : List ℕ) (low n : ℕ) (some : low < n) where
   whole : n ≡ suc (n - 1)
   whole = omega arith
 
-  pub starts_one : ends_url (get_or line (n - 1) 0) ≡ false → may_begin_behind (take (n - 1) line) ≡ true
+  pub starts_one : ends_url (get_or line (n - 1) 0) ≡ false → may_begin (take (n - 1) line) ≡ true
       → starts_below line low n ≡ (n - 1) ∷ starts_below line low (n - 1)
   starts_one q r = ap (λ (i : ℕ). starts_below line low i) whole
       ∙ taken _ _ _ (n - 1) (starts_below line low (n - 1)) (not_low (n - 1) low (omega arith)) q r
 
-  pub starts_none : ends_url (get_or line (n - 1) 0) ≡ false → may_begin_behind (take (n - 1) line) ≡ false
+  pub starts_none : ends_url (get_or line (n - 1) 0) ≡ false → may_begin (take (n - 1) line) ≡ false
       → starts_below line low n ≡ starts_below line low (n - 1)
   starts_none q r = ap (λ (i : ℕ). starts_below line low i) whole
       ∙ passed _ _ _ (n - 1) (starts_below line low (n - 1)) (not_low (n - 1) low (omega arith)) q r

@@ -1,25 +1,12 @@
 -- Where the URL of a script may begin.
 use Rattle.std.specs.Prelude.{ℕ, zero, suc, ◌-◌, ◌<◌, ◌==◌, ◌&&◌, ◌||◌, Bool, not, cond, List, [], ◌∷◌}
-use Rattle.std.specs.Prelude.{length, drop, take, find, nat_eq, nat_lt, slice_index, slice_range, IfSome}
+use Rattle.std.specs.Prelude.{drop, take, find, nat_eq, nat_lt, slice_index, slice_range, IfSome}
 use Rattle.std.specs.Prelude.{Option, None, Some}
 use Rattle.std.specs.Char.{is_ascii_alphabetic}
-use Rattle.std.specs.List.{ends_with, prefix_len, slice_get, starts_with, suffix_len}
-use Rattle.smap_lines.specs.Bytes.{ends_url, is_colour_parameter, is_scheme_byte, is_url_byte}
+use Rattle.std.specs.List.{prefix_len, slice_get, starts_with}
+use Rattle.smap_frames.specs.Places.{may_begin}
+use Rattle.smap_lines.specs.Bytes.{ends_url, is_scheme_byte}
 use Rattle.smap_lines.specs.declared.beginnings.Beginnings.{Beginnings}
-
--- whether `ESC [` stands before the parameters at the end of a text
-abbrev pub ends_in_parameters : List ℕ → Bool
-ends_in_parameters text = ends_with nat_eq (take (length text - suffix_len is_colour_parameter text) text)
-    (27 ∷ 91 ∷ [])
-
--- whether a text ends in a colour sequence: `ESC [`, parameters, `m`
-abbrev pub ends_in_colour : List ℕ → Bool
-ends_in_colour text = ends_with nat_eq text (109 ∷ []) && ends_in_parameters (take (length text - 1) text)
-
--- whether a URL may begin behind this text, which is the line before it
-abbrev pub may_begin_behind : List ℕ → Bool
-may_begin_behind text = length text == 0 || not (is_url_byte (slice_index text (length text - 1)))
-    || ends_in_colour text
 
 -- whether a text begins with a letter, letters, digits, `+`, `-` and `.`, and `://`
 abbrev pub begins_with_scheme : List ℕ → Bool
@@ -43,7 +30,7 @@ begins_with_root text = begins_with_slash text || begins_with_drive text
 abbrev pub starts_below : List ℕ → ℕ → ℕ → List ℕ
 starts_below line low zero = []
 starts_below line low (suc at) = cond (nat_lt at low || ends_url (slice_index line at)) []
-    (cond (may_begin_behind (take at line)) (at ∷ starts_below line low at) (starts_below line low at))
+    (cond (may_begin (take at line)) (at ∷ starts_below line low at) (starts_below line low at))
 
 -- the last of a list
 abbrev pub last : {X : Type 0} → List X → Option X

@@ -6,36 +6,11 @@ ghost use Rattle.smap_lines.specs.Beginnings as spec;
 ghost use Rattle.smap_lines.specs.Beginnings.{AreBefore};
 ghost use Rattle.smap_lines.specs.Bytes.{is_scheme_byte as scheme_byte};
 
-use crate::bytes::{ends_url, is_colour_parameter, is_scheme_byte, is_url_byte};
+use crate::bytes::{ends_url, is_scheme_byte};
+use smap_frames::may_begin;
 
 /// The most bytes that a URL has.
 pub(crate) const MAX_URL: usize = 1024;
-
-/// Whether a text ends in the beginning of a colour sequence and maybe its parameters, as `ESC [31`.
-fn ends_in_parameters(text: &[u8]) -> bool
-    ensures { result ≡ spec.ends_in_parameters text.now }
-{
-    for at in (0..text.len()).rev() {
-        if !is_colour_parameter(text[at]) {
-            return text[..at + 1].ends_with(b"\x1b[");
-        }
-    }
-    false
-}
-
-/// Whether a text ends in a colour sequence, as `ESC [31m`.
-fn ends_in_colour(text: &[u8]) -> bool
-    ensures { result ≡ spec.ends_in_colour text.now }
-{
-    text.ends_with(b"m") && ends_in_parameters(&text[..text.len() - 1])
-}
-
-/// Whether a URL may begin behind this text, which is the line before it.
-fn may_begin_behind(text: &[u8]) -> bool
-    ensures { result ≡ spec.may_begin_behind text.now }
-{
-    text.is_empty() || !is_url_byte(text[text.len() - 1]) || ends_in_colour(text)
-}
 
 fn scheme_len(text: &[u8]) -> usize
     ensures value { result ≡ prefix_len scheme_byte text.now }
@@ -134,7 +109,7 @@ pub(crate) fn beginnings_of(line: &[u8], end: usize) -> Beginnings
         if ends_url(line[start]) {
             break;
         }
-        if may_begin_behind(&line[..start]) {
+        if may_begin(&line[..start]) {
             found = found.with(start, &line[start..end]);
         }
     }

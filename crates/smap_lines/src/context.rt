@@ -93,7 +93,6 @@ fn add_row(
 
 /// Adds the lines that are shown, of which the first has this number.
 fn add_rows(
-    alloc: Global,
     source: &str,
     lines: &[(usize, usize)],
     first: u32,
@@ -102,6 +101,7 @@ fn add_rows(
 ) -> Result<(), AllocError>
     ensures { StartsWith out.new.items out.old.items }
 {
+    let alloc = *out.allocator();
     let mut number = first;
     for line in lines {
         let text = source.get(line.0..line.1).unwrap_or("");
@@ -145,5 +145,5 @@ pub fn add_context(
         column,
         width: digits.len(),
     };
-    add_rows(alloc, source, &lines, first, shown, out)
+    add_rows(source, &lines, first, shown, out)
 }

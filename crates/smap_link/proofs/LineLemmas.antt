@@ -8,7 +8,7 @@ use Rattle.std.proofs.Math.Seq.{take-append_seam}
 use Rattle.std.proofs.lemmas.List.{drop-take, drop_more, get_or-append-add, get_or-drop, take-append-drop}
 use Rattle.std.proofs.lemmas.List.{take-take}
 use Rattle.smap_link.specs.Comment.{Effect, cut, effect_of, ends_line, ends_separator, is_newline, later}
-use Rattle.smap_link.specs.Comment.{link_of_effect, map_url_in, settled}
+use Rattle.smap_link.specs.Comment.{said_in, settled}
 use Rattle.smap_link.specs.CommentView.{IsSeparatorAt, StartsLastLine}
 
 -- no terminator ends within the text, behind this line
@@ -178,26 +178,24 @@ in_one two text start size s none =
 -- Where the last line says something, that is it.
 said_last : (two : Bool) (text : List ℕ) (start size : ℕ) (link : Option (List ℕ))
     → StartsLastLine text start size
-    → effect_of two (drop start text) ≡ Some link → map_url_in two text ≡ link
+    → effect_of two (drop start text) ≡ Some link → said_in two text ≡ Some link
 said_last two text start size link s is =
     let cases : (start ≡ 0) ⊎ (0 < start) = grind arith in
     ⊎_elim
-    (λ none. ap link_of_effect (in_one two text start size s none ∙ ap (later None) is))
-    (λ some. ap link_of_effect (in_two two text start size s some
-    ∙ ap (later (settled two None [] (take (start - size) text))) is))
+    (λ none. in_one two text start size s none ∙ ap (later None) is)
+    (λ some. in_two two text start size s some
+    ∙ ap (later (said_in two (take (start - size) text))) is)
     cases
 
 -- Where it says nothing, the lines before it do.
 nothing_last : (two : Bool) (text : List ℕ) (start size : ℕ) → StartsLastLine text start size → 0 < start
-    → effect_of two (drop start text) ≡ None → map_url_in two text ≡ map_url_in two (take (start - size) text)
+    → effect_of two (drop start text) ≡ None → said_in two text ≡ said_in two (take (start - size) text)
 nothing_last two text start size s some is =
-    ap link_of_effect (in_two two text start size s some
-    ∙ ap (later (settled two None [] (take (start - size) text))) is)
+    in_two two text start size s some ∙ ap (later (said_in two (take (start - size) text))) is
 
 nothing_at_all : (two : Bool) (text : List ℕ) (start size : ℕ) → StartsLastLine text start size → start ≡ 0
-    → effect_of two (drop start text) ≡ None → map_url_in two text ≡ None
-nothing_at_all two text start size s none is = ap link_of_effect
-    (in_one two text start size s none ∙ ap (later None) is)
+    → effect_of two (drop start text) ≡ None → said_in two text ≡ None
+nothing_at_all two text start size s none is = in_one two text start size s none ∙ ap (later None) is
 
 -- ---- a line of a longer text
 
@@ -212,29 +210,29 @@ cut_at text end start size le s =
     )
 
 pub link_here : (two : Bool) (text : List ℕ) (end start size : ℕ) (link : Option (List ℕ)) → end ≤ length text
-    → map_url_in two text ≡ map_url_in two (take end text) → StartsLastLine (take end text) start size
-    → Some link ≡ effect_of two (take (end - start) (drop start text)) → link ≡ map_url_in two text
+    → said_in two text ≡ said_in two (take end text) → StartsLastLine (take end text) start size
+    → Some link ≡ effect_of two (take (end - start) (drop start text)) → Some link ≡ said_in two text
 link_here two text end start size link le was s is =
     sym (was ∙ said_last two (take end text) start size link s
     (ap (effect_of two) (cut_at text end start size le s).1 ∙ sym is))
 
 pub no_link : (two : Bool) (text : List ℕ) (end start size : ℕ) → end ≤ length text
-    → map_url_in two text ≡ map_url_in two (take end text) → StartsLastLine (take end text) start size
+    → said_in two text ≡ said_in two (take end text) → StartsLastLine (take end text) start size
     → start ≡ 0
-    → None ≡ effect_of two (take (end - start) (drop start text)) → None ≡ map_url_in two text
+    → None ≡ effect_of two (take (end - start) (drop start text)) → None ≡ said_in two text
 no_link two text end start size le was s none is =
     sym (was ∙ nothing_at_all two (take end text) start size s none
     (ap (effect_of two) (cut_at text end start size le s).1 ∙ sym is))
 
 pub earlier : (two : Bool) (text : List ℕ) (end start size : ℕ) → end ≤ length text
-    → map_url_in two text ≡ map_url_in two (take end text) → StartsLastLine (take end text) start size
+    → said_in two text ≡ said_in two (take end text) → StartsLastLine (take end text) start size
     → 0 < start
     → None ≡ effect_of two (take (end - start) (drop start text))
-    → (start - size ≤ length text) × (map_url_in two text ≡ map_url_in two (take (start - size) text))
+    → (start - size ≤ length text) × (said_in two text ≡ said_in two (take (start - size) text))
 earlier two text end start size le was s some is =
     let low : start ≤ end = (cut_at text end start size le s).0 in (
       omega (arith, low, le),
       was ∙ nothing_last two (take end text) start size s some
           (ap (effect_of two) (cut_at text end start size le s).1 ∙ sym is)
-          ∙ ap (map_url_in two) (take-take (start - size) end text (omega (arith, low))),
+          ∙ ap (said_in two) (take-take (start - size) end text (omega (arith, low))),
     )

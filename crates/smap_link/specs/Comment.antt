@@ -5,6 +5,7 @@
 use Rattle.std.specs.Prelude.{ℕ, ◌+◌, ◌-◌, ◌==◌, Bool, nat_eq, nat_lt, true, false, ◌&&◌, ◌||◌, List, [], ◌∷◌}
 use Rattle.std.specs.Prelude.{◌++◌}
 use Rattle.std.specs.Prelude.{length, take, drop, get_or, codes, cond, Option, Some, None}
+use Rattle.std.specs.Option.{is_none}
 use Rattle.std.specs.List.{starts_with}
 use Rattle.smap_link.specs.White.{behind_white, white_size, word_size}
 
@@ -112,12 +113,19 @@ settled two e line (b ∷ rest) = cond (ends_line line b)
     (settled two (later e (effect_of two (cut line b))) [] rest)
     (settled two e (line ++ b ∷ []) rest)
 
+abbrev pub said_in : Bool → List ℕ → Effect
+said_in two text = settled two None [] text
+
+-- No line says anything, so those before the text would decide.
+abbrev pub is_silent : Bool → List ℕ → Bool
+is_silent two text = is_none (said_in two text)
+
 abbrev pub link_of_effect : Effect → Option (List ℕ)
 link_of_effect None = None
 link_of_effect (Some link) = link
 
 abbrev pub map_url_in : Bool → List ℕ → Option (List ℕ)
-map_url_in two text = link_of_effect (settled two None [] text)
+map_url_in two text = link_of_effect (said_in two text)
 
 -- The URL of the map that a script names, relative to the script's, if it names one.
 abbrev pub map_url : List ℕ → Option (List ℕ)

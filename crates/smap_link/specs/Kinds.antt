@@ -1,7 +1,7 @@
 -- What a file is by the end of its name, and the map that it names: this project's own choice of endings.
-use Rattle.std.specs.Prelude.{ℕ, Bool, nat_eq, ◌||◌, List, codes, cond, Option}
+use Rattle.std.specs.Prelude.{ℕ, Bool, true, false, nat_eq, ◌||◌, List, codes, cond, Option}
 use Rattle.std.specs.List.{ends_with}
-use Rattle.smap_link.specs.Comment.{css_map_url, map_url}
+use Rattle.smap_link.specs.Comment.{css_map_url, is_silent, map_url}
 use Rattle.smap_link.specs.declared.kinds.FileKind.{FileKind}
 use Rattle.smap_link.specs.declared.kinds.FileKind.TheVariants.{Script, StyleSheet, Map, Other}
 
@@ -28,3 +28,13 @@ link_by Other text = map_url text
 
 abbrev pub link_in : List ℕ → List ℕ → Option (List ℕ)
 link_in name text = link_by (file_kind name) text
+
+-- its lines say nothing, by the same rule
+abbrev pub silent_by : FileKind → List ℕ → Bool
+silent_by StyleSheet text = is_silent false text
+silent_by Script text = is_silent true text
+silent_by Map text = is_silent true text
+silent_by Other text = is_silent true text
+
+abbrev pub says_nothing : List ℕ → List ℕ → Bool
+says_nothing name text = silent_by (file_kind name) text

@@ -256,22 +256,42 @@ fn line_start(text: &[u8]) -> (usize, usize)
     }
 }
 
-/// The last line is read first, and no line before the first one that says something.
-fn map_url_in<'a>(text: &'a [u8], two: bool) -> Option<&'a [u8]>
-    ensures { option_map (λ u. u.now) result ≡ spec.map_url_in two text.now }
+/// What the lines of a text say. The last line is read first, and no line before the first one that says
+/// something.
+fn said_in<'a>(text: &'a [u8], two: bool) -> Link<'a>
+    ensures { effect_in result ≡ spec.said_in two text.now }
 {
     let mut end = text.len();
     'lines: loop {
         let (start, size) = line_start(&text[..end]);
         match link_of_line(&text[start..end], two) {
             Link::Nothing => {}
-            Link::Missing => return None,
-            Link::Url(url) => return Some(url),
+            Link::Missing => return Link::Missing,
+            Link::Url(url) => return Link::Url(url),
         }
         if start == 0 {
-            return None;
+            return Link::Nothing;
         }
         end = start - size;
+    }
+}
+
+fn map_url_in<'a>(text: &'a [u8], two: bool) -> Option<&'a [u8]>
+    ensures { option_map (λ u. u.now) result ≡ spec.map_url_in two text.now }
+{
+    match said_in(text, two) {
+        Link::Url(url) => Some(url),
+        Link::Nothing | Link::Missing => None,
+    }
+}
+
+/// Whether no line of a text says anything, where `two` says whether `//` begins a comment.
+pub(crate) fn is_silent(text: &[u8], two: bool) -> bool
+    ensures { result ≡ spec.is_silent two text.now }
+{
+    match said_in(text, two) {
+        Link::Nothing => true,
+        Link::Missing | Link::Url(_) => false,
     }
 }
 

@@ -2,7 +2,7 @@
 ghost use Rattle.std.specs.Prelude.{◌≡◌, option_map};
 ghost use Rattle.smap_link.specs.Kinds as spec;
 
-use crate::comment::{css_map_url, map_url};
+use crate::comment::{css_map_url, is_silent, map_url};
 
 /// What a file is by the end of its name.
 #[derive(Clone, Copy, Debug, PartialEq, Eq)]
@@ -39,5 +39,16 @@ pub fn link_in<'a>(name: &[u8], text: &'a [u8]) -> Option<&'a [u8]>
     match file_kind(name) {
         FileKind::StyleSheet => css_map_url(text),
         FileKind::Script | FileKind::Map | FileKind::Other => map_url(text),
+    }
+}
+
+/// Whether a text, the end of that of a file with this name, says nothing of a map: it has no more than white
+/// space and comments, and none of these names a map. What stands before it would say.
+pub fn says_nothing(name: &[u8], text: &[u8]) -> bool
+    ensures { result ≡ spec.says_nothing name.now text.now }
+{
+    match file_kind(name) {
+        FileKind::StyleSheet => is_silent(text, false),
+        FileKind::Script | FileKind::Map | FileKind::Other => is_silent(text, true),
     }
 }

@@ -5,7 +5,7 @@
 //! The functions and their clauses are stable: `map_url`, `css_map_url`, `inline_map`, `resolved`,
 //! `file_url`, `file_path`, `script_url`, `script_name`, `normal_form`, `key_of`, `most_alike`,
 //! `common_tail`, `script_of_map`, `scripts_of_maps`, `maps_of_scripts`, `choose`,
-//! `file_kind` and `link_in`.
+//! `file_kind`, `link_in` and `says_nothing`.
 #![tactic(auto)]
 
 mod alike;
@@ -32,7 +32,7 @@ pub use encoding::{IN_PATH, PathFault, file_url, is_path, script_url};
 pub use endings::{maps_of_scripts, scripts_of_maps};
 pub use ends::script_of_map;
 pub use inline::{InlineFault, inline_map};
-pub use kinds::{FileKind, file_kind, link_in};
+pub use kinds::{FileKind, file_kind, link_in, says_nothing};
 pub use likeness::{Likeness, most_alike};
 pub use names::{is_below, script_name};
 pub use paths::{bare, file_path};

@@ -6,7 +6,7 @@ use std::alloc::{AllocError, Global};
 /// What a run has found so far, and the files that it looked at.
 #[derive(Drop)]
 pub(crate) struct Book {
-    alloc: Global,
+    pub(crate) alloc: Global,
     /// The level of each rule; none where it isn't to be looked at.
     levels: Vec<Option<Level>>,
     pub(crate) findings: Vec<Finding>,
@@ -46,8 +46,7 @@ impl Book {
     }
 
     /// Notes a file that is looked at.
-    pub(crate) fn add_file(&mut self, file: &str) -> Result<(), AllocError> {
-        let file = String::from_str(self.alloc, file)?;
+    pub(crate) fn add_file(&mut self, file: String) -> Result<(), AllocError> {
         match self.files.push(file) {
             Ok(()) => Ok(()),
             Err(_) => Err(AllocError),
@@ -62,6 +61,12 @@ impl Book {
         message: String,
     ) -> Result<(), AllocError> {
         self.add_at(check, file, None, message)
+    }
+
+    /// The same in these words.
+    pub(crate) fn say(&mut self, check: Check, file: &str, words: &str) -> Result<(), AllocError> {
+        let message = String::from_str(self.alloc, words)?;
+        self.add(check, file, message)
     }
 
     /// Notes what was found at a place of a file, unless the rule isn't to be looked at.

@@ -1,32 +1,22 @@
 //! A folder and the names of its files.
-use smap_disk::{Disk, FileFault, Kind, read_file, reason, walk};
+use smap_disk::{Disk, FileFault, Kind, LIMIT, parted, read_file, reason, walk};
 use smap_host::{Host, Stop};
 use smap_link::file_url;
 use std::alloc::{AllocError, Global};
 use std::io::ErrorKind;
 
-/// The most bytes that a script, a map or a source may have.
-pub(crate) const LIMIT: u64 = 268_435_456;
-
 const ENDINGS: [&str; 5] = [".js", ".mjs", ".cjs", ".css", ".map"];
 
 /// A folder, and the names of the scripts and maps below it, in byte order.
 #[derive(Drop)]
-pub(crate) struct Folder<'a> {
-    /// As it was given, without slashes at its end; the root's is empty.
-    pub(crate) path: &'a str,
+pub(crate) struct Folder {
+    /// Its path, with a slash at its end.
+    pub(crate) path: String,
     /// Whether its names are all that it has, and not those of one file that was given and its script or map.
     pub(crate) is_whole: bool,
     /// Its file: URL once links are followed, with a slash at its end.
     pub(crate) url: String,
     pub(crate) names: Vec<String>,
-    /// By the numbers of the names, whether a script was found to have this map.
-    used: Vec<bool>,
-}
-
-/// The path of a file below a folder.
-pub(crate) fn path_below(alloc: Global, folder: &str, name: &str) -> Result<String, AllocError> {
-    format!(in alloc; "{folder}/{name}")
 }
 
 /// The names of the scripts and maps in a folder and below it.
@@ -34,13 +24,13 @@ fn names_in<E: Eprint + AllocGlobal, D: Disk>(
     host: &Host<'_, E, D>,
     given: &str,
 ) -> Result<Vec<String>, Stop> {
-    let alloc = host.alloc();
-    let found = match walk(alloc, host.disk, given, &ENDINGS) {
-        Ok(found) => found,
-        Err(fault) => return Err(host.fail_walking(given, fault)),
-    };
-    host.say_unnamed(given, found.unnamed)?;
-    Ok(found.names)
+    match walk(host.alloc(), host.disk, given, &ENDINGS) {
+        Ok(found) => {
+            host.say_unnamed(given, found.unnamed)?;
+            Ok(found.names)
+        }
+        Err(fault) => Err(host.fail_walking(given, fault)),
+    }
 }
 
 /// The URL of a folder, with a slash at its end.
@@ -66,14 +56,6 @@ fn url_of<E: Eprint + AllocGlobal, D: Disk>(
     }
 }
 
-/// The folder of a file, and its name there.
-fn parted(file: &str) -> (&str, &str) {
-    match file.rsplit_once('/') {
-        Some((folder, name)) => (folder, name),
-        None => (".", file),
-    }
-}
-
 /// The names in a folder of a script and its map, of which this is one: those that are files.
 fn pair_names<D: Disk>(
     alloc: Global,
@@ -85,7 +67,7 @@ fn pair_names<D: Disk>(
     let map = format!(in alloc; "{script}.map")?;
     let mut names = Vec::new(alloc);
     for name in [script, map.as_str()] {
-        let path = path_below(alloc, folder, name)?;
+        let path = format!(in alloc; "{folder}{name}")?;
         if disk.kind(path.as_str()) == Kind::File {
             let name = String::from_str(alloc, name)?;
             if names.push(name).is_err() {
@@ -96,23 +78,21 @@ fn pair_names<D: Disk>(
     Ok(names)
 }
 
-impl<'a> Folder<'a> {
-    /// A folder with these names.
+impl Folder {
+    /// A folder with these names, and a path without a slash at its end: the root's is empty.
     fn with<E: Eprint + AllocGlobal, D: Disk>(
         host: &Host<'_, E, D>,
-        path: &'a str,
+        path: &str,
         names: Vec<String>,
         is_whole: bool,
-    ) -> Result<Folder<'a>, Stop> {
-        let top = if path.is_empty() { "/" } else { path };
-        let url = url_of(host, top)?;
-        let used = vec![in host.alloc(); false; names.len()]?;
+    ) -> Result<Folder, Stop> {
+        let url = url_of(host, if path.is_empty() { "/" } else { path })?;
+        let path = format!(in host.alloc(); "{path}/")?;
         Ok(Folder {
             path,
             is_whole,
             url,
             names,
-            used,
         })
     }
 
@@ -120,15 +100,22 @@ impl<'a> Folder<'a> {
     /// or map.
     pub(crate) fn new<E: Eprint + AllocGlobal, D: Disk>(
         host: &Host<'_, E, D>,
-        given: &'a str,
-    ) -> Result<Folder<'a>, Stop> {
+        given: &str,
+    ) -> Result<Folder, Stop> {
         if host.disk.kind(given) == Kind::File {
-            let (path, name) = parted(given);
-            let names = pair_names(host.alloc(), host.disk, path, name)?;
+            let (folder, name) = parted(given);
+            let names = pair_names(host.alloc(), host.disk, folder, name)?;
+            let path = folder.strip_suffix('/').unwrap_or(".");
             return Folder::with(host, path, names, false);
         }
         let names = names_in(host, given)?;
         Folder::with(host, given.trim_end_matches('/'), names, true)
+    }
+
+    /// The path of the file with this name.
+    pub(crate) fn file(&self, alloc: Global, name: &str) -> Result<String, AllocError> {
+        let path = self.path.as_str();
+        format!(in alloc; "{path}{name}")
     }
 
     /// The number of the file with this name.
@@ -139,26 +126,6 @@ impl<'a> Folder<'a> {
         {
             Ok(number) => Some(number),
             Err(_) => None,
-        }
-    }
-
-    /// Notes that a script has the map with this number, and answers whether another one had it before.
-    pub(crate) fn use_map(&mut self, number: usize) -> bool {
-        match self.used.get_mut(number) {
-            Some(used) => {
-                let before = *used;
-                *used = true;
-                before
-            }
-            None => false,
-        }
-    }
-
-    /// Whether a script has the map with this number.
-    pub(crate) fn is_used(&self, number: usize) -> bool {
-        match self.used.get(number) {
-            Some(used) => *used,
-            None => false,
         }
     }
 }

@@ -5,14 +5,15 @@
 
 mod asked;
 mod book;
+mod case;
 mod folder;
 mod links;
 mod maps;
-mod pairs;
 mod positions;
 mod program;
 mod scripts;
 mod source_files;
+mod visit;
 mod wording;
 
 pub use asked::LintAsked;

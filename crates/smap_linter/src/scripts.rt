@@ -1,161 +1,138 @@
 //! A script, and what it has for a map.
-use crate::book::Book;
-use crate::folder::{Folder, path_below, read};
-use crate::links::{Link, link_of};
-use crate::pairs::{Pair, lint_pair};
+use crate::case::Case;
+use crate::links::{absent_words, wrong_words};
+use crate::visit::Visit;
 use smap_disk::Disk;
-use smap_host::{Host, Stop};
+use smap_host::Stop;
+use smap_link::link_in;
 use smap_lint::Check;
-use std::alloc::{AllocError, Global};
+use smap_opening::{Home, Target, target_of};
+use std::alloc::AllocError;
 
-/// Notes that a script has no map.
-fn add_missing(alloc: Global, book: &mut Book, file: &str) -> Result<(), AllocError> {
-    let message = String::from_str(alloc, "names no map, and none lies beside it")?;
-    book.add(Check::MissingMap, file, message)
+/// A script of a folder.
+#[derive(Clone, Copy)]
+pub(crate) struct Script<'a> {
+    /// Its name in the folder, and the path of its file.
+    pub(crate) name: &'a str,
+    pub(crate) file: &'a str,
+    /// The name that a map beside it has.
+    pub(crate) beside: &'a str,
+    pub(crate) text: &'a [u8],
 }
 
-/// Notes that a map lies beside a script that has another one.
-fn add_second(
-    alloc: Global,
-    book: &mut Book,
-    file: &str,
-    first: &str,
-    beside: &str,
-) -> Result<(), AllocError> {
-    let message = format!(in alloc; "names {first}, and {beside} lies beside it")?;
-    book.add(Check::TwoMaps, file, message)
-}
-
-/// Uses the map with this number for a script.
-fn use_map(
-    alloc: Global,
-    book: &mut Book,
-    folder: &mut Folder<'_>,
-    number: usize,
-    file: &str,
-    map: &str,
-) -> Result<(), AllocError> {
-    if folder.use_map(number) {
-        let message = format!(in alloc; "has the map of another script: {map}")?;
-        book.add(Check::SharedMap, file, message)?;
-    }
-    Ok(())
-}
-
-/// Lints a file of a folder as the map of a script.
-fn lint_file<E: Eprint + AllocGlobal, D: Disk>(
-    host: &Host<'_, E, D>,
-    book: &mut Book,
-    folder: &mut Folder<'_>,
-    script: (&str, &[u8]),
-    name: &str,
-    map: &str,
-) -> Result<(), Stop> {
-    let alloc = host.alloc();
-    let (file, text) = script;
-    if let Some(number) = folder.number(map) {
-        use_map(alloc, book, folder, number, file, map)?;
-    }
-    let path = path_below(alloc, folder.path, map)?;
-    let Some(bytes) = read(host, path.as_str())? else {
-        book.unread = true;
-        return Ok(());
-    };
-    let pair = Pair {
-        file: path.as_str(),
-        name: map,
-        is_inline: false,
-        script: Some((name, text)),
-    };
-    lint_pair(host, book, folder, &pair, bytes)
-}
-
-/// Lints a script that names a file of its folder for its map.
-fn lint_linked<E: Eprint + AllocGlobal, D: Disk>(
-    host: &Host<'_, E, D>,
-    book: &mut Book,
-    folder: &mut Folder<'_>,
-    script: (&str, &[u8]),
-    name: &str,
-    map: &str,
-    beside: &str,
-) -> Result<(), Stop> {
-    if let Some(number) = folder.number(beside) {
-        if map != beside {
-            add_second(host.alloc(), book, script.0, map, beside)?;
-            folder.use_map(number);
+impl<E: Eprint + AllocGlobal, D: Disk> Visit<'_, '_, E, D> {
+    /// Notes the map that lies beside a script which has another one, if there is one.
+    fn note_second(&mut self, script: Script<'_>, has: &str) -> Result<(), AllocError> {
+        let Script { file, beside, .. } = script;
+        if let Some(number) = self.folder.number(beside) {
+            let message = format!(in self.book.alloc; "names {has}, and {beside} lies beside it")?;
+            self.book.add(Check::TwoMaps, file, message)?;
+            self.use_map(number);
         }
+        Ok(())
     }
-    lint_file(host, book, folder, script, name, map)
-}
 
-/// Lints a script that has its map in itself.
-fn lint_inline<E: Eprint + AllocGlobal, D: Disk>(
-    host: &Host<'_, E, D>,
-    book: &mut Book,
-    folder: &mut Folder<'_>,
-    script: (&str, &[u8]),
-    name: &str,
-    bytes: Vec<u8>,
-    beside: &str,
-) -> Result<(), Stop> {
-    let (file, text) = script;
-    if let Some(number) = folder.number(beside) {
-        add_second(host.alloc(), book, file, "a map in itself", beside)?;
-        folder.use_map(number);
-    }
-    let pair = Pair {
-        file,
-        name,
-        is_inline: true,
-        script: Some((name, text)),
-    };
-    lint_pair(host, book, folder, &pair, bytes)
-}
-
-/// Lints a script that names no map, or none that can be followed: by the map beside it, if there is one.
-fn lint_beside<E: Eprint + AllocGlobal, D: Disk>(
-    host: &Host<'_, E, D>,
-    book: &mut Book,
-    folder: &mut Folder<'_>,
-    script: (&str, &[u8]),
-    name: &str,
-    is_named: bool,
-    beside: &str,
-) -> Result<(), Stop> {
-    if folder.number(beside).is_some() {
-        return lint_file(host, book, folder, script, name, beside);
-    }
-    if !is_named {
-        add_missing(host.alloc(), book, script.0)?;
-    }
-    Ok(())
-}
-
-/// Lints the script with this name, and its map.
-pub(crate) fn lint_script<E: Eprint + AllocGlobal, D: Disk>(
-    host: &Host<'_, E, D>,
-    book: &mut Book,
-    folder: &mut Folder<'_>,
-    name: &str,
-) -> Result<(), Stop> {
-    let alloc = host.alloc();
-    let file = path_below(alloc, folder.path, name)?;
-    let file = file.as_str();
-    let Some(text) = read(host, file)? else {
-        book.unread = true;
-        return Ok(());
-    };
-    let beside = format!(in alloc; "{name}.map")?;
-    let beside = beside.as_str();
-    let script = (file, text.as_slice());
-    match link_of(host, book, folder, name, file, &text)? {
-        Link::Inline(bytes) => lint_inline(host, book, folder, script, name, bytes, beside),
-        Link::File(map) => {
-            let map = map.as_str();
-            lint_linked(host, book, folder, script, name, map, beside)
+    /// Notes that a script has this map, and whether another one had it before.
+    fn note_use(&mut self, script: Script<'_>, map: &str) -> Result<(), AllocError> {
+        let Some(number) = self.folder.number(map) else {
+            return Ok(());
+        };
+        if self.use_map(number) {
+            let message = format!(in self.book.alloc; "has the map of another script: {map}")?;
+            self.book.add(Check::SharedMap, script.file, message)?;
         }
-        Link::Nothing => lint_beside(host, book, folder, script, name, false, beside),
-        Link::Broken => lint_beside(host, book, folder, script, name, true, beside),
+        Ok(())
+    }
+
+    /// Lints a file of the folder as the map of a script.
+    fn lint_file(&mut self, script: Script<'_>, map: &str) -> Result<(), Stop> {
+        self.note_use(script, map)?;
+        let file = self.folder.file(self.host.alloc(), map)?;
+        let Some(bytes) = self.read(file.as_str())? else {
+            return Ok(());
+        };
+        let mut case = Case {
+            book: self.book,
+            folder: self.folder,
+            file: file.as_str(),
+            name: map,
+            is_inline: false,
+            script: Some(script),
+        };
+        case.lint(self.host.disk, bytes)?;
+        Ok(())
+    }
+
+    /// Lints a script that names a file of the folder for its map.
+    fn lint_linked(&mut self, script: Script<'_>, map: &str) -> Result<(), Stop> {
+        if map != script.beside {
+            self.note_second(script, map)?;
+        }
+        self.lint_file(script, map)
+    }
+
+    /// Lints a script that has its map in itself.
+    fn lint_inline(&mut self, script: Script<'_>, bytes: Vec<u8>) -> Result<(), Stop> {
+        self.note_second(script, "a map in itself")?;
+        let mut case = Case {
+            book: self.book,
+            folder: self.folder,
+            file: script.file,
+            name: script.name,
+            is_inline: true,
+            script: Some(script),
+        };
+        case.lint(self.host.disk, bytes)?;
+        Ok(())
+    }
+
+    /// Lints a script that names no map, or none that can be followed: by the map beside it, if there is one.
+    fn lint_beside(&mut self, script: Script<'_>, is_named: bool) -> Result<(), Stop> {
+        if self.folder.number(script.beside).is_some() {
+            return self.lint_file(script, script.beside);
+        }
+        if !is_named {
+            let message = "names no map, and none lies beside it";
+            self.book.say(Check::MissingMap, script.file, message)?;
+        }
+        Ok(())
+    }
+
+    /// Lints a script that names this URL for its map.
+    fn lint_named(&mut self, script: Script<'_>, url: &[u8]) -> Result<(), Stop> {
+        let alloc = self.host.alloc();
+        let home = Home {
+            path: self.folder.path.as_str(),
+            url: self.folder.url.as_bytes(),
+        };
+        let name = script.name.as_bytes();
+        let (check, message) = match target_of(alloc, self.host.disk, home, name, url)? {
+            Target::Inline(bytes) => return self.lint_inline(script, bytes),
+            Target::File(map) => return self.lint_linked(script, map.as_str()),
+            Target::Absent(_, why) => absent_words(alloc, why, url)?,
+            Target::Wrong(why) => wrong_words(alloc, why, url)?,
+        };
+        self.book.add(check, script.file, message)?;
+        self.lint_beside(script, true)
+    }
+
+    /// Lints the script with this name, and its map.
+    pub(crate) fn lint_script(&mut self, name: &str) -> Result<(), Stop> {
+        let alloc = self.host.alloc();
+        let file = self.folder.file(alloc, name)?;
+        let Some(text) = self.read(file.as_str())? else {
+            return Ok(());
+        };
+        let beside = format!(in alloc; "{name}.map")?;
+        let script = Script {
+            name,
+            file: file.as_str(),
+            beside: beside.as_str(),
+            text: &text,
+        };
+        match link_in(name.as_bytes(), script.text) {
+            Some(url) => self.lint_named(script, url),
+            None => self.lint_beside(script, false),
+        }
     }
 }

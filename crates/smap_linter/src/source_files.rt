@@ -1,10 +1,8 @@
 //! The files of sources.
-use crate::book::Book;
-use crate::folder::{Folder, LIMIT, has_no_size};
-use crate::pairs::Pair;
+use crate::case::Case;
+use crate::folder::has_no_size;
 use crate::wording::{example, one_or_more, some_of};
-use smap_disk::{Disk, Kind};
-use smap_host::Host;
+use smap_disk::{Disk, Kind, LIMIT};
 use smap_link::{PathFault, file_path, script_url};
 use smap_lint::{Check, normal_text, same_text};
 use smap_record::{SourceMap, SourceView};
@@ -60,14 +58,6 @@ impl<'a> Tally<'a> {
             count: self.count.saturating_add(1),
             first: if self.count == 0 { url } else { self.first },
         }
-    }
-}
-
-/// The URL of a map's script; empty for a map without one.
-fn script_of(alloc: Global, folder: &Folder<'_>, pair: &Pair<'_>) -> Result<Vec<u8>, AllocError> {
-    match pair.script {
-        Some((name, _)) => script_url(alloc, folder.url.as_str().as_bytes(), name.as_bytes()),
-        None => Ok(Vec::new(alloc)),
     }
 }
 
@@ -156,16 +146,24 @@ fn text_of<D: Disk>(
     Ok(None)
 }
 
-/// Which of these contents aren't those of their files. Those of one file stand side by side, the longest one
-/// first, so that it is read once for all of them.
-fn stale_among<D: Disk>(alloc: Global, disk: &D, kept: &[Kept<'_>]) -> Result<Stale, AllocError> {
+/// Which of these contents aren't those of their files. Those of one file are put side by side, the longest
+/// one first, so that it is read once for all of them.
+fn stale_among<D: Disk>(
+    alloc: Global,
+    disk: &D,
+    mut kept: Vec<Kept<'_>>,
+) -> Result<Stale, AllocError> {
+    kept.sort_by(|a, b| match a.path.as_str().cmp(b.path.as_str()) {
+        Ordering::Equal => b.content.len().cmp(&a.content.len()),
+        other => other,
+    })?;
     let mut stale = Stale {
         count: 0,
         first: usize::MAX,
     };
     let mut path = "";
     let mut text = None;
-    for one in kept {
+    for one in &kept {
         if one.path.as_str() != path {
             path = one.path.as_str();
             text = text_of(alloc, disk, path, one.content.len())?;
@@ -179,101 +177,88 @@ fn stale_among<D: Disk>(alloc: Global, disk: &D, kept: &[Kept<'_>]) -> Result<St
     Ok(stale)
 }
 
-/// A URL below a folder without the folder's.
-fn own_part<'a>(folder: &Folder<'_>, url: &'a str) -> &'a str {
-    url.strip_prefix(folder.url.as_str()).unwrap_or(url)
-}
-
-fn add_missing(
-    alloc: Global,
-    book: &mut Book,
-    pair: &Pair<'_>,
-    missing: Tally<'_>,
-    total: usize,
-) -> Result<(), AllocError> {
-    let Tally { count, first } = missing;
-    if count == 0 {
-        return Ok(());
-    }
-    let sources = some_of(alloc, count, total, "source")?;
-    let example = example(alloc, count, first)?;
-    let has = one_or_more(count, "has", "have");
-    let message = format!(in alloc; "{sources} {has} neither content nor file{example}")?;
-    book.add(Check::MissingSource, pair.file, message)
-}
-
-fn add_stale(
-    alloc: Global,
-    book: &mut Book,
-    folder: &Folder<'_>,
-    pair: &Pair<'_>,
-    map: &SourceMap,
-    stale: Stale,
-) -> Result<(), AllocError> {
-    let total = map.source_count();
-    let Stale { count, first } = stale;
-    if first >= total {
-        return Ok(());
-    }
-    let first = own_part(folder, map.source(first).url.unwrap_or(""));
-    let sources = some_of(alloc, count, total, "source")?;
-    let example = example(alloc, count, first)?;
-    let files = one_or_more(count, "its file", "their files");
-    let message = format!(in alloc; "the content of {sources} differs from {files}{example}")?;
-    book.add(Check::StaleContent, pair.file, message)
-}
-
-/// Lints the sources of a map that have a content and a file.
-fn lint_kept<E: Eprint + AllocGlobal, D: Disk>(
-    host: &Host<'_, E, D>,
-    book: &mut Book,
-    folder: &Folder<'_>,
-    pair: &Pair<'_>,
-    map: &SourceMap,
-    mut kept: Vec<Kept<'_>>,
-) -> Result<(), AllocError> {
-    kept.sort_by(|a, b| match a.path.as_str().cmp(b.path.as_str()) {
-        Ordering::Equal => b.content.len().cmp(&a.content.len()),
-        other => other,
-    })?;
-    let stale = stale_among(host.alloc(), host.disk, &kept)?;
-    add_stale(host.alloc(), book, folder, pair, map, stale)
-}
-
-/// Lints the sources of a map.
-pub(crate) fn lint_sources<E: Eprint + AllocGlobal, D: Disk>(
-    host: &Host<'_, E, D>,
-    book: &mut Book,
-    folder: &Folder<'_>,
-    pair: &Pair<'_>,
-    map: &SourceMap,
-) -> Result<(), AllocError> {
-    let alloc = host.alloc();
-    let script = script_of(alloc, folder, pair)?;
-    let total = map.source_count();
-    let mut missing = Tally {
-        count: 0,
-        first: "",
-    };
-    let mut kept = Vec::new(alloc);
-    for number in 0..total {
-        let SourceView { url, content, .. } = map.source(number);
-        let Some(url) = url else {
-            continue;
-        };
-        match look_for(alloc, host.disk, &script, url, content)? {
-            Found::Good => {}
-            Found::Missing => missing = missing.with(own_part(folder, url)),
-            Found::Both(path) => {
-                let content = content.unwrap_or("");
-                kept.push(Kept {
-                    number,
-                    path,
-                    content,
-                })?;
+impl Case<'_, '_> {
+    /// The URL of the map's script; empty for a map without one.
+    fn own_script(&self) -> Result<Vec<u8>, AllocError> {
+        let alloc = self.book.alloc;
+        match self.script {
+            Some(script) => {
+                let folder = self.folder.url.as_str().as_bytes();
+                script_url(alloc, folder, script.name.as_bytes())
             }
+            None => Ok(Vec::new(alloc)),
         }
     }
-    add_missing(alloc, book, pair, missing, total)?;
-    lint_kept(host, book, folder, pair, map, kept)
+
+    /// A URL below the folder without the folder's.
+    fn own_part<'u>(&self, url: &'u str) -> &'u str {
+        url.strip_prefix(self.folder.url.as_str()).unwrap_or(url)
+    }
+
+    /// Notes the sources that have neither a content nor a file, of so many.
+    fn add_missing(&mut self, missing: Tally<'_>, total: usize) -> Result<(), AllocError> {
+        let Tally { count, first } = missing;
+        if count == 0 {
+            return Ok(());
+        }
+        let alloc = self.book.alloc;
+        let sources = some_of(alloc, count, total, "source")?;
+        let example = example(alloc, count, self.own_part(first))?;
+        let has = one_or_more(count, "has", "have");
+        let message = format!(in alloc; "{sources} {has} neither content nor file{example}")?;
+        self.add(Check::MissingSource, message)
+    }
+
+    /// Notes the contents that aren't those of their files.
+    fn add_stale(&mut self, map: &SourceMap, stale: Stale) -> Result<(), AllocError> {
+        let total = map.source_count();
+        let Stale { count, first } = stale;
+        if first >= total {
+            return Ok(());
+        }
+        let alloc = self.book.alloc;
+        let first = self.own_part(map.source(first).url.unwrap_or(""));
+        let sources = some_of(alloc, count, total, "source")?;
+        let example = example(alloc, count, first)?;
+        let files = one_or_more(count, "its file", "their files");
+        let message = format!(in alloc; "the content of {sources} differs from {files}{example}")?;
+        self.add(Check::StaleContent, message)
+    }
+
+    /// Lints the sources of the map.
+    pub(crate) fn lint_sources<D: Disk>(
+        &mut self,
+        disk: &D,
+        map: &SourceMap,
+    ) -> Result<(), AllocError> {
+        let alloc = self.book.alloc;
+        let script = self.own_script()?;
+        let total = map.source_count();
+        let mut missing = Tally {
+            count: 0,
+            first: "",
+        };
+        let mut kept = Vec::new(alloc);
+        for number in 0..total {
+            let SourceView { url, content, .. } = map.source(number);
+            let Some(url) = url else {
+                continue;
+            };
+            match look_for(alloc, disk, &script, url, content)? {
+                Found::Good => {}
+                Found::Missing => missing = missing.with(url),
+                Found::Both(path) => {
+                    let content = content.unwrap_or("");
+                    kept.push(Kept {
+                        number,
+                        path,
+                        content,
+                    })?;
+                }
+            }
+        }
+        self.add_missing(missing, total)?;
+        let stale = stale_among(alloc, disk, kept)?;
+        self.add_stale(map, stale)
+    }
 }

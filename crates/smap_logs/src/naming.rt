@@ -1,13 +1,13 @@
 //! The scripts that lines of a log name.
 ghost use Rattle.std.specs.Prelude.{◌≡◌, ◌++◌, ◌≤◌, [], ◌∷◌, IfOk, OnOk, bytes_eq, filter, length, map};
-ghost use Rattle.std.specs.List.{list_any, prefix_len};
+ghost use Rattle.std.specs.List.{list_any};
 ghost use Rattle.std.specs.Map.{keys_of};
-ghost use Rattle.smap_frames.specs.Places.{is_query_byte, marked_len};
 ghost use Rattle.smap_trace.specs.Naming.{urls_of};
 ghost use Rattle.smap_logs.specs.Naming as spec;
 ghost use Rattle.smap_logs.specs.Naming.{AreNamesOf, AreSame, frames_of, others_in, others_of};
 
 use indexmap::{IndexMap, IndexSet};
+use smap_frames::query_len;
 use smap_io::Device;
 use smap_lines::add_spans;
 use smap_link::bare;
@@ -227,33 +227,6 @@ impl Names {
     }
 }
 
-/// Whether a query or a fragment can hold the byte where it is left out.
-fn is_query_byte(b: u8) -> bool
-    ensures { result ≡ is_query_byte b }
-{
-    b > b' ' && !b"\x7f\"'`<>\\:?#".contains(&b)
-}
-
-/// How many such bytes the text begins with.
-fn query_byte_count(text: &[u8]) -> usize
-    ensures value { result ≡ prefix_len is_query_byte text.now }
-    ensures within { result ≤ length text.now }
-{
-    text.iter().take_while(|b| is_query_byte(**b)).count()
-}
-
-/// How many bytes the mark takes with what follows it.
-fn marked_len(mark: &[u8], text: &[u8]) -> usize
-    requires { length mark.now ≡ 1 }
-    ensures value { result ≡ marked_len mark.now text.now }
-    ensures within { result ≤ length text.now }
-{
-    if !text.starts_with(mark) {
-        return 0;
-    }
-    query_byte_count(&text[1..]) + 1
-}
-
 /// Whether a name has a space or a control character.
 pub fn has_control(name: &[u8]) -> bool
     ensures { result ≡ list_any spec.is_control name.now }
@@ -287,8 +260,7 @@ fn has_plain_query(name: &[u8]) -> bool
     ensures { result ≡ spec.has_plain_query name.now }
 {
     let rest = behind(name);
-    let query = marked_len(b"?", rest);
-    query + marked_len(b"#", &rest[query..]) == rest.len()
+    query_len(rest) == rest.len()
 }
 
 /// The names in these lines.

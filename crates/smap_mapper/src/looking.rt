@@ -6,15 +6,22 @@ use crate::replacing::replace;
 use crate::targets::Target;
 use serde_json::Value;
 use smap_changes::changes;
-use smap_disk::{Disk, FileFault, Stamp, read_file};
-use smap_drops::{Drops, dropped, tree_of};
+use smap_disk::{Disk, FileFault, LIMIT, Stamp, read_file};
+use smap_drops::{Drops, dropped};
 use smap_maps_words::Rewrite;
-use smap_record::{Base, BaseFault};
+use smap_record::{Base, BaseFault, map_tree};
 use smap_verdicts::{Failure, Outcome, Verdict, judged, unread};
 use std::alloc::{AllocError, Global};
 
-/// The most bytes that a map may have.
-const LIMIT: u64 = 268_435_456;
+/// A map that is looked at.
+#[derive(Drop)]
+pub(crate) struct Case<'a, D> {
+    pub(crate) alloc: Global,
+    pub(crate) disk: &'a D,
+    pub(crate) target: &'a Target,
+    /// How many bytes the URLs of its sources may take.
+    pub(crate) url_bytes: usize,
+}
 
 /// What an outcome is without a rewrite.
 pub(crate) fn plain(alloc: Global, verdict: Verdict) -> Outcome {
@@ -25,65 +32,9 @@ pub(crate) fn plain(alloc: Global, verdict: Verdict) -> Outcome {
     }
 }
 
-/// A file's bytes.
-pub(crate) fn bytes_of<D: Disk>(alloc: Global, disk: &D, path: &str) -> Result<Vec<u8>, Verdict> {
-    match read_file(alloc, disk, path, LIMIT) {
-        Ok(bytes) => Ok(bytes),
-        Err(FileFault::TooLong) => Err(Verdict::Failed(Failure::TooLong)),
-        Err(FileFault::Read(_)) => Err(Verdict::Failed(Failure::Unread)),
-        Err(FileFault::Memory) => Err(Verdict::Failed(Failure::Memory)),
-    }
-}
-
-/// A file's bytes, and what the file was before they were read.
-pub(crate) fn stamped<D: Disk>(
-    alloc: Global,
-    disk: &D,
-    path: &str,
-) -> Result<(Stamp, Vec<u8>), Verdict> {
-    let Ok(stamp) = disk.stamp(path) else {
-        return Err(Verdict::Failed(Failure::Unread));
-    };
-    Ok((stamp, bytes_of(alloc, disk, path)?))
-}
-
-pub(crate) fn base_of(alloc: Global, url: &[u8]) -> Result<Base, Verdict> {
-    let Ok(url) = std::str::from_utf8(url) else {
-        return Err(Verdict::NotUrl);
-    };
-    match Base::new(alloc, url) {
-        Ok(base) => Ok(base),
-        Err(BaseFault::NotUrl) => Err(Verdict::NotUrl),
-        Err(BaseFault::Memory) => Err(Verdict::Failed(Failure::Memory)),
-    }
-}
-
-fn checked<D: Disk>(
-    alloc: Global,
-    disk: &D,
-    target: &Target,
-    url_bytes: usize,
-) -> Result<Verdict, Verdict> {
-    let bytes = bytes_of(alloc, disk, target.file.as_str())?;
-    let base = base_of(alloc, &target.url)?;
-    Ok(judged(alloc, &base, &bytes, url_bytes))
-}
-
-/// Checks a map, with at most so many bytes for the URLs of its sources.
-pub(crate) fn check<D: Disk>(
-    alloc: Global,
-    disk: &D,
-    target: &Target,
-    url_bytes: usize,
-) -> Outcome {
-    match checked(alloc, disk, target, url_bytes) {
-        Ok(verdict) | Err(verdict) => plain(alloc, verdict),
-    }
-}
-
 /// The tree of a map that is accepted.
 fn tree(alloc: Global, bytes: &[u8]) -> Result<Value, AllocError> {
-    match tree_of(alloc, bytes) {
+    match map_tree(alloc, bytes) {
         Ok(tree) => Ok(tree),
         Err(_) => Err(AllocError),
     }
@@ -135,75 +86,95 @@ fn differences(
     Ok((names, changes))
 }
 
-/// Does with a map that would change what is to be done.
-pub(crate) fn change<D: Disk>(
-    alloc: Global,
-    disk: &D,
-    path: &str,
-    stamp: Stamp,
-    text: &[u8],
-    deed: Deed,
-) -> Verdict {
-    match deed {
-        Deed::Tell | Deed::Show => Verdict::Changed,
-        Deed::Keep => Verdict::Kept,
-        Deed::Write => match replace(alloc, disk, path, stamp, text) {
-            Ok(()) => Verdict::Rewritten,
-            Err(failure) => Verdict::Failed(failure),
-        },
+impl<D: Disk> Case<'_, D> {
+    fn path(&self) -> &str {
+        self.target.file.as_str()
     }
-}
 
-/// Compares a map with a form of it.
-fn compared<D: Disk>(
-    alloc: Global,
-    disk: &D,
-    target: &Target,
-    form: Form,
-    rewrite: Rewrite,
-    url_bytes: usize,
-) -> Result<Outcome, Verdict> {
-    let path = target.file.as_str();
-    let (stamp, bytes) = stamped(alloc, disk, path)?;
-    let base = base_of(alloc, &target.url)?;
-    let text = match formed(alloc, form, &base, &bytes, url_bytes) {
-        Ok(Some(text)) => text,
-        Ok(None) => return Err(Verdict::LongUrls(url_bytes)),
-        Err(error) => return Err(unread(alloc, &bytes, error)),
-    };
-    if text.as_slice() == bytes.as_slice() {
-        return Ok(plain(alloc, Verdict::Unchanged));
+    /// The bytes of its file.
+    fn bytes(&self) -> Result<Vec<u8>, Verdict> {
+        match read_file(self.alloc, self.disk, self.path(), LIMIT) {
+            Ok(bytes) => Ok(bytes),
+            Err(FileFault::TooLong) => Err(Verdict::Failed(Failure::TooLong)),
+            Err(FileFault::Read(_)) => Err(Verdict::Failed(Failure::Unread)),
+            Err(FileFault::Memory) => Err(Verdict::Failed(Failure::Memory)),
+        }
     }
-    let shows = rewrite == Rewrite::Diff;
-    let Ok((drops, changes)) = differences(alloc, &bytes, &text, shows) else {
-        return Err(Verdict::Failed(Failure::Memory));
-    };
-    let verdict = change(
-        alloc,
-        disk,
-        path,
-        stamp,
-        &text,
-        decided(rewrite, !drops.is_empty()),
-    );
-    Ok(Outcome {
-        verdict,
-        drops,
-        changes,
-    })
-}
 
-/// Tidies or flattens a map, with at most so many bytes for the URLs of its sources.
-pub(crate) fn compare<D: Disk>(
-    alloc: Global,
-    disk: &D,
-    target: &Target,
-    form: Form,
-    rewrite: Rewrite,
-    url_bytes: usize,
-) -> Outcome {
-    match compared(alloc, disk, target, form, rewrite, url_bytes) {
-        Ok(outcome) => outcome,
-        Err(verdict) => plain(alloc, verdict),
+    /// The bytes of its file, and what that was before they were read.
+    pub(crate) fn stamped(&self) -> Result<(Stamp, Vec<u8>), Verdict> {
+        let Ok(stamp) = self.disk.stamp(self.path()) else {
+            return Err(Verdict::Failed(Failure::Unread));
+        };
+        Ok((stamp, self.bytes()?))
+    }
+
+    /// Its own URL.
+    pub(crate) fn base(&self) -> Result<Base, Verdict> {
+        let Ok(url) = std::str::from_utf8(&self.target.url) else {
+            return Err(Verdict::NotUrl);
+        };
+        match Base::new(self.alloc, url) {
+            Ok(base) => Ok(base),
+            Err(BaseFault::NotUrl) => Err(Verdict::NotUrl),
+            Err(BaseFault::Memory) => Err(Verdict::Failed(Failure::Memory)),
+        }
+    }
+
+    fn checked(&self) -> Result<Verdict, Verdict> {
+        let bytes = self.bytes()?;
+        let base = self.base()?;
+        Ok(judged(self.alloc, &base, &bytes, self.url_bytes))
+    }
+
+    /// Checks the map.
+    pub(crate) fn check(&self) -> Outcome {
+        match self.checked() {
+            Ok(verdict) | Err(verdict) => plain(self.alloc, verdict),
+        }
+    }
+
+    /// Does what is to be done with it, where it would become this text.
+    pub(crate) fn change(&self, stamp: Stamp, text: &[u8], deed: Deed) -> Verdict {
+        match deed {
+            Deed::Tell | Deed::Show => Verdict::Changed,
+            Deed::Keep => Verdict::Kept,
+            Deed::Write => match replace(self.alloc, self.disk, self.path(), stamp, text) {
+                Ok(()) => Verdict::Rewritten,
+                Err(failure) => Verdict::Failed(failure),
+            },
+        }
+    }
+
+    fn compared(&self, form: Form, rewrite: Rewrite) -> Result<Outcome, Verdict> {
+        let alloc = self.alloc;
+        let (stamp, bytes) = self.stamped()?;
+        let base = self.base()?;
+        let text = match formed(alloc, form, &base, &bytes, self.url_bytes) {
+            Ok(Some(text)) => text,
+            Ok(None) => return Err(Verdict::LongUrls(self.url_bytes)),
+            Err(error) => return Err(unread(alloc, &bytes, error)),
+        };
+        if text.as_slice() == bytes.as_slice() {
+            return Ok(plain(alloc, Verdict::Unchanged));
+        }
+        let shows = rewrite == Rewrite::Diff;
+        let Ok((drops, changes)) = differences(alloc, &bytes, &text, shows) else {
+            return Err(Verdict::Failed(Failure::Memory));
+        };
+        let deed = decided(rewrite, !drops.is_empty());
+        Ok(Outcome {
+            verdict: self.change(stamp, &text, deed),
+            drops,
+            changes,
+        })
+    }
+
+    /// Compares the map with a form of it, and rewrites it where that is wanted.
+    pub(crate) fn compare(&self, form: Form, rewrite: Rewrite) -> Outcome {
+        match self.compared(form, rewrite) {
+            Ok(outcome) => outcome,
+            Err(verdict) => plain(self.alloc, verdict),
+        }
     }
 }

@@ -3,19 +3,19 @@
 use crate::deciding::wants_json;
 use crate::forms::Form;
 use crate::linting::lint_asked;
-use crate::looking::{check, compare};
+use crate::looking::Case;
 use crate::progress::Progress;
 use crate::repairing::repair;
 use crate::reporting::{Style, report, says_something, write_line};
-use crate::targets::{Target, base_given, targets_of};
+use crate::targets::{Target, targets_of};
 use smap_disk::{Disk, Watched};
 use smap_host::{Host, Stop};
 use smap_linter::lint;
 use smap_maps_words::{
-    Asked, HELP, MapsWords, Rewrite, TRY_HELP, Task, VERSION, WordFault, maps_words, message,
+    Asked, HELP, MapsWords, Rewrite, Task, VERSION, WordFault, maps_words, message,
 };
+use smap_opening::base_given;
 use smap_verdicts::{Outcome, Tally};
-use std::alloc::Global;
 use std::io::Write;
 use std::rt::Clock;
 
@@ -45,37 +45,41 @@ impl Work {
         }
     }
 
-    fn outcome<D: Disk>(
-        self,
-        alloc: Global,
-        disk: &D,
-        target: &Target,
-        url_bytes: usize,
-    ) -> Outcome {
+    fn outcome<D: Disk>(self, case: &Case<'_, D>) -> Outcome {
         match self {
-            Work::Check { .. } => check(alloc, disk, target, url_bytes),
-            Work::Compare { form, rewrite } => {
-                compare(alloc, disk, target, form, rewrite, url_bytes)
-            }
-            Work::Repair { write } => repair(alloc, disk, target, write, url_bytes),
+            Work::Check { .. } => case.check(),
+            Work::Compare { form, rewrite } => case.compare(form, rewrite),
+            Work::Repair { write } => repair(case, write),
         }
     }
+}
+
+/// What a run does.
+#[derive(Clone, Copy)]
+struct Job {
+    work: Work,
+    /// How many bytes the URLs of a map's sources may take.
+    url_bytes: usize,
 }
 
 /// Looks at each map, and says what became of it.
 fn look_at_all<E: Eprint + AllocGlobal + Clock, D: Disk, W: Write>(
     host: &Host<'_, E, D>,
-    work: Work,
-    url_bytes: usize,
+    job: Job,
     targets: &[Target],
     progress: &mut Progress,
     writer: &mut Watched<W>,
 ) -> Result<Tally, Stop> {
     let mut tally = Tally::new();
-    let style = work.style();
+    let style = job.work.style();
     for (done, target) in targets.iter().enumerate() {
         progress.show(host.rt, done);
-        let outcome = work.outcome(host.alloc(), host.disk, target, url_bytes);
+        let outcome = job.work.outcome(&Case {
+            alloc: host.alloc(),
+            disk: host.disk,
+            target,
+            url_bytes: job.url_bytes,
+        });
         tally = tally.with(outcome.verdict.status());
         if says_something(style, &outcome.verdict) {
             progress.erase(host.rt);
@@ -120,7 +124,11 @@ fn work_on<E: Eprint + AllocGlobal + Clock, D: Disk, W: Write>(
 ) -> Result<(), Stop> {
     let targets = targets(host, asked)?;
     let mut progress = Progress::new(targets.len(), on_terminal);
-    let answer = look_at_all(host, work, asked.url_bytes, &targets, &mut progress, writer);
+    let job = Job {
+        work,
+        url_bytes: asked.url_bytes,
+    };
+    let answer = look_at_all(host, job, &targets, &mut progress, writer);
     progress.erase(host.rt);
     let tally = answer?;
     if work == (Work::Check { json: false }) {
@@ -168,22 +176,6 @@ fn do_task<E: Eprint + AllocGlobal + Clock, D: Disk, W: Write>(
     work_on(host, asked, work, on_terminal, writer)
 }
 
-/// Says what is wrong with the words.
-fn refuse<E: Eprint + AllocGlobal, D: Disk>(host: &Host<'_, E, D>, fault: &WordFault<'_>) -> Stop {
-    let rt = host.rt;
-    match fault {
-        WordFault::Memory => Stop::Memory,
-        WordFault::Nothing => {
-            let _ = eprint!(rt; "{HELP}");
-            Stop::Reported(2)
-        }
-        _ => match message(host.alloc(), fault) {
-            Ok(text) => host.fail(2, text.as_str()),
-            Err(_) => Stop::Memory,
-        },
-    }
-}
-
 /// What the words ask for.
 fn answer<E: Eprint + AllocGlobal + Clock, D: Disk, W: Write>(
     host: &Host<'_, E, D>,
@@ -195,7 +187,9 @@ fn answer<E: Eprint + AllocGlobal + Clock, D: Disk, W: Write>(
         Ok(Asked::Help) => host.write(HELP.as_bytes(), writer),
         Ok(Asked::Version) => host.write(VERSION.as_bytes(), writer),
         Ok(Asked::Maps(asked)) => do_task(host, &asked, on_terminal, writer),
-        Err(fault) => Err(refuse(host, &fault)),
+        Err(WordFault::Memory) => Err(Stop::Memory),
+        Err(WordFault::Nothing) => Err(host.fail_with_help(HELP)),
+        Err(fault) => Err(host.fail_words(message(host.alloc(), &fault), None)),
     }
 }
 

@@ -1,9 +1,8 @@
 //! One map that is refused: repaired, and rewritten if that is wanted.
 
 use crate::deciding::Deed;
-use crate::looking::{base_of, change, plain, stamped};
-use crate::targets::Target;
-use smap_disk::{Disk, Stamp};
+use crate::looking::{Case, plain};
+use smap_disk::Disk;
 use smap_record::{Base, Fault, Limits};
 use smap_repair::{Repair, Repaired, repair_text, sentence};
 use smap_verdicts::{Failure, Outcome, Verdict, refused_for};
@@ -63,49 +62,25 @@ fn mended(
     }
 }
 
-/// What becomes of the map in a file with these bytes.
-fn repaired<D: Disk>(
-    alloc: Global,
-    disk: &D,
-    target: &Target,
-    (stamp, bytes): (Stamp, &[u8]),
-    base: &Base,
-    write: bool,
-    url_bytes: usize,
-) -> Outcome {
-    let deed = if write { Deed::Write } else { Deed::Show };
-    match mended(alloc, base, bytes, url_bytes) {
-        Ok((text, changes)) => Outcome {
-            verdict: change(alloc, disk, target.file.as_str(), stamp, &text, deed),
-            drops: Vec::new(alloc),
+/// What becomes of a map that is repaired, or why it can't be looked at.
+fn repaired<D: Disk>(case: &Case<'_, D>, deed: Deed) -> Result<Outcome, Verdict> {
+    let (stamp, bytes) = case.stamped()?;
+    let base = case.base()?;
+    match mended(case.alloc, &base, &bytes, case.url_bytes) {
+        Ok((text, changes)) => Ok(Outcome {
+            verdict: case.change(stamp, &text, deed),
+            drops: Vec::new(case.alloc),
             changes,
-        },
-        Err(outcome) => outcome,
+        }),
+        Err(outcome) => Ok(outcome),
     }
 }
 
-/// Repairs a map, with at most so many bytes for the URLs of its sources.
-pub(crate) fn repair<D: Disk>(
-    alloc: Global,
-    disk: &D,
-    target: &Target,
-    write: bool,
-    url_bytes: usize,
-) -> Outcome {
-    let (stamp, bytes) = match stamped(alloc, disk, target.file.as_str()) {
-        Ok(read) => read,
-        Err(verdict) => return plain(alloc, verdict),
-    };
-    match base_of(alloc, &target.url) {
-        Ok(base) => repaired(
-            alloc,
-            disk,
-            target,
-            (stamp, &bytes),
-            &base,
-            write,
-            url_bytes,
-        ),
-        Err(verdict) => plain(alloc, verdict),
+/// Repairs a map, and rewrites it if that is wanted.
+pub(crate) fn repair<D: Disk>(case: &Case<'_, D>, write: bool) -> Outcome {
+    let deed = if write { Deed::Write } else { Deed::Show };
+    match repaired(case, deed) {
+        Ok(outcome) => outcome,
+        Err(verdict) => plain(case.alloc, verdict),
     }
 }

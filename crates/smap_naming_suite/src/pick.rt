@@ -1,9 +1,9 @@
 //! What no contract says: these calls with ample memory, and rows worked out by hand.
-use crate::asserted::equal;
+use crate::asserted::{equal, holds};
 use smap_link::ChoiceFault;
 use smap_pick::{
-    Found, HeldFile, LinkedFault, MemoryStore, Place, add_folder, below, linked_name, open_named,
-    pick_all, table_of, usual_place,
+    Found, HeldFile, LinkedFault, MemoryStore, Named, NamedFault, Place, add_folder, below,
+    linked_name, named_map, open_named, pick_all, table_of, usual_place,
 };
 use std::alloc::Global;
 use std::test::Fail;
@@ -248,5 +248,35 @@ fn maps_that_leave_the_folder(rt: HostRuntime) -> Result<(), Fail> {
         linked(alloc, "/srv/", "a.js", "http://[").err(),
         Some(LinkedFault::NotUrl),
     );
+    Ok(())
+}
+
+/// Whether this is what a script names by its text.
+fn is_named(alloc: Global, script: &str, wanted: &str) -> Result<bool, Fail> {
+    let named = named_map(alloc, b"http://h/m/", b"lib/a.js", script.as_bytes())?;
+    Ok(match named {
+        Named::Nothing => wanted == "nothing",
+        Named::Inline(bytes) | Named::File(bytes) => wanted == text(&bytes),
+        Named::Wrong(NamedFault::Garbled) => wanted == "garbled",
+        Named::Wrong(NamedFault::NoName) => wanted == "no name",
+        Named::Wrong(NamedFault::NotUrl) => wanted == "no URL",
+        Named::Wrong(NamedFault::Leaves) => wanted == "leaves",
+    })
+}
+
+#[test]
+fn what_scripts_name(rt: HostRuntime) -> Result<(), Fail> {
+    let rows = [
+        ("f()", "nothing"),
+        ("//# sourceMappingURL=data:;base64,e30", "{}"),
+        ("//# sourceMappingURL=../maps/a%20b.map?x", "maps/a b.map"),
+        ("//# sourceMappingURL=data:;base64,e_0-", "garbled"),
+        ("//# sourceMappingURL=", "no name"),
+        ("//# sourceMappingURL=http://[", "no URL"),
+        ("//# sourceMappingURL=../../a.map", "leaves"),
+    ];
+    for row in &rows {
+        holds(&rt, is_named(rt.alloc(), row.0, row.1)?);
+    }
     Ok(())
 }

@@ -1,22 +1,22 @@
 -- What a file gives for a map: itself, or the map that it names where it is a script or a style sheet
 -- (ECMA-426, "Linking generated code to source maps").
-use Rattle.std.specs.Prelude.{◌≡◌, ◌⊎◌, ℕ, ◌-◌, ◌==◌, ◌&&◌, ◌||◌, Bool, true, false, not, nat_eq, nat_lt}
+use Rattle.std.specs.Prelude.{◌≡◌, ◌⊎◌, ℕ, ◌-◌, ◌==◌, ◌&&◌, false, not, nat_eq}
 use Rattle.std.specs.Prelude.{List, [], ◌++◌, codes, cond, drop, length, take, ⊤}
 use Rattle.std.specs.Prelude.{Option, Some, None, option_and_then, option_map, unwrap_or, Result, Ok, Err}
 use Rattle.std.specs.Prelude.{IsErr}
 use Rattle.std.specs.List.{starts_with, suffix_len}
 use Rattle.std.specs.Path.{rsplit_once, slash}
 use Rattle.std.specs.Str.{is_utf8}
-use Rattle.base64.specs.declared.engine.general_purpose.GeneralPurpose.{GeneralPurpose}
 use Rattle.url.specs.Parser.{parse_url}
 use Rattle.url.specs.Parts.{Parts}
-use Rattle.smap_link.specs.Inline.{IsForgiving, inline_map, is_data}
+use Rattle.smap_link.specs.Inline.{is_data}
 use Rattle.smap_link.specs.Kinds.{link_in}
 use Rattle.smap_link.specs.Paths.{bare}
 use Rattle.smap_link.specs.Resolved.{resolved}
 use Rattle.smap_link.specs.Urls.{is_slash}
 use Rattle.smap_link.specs.declared.resolve.LinkFault.{LinkFault}
 use Rattle.smap_pick.specs.Linked.{linked}
+use Rattle.smap_pick.specs.Named.{IsGarbled, IsInline, is_vain}
 use Rattle.smap_pick.specs.Places.{MapPlace}
 use Rattle.smap_record.specs.Faults.{Checked}
 use Rattle.smap_record.specs.Record.{ReadMap, usual}
@@ -78,10 +78,6 @@ IsContent held place (content.Unread why) = IsUnreadBy why
 
 -- ---- what a script names
 
--- Empty, or longer than 65,536 bytes.
-abbrev pub is_vain : List ℕ → Bool
-is_vain url = (length url == 0) || nat_lt 65536 (length url)
-
 abbrev pub unless_vain : List ℕ → Option (List ℕ)
 unless_vain url = cond (not (is_data url) && is_vain url) None (Some url)
 
@@ -90,20 +86,18 @@ unless_vain url = cond (not (is_data url) && is_vain url) None (Some url)
 abbrev pub named_url : List ℕ → List ℕ → Option (List ℕ)
 named_url script text = option_and_then unless_vain (link_in script text)
 
--- The bytes that a `data:` URL holds.
-abbrev pub IsInline : List ℕ → List ℕ → Type 0
-IsInline url bytes = (e : GeneralPurpose) × IsForgiving e × (inline_map e url ≡ Ok (Some bytes))
-
--- It is a `data:` URL that can't be decoded.
-abbrev pub IsBadInline : List ℕ → Type 0
-IsBadInline url = (e : GeneralPurpose) × IsForgiving e × IsErr (inline_map e url)
-
 -- The name of a file below a folder with this path.
 abbrev pub without_slash : List ℕ → List ℕ
 without_slash rest = cond (starts_with nat_eq rest (codes "/")) (drop 1 rest) rest
 
 abbrev pub name_below : List ℕ → List ℕ → List ℕ
 name_below path file = without_slash (cond (starts_with nat_eq file path) (drop (length path) file) file)
+
+-- What stands before the name of each file in a folder with this path, in which this file stands: the root
+-- has the same path as the working directory.
+abbrev pub front : List ℕ → List ℕ → List ℕ
+front path file =
+    cond ((length path == 0) && not (starts_with nat_eq file (codes "/"))) [] (path ++ codes "/")
 
 -- The file with this name in a folder, next to which this one stands.
 abbrev pub beside : List ℕ → List ℕ → List ℕ → List ℕ
@@ -171,7 +165,7 @@ IsUnfound folder script url = IsErr (linked folder.url (name_below folder.path s
 pub record NamesUnfound (folder : Folder) (script text : List ℕ) : Type 0 where
   pub url : List ℕ
   pub named : named_url script text ≡ Some url
-  pub unfound : IsBadInline url ⊎ ((is_data url ≡ false) × IsUnfound folder script url)
+  pub unfound : IsGarbled url ⊎ ((is_data url ≡ false) × IsUnfound folder script url)
 
 abbrev pub url_or : List ℕ → Result (List ℕ) LinkFault → List ℕ
 url_or base (Ok url) = url
@@ -181,15 +175,6 @@ url_or base (Err e) = base
 -- where there is none.
 abbrev pub linked_base : MapPlace → List ℕ → List ℕ
 linked_base place url = url_or place.base (resolved place.script url)
-
--- What was found by a URL that a script names, and that holds no map, for a file of this folder.
-abbrev pub IsFollowedBy : Folder → MapPlace → List ℕ → Followed → Type 0
-IsFollowedBy folder place url (followed.Inline bytes) = ⊥
-IsFollowedBy folder place url (followed.File found) =
-    (is_vain url ≡ false)
-    × (NamesBy folder place.file url found.file.items × (found.base.items ≡ linked_base place url))
-IsFollowedBy folder place url followed.Nothing = is_vain url ≡ true
-IsFollowedBy folder place url (followed.Wrong what) = (is_vain url ≡ false) × IsUnfound folder place.file url
 
 -- What was found of what the text of a script names, in this folder.
 abbrev pub IsFollowed : Folder → MapPlace → List ℕ → Followed → Type 0

@@ -1,3 +1,5 @@
 pub mod Given
 pub mod Opened
 pub mod RootView
+pub mod Target
+pub mod Within

@@ -1,21 +1,18 @@
 //! The map that a script names.
-ghost use Rattle.std.specs.Prelude.{◌≡◌, ◌⊎◌, ◌≤◌, IfErr, IfOk, MatchOption, false, length};
+ghost use Rattle.std.specs.Prelude.{◌≡◌, ◌≤◌, ◌++◌, IfOk, length, string_bytes};
 ghost use Rattle.smap_link.specs.Alike.{own_url as own_url_of};
-ghost use Rattle.smap_link.specs.Inline.{is_data};
 ghost use Rattle.smap_pick.specs.PlaceView.{place_in};
 ghost use Rattle.smap_opening.specs.Given as spec;
-ghost use Rattle.smap_opening.specs.Given.{IsFollowed, IsFollowedBy};
+ghost use Rattle.smap_opening.specs.Given.{IsFollowed};
 ghost use Rattle.smap_opening.specs.RootView.{folder_of};
 
+use crate::target::{Absence, Home, Target, target_of};
 use smap_arguments::Root;
-use smap_disk::{Disk, Kind};
+use smap_disk::Disk;
 use smap_host::{Host, Stop, shown};
-use smap_link::{InlineFault, LinkFault, bare, inline_map, link_in, own_url, resolved};
-use smap_pick::{LinkedFault, Place, below, linked_name};
+use smap_link::{LinkFault, bare, link_in, own_url, resolved};
+use smap_pick::{NamedFault, Place};
 use std::alloc::{AllocError, Global};
-
-/// The longest URL of a file that is looked at, in bytes.
-const LONGEST: usize = 65_536;
 
 /// What a script names for its map.
 #[derive(Drop)]
@@ -76,19 +73,14 @@ fn name_below<'a>(path: &str, file: &'a [u8]) -> &'a [u8]
     }
 }
 
-/// Whether a file stands in a folder or below it once links are followed, and is a file.
-fn stays<D: Disk>(alloc: Global, disk: &D, folder: &str, file: &str) -> bool {
-    if disk.kind(file) != Kind::File {
-        return false;
+/// What stands before the name of each file in a folder with this path, in which this file stands.
+fn front(alloc: Global, folder: &str, file: &[u8]) -> Result<String, AllocError>
+    ensures { IfOk result (λ t. string_bytes t ≡ spec.front folder.now file.now) }
+{
+    if folder.is_empty() && !file.starts_with(b"/") {
+        return Ok(String::new(alloc));
     }
-    let top = if folder.is_empty() { "." } else { folder };
-    let (Ok(top), Ok(real)) = (disk.real_path(alloc, top), disk.real_path(alloc, file)) else {
-        return false;
-    };
-    match real.as_str().strip_prefix(top.as_str()) {
-        Some(rest) => rest.starts_with('/') || top.as_str() == "/",
-        None => false,
-    }
+    format!(in alloc; "{folder}/")
 }
 
 /// What a script names that is wrong, as in a sentence after "it".
@@ -98,36 +90,34 @@ fn wrong(alloc: Global, what: &str, name: &[u8]) -> Result<String, AllocError> {
     format!(in alloc; "{what}: {name}")
 }
 
-/// The file with this name in a folder, next to which this file stands.
-fn beside(alloc: Global, folder: &str, file: &[u8], name: Vec<u8>) -> Result<Vec<u8>, AllocError>
-    ensures { IfOk result (λ found. found.items ≡ spec.beside folder.now file.now name.items) }
-{
-    if folder.is_empty() && !file.starts_with(b"/") {
-        return Ok(name);
+/// The same of a URL of no file.
+fn wrong_url(alloc: Global, why: NamedFault, url: &[u8]) -> Result<String, AllocError> {
+    match why {
+        NamedFault::Garbled => String::from_str(alloc, "names a data: URL that can't be decoded"),
+        NamedFault::NotUrl => wrong(alloc, "names what is no URL", url),
+        NamedFault::NoName | NamedFault::Leaves => {
+            wrong(alloc, "names what is no file of its folder", url)
+        }
     }
-    let mut found = Vec::from_slice(alloc, folder.as_bytes())?;
-    found.push(b'/')?;
-    found.extend_from_slice(&name)?;
-    Ok(found)
 }
 
-/// What is wrong with a file of a folder that a script names, if it can't be had.
-fn wrong_file<D: Disk>(
-    alloc: Global,
-    disk: &D,
-    folder: &str,
-    file: &[u8],
-) -> Result<Option<String>, AllocError> {
-    let Ok(text) = std::str::from_utf8(file) else {
-        return Ok(Some(wrong(alloc, "names a map that can't be read", file)?));
-    };
-    if disk.kind(text) == Kind::Missing {
-        return Ok(Some(wrong(alloc, "names a map that can't be read", file)?));
+/// The same of a file that isn't there, by its path.
+fn wrong_file(alloc: Global, why: Absence, file: &[u8]) -> Result<String, AllocError> {
+    match why {
+        Absence::Missing => wrong(alloc, "names a map that can't be read", file),
+        Absence::NoFile | Absence::Outside => {
+            wrong(alloc, "names what is no file of its folder", file)
+        }
     }
-    if !stays(alloc, disk, folder, text) {
-        return Ok(Some(wrong(alloc, "names what is no file of its folder", file)?));
-    }
-    Ok(None)
+}
+
+/// The path of a file of a folder.
+fn path_of(alloc: Global, front: &str, name: &[u8]) -> Result<Vec<u8>, AllocError>
+    ensures { IfOk result (λ path. path.items ≡ front.now ++ name.now) }
+{
+    let mut path = Vec::from_slice(alloc, front.as_bytes())?;
+    path.extend_from_slice(name)?;
+    Ok(path)
 }
 
 /// The own URL of the map that a script names by this one: that, seen from the script's, or else that of the
@@ -142,54 +132,21 @@ fn linked_base(alloc: Global, script: &Place, url: &[u8]) -> Result<Vec<u8>, All
     }
 }
 
-/// The map in a file that a script names, in a folder with this URL and this path.
-fn follow_file<D: Disk>(
+/// The map in this file, which a script names by this URL.
+fn found_place(
     alloc: Global,
-    disk: &D,
     script: &Place,
-    folder_url: &[u8],
-    folder: &str,
+    file: Vec<u8>,
     url: &[u8],
-) -> Result<Followed, AllocError>
-    ensures { IfOk result (IsFollowedBy (record { url = folder_url.now; path = folder.now })
-        (place_in script.now) url.now) }
+) -> Result<Place, AllocError>
+    ensures { IfOk result (λ found. (found.file.items ≡ file.items)
+        × (found.base.items ≡ spec.linked_base (place_in script.now) url.now)) }
 {
-    if url.is_empty() || url.len() > LONGEST {
-        return Ok(Followed::Nothing);
-    }
-    let name = name_below(folder, &script.file);
-    let found = match linked_name(alloc, folder_url, name, url) {
-        Ok(found) => found,
-        Err(LinkedFault::Memory) => return Err(AllocError),
-        Err(LinkedFault::NotUrl) => return Ok(Followed::Wrong(wrong(
-            alloc,
-            "names what is no URL",
-            url,
-        )?)),
-        Err(LinkedFault::Leaves) => return Ok(Followed::Wrong(wrong(
-            alloc,
-            "names what is no file of its folder",
-            url,
-        )?)),
-    };
-    let file = beside(alloc, folder, &script.file, found)?;
-    if let Some(what) = wrong_file(alloc, disk, folder, &file)? {
-        return Ok(Followed::Wrong(what));
-    }
-    Ok(Followed::File(Place {
+    Ok(Place {
         script: Vec::from_slice(alloc, &script.script)?,
         file,
         base: linked_base(alloc, script, url)?,
-    }))
-}
-
-/// The bytes that a `data:` URL holds, if it is one.
-fn inline_in(alloc: Global, url: &[u8]) -> Result<Option<Vec<u8>>, InlineFault>
-    ensures found { IfOk result (λ found. MatchOption found (is_data url.now ≡ false)
-        (λ bytes. spec.IsInline url.now bytes.items)) }
-    ensures fault { IfErr result (λ e. (e ≡ InlineFault.Memory) ⊎ spec.IsBadInline url.now) }
-{
-    inline_map(alloc, url)
+    })
 }
 
 /// The map that the text of a script names: in a `data:` URL, or as a file of the folder with this URL and
@@ -208,18 +165,26 @@ fn follow_in<E: Eprint + AllocGlobal, D: Disk>(
     let Some(url) = link_in(&script.file, text) else {
         return Ok(Followed::Nothing);
     };
-    match inline_in(alloc, url) {
-        Ok(Some(bytes)) => Ok(Followed::Inline(bytes)),
-        Ok(None) => {
-            let followed = follow_file(alloc, host.disk, script, folder_url, folder, url)?;
-            Ok(followed)
+    let front = front(alloc, folder, &script.file)?;
+    let home = Home {
+        path: front.as_str(),
+        url: folder_url,
+    };
+    let name = name_below(folder, &script.file);
+    let target = target_of(alloc, host.disk, home, name, url)?;
+    match target {
+        Target::Inline(bytes) => Ok(Followed::Inline(bytes)),
+        Target::File(name) => {
+            let file = path_of(alloc, front.as_str(), name.as_bytes())?;
+            Ok(Followed::File(found_place(alloc, script, file, url)?))
         }
-        Err(fault) => match fault {
-            InlineFault::Memory => Err(Stop::Memory),
-            _ => {
-                let text = String::from_str(alloc, "names a data: URL that can't be decoded")?;
-                Ok(Followed::Wrong(text))
-            }
+        Target::Absent(name, why) => {
+            let file = path_of(alloc, front.as_str(), &name)?;
+            Ok(Followed::Wrong(wrong_file(alloc, why, &file)?))
+        }
+        Target::Wrong(why) => match why {
+            NamedFault::NoName => Ok(Followed::Nothing),
+            _ => Ok(Followed::Wrong(wrong_url(alloc, why, url)?)),
         },
     }
 }

@@ -5,22 +5,12 @@ ghost use Rattle.smap_pick.specs.Memory.{names_in};
 ghost use Rattle.smap_pick.specs.Opening.{IsMadeOf};
 ghost use Rattle.smap_pick.specs.PlaceView.{place_in};
 
-use smap_arguments::{LIMIT, may_name_map};
-use smap_disk::{Disk, FileFault, Kind, read_file};
+use smap_arguments::may_name_map;
+use smap_disk::{Disk, FileFault, Kind, LIMIT, read_file};
 use smap_pick::{OpenFault, Place, Store};
+use smap_ranges::{Start, start_of};
 use smap_record::{Base, BaseFault, Fault, Limits, ReadError, SourceMap};
 use std::alloc::{AllocError, Global};
-
-/// What a file shows at its beginning that is no map.
-#[derive(Clone, Copy, Debug, PartialEq, Eq)]
-pub enum Start {
-    /// A byte order mark.
-    Mark,
-    /// That it is compressed by gzip.
-    Gzip,
-    /// Anything else.
-    Other,
-}
 
 /// Why a file gives no map.
 #[derive(Debug, Drop)]
@@ -59,16 +49,6 @@ pub enum Content {
     Script(Vec<u8>),
     /// It can't be read.
     Unread(MapFault),
-}
-
-fn start_of(bytes: &[u8]) -> Start {
-    if bytes.starts_with(b"\xef\xbb\xbf") {
-        Start::Mark
-    } else if bytes.starts_with(b"\x1f\x8b") {
-        Start::Gzip
-    } else {
-        Start::Other
-    }
 }
 
 /// The map that these bytes are, the URLs of whose sources may take so many bytes, or what is wrong with

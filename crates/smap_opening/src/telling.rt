@@ -1,13 +1,14 @@
 //! What is said of a map: why it is refused, where it is from.
 ghost use Rattle.std.specs.Prelude.{◌<◌, IfOk};
 
-use crate::loading::{MapFault, Start};
+use crate::loading::MapFault;
 use crate::opening::{How, Subject};
 use smap_disk::Disk;
 use smap_host::{Host, Stop, shown};
 use smap_link::{FileKind, file_kind};
 use smap_pick::Place;
-use smap_record::Kind;
+use smap_ranges::{Start, hint};
+use smap_record::{Fault, Kind};
 use std::alloc::{AllocError, Global};
 
 /// Says something of a map: its file, its script, and what.
@@ -25,19 +26,15 @@ pub(crate) fn say_of<E: Eprint + AllocGlobal, D: Disk>(
     Ok(())
 }
 
-/// What may help with a map that isn't accepted.
-fn hint(fault: &smap_record::Fault, start: Start, file: &[u8]) -> &'static str {
-    if fault.kind != Kind::Json {
-        return "";
+/// What may help with a map that isn't accepted, by what it shows at its beginning or else by its name.
+fn hint_for(fault: &Fault, start: Start, file: &[u8]) -> &'static str {
+    if fault.kind != Kind::Json || start != Start::Other {
+        return hint(fault, start);
     }
-    match start {
-        Start::Mark => " (it begins with a byte order mark: remove that)",
-        Start::Gzip => " (it is compressed: gunzip it)",
-        Start::Other => match file_kind(file) {
-            FileKind::Script => " (it is a script, which names no map)",
-            FileKind::StyleSheet => " (it is a style sheet, which names no map)",
-            FileKind::Map | FileKind::Other => "",
-        },
+    match file_kind(file) {
+        FileKind::Script => " (it is a script, which names no map)",
+        FileKind::StyleSheet => " (it is a style sheet, which names no map)",
+        FileKind::Map | FileKind::Other => "",
     }
 }
 
@@ -73,7 +70,7 @@ fn words_of(alloc: Global, place: &Place, fault: &MapFault) -> Result<(String, u
             Ok((format!(in alloc; "it {what}")?, 1))
         }
         MapFault::Refused(fault, start) => {
-            let hint = hint(fault, *start, &place.file);
+            let hint = hint_for(fault, *start, &place.file);
             Ok((format!(in alloc; "{fault}{hint}")?, 1))
         }
         MapFault::UrlBytes(most) => {

@@ -4,3 +4,4 @@ pub mod Memory
 pub mod Opening
 pub mod Places
 pub mod PlaceView
+pub mod Named

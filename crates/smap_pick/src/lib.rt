@@ -6,6 +6,7 @@
 
 mod linked;
 mod memory;
+mod named;
 mod opening;
 mod picks;
 mod places;
@@ -13,6 +14,7 @@ mod table;
 
 pub use linked::{LinkedFault, linked_name};
 pub use memory::{HeldFile, MemoryStore, NoFile};
+pub use named::{Named, NamedFault, named_by, named_map};
 pub use opening::{Failure, OpenFault, Opened, Store, open_named, open_picks};
 pub use picks::{Found, Pick, pick_all};
 pub use places::{Place, add_folder, below, usual_place};

@@ -64,74 +64,81 @@ fn spells(alloc: Global, bytes: &[u8], wanted: &[u8]) -> Result<bool, AllocError
     Ok(read.as_bytes() == wanted)
 }
 
-/// Where the segment may be, in a text whose bytes within a range are the mappings string with its quotes.
-fn candidate(text: &[u8], within: TextRange, span: TextRange) -> Option<TextRange>
-    requires { IsRangeOf (length text.now) within }
-    ensures { IfSome result (λ r.
-        (within.start < r.start) × (r.start ≤ r.end) × (r.end < within.end)) }
-{
-    if within.end - within.start < 2 {
-        return None;
-    }
-    let first = within.start + 1;
-    let spelled = &text[first..within.end - 1];
-    let start = spelled_len(spelled, span.start)?;
-    let end = spelled_len(spelled, span.end)?;
-    if start > end {
-        return None;
-    }
-    Some(TextRange {
-        start: first + start,
-        end: first + end,
-    })
+/// A segment that is looked for, in a text that has a string of mappings with its quotes in a range.
+#[derive(Clone, Copy)]
+struct Sought<'a> {
+    text: &'a [u8],
+    within: TextRange,
+    mappings: &'a [u8],
+    place: SegmentPlace,
 }
 
-/// The range, if the segment with this place is written there, within that of the mappings string.
-fn if_written(
-    alloc: Global,
-    text: &[u8],
-    mappings: &[u8],
-    within: TextRange,
-    place: SegmentPlace,
-    span: TextRange,
-    range: TextRange,
-) -> Result<Option<TextRange>, AllocError>
-    requires outer { IsRangeOf (length text.now) within }
-    requires span { IsRangeOf (length mappings.now) span }
-    requires inner { (within.start < range.start) × (range.start ≤ range.end) × (range.end < within.end) }
-    ensures { IfOk result (λ o. IfSome o (IsSegmentIn text.now mappings.now within place)) }
-{
-    let before = &mappings[..span.start];
-    let segment = &mappings[span.start..span.end];
-    let after = &mappings[span.end..];
-    if is_segment(place, before, segment, after)
-        && spells(alloc, &text[within.start + 1..range.start], before)?
-        && spells(alloc, &text[range.start..range.end], segment)?
+impl Sought<'_> {
+    /// Where it may be, if its span of the mappings is this.
+    fn candidate(&self, span: TextRange) -> Option<TextRange>
+        requires { IsRangeOf (length self.now.text.now) self.now.within }
+        ensures { IfSome result (λ r. (self.now.within.start < r.start)
+            × (r.start ≤ r.end) × (r.end < self.now.within.end)) }
     {
-        Ok(Some(range))
-    } else {
-        Ok(None)
+        let within = self.within;
+        if within.end - within.start < 2 {
+            return None;
+        }
+        let first = within.start + 1;
+        let spelled = &self.text[first..within.end - 1];
+        let start = spelled_len(spelled, span.start)?;
+        let end = spelled_len(spelled, span.end)?;
+        if start > end {
+            return None;
+        }
+        Some(TextRange {
+            start: first + start,
+            end: first + end,
+        })
     }
-}
 
-/// The range of the segment with this place, in a text with the mappings string within a range.
-fn segment_in(
-    alloc: Global,
-    text: &[u8],
-    mappings: &[u8],
-    within: TextRange,
-    place: SegmentPlace,
-) -> Result<Option<TextRange>, AllocError>
-    requires { IsRangeOf (length text.now) within }
-    ensures { IfOk result (λ o. IfSome o (IsSegmentIn text.now mappings.now within place)) }
-{
-    let Some(span) = span_of(mappings, place) else {
-        return Ok(None);
-    };
-    let Some(range) = candidate(text, within, span) else {
-        return Ok(None);
-    };
-    if_written(alloc, text, mappings, within, place, span, range)
+    /// The range, if this span of the mappings is the segment and is written there.
+    fn if_written(
+        &self,
+        alloc: Global,
+        span: TextRange,
+        range: TextRange,
+    ) -> Result<Option<TextRange>, AllocError>
+        requires outer { IsRangeOf (length self.now.text.now) self.now.within }
+        requires span { IsRangeOf (length self.now.mappings.now) span }
+        requires inner { (self.now.within.start < range.start)
+            × (range.start ≤ range.end) × (range.end < self.now.within.end) }
+        ensures { IfOk result (λ o. IfSome o
+            (IsSegmentIn self.now.text.now self.now.mappings.now self.now.within self.now.place)) }
+    {
+        let (text, mappings) = (self.text, self.mappings);
+        let before = &mappings[..span.start];
+        let segment = &mappings[span.start..span.end];
+        let after = &mappings[span.end..];
+        if is_segment(self.place, before, segment, after)
+            && spells(alloc, &text[self.within.start + 1..range.start], before)?
+            && spells(alloc, &text[range.start..range.end], segment)?
+        {
+            Ok(Some(range))
+        } else {
+            Ok(None)
+        }
+    }
+
+    /// Its range.
+    fn range(&self, alloc: Global) -> Result<Option<TextRange>, AllocError>
+        requires { IsRangeOf (length self.now.text.now) self.now.within }
+        ensures { IfOk result (λ o. IfSome o
+            (IsSegmentIn self.now.text.now self.now.mappings.now self.now.within self.now.place)) }
+    {
+        let Some(span) = span_of(self.mappings, self.place) else {
+            return Ok(None);
+        };
+        let Some(range) = self.candidate(span) else {
+            return Ok(None);
+        };
+        self.if_written(alloc, span, range)
+    }
 }
 
 /// Where in a JSON text the segment with this place is written, of the mappings string at the path. The range
@@ -158,5 +165,11 @@ pub fn segment_range(
     let Some(Value::String(mappings)) = value_at(tree, path) else {
         return Ok(None);
     };
-    segment_in(alloc, text, mappings.as_bytes(), within, place)
+    let sought = Sought {
+        text,
+        within,
+        mappings: mappings.as_bytes(),
+        place,
+    };
+    sought.range(alloc)
 }

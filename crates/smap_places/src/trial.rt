@@ -31,12 +31,18 @@ pub(crate) fn value_of(alloc: Global, text: &[u8]) -> Result<Option<Value>, Allo
     }
 }
 
-/// Whether two values are the same, by what they are written as.
+/// Whether two values are the same: strings by their bytes, others by what they are written as.
 fn are_same(alloc: Global, one: &Value, other: &Value) -> Result<bool, AllocError>
     requires one { depth (view one.now) ≤ max_depth }
     requires other { depth (view other.now) ≤ max_depth }
     ensures { IfOk result (λ same. OnTrue same (view one.now ≡ view other.now)) }
 {
+    if let Value::String(one) = one {
+        return match other {
+            Value::String(other) => Ok(one.as_bytes() == other.as_bytes()),
+            _ => Ok(false),
+        };
+    }
     let text = one.to_vec(alloc)?;
     let other_text = other.to_vec(alloc)?;
     Ok(text.as_slice() == other_text.as_slice())

@@ -1,7 +1,7 @@
 //! Runs over files in memory: what is written, with which status, and what is left on the disk.
 use crate::asserted::{equal, holds};
 use smap_memory_disk::MemoryDisk;
-use smap_tracer::{Input, InputKind, run};
+use smap_tracer::{Input, InputKind, Output, run};
 use std::io::ErrorKind;
 use std::test::Fail;
 
@@ -36,7 +36,7 @@ fn traced(
         reader: log,
         kind: InputKind::Other,
     };
-    let status = run(rt, disk, words, input, &mut out);
+    let status = run(rt, disk, words, input, &mut Output::new(&mut out));
     Ok((status, out))
 }
 

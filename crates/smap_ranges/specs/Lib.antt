@@ -1,2 +1,3 @@
 pub mod Faults
 pub mod FaultRanges
+pub mod Starts

@@ -9,10 +9,10 @@ ghost use Rattle.smap_ranges.specs.FaultRanges.{IsPlaced, IsJsonRange, IsFaultRa
 
 use crate::fault_path::fault_path;
 use crate::json_error::error_range;
-use crate::json_start::json_start;
 use serde_json::Value;
 use smap_places::{TextRange, segment_range, there, value_range};
 use smap_record::Fault;
+use smap_shape::json_start;
 use std::alloc::{AllocError, Global};
 
 /// The range of a fault in a JSON text that has this tree.

@@ -1,14 +1,12 @@
 -- What a map says, or its first fault (ECMA-426, "Decoding source maps").
-use Rattle.std.specs.Prelude.{ℕ, ◌+◌, nat_eq, ◌==◌, List, drop, position, codes, Option, Some, None}
-use Rattle.std.specs.Prelude.{option_map}
-use Rattle.std.specs.Prelude.{if◌then◌else◌}
-use Rattle.std.specs.List.{starts_with}
+use Rattle.std.specs.Prelude.{ℕ, List, Option, None, if◌then◌else◌}
 use Rattle.std.specs.Str.{is_utf8}
 use Rattle.url.specs.Parts.{Parts}
 use Rattle.serde_json.specs.Data.{Data}
 use Rattle.serde_json.specs.Read.{read}
 use Rattle.smap_shape.specs.Members.{MapMembers, flat, index}
 use Rattle.smap_shape.specs.Reading.{shape_of}
+pub use Rattle.smap_shape.specs.Text.{json_text}
 use Rattle.smap_record.specs.declared.fault.Kind.TheVariants.{Prefix, Json}
 use Rattle.smap_record.specs.Record.{ReadMap, Allowed}
 use Rattle.smap_record.specs.Faults.{Checked, ◌>>=◌, or_fault, of_shape}
@@ -19,16 +17,6 @@ use Rattle.smap_record.specs.Sections.{index_map}
 abbrev pub map_of : Parts → Allowed → MapMembers Data → Checked ReadMap
 map_of base limits (flat m) = flat_map base limits m
 map_of base limits (index i) = index_map base limits i
-
--- what is after the first line feed
-abbrev pub second_line_on : List ℕ → Option (List ℕ)
-second_line_on bytes = option_map (λ i. drop (i + 1) bytes) (position (λ b. b == 10) bytes)
-
--- The JSON text: what is after the first line feed if the input begins with the four bytes `)]}'` (ECMA-426
--- allows such a line in a response; that a missing line feed is refused is this project's own rule), and
--- else the input.
-abbrev pub json_text : List ℕ → Option (List ℕ)
-json_text bytes = if starts_with nat_eq bytes (codes ")]}'") then second_line_on bytes else Some bytes
 
 -- The tree of a JSON text (RFC 8259) in UTF-8.
 abbrev pub tree_of : List ℕ → Option Data

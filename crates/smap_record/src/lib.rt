@@ -35,5 +35,6 @@ pub use limits::Limits;
 pub use map::SourceMap;
 pub use path::Path;
 pub use source_urls::Base;
+pub use text::map_tree;
 pub use view::{LabelView, OriginalView, SourceView, TokenView};
 pub use written::WrittenSources;

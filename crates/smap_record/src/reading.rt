@@ -19,7 +19,7 @@ use crate::limits::Limits;
 use crate::map::SourceMap;
 use crate::sections::index_map;
 use crate::source_urls::Base;
-use crate::text::map_tree_of;
+use crate::text::map_tree;
 use serde_json::Value;
 use smap_shape::{Shape, shape, split_contents};
 use std::alloc::Global;
@@ -91,7 +91,7 @@ impl SourceMap {
         ensures fits { IfOk result (λ m. Fits base.now limits (record_of m)) }
         ensures listing_fits { IfOk result (λ m. ListingFits base.now limits m.listing) }
     {
-        let tree = map_tree_of(alloc, bytes)?;
+        let tree = map_tree(alloc, bytes)?;
         tree_map_of(alloc, tree, base, limits)
     }
 
@@ -113,7 +113,7 @@ impl SourceMap {
         ensures fits { IfOk result (λ m. Fits base.now limits (record_of m)) }
         ensures listing_fits { IfOk result (λ m. ListingFits base.now limits m.listing) }
     {
-        let tree = map_tree_of(alloc, bytes.as_slice())?;
+        let tree = map_tree(alloc, bytes.as_slice())?;
         drop(bytes);
         tree_map_of(alloc, tree, base, limits)
     }

@@ -12,7 +12,7 @@ use crate::limits::Limits;
 use crate::map::SourceMap;
 use crate::reading::split_map_of;
 use crate::source_urls::Base;
-use crate::text::map_tree_of;
+use crate::text::map_tree;
 use crate::written::{WrittenSources, written_sources};
 use serde_json::Value;
 use smap_shape::split_contents;
@@ -61,7 +61,7 @@ impl SourceMap {
         ensures urls { IfOk result (λ r.
             map (λ e. e.url) r.0.listing.sources ≡ map (url_of base.now) r.1) }
     {
-        let tree = map_tree_of(alloc, bytes)?;
+        let tree = map_tree(alloc, bytes)?;
         tree_map_of(alloc, tree, base, limits)
     }
 
@@ -86,7 +86,7 @@ impl SourceMap {
         ensures urls { IfOk result (λ r.
             map (λ e. e.url) r.0.listing.sources ≡ map (url_of base.now) r.1) }
     {
-        let tree = map_tree_of(alloc, bytes.as_slice())?;
+        let tree = map_tree(alloc, bytes.as_slice())?;
         drop(bytes);
         tree_map_of(alloc, tree, base, limits)
     }

@@ -15,7 +15,7 @@ use crate::limits::Limits;
 use crate::map::SourceMap;
 use crate::reading::split_map_of;
 use crate::source_urls::Base;
-use crate::text::map_tree_of;
+use crate::text::map_tree;
 use crate::url_bytes::are_within;
 use crate::written::{WrittenSources, written_sources};
 use serde_json::Value;
@@ -81,7 +81,7 @@ impl SourceMap {
         ensures urls { IfOk result (λ o. IfSome o (λ r.
             map (λ e. e.url) r.0.listing.sources ≡ map (url_of base.now) r.1)) }
     {
-        let tree = map_tree_of(alloc, bytes)?;
+        let tree = map_tree(alloc, bytes)?;
         tree_map_within(alloc, tree, base, limits, url_bytes)
     }
 }

@@ -1,7 +1,6 @@
 -- What becomes of a text that is repaired.
 use Rattle.std.specs.Prelude.{◌≡◌, ℕ, List, Option, Some, None, IfSome, Ok, Err, IsErr}
 use Rattle.url.specs.Parts.{Parts}
-use Rattle.smap_record.specs.declared.fault.Fault.{Fault}
 use Rattle.smap_record.specs.Faults.{Checked}
 use Rattle.smap_record.specs.Record.{Allowed, ReadMap}
 use Rattle.smap_record.specs.UrlBytes.{reading_within}

@@ -15,159 +15,123 @@ use url::{ParseError, Url};
 /// refused.
 const MOST_REPAIRS: usize = 65_536;
 
-/// Adds the repair by which what is at this place becomes another text, unless there are too many.
-pub(crate) fn add_edit(
-    alloc: Global,
-    text: &[u8],
-    section: &[usize],
-    change: Change,
-    place: Place,
-    after: &str,
-    edits: &mut Vec<Edit>,
-) -> Result<(), AllocError> {
-    if edits.len() >= MOST_REPAIRS {
-        return Ok(());
+/// What is to be repaired of a text, as far as that was looked for.
+#[derive(Drop)]
+pub(crate) struct Findings<'t> {
+    pub(crate) alloc: Global,
+    pub(crate) text: &'t [u8],
+    edits: Vec<Edit>,
+}
+
+impl<'t> Findings<'t> {
+    fn new(alloc: Global, text: &'t [u8]) -> Findings<'t> {
+        Findings {
+            alloc,
+            text,
+            edits: Vec::new(alloc),
+        }
     }
-    let Some(section) = Path::new(section) else {
-        return Ok(());
-    };
-    let Some(before) = place.copied(alloc, text)? else {
-        return Ok(());
-    };
-    let after = String::from_str(alloc, after)?;
-    let edit = Edit {
-        start: place.start,
-        change,
-        section,
-        before,
-        after,
-    };
-    match edits.push(edit) {
-        Ok(()) => Ok(()),
-        Err(_) => Err(AllocError),
+
+    /// Adds the repair by which what is at this place becomes another text, unless there are too many.
+    pub(crate) fn add(
+        &mut self,
+        section: &[usize],
+        change: Change,
+        place: Place,
+        after: &str,
+    ) -> Result<(), AllocError> {
+        if self.edits.len() >= MOST_REPAIRS {
+            return Ok(());
+        }
+        let Some(section) = Path::new(section) else {
+            return Ok(());
+        };
+        let Some(before) = place.copied(self.alloc, self.text)? else {
+            return Ok(());
+        };
+        let after = String::from_str(self.alloc, after)?;
+        let edit = Edit {
+            start: place.start,
+            change,
+            section,
+            before,
+            after,
+        };
+        match self.edits.push(edit) {
+            Ok(()) => Ok(()),
+            Err(_) => Err(AllocError),
+        }
+    }
+
+    fn add_version(&mut self, map: &MapText) -> Result<(), AllocError> {
+        match map.member(self.alloc, self.text, "version")? {
+            Some(version) if is_odd_three(version.bytes(self.text)) => {
+                self.add(&map.section, Change::Version, version, "3")
+            }
+            _ => Ok(()),
+        }
+    }
+
+    /// Whether a map lists nothing under this key.
+    fn is_empty(&self, map: &MapText, key: &str) -> Result<bool, AllocError> {
+        let Some(list) = map.member(self.alloc, self.text, key)? else {
+            return Ok(true);
+        };
+        Ok(
+            list.bytes(self.text).starts_with(b"[")
+                && parts(self.alloc, self.text, list)?.is_empty(),
+        )
+    }
+
+    /// Adds empty mappings to a flat map that has none, if it lists no sources and no names.
+    fn add_mappings(&mut self, map: &MapText) -> Result<(), AllocError> {
+        let value = map.value(self.alloc, self.text, "mappings")?;
+        if map.member(self.alloc, self.text, "mappings")?.is_some()
+            || map.members.is_empty()
+            || !self.is_empty(map, "sources")?
+            || !self.is_empty(map, "names")?
+        {
+            return Ok(());
+        }
+        let start = map.start.saturating_add(1);
+        let (place, after) = match value {
+            Some(null) => (null, "\"\""),
+            None => (Place { start, end: start }, EMPTY_MAPPINGS),
+        };
+        self.add(&map.section, Change::Mappings, place, after)
+    }
+
+    /// Takes empty mappings out of an index map.
+    fn add_mappings_beside(&mut self, map: &MapText) -> Result<(), AllocError> {
+        match map.member(self.alloc, self.text, "mappings")? {
+            Some(mappings) if mappings.bytes(self.text) == b"\"\"".as_slice() => {
+                self.add(&map.section, Change::MappingsBeside, mappings, "null")
+            }
+            _ => Ok(()),
+        }
+    }
+
+    fn add_map(&mut self, base: &Url, map: &MapText) -> Result<(), AllocError> {
+        self.add_version(map)?;
+        if map.member(self.alloc, self.text, "sections")?.is_some() {
+            return self.add_mappings_beside(map);
+        }
+        self.add_mappings(map)?;
+        add_sources(self, base, map)
     }
 }
 
 /// Escapes of half a surrogate pair, which keep a text from being JSON.
 pub(crate) fn edits_of_halves(alloc: Global, text: &[u8]) -> Result<Vec<Edit>, AllocError> {
-    let mut edits = Vec::new(alloc);
+    let mut findings = Findings::new(alloc, text);
     for start in lone_halves(alloc, text)? {
         let place = Place {
             start,
             end: start.saturating_add(6),
         };
-        add_edit(
-            alloc,
-            text,
-            &[],
-            Change::HalfSurrogate,
-            place,
-            "\\ufffd",
-            &mut edits,
-        )?;
+        findings.add(&[], Change::HalfSurrogate, place, "\\ufffd")?;
     }
-    Ok(edits)
-}
-
-fn add_version(
-    alloc: Global,
-    text: &[u8],
-    map: &MapText,
-    edits: &mut Vec<Edit>,
-) -> Result<(), AllocError> {
-    let Some(version) = map.member(alloc, text, "version")? else {
-        return Ok(());
-    };
-    if !is_odd_three(version.bytes(text)) {
-        return Ok(());
-    }
-    add_edit(
-        alloc,
-        text,
-        &map.section,
-        Change::Version,
-        version,
-        "3",
-        edits,
-    )
-}
-
-/// Whether a map lists nothing under this key.
-fn is_empty(alloc: Global, text: &[u8], map: &MapText, key: &str) -> Result<bool, AllocError> {
-    let Some(list) = map.member(alloc, text, key)? else {
-        return Ok(true);
-    };
-    Ok(list.bytes(text).starts_with(b"[") && parts(alloc, text, list)?.is_empty())
-}
-
-/// Adds empty mappings to a flat map that has none, if it lists no sources and no names.
-fn add_mappings(
-    alloc: Global,
-    text: &[u8],
-    map: &MapText,
-    edits: &mut Vec<Edit>,
-) -> Result<(), AllocError> {
-    let value = map.value(alloc, text, "mappings")?;
-    if map.member(alloc, text, "mappings")?.is_some()
-        || map.members.is_empty()
-        || !is_empty(alloc, text, map, "sources")?
-        || !is_empty(alloc, text, map, "names")?
-    {
-        return Ok(());
-    }
-    let start = map.start.saturating_add(1);
-    let (place, after) = match value {
-        Some(null) => (null, "\"\""),
-        None => (Place { start, end: start }, EMPTY_MAPPINGS),
-    };
-    add_edit(
-        alloc,
-        text,
-        &map.section,
-        Change::Mappings,
-        place,
-        after,
-        edits,
-    )
-}
-
-/// Takes empty mappings out of an index map.
-fn add_mappings_beside(
-    alloc: Global,
-    text: &[u8],
-    map: &MapText,
-    edits: &mut Vec<Edit>,
-) -> Result<(), AllocError> {
-    let Some(mappings) = map.member(alloc, text, "mappings")? else {
-        return Ok(());
-    };
-    if mappings.bytes(text) != b"\"\"".as_slice() {
-        return Ok(());
-    }
-    add_edit(
-        alloc,
-        text,
-        &map.section,
-        Change::MappingsBeside,
-        mappings,
-        "null",
-        edits,
-    )
-}
-
-fn add_map(
-    alloc: Global,
-    text: &[u8],
-    base: &Url,
-    map: &MapText,
-    edits: &mut Vec<Edit>,
-) -> Result<(), AllocError> {
-    add_version(alloc, text, map, edits)?;
-    if map.member(alloc, text, "sections")?.is_some() {
-        return add_mappings_beside(alloc, text, map, edits);
-    }
-    add_mappings(alloc, text, map, edits)?;
-    add_sources(alloc, text, base, map, edits)
+    Ok(findings.edits)
 }
 
 /// The base as a URL.
@@ -185,13 +149,14 @@ pub(crate) fn edits_of_maps(
     text: &[u8],
     base: &Base,
 ) -> Result<Vec<Edit>, AllocError> {
-    let mut edits = Vec::new(alloc);
     let Some(base) = url_of(alloc, base)? else {
-        return Ok(edits);
+        return Ok(Vec::new(alloc));
     };
+    let mut findings = Findings::new(alloc, text);
     for map in maps_of(alloc, text)? {
-        add_map(alloc, text, &base, &map, &mut edits)?;
+        findings.add_map(&base, &map)?;
     }
+    let mut edits = findings.edits;
     edits.sort_by_key(|edit| edit.start)?;
     Ok(edits)
 }

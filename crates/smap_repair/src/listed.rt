@@ -1,10 +1,11 @@
 //! The closed list of repairs: what may become what.
-ghost use Rattle.std.specs.Prelude.{◌≡◌, ◌==◌, IfOk};
+ghost use Rattle.std.specs.Prelude.{◌≡◌, ◌==◌, IfOk, string_bytes};
 ghost use Rattle.std.specs.List.{list_all};
 ghost use Rattle.smap_repair.specs.Listed as spec;
 
 use crate::decoding::is_respelled;
 use crate::halves::is_alone;
+use crate::mending::Edit;
 use crate::repair::Change;
 use std::alloc::{AllocError, Global};
 
@@ -39,20 +40,19 @@ fn adds_mappings(ahead: &[u8], before: &[u8], after: &[u8]) -> bool
         || (before == b"null".as_slice() && after == b"\"\"".as_slice())
 }
 
-/// Whether such a change may replace one text by another, between what is ahead of it and what is behind.
+/// Whether the list has a repair, between what is ahead of what it replaces and what is behind.
 pub(crate) fn is_listed(
     alloc: Global,
-    change: Change,
+    edit: &Edit,
     ahead: &[u8],
-    before: &str,
-    after: &str,
     behind: &[u8],
 ) -> Result<bool, AllocError>
-    ensures { IfOk result (λ listed. listed
-        ≡ spec.is_listed change ahead.now before.now after.now behind.now) }
+    ensures { IfOk result (λ listed. listed ≡ spec.is_listed edit.now.change ahead.now
+        (string_bytes edit.now.before) (string_bytes edit.now.after) behind.now) }
 {
+    let (before, after) = (edit.before.as_str(), edit.after.as_str());
     let (old, new) = (before.as_bytes(), after.as_bytes());
-    match change {
+    match edit.change {
         Change::ByteOrderMark => {
             Ok(ahead.is_empty() && old == b"\xef\xbb\xbf".as_slice() && new.is_empty())
         }

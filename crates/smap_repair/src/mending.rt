@@ -69,6 +69,12 @@ impl<'t> Mending<'t> {
             left,
             mut repairs,
         } = self;
+        let Some(behind) = left.strip_prefix(edit.before.as_bytes()) else {
+            return Ok(None);
+        };
+        if !is_listed(alloc, &edit, &done, behind)? {
+            return Ok(None);
+        }
         let Edit {
             change,
             section,
@@ -76,19 +82,6 @@ impl<'t> Mending<'t> {
             after,
             ..
         } = edit;
-        let Some(behind) = left.strip_prefix(before.as_bytes()) else {
-            return Ok(None);
-        };
-        if !is_listed(
-            alloc,
-            change,
-            &done,
-            before.as_str(),
-            after.as_str(),
-            behind,
-        )? {
-            return Ok(None);
-        }
         let start = done.len();
         done.extend_from_slice(after.as_bytes())?;
         repairs.push(Repair {

@@ -44,38 +44,14 @@ enum State {
     Faulty(Fault),
 }
 
-/// The map that a text is; none where the URLs of its sources take more bytes.
-fn map_of(
+/// How a text is read, before it is repaired and after.
+#[derive(Drop)]
+struct Reading<'a> {
     alloc: Global,
-    text: &[u8],
-    base: &Base,
+    base: &'a Base,
     limits: Limits,
+    /// How many bytes the URLs of its sources may take.
     url_bytes: usize,
-) -> Result<Option<SourceMap>, ReadError>
-    ensures { Returns (λ o. o) result (reading_within base.now limits url_bytes text.now) }
-{
-    match SourceMap::from_slice_within(alloc, text, base, limits, url_bytes)? {
-        Some((map, _)) => Ok(Some(map)),
-        None => Ok(None),
-    }
-}
-
-/// What a text is, with at most so many bytes for the URLs of its sources.
-fn state_of(
-    alloc: Global,
-    text: &[u8],
-    base: &Base,
-    limits: Limits,
-    url_bytes: usize,
-) -> Result<State, AllocError>
-    ensures { IfOk result (IsState (reading_within base.now limits url_bytes text.now)) }
-{
-    match map_of(alloc, text, base, limits, url_bytes) {
-        Ok(Some(_)) => Ok(State::Sound),
-        Ok(None) => Ok(State::LongUrls),
-        Err(ReadError::Refused(fault)) => Ok(State::Faulty(fault)),
-        Err(ReadError::Memory) => Err(AllocError),
-    }
 }
 
 /// A text, with escapes of half a surrogate pair repaired as well.
@@ -115,28 +91,50 @@ fn further_mended(alloc: Global, mended: Mended, base: &Base) -> Result<Option<M
     }
 }
 
-/// What becomes of a text with this first fault that is repaired so far.
-fn repaired_further(
-    alloc: Global,
-    fault: Fault,
-    mended: Mended,
-    base: &Base,
-    limits: Limits,
-    url_bytes: usize,
-) -> Result<Repaired, AllocError>
-    ensures { IfOk result (λ a. (old : List ℕ) → reading_within base.now limits url_bytes old ≡ Err fault
-        → Leads mended.repairs.items old mended.text.items → IsRepaired base.now limits url_bytes old a) }
-{
-    let Some(Mended { text, repairs }) = further_mended(alloc, mended, base)? else {
-        return Ok(Repaired::Refused { fault, left: None });
-    };
-    match state_of(alloc, &text, base, limits, url_bytes)? {
-        State::Sound => Ok(Repaired::Mended { text, repairs }),
-        State::LongUrls => Ok(Repaired::LongUrls),
-        State::Faulty(left) => Ok(Repaired::Refused {
-            fault,
-            left: Some(left),
-        }),
+impl Reading<'_> {
+    /// The map that a text is; none where the URLs of its sources take more bytes.
+    fn map_of(&self, text: &[u8]) -> Result<Option<SourceMap>, ReadError>
+        ensures { Returns (λ o. o) result
+            (reading_within self.now.base.now self.now.limits self.now.url_bytes text.now) }
+    {
+        let (alloc, base, limits) = (self.alloc, self.base, self.limits);
+        match SourceMap::from_slice_within(alloc, text, base, limits, self.url_bytes)? {
+            Some((map, _)) => Ok(Some(map)),
+            None => Ok(None),
+        }
+    }
+
+    /// What a text is.
+    fn state_of(&self, text: &[u8]) -> Result<State, AllocError>
+        ensures { IfOk result
+            (IsState (reading_within self.now.base.now self.now.limits self.now.url_bytes text.now)) }
+    {
+        match self.map_of(text) {
+            Ok(Some(_)) => Ok(State::Sound),
+            Ok(None) => Ok(State::LongUrls),
+            Err(ReadError::Refused(fault)) => Ok(State::Faulty(fault)),
+            Err(ReadError::Memory) => Err(AllocError),
+        }
+    }
+
+    /// What becomes of a text with this first fault that is repaired so far.
+    fn repaired_further(&self, fault: Fault, mended: Mended) -> Result<Repaired, AllocError>
+        ensures { IfOk result (λ a. (old : List ℕ)
+            → reading_within self.now.base.now self.now.limits self.now.url_bytes old ≡ Err fault
+            → Leads mended.repairs.items old mended.text.items
+            → IsRepaired self.now.base.now self.now.limits self.now.url_bytes old a) }
+    {
+        let Some(Mended { text, repairs }) = further_mended(self.alloc, mended, self.base)? else {
+            return Ok(Repaired::Refused { fault, left: None });
+        };
+        match self.state_of(&text)? {
+            State::Sound => Ok(Repaired::Mended { text, repairs }),
+            State::LongUrls => Ok(Repaired::LongUrls),
+            State::Faulty(left) => Ok(Repaired::Refused {
+                fault,
+                left: Some(left),
+            }),
+        }
     }
 }
 
@@ -162,21 +160,27 @@ pub fn repair_text(
     ensures answer { IfOk result (IsRepaired base.now limits url_bytes text.now) }
     ensures mark { IfOk result (λ a. IsMarkedOnly base.now limits url_bytes text.now → LosesMark text.now a) }
 {
-    let fault = match state_of(alloc, text, base, limits, url_bytes)? {
+    let reading = Reading {
+        alloc,
+        base,
+        limits,
+        url_bytes,
+    };
+    let fault = match reading.state_of(text)? {
         State::Sound => return Ok(Repaired::Sound),
         State::LongUrls => return Ok(Repaired::LongUrls),
         State::Faulty(fault) => fault,
     };
     let mended = without_mark(alloc, text)?;
     if mended.repairs.is_empty() {
-        return repaired_further(alloc, fault, mended, base, limits, url_bytes);
+        return reading.repaired_further(fault, mended);
     }
-    match state_of(alloc, &mended.text, base, limits, url_bytes)? {
+    match reading.state_of(&mended.text)? {
         State::Sound => Ok(Repaired::Mended {
             text: mended.text,
             repairs: mended.repairs,
         }),
         State::LongUrls => Ok(Repaired::LongUrls),
-        State::Faulty(_) => repaired_further(alloc, fault, mended, base, limits, url_bytes),
+        State::Faulty(_) => reading.repaired_further(fault, mended),
     }
 }

@@ -2,6 +2,7 @@
 //! scanned too, and what is found is then of no use: the answer of a repair is always read again.
 use crate::decoding::string_in;
 use crate::places::Place;
+use smap_shape::json_start;
 use std::alloc::{AllocError, Global};
 
 /// Where a scan is: in how many brackets, in a string or not, right behind a backslash or not.
@@ -75,17 +76,9 @@ fn trimmed(text: &[u8], place: Place) -> Place {
 
 /// Where the value of the whole text is, behind the prefix line if it begins with one.
 pub(crate) fn document(text: &[u8]) -> Place {
-    let mut start = 0;
-    if text.starts_with(b")]}'") {
-        start = text.iter().take_while(|b| **b != b'\n').count();
-    }
-    trimmed(
-        text,
-        Place {
-            start,
-            end: text.len(),
-        },
-    )
+    let end = text.len();
+    let start = json_start(text).unwrap_or(end);
+    trimmed(text, Place { start, end })
 }
 
 /// The parts of an object or array: its keys and values in turn, or its entries.

@@ -1,8 +1,7 @@
 //! The sources of a map that are no URLs, and how they are spelled so that they are.
 use crate::decoding::string_in;
-use crate::edits::add_edit;
+use crate::edits::Findings;
 use crate::maps::MapText;
-use crate::mending::Edit;
 use crate::places::Place;
 use crate::repair::Change;
 use crate::scanning::parts;
@@ -21,22 +20,21 @@ fn string_at(alloc: Global, text: &[u8], place: Place) -> Result<Option<String>,
 
 /// Adds the repair of the string at this place, if it leads to no URL.
 fn add_spelling(
-    alloc: Global,
-    text: &[u8],
+    findings: &mut Findings<'_>,
     base: &Url,
     section: &[usize],
     change: Change,
     place: Place,
-    edits: &mut Vec<Edit>,
 ) -> Result<(), AllocError> {
-    let Some(string) = string_at(alloc, text, place)? else {
+    let alloc = findings.alloc;
+    let Some(string) = string_at(alloc, findings.text, place)? else {
         return Ok(());
     };
     let Some(spelled) = respelled(alloc, base, string.as_str())? else {
         return Ok(());
     };
     let after = Value::String(spelled).to_string(alloc)?;
-    add_edit(alloc, text, section, change, place, after.as_str(), edits)
+    findings.add(section, change, place, after.as_str())
 }
 
 /// Whether some of these values is a string.
@@ -57,40 +55,23 @@ fn root_of(alloc: Global, text: &[u8], map: &MapText) -> Result<Option<Place>, A
 /// Adds the repairs of the sources of a flat map. Where it has a root, that alone decides which host their
 /// URLs have.
 pub(crate) fn add_sources(
-    alloc: Global,
-    text: &[u8],
+    findings: &mut Findings<'_>,
     base: &Url,
     map: &MapText,
-    edits: &mut Vec<Edit>,
 ) -> Result<(), AllocError> {
+    let (alloc, text) = (findings.alloc, findings.text);
     let Some(sources) = map.member(alloc, text, "sources")? else {
         return Ok(());
     };
     let sources = parts(alloc, text, sources)?;
     if let Some(root) = root_of(alloc, text, map)? {
         if has_string(text, &sources) {
-            add_spelling(
-                alloc,
-                text,
-                base,
-                &map.section,
-                Change::SourceRoot,
-                root,
-                edits,
-            )?;
+            add_spelling(findings, base, &map.section, Change::SourceRoot, root)?;
         }
         return Ok(());
     }
     for i in 0..sources.len() {
-        add_spelling(
-            alloc,
-            text,
-            base,
-            &map.section,
-            Change::Source(i),
-            sources[i],
-            edits,
-        )?;
+        add_spelling(findings, base, &map.section, Change::Source(i), sources[i])?;
     }
     Ok(())
 }

@@ -80,12 +80,12 @@ fn writes_by(
     rt: &(impl Abort + AllocGlobal),
     task: Task<'_>,
     input: &str,
-    output: &str,
-    outcome: Outcome,
+    written: (&str, Outcome),
     step: usize,
 ) -> Ran
     requires { 0 < step }
 {
+    let (output, outcome) = written;
     let reader = SlowReader::new(input.as_bytes(), step, 0);
     let ran = run_over(
         rt.alloc(),
@@ -119,9 +119,9 @@ fn writes(
     outcome: Outcome,
 ) {
     let calls = input.len() as u64 + 1;
-    let ran = writes_by(rt, task, input, output, outcome, 1);
+    let ran = writes_by(rt, task, input, (output, outcome), 1);
     equal(rt, (task, input), ran.reads, calls);
-    let _at_once = writes_by(rt, task, input, output, outcome, usize::MAX);
+    let _at_once = writes_by(rt, task, input, (output, outcome), usize::MAX);
 }
 
 /// With so many bytes a read, and a writer that takes nothing, a task fails at its first write.

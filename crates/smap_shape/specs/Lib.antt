@@ -1,3 +1,4 @@
+pub mod Text
 pub mod Limits
 pub mod OneMember
 pub mod Labels

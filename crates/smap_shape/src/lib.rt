@@ -9,6 +9,8 @@
 //!
 //! [`split_contents`] is for callers that own the tree and want to keep the contents, the largest part of
 //! most maps: it moves them out of the tree.
+//!
+//! [`json_text`] is what of a map's bytes is JSON.
 #![tactic(auto)]
 
 mod contents;
@@ -20,6 +22,7 @@ mod labels;
 mod map;
 mod member;
 mod sections;
+mod text;
 
 pub use contents::split_contents;
 pub use fault::ShapeFault;
@@ -29,3 +32,4 @@ pub use kinds::Shape;
 pub use labels::{Labels, is_label};
 pub use map::shape;
 pub use sections::{MAX_LEVEL, SectionShape, section};
+pub use text::{json_start, json_text};

@@ -1,14 +1,13 @@
 -- The longest occurrence, found length by length.
-use Rattle.std.proofs.Common.{◌≡◌, ◌≢◌, ◌⊎◌, ℕ, ◌+◌, ◌<◌, ◌≤◌, Bool, true, false, ◌||◌, List, [], ◌∷◌, ◌++◌}
+use Rattle.std.proofs.Common.{◌≡◌, ◌≢◌, ◌⊎◌, ℕ, ◌+◌, ◌<◌, ◌≤◌, Bool, true, false, ◌||◌, List, [], ◌∷◌}
 use Rattle.std.proofs.Common.{length, take, drop, get_or, nat_eq}
 use Rattle.std.proofs.Common.{Option, Some, None, refl, subst, arith, inl, inr, bytes_eq}
 use Rattle.std.specs.List.{All, Contains}
 use Rattle.std.proofs.lemmas.Bool.{cases_Bool}
 use Rattle.std.proofs.lemmas.Bool.Decides.{nat_tests, Decides-by_or, Decides-eqb}
-use Rattle.std.proofs.lemmas.List.{get_or_default, get_or-take, length-take, length-take-le, take_all}
-use Rattle.std.proofs.lemmas.List.Elements.{All-head, All-map, All-more, All-tail, All-weaker}
+use Rattle.std.proofs.lemmas.List.{get_or_default, get_or-take, length-take, length-take-le}
+use Rattle.std.proofs.lemmas.List.Elements.{All-head, All-tail}
 use Rattle.std.proofs.lemmas.List.Elements.{Decides-contains}
-use Rattle.std.proofs.lemmas.List.Folds.{list_any-append}
 use Rattle.std.proofs.lemmas.Slice.Eq.{bytes_eq-Decides}
 use Rattle.smap_frames.specs.Places.{place_after}
 use Rattle.smap_frames.specs.declared.places.Place.{Place}
@@ -16,8 +15,6 @@ use Rattle.smap_record.specs.Record.{Record}
 use Rattle.smap_trace.specs.Anywhere.{Occurrence, longer, longest, occurrence_of}
 use Rattle.smap_trace.specs.ByLength.{AreFirstsOf, AreLengthsOf, at_length, is_among}
 use Rattle.smap_trace.specs.Scripts.{Script, map_of}
-use Rattle.smap_trace.specs.Views.{script_in, scripts_in}
-use Rattle.smap_trace.proofs.ScriptLemmas.{Given}
 
 -- ---- the length of the URL of an occurrence
 
@@ -160,31 +157,3 @@ none_begins ignore text bs ss all h = none (longest ignore ss text) (longest_bes
         let len = length-take-le n text f.1.0 in
         let same = rw (get_or-take n text 0 0 f.0, len) at one in
         absurd (grind (arith, nat_tests))
-
--- ---- the lengths and the first bytes are gathered
-
-pub among_grows : (ns : List ℕ) (m n : ℕ) → is_among ns n ≡ true → is_among (ns ++ m ∷ []) n ≡ true
-among_grows ns m n h = rw (list_any-append (λ k. nat_eq k n) ns (m ∷ []), h) refl
-
-pub among_last : (ns : List ℕ) (n : ℕ) → is_among (ns ++ n ∷ []) n ≡ true
-among_last ns n = rw (list_any-append (λ k. nat_eq k n) ns (n ∷ [])) (grind (arith, nat_tests))
-
-pub or_grows : (a b c : Bool) → (b ≡ true → c ≡ true) → (a || b) ≡ true → (a || c) ≡ true
-or_grows a b c f h = grind arith
-
--- a test that grows with the list, of the first scripts and of the next
-pub one_given_more : (test : List ℕ → List ℕ → Bool) (xs : List Given) (i : ℕ) (x : Given) (ns ms : List ℕ)
-    → ((url : List ℕ) → test ns url ≡ true → test ms url ≡ true) → i < length xs → x ≡ get_or xs i x
-    → All (λ y. test ns y.0.now ≡ true) (take i xs) → test ms x.0.now ≡ true
-    → All (λ y. test ms y.0.now ≡ true) (take (i + 1) xs)
-one_given_more test xs i x ns ms grows lt is before here =
-    All-more (λ (y : Given). test ms y.0.now ≡ true) xs i x lt
-    (All-weaker (λ (y : Given). test ns y.0.now ≡ true) (λ (y : Given). test ms y.0.now ≡ true)
-    (λ y h. grows y.0.now h) (take i xs) before)
-    (rw (← is) here)
-
--- the same of all scripts, as the definitions see them
-pub of_scripts : (test : List ℕ → Bool) (xs : List Given) (i : ℕ) → length xs ≤ i
-    → All (λ y. test y.0.now ≡ true) (take i xs) → All (λ (s : Script). test s.0 ≡ true) (scripts_in xs)
-of_scripts test xs i le all =
-    All-map (λ (s : Script). test s.0 ≡ true) script_in xs (rw (take_all i xs le) at all)

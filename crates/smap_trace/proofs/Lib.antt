@@ -5,10 +5,10 @@ pub mod CuttingLemmas
 pub mod Examples
 pub mod FrameAnywhereLemmas
 pub mod HalvingLemmas
-pub mod IndexedLemmas
 pub mod KnownLemmas
 pub mod LeftOutLemmas
 pub mod LineLemmas
+pub mod LinePartLemmas
 pub mod LineStartLemmas
 mod LineCountLemmas
 pub mod LookupLemmas
@@ -23,4 +23,5 @@ pub mod RunLemmas
 pub mod ScriptLemmas
 pub mod SoFarLemmas
 pub mod StartsLemmas
+pub mod TableLemmas
 pub mod TallyLemmas

@@ -74,7 +74,7 @@ line_joined ignore scripts line = pieces_joined ignore scripts [] 0 line
 
 -- ---- what is written
 
-kept_pieces : (ps : List Piece) → list_any is_replaced ps ≡ false
+pub kept_pieces : (ps : List Piece) → list_any is_replaced ps ≡ false
     → flat_map written_for ps ≡ flat_map bytes_of ps
 kept_pieces [] h = refl
 kept_pieces (p ∷ ps) h =

@@ -14,7 +14,7 @@ use Rattle.smap_trace.specs.Counting.{with_url, with_urls}
 use Rattle.smap_trace.specs.Naming.{tally}
 use Rattle.smap_trace.specs.Views.{at_most_u64}
 use Rattle.smap_trace.proofs.CountLemmas.{bit, count_by-cons, one_more as capped_once}
-use Rattle.smap_trace.proofs.IndexedLemmas.{bytes_flip}
+use Rattle.smap_trace.proofs.TableLemmas.{bytes_flip}
 
 -- ---- how often a URL occurs
 

@@ -4,6 +4,7 @@ pub mod Counting
 pub mod Cuts
 pub mod Cutting
 pub mod Laws
+pub mod LineParts
 pub mod LineStarts
 pub mod Lookup
 pub mod Naming
@@ -12,6 +13,7 @@ pub mod Pieces
 pub mod Positions
 pub mod Scripts
 pub mod Streaming
+pub mod Table
 pub mod TraceLaws
 pub mod Translation
 pub mod Views

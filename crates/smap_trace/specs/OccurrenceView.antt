@@ -1,4 +1,4 @@
--- For private contracts: what an occurrence of the code stands for.
+-- What an occurrence of the code stands for.
 use Rattle.std.specs.Prelude.{ℕ, ◌<◌, ◌≤◌}
 use Rattle.smap_record.specs.Record.{record_of}
 use Rattle.smap_trace.specs.Anywhere as spec

@@ -68,12 +68,15 @@ abbrev pub frame_fate : Bool → List Script → Bool → List ℕ → Fate
 frame_fate ignore scripts hide text = option_map_or
     (λ f. option_map_or (fate_in hide f) (map_for ignore scripts text f) kept) (frame_of text) kept
 
+-- the text of an original's position, if its source has a URL
+abbrev pub origin_text : Origin → Option (List ℕ)
+origin_text origin =
+    option_map (λ url. position_text url (origin.line + 1) (origin.column + 1)) origin.source.url
+
 -- what a piece of a line is replaced with, if it is: a position whose mapping has a source with a URL
 abbrev pub replaced : Piece → Option (List ℕ)
 replaced (byte b) = None
-replaced (found o text) = option_and_then (λ origin.
-    option_map (λ url. position_text url (origin.line + 1) (origin.column + 1)) origin.source.url)
-    (origin_at o.map o.line o.column)
+replaced (found o text) = option_and_then origin_text (origin_at o.map o.line o.column)
 
 -- what is written for a piece
 abbrev pub written_for : Piece → List ℕ

@@ -49,7 +49,7 @@ fn holds_place(text: &[u8]) -> bool
 }
 
 /// The next occurrence at this place of a line or behind it, and where it begins.
-fn next_occurrence<'a, M: Maps>(
+pub(crate) fn next_occurrence<'a, M: Maps>(
     text: &[u8],
     at: usize,
     maps: &'a M,

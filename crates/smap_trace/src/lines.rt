@@ -117,7 +117,7 @@ pub(crate) fn cut_feed<'a>(line: &'a [u8]) -> (&'a [u8], &'a [u8])
 }
 
 /// The map of the script that the frame of this line names.
-fn map_for<'a, M: Maps>(
+pub(crate) fn map_for<'a, M: Maps>(
     text: &[u8],
     frame: &Frame,
     maps: &'a M,
@@ -164,8 +164,9 @@ fn translate_framed<M: Maps>(
     Ok(LineOutcome::Kept)
 }
 
-/// Whether a line is a frame whose source is ignored.
-fn is_hidden<M: Maps>(text: &[u8], maps: &M, ignore_query: bool) -> bool
+/// Whether a line without its line feed is a frame whose source is ignored: such lines are left out where
+/// these are hidden.
+pub fn is_hidden<M: Maps>(text: &[u8], maps: &M, ignore_query: bool) -> bool
     ensures { result ≡ spec.is_dropped (spec.frame_fate ignore_query (M.scripts maps.now) true text.now) }
 {
     if let Some(frame) = frame(text) {
@@ -353,14 +354,29 @@ pub fn translate_line_by(
     ensures outcome { IfOk result (λ o. o
         ≡ outcome_of (spec.fate_by mode (scripts_in scripts.now) hide line.now)) }
 {
-    let maps = Listed { scripts };
-    match (ByMaps {
-        maps: &maps,
-        mode,
-        hide,
-    })
-    .translate(line, out)
-    {
+    translate_line_in(line, &Listed { scripts }, mode, hide, out)
+}
+
+/// Appends the translation of one line to `out`, as [`translate_line_by`] does, where the maps of scripts
+/// are found in this way.
+///
+/// # Errors
+///
+/// `Memory`, and `out` is as it was.
+pub fn translate_line_in<M: Maps>(
+    line: &[u8],
+    maps: &M,
+    mode: MatchMode,
+    hide: bool,
+    out: &mut Vec<u8>,
+) -> Result<LineOutcome, Memory>
+    ensures ok { OnOk result (out.new.items ≡ out.old.items
+        ++ spec.line_translation_by (spec.fate_by mode (M.scripts maps.now) hide) line.now) }
+    ensures err { OnErr result (out.new.items ≡ out.old.items) }
+    ensures outcome { IfOk result (λ o. o
+        ≡ outcome_of (spec.fate_by mode (M.scripts maps.now) hide line.now)) }
+{
+    match (ByMaps { maps, mode, hide }).translate(line, out) {
         Ok(outcome) => Ok(outcome),
         Err(_) => Err(Memory),
     }

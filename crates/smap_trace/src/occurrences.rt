@@ -9,15 +9,15 @@ use smap_record::SourceMap;
 
 /// The position of a script at the beginning of a text.
 #[derive(Clone, Copy)]
-pub(crate) struct Occurrence<'a> {
-    pub(crate) url: &'a [u8],
-    pub(crate) map: &'a SourceMap,
+pub struct Occurrence<'a> {
+    pub url: &'a [u8],
+    pub map: &'a SourceMap,
     /// From 1, as in a trace.
-    pub(crate) line: u32,
+    pub line: u32,
     /// From 1.
-    pub(crate) column: u32,
+    pub column: u32,
     /// The bytes of the text that it takes.
-    pub(crate) width: usize,
+    pub width: usize,
 }
 
 /// The occurrence of this script at the beginning of a text.

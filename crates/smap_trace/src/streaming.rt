@@ -16,7 +16,8 @@ use crate::error::TraceError;
 use crate::lines::{ByMaps, Translator};
 use crate::match_mode::MatchMode;
 use crate::outcome::{Counts, LineOutcome};
-use crate::scripts::{Listed, by_url};
+use crate::scripts::{Listed, Maps};
+use crate::table::by_url;
 use smap_io::{Device, EachLine, MOST_CALLS, take_last, take_piece, write_all, write_and_flush};
 use smap_record::SourceMap;
 use std::alloc::{AllocError, Global};
@@ -257,29 +258,39 @@ pub fn translate_by<R: Read, W: Write>(
     ensures flushed { OnOk result (is_over writer.new ≡ true) }
 {
     if scripts.len() <= FEW {
-        let maps = Listed { scripts };
-        return translate_with(
-            alloc,
-            &ByMaps {
-                maps: &maps,
-                mode,
-                hide,
-            },
-            reader,
-            writer,
-        );
+        return translate_in(alloc, reader, &Listed { scripts }, mode, hide, writer);
     }
     let Ok(maps) = by_url(alloc, scripts) else {
         return Err(TraceError::Memory);
     };
-    translate_with(
-        alloc,
-        &ByMaps {
-            maps: &maps,
-            mode,
-            hide,
-        },
-        reader,
-        writer,
-    )
+    translate_in(alloc, reader, &maps, mode, hide, writer)
+}
+
+/// Reads a stack trace to its end and writes its translation, as [`translate_by`] does, where the maps of
+/// scripts are found in this way: a [`Scripts`](crate::Scripts) is made once for many traces.
+///
+/// # Errors
+///
+/// Those of [`translate`], with what was written then.
+pub fn translate_in<M: Maps, R: Read, W: Write>(
+    alloc: Global,
+    reader: &mut Device<R>,
+    maps: &M,
+    mode: MatchMode,
+    hide: bool,
+    writer: &mut Device<W>,
+) -> Result<Counts, TraceError>
+    requires reads { device_failures reader.old < 2 ^ 64 - 1 }
+    requires writes { device_failures writer.old < 2 ^ 64 - 1 }
+    requires not_ended { has_ended reader.old ≡ false }
+
+    // As for `translate`, with what becomes of a line by these scripts.
+    ensures translates { TranslatesBy (fate_by mode (M.scripts maps.now) hide)
+        (streams R.remaining reader.old reader.new W.contents writer.old writer.new) result }
+    ensures calls { MakesAtMost most_calls reader.old reader.new }
+    ensures reads_in_time { StopsInTime reader.old reader.new }
+    ensures writes_in_time { StopsInTime writer.old writer.new }
+    ensures flushed { OnOk result (is_over writer.new ≡ true) }
+{
+    translate_with(alloc, &ByMaps { maps, mode, hide }, reader, writer)
 }

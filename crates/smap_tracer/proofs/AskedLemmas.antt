@@ -13,9 +13,8 @@ use Rattle.std.proofs.lemmas.List.Elements.{Contains-append_right, Contains-push
 use Rattle.std.proofs.lemmas.List.Splits.{length-slice_split}
 use Rattle.smap_arguments.specs.declared.wanted.Wanted.{Wanted}
 use Rattle.smap_disk.specs.Held.{GivesHeld, Held, IsHeld}
-use Rattle.smap_finder.specs.ChosenView.{AreChosen, AreEnds, Choices, IsEndOf, KeepEnds, choices_of}
+use Rattle.smap_finder.specs.ChosenView.{AreChosen, AreEnds, Choices, IsEndOf, KeepEnds}
 use Rattle.smap_finder.specs.ChosenView.{no_choices}
-use Rattle.smap_finder.specs.declared.chosen.Chosen.{Chosen}
 use Rattle.smap_finder.proofs.ChosenLemmas.{mapped_among}
 use Rattle.smap_finder.proofs.EndLemmas.{none_ended}
 use Rattle.smap_lines.specs.Lines.{is_feed, open_line, whole_lines}
@@ -294,23 +293,23 @@ same_ends held w None old new is all = tt
 same_ends held w (Some asked) old new is all = subst (AreEnds (IsEndOf held w (Contains asked))) (sym is) all
 
 -- the maps of names of the logs were opened
-pub names_opened : (held : Held) (job : Job) (names : List (List ℕ)) (old between new : Chosen)
-    → AreNamed held job old → between ≡ old → AreChosen held job.wanted (choices_of new)
-    → KeepEnds held job.wanted names (choices_of between) (choices_of new)
+pub names_opened : (held : Held) (job : Job) (names : List (List ℕ)) (old between new : Choices)
+    → AreNamed held job old → between ≡ old → AreChosen held job.wanted new
+    → KeepEnds held job.wanted names between new
     → AreAmong (asked_by held job) names → AreNamed held job new
 names_opened held job names old between new was same named keep among = record {
   named = named;
-  ends = ends_kept held job.wanted (asked_by held job) names (choices_of old) (choices_of new)
-      (subst (λ (o : Chosen). KeepEnds held job.wanted names (choices_of o) (choices_of new)) same keep) among
+  ends = ends_kept held job.wanted (asked_by held job) names old new
+      (subst (λ (o : Choices). KeepEnds held job.wanted names o new) same keep) among
       was.ends;
 }
 
 -- nothing was opened
-pub none_opened : (held : Held) (job : Job) (old new : Chosen) → AreChosen held job.wanted (choices_of new)
-    → (choices_of new).ends ≡ (choices_of old).ends → AreNamed held job old → AreNamed held job new
+pub none_opened : (held : Held) (job : Job) (old new : Choices) → AreChosen held job.wanted new
+    → new.ends ≡ old.ends → AreNamed held job old → AreNamed held job new
 none_opened held job old new named is was = record {
   named = named;
-  ends = same_ends held job.wanted (asked_by held job) (choices_of old) (choices_of new) is was.ends;
+  ends = same_ends held job.wanted (asked_by held job) old new is was.ends;
 }
 
 no_ends_among : (held : Held) (w : Wanted) (asked : Option (List (List ℕ)))
@@ -319,10 +318,10 @@ no_ends_among held w None = tt
 no_ends_among held w (Some asked) = none_ended (IsEndOf held w (Contains asked))
 
 -- before any name
-pub none_named : (held : Held) (job : Job) (chosen : Chosen) → choices_of chosen ≡ no_choices
+pub none_named : (held : Held) (job : Job) (chosen : Choices) → chosen ≡ no_choices
     → AreNamed held job chosen
 none_named held job chosen is = record {
-  named = none_chosen held job.wanted (choices_of chosen) is;
+  named = none_chosen held job.wanted chosen is;
   ends = subst (AreEndsAmong held job.wanted (asked_by held job)) (sym is)
       (no_ends_among held job.wanted (asked_by held job));
 }

@@ -2,6 +2,6 @@ pub mod AskedLemmas
 pub mod NamedLemmas
 pub mod PartsLemmas
 pub mod RunLemmas
-pub mod ScriptLemmas
+pub mod RunningLemmas
 pub mod SettledLemmas
 pub mod TracedLemmas

@@ -1,33 +1,42 @@
 -- What a run answers to its words.
-use Rattle.std.proofs.Common.{◌≡◌, ◌∙◌, ◌==◌, [], ◌∷◌, Bor, false, length, map, subst, ℕ, List, Option, None}
-use Rattle.std.proofs.Common.{Result, Ok, Err, OnOk, inl, inr}
+use Rattle.std.proofs.Common.{◌≡◌, ◌∙◌, ◌==◌, [], ◌∷◌, Bor, false, true, length, map, subst, sym, arith}
+use Rattle.std.proofs.Common.{ℕ, List, Option, None, Result, Ok, Err, OnOk, inl, inr}
+use Rattle.std.proofs.lemmas.Bool.Decides.{nat_tests}
+use Rattle.std.proofs.lemmas.List.{nil_from_length}
 use Rattle.std.specs.Prelude.{⊤}
 use Rattle.smap_disk.specs.Held.{Held}
 use Rattle.smap_disk.specs.Tree.{Told}
 use Rattle.smap_arguments.specs.declared.wanted.Wanted.{Wanted}
 use Rattle.smap_tracer.specs.Runs.{AreFound, IsAnswered, IsJobOf, IsTracedAsked, IsTracedJob, IsTracedRun}
-use Rattle.smap_tracer.specs.Runs.{IsTracedRedirected}
+use Rattle.smap_tracer.specs.Runs.{IsTracedInput}
 use Rattle.smap_tracer.specs.Written.{AreTraced, IsTracedFront, IsTracedTextIn}
 use Rattle.smap_tracer.specs.declared.program.TheConstants.{STDIN}
 use Rattle.smap_tracer.specs.declared.program.InputKind.{InputKind}
+use Rattle.smap_tracer.specs.declared.program.InputKind.TheVariants.{Closed, File, Other, Terminal}
 use Rattle.smap_tracer.specs.declared.tracing.Job.{Job}
 use Rattle.smap_words.specs.Request.{IsAsked}
 use Rattle.smap_words.specs.declared.request.Asked.{Asked}
 use Rattle.smap_words.specs.declared.request.TraceWords.{TraceWords}
 
 -- standard input that is a file, as far as it went
-pub to_its_size : {A E : Type 0} (held : Held) (job : Job) (left before after : Option (List ℕ))
-    (result : Result A E) → OnOk result (IsTracedFront held job STDIN.now left before after)
-    → OnOk result (IsTracedRedirected held job left before after)
-to_its_size held job left before after (Ok a) is = inl is
-to_its_size held job left before after (Err e) is = tt
+pub to_its_size : {A E : Type 0} (held : Held) (job : Job) (kind : InputKind)
+    (left before after : Option (List ℕ)) (result : Result A E) → kind ≡ File
+    → OnOk result (IsTracedFront held job STDIN.now left before after)
+    → OnOk result (IsTracedInput held job kind left before after)
+to_its_size held job kind left before after (Ok a) is traced =
+    subst (λ (k : InputKind). IsTracedInput held job k left before after) (sym is) (inl traced)
+to_its_size held job kind left before after (Err e) is traced = tt
 
--- and to its end
-pub to_its_end : {A E : Type 0} (held : Held) (job : Job) (left before after : Option (List ℕ))
-    (result : Result A E) → OnOk result (IsTracedTextIn held job (λ name. ⊤) left before after)
-    → OnOk result (IsTracedRedirected held job left before after)
-to_its_end held job left before after (Ok a) is = inr is
-to_its_end held job left before after (Err e) is = tt
+-- and standard input to its end
+pub to_its_end : {A E : Type 0} (held : Held) (job : Job) (kind : InputKind)
+    (left before after : Option (List ℕ)) (result : Result A E)
+    → IsTracedTextIn held job (λ name. ⊤) left before after
+    → OnOk result (IsTracedInput held job kind left before after)
+to_its_end held job File left before after (Ok a) traced = inr traced
+to_its_end held job Closed left before after (Ok a) traced = traced
+to_its_end held job Terminal left before after (Ok a) traced = traced
+to_its_end held job Other left before after (Ok a) traced = traced
+to_its_end held job kind left before after (Err e) traced = tt
 
 pub traced_asked : {A E : Type 0} (held : Held) (asked : TraceWords) (wanted : Wanted) (job : Job)
     (kind : InputKind)
@@ -79,3 +88,35 @@ logs_traced held job paths kind left before after (Ok a) is some all =
     IsTracedRun held job (map (λ (p : Bor (List ℕ)). p.now) ps) kind left before after)
     is (some_logs held job paths kind left before after some all)
 logs_traced held job paths kind left before after (Err e) is some all = tt
+
+-- there is none
+pub no_items : (job : Job) (paths : List (Bor (List ℕ))) → paths ≡ job.wanted.logs.items
+    → (length paths == 0) ≡ true → job.wanted.logs.items ≡ []
+no_items job paths is none = sym is ∙ nil_from_length paths (grind (arith, nat_tests, none))
+
+no_logs : (held : Held) (job : Job) (paths : List (Bor (List ℕ))) (kind : InputKind)
+    (left before after : Option (List ℕ)) → paths ≡ []
+    → IsTracedInput held job kind left before after
+    → IsTracedRun held job (map (λ (p : Bor (List ℕ)). p.now) paths) kind left before after
+no_logs held job paths kind left before after is traced =
+    subst (λ (ps : List (Bor (List ℕ))).
+    IsTracedRun held job (map (λ (p : Bor (List ℕ)). p.now) ps) kind left before after) (sym is) traced
+
+pub standard_traced : {A E : Type 0} (held : Held) (job : Job) (kind : InputKind)
+    (left before after : Option (List ℕ)) (result : Result A E) → job.wanted.logs.items ≡ []
+    → OnOk result (IsTracedInput held job kind left before after)
+    → OnOk result (IsTracedJob held job kind left before after)
+standard_traced held job kind left before after (Ok a) is traced =
+    no_logs held job job.wanted.logs.items kind left before after is traced
+standard_traced held job kind left before after (Err e) is traced = tt
+
+-- a list is no translation
+pub not_listed : {A E : Type 0} (job : Job) (P : Type 0) (result : Result A E) → job.list ≡ true
+    → OnOk result (job.list ≡ false → P)
+not_listed job P (Ok a) is = λ off. absurd cc
+not_listed job P (Err e) is = tt
+
+pub in_turn : {A E : Type 0} (job : Job) (P : Type 0) (result : Result A E) → OnOk result P
+    → OnOk result (job.list ≡ false → P)
+in_turn job P (Ok a) is = λ off. is
+in_turn job P (Err e) is = tt

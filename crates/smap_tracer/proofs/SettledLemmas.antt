@@ -6,7 +6,8 @@ use Rattle.std.specs.List.{All, Contains}
 use Rattle.std.proofs.lemmas.List.Elements.{All-contains, All-map, All-nil}
 use Rattle.smap_disk.specs.Held.{GivesHeld, Held}
 use Rattle.smap_arguments.specs.declared.wanted.Wanted.{Wanted}
-use Rattle.smap_finder.specs.ChosenView.{AreChosen, Choices, Grows, IsFor, IsJudged, IsLeftName, IsNamed}
+use Rattle.smap_opening.specs.declared.opening.How.{How}
+use Rattle.smap_finder.specs.ChosenView.{AreChosen, Choices, Grows, HasNamedMap, IsFor, IsJudged, IsLeftName}
 use Rattle.smap_finder.specs.ChosenView.{IsSettledIn, no_choices}
 use Rattle.smap_finder.proofs.GrowthLemmas.{settled_grown}
 use Rattle.smap_trace.specs.Naming.{urls_of}
@@ -22,37 +23,38 @@ use Rattle.smap_logs.specs.Logs.{IsAll}
 pub none_chosen : (held : Held) (wanted : Wanted) (choices : Choices) → choices ≡ no_choices
     → AreChosen held wanted choices
 none_chosen held wanted choices is = subst (AreChosen held wanted) (sym is) (record {
-  names = All-nil (IsNamed held wanted);
+  scripts = All-nil (HasNamedMap held wanted);
   openings = All-nil (IsFor held wanted 0);
   left = All-nil (IsLeftName held wanted no_choices);
 })
 
 -- names were settled, and then others
-pub names_settled : {A E : Type 0} (held : Held) (job : Job) (before after : Choices)
+pub names_settled : {A E : Type 0} (held : Held) (w : Wanted) (how : How) (before after : Choices)
     (frames : List (Bor (List ℕ)))
     (names : List (List ℕ)) (result : Result A E) → map (λ (n : Bor (List ℕ)). n.now) frames ≡ names
-    → All (λ (n : Bor (List ℕ)). IsSettledIn held job.wanted true before n.now) frames → Grows before after
-    → OnOk result (IsJudged job.how.skip after) → OnOk result (AreSettled held job after (Contains names))
-names_settled held job before after frames names (Ok a) is all grows judged = record {
-  each = λ name there. settled_grown held job.wanted true before after name grows
-      (All-contains (IsSettledIn held job.wanted true before) names name
-      (subst (All (IsSettledIn held job.wanted true before)) is
-      (All-map (IsSettledIn held job.wanted true before) (λ (n : Bor (List ℕ)). n.now) frames all)) there);
+    → All (λ (n : Bor (List ℕ)). IsSettledIn held w true before n.now) frames → Grows before after
+    → OnOk result (IsJudged how.skip after) → OnOk result (AreSettled held w how after (Contains names))
+names_settled held w how before after frames names (Ok a) is all grows judged = record {
+  each = λ name there. settled_grown held w true before after name grows
+      (All-contains (IsSettledIn held w true before) names name
+      (subst (All (IsSettledIn held w true before)) is
+      (All-map (IsSettledIn held w true before) (λ (n : Bor (List ℕ)). n.now) frames all)) there);
   judged = judged;
 }
-names_settled held job before after frames names (Err e) is all grows judged = tt
+names_settled held w how before after frames names (Err e) is all grows judged = tt
 
-pub lines_settled : {A E : Type 0} (held : Held) (job : Job) (choices : Choices) (names urls : List (List ℕ))
-    (result : Result A E) → AreIn urls names → OnOk result (AreSettled held job choices (Contains names))
-    → OnOk result (AreSettled held job choices (Contains urls))
-lines_settled held job choices names urls (Ok a) are settled =
+pub lines_settled : {A E : Type 0} (held : Held) (w : Wanted) (how : How) (choices : Choices)
+    (names urls : List (List ℕ)) (result : Result A E) → AreIn urls names
+    → OnOk result (AreSettled held w how choices (Contains names))
+    → OnOk result (AreSettled held w how choices (Contains urls))
+lines_settled held w how choices names urls (Ok a) are settled =
     record { each = λ name there. settled.each name (are name there); judged = settled.judged }
-lines_settled held job choices names urls (Err e) are settled = tt
+lines_settled held w how choices names urls (Err e) are settled = tt
 
 -- What was named of logs is settled.
 pub settled_logs : (held : Held) (job : Job) (choices : Choices) (paths : List (Bor (List ℕ))) (names : Names)
-    → HaveNames held paths names → AreSettled held job choices (Contains (frames_of names))
-    → AreSettledLogs held job choices paths
+    → HaveNames held paths names → AreSettled held job.wanted job.how choices (Contains (frames_of names))
+    → AreSettledLogs held job.wanted job.how choices paths
 settled_logs None job choices paths names have settled k d lt =
     record { each = λ name known. absurd known; judged = settled.judged }
 settled_logs (Some held) job choices paths names have settled k d lt =
@@ -68,19 +70,17 @@ settled_logs (Some held) job choices paths names have settled k d lt =
 
 pub first_settled : (held : Held) (job : Job) (choices : Choices) (paths : List (Bor (List ℕ)))
     (path : Bor (List ℕ))
-    → paths ≡ path ∷ [] → AreSettledLogs held job choices paths
-    → AreSettled held job choices (IsNameOf held path.now)
+    → paths ≡ path ∷ [] → AreSettledLogs held job.wanted job.how choices paths
+    → AreSettled held job.wanted job.how choices (IsNameOf held path.now)
 first_settled held job choices paths path is all =
-    subst (λ (ps : List (Bor (List ℕ))). AreSettledLogs held job choices ps) is all 0 path (omega arith)
+    subst (λ (ps : List (Bor (List ℕ))). AreSettledLogs held job.wanted job.how choices ps) is all 0 path
+    (omega arith)
 
 -- a log that is read once
-pub followed_log : {A E : Type 0} (held : Held) (job : Job) (path : List ℕ)
-    (left before begun after : Option (List ℕ))
-    (result : Result A E) → IsBegun before begun → GivesHeld held path left
-    → OnOk result (IsTracedTextIn held job (λ name. ⊤) left begun after)
-    → OnOk result (IsTracedLog held job path before after)
-followed_log held job path left before begun after (Ok a) is gives traced =
+pub followed_log : (held : Held) (job : Job) (path : List ℕ) (left before begun after : Option (List ℕ))
+    → IsBegun before begun → GivesHeld held path left
+    → IsTracedTextIn held job (λ name. ⊤) left begun after → IsTracedLog held job path before after
+followed_log held job path left before begun after is gives traced =
     one_log held job path left before begun after is gives
     (λ plain. text_sought held job (λ name. ⊤) (IsNameOf held path) left begun after (λ name known. tt)
     (traced plain))
-followed_log held job path left before begun after (Err e) is gives traced = tt

@@ -1,86 +1,63 @@
 -- Scripts whose maps are open have maps that the arguments name.
 use Rattle.std.proofs.Common.{◌≡◌, ◌∙◌, ap, sym, ℕ, ◌+◌, ◌<◌, List, [], ◌∷◌, ◌++◌, length, map, take, Bor}
-use Rattle.std.proofs.Common.{Option, option_map, Result, Ok, Err, OnOk, get_or, subst, refl, Some, inl, inr}
+use Rattle.std.proofs.Common.{Option, option_map, Result, Ok, Err, OnOk, get_or, subst, refl, Some}
 use Rattle.std.specs.Prelude.{⊤}
-use Rattle.std.specs.List.{All, Contains}
+use Rattle.std.specs.List.{Contains}
 use Rattle.smap_trace.specs.Naming.{urls_of}
 use Rattle.std.proofs.lemmas.List.{map-append, take_more}
-use Rattle.std.proofs.lemmas.List.Elements.{All-map}
 use Rattle.smap_disk.specs.Held.{GivesHeld, HasSize, Held}
-use Rattle.smap_finder.proofs.MapLemmas.{has_map}
-use Rattle.smap_finder.specs.ChosenView.{AreChosen, Choices, Has, choices_of}
-use Rattle.smap_finder.specs.declared.chosen.Chosen.{Chosen}
-use Rattle.smap_arguments.specs.declared.wanted.Wanted.{Wanted}
-use Rattle.smap_record.specs.Record.{ReadMap}
-use Rattle.smap_trace.specs.Translation.{Script}
-use Rattle.smap_trace.specs.Views.{script_in, scripts_in}
+use Rattle.smap_finder.specs.ChosenView.{Choices}
 use Rattle.smap_tracer.specs.declared.tracing.Job.{Job}
 use Rattle.smap_tracer.proofs.PartsLemmas.{one_log, one_part}
-use Rattle.smap_tracer.specs.Written.{AreNamed, AreTraced, HasMapOf, HasNamedMap, AreSettled, IsNameOf}
+use Rattle.smap_tracer.specs.Written.{AreNamed, AreTraced, AreSettled, IsNameOf}
 use Rattle.smap_tracer.specs.Written.{IsBegun, IsTracedFront, IsTracedIn, IsTracedLog, IsTracedTextIn}
 use Rattle.smap_tracer.specs.Written.{IsTranslatedIn}
 use Rattle.smap_logs.specs.Logs.{IsAll}
 
-named_map : (held : Held) (wanted : Wanted) (chosen : Chosen) (script : Script)
-    → AreChosen held wanted (choices_of chosen) → HasMapOf (choices_of chosen) script
-    → HasNamedMap held wanted script
-named_map held wanted chosen script all has =
-    (has.0, has_map held wanted (choices_of chosen) script.0 has.0 all has.1, has.2)
-
-pub traced : (held : Held) (job : Job) (chosen : Chosen) (Sought : List ℕ → Type 0)
+pub traced : (held : Held) (job : Job) (chosen : Choices) (Sought : List ℕ → Type 0)
     (left before after : Option (List ℕ)) → AreNamed held job chosen
     → ((text : List ℕ) → IsAll left text
-    → AreSettled held job (choices_of chosen) (λ name. Contains (urls_of text) name × Sought name))
-    → IsTranslatedIn (choices_of chosen) job.style left before after
+    → AreSettled held job.wanted job.how chosen (λ name. Contains (urls_of text) name × Sought name))
+    → IsTranslatedIn chosen job.style left before after
     → IsTracedIn held job Sought left before after
 traced held job chosen Sought left before after all settled is = λ plain.
     let by = is plain in
-    let names = settled by.translated.text by.translated.all in
+    let names = settled by.text by.all in
     record {
-      scripts = by.scripts;
-      have_maps =
-          λ k d lt. named_map held job.wanted chosen (get_or by.scripts k d) all.named (by.have_maps k d lt);
-      translated = by.translated;
-      choices = choices_of chosen;
-      given = λ name of sought. elim (names.each name (of, sought)) [
-        | inl has ↦ inl (by.are_all name has)
-        | inr left ↦ inr left
-      ];
+      scripts = chosen.scripts;
+      have_maps = all.named.scripts;
+      translated = by;
+      choices = chosen;
+      given = λ name of sought. names.each name (of, sought);
       ends = all.ends;
       judged = names.judged;
     }
 
-pub have_maps : (maps : Choices) (xs : List (Bor (List ℕ) × Bor ReadMap))
-    → All (λ (x : Bor (List ℕ) × Bor ReadMap). Has maps x.0.now x.1.now) xs
-    → All (HasMapOf maps) (scripts_in xs)
-have_maps maps xs all = All-map (HasMapOf maps) script_in xs
-    (λ k d lt. ((get_or xs k d).1.now, all k d lt, refl))
-
 of_log : (held : Held) (job : Job) (choices : Choices) (path text : List ℕ)
-    → AreSettled held job choices (IsNameOf held path)
-    → AreSettled held job choices (λ name. Contains (urls_of text) name × IsNameOf held path name)
+    → AreSettled held job.wanted job.how choices (IsNameOf held path)
+    → AreSettled held job.wanted job.how choices (λ name. Contains (urls_of text) name × IsNameOf held path
+    name)
 of_log held job choices path text settled =
     record { each = λ name both. settled.each name both.1; judged = settled.judged }
 
-pub traced_log : {A E : Type 0} (held : Held) (job : Job) (chosen : Chosen) (path : List ℕ)
-    (left before begun after : Option (List ℕ)) (result : Result A E) → AreNamed held job chosen
-    → AreSettled held job (choices_of chosen) (IsNameOf held path)
+pub traced_log : (held : Held) (job : Job) (chosen : Choices) (path : List ℕ)
+    (left before begun after : Option (List ℕ)) → AreNamed held job chosen
+    → AreSettled held job.wanted job.how chosen (IsNameOf held path)
     → IsBegun before begun → GivesHeld held path left
-    → OnOk result (IsTranslatedIn (choices_of chosen) job.style left begun after)
-    → OnOk result (IsTracedLog held job path before after)
-traced_log held job chosen path left before begun after (Ok a) all settled is gives translated =
+    → IsTranslatedIn chosen job.style left begun after
+    → IsTracedLog held job path before after
+traced_log held job chosen path left before begun after all settled is gives translated =
     one_log held job path left before begun after is gives
     (λ plain. one_part held job (IsNameOf held path) left begun after
     (traced held job chosen (IsNameOf held path) left begun after all
-    (λ text is. of_log held job (choices_of chosen) path text settled)
+    (λ text is. of_log held job chosen path text settled)
     translated plain))
-traced_log held job chosen path left before begun after (Err e) all settled is gives translated = tt
 
-pub traced_front : {A E : Type 0} (held : Held) (job : Job) (chosen : Chosen) (path : List ℕ)
+pub traced_front : {A E : Type 0} (held : Held) (job : Job) (chosen : Choices) (path : List ℕ)
     (size : ℕ) (left front before after : Option (List ℕ)) (result : Result A E) → AreNamed held job chosen
-    → AreSettled held job (choices_of chosen) (IsNameOf held path) → HasSize held path size
+    → AreSettled held job.wanted job.how chosen (IsNameOf held path) → HasSize held path size
     → front ≡ option_map (take size) left
-    → OnOk result (IsTranslatedIn (choices_of chosen) job.style front before after)
+    → OnOk result (IsTranslatedIn chosen job.style front before after)
     → OnOk result (IsTracedFront held job path left before after)
 traced_front held job chosen path size left front before after (Ok a) all settled has is translated = (
   size,
@@ -88,23 +65,22 @@ traced_front held job chosen path size left front before after (Ok a) all settle
   subst (λ (f : Option (List ℕ)). IsTracedTextIn held job (IsNameOf held path) f before after) is
       (λ plain. one_part held job (IsNameOf held path) front before after
       (traced held job chosen (IsNameOf held path) front before after all
-      (λ text is. of_log held job (choices_of chosen) path text settled)
+      (λ text is. of_log held job chosen path text settled)
       translated plain)),
 )
 traced_front held job chosen path size left front before after (Err e) all settled has is translated = tt
 
-pub traced_lines : {A E : Type 0} (held : Held) (job : Job) (chosen : Chosen) (lines : List ℕ)
-    (before after : Option (List ℕ)) (result : Result A E) → AreNamed held job chosen
-    → AreSettled held job (choices_of chosen) (Contains (urls_of lines))
-    → OnOk result (IsTranslatedIn (choices_of chosen) job.style (Some lines) before after)
-    → OnOk result (IsTracedIn held job (λ name. ⊤) (Some lines) before after)
-traced_lines held job chosen lines before after (Ok a) all settled translated =
+pub traced_lines : (held : Held) (job : Job) (chosen : Choices) (lines : List ℕ)
+    (before after : Option (List ℕ)) → AreNamed held job chosen
+    → AreSettled held job.wanted job.how chosen (Contains (urls_of lines))
+    → IsTranslatedIn chosen job.style (Some lines) before after
+    → IsTracedIn held job (λ name. ⊤) (Some lines) before after
+traced_lines held job chosen lines before after all settled translated =
     traced held job chosen (λ name. ⊤) (Some lines) before after all (λ text is. record {
       each = λ name both. settled.each name
           (subst (λ (t : List ℕ). Contains (urls_of t) name) (sym is) both.0);
       judged = settled.judged;
     }) translated
-traced_lines held job chosen lines before after (Err e) all settled translated = tt
 
 pub one_more : (held : Held) (job : Job) (paths : List (List ℕ)) (path : List ℕ)
     (before middle after : Option (List ℕ)) → AreTraced held job paths before middle

@@ -1,3 +1,4 @@
 pub mod OutputView
+pub mod Running
 pub mod Runs
 pub mod Written

@@ -8,15 +8,12 @@ use Rattle.std.specs.Option.{is_some, unwrap_or}
 use Rattle.std.specs.Io.{IsEmptyOrEndsWith}
 use Rattle.std.specs.Io.KnownBytes.{Appends}
 use Rattle.smap_disk.specs.Held.{GivesHeld, HasSize, Held, IsHeld}
-use Rattle.smap_finder.specs.Choice.{IsMapOf}
-use Rattle.smap_finder.specs.ChosenView.{AreChosen, AreEndsOf, Choices, Has, HasMap, IsJudged, IsLeft}
-use Rattle.smap_finder.specs.ChosenView.{IsSettledIn, choices_of}
-use Rattle.smap_finder.specs.declared.chosen.Chosen.{Chosen}
+use Rattle.smap_finder.specs.ChosenView.{AreChosen, AreEndsOf, Choices, HasNamedMap, IsJudged, IsLeft}
+use Rattle.smap_finder.specs.ChosenView.{IsSettledIn}
 use Rattle.smap_arguments.specs.declared.wanted.Wanted.{Wanted}
-use Rattle.smap_record.specs.Record.{ReadMap, record_of}
+use Rattle.smap_opening.specs.declared.opening.How.{How}
 use Rattle.smap_trace.specs.Naming.{urls_of}
 use Rattle.smap_trace.specs.Translation.{Fate, Script, fate_by, translation_by}
-use Rattle.smap_trace.specs.declared.match_mode.MatchMode.{MatchMode}
 pub use Rattle.smap_logs.specs.Logs.{IsAll}
 use Rattle.smap_logs.specs.Naming.{asked_in}
 use Rattle.smap_tracer.specs.declared.decorating.Style.{Style}
@@ -32,30 +29,14 @@ pub record IsTranslated (fates : List ℕ → Fate) (left before after : Option 
   pub all : IsAll left text
   pub written : Appends before after (translation_by fates text)
 
--- A script is a name of the log, with the map that is open for it.
-abbrev pub HasMapOf : Choices → Script → Type 0
-HasMapOf choices script = (m : ReadMap) × Has choices script.0 m × (script.1 ≡ record_of m)
-
 -- One of the scripts has this name.
 abbrev pub IsNameIn : List Script → List ℕ → Type 0
 IsNameIn scripts name = Contains (map (λ script. script.0) scripts) name
 
--- Each name that has a map is that of a script.
-abbrev pub AreAll : Choices → List Script → Type 0
-AreAll choices scripts = (name : List ℕ) → HasMap choices name → IsNameIn scripts name
-
--- The same, by all scripts with these maps.
-pub record IsTranslatedBy (choices : Choices) (mode : MatchMode) (hide : Bool)
-    (left before after : Option (List ℕ)) : Type 0 where
-  pub scripts : List Script
-  pub have_maps : All (HasMapOf choices) scripts
-  pub are_all : AreAll choices scripts
-  pub translated : IsTranslated (fate_by mode scripts hide) left before after
-
--- The same in a plain style; of another nothing is said.
+-- The same by the names that have maps, in a plain style; of another nothing is said.
 abbrev pub IsTranslatedIn : Choices → Style → Option (List ℕ) → Option (List ℕ) → Option (List ℕ) → Type 0
 IsTranslatedIn choices style left before after = is_plain_style style.prefixes.now style.context ≡ true
-    → IsTranslatedBy choices style.mode style.hide left before after
+    → IsTranslated (fate_by style.mode choices.scripts style.hide) left before after
 
 -- what may be looked for of the files with these names, where it is said what they hold
 abbrev pub asked_of : Held → Bool → List (List ℕ) → Option (List (List ℕ))
@@ -97,13 +78,9 @@ AreLogs held job paths = (k : ℕ) (d : Bor (List ℕ)) → k < length paths →
 
 -- Each name of the log has, of the maps that the arguments name, the one that it has by the definition; and
 -- files that end as names do were opened for names of the logs alone.
-pub record AreNamed (held : Held) (job : Job) (chosen : Chosen) : Type 0 where
-  pub named : AreChosen held job.wanted (choices_of chosen)
-  pub ends : AreEndsAmong held job.wanted (asked_by held job) (choices_of chosen)
-
--- A script has a map that the arguments name, the one that it has by the definition.
-abbrev pub HasNamedMap : Held → Wanted → Script → Type 0
-HasNamedMap held wanted script = (m : ReadMap) × IsMapOf held wanted script.0 m × (script.1 ≡ record_of m)
+pub record AreNamed (held : Held) (job : Job) (choices : Choices) : Type 0 where
+  pub named : AreChosen held job.wanted choices
+  pub ends : AreEndsAmong held job.wanted (asked_by held job) choices
 
 -- A name is that of a script, or is left without a map.
 abbrev pub IsGiven : Held → Wanted → Choices → List Script → List ℕ → Type 0
@@ -171,14 +148,15 @@ IsNameOf (Some held) path name = (bytes : List ℕ) × (held path ≡ Some bytes
 
 -- Each of these names has its map, or is left without one; and no map was refused, unless broken maps are
 -- skipped.
-pub record AreSettled (held : Held) (job : Job) (choices : Choices) (IsName : List ℕ → Type 0) : Type 0 where
-  pub each : (name : List ℕ) → IsName name → IsSettledIn held job.wanted true choices name
-  pub judged : IsJudged job.how.skip choices
+pub record AreSettled (held : Held) (wanted : Wanted) (how : How) (choices : Choices)
+    (IsName : List ℕ → Type 0) : Type 0 where
+  pub each : (name : List ℕ) → IsName name → IsSettledIn held wanted true choices name
+  pub judged : IsJudged how.skip choices
 
 -- The same of the names of frames of what the files with these names hold.
-abbrev pub AreSettledLogs : Held → Job → Choices → List (Bor (List ℕ)) → Type 0
-AreSettledLogs held job choices paths = (k : ℕ) (d : Bor (List ℕ)) → k < length paths
-    → AreSettled held job choices (IsNameOf held (get_or paths k d).now)
+abbrev pub AreSettledLogs : Held → Wanted → How → Choices → List (Bor (List ℕ)) → Type 0
+AreSettledLogs held wanted how choices paths = (k : ℕ) (d : Bor (List ℕ)) → k < length paths
+    → AreSettled held wanted how choices (IsNameOf held (get_or paths k d).now)
 
 -- So much of what a reader had was translated and written as the file with this name is long.
 abbrev pub IsTracedFront : Held → Job → List ℕ → Option (List ℕ) → Option (List ℕ) → Option (List ℕ)

@@ -1,7 +1,8 @@
 //! What helps where nothing was translated, or a log can't be read as it is.
+use crate::tracing::Job;
 use smap_arguments::Wanted;
 use smap_disk::Disk;
-use smap_finder::Chosen;
+use smap_finder::Finder;
 use smap_host::{Host, Stop, shown};
 use smap_logs::Names;
 
@@ -61,25 +62,24 @@ fn why_no_map<E: Eprint + AllocGlobal, D: Disk>(
 /// Says why nothing was translated.
 pub(crate) fn hint_at_nothing<E: Eprint + AllocGlobal, D: Disk>(
     host: &Host<'_, E, D>,
-    wanted: &Wanted<'_>,
+    job: &Job<'_>,
     names: &Names,
-    chosen: &Chosen,
-    anywhere: bool,
+    finder: &Finder<'_, E, D>,
 ) -> Result<(), Stop> {
     let alloc = host.alloc();
-    if chosen.is_unclear() {
+    if finder.is_unclear() {
         return Ok(());
     }
     let Some(name) = names.most_frequent() else {
-        host.say(if anywhere {
+        host.say(if job.anywhere {
             "nothing was translated: no position in the log is one of a script that has a map"
         } else {
             "no line of the log is a stack frame alone; --anywhere finds positions in other lines"
         });
         return Ok(());
     };
-    let is_mapped = chosen.map_of(name).is_some();
-    let why = why_no_map(host, wanted, name)?;
+    let is_mapped = finder.map_of(name).is_some();
+    let why = why_no_map(host, &job.wanted, name)?;
     let why = why.as_str();
     let name = shown(alloc, name)?;
     let name = name.as_str();

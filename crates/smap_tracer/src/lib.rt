@@ -8,8 +8,8 @@ mod hints;
 mod listing;
 mod output;
 mod program;
-mod scripts;
 mod tracing;
 mod translating;
 
+pub use output::Output;
 pub use program::{Input, InputKind, run};

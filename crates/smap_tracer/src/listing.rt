@@ -1,8 +1,9 @@
 //! `--list`: the scripts that a log names.
 use crate::hints::hint_at_start;
+use crate::tracing::Job;
 use smap_arguments::Wanted;
 use smap_disk::{Disk, printable};
-use smap_finder::Chosen;
+use smap_finder::Finder;
 use smap_host::{Host, Stop, shown};
 use smap_lines::Looked;
 use smap_logs::{Log, Names};
@@ -70,14 +71,14 @@ fn rows(alloc: Global, names: &Names) -> Result<Vec<(u64, &[u8])>, AllocError> {
 }
 
 /// The list.
-pub(crate) fn list_text(
+pub(crate) fn list_text<E: Eprint + AllocGlobal, D: Disk>(
     alloc: Global,
     names: &Names,
-    chosen: &Chosen,
+    finder: &Finder<'_, E, D>,
 ) -> Result<String, AllocError> {
     let mut text = String::new(alloc);
     for (count, name) in rows(alloc, names)? {
-        let has = if chosen.map_of(name).is_some() {
+        let has = if finder.map_of(name).is_some() {
             "has a map"
         } else {
             "no map   "
@@ -101,15 +102,14 @@ fn frame_count(names: &Names) -> u64 {
 /// Says why the list isn't what one would expect, if that is plain.
 pub(crate) fn hint_at_list<E: Eprint + AllocGlobal, D: Disk>(
     host: &Host<'_, E, D>,
+    job: &Job<'_>,
     listed: &Listed,
-    chosen: &Chosen,
-    wanted: &Wanted<'_>,
-    anywhere: bool,
+    finder: &Finder<'_, E, D>,
 ) -> Result<(), Stop> {
     let alloc = host.alloc();
     let frames = frame_count(&listed.names);
     let positions = listed.looked.lines;
-    if !anywhere && positions > frames {
+    if !job.anywhere && positions > frames {
         let more = positions.saturating_sub(frames);
         let signs = listed.looked.signs(alloc)?;
         let signs = signs.as_str();
@@ -126,8 +126,8 @@ pub(crate) fn hint_at_list<E: Eprint + AllocGlobal, D: Disk>(
     } else if frames == 0 {
         host.say("no line of the log is a stack frame");
     }
-    if frames > 0 && !wanted.is_empty() {
-        hint_at_maps(host, &listed.names, chosen, wanted)?;
+    if frames > 0 && !job.wanted.is_empty() {
+        hint_at_maps(host, &job.wanted, &listed.names, finder)?;
     }
     Ok(())
 }
@@ -135,13 +135,13 @@ pub(crate) fn hint_at_list<E: Eprint + AllocGlobal, D: Disk>(
 /// Says that no script of the log has a map.
 fn hint_at_maps<E: Eprint + AllocGlobal, D: Disk>(
     host: &Host<'_, E, D>,
-    names: &Names,
-    chosen: &Chosen,
     wanted: &Wanted<'_>,
+    names: &Names,
+    finder: &Finder<'_, E, D>,
 ) -> Result<(), Stop> {
     let alloc = host.alloc();
     for (name, _) in names.frames.iter() {
-        if chosen.map_of(name).is_some() {
+        if finder.map_of(name).is_some() {
             return Ok(());
         }
     }

@@ -1,25 +1,18 @@
 //! A run of `smap-trace`.
-ghost use Rattle.std.specs.Prelude.{◌≡◌, [], false, IfOk, OnOk, map};
-ghost use Rattle.smap_finder.specs.ChosenView.{AreChosen, IsOver, choices_of};
-ghost use Rattle.smap_logs.specs.Naming.{names_of};
+ghost use Rattle.std.specs.Prelude.{◌≡◌, [], false, true, IfOk, OnOk, map};
 ghost use Rattle.smap_tracer.specs.OutputView.{contents_of};
 ghost use Rattle.smap_tracer.specs.Runs.{AreFound, IsAnswered, IsJobOf, IsTracedAsked, IsTracedInput};
 ghost use Rattle.smap_tracer.specs.Runs.{IsTracedJob, IsTracedRedirected};
 ghost use Rattle.smap_tracer.specs.Runs.{pairs_of, prefixes_of};
-ghost use Rattle.smap_tracer.specs.Written.{AreNamed};
 ghost use Rattle.smap_words.specs.Request.{IsAsked};
 
 use crate::decorating::Style;
 use crate::listing::{Listed, hint_at_list, list_log, list_text};
 use crate::output::Output;
-use crate::scripts::with_controls;
-use crate::tracing::{
-    Job, State, new_state, open_names, say_nothing, trace_files, trace_input, trace_stream,
-    trace_streams,
-};
+use crate::tracing::{Job, Run, finder_of, open_log, open_names, with_controls};
 use smap_arguments::{Wanted, settle, wanted_by};
 use smap_disk::{Disk, Kind, create_beside};
-use smap_finder::{How, Opener, check_all, tell_count};
+use smap_finder::{Finder, How};
 use smap_host::{Host, Stop};
 use smap_trace::MatchMode;
 use smap_words::{
@@ -58,91 +51,22 @@ fn are_files<D: Disk>(disk: &D, paths: &[&str]) -> bool {
     !paths.is_empty()
 }
 
-/// Whether standard input, which is a file, can be read from its beginning by its name: it may be opened so,
-/// and says how long it is. The kernel says 0 of files of its own that aren't empty, as of those of `/proc`.
-fn has_name<D: Disk>(disk: &D) -> bool {
+/// Whether a file can be read from its beginning by the name of standard input: it may be opened so, and says
+/// how long it is. The kernel says 0 of files of its own that aren't empty, as of those of `/proc`.
+fn opens_by_name<D: Disk>(disk: &D) -> bool {
     match disk.size(STDIN) {
         Ok(size) => size > 0 && disk.open(STDIN).is_ok(),
         Err(_) => false,
     }
 }
 
-/// Translates standard input that is a file.
-fn trace_redirected<E: Eprint + AllocGlobal, D: Disk, I: Read, W: Write + Drop>(
-    host: &Host<'_, E, D>,
-    job: &Job<'_>,
-    opener: &mut Opener<'_, D>,
-    reader: I,
-    state: &mut State,
-    output: &mut Output<W>,
-) -> Result<(), Stop>
-where
-    I: Drop,
-    requires logs { job.now.wanted.logs.items ≡ [] }
-    requires none { names_of state.old.names ≡ [] }
-    requires named { AreNamed (D.held host.now.disk.now) job.now state.old.chosen }
-    requires over { IsOver D.held (D.held host.now.disk.now) job.now.wanted opener.old }
-    ensures { OnOk result (IsTracedRedirected (D.held host.now.disk.now) job.now (I.remaining reader)
-        (contents_of W.contents output.old) (contents_of W.contents output.new)) }
+/// Whether standard input is a file that can be read from its beginning by its name.
+fn has_name<D: Disk>(disk: &D, kind: InputKind) -> bool
+    ensures { result ≡ true → kind ≡ InputKind.File }
 {
-    if has_name(host.disk) {
-        return trace_input(host, job, opener, STDIN, reader, state, output);
-    }
-    trace_stream(host, job, opener, reader, state, output)
-}
-
-/// Translates standard input.
-fn trace_standard<E: Eprint + AllocGlobal, D: Disk, I: Read, W: Write + Drop>(
-    host: &Host<'_, E, D>,
-    job: &Job<'_>,
-    opener: &mut Opener<'_, D>,
-    input: Input<I>,
-    state: &mut State,
-    output: &mut Output<W>,
-) -> Result<(), Stop>
-where
-    I: Drop,
-    requires logs { job.now.wanted.logs.items ≡ [] }
-    requires none { names_of state.old.names ≡ [] }
-    requires named { AreNamed (D.held host.now.disk.now) job.now state.old.chosen }
-    requires over { IsOver D.held (D.held host.now.disk.now) job.now.wanted opener.old }
-    ensures { OnOk result (IsTracedInput (D.held host.now.disk.now) job.now input.kind
-        (I.remaining input.reader) (contents_of W.contents output.old) (contents_of W.contents output.new)) }
-{
-    let Input { reader, kind } = input;
     match kind {
-        InputKind::File => trace_redirected(host, job, opener, reader, state, output),
-        InputKind::Closed | InputKind::Terminal | InputKind::Other => {
-            trace_stream(host, job, opener, reader, state, output)
-        }
-    }
-}
-
-/// Translates the logs.
-fn trace_logs<E: Eprint + AllocGlobal, D: Disk, I: Read, W: Write + Drop>(
-    host: &Host<'_, E, D>,
-    job: &Job<'_>,
-    opener: &mut Opener<'_, D>,
-    input: Input<I>,
-    state: &mut State,
-    output: &mut Output<W>,
-) -> Result<(), Stop>
-where
-    I: Drop,
-    requires none { names_of state.old.names ≡ [] }
-    requires named { AreNamed (D.held host.now.disk.now) job.now state.old.chosen }
-    requires over { IsOver D.held (D.held host.now.disk.now) job.now.wanted opener.old }
-    ensures { OnOk result (IsTracedJob (D.held host.now.disk.now) job.now input.kind
-        (I.remaining input.reader) (contents_of W.contents output.old) (contents_of W.contents output.new)) }
-{
-    let logs = job.wanted.logs.as_slice();
-    if logs.is_empty() {
-        return trace_standard(host, job, opener, input, state, output);
-    }
-    if are_files(host.disk, logs) {
-        trace_files(host, job, opener, logs, state, output)
-    } else {
-        trace_streams(host, job, opener, logs, state, output)
+        InputKind::File => opens_by_name(disk),
+        InputKind::Closed | InputKind::Terminal | InputKind::Other => false,
     }
 }
 
@@ -160,90 +84,137 @@ where
         return list_log(host, input, job.how.verbose, listed);
     }
     for path in &job.wanted.logs {
-        match host.disk.open(path) {
-            Ok(log) => list_log(host, log, job.how.verbose, listed)?,
-            Err(error) => return Err(host.fail_for("cannot read the log", &error)),
-        }
+        let log = open_log(host, path)?;
+        list_log(host, log, job.how.verbose, listed)?;
     }
     Ok(())
 }
 
-/// Writes the list.
+impl<E: Eprint + AllocGlobal, D: Disk> Run<'_, E, D> {
+    /// Translates standard input.
+    fn trace_standard<I: Read, W: Write + Drop>(
+        &mut self,
+        input: Input<I>,
+        output: &mut Output<W>,
+    ) -> Result<(), Stop>
+    where
+        I: Drop,
+        requires { self.old.job.wanted.logs.items ≡ [] }
+        ensures { OnOk result (IsTracedInput (D.held self.old.disk) self.old.job input.kind
+            (I.remaining input.reader) (contents_of W.contents output.old)
+            (contents_of W.contents output.new)) }
+    {
+        if has_name(self.host.disk, input.kind) {
+            return self.trace_input(STDIN, input.reader, output);
+        }
+        self.follow_log(input.reader, output)?;
+        self.finder.tell_count()
+    }
+
+    /// Translates the logs.
+    fn trace_logs<I: Read, W: Write + Drop>(
+        &mut self,
+        input: Input<I>,
+        output: &mut Output<W>,
+    ) -> Result<(), Stop>
+    where
+        I: Drop,
+        ensures { OnOk result (IsTracedJob (D.held self.old.disk) self.old.job input.kind
+            (I.remaining input.reader) (contents_of W.contents output.old)
+            (contents_of W.contents output.new)) }
+    {
+        let (host, job) = (self.host, self.job);
+        let logs = job.wanted.logs.as_slice();
+        if logs.is_empty() {
+            return self.trace_standard(input, output);
+        }
+        if are_files(host.disk, logs) {
+            self.trace_files(logs, output)
+        } else {
+            self.trace_streams(logs, output)
+        }
+    }
+
+    /// Translates the logs, and says why nothing was translated, where nothing was.
+    fn trace<I: Read, W: Write + Drop>(
+        &mut self,
+        input: Input<I>,
+        output: &mut Output<W>,
+    ) -> Result<(), Stop>
+    where
+        I: Drop,
+        ensures { OnOk result (IsTracedJob (D.held self.old.disk) self.old.job input.kind
+            (I.remaining input.reader) (contents_of W.contents output.old)
+            (contents_of W.contents output.new)) }
+    {
+        self.trace_logs(input, output)?;
+        self.say_nothing()
+    }
+}
+
+/// Writes the list of the names that were found, once their maps are opened.
 fn write_list<E: Eprint + AllocGlobal, D: Disk, W: Write + Drop>(
     host: &Host<'_, E, D>,
     job: &Job<'_>,
     listed: &Listed,
-    state: &State,
+    finder: &mut Finder<'_, E, D>,
     output: &mut Output<W>,
 ) -> Result<(), Stop> {
-    let text = list_text(host.alloc(), &listed.names, &state.chosen)?;
+    let alloc = host.alloc();
+    open_names(alloc, &job.with_controls, &listed.names, finder)?;
+    finder.tell_count()?;
+    let text = list_text(alloc, &listed.names, finder)?;
     output.write(host, text.as_bytes())?;
-    hint_at_list(host, listed, &state.chosen, &job.wanted, job.anywhere)
+    hint_at_list(host, job, listed, finder)
 }
 
-/// Lists the scripts that the logs name.
-fn list<E: Eprint + AllocGlobal, D: Disk, I: Read, W: Write + Drop>(
+/// Lists the scripts that the logs name, by what finds their maps.
+fn list_with<E: Eprint + AllocGlobal, D: Disk, I: Read, W: Write + Drop>(
     host: &Host<'_, E, D>,
     job: &Job<'_>,
-    opener: &mut Opener<'_, D>,
     input: I,
-    state: &mut State,
+    finder: &mut Finder<'_, E, D>,
     output: &mut Output<W>,
 ) -> Result<(), Stop>
 where
     I: Drop,
-    requires named { AreChosen (D.held host.now.disk.now) job.now.wanted (choices_of state.old.chosen) }
-    requires over { IsOver D.held (D.held host.now.disk.now) job.now.wanted opener.old }
 {
     let mut listed = Listed::new(host.alloc());
     list_logs(host, job, input, &mut listed)?;
-    open_names(host, opener, job, &listed.names, &mut state.chosen)?;
-    tell_count(host, job.how, &job.wanted, &state.chosen)?;
-    write_list(host, job, &listed, state, output)
+    write_list(host, job, &listed, finder, output)
 }
 
-/// Does what is asked for with what opens the maps.
-fn run_over<E: Eprint + AllocGlobal, D: Disk, I: Read, W: Write + Drop>(
-    host: &Host<'_, E, D>,
+/// Lists the scripts that the logs name.
+fn list<'h, E: Eprint + AllocGlobal, D: Disk, I: Read, W: Write + Drop>(
+    host: &'h Host<'h, E, D>,
     job: &Job<'_>,
-    opener: &mut Opener<'_, D>,
-    input: Input<I>,
-    state: &mut State,
+    input: I,
     output: &mut Output<W>,
 ) -> Result<(), Stop>
 where
     I: Drop,
-    requires none { names_of state.old.names ≡ [] }
-    requires named { AreNamed (D.held host.now.disk.now) job.now state.old.chosen }
-    requires over { IsOver D.held (D.held host.now.disk.now) job.now.wanted opener.old }
+{
+    let mut finder = finder_of(&*host, &*job)?;
+    list_with(&*host, &*job, input, &mut finder, output)
+}
+
+/// Does a job.
+fn run_job<'h, E: Eprint + AllocGlobal, D: Disk, I: Read, W: Write + Drop>(
+    host: &'h Host<'h, E, D>,
+    job: &Job<'_>,
+    input: Input<I>,
+    output: &mut Output<W>,
+) -> Result<(), Stop>
+where
+    I: Drop,
     ensures { OnOk result (job.now.list ≡ false → IsTracedJob (D.held host.now.disk.now) job.now input.kind
         (I.remaining input.reader) (contents_of W.contents output.old) (contents_of W.contents output.new)) }
 {
-    if job.check_all {
-        check_all(host, opener, job.how, &job.wanted, &mut state.chosen)?;
-    }
     if job.list {
-        return list(host, job, opener, input.reader, state, output);
+        return list(host, job, input.reader, output);
     }
-    trace_logs(host, job, opener, input, state, output)?;
-    say_nothing(host, job, state)
-}
-
-/// Does what is asked for, once the arguments are read.
-fn run_with<E: Eprint + AllocGlobal, D: Disk, I: Read, W: Write + Drop>(
-    host: &Host<'_, E, D>,
-    job: &Job<'_>,
-    input: Input<I>,
-    output: &mut Output<W>,
-) -> Result<(), Stop>
-where
-    I: Drop,
-    ensures { OnOk result (job.now.list ≡ false → IsTracedJob (D.held host.now.disk.now) job.now input.kind
-        (I.remaining input.reader) (contents_of W.contents output.old) (contents_of W.contents output.new)) }
-{
-    let mut opener = Opener::new(host.alloc(), host.disk, &job.wanted)?;
-    let mut state = new_state(host.alloc());
-    run_over(host, job, &mut opener, input, &mut state, output)
+    let mut run = Run::new(&*host, &*job)?;
+    run.trace(input, output)
 }
 
 /// Refuses a log that can't be had, and says what is waited for.
@@ -279,8 +250,8 @@ fn prefixes<'a>(alloc: Global, all: &[Prefix<'a>]) -> Result<Vec<(&'a str, &'a s
 }
 
 /// Writes to the file that `-o` names, beside it until all is written.
-fn run_to_file<E: Eprint + AllocGlobal, D: Disk, I: Read>(
-    host: &Host<'_, E, D>,
+fn run_to_file<'h, E: Eprint + AllocGlobal, D: Disk, I: Read>(
+    host: &'h Host<'h, E, D>,
     job: &Job<'_>,
     input: Input<I>,
     file: &str,
@@ -299,7 +270,7 @@ where
         Err(fault) => return Err(host.fail_writing(&fault.into_error())),
     };
     let mut output = Output::new(writer);
-    let answer = run_with(host, job, input, &mut output);
+    let answer = run_job(host, job, input, &mut output);
     drop(output);
     match answer {
         Ok(()) => match beside.finish(host.disk) {
@@ -368,8 +339,8 @@ fn job_of<'a>(
 }
 
 /// Translates or lists what is wanted.
-fn trace_wanted<E: Eprint + AllocGlobal, D: Disk, I: Read, W: Write + Drop>(
-    host: &Host<'_, E, D>,
+fn trace_wanted<'h, E: Eprint + AllocGlobal, D: Disk, I: Read, W: Write + Drop>(
+    host: &'h Host<'h, E, D>,
     asked: &TraceWords<'_>,
     wanted: Wanted<'_>,
     input: Input<I>,
@@ -386,13 +357,13 @@ where
     let job = job_of(asked, wanted, with_controls, &prefixes);
     match asked.output {
         Some(file) => run_to_file(host, &job, input, file),
-        None => run_with(host, &job, input, output),
+        None => run_job(host, &job, input, output),
     }
 }
 
 /// Translates or lists.
-fn trace<E: Eprint + AllocGlobal, D: Disk, I: Read, W: Write + Drop>(
-    host: &Host<'_, E, D>,
+fn trace<'h, E: Eprint + AllocGlobal, D: Disk, I: Read, W: Write + Drop>(
+    host: &'h Host<'h, E, D>,
     asked: &TraceWords<'_>,
     input: Input<I>,
     output: &mut Output<W>,
@@ -408,31 +379,17 @@ where
     trace_wanted(host, asked, wanted, input, output)
 }
 
-/// Says what is wrong with the words.
-fn refuse<E: Eprint + AllocGlobal, D: Disk>(host: &Host<'_, E, D>, fault: &WordFault<'_>) -> Stop {
-    let rt = host.rt;
+/// What helps with a wrong command line.
+fn advice(fault: &WordFault<'_>) -> Option<&'static str> {
     match fault {
-        WordFault::Memory => Stop::Memory,
-        WordFault::Nothing => {
-            let _ = eprint!(rt; "{HELP}");
-            Stop::Reported(2)
-        }
-        _ => match message(host.alloc(), fault) {
-            Ok(text) => {
-                let stop = host.fail(2, text.as_str());
-                if !matches!(fault, WordFault::Argument { .. }) {
-                    let _ = eprintln!(rt; "{TRY_HELP}");
-                }
-                stop
-            }
-            Err(_) => Stop::Memory,
-        },
+        WordFault::Argument { .. } => None,
+        _ => Some(TRY_HELP),
     }
 }
 
 /// What the words ask for.
-fn answer<E: Eprint + AllocGlobal, D: Disk, I: Read, W: Write + Drop>(
-    host: &Host<'_, E, D>,
+fn answer<'h, E: Eprint + AllocGlobal, D: Disk, I: Read, W: Write + Drop>(
+    host: &'h Host<'h, E, D>,
     words: &[&str],
     input: Input<I>,
     output: &mut Output<W>,
@@ -448,27 +405,9 @@ where
         Ok(Asked::Help) => output.write(host, HELP.as_bytes()),
         Ok(Asked::Version) => output.write(host, VERSION.as_bytes()),
         Ok(Asked::Trace(asked)) => trace(host, &asked, input, output),
-        Err(fault) => Err(refuse(host, &fault)),
-    }
-}
-
-/// Does what the words ask for, and answers the exit status: 0 only where that was done.
-fn run_on<E: Eprint + AllocGlobal, D: Disk, I: Read, W: Write + Drop>(
-    host: &Host<'_, E, D>,
-    words: &[&str],
-    input: Input<I>,
-    output: &mut Output<W>,
-) -> u8
-where
-    I: Drop,
-    ensures { result ≡ 0 → (asked : Asked) × IsAsked (map (λ w. w.now) words.now) asked
-        × IsAnswered (D.tree host.now.disk.now) (D.held host.now.disk.now) HELP.now VERSION.now asked
-        input.kind (I.remaining input.reader) (contents_of W.contents output.old)
-        (contents_of W.contents output.new) }
-{
-    match answer(host, words, input, output) {
-        Ok(()) => 0,
-        Err(stop) => host.end(stop).max(1),
+        Err(WordFault::Memory) => Err(Stop::Memory),
+        Err(WordFault::Nothing) => Err(host.fail_with_help(HELP)),
+        Err(fault) => Err(host.fail_words(message(host.alloc(), &fault), advice(&fault))),
     }
 }
 
@@ -481,16 +420,22 @@ pub fn run<E: Eprint + AllocGlobal, D: Disk, I: Read, W: Write + Drop>(
     disk: &D,
     words: &[&str],
     input: Input<I>,
-    output: W,
+    output: &mut Output<W>,
 ) -> u8
 where
     I: Drop,
+    ensures { result ≡ 0 → (asked : Asked) × IsAsked (map (λ w. w.now) words.now) asked
+        × IsAnswered (D.tree disk.now) (D.held disk.now) HELP.now VERSION.now asked
+        input.kind (I.remaining input.reader) (contents_of W.contents output.old)
+        (contents_of W.contents output.new) }
 {
     let host = Host {
-        rt,
-        disk,
+        rt: &*rt,
+        disk: &*disk,
         name: "smap-trace",
     };
-    let mut output = Output::new(output);
-    run_on(&host, words, input, &mut output)
+    match answer(&host, words, input, output) {
+        Ok(()) => 0,
+        Err(stop) => host.end(stop).max(1),
+    }
 }

@@ -1,19 +1,16 @@
 //! Lines of a log, translated and written.
-ghost use Rattle.std.specs.Prelude.{OnOk, Some};
-ghost use Rattle.smap_finder.specs.ChosenView.{choices_of};
-ghost use Rattle.smap_trace.specs.Translation.{fate_by};
-ghost use Rattle.smap_trace.specs.Views.{scripts_in};
+ghost use Rattle.std.specs.Prelude.{◌≡◌, OnOk, Some};
 ghost use Rattle.smap_tracer.specs.OutputView.{contents_of};
-ghost use Rattle.smap_tracer.specs.Written.{IsBegun, IsTranslated, IsTranslatedIn};
+ghost use Rattle.smap_tracer.specs.Written.{AreNamed, IsBegun, IsTranslatedIn};
 
-use crate::decorating::{Style, decorate};
+use crate::decorating::decorate;
 use crate::output::Output;
-use crate::scripts::{Scripts, scripts_of};
+use crate::tracing::Run;
 use smap_disk::Disk;
-use smap_finder::Chosen;
 use smap_host::{Host, Stop};
+use smap_io::Device;
 use smap_logs::{Heeded, Log};
-use smap_trace::{Counts, TraceError};
+use smap_trace::{Counts, TraceError, translate_in};
 use std::io::{Read, Write};
 
 /// What became of a log's lines.
@@ -34,12 +31,13 @@ impl Tally {
         }
     }
 
-    pub(crate) fn add(&mut self, counts: Counts) {
+    fn add(&mut self, counts: Counts, ends_within_line: bool) {
         self.lines = self.lines.saturating_add(counts.lines);
         self.changed = self
             .changed
             .saturating_add(counts.translated)
             .saturating_add(counts.dropped);
+        self.ends_within_line = ends_within_line;
     }
 }
 
@@ -63,99 +61,78 @@ fn fail_translating<E: Eprint + AllocGlobal, D: Disk, R, W>(
     }
 }
 
-/// Translates all that a reader has.
-pub(crate) fn translate_all<E: Eprint + AllocGlobal, D: Disk, R: Read + Drop, W: Write + Drop>(
-    host: &Host<'_, E, D>,
-    reader: R,
-    scripts: &Scripts<'_>,
-    style: &Style<'_>,
-    output: &mut Output<W>,
-    tally: &mut Tally,
-) -> Result<(), Stop>
-    ensures { OnOk result
-        (IsTranslated (fate_by style.now.mode (scripts_in scripts.now.list.items) style.now.hide)
-        (R.remaining reader) (contents_of W.contents output.old) (contents_of W.contents output.new)) }
-{
-    let (reader, answer) = output.translate(host.alloc(), Heeded::new(reader), scripts, style);
-    match answer {
-        Ok(counts) => {
-            tally.add(counts);
-            tally.ends_within_line = reader.ends_within_line();
-            Ok(())
+impl<E: Eprint + AllocGlobal, D: Disk> Run<'_, E, D> {
+    /// Ends the line in which the log before ended.
+    pub(crate) fn begin_log<W: Write + Drop>(&mut self, output: &mut Output<W>) -> Result<(), Stop>
+        ensures kept { self.new ≡ self.old }
+        ensures begun { OnOk result
+            (IsBegun (contents_of W.contents output.old) (contents_of W.contents output.new)) }
+    {
+        if self.tally.ends_within_line {
+            output.write(self.host, b"\n")?;
+            self.tally.ends_within_line = false;
         }
-        Err(error) => Err(fail_translating(host, error, &reader, output)),
+        Ok(())
     }
-}
 
-/// Translates lines, and shows their sources if that is wanted.
-pub(crate) fn translate_lines<E: Eprint + AllocGlobal, D: Disk, W: Write + Drop>(
-    host: &Host<'_, E, D>,
-    lines: &[u8],
-    chosen: &Chosen,
-    style: &Style<'_>,
-    output: &mut Output<W>,
-    tally: &mut Tally,
-) -> Result<(), Stop>
-    ensures { OnOk result (IsTranslatedIn (choices_of chosen.now) style.now (Some lines.now)
-        (contents_of W.contents output.old) (contents_of W.contents output.new)) }
-{
-    let alloc = host.alloc();
-    if style.is_plain() {
-        let scripts = scripts_of(alloc, chosen)?;
-        return translate_all(host, lines, &scripts, style, output, tally);
-    }
-    let scripts = if style.mode.anywhere {
-        Some(scripts_of(alloc, chosen)?)
-    } else {
-        None
-    };
-    let mut out = Vec::new(alloc);
-    let counts = decorate(alloc, lines, scripts.as_ref(), chosen, style, &mut out)?;
-    output.write(host, &out)?;
-    tally.add(counts);
-    tally.ends_within_line = !lines.ends_with(b"\n");
-    Ok(())
-}
-
-/// Ends the line in which the log before ended.
-pub(crate) fn begin_log<E: Eprint + AllocGlobal, D: Disk, W: Write + Drop>(
-    host: &Host<'_, E, D>,
-    output: &mut Output<W>,
-    tally: &mut Tally,
-) -> Result<(), Stop>
-    ensures { OnOk result (IsBegun (contents_of W.contents output.old) (contents_of W.contents output.new)) }
-{
-    if tally.ends_within_line {
-        output.write(host, b"\n")?;
-        tally.ends_within_line = false;
-    }
-    Ok(())
-}
-
-/// Translates a log whose maps are open.
-pub(crate) fn translate_log<E: Eprint + AllocGlobal, D: Disk, R: Read, W: Write + Drop>(
-    host: &Host<'_, E, D>,
-    reader: R,
-    chosen: &Chosen,
-    style: &Style<'_>,
-    output: &mut Output<W>,
-    tally: &mut Tally,
-) -> Result<(), Stop>
-where
-    R: Drop,
-    ensures { OnOk result (IsTranslatedIn (choices_of chosen.now) style.now (R.remaining reader)
-        (contents_of W.contents output.old) (contents_of W.contents output.new)) }
-{
-    if style.is_plain() {
-        let scripts = scripts_of(host.alloc(), chosen)?;
-        return translate_all(host, reader, &scripts, style, output, tally);
-    }
-    let mut log = Log::new(host.alloc(), reader);
-    for _ in 0..u64::MAX {
-        if !log.advance(host)? {
-            return Ok(());
+    /// Translates a log whose maps are open, in a style that isn't plain.
+    fn decorate_log<R: Read, W: Write + Drop>(
+        &mut self,
+        reader: R,
+        output: &mut Output<W>,
+    ) -> Result<(), Stop>
+    where
+        R: Drop,
+        ensures { self.new ≡ self.old }
+    {
+        let (host, job) = (self.host, self.job);
+        let alloc = host.alloc();
+        let mut log = Log::new(alloc, reader);
+        for _ in 0..u64::MAX {
+            if !log.advance(host)? {
+                return Ok(());
+            }
+            let lines = log.lines();
+            let mut out = Vec::new(alloc);
+            let counts = decorate(alloc, lines, self.finder.scripts(), &job.style, &mut out)?;
+            output.write(host, &out)?;
+            self.tally.add(counts, !lines.ends_with(b"\n"));
         }
-        translate_lines(host, log.lines(), chosen, style, output, tally)?;
+        Err(host.fail(3, "cannot read the log"))
     }
-    Err(host.fail(3, "cannot read the log"))
+
+    /// Translates a log whose maps are open.
+    pub(crate) fn translate_log<R: Read, W: Write + Drop>(
+        &mut self,
+        reader: R,
+        output: &mut Output<W>,
+    ) -> Result<(), Stop>
+    where
+        R: Drop,
+        ensures named { AreNamed (D.held self.old.disk) self.old.job self.old.chosen }
+        ensures kept { self.new ≡ self.old }
+        ensures traced { OnOk result (IsTranslatedIn self.old.chosen self.old.job.style (R.remaining reader)
+            (contents_of W.contents output.old) (contents_of W.contents output.new)) }
+    {
+        let (host, style) = (self.host, &self.job.style);
+        if !style.is_plain() {
+            return self.decorate_log(reader, output);
+        }
+        let Some(writer) = output.writer.take() else {
+            return Err(host.fail(3, "cannot write"));
+        };
+        let mut reader = Device::new(Heeded::new(reader));
+        let mut writer = Device::new(writer);
+        let (scripts, mode, hide) = (self.finder.scripts(), style.mode, style.hide);
+        let answer = translate_in(host.alloc(), &mut reader, scripts, mode, hide, &mut writer);
+        output.writer = Some(writer.into_inner());
+        let reader = reader.into_inner();
+        match answer {
+            Ok(counts) => {
+                self.tally.add(counts, reader.ends_within_line());
+                Ok(())
+            }
+            Err(error) => Err(fail_translating(host, error, &reader, output)),
+        }
+    }
 }

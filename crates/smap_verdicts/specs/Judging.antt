@@ -1,7 +1,5 @@
 -- What is said of a map that was read.
-use Rattle.std.specs.Prelude.{◌≡◌, ℕ, List, [], ◌∷◌, Ok, Err, Option, Some, None, IfSome, if◌then◌else◌}
-use Rattle.std.specs.Prelude.{nat_eq}
-use Rattle.std.specs.List.{starts_with}
+use Rattle.std.specs.Prelude.{◌≡◌, ℕ, List, Ok, Err, Option, Some, None, IfSome}
 use Rattle.smap_record.specs.Faults.{Checked}
 use Rattle.smap_record.specs.Record.{ReadMap}
 use Rattle.smap_record.specs.declared.fault.Fault.{Fault}
@@ -9,10 +7,9 @@ use Rattle.smap_record.specs.declared.fault.ReadError.{ReadError}
 use Rattle.smap_record.specs.declared.fault.ReadError.TheVariants as error
 use Rattle.smap_places.specs.Points.{point_at}
 use Rattle.smap_ranges.specs.FaultRanges.{IsFaultRange}
+use Rattle.smap_ranges.specs.Starts.{start_of}
 use Rattle.smap_verdicts.specs.declared.outcome.Failure.TheVariants.{Memory}
 use Rattle.smap_verdicts.specs.declared.outcome.Refusal.{Refusal}
-use Rattle.smap_verdicts.specs.declared.outcome.Start.{Start}
-use Rattle.smap_verdicts.specs.declared.outcome.Start.TheVariants as start
 use Rattle.smap_verdicts.specs.declared.outcome.TextPlace.{TextPlace}
 use Rattle.smap_verdicts.specs.declared.outcome.Verdict.{Verdict}
 use Rattle.smap_verdicts.specs.declared.outcome.Verdict.TheVariants as verdict
@@ -22,12 +19,6 @@ use Rattle.smap_verdicts.specs.declared.outcome.Verdict.TheVariants as verdict
 abbrev pub IsPlaceOf : List ℕ → Fault → TextPlace → Type 0
 IsPlaceOf bytes fault place =
     IsFaultRange bytes fault place.range × (place.point ≡ point_at bytes place.range.start)
-
--- what a file shows at its beginning: a byte order mark (EF BB BF), or the two bytes of gzip (1F 8B)
-abbrev pub start_of : List ℕ → Start
-start_of bytes =
-    if starts_with nat_eq bytes (239 ∷ 187 ∷ 191 ∷ []) then start.Mark
-    else (if starts_with nat_eq bytes (31 ∷ 139 ∷ []) then start.Gzip else start.Other)
 
 -- What is told of a refused map is so: what it shows at its beginning, and the place of its fault.
 abbrev pub IsTold : List ℕ → Refusal → Type 0

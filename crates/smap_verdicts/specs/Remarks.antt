@@ -1,17 +1,14 @@
 -- What is said of a map on standard error.
-use Rattle.std.specs.Prelude.{ℕ, ◌==◌, Bool, true, false, List, [], ◌++◌, codes, cond, decimal, length}
+use Rattle.std.specs.Prelude.{ℕ, ◌==◌, Bool, true, false, List, ◌++◌, codes, cond, decimal, length}
 use Rattle.std.specs.Prelude.{Option, Some, None, slice_get, String, string_bytes}
 use Rattle.std.specs.List.{join_by}
 use Rattle.std.specs.declared.alloc.Global.{Global}
 use Rattle.smap_drops.specs.Naming.{shown_name}
 use Rattle.smap_record.specs.Messages.{fault_message}
-use Rattle.smap_record.specs.declared.fault.Kind.{Kind}
-use Rattle.smap_record.specs.declared.fault.Kind.TheVariants as kinds
+use Rattle.smap_ranges.specs.Starts.{hint}
 use Rattle.smap_verdicts.specs.JsonLines.{failure_text, long_urls}
 use Rattle.smap_verdicts.specs.declared.outcome.Outcome.{Outcome}
 use Rattle.smap_verdicts.specs.declared.outcome.Refusal.{Refusal}
-use Rattle.smap_verdicts.specs.declared.outcome.Start.{Start}
-use Rattle.smap_verdicts.specs.declared.outcome.Start.TheVariants as start
 use Rattle.smap_verdicts.specs.declared.outcome.TextPlace.{TextPlace}
 use Rattle.smap_verdicts.specs.declared.outcome.Verdict.{Verdict}
 use Rattle.smap_verdicts.specs.declared.outcome.Verdict.TheVariants as verdict
@@ -29,12 +26,6 @@ name_with file (Some place) = placed_name file place
 abbrev pub said_name : List ℕ → Verdict → List ℕ
 said_name file (verdict.Refused why) = name_with file why.place
 said_name file v = file
-
--- what may help with a map that isn't JSON, and that begins so
-abbrev pub hint : Kind → Start → List ℕ
-hint kinds.Json start.Mark = codes " (it begins with a byte order mark: remove that)"
-hint kinds.Json start.Gzip = codes " (it is compressed: gunzip it)"
-hint kind begins = []
 
 -- the names of members as JSON writes them, with a comma between each two
 abbrev pub names_text : List (String Global) → List ℕ

@@ -11,6 +11,6 @@ mod remarks;
 
 pub use json_lines::json_line;
 pub use judging::judged;
-pub use outcome::{Failure, Outcome, Refusal, Start, Tally, TextPlace, Verdict};
+pub use outcome::{Failure, Outcome, Refusal, Tally, TextPlace, Verdict};
 pub use placing::{refused_for, unread};
 pub use remarks::{is_named, remark, said_name};

@@ -2,19 +2,8 @@
 ghost use Rattle.std.specs.Prelude.{◌≡◌};
 ghost use Rattle.smap_verdicts.specs.Outcomes as spec;
 
-use smap_ranges::{Point, TextRange};
+use smap_ranges::{Point, Start, TextRange};
 use smap_record::Fault;
-
-/// What a file shows at its beginning that is no map.
-#[derive(Clone, Copy, Debug, PartialEq, Eq)]
-pub enum Start {
-    /// A byte order mark.
-    Mark,
-    /// That it is compressed by gzip.
-    Gzip,
-    /// Neither.
-    Other,
-}
 
 /// Why a map is neither accepted nor refused, or can't be replaced.
 #[derive(Clone, Copy, Debug, PartialEq, Eq)]

@@ -1,24 +1,11 @@
 //! Where in its text a map is refused.
-ghost use Rattle.std.specs.Prelude.{◌≡◌, IfOk, IfSome};
-ghost use Rattle.smap_verdicts.specs.Judging as spec;
+ghost use Rattle.std.specs.Prelude.{IfOk, IfSome};
 ghost use Rattle.smap_verdicts.specs.Judging.{IsJudgedFor, IsPlaceOf, IsRefusedFor};
 
-use crate::outcome::{Failure, Refusal, Start, TextPlace, Verdict};
-use smap_ranges::{point_of, range_of};
+use crate::outcome::{Failure, Refusal, TextPlace, Verdict};
+use smap_ranges::{point_of, range_of, start_of};
 use smap_record::{Fault, ReadError};
 use std::alloc::{AllocError, Global};
-
-fn start_of(bytes: &[u8]) -> Start
-    ensures { result ≡ spec.start_of bytes.now }
-{
-    if bytes.starts_with(b"\xef\xbb\xbf") {
-        Start::Mark
-    } else if bytes.starts_with(b"\x1f\x8b") {
-        Start::Gzip
-    } else {
-        Start::Other
-    }
-}
 
 /// Where in the text of a map its fault is.
 fn place_in(alloc: Global, bytes: &[u8], fault: &Fault) -> Result<Option<TextPlace>, AllocError>

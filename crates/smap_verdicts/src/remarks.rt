@@ -3,23 +3,10 @@ ghost use Rattle.std.specs.Prelude.{◌≡◌, IfOk, option_copied, option_map, 
 ghost use Rattle.smap_verdicts.specs.Remarks as spec;
 
 use crate::json_lines::{failure_text, long_urls};
-use crate::outcome::{Outcome, Refusal, Start, TextPlace, Verdict};
+use crate::outcome::{Outcome, Refusal, TextPlace, Verdict};
 use smap_drops::shown_name;
-use smap_record::{Fault, Kind};
+use smap_ranges::hint;
 use std::alloc::{AllocError, Global};
-
-/// What may help with a map that isn't accepted.
-fn hint(fault: &Fault, start: Start) -> &'static str
-    ensures { result.now ≡ spec.hint fault.now.kind start }
-{
-    match start {
-        Start::Mark if fault.kind == Kind::Json => {
-            " (it begins with a byte order mark: remove that)"
-        }
-        Start::Gzip if fault.kind == Kind::Json => " (it is compressed: gunzip it)",
-        _ => "",
-    }
-}
 
 /// The names of members, as JSON writes them.
 fn names_text(alloc: Global, names: &[String]) -> Result<String, AllocError>

@@ -1,21 +1,8 @@
-//! The map that a script names.
-use crate::files::stays;
+//! The map of a script.
 use smap_disk::{Disk, Kind};
-use smap_link::{InlineFault, inline_map, link_in};
-use smap_pick::{LinkedFault, linked_name};
+use smap_link::link_in;
+use smap_opening::{Home, Target, is_within, target_of};
 use std::alloc::{AllocError, Global};
-
-/// The longest URL of a file that is looked at, in bytes.
-const LONGEST: usize = 65_536;
-
-/// A script's folder, its URL, and the script's name in it.
-#[derive(Clone, Copy)]
-pub(crate) struct Home<'a> {
-    /// Empty, or with a slash at its end.
-    pub(crate) folder: &'a str,
-    pub(crate) url: &'a [u8],
-    pub(crate) name: &'a str,
-}
 
 /// The map of a script.
 #[derive(Drop)]
@@ -30,77 +17,41 @@ pub(crate) enum Link {
     File(String),
 }
 
-/// Whether a folder has a file with this name, which leads to no file elsewhere.
-fn has_file<D: Disk>(
+/// The map beside the script with this name, if there is one, and else this. A link counts only if it leads
+/// to a file of the folder.
+fn beside_or<D: Disk>(
     alloc: Global,
     disk: &D,
     folder: &str,
     name: &str,
-) -> Result<bool, AllocError> {
-    let path = format!(in alloc; "{folder}{name}")?;
-    if disk.kind(path.as_str()) != Kind::File {
-        return Ok(false);
-    }
-    stays(alloc, disk, folder, path.as_str())
-}
-
-/// The file of the folder that the URL leads to, if there is one.
-fn linked_file<D: Disk>(
-    alloc: Global,
-    disk: &D,
-    home: Home<'_>,
-    url: &[u8],
-) -> Result<Option<String>, AllocError> {
-    if url.is_empty() || url.len() > LONGEST {
-        return Ok(None);
-    }
-    let name = match linked_name(alloc, home.url, home.name.as_bytes(), url) {
-        Ok(name) => name,
-        Err(LinkedFault::Memory) => return Err(AllocError),
-        Err(LinkedFault::NotUrl | LinkedFault::Leaves) => return Ok(None),
-    };
-    let Ok(name) = String::from_utf8(name) else {
-        return Ok(None);
-    };
-    if has_file(alloc, disk, home.folder, name.as_str())? {
-        return Ok(Some(name));
-    }
-    Ok(None)
-}
-
-/// The map beside a script, if there is one, and else this.
-fn beside_or<D: Disk>(
-    alloc: Global,
-    disk: &D,
-    home: Home<'_>,
     otherwise: Link,
 ) -> Result<Link, AllocError> {
-    let name = home.name;
     let beside = format!(in alloc; "{name}.map")?;
-    if has_file(alloc, disk, home.folder, beside.as_str())? {
+    let path = beside.as_str();
+    let path = format!(in alloc; "{folder}{path}")?;
+    let path = path.as_str();
+    if disk.kind(path) == Kind::File && is_within(alloc, disk, folder, path)? {
         return Ok(Link::File(beside));
     }
     Ok(otherwise)
 }
 
-/// The map of a script with this text: the one that it names or holds, or else the one beside it.
+/// The map of the script with this name and text: the one that it names or holds, or else the one beside it.
 pub(crate) fn link_of<D: Disk>(
     alloc: Global,
     disk: &D,
     home: Home<'_>,
+    name: &str,
     text: &[u8],
 ) -> Result<Link, AllocError> {
-    let Some(url) = link_in(home.name.as_bytes(), text) else {
-        return beside_or(alloc, disk, home, Link::Nothing);
+    let Some(url) = link_in(name.as_bytes(), text) else {
+        return beside_or(alloc, disk, home.path, name, Link::Nothing);
     };
-    match inline_map(alloc, url) {
-        Ok(Some(bytes)) => return Ok(Link::Inline(bytes)),
-        Ok(None) => {}
-        Err(InlineFault::Memory) => return Err(AllocError),
-        Err(_) => return beside_or(alloc, disk, home, Link::Broken),
-    }
-    match linked_file(alloc, disk, home, url)? {
-        Some(name) => Ok(Link::File(name)),
-        None => beside_or(alloc, disk, home, Link::Broken),
+    match target_of(alloc, disk, home, name.as_bytes(), url)? {
+        Target::Inline(bytes) => Ok(Link::Inline(bytes)),
+        Target::File(map) => Ok(Link::File(map)),
+        Target::Absent(..) | Target::Wrong(_) => {
+            beside_or(alloc, disk, home.path, name, Link::Broken)
+        }
     }
 }

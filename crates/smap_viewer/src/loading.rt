@@ -1,13 +1,13 @@
 //! A map and its script, read.
-use crate::bases::{file_url_of, folder_url};
-use crate::files::{parted, read_named, stays, text_of};
-use crate::links::{Home, Link, link_of};
+use crate::files::{read_named, text_of};
+use crate::links::{Link, link_of};
 use crate::refusals::{hint, place_of};
 use crate::scripts::script_of;
 use serde_json::Value;
-use smap_disk::Disk;
+use smap_disk::{Disk, parted};
 use smap_host::{Host, Stop};
-use smap_link::{FileKind, file_kind};
+use smap_link::{FileKind, file_kind, script_url};
+use smap_opening::{Home, folder_url, is_within};
 use smap_record::{Base, BaseFault, Fault, Limits, ReadError, SourceMap};
 
 /// How maps are read.
@@ -179,17 +179,30 @@ fn load_found<E: Eprint + AllocGlobal, D: Disk>(
     })
 }
 
+/// The URL of the file with this name below a folder.
+fn file_url_of<E: Eprint + AllocGlobal, D: Disk>(
+    host: &Host<'_, E, D>,
+    folder_url: &[u8],
+    name: &str,
+) -> Result<String, Stop> {
+    let url = script_url(host.alloc(), folder_url, name.as_bytes())?;
+    match String::from_utf8(url) {
+        Ok(url) => Ok(url),
+        Err(_) => Err(host.fail_with(3, name, "has no URL")),
+    }
+}
+
 /// The map in a file.
 fn found_in<E: Eprint + AllocGlobal, D: Disk>(
     host: &Host<'_, E, D>,
-    folder: &str,
-    folder_url: &[u8],
+    home: Home<'_>,
     name: &str,
 ) -> Result<Found, Stop> {
     let alloc = host.alloc();
+    let folder = home.path;
     let path = format!(in alloc; "{folder}{name}")?;
     let bytes = read_named(host, path.as_str())?;
-    let url = file_url_of(host, folder_url, name)?;
+    let url = file_url_of(host, home.url, name)?;
     let name = String::from_str(alloc, parted(name).1)?;
     Ok(Found {
         path,
@@ -221,7 +234,7 @@ fn read_script<E: Eprint + AllocGlobal, D: Disk>(
     path: &str,
     found: bool,
 ) -> Result<Vec<u8>, Stop> {
-    if found && !stays(host.alloc(), host.disk, home.folder, path)? {
+    if found && !is_within(host.alloc(), host.disk, home.path, path)? {
         let text = format!(in host.alloc(); "{path} is a link to elsewhere")?;
         return Err(host.fail(1, text.as_str()));
     }
@@ -233,18 +246,19 @@ fn load_script<E: Eprint + AllocGlobal, D: Disk>(
     host: &Host<'_, E, D>,
     reading: Reading<'_>,
     home: Home<'_>,
+    name: &str,
     found: bool,
 ) -> Result<Option<Loaded>, Stop> {
     let alloc = host.alloc();
-    let Home { folder, url, name } = home;
+    let folder = home.path;
     let path = format!(in alloc; "{folder}{name}")?;
     let bytes = read_script(host, home, path.as_str(), found)?;
-    let map = match link_of(alloc, host.disk, home, &bytes)? {
-        Link::File(map) => found_in(host, folder, url, map.as_str())?,
+    let map = match link_of(alloc, host.disk, home, name, &bytes)? {
+        Link::File(map) => found_in(host, home, map.as_str())?,
         Link::Inline(map) => Found {
             path: String::from_str(alloc, path.as_str())?,
             name: String::from_str(alloc, parted(name).1)?,
-            url: file_url_of(host, url, name)?,
+            url: file_url_of(host, home.url, name)?,
             bytes: map,
         },
         Link::Nothing | Link::Broken if found => return Ok(None),
@@ -272,16 +286,19 @@ pub(crate) fn load<E: Eprint + AllocGlobal, D: Disk>(
         } => {
             let url = folder_url(host, reading.base, folder)?;
             let home = Home {
-                folder,
+                path: folder,
                 url: &url,
-                name,
             };
-            load_script(host, reading, home, found)
+            load_script(host, reading, home, name, found)
         }
         Item::Map { path, script } => {
             let (folder, name) = parted(path);
             let url = folder_url(host, reading.base, folder)?;
-            let map = found_in(host, folder, &url, name)?;
+            let home = Home {
+                path: folder,
+                url: &url,
+            };
+            let map = found_in(host, home, name)?;
             Ok(Some(load_found(host, map, reading.url_bytes, None, script)?))
         }
     }

@@ -1,5 +1,4 @@
 //! A run of `smap-view`.
-use crate::bases::base_given;
 use crate::budget::Budget;
 use crate::folders::{scripts_in, with_slash};
 use crate::loading::{Content, Item, Loaded, Reading, item_of, load};
@@ -9,6 +8,7 @@ use crate::status::Verdict;
 use crate::template::{parts, read_template};
 use smap_disk::{Disk, Kind, Watched, create_beside};
 use smap_host::{Host, Stop};
+use smap_opening::base_given;
 use smap_page::measured;
 use smap_view_words::{Asked, HELP, SizesForm, VERSION, ViewWords, WordFault, message, view_words};
 use std::io::Write;
@@ -172,31 +172,21 @@ fn is_about_sizes(asked: &ViewWords<'_>) -> bool {
     asked.sizes.is_some() || asked.budget.is_some()
 }
 
-/// Writes what is asked for of these.
-fn show<'x, E: Eprint + AllocGlobal, D: Disk, W: Write>(
+/// Writes what is asked for.
+fn show<E: Eprint + AllocGlobal, D: Disk, W: Write>(
     host: &Host<'_, E, D>,
     program: &str,
     asked: &ViewWords<'_>,
-    base: Option<&'x str>,
-    items: &'x [Item<'x>],
+    job: &Job<'_>,
     writer: &mut Watched<W>,
 ) -> Result<Verdict, Stop> {
-    let reading = Reading {
-        base,
-        url_bytes: asked.url_bytes,
-    };
-    let job = Job {
-        given: asked.file,
-        reading,
-        items,
-    };
     if is_about_sizes(asked) {
-        return write_sizes(host, &job, asked, writer);
+        return write_sizes(host, job, asked, writer);
     }
     let template = read_template(host, program)?;
     match asked.output {
-        Some(file) => write_file(host, &job, template.as_str(), file),
-        None => write_page(host, &job, template.as_str(), writer),
+        Some(file) => write_file(host, job, template.as_str(), file),
+        None => write_page(host, job, template.as_str(), writer),
     }
 }
 
@@ -205,7 +195,7 @@ fn show_folder<E: Eprint + AllocGlobal, D: Disk, W: Write>(
     host: &Host<'_, E, D>,
     program: &str,
     asked: &ViewWords<'_>,
-    base: Option<&str>,
+    reading: Reading<'_>,
     writer: &mut Watched<W>,
 ) -> Result<Verdict, Stop> {
     let alloc = host.alloc();
@@ -223,7 +213,12 @@ fn show_folder<E: Eprint + AllocGlobal, D: Disk, W: Write>(
             found: true,
         })?;
     }
-    show(host, program, asked, base, &items, writer)
+    let job = Job {
+        given: asked.file,
+        reading,
+        items: &items,
+    };
+    show(host, program, asked, &job, writer)
 }
 
 /// Does what the values of the command line say.
@@ -247,27 +242,20 @@ fn view<E: Eprint + AllocGlobal, D: Disk, W: Write>(
         Some(base) => Some(base.as_str()),
         None => None,
     };
+    let reading = Reading {
+        base,
+        url_bytes: asked.url_bytes,
+    };
     if host.disk.kind(asked.file) == Kind::Folder {
-        return show_folder(host, program, asked, base, writer);
+        return show_folder(host, program, asked, reading, writer);
     }
     let items = [item_of(asked.file, asked.script)];
-    show(host, program, asked, base, items.as_slice(), writer)
-}
-
-/// Says what is wrong with the words.
-fn refuse<E: Eprint + AllocGlobal, D: Disk>(host: &Host<'_, E, D>, fault: &WordFault<'_>) -> Stop {
-    let rt = host.rt;
-    match fault {
-        WordFault::Memory => Stop::Memory,
-        WordFault::Nothing => {
-            let _ = eprint!(rt; "{HELP}");
-            Stop::Reported(2)
-        }
-        _ => match message(host.alloc(), fault) {
-            Ok(text) => host.fail(2, text.as_str()),
-            Err(_) => Stop::Memory,
-        },
-    }
+    let job = Job {
+        given: asked.file,
+        reading,
+        items: items.as_slice(),
+    };
+    show(host, program, asked, &job, writer)
 }
 
 /// What the words ask for.
@@ -285,7 +273,9 @@ fn answer<E: Eprint + AllocGlobal, D: Disk, W: Write>(
         Ok(Asked::Help) => host.write(HELP.as_bytes(), writer)?,
         Ok(Asked::Version) => host.write(VERSION.as_bytes(), writer)?,
         Ok(Asked::View(asked)) => return view(host, program, &asked, on_terminal, writer),
-        Err(fault) => return Err(refuse(host, &fault)),
+        Err(WordFault::Memory) => return Err(Stop::Memory),
+        Err(WordFault::Nothing) => return Err(host.fail_with_help(HELP)),
+        Err(fault) => return Err(host.fail_words(message(host.alloc(), &fault), None)),
     }
     Ok(Verdict::new())
 }

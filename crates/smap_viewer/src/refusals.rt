@@ -1,7 +1,7 @@
 //! Why a map is refused, and where in its text that is.
 use serde_json::{Value, json};
-use smap_ranges::{Point, TextRange, point_of, range_of};
-use smap_record::{Fault, Kind};
+use smap_ranges::{Point, Start, TextRange, point_of, range_of, start_of};
+use smap_record::Fault;
 use std::alloc::{AllocError, Global};
 
 /// How many bytes a page shows at most before a fault, of it and behind it.
@@ -12,16 +12,7 @@ const ELLIPSIS: &str = "\u{2026}";
 
 /// What may help with a file that isn't JSON, where its first bytes show what it is.
 pub(crate) fn hint(bytes: &[u8], fault: &Fault) -> &'static str {
-    if fault.kind != Kind::Json {
-        return "";
-    }
-    if bytes.starts_with(b"\xef\xbb\xbf") {
-        " (it begins with a byte order mark: remove that)"
-    } else if bytes.starts_with(b"\x1f\x8b") {
-        " (it is compressed: gunzip it)"
-    } else {
-        ""
-    }
+    smap_ranges::hint(fault, start_of(bytes))
 }
 
 /// Whether no character begins with this byte.
@@ -94,7 +85,7 @@ fn place(
 
 /// Where a fault is in the text of a map, unless it has no place, or the file is compressed.
 pub(crate) fn place_of(alloc: Global, bytes: &[u8], fault: &Fault) -> Result<Value, AllocError> {
-    if bytes.starts_with(b"\x1f\x8b") {
+    if start_of(bytes) == Start::Gzip {
         return Ok(Value::Null);
     }
     match range_of(alloc, bytes, fault)? {

@@ -1,7 +1,7 @@
 //! The script of a map, where none is named.
-use crate::files::{parted, stays};
-use smap_disk::{Disk, Kind};
+use smap_disk::{Disk, Kind, parted};
 use smap_host::{Host, Stop};
+use smap_opening::is_within;
 use smap_record::SourceMap;
 
 /// The file beside a map with this name, if there is one. A link counts only if it leads to a file there.
@@ -16,7 +16,7 @@ fn beside<E: Eprint + AllocGlobal, D: Disk>(
     if host.disk.kind(path.as_str()) != Kind::File {
         return Ok(None);
     }
-    if stays(alloc, host.disk, folder, path.as_str())? {
+    if is_within(alloc, host.disk, folder, path.as_str())? {
         return Ok(Some(path));
     }
     let path = path.as_str();

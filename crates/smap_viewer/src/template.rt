@@ -1,6 +1,5 @@
 //! The page without its data: a file that is installed with the program.
-use crate::files::{LIMIT, parted};
-use smap_disk::{Disk, FileFault, Kind, read_file};
+use smap_disk::{Disk, FileFault, Kind, LIMIT, parted, read_file};
 use smap_host::{Host, Stop};
 
 /// The file's name.

@@ -56,6 +56,14 @@ pub const SMAP_DROPPED: u32 = 2;
 pub const SMAP_HIDE_IGNORED: u32 = 1;
 pub const SMAP_ANYWHERE: u32 = 2;
 pub const SMAP_IGNORE_QUERY: u32 = 4;
+pub const SMAP_NAMED_UNSAID: u32 = 0;
+pub const SMAP_NAMED_NOTHING: u32 = 1;
+pub const SMAP_NAMED_INLINE: u32 = 2;
+pub const SMAP_NAMED_FILE: u32 = 3;
+pub const SMAP_NAMED_GARBLED: u32 = 4;
+pub const SMAP_NAMED_NO_NAME: u32 = 5;
+pub const SMAP_NAMED_NOT_URL: u32 = 6;
+pub const SMAP_NAMED_LEAVES: u32 = 7;
 
 #[repr(C)]
 #[derive(Clone, Copy, Debug, PartialEq, Eq)]
@@ -262,6 +270,10 @@ extern "C" {
     pub fn smap_script_name(
         folder: *const c_char, folder_len: usize, url: *const c_char, url_len: usize,
         out: *mut smap_bytes,
+    ) -> u32;
+    pub fn smap_named_map(
+        folder: *const c_char, folder_len: usize, name: *const c_char, name_len: usize,
+        text: *const c_void, len: usize, out: *mut smap_bytes, kind: *mut u32,
     ) -> u32;
     pub fn smap_normal_form(
         name: *const c_char, len: usize, with_query: bool, out: *mut smap_bytes,

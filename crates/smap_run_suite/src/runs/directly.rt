@@ -33,8 +33,7 @@ fn wrote(
     rt: &(impl Abort + AllocGlobal),
     input: &str,
     answer: Result<Outcome, RunFault>,
-    reader: Device<SlowReader<'_>>,
-    writer: Device<SlowWriter>,
+    (reader, writer): (Device<SlowReader<'_>>, Device<SlowWriter>),
     output: &str,
 ) {
     equal(
@@ -55,7 +54,7 @@ fn mappings_are_spelled_again(rt: HostRuntime) {
     let input = "gAAAAC,CAACD;;";
     let (mut from, mut to) = (reader(input), writer(&rt));
     let answer = run_respell(rt.alloc(), &mut from, &mut to);
-    wrote(&rt, input, answer, from, to, "AAAAC,CAACD\n");
+    wrote(&rt, input, answer, (from, to), "AAAAC,CAACD\n");
 }
 
 #[test]
@@ -66,7 +65,7 @@ fn a_map_is_counted(rt: HostRuntime) {
         "accepted: 1 sources, 2 names, 2 mappings, 1 lines\n",
         "canonical mappings: 11 bytes, at most 73\n",
     );
-    wrote(&rt, TWO_NAMES, answer, from, to, output);
+    wrote(&rt, TWO_NAMES, answer, (from, to), output);
 }
 
 #[test]
@@ -77,7 +76,7 @@ fn a_map_is_tidied_in_both_forms(rt: HostRuntime) {
     for &(is_relative, output) in &[(false, absolute), (true, relative)] {
         let (mut from, mut to) = (reader(TWO_NAMES), writer(&rt));
         let answer = run_tidy(rt.alloc(), BASE, is_relative, &mut from, &mut to);
-        wrote(&rt, TWO_NAMES, answer, from, to, output);
+        wrote(&rt, TWO_NAMES, answer, (from, to), output);
     }
 }
 
@@ -87,7 +86,7 @@ fn a_map_is_flattened(rt: HostRuntime) {
     let answer = run_flatten(rt.alloc(), BASE, &mut from, &mut to);
     let output =
         r#"{"mappings":"AAAAC,CAACD","names":["x","y"],"sources":["http://h/m/a.js"],"version":3}"#;
-    wrote(&rt, TWO_NAMES, answer, from, to, output);
+    wrote(&rt, TWO_NAMES, answer, (from, to), output);
 }
 
 #[test]
@@ -95,7 +94,7 @@ fn a_position_is_looked_up(rt: HostRuntime) {
     let (mut from, mut to) = (reader(TWO_NAMES), writer(&rt));
     let answer = run_lookup(rt.alloc(), BASE, 0, 7, &mut from, &mut to);
     let output = "0:1 http://h/m/a.js:0:1 \"x\"\n";
-    wrote(&rt, TWO_NAMES, answer, from, to, output);
+    wrote(&rt, TWO_NAMES, answer, (from, to), output);
 }
 
 #[test]

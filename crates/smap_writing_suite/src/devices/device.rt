@@ -58,8 +58,7 @@ fn is_written(
     text: &str,
     (step, fails_at): (usize, u64),
     answer: Result<usize, Failed>,
-    failures: u64,
-    written: &str,
+    (failures, written): (u64, &str),
 ) {
     let mut device = Device::new(SlowWriter::new(rt.alloc(), step, fails_at));
     let answered = device.write(text.as_bytes());
@@ -79,7 +78,7 @@ fn a_write_is_one_call_also_where_it_fails(rt: HostRuntime) {
         (1, "abc", Err(Failed), 1, ""),
         (1, "", Err(Failed), 1, ""),
     ] {
-        is_written(&rt, text, (2, fails_at), answer, failures, written);
+        is_written(&rt, text, (2, fails_at), answer, (failures, written));
     }
 }
 
@@ -90,7 +89,7 @@ fn a_write_that_takes_none_of_some_bytes_fails(rt: HostRuntime) {
         ("a", Err(Failed), 1),
         ("", Ok(0), 0),
     ] {
-        is_written(&rt, text, (0, 0), answer, failures, "");
+        is_written(&rt, text, (0, 0), answer, (failures, ""));
     }
 }
 

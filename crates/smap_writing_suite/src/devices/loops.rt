@@ -150,12 +150,9 @@ fn a_line_stops_at_the_call_that_fails_or_is_one_too_many(rt: HostRuntime) {
 /// the calls, none of them a flush.
 fn writing_stops(
     rt: &(impl Abort + AllocGlobal),
-    step: usize,
-    fails_at: u64,
+    (step, fails_at): (usize, u64),
     answer: Result<(), Failed>,
-    failures: u64,
-    made: u64,
-    written: &str,
+    (failures, made, written): (u64, u64, &str),
 ) {
     let mut writer = Device::new(SlowWriter::new(rt.alloc(), step, fails_at));
     let found = (write_all(&mut writer, b"abc"), writer.failures());
@@ -175,7 +172,7 @@ fn writing_stops_at_the_write_that_fails(rt: HostRuntime) {
         (usize::MAX, 0, Ok(()), 0, 1, "abc"),
         (0, 0, Err(Failed), 1, 1, ""),
     ] {
-        writing_stops(&rt, step, fails_at, answer, failures, made, written);
+        writing_stops(&rt, (step, fails_at), answer, (failures, made, written));
     }
 }
 
@@ -186,9 +183,7 @@ fn is_flushed(
     text: &str,
     fails_at: u64,
     answer: Result<(), Failed>,
-    failures: u64,
-    made: u64,
-    flushes: u64,
+    (failures, made, flushes): (u64, u64, u64),
 ) {
     let mut writer = Device::new(SlowWriter::new(rt.alloc(), 1, fails_at));
     let row = (text, fails_at);
@@ -211,6 +206,6 @@ fn a_text_is_flushed_once_where_it_was_written(rt: HostRuntime) {
         ("", 1, Err(Failed), 1, 1, 1),
         ("", 0, Ok(()), 0, 1, 1),
     ] {
-        is_flushed(&rt, text, fails_at, answer, failures, made, flushes);
+        is_flushed(&rt, text, fails_at, answer, (failures, made, flushes));
     }
 }

@@ -4,8 +4,11 @@ use smap_trace::{Frame, frame};
 use std::process::Abort;
 
 /// Asserts that the line is a frame with these parts.
-fn is_frame(rt: &impl Abort, text: &str, before: &str, url: &str, places: (u32, u32), after: &str) {
-    let (line, column) = places;
+fn is_frame(
+    rt: &impl Abort,
+    text: &str,
+    (before, url, (line, column), after): (&str, &str, (u32, u32), &str),
+) {
     let expected = Frame {
         before: before.as_bytes(),
         url: url.as_bytes(),
@@ -58,7 +61,7 @@ fn lines_of_v8_and_firefox_are_frames(rt: HostRuntime) {
         ),
         ("at a (b) (u:1:2)", "at a (b) (", "u", (1, 2), ")"),
     ] {
-        is_frame(&rt, line, before, url, places, after);
+        is_frame(&rt, line, (before, url, places, after));
     }
 }
 

@@ -22,8 +22,7 @@ fn is_translated(
     map: &SourceMap,
     hide: bool,
     line: &str,
-    outcome: LineOutcome,
-    expected: &str,
+    (outcome, expected): (LineOutcome, &str),
 ) -> Result<(), AllocError> {
     let mut out = Vec::from_slice(rt.alloc(), b"> ")?;
     let answer = translate_line(line.as_bytes(), &[("u", map)], hide, &mut out);
@@ -38,10 +37,9 @@ fn is_translated_with(
     map: &str,
     hide: bool,
     line: &str,
-    outcome: LineOutcome,
-    expected: &str,
+    (outcome, expected): (LineOutcome, &str),
 ) -> Result<(), AllocError> {
-    is_translated(rt, &read(rt, map), hide, line, outcome, expected)
+    is_translated(rt, &read(rt, map), hide, line, (outcome, expected))
 }
 
 #[test]
@@ -89,7 +87,7 @@ fn a_line_is_kept_translated_or_dropped(rt: HostRuntime) -> Result<(), Fail> {
         ),
         (NULL_IGNORED, true, "@u:1:1\n", LineOutcome::Dropped, "> "),
     ] {
-        is_translated_with(&rt, map, hide, line, outcome, expected)?;
+        is_translated_with(&rt, map, hide, line, (outcome, expected))?;
     }
     Ok(())
 }

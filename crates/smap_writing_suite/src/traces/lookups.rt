@@ -126,7 +126,7 @@ fn probes_at(rt: &impl Abort, map: &SourceMap, line: u32, column: u32) -> u32 {
 
 /// Asserts of the first columns of a line that a lookup finds what a scan finds, with no fewer and no more
 /// probes than these.
-fn are_found(rt: &impl Abort, map: &SourceMap, line: u32, columns: u32, least: u32, most: u32) {
+fn are_found(rt: &impl Abort, map: &SourceMap, line: u32, columns: u32, (least, most): (u32, u32)) {
     for column in 0..columns {
         let probes = probes_at(rt, map, line, column);
         let few = least <= probes && probes <= most;
@@ -135,16 +135,10 @@ fn are_found(rt: &impl Abort, map: &SourceMap, line: u32, columns: u32, least: u
 }
 
 /// Asserts the same of the first columns of the first lines of a text's map.
-fn probes_are_few(
-    rt: &(impl Abort + AllocGlobal),
-    text: &str,
-    columns: u32,
-    least: u32,
-    most: u32,
-) {
+fn probes_are_few(rt: &(impl Abort + AllocGlobal), text: &str, columns: u32, probes: (u32, u32)) {
     let map = read(rt, text);
     for line in 0..3 {
-        are_found(rt, &map, line, columns, least, most);
+        are_found(rt, &map, line, columns, probes);
     }
 }
 
@@ -155,11 +149,11 @@ fn probes_are_few_and_the_answer_is_that_of_a_scan(rt: HostRuntime) -> Result<()
         (UNMAPPED, 3, 1, 1),
         (SECTIONS, 12, 1, 2),
     ] {
-        probes_are_few(&rt, text, columns, least, most);
+        probes_are_few(&rt, text, columns, (least, most));
     }
     for &(mappings, columns, least, most) in &[(1000, 336, 9, 10), (1024, 344, 10, 11)] {
         let text = crowded(rt.alloc(), mappings)?;
-        probes_are_few(&rt, text.as_str(), columns, least, most);
+        probes_are_few(&rt, text.as_str(), columns, (least, most));
     }
     Ok(())
 }
@@ -224,11 +218,11 @@ fn takes_by_table(
     map: &SourceMap,
     starts: &LineStarts,
     line: u32,
-    least: u32,
-    most: u32,
+    bounds: (u32, u32),
 )
     requires { starts.now ≡ line_starts (record_of map.now).mappings }
 {
+    let (least, most) = bounds;
     for column in 0..8 {
         let (_found, probes) = find_in(map, starts, line, column);
         let few = least <= probes && probes <= most;
@@ -239,9 +233,9 @@ fn takes_by_table(
 }
 
 /// Asserts it with the table that is made of the map.
-fn takes(rt: &(impl Abort + AllocGlobal), map: &SourceMap, line: u32, least: u32, most: u32) {
+fn takes(rt: &(impl Abort + AllocGlobal), map: &SourceMap, line: u32, bounds: (u32, u32)) {
     let starts = LineStarts::new(rt.alloc(), map).expect(rt, "a table is made");
-    takes_by_table(rt, map, &starts, line, least, most);
+    takes_by_table(rt, map, &starts, line, bounds);
 }
 
 #[test]
@@ -259,7 +253,7 @@ fn a_table_leaves_the_probes_of_a_line(rt: HostRuntime) {
         (FAR, 8, 1, 2),
         (EMPTY, 0, 0, 0),
     ] {
-        takes(&rt, &read(&rt, text), line, least, most);
+        takes(&rt, &read(&rt, text), line, (least, most));
     }
 }
 

@@ -1,4 +1,4 @@
-use Rattle.std.proofs.Common.{◌≡◌, ◌∙◌, ◌+◌, ℕ, ap, get_or}
+use Rattle.std.proofs.Common.{◌∙◌, ◌+◌, ℕ, ap}
 use Rattle.std.specs.Prelude.{option_copied}
 use Rattle.std.proofs.lemmas.Option.{slice_get-get_or}
 use Rattle.smap_record.specs.declared.view.LabelView.{LabelView}

@@ -4,8 +4,8 @@ use Rattle.smap_lines.proofs.BeginningLemmas.{extended, extended_none, extended_
 use Rattle.smap_lines.proofs.BeginningLemmas.{starts_one, starts_stopped}
 use Rattle.smap_lines.proofs.beginnings.beginnings_of.Goals as goal
 
-pub loop-start-preserved-then-may_begin_behind : goal.loop-start-preserved-then-may_begin_behind
-loop-start-preserved-then-may_begin_behind c =
+pub loop-start-preserved-then-may_begin : goal.loop-start-preserved-then-may_begin
+loop-start-preserved-then-may_begin c =
     let n = c.loop-start.start in
     let low = c.args.end - 1024 in
     let line = c.args.line.now in
@@ -18,7 +18,7 @@ loop-start-preserved-then-may_begin_behind c =
           ∙ ap (λ (ss : List ℕ). extended line c.args.end c.loop-start.found ss)
           (sym (starts_one line low n some
           (sym c.ends_url.ensures ∙ c.if-ends_url.false)
-          (sym c.may_begin_behind.ensures ∙ c.if-may_begin_behind.true))) ∙ c.loop-start.invariant.all;
+          (sym c.may_begin.ensures ∙ c.if-may_begin.true))) ∙ c.loop-start.invariant.all;
     }
 
 pub loop-start-preserved : goal.loop-start-preserved
@@ -32,7 +32,7 @@ loop-start-preserved c =
       all = ap (λ (ss : List ℕ). extended line c.args.end c.loop-start.found ss)
           (sym (starts_none line low n some
           (sym c.ends_url.ensures ∙ c.if-ends_url.false)
-          (sym c.may_begin_behind.ensures ∙ c.if-may_begin_behind.false))) ∙ c.loop-start.invariant.all;
+          (sym c.may_begin.ensures ∙ c.if-may_begin.false))) ∙ c.loop-start.invariant.all;
     }
 
 pub returns-after-loop-start-clause-value : goal.returns-after-loop-start-clause-value

@@ -1,4 +1,4 @@
-use Rattle.std.proofs.Common.{◌≡◌, ◌∙◌, [], ap, option_map, unwrap_or, Option, ℕ, List, sym}
+use Rattle.std.proofs.Common.{◌∙◌, [], ap, option_map, unwrap_or, Option, ℕ}
 use Rattle.std.specs.Global.{Vec}
 use Rattle.smap_link.proofs.TableLemmas.{text_got}
 use Rattle.smap_link.proofs.table.text_at.Goals as goal

@@ -13,5 +13,5 @@ returns g c =
     traced_asked (g.D.Disk.held c.args.host.now.disk.now) c.args.asked.now c.args.wanted c.job_of-job.result
     c.args.input.kind (g.I.Read.remaining c.args.input.reader)
     (contents_of g.W.Write.contents c.args.output.now)
-    (contents_of g.W.Write.contents c.run_with.new.output) c.run_with.result
-    c.job_of-job.ensures.wanted c.job_of-job.ensures.job c.run_with.ensures
+    (contents_of g.W.Write.contents c.run_job.new.output) c.run_job.result
+    c.job_of-job.ensures.wanted c.job_of-job.ensures.job c.run_job.ensures

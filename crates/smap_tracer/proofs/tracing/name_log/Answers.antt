@@ -1,10 +1,9 @@
-use Rattle.std.proofs.Common.{◌∙◌, ◌++◌, ap, refl, subst, sym, List, ℕ}
+use Rattle.std.proofs.Common.{◌∙◌, ◌++◌, ap, subst, sym, List, ℕ}
 use Rattle.std.specs.Io.KnownBytes.{IsAtEnd}
 use Rattle.smap_trace.specs.Naming.{urls_of}
 use Rattle.smap_logs.specs.Logs.{handed, pending}
-use Rattle.smap_logs.specs.Naming.{AreSame, asked_in, frames_of, names_of}
+use Rattle.smap_logs.specs.Naming.{AreSame, asked_in, frames_of}
 use Rattle.smap_tracer.specs.Written.{AreAmong, IsOfLogs, asked_by}
-use Rattle.smap_logs.specs.declared.naming.Names.{Names}
 use Rattle.smap_tracer.proofs.AskedLemmas.{lines_added, next_asked}
 use Rattle.smap_logs.proofs.LogLemmas.{handed_lines, new_log}
 use Rattle.smap_tracer.proofs.NamedLemmas.{all_named, more_named, none_named}
@@ -12,14 +11,13 @@ use Rattle.smap_tracer.proofs.tracing.name_log.Goals as goal
 
 pub loop-init : goal.loop-init
 loop-init g c = let log = c.new-log.result in record {
-  chosen = refl;
   asked = subst (IsOfLogs (g.D.Disk.held c.args.host.now.disk.now) c.args.job.now)
       (sym (new_log (g.R.Read.remaining log.reader) log.block log.ended c.new-log.ensures.block
       c.new-log.ensures.ended
       ∙ ap g.R.Read.remaining c.new-log.ensures.reader)) c.requires.asked;
   among = c.requires.names;
   named = none_named log.ended (g.R.Read.remaining c.args.reader) (pending g.R.Read.remaining log)
-      (frames_of c.args.state.now.names)
+      (frames_of c.args.names.now)
       (new_log (g.R.Read.remaining log.reader) log.block log.ended c.new-log.ensures.block
       c.new-log.ensures.ended
       ∙ ap g.R.Read.remaining c.new-log.ensures.reader);
@@ -30,11 +28,10 @@ returns-then-not-more-clause-names g c =
     let end : IsAtEnd (pending g.R.Read.remaining c.loop.log) =
     rw c.if-not-more.true at c.in_ok-more.ensures.lines in
     all_named c.loop.log.ended (g.R.Read.remaining c.args.reader) (pending g.R.Read.remaining c.loop.log)
-    c.args.state.now.names c.loop.state.names c.loop.invariant.named end
+    c.args.names.now c.loop.names c.loop.invariant.named end
 
 pub loop-preserved : goal.loop-preserved
 loop-preserved g c = record {
-  chosen = c.note_start.ensures.chosen ∙ c.loop.invariant.chosen;
   asked = (next_asked (g.D.Disk.held c.args.host.now.disk.now) c.args.job.now
       (pending g.R.Read.remaining c.loop.log)
       (g.R.Read.remaining c.advance.new.self.reader) c.advance.new.self.block c.advance.new.self.ended
@@ -43,16 +40,15 @@ loop-preserved g c = record {
       let job = c.args.job.now in
       let log = c.advance.new.self in
       let asked = asked_by held job in
-      lines_added job.anywhere asked c.note_start.new.state.names c.add_lines.new.self
+      lines_added job.anywhere asked c.loop.names c.add_lines.new.self
       c.lines-lines.result.now c.in_ok-add_lines.ensures.frames.0 c.in_ok-add_lines.ensures.others.0
-      (subst (λ (ns : Names). AreAmong asked (names_of ns)) (sym c.note_start.ensures.names)
-      c.loop.invariant.among)
+      c.loop.invariant.among
       (subst (λ (part : List ℕ). AreAmong asked (asked_in job.anywhere part)) (sym c.lines-lines.ensures)
       (next_asked held job (pending g.R.Read.remaining c.loop.log) (g.R.Read.remaining log.reader) log.block
       log.ended (rw c.if-not-more.false at c.in_ok-more.ensures.lines) c.loop.invariant.asked).1);
   named = let log = c.advance.new.self in
-      let before = frames_of c.args.state.now.names in
-      let middle = frames_of c.loop.state.names in
+      let before = frames_of c.args.names.now in
+      let middle = frames_of c.loop.names in
       let after = frames_of c.add_lines.new.self in
       more_named c.loop.log.ended log.ended (g.R.Read.remaining c.args.reader)
       (pending g.R.Read.remaining c.loop.log)
@@ -60,6 +56,5 @@ loop-preserved g c = record {
       c.loop.invariant.named (c.in_ok-more.ensures.going c.if-not-more.false)
       (handed_lines log.block log.ended) (rw c.if-not-more.false at c.in_ok-more.ensures.lines)
       (subst (λ (part : List ℕ). AreSame after (middle ++ urls_of part)) c.lines-lines.ensures
-      (subst (λ ns. AreSame after (frames_of ns ++ urls_of c.lines-lines.result.now))
-      c.note_start.ensures.names c.in_ok-add_lines.ensures.frames));
+      c.in_ok-add_lines.ensures.frames);
 }

@@ -1,4 +1,3 @@
-use Rattle.std.proofs.Common.{◌≡◌}
 use Rattle.smap_logs.specs.Logs.{pending}
 use Rattle.smap_logs.specs.Naming.{frames_of, names_of}
 use Rattle.smap_tracer.specs.Written.{AreAmong, IsOfLogs, asked_by}
@@ -7,9 +6,8 @@ use Rattle.smap_tracer.proofs.tracing.name_log.Given as goal
 
 abbrev pub invariant-loop : goal.invariant-loop
 invariant-loop g l = record {
-  chosen : l.state.chosen ≡ l.initial.state.chosen;
   asked : IsOfLogs (g.D.Disk.held l.host.disk.now) l.job (pending g.R.Read.remaining l.log);
-  among : AreAmong (asked_by (g.D.Disk.held l.host.disk.now) l.job) (names_of l.state.names);
+  among : AreAmong (asked_by (g.D.Disk.held l.host.disk.now) l.job) (names_of l.names);
   named : NamedSoFar l.log.ended (g.R.Read.remaining l.fn.reader) (pending g.R.Read.remaining l.log)
-      (frames_of l.initial.state.names) (frames_of l.state.names);
+      (frames_of l.initial.names) (frames_of l.names);
 }

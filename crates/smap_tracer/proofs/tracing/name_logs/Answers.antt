@@ -11,10 +11,9 @@ loop-path-preserved g c =
     let i = c.loop-path.path-index in
     let sizes = c.loop-path.sizes.items in
     record {
-      chosen = c.in_ok-name_log.ensures.chosen ∙ c.loop-path.invariant.chosen;
       names = one_more_log held paths i _ (omega (arith, c.loop-path-test.true))
-          (take_remaining g.D.Reader.Read.remaining c.in_ok-log.log) c.loop-path.state.names
-          c.name_log.new.state.names c.in_ok-name_log.ensures.names c.in_ok-log.ensures
+          (take_remaining g.D.Reader.Read.remaining c.in_ok-log.log) c.loop-path.names
+          c.name_log.new.names c.in_ok-name_log.ensures.names c.in_ok-log.ensures
           c.loop-path.invariant.names;
       among = c.in_ok-name_log.ensures.asked;
       count = ap length c.in_ok-push.ensures.items ∙ length-append sizes (c.in-Ok.size ∷ [])

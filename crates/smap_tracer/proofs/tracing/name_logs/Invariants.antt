@@ -7,9 +7,8 @@ use Rattle.smap_tracer.proofs.tracing.name_logs.Given as goal
 
 abbrev pub invariant-loop-path : goal.invariant-loop-path
 invariant-loop-path g l = record {
-  chosen : l.state.chosen ≡ l.initial.state.chosen;
-  names : HaveNamesTo (g.D.Disk.held l.host.disk.now) l.paths l.path-index l.state.names;
-  among : AreAmong (asked_by (g.D.Disk.held l.host.disk.now) l.job) (names_of l.state.names);
+  names : HaveNamesTo (g.D.Disk.held l.host.disk.now) l.paths l.path-index l.names;
+  among : AreAmong (asked_by (g.D.Disk.held l.host.disk.now) l.job) (names_of l.names);
   count : length l.sizes.items ≡ l.path-index;
   each : (k : ℕ) (d : Bor (List ℕ)) → k < l.path-index
       → HasSize (g.D.Disk.held l.host.disk.now) (get_or l.paths k d).now (get_or l.sizes.items k 0);

@@ -9,7 +9,7 @@ pub returns-in_err-insert-clause-chosen : goal.returns-in_err-insert-clause-chos
 returns-in_err-insert-clause-chosen c = λ held wanted left chosen.
     let was = c.forget_left.ensures.chosen held wanted chosen in
     record {
-      names = was.names;
+      scripts = was.scripts;
       openings = was.openings;
       left = subst (All (IsLeftName held wanted (choices_of c.forget_left.new.self)))
           (sym c.in_err-insert.ensures.err) was.left;
@@ -30,7 +30,7 @@ returns-clause-chosen c = λ held wanted left chosen.
     c.in_ok-name.name.items =
     rw (sym same) at (c.forget_left.ensures.left held wanted _ _ left) in
     record {
-      names = was.names;
+      scripts = was.scripts;
       openings = was.openings;
       left = subst (All IsOne) (sym c.in_ok-insert.ensures.entries) (all_inserted IsOne _ _ c.in_ok-name.name
           c.args.in_frames was.left

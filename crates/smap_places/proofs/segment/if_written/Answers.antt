@@ -1,8 +1,0 @@
-use Rattle.std.proofs.Common.{rules, sym, ◌∙◌}
-use Rattle.smap_places.proofs.SegmentLemmas.{is_in}
-use Rattle.smap_places.proofs.segment.if_written.Goals as goal
-
-pub returns-then-branch-2 : goal.returns-then-branch-2
-returns-then-branch-2 c = is_in c.args.text.now c.args.mappings.now c.args.within c.args.span c.args.range
-    c.args.place c.requires.span c.requires.inner (sym c.is_segment.ensures ∙ c.if-is_segment.true)
-    (search rules) (search rules)
