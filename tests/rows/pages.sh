@@ -41,9 +41,9 @@ END
 # the scripts that build the library and the packages.
 stand_in_for_repository() {
     stand_in_for_rt
-    mkdir -p temp/crates/smap temp/crates/smap_viewer temp/capi temp/packaging
+    mkdir -p temp/crates/smap temp/crates/smap_view_run temp/capi temp/packaging
     cp -R "$rows/../../tools" "$rows/../../docs" temp
-    cp "$rows/../../crates/smap_viewer/smap-view.html" temp/crates/smap_viewer
+    cp "$rows/../../crates/smap_view_run/smap-view.html" temp/crates/smap_view_run
     cp -R "$rows/../../packaging/completion" "$rows/../../packaging/man" temp/packaging
     for name in cpp python rust examples; do
         cp -R "$rows/../../capi/$name" temp/capi

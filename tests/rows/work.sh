@@ -55,7 +55,7 @@ as_nobody() {
         return
     fi
     mkdir -p programs
-    cp "$SMAP" "$rows"/../../crates/smap_viewer/smap-view.html programs
+    cp "$SMAP" "$rows"/../../crates/smap_view_run/smap-view.html programs
     ln -sf smap programs/smap-trace
     ln -sf smap programs/smap-maps
     ln -sf smap programs/smap-view

@@ -68,13 +68,13 @@ def holds_its_parts(folder, made, page):
     owners = [mapping[2] if len(mapping) > 2 else len(pages.SOURCES) for mapping in made["made"]]
     equal(data["map"]["counts"], [owners.count(owner) for owner in range(len(pages.SOURCES) + 1)])
     assert not any("<" in text for text in texts)
-    template = (TOP / "crates/smap_viewer/smap-view.html").stat().st_size
+    template = (TOP / "crates/smap_view_run/smap-view.html").stat().st_size
     parts = template + len(tidied) + len(made["text"].encode())
     assert len(page.encode()) < parts, "the page is larger than its parts"
 
 
 def names_its_hashes():
-    page = (TOP / "crates/smap_viewer/smap-view.html").read_text()
+    page = (TOP / "crates/smap_view_run/smap-view.html").read_text()
     for kind in "script", "style":
         [text] = re.findall(rf"<{kind}>(.*?)</{kind}>", page, re.DOTALL)
         value = base64.b64encode(hashlib.sha256(text.encode()).digest()).decode()
@@ -83,7 +83,7 @@ def names_its_hashes():
 
 def uses_no_markup():
     """Nothing of the page's script takes a string for markup or script, or asks for anything."""
-    page = (TOP / "crates/smap_viewer/smap-view.html").read_text()
+    page = (TOP / "crates/smap_view_run/smap-view.html").read_text()
     for word in ("innerHTML", "outerHTML", "insertAdjacentHTML", "document.write", "DOMParser", "eval(",
                  "Function(", "fetch(", "XMLHttpRequest", "import(", "http://", "https://", "src=", "href="):
         assert word not in page, word
@@ -210,7 +210,7 @@ def long_refusal(browser, folder):
     (folder / "long.map").write_text(f'{{"version":3,"names":[{names}],"mappings":"AAAA",'
                                      f'"sources":7,"file":"{"x" * 9000}"}}')
     url = make_page(folder, "long.map", "long.map", status=1)
-    template = (TOP / "crates/smap_viewer/smap-view.html").stat().st_size
+    template = (TOP / "crates/smap_view_run/smap-view.html").stat().st_size
     assert (folder / "long.map.html").stat().st_size < template + 5000
     browser.open(url)
     _, _, place, marks = browser.run(REFUSED)

@@ -1,17 +1,17 @@
 //! The programs of this repository in one, each by the name that it is called by: `smap-trace`, `smap-maps`,
 //! `smap-view`, or `smap` by any other. `smap` reads its arguments as a task, runs it on the standard streams
 //! and exits with its status; what each run reads and writes is defined in `smap_tool`. Standard input is
-//! buffered there, since a bundle's headers are read byte by byte. `smap-trace` is a run of `smap_tracer`
-//! over the file system, `smap-maps` one of `smap_mapper`, and `smap-view` one of `smap_viewer`.
+//! buffered there, since a bundle's headers are read byte by byte. `smap-trace` is a run of `smap_trace_run`
+//! over the file system, `smap-maps` one of `smap_maps_run`, and `smap-view` one of `smap_view_run`.
 #![tactic(auto)]
 
 mod standard;
 
 use clap::Error;
-use smap_disk::{Disk, System, printable};
 use smap_io::Device;
+use smap_machine::{Disk, System, printable};
 use smap_tool::{RunFault, WordsFault, run, status, task_of};
-use smap_tracer::{Input, Output};
+use smap_trace_run::{Input, Output};
 use standard::{input, is_output_closed, placeholders};
 use std::alloc::{AllocError, Global};
 use std::env;
@@ -58,7 +58,7 @@ fn name<'a>(words: &[&'a str]) -> &'a str {
 /// Runs `smap-trace`.
 fn trace<D: Disk>(rt: &HostRuntime, disk: &D, words: &[&str], input: Input<Stdin>) -> u8 {
     let mut output = Output::new(io::writer(rt));
-    smap_tracer::run(rt, disk, words, input, &mut output)
+    smap_trace_run::run(rt, disk, words, input, &mut output)
 }
 
 /// Runs the tool that is called by this name, over the file system.
@@ -74,11 +74,11 @@ fn tool(rt: &HostRuntime, name: &str, words: &[&str]) -> u8 {
         "smap-trace" => trace(rt, &disk, words, input),
         "smap-maps" => {
             let on_terminal = rt.stderr().is_terminal();
-            smap_mapper::run(rt, &disk, words, on_terminal, io::writer(rt))
+            smap_maps_run::run(rt, &disk, words, on_terminal, io::writer(rt))
         }
         _ => {
             let on_terminal = rt.stdout().is_terminal();
-            smap_viewer::run(rt, &disk, words, on_terminal, io::writer(rt))
+            smap_view_run::run(rt, &disk, words, on_terminal, io::writer(rt))
         }
     };
     drop(held);

@@ -23,7 +23,7 @@ use Rattle.smap_changes.specs.Changes.{are_reordered, is_none, texts_change, tex
 use Rattle.smap_changes.specs.Counts.{Row, counted, fewer_in, is_fewer, keys, missing_in, rows_of, table_of}
 use Rattle.smap_changes.specs.Counts.{times}
 use Rattle.smap_changes.specs.Lists.{is_text_or_null, count, fewer, if_any, missing, once, text_of, texts_of}
-use Rattle.smap_drops.proofs.DropLemmas.{Text, one_more as one_more_value}
+use Rattle.smap_changes.proofs.DropLemmas.{Text, one_more as one_more_value}
 
 -- ---- the map's words
 

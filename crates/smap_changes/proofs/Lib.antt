@@ -1,2 +1,4 @@
 pub mod CountLemmas
+pub mod CutLemmas
+pub mod DropLemmas
 pub mod ListLemmas

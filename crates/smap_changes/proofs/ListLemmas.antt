@@ -9,8 +9,8 @@ use Rattle.serde_json.specs.View.{items_view, view}
 use Rattle.serde_json.specs.declared.value.Value.{Value}
 use Rattle.smap_changes.specs.Changes.{array_change, value_change}
 use Rattle.smap_changes.specs.Showing.{entries_size, size}
-use Rattle.smap_drops.specs.Drops.{items_of}
-use Rattle.smap_drops.proofs.DropLemmas.{Text, back, texts}
+use Rattle.smap_changes.specs.Drops.{items_of}
+use Rattle.smap_changes.proofs.DropLemmas.{Text, back, texts}
 
 -- ---- entries
 

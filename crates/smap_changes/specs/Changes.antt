@@ -11,7 +11,7 @@ use Rattle.serde_json.specs.Find.{as_array, as_str}
 use Rattle.serde_json.specs.View.{view}
 use Rattle.serde_json.specs.declared.value.Value.{Value, out-Value}
 use Rattle.serde_json.specs.declared.value.Value.TheOpen.{Value-F}
-use Rattle.smap_drops.specs.Drops.{items_of}
+use Rattle.smap_changes.specs.Drops.{items_of}
 use Rattle.smap_changes.specs.Lists.{fewer, is_text_or_null, missing, texts_of}
 use Rattle.smap_changes.specs.Showing.{byte_counts, count_text, entry_counts, line, quoted, size, text_change}
 

@@ -1,4 +1,6 @@
-pub mod Showing
-pub mod Lists
-pub mod Counts
 pub mod Changes
+pub mod Counts
+pub mod Drops
+pub mod Lists
+pub mod Naming
+pub mod Showing

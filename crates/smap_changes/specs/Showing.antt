@@ -3,8 +3,8 @@ use Rattle.std.specs.Prelude.{ℕ, ◌%◌, ◌==◌, ◌&&◌, Bool, cond, deci
 use Rattle.std.specs.Prelude.{nat_le, nat_lt, Option, Some, None}
 use Rattle.serde_json.specs.Data.{Data, Items}
 use Rattle.serde_json.specs.Find.{as_array, as_str}
-use Rattle.smap_drops.specs.Drops.{items_of}
-use Rattle.smap_drops.specs.Naming.{bare_json, cut, json}
+use Rattle.smap_changes.specs.Drops.{items_of}
+use Rattle.smap_changes.specs.Naming.{bare_json, cut, json}
 
 -- a text of at most 60 bytes is shown whole
 abbrev pub is_short : List ℕ → Bool

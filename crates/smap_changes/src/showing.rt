@@ -4,8 +4,8 @@ ghost use Rattle.std.specs.Str.{IsAscii};
 ghost use Rattle.serde_json.specs.View.{view};
 ghost use Rattle.smap_changes.specs.Showing as spec;
 
+use crate::{bare_json, cut, json};
 use serde_json::Value;
-use smap_drops::{bare_json, cut, json};
 use std::alloc::{AllocError, Global};
 
 /// The most bytes of a text that are shown.

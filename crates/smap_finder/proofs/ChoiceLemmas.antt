@@ -7,13 +7,13 @@ use Rattle.std.proofs.lemmas.List.Elements.{All-push}
 use Rattle.std.specs.Global.{Vec}
 use Rattle.std.specs.List.{All, slice_get}
 use Rattle.std.proofs.lemmas.Option.{get_or_from_slice_get, slice_get-get_or, slice_get-map, slice_get_within}
-use Rattle.smap_disk.specs.Held.{Held, IsHeld}
+use Rattle.smap_machine.specs.Held.{Held, IsHeld}
 use Rattle.smap_finder.specs.Choice.{AreChoices, ArePicksIn, ArePicksOf, IsFoundIn, NamesMap, files_of}
 use Rattle.smap_finder.specs.Choice.{is_half_unclear}
 use Rattle.smap_finder.specs.Choice.{places_of}
-use Rattle.smap_opening.specs.Given.{Folder, IsFollowed}
-use Rattle.smap_opening.specs.declared.following.Followed.TheVariants as followed
-use Rattle.smap_arguments.specs.declared.wanted.Wanted.{Wanted}
+use Rattle.smap_map_files.specs.Given.{Folder, IsFollowed}
+use Rattle.smap_map_files.specs.declared.following.Followed.TheVariants as followed
+use Rattle.smap_map_files.specs.declared.wanted.Wanted.{Wanted}
 use Rattle.smap_pick.specs.Picks.{IsPick}
 use Rattle.smap_pick.specs.Places.{MapPlace, scripts_of}
 use Rattle.smap_pick.specs.declared.picks.Pick.{Pick}

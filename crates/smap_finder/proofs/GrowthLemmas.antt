@@ -5,8 +5,8 @@ use Rattle.std.proofs.Common.{Option, None, Some, Result, Ok, Err, IfNone, IfOk,
 use Rattle.std.proofs.Common.{option_map, sym}
 use Rattle.std.specs.List.{All, Contains}
 use Rattle.std.proofs.lemmas.List.Elements.{All-contains}
-use Rattle.smap_arguments.specs.declared.wanted.Wanted.{Wanted}
-use Rattle.smap_disk.specs.Held.{Held}
+use Rattle.smap_map_files.specs.declared.wanted.Wanted.{Wanted}
+use Rattle.smap_machine.specs.Held.{Held}
 use Rattle.smap_pick.specs.declared.picks.Found.{Found}
 use Rattle.smap_pick.specs.declared.picks.Found.TheVariants.{Given, ByEnd, Unclear, Missing}
 use Rattle.smap_pick.specs.declared.picks.Pick.{Pick}
@@ -15,8 +15,8 @@ use Rattle.smap_trace.specs.Scripts.{Script, map_of}
 use Rattle.smap_trace.proofs.TableLemmas.{found_there, names_of}
 use Rattle.smap_finder.proofs.ChoiceLemmas.{one_of}
 use Rattle.smap_finder.specs.Choice.{IsOpenedAs, IsUnopened, has_base, opening_name, root_of}
-use Rattle.smap_opening.specs.Given.{Folder}
-use Rattle.smap_opening.specs.Opened.{GivesNone}
+use Rattle.smap_map_files.specs.Given.{Folder}
+use Rattle.smap_map_files.specs.Opened.{GivesNone}
 use Rattle.smap_pick.specs.Places.{MapPlace}
 use Rattle.smap_finder.specs.ChosenView.{AreChosen, Choices, Ends, IsCrowded, IsWithoutMap, Grows, map_in}
 use Rattle.smap_finder.specs.ChosenView.{HasNone}

@@ -1,6 +1,6 @@
 -- The map that is kept for a name of a log is the one that the name has.
 use Rattle.std.proofs.Common.{◌≡◌, sym, Some, ℕ, Bool, true, false, cond, List, subst, refl}
-use Rattle.smap_disk.specs.Held.{Held}
+use Rattle.smap_machine.specs.Held.{Held}
 use Rattle.smap_pick.specs.declared.picks.Found.{Found}
 use Rattle.smap_pick.specs.declared.picks.Found.TheVariants.{Given, ByEnd, Unclear, Missing}
 use Rattle.smap_record.specs.Record.{ReadMap}
@@ -8,7 +8,7 @@ use Rattle.smap_finder.proofs.ChoiceLemmas.{one_of}
 use Rattle.smap_finder.specs.Choice.{IsChoice, IsMapOf, IsOpenedFor, IsPicked, may_end_alike, within_ends}
 use Rattle.smap_finder.specs.ChosenView.{AreChosen, Choices, IsFor, IsServedBy, IsTried, Serves, map_in}
 use Rattle.smap_finder.specs.declared.chosen.Opening.{Opening}
-use Rattle.smap_arguments.specs.declared.wanted.Wanted.{Wanted}
+use Rattle.smap_map_files.specs.declared.wanted.Wanted.{Wanted}
 
 none_given : (t : Bool) (found : Found) (i : ℕ) → Given i ≡ cond t found Missing → found ≡ Given i
 none_given true found i e = sym e

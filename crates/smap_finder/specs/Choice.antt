@@ -5,7 +5,7 @@ use Rattle.std.specs.Prelude.{IfSome, Option, Some, None, option_and_then, optio
 use Rattle.std.specs.Global.{Vec}
 use Rattle.std.specs.Char.{is_ascii_alphanumeric}
 use Rattle.std.specs.List.{All, list_any, prefix_len, slice_get, starts_with}
-use Rattle.smap_disk.specs.Held.{Held}
+use Rattle.smap_machine.specs.Held.{Held}
 use Rattle.smap_link.specs.Alike.{own_url}
 use Rattle.smap_link.specs.Paths.{bare}
 use Rattle.smap_link.specs.Urls.{is_path}
@@ -17,12 +17,12 @@ use Rattle.smap_pick.specs.declared.picks.Found.{Found}
 use Rattle.smap_pick.specs.declared.picks.Found.TheVariants.{Given, ByEnd, Unclear, Missing}
 use Rattle.smap_pick.specs.declared.picks.Pick.{Pick}
 use Rattle.smap_record.specs.Record.{ReadMap}
-use Rattle.smap_opening.specs.Given.{Folder, Names}
-use Rattle.smap_opening.specs.Opened.{GivesNone, IsOpened}
-use Rattle.smap_opening.specs.RootView.{folder_in}
-use Rattle.smap_arguments.specs.declared.wanted.Origin.{Origin}
-use Rattle.smap_arguments.specs.declared.wanted.Origin.TheVariants as origin
-use Rattle.smap_arguments.specs.declared.wanted.Wanted.{Wanted}
+use Rattle.smap_map_files.specs.Given.{Folder, Names}
+use Rattle.smap_map_files.specs.Opened.{GivesNone, IsOpened}
+use Rattle.smap_map_files.specs.RootView.{folder_in}
+use Rattle.smap_map_files.specs.declared.wanted.Origin.{Origin}
+use Rattle.smap_map_files.specs.declared.wanted.Origin.TheVariants as origin
+use Rattle.smap_map_files.specs.declared.wanted.Wanted.{Wanted}
 
 -- ---- what the arguments name
 

@@ -5,7 +5,7 @@ use Rattle.std.specs.Global.{Vec}
 use Rattle.std.specs.Str.{IsUtf8}
 use Rattle.std.specs.List.{All, Contains, IsDistinct, slice_get}
 use Rattle.std.specs.Map.{lookup}
-use Rattle.smap_disk.specs.Held.{Held}
+use Rattle.smap_machine.specs.Held.{Held}
 use Rattle.smap_link.specs.Paths.{bare}
 use Rattle.smap_link.specs.Table.{IsTable}
 use Rattle.smap_pick.specs.Places.{scripts_of}
@@ -18,7 +18,7 @@ use Rattle.smap_finder.specs.declared.giving.TheConstants.{MOST_AGAIN}
 use Rattle.smap_finder.specs.declared.chosen.Chosen.{Chosen}
 use Rattle.smap_finder.specs.declared.chosen.Opening.{Opening}
 use Rattle.smap_finder.specs.declared.opening.Opener.{Opener}
-use Rattle.smap_arguments.specs.declared.wanted.Wanted.{Wanted}
+use Rattle.smap_map_files.specs.declared.wanted.Wanted.{Wanted}
 
 -- The names for which files of folders without a URL were opened, without their queries and fragments: the
 -- first of each file, and the further ones.

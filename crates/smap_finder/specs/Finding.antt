@@ -1,8 +1,8 @@
 -- What contracts say of a finder.
 use Rattle.std.specs.Prelude.{◌≡◌}
-use Rattle.smap_disk.specs.Held.{Held}
-use Rattle.smap_opening.specs.declared.opening.How.{How}
-use Rattle.smap_arguments.specs.declared.wanted.Wanted.{Wanted}
+use Rattle.smap_machine.specs.Held.{Held}
+use Rattle.smap_map_files.specs.declared.opening.How.{How}
+use Rattle.smap_map_files.specs.declared.wanted.Wanted.{Wanted}
 use Rattle.smap_finder.specs.ChosenView.{AreChosen, Choices, IsOver}
 use Rattle.smap_finder.specs.declared.opening.Opener.{Opener}
 

@@ -1,6 +1,6 @@
 -- What contracts say of a search.
-use Rattle.smap_disk.specs.Held.{Held}
-use Rattle.smap_arguments.specs.declared.wanted.Wanted.{Wanted}
+use Rattle.smap_machine.specs.Held.{Held}
+use Rattle.smap_map_files.specs.declared.wanted.Wanted.{Wanted}
 use Rattle.smap_finder.specs.declared.opening.Search.{Search}
 
 -- what the files of its disk hold

@@ -7,9 +7,8 @@ use crate::chosen::Chosen;
 use crate::giving::judge;
 use crate::opening::{Opener, Search};
 use crate::picking::{key_of_found, name_of_file};
-use smap_disk::Disk;
-use smap_host::Stop;
-use smap_opening::FileStore;
+use smap_machine::{Disk, Stop};
+use smap_map_files::FileStore;
 use smap_pick::{Found, Pick};
 
 impl<E: Eprint + AllocGlobal, D: Disk> Search<'_, E, D> {

@@ -4,7 +4,7 @@ ghost use Rattle.std.specs.Prelude.{option_map, true, ℕ};
 ghost use Rattle.std.specs.Global.{Vec};
 ghost use Rattle.std.specs.List.{slice_get};
 ghost use Rattle.std.specs.Map.{lookup};
-ghost use Rattle.smap_disk.specs.Held.{Held};
+ghost use Rattle.smap_machine.specs.Held.{Held};
 ghost use Rattle.smap_finder.specs.Choice.{IsMapOf};
 ghost use Rattle.smap_finder.specs.ChosenView.{AreChosen, Grows, HasMap, IsLeft, IsOther, IsServedBy};
 ghost use Rattle.smap_finder.specs.ChosenView.{IsSettledIn, IsTried, KeepsEnd, KeepsEnds, Serves, choices_of};
@@ -12,7 +12,7 @@ ghost use Rattle.smap_finder.specs.ChosenView.{no_choices};
 ghost use Rattle.smap_finder.specs.declared.chosen.Opening.{Opening};
 ghost use Rattle.smap_record.specs.Record.{record_of};
 ghost use Rattle.smap_trace.specs.Scripts.{map_of};
-ghost use Rattle.smap_arguments.specs.declared.wanted.Wanted.{Wanted};
+ghost use Rattle.smap_map_files.specs.declared.wanted.Wanted.{Wanted};
 
 use indexmap::{IndexMap, IndexSet};
 use smap_link::bare;

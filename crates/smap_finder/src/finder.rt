@@ -8,10 +8,8 @@ ghost use Rattle.smap_trace.specs.Scripts.{map_of};
 
 use crate::chosen::Chosen;
 use crate::opening::{Opener, Search};
-use smap_arguments::Wanted;
-use smap_disk::Disk;
-use smap_host::{Host, Stop};
-use smap_opening::How;
+use smap_machine::{Disk, Host, Stop};
+use smap_map_files::{How, Wanted};
 use smap_record::SourceMap;
 use smap_trace::Scripts;
 use std::marker::Model;

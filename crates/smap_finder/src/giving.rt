@@ -1,7 +1,7 @@
 //! The maps of the scripts that a log names, opened as the log first names them.
 ghost use Rattle.std.specs.Prelude.{◌≡◌, ◌<◌, ◌≤◌, ◌⊎◌, Bool, IfOk, IfSome, List, OnOk, false, map, true, ℕ};
 ghost use Rattle.std.specs.List.{All, Contains};
-ghost use Rattle.smap_disk.specs.Held.{Held};
+ghost use Rattle.smap_machine.specs.Held.{Held};
 ghost use Rattle.smap_finder.specs.Choice.{ArePicked, IsPickedBy};
 ghost use Rattle.smap_finder.specs.ChosenView.{AreChosen, Choices, Grows, IsFind, IsJudged, IsNumberOf};
 ghost use Rattle.smap_finder.specs.ChosenView.{IsOver};
@@ -9,15 +9,14 @@ ghost use Rattle.smap_finder.specs.ChosenView.{IsNotOpened, IsServedBy, IsSettle
 ghost use Rattle.smap_finder.specs.ChosenView.{KeepsEnds, choices_of};
 ghost use Rattle.smap_finder.specs.declared.chosen.Opening.{Opening};
 ghost use Rattle.smap_pick.specs.declared.picks.Found.{Found};
-ghost use Rattle.smap_arguments.specs.declared.wanted.Wanted.{Wanted};
+ghost use Rattle.smap_map_files.specs.declared.wanted.Wanted.{Wanted};
 ghost use Rattle.smap_finder.specs.Searching.{held_in, wanted_in};
 
 use crate::chosen::Chosen;
 use crate::opening::{Opener, Search};
 use crate::picking::{key_of_found, opening_name};
-use smap_disk::Disk;
-use smap_host::Stop;
-use smap_opening::{FileStore, How};
+use smap_machine::{Disk, Stop};
+use smap_map_files::{FileStore, How};
 use smap_pick::{Found, Pick};
 use smap_record::SourceMap;
 use std::alloc::{AllocError, Global};

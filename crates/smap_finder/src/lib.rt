@@ -1,8 +1,7 @@
-//! The maps of the scripts that a log names, of those that arguments name (`smap_arguments`), opened as the
-//! log first names them ([`Finder`]). Which map a script has is decided by `smap_pick`; what its file
-//! gives, by `smap_opening`.
-//! The file system is `smap_disk`'s trait, so that tests have it in memory. What is wrong is said on standard
-//! error, with the status of that (`smap_host`).
+//! The maps of the scripts that a log names, of those that arguments name (`smap_map_files`), opened as the
+//! log first names them ([`Finder`]). Which map a script has is decided by `smap_pick`; what its file gives,
+//! by `smap_map_files`. The file system is `smap_machine`'s trait, so that tests have it in memory. What is
+//! wrong is said on standard error, with the status of that (`smap_machine`).
 #![tactic(auto)]
 
 mod checking;
@@ -16,4 +15,4 @@ mod roots;
 mod telling;
 
 pub use finder::Finder;
-pub use smap_opening::How;
+pub use smap_map_files::How;

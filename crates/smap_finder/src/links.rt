@@ -1,18 +1,16 @@
 //! What the scripts of folders without a URL name for their maps.
 ghost use Rattle.std.specs.Prelude.{◌≡◌, IfOk, IfSome, List, Option, Some, true, ℕ};
 ghost use Rattle.std.specs.Global.{Vec};
-ghost use Rattle.smap_disk.specs.Held.{Held};
-ghost use Rattle.smap_arguments.specs.declared.wanted.Wanted.{Wanted};
+ghost use Rattle.smap_machine.specs.Held.{Held};
+ghost use Rattle.smap_map_files.specs.declared.wanted.Wanted.{Wanted};
 ghost use Rattle.smap_finder.specs.Choice.{AreLinks, IsNamedBy, Links as IsLink};
 ghost use Rattle.smap_finder.specs.Searching.{held_in, wanted_in};
 
 use crate::opening::Search;
 use crate::roots::root_of;
 use indexmap::IndexMap;
-use smap_arguments::Wanted;
-use smap_disk::{Disk, LIMIT, read_file};
-use smap_host::{Host, Stop};
-use smap_opening::{Followed, follow};
+use smap_machine::{Disk, Host, LIMIT, Stop, read_file};
+use smap_map_files::{Followed, Wanted, follow};
 use smap_pick::{Found, usual_place};
 use std::alloc::Global;
 

@@ -9,11 +9,9 @@ ghost use Rattle.smap_finder.specs.Searching.{wanted_in};
 
 use crate::links::Links;
 use crate::roots::{has_base, root_of};
-use smap_arguments::Wanted;
-use smap_disk::Disk;
-use smap_host::{Host, Stop};
 use smap_link::{ChoiceFault, ScriptTable};
-use smap_opening::{FileStore, How, Subject, copied, settle_content};
+use smap_machine::{Disk, Host, Stop};
+use smap_map_files::{FileStore, How, Subject, Wanted, copied, settle_content};
 use smap_pick::{Found, Pick, Place, table_of, usual_place};
 use smap_record::SourceMap;
 use std::alloc::{AllocError, Global};

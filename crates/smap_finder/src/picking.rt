@@ -5,18 +5,17 @@ ghost use Rattle.smap_finder.specs.Choice as spec;
 ghost use Rattle.smap_finder.specs.Choice.{AreChoices, AreLinks, ArePicked, ArePicksIn, IsChoice, IsChoiceOf};
 ghost use Rattle.smap_finder.specs.Choice.{IsFoundIn};
 ghost use Rattle.smap_finder.specs.Choice.{IsHalfUnclear, files_of, places_of};
-ghost use Rattle.smap_arguments.specs.declared.wanted.Wanted.{Wanted};
-ghost use Rattle.smap_disk.specs.Held.{Held};
+ghost use Rattle.smap_map_files.specs.declared.wanted.Wanted.{Wanted};
+ghost use Rattle.smap_machine.specs.Held.{Held};
 ghost use Rattle.smap_finder.specs.ChosenView.{IsOver};
 ghost use Rattle.smap_finder.specs.Searching.{held_in, wanted_in};
 
 use crate::links::Links;
 use crate::opening::{Opener, Search};
 use crate::roots::slices;
-use smap_arguments::Wanted;
-use smap_disk::Disk;
-use smap_host::{Host, Stop};
 use smap_link::{ScriptTable, bare, is_path, own_url};
+use smap_machine::{Disk, Host, Stop};
+use smap_map_files::Wanted;
 use smap_pick::{Found, Pick, pick_all};
 use std::alloc::{AllocError, Global};
 

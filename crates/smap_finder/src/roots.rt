@@ -1,9 +1,9 @@
 //! The folders in which the maps of picks stand.
 ghost use Rattle.std.specs.Prelude.{◌≡◌, IfOk, map};
 ghost use Rattle.smap_finder.specs.Choice as spec;
-ghost use Rattle.smap_opening.specs.RootView.{folder_of};
+ghost use Rattle.smap_map_files.specs.RootView.{folder_of};
 
-use smap_arguments::{Origin, Root, Wanted};
+use smap_map_files::{Origin, Root, Wanted};
 use smap_pick::Found;
 use std::alloc::{AllocError, Global};
 

@@ -4,9 +4,8 @@ ghost use Rattle.smap_finder.specs.ChosenView.{choices_of};
 
 use crate::chosen::Chosen;
 use crate::opening::Search;
-use smap_disk::Disk;
-use smap_host::{Host, Stop, shown};
 use smap_link::bare;
+use smap_machine::{Disk, Host, Stop, shown};
 use smap_pick::{Found, Pick, Place};
 
 /// So many names are told to be taken for others at most.

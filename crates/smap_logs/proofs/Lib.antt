@@ -1,2 +1,6 @@
+pub mod BeginningLemmas
 pub mod LogLemmas
+pub mod NameLemmas
 pub mod NamingLemmas
+pub mod SpanLemmas
+pub mod WholeLemmas

@@ -10,7 +10,7 @@ use Rattle.std.proofs.lemmas.Bool.Decides.{nat_tests}
 use Rattle.std.proofs.lemmas.List.{get_or-reverse, get_or-take, length-reverse}
 use Rattle.std.proofs.lemmas.List.Sums.{prefix_len_stops}
 use Rattle.std.proofs.KnownBytes.{prepend_known-nil}
-use Rattle.smap_lines.specs.Lines.{is_feed, open_line, whole_len, whole_lines}
+use Rattle.smap_logs.specs.Lines.{is_feed, open_line, whole_len, whole_lines}
 use Rattle.smap_logs.specs.Logs.{IsAll}
 
 a_feed : (b : ℕ) → not (is_feed b) ≡ false → b ≡ 10

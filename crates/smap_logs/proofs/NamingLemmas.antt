@@ -8,7 +8,7 @@ use Rattle.std.specs.List.{Contains, list_any}
 use Rattle.std.specs.Map.{keys_of, lookup}
 use Rattle.std.proofs.lemmas.List.{map-append, take_more}
 use Rattle.std.proofs.lemmas.Grind.{flat_map-append}
-use Rattle.smap_lines.specs.declared.spans.Span.{Span}
+use Rattle.smap_logs.specs.declared.spans.Span.{Span}
 use Rattle.std.proofs.lemmas.Option.{slice_get-get_or}
 use Rattle.smap_record.specs.Record.{distinct}
 use Rattle.smap_record.proofs.EqualLemmas.{same_bytes}

@@ -1,2 +1,10 @@
+pub mod Beginnings
+pub mod Bytes
+pub mod Lines
 pub mod Logs
+pub mod Looked
+pub mod Looking
 pub mod Naming
+pub mod Prefixes
+pub mod Shown
+pub mod Spans

@@ -1,7 +1,7 @@
 -- What a log that is read block by block hands out, and what it has left.
 use Rattle.std.specs.Prelude.{◌≡◌, ℕ, Bool, true, false, cond, List, [], Option, None, Some, option_map, ⊤}
 use Rattle.std.specs.Io.KnownBytes.{Consumes, IsAtEnd, prepend_known}
-use Rattle.smap_lines.specs.Lines.{open_line, whole_lines}
+use Rattle.smap_logs.specs.Lines.{open_line, whole_lines}
 use Rattle.smap_logs.specs.declared.logs.Log.{Log}
 use Rattle.smap_logs.specs.declared.logs.Step.{Step}
 use Rattle.smap_logs.specs.declared.logs.Step.TheVariants.{End, Lines, More}

@@ -5,11 +5,11 @@ use Rattle.std.specs.Borrow.{Bor}
 use Rattle.std.specs.Global.{Vec}
 use Rattle.std.specs.List.{Contains, list_any, slice_split}
 use Rattle.indexmap.specs.IndexMap.{keys}
-use Rattle.smap_disk.specs.Held.{GivesHeld, Held}
+use Rattle.smap_machine.specs.Held.{GivesHeld, Held}
 use Rattle.smap_frames.specs.Places.{query_len}
-use Rattle.smap_lines.specs.Lines.{is_feed}
-use Rattle.smap_lines.specs.Spans.{spans}
-use Rattle.smap_lines.specs.declared.spans.Span.{Span}
+use Rattle.smap_logs.specs.Lines.{is_feed}
+use Rattle.smap_logs.specs.Spans.{spans}
+use Rattle.smap_logs.specs.declared.spans.Span.{Span}
 use Rattle.smap_link.specs.Paths.{bare_size}
 use Rattle.smap_trace.specs.Naming.{urls_of}
 use Rattle.smap_logs.specs.Logs.{IsAll}

@@ -3,9 +3,8 @@ ghost use Rattle.std.specs.Prelude.{◌≡◌, ◌<◌, false, true, [], IfOk, O
 ghost use Rattle.std.specs.Io.KnownBytes.{Keeps};
 ghost use Rattle.smap_logs.specs.Logs.{GoesOn, IsStep, handed, pending, waiting};
 
-use smap_disk::Disk;
-use smap_host::{Host, Stop};
-use smap_lines::Block;
+use crate::Block;
+use smap_machine::{Disk, Host, Stop};
 use std::alloc::{AllocError, Global};
 use std::io::{self, ErrorKind, Read};
 

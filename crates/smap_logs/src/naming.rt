@@ -6,10 +6,10 @@ ghost use Rattle.smap_trace.specs.Naming.{urls_of};
 ghost use Rattle.smap_logs.specs.Naming as spec;
 ghost use Rattle.smap_logs.specs.Naming.{AreNamesOf, AreSame, frames_of, others_in, others_of};
 
+use crate::add_spans;
 use indexmap::{IndexMap, IndexSet};
 use smap_frames::query_len;
 use smap_io::Device;
-use smap_lines::add_spans;
 use smap_link::bare;
 use smap_trace::{NamedScripts, named_scripts};
 use std::alloc::{AllocError, Global};

@@ -1,7 +1,7 @@
 //! Texts, and a walk over a disk that doesn't change.
 
 use crate::asserted::equal;
-use smap_disk::{
+use smap_machine::{
     EntryKind, FixedDisk, FixedEntry, FixedFile, FixedFolder, printable, reason, walk,
 };
 use std::io::{self, ErrorKind};

@@ -1,10 +1,10 @@
-//! What the disk in memory shows of `smap_disk`.
+//! What the disk in memory shows of `smap_machine`.
 
 use crate::asserted::{equal, holds};
-use smap_disk::{
+use smap_machine::{
     Beside, Disk, FileFault, Kind, Walk, WalkFault, Watched, create_beside, read_file, walk,
 };
-use smap_memory_disk::{MemoryDisk, MemoryWriter};
+use smap_testing::{MemoryDisk, MemoryWriter};
 use std::alloc::{AllocError, Global};
 use std::io::{self, ErrorKind, Write};
 use std::test::Fail;

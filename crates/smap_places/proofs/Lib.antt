@@ -1,2 +1,3 @@
 mod DepthLemmas
+mod RangeLemmas
 mod SegmentLemmas

@@ -6,22 +6,36 @@
 //! out. The bytes there must read as the value that the tree of the text has at the path, and where another
 //! value is put in their place, the text must read as a tree that has that other value there. So a range is
 //! the range of that value, and not of an equal one elsewhere in the text.
+//!
+//! Where in the text of a source map a fault is: [`range_of`] gives the range of bytes of the member, the
+//! section or the segment that a [`smap_record::Fault`] is about, and [`point_of`] makes a line and a column
+//! of a place. What a file shows at its beginning that is no map, and what may help then, is told by
+//! [`start_of`] and [`hint`].
+//!
+//! The map's JSON tree is read once more, so these are for a map that was refused.
 #![tactic(auto)]
 
 mod bytes;
+mod fault_path;
+mod fault_range;
+mod json_error;
+mod member;
 mod point;
 mod range;
 mod scan;
 mod segment;
 mod spelling;
+mod starts;
 mod step;
 mod trial;
 mod walk;
 mod written;
 
+pub use fault_range::range_of;
 pub use point::{Point, point_of};
 pub use range::TextRange;
 pub use segment::segment_range;
+pub use starts::{Start, hint, start_of};
 pub use step::{Key, Step};
 pub use walk::{there, value_at};
 pub use written::value_range;

@@ -5,7 +5,7 @@ ghost use Rattle.smap_report.specs.Text as spec;
 
 use crate::findings::{Finding, Level, Report, Rule, rule_name};
 use crate::phrases::{place_text, summary};
-use smap_disk::printable;
+use smap_machine::printable;
 use std::alloc::{AllocError, Global};
 
 /// A level in a column of seven characters.

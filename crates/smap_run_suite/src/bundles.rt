@@ -2,10 +2,10 @@
 ghost use Rattle.std.specs.Prelude.{◌<◌};
 
 use crate::asserted::{equal, holds};
-use smap_bundle::{Bundle, BundleFault, read_bundle};
 use smap_io::Device;
 use smap_record::SourceMap;
 use smap_testing::SlowReader;
+use smap_tool::{Bundle, BundleFault, read_bundle};
 use std::alloc::{AllocError, Global};
 use std::process::Abort;
 use std::test::Fail;

@@ -5,8 +5,8 @@ use Rattle.smap_mappings.specs.declared.error.SegmentPlace.{SegmentPlace}
 use Rattle.smap_record.specs.declared.fault.Kind.{Kind}
 use Rattle.smap_record.specs.declared.fault.Kind.TheVariants as kind
 use Rattle.smap_record.specs.Messages.{fault_message}
-use Rattle.smap_bundle.specs.declared.fault.EntryFault.{EntryFault}
-use Rattle.smap_bundle.specs.declared.fault.EntryFault.TheVariants as wrong
+use Rattle.smap_tool.specs.declared.fault.EntryFault.{EntryFault}
+use Rattle.smap_tool.specs.declared.fault.EntryFault.TheVariants as wrong
 use Rattle.smap_tool.specs.BundleLine.{bundle_line}
 use Rattle.smap_tool.specs.FaultLine.{fault_line}
 

@@ -13,7 +13,7 @@ use Rattle.smap_tool.specs.declared.outcome.RunFault.{RunFault}
 use Rattle.smap_tool.specs.declared.outcome.RunFault.TheVariants as run
 use Rattle.smap_trace.specs.Streaming.{WritesComplete, WritesPrefix, complete_of}
 use Rattle.smap_trace.specs.Translation.{Fate, Script, translation_by}
-use Rattle.smap_bundle.specs.Entries.{TakesEntries}
+use Rattle.smap_tool.specs.Entries.{TakesEntries}
 use Rattle.smap_tool.specs.Translate.{CompleteAfterTrace, GaveUp, PrefixAfterTrace, RunTranslates}
 use Rattle.smap_tool.specs.Translate.{RunsTranslate, TranslatesTrace}
 

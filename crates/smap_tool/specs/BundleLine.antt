@@ -1,9 +1,9 @@
 -- The error line of a bundle.
 use Rattle.std.specs.Prelude.{ℕ, List, ◌++◌, codes, decimal}
 use Rattle.smap_record.specs.Messages.{fault_message}
-use Rattle.smap_bundle.specs.declared.fault.EntryFault.{EntryFault}
-use Rattle.smap_bundle.specs.declared.fault.EntryFault.TheVariants as wrong
-use Rattle.smap_bundle.specs.declared.fault.Refusal.{Refusal}
+use Rattle.smap_tool.specs.declared.fault.EntryFault.{EntryFault}
+use Rattle.smap_tool.specs.declared.fault.EntryFault.TheVariants as wrong
+use Rattle.smap_tool.specs.declared.fault.Refusal.{Refusal}
 
 -- what is wrong with the entry with this index, from 0
 abbrev pub entry_line : ℕ → EntryFault → List ℕ

@@ -17,11 +17,11 @@ use Rattle.smap_tool.specs.declared.outcome.Outcome.{Outcome}
 use Rattle.smap_tool.specs.declared.outcome.Outcome.TheVariants.{Done, Refused}
 use Rattle.smap_tool.specs.declared.outcome.RunFault.{RunFault}
 use Rattle.smap_tool.specs.declared.outcome.RunFault.TheVariants as run
-use Rattle.smap_bundle.specs.Bundle.{Checked, HasFault, bundle_of}
-use Rattle.smap_bundle.specs.Reach.{EndsWithinEntry, ReadsNoMore}
-use Rattle.smap_bundle.specs.Reading.{MayFollow}
-use Rattle.smap_bundle.specs.declared.fault.BundleFault.TheVariants as bundle
-use Rattle.smap_bundle.specs.declared.fault.Refusal.{Refusal}
+use Rattle.smap_tool.specs.Bundle.{Checked, HasFault, bundle_of}
+use Rattle.smap_tool.specs.Reach.{EndsWithinEntry, ReadsNoMore}
+use Rattle.smap_tool.specs.Reading.{MayFollow}
+use Rattle.smap_tool.specs.declared.fault.BundleFault.TheVariants as bundle
+use Rattle.smap_tool.specs.declared.fault.Refusal.{Refusal}
 use Rattle.smap_tool.specs.BundleLine.{bundle_line}
 
 -- What becomes of a line by some scripts, where positions are found in frames.

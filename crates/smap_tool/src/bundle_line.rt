@@ -2,8 +2,8 @@
 ghost use Rattle.std.specs.Prelude.{◌≡◌, ◌∷◌, ◌++◌, [], string_bytes, IfOk};
 ghost use Rattle.smap_tool.specs.BundleLine.{bundle_line};
 
+use crate::{EntryFault, Refusal};
 use itoa::Buffer;
-use smap_bundle::{EntryFault, Refusal};
 use smap_mappings::Memory;
 use std::alloc::Global;
 

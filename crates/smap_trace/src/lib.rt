@@ -1,10 +1,9 @@
 //! Lookup in source maps, and the translation of stack traces to source positions.
 //!
 //! [`lookup`] finds the mapping for a generated position, by binary search ([`search`]), and [`find`] its
-//! index. [`frame`]
-//! recognizes a line of a stack trace, as the engines of browsers and Node write it. [`translate_line`]
-//! translates one line, and [`translate`] a whole trace from a reader to a writer, line by line as it
-//! comes. Maps count lines and columns from 0, traces from 1.
+//! index. [`frame`] recognizes a line of a stack trace, as the engines of browsers and Node write it.
+//! [`translate_line`] translates one line, and [`translate`] a whole trace from a reader to a writer, line by
+//! line as it comes. Maps count lines and columns from 0, traces from 1.
 #![tactic(auto)]
 
 mod anywhere;

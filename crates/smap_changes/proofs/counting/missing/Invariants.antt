@@ -1,7 +1,7 @@
 use Rattle.std.proofs.Common.{◌≡◌, ◌==◌, filter, map}
 use Rattle.std.specs.Map.Iter.{deref}
 use Rattle.smap_changes.specs.Counts.{rows_of, times}
-use Rattle.smap_drops.proofs.DropLemmas.{texts}
+use Rattle.smap_changes.proofs.DropLemmas.{texts}
 use Rattle.smap_changes.proofs.counting.missing.Given as goal
 
 abbrev pub invariant-loop-text : goal.invariant-loop-text

@@ -1,7 +1,7 @@
 use Rattle.std.proofs.Common.{◌⊎◌, map, take}
 use Rattle.std.specs.List.{All, Contains}
-use Rattle.smap_arguments.specs.declared.wanted.Wanted.{Wanted}
-use Rattle.smap_disk.specs.Held.{Held}
+use Rattle.smap_map_files.specs.declared.wanted.Wanted.{Wanted}
+use Rattle.smap_machine.specs.Held.{Held}
 use Rattle.smap_finder.specs.ChosenView.{AreChosen, IsSettledIn, choices_of}
 use Rattle.smap_finder.proofs.giving.unknown.Given as goal
 

@@ -1,7 +1,7 @@
 use Rattle.std.proofs.Common.{map, take}
 use Rattle.std.specs.List.{All}
-use Rattle.smap_arguments.specs.declared.wanted.Wanted.{Wanted}
-use Rattle.smap_disk.specs.Held.{Held}
+use Rattle.smap_map_files.specs.declared.wanted.Wanted.{Wanted}
+use Rattle.smap_machine.specs.Held.{Held}
 use Rattle.smap_finder.specs.Choice.{ArePicked, IsChoiceOf}
 use Rattle.smap_finder.proofs.picking.all_within.Given as goal
 

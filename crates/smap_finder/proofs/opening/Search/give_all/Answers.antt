@@ -1,7 +1,7 @@
 use Rattle.std.proofs.Common.{◌∙◌, [], get_or, subst}
 use Rattle.std.proofs.lemmas.List.{take_all}
 use Rattle.std.proofs.lemmas.List.Elements.{All-more}
-use Rattle.smap_disk.specs.Held.{Held}
+use Rattle.smap_machine.specs.Held.{Held}
 use Rattle.smap_finder.specs.ChosenView.{AreChosen, IsSettledIn, KeepsEnds, choices_of}
 use Rattle.smap_finder.proofs.EndLemmas.{one_kept}
 use Rattle.smap_finder.proofs.GrowthLemmas.{all_grown, grows_on}

@@ -1,7 +1,7 @@
 use Rattle.std.proofs.Common.{OnOk, List, map, subst, ℕ}
 use Rattle.std.specs.List.{All}
 use Rattle.std.proofs.lemmas.List.Elements.{All-map}
-use Rattle.smap_disk.specs.Held.{Held}
+use Rattle.smap_machine.specs.Held.{Held}
 use Rattle.smap_finder.specs.ChosenView.{IsSettledIn, KeepEnds, choices_of}
 use Rattle.smap_finder.proofs.GrowthLemmas.{on_ok}
 use Rattle.smap_pick.specs.declared.picks.Pick.{Pick}

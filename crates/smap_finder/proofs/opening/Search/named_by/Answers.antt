@@ -1,11 +1,11 @@
 use Rattle.std.proofs.Common.{rules, ◌≡◌, subst}
 use Rattle.std.proofs.lemmas.Option.{slice_get_read}
-use Rattle.smap_disk.specs.Held.{IsHeld}
+use Rattle.smap_machine.specs.Held.{IsHeld}
 use Rattle.smap_pick.specs.PlaceView.{place_in}
 use Rattle.smap_pick.specs.Places.{MapPlace, usual_place}
-use Rattle.smap_opening.specs.Given.{IsFollowed}
-use Rattle.smap_opening.specs.RootView.{folder_in}
-use Rattle.smap_opening.specs.declared.following.Followed.TheVariants as followed
+use Rattle.smap_map_files.specs.Given.{IsFollowed}
+use Rattle.smap_map_files.specs.RootView.{folder_in}
+use Rattle.smap_map_files.specs.declared.following.Followed.TheVariants as followed
 use Rattle.smap_finder.proofs.ChoiceLemmas.{file_at, names_map}
 use Rattle.smap_finder.proofs.opening.Search.named_by.Goals as goal
 

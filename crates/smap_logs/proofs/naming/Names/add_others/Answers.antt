@@ -1,7 +1,7 @@
 use Rattle.std.proofs.Common.{◌∙◌, ◌++◌, flat_map, subst, rules, tests}
 use Rattle.std.proofs.lemmas.Iterator.Consumers.{YieldsList-end}
 use Rattle.std.proofs.lemmas.Iterator.Splits.{YieldsList-from_slice_split}
-use Rattle.smap_lines.specs.Lines.{is_feed}
+use Rattle.smap_logs.specs.Lines.{is_feed}
 use Rattle.smap_logs.specs.Naming.{AreSame, frames_of, others_in_line, others_of, without}
 use Rattle.smap_logs.proofs.NamingLemmas.{more_of_lines}
 use Rattle.smap_logs.proofs.naming.Names.add_others.Goals as goal

@@ -1,6 +1,6 @@
 use Rattle.std.proofs.Common.{◌≡◌, ◌∙◌, ◌++◌, ap, filter, length, map, take, subst, arith}
 use Rattle.std.proofs.Math.Seq.{take-length}
-use Rattle.smap_lines.specs.Spans.{spans}
+use Rattle.smap_logs.specs.Spans.{spans}
 use Rattle.smap_logs.specs.Naming.{AreSame, frames_of, has_plain_query, name_in, others_of, without}
 use Rattle.smap_logs.proofs.NamingLemmas.{more_of_spans}
 use Rattle.smap_logs.proofs.naming.Names.add_others_of.Goals as goal

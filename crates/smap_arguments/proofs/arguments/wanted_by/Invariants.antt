@@ -1,8 +1,0 @@
-use Rattle.std.proofs.Common.{take}
-use Rattle.smap_arguments.specs.Lists.{lists_of, no_lists}
-use Rattle.smap_arguments.specs.Naming.{NamesAll}
-use Rattle.smap_arguments.proofs.arguments.wanted_by.Given as goal
-
-abbrev pub invariant-loop-i : goal.invariant-loop-i
-invariant-loop-i g l = NamesAll (g.D.Disk.tree l.host.disk.now) (g.D.Disk.held l.host.disk.now)
-    (take l.i l.arguments) no_lists (lists_of l.wanted)

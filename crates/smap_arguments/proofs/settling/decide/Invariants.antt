@@ -1,8 +1,0 @@
-use Rattle.std.specs.List.{zip}
-use Rattle.smap_pick.specs.PlaceView.{places_in}
-use Rattle.smap_arguments.proofs.SettlingLemmas.{IsDecidedUpTo}
-use Rattle.smap_arguments.proofs.settling.decide.Given as goal
-
-abbrev pub invariant-loop-i : goal.invariant-loop-i
-invariant-loop-i l =
-    IsDecidedUpTo (zip (places_in l.places) l.origins) l.i l.kept.items l.seen.keys l.repeated.items

@@ -1,7 +1,0 @@
-use Rattle.std.specs.List.{zip}
-use Rattle.smap_pick.specs.PlaceView.{places_in}
-use Rattle.smap_arguments.proofs.NamedLemmas.{IsMappedUpTo}
-use Rattle.smap_arguments.proofs.settling.mapped.Given as goal
-
-abbrev pub invariant-loop-i : goal.invariant-loop-i
-invariant-loop-i l = IsMappedUpTo (zip (places_in l.places) l.origins) l.i l.mapped.keys

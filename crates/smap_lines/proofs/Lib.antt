@@ -1,4 +1,0 @@
-pub mod WholeLemmas
-pub mod SpanLemmas
-pub mod NameLemmas
-pub mod BeginningLemmas

@@ -1,7 +1,0 @@
-use Rattle.std.proofs.Common.{◌≡◌, ℕ, List, drop}
-use Rattle.smap_lines.specs.Looking as spec
-use Rattle.smap_lines.proofs.looking.holds_position.Given as goal
-
-abbrev pub invariant-loop-at : goal.invariant-loop-at
-invariant-loop-at l = (name : List ℕ) × (l.name ≡ spec.name_in name)
-    × (spec.holds_position l.line ≡ spec.holds_position_behind name (drop l.at l.line))

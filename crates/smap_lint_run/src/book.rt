@@ -1,0 +1,102 @@
+//! What a run has found so far.
+use smap_lint_rules::Check;
+use smap_report::{Finding, Level, Point};
+use std::alloc::{AllocError, Global};
+
+/// What a run has found so far, and the files that it looked at.
+#[derive(Drop)]
+pub(crate) struct Book {
+    pub(crate) alloc: Global,
+    /// The level of each rule; none where it isn't to be looked at.
+    levels: Vec<Option<Level>>,
+    pub(crate) findings: Vec<Finding>,
+    pub(crate) files: Vec<String>,
+    /// Whether a file couldn't be read.
+    pub(crate) unread: bool,
+    /// How much of a script has to have an original, in percent.
+    pub(crate) min_mapped: Option<u32>,
+    /// How many bytes the URLs of a map's sources may take.
+    pub(crate) url_bytes: usize,
+}
+
+impl Book {
+    pub(crate) fn new(
+        alloc: Global,
+        levels: Vec<Option<Level>>,
+        min_mapped: Option<u32>,
+        url_bytes: usize,
+    ) -> Book {
+        Book {
+            alloc,
+            levels,
+            findings: Vec::new(alloc),
+            files: Vec::new(alloc),
+            unread: false,
+            min_mapped,
+            url_bytes,
+        }
+    }
+
+    /// The level of a rule, if it is to be looked at.
+    pub(crate) fn level(&self, check: Check) -> Option<Level> {
+        match self.levels.get(check.number()) {
+            Some(level) => *level,
+            None => None,
+        }
+    }
+
+    /// Notes a file that is looked at.
+    pub(crate) fn add_file(&mut self, file: String) -> Result<(), AllocError> {
+        match self.files.push(file) {
+            Ok(()) => Ok(()),
+            Err(_) => Err(AllocError),
+        }
+    }
+
+    /// Notes what was found in a file.
+    pub(crate) fn add(
+        &mut self,
+        check: Check,
+        file: &str,
+        message: String,
+    ) -> Result<(), AllocError> {
+        self.add_at(check, file, None, message)
+    }
+
+    /// The same in these words.
+    pub(crate) fn say(&mut self, check: Check, file: &str, words: &str) -> Result<(), AllocError> {
+        let message = String::from_str(self.alloc, words)?;
+        self.add(check, file, message)
+    }
+
+    /// Notes what was found at a place of a file, unless the rule isn't to be looked at.
+    pub(crate) fn add_at(
+        &mut self,
+        check: Check,
+        file: &str,
+        point: Option<Point>,
+        message: String,
+    ) -> Result<(), AllocError> {
+        let Some(level) = self.level(check) else {
+            return Ok(());
+        };
+        let file = String::from_str(self.alloc, file)?;
+        let finding = Finding {
+            rule: check.number(),
+            level,
+            file,
+            point,
+            message,
+        };
+        match self.findings.push(finding) {
+            Ok(()) => Ok(()),
+            Err(_) => Err(AllocError),
+        }
+    }
+
+    /// Puts the findings in the order of their files, by bytes.
+    pub(crate) fn sort(&mut self) -> Result<(), AllocError> {
+        self.findings
+            .sort_by(|a, b| a.file.as_str().cmp(b.file.as_str()))
+    }
+}

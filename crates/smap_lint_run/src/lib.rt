@@ -1,0 +1,20 @@
+//! A run of `smap-maps lint` ([`lint`]): the scripts and maps of folders, one pair after the other, and what
+//! keeps the maps from working, as a report. Which rule finds what is in `smap_lint_rules`, and the report's
+//! forms are in `smap_report`. The file system is `smap_machine`'s trait, so that tests have it in memory.
+#![tactic(auto)]
+
+mod asked;
+mod book;
+mod case;
+mod folder;
+mod links;
+mod maps;
+mod positions;
+mod program;
+mod scripts;
+mod source_files;
+mod visit;
+mod wording;
+
+pub use asked::LintAsked;
+pub use program::lint;

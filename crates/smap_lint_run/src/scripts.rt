@@ -1,0 +1,137 @@
+//! A script, and what it has for a map.
+use crate::case::Case;
+use crate::links::{absent_words, wrong_words};
+use crate::visit::Visit;
+use smap_link::link_in;
+use smap_lint_rules::Check;
+use smap_machine::{Disk, Stop};
+use smap_map_files::{Home, Target, target_of};
+use std::alloc::AllocError;
+
+/// A script of a folder.
+#[derive(Clone, Copy)]
+pub(crate) struct Script<'a> {
+    /// Its name in the folder, and the path of its file.
+    pub(crate) name: &'a str,
+    pub(crate) file: &'a str,
+    /// The name that a map beside it has.
+    pub(crate) beside: &'a str,
+    pub(crate) text: &'a [u8],
+}
+
+impl<E: Eprint + AllocGlobal, D: Disk> Visit<'_, '_, E, D> {
+    /// Notes the map that lies beside a script which has another one, if there is one.
+    fn note_second(&mut self, script: Script<'_>, has: &str) -> Result<(), AllocError> {
+        let Script { file, beside, .. } = script;
+        if let Some(number) = self.folder.number(beside) {
+            let message = format!(in self.book.alloc; "names {has}, and {beside} lies beside it")?;
+            self.book.add(Check::TwoMaps, file, message)?;
+            self.use_map(number);
+        }
+        Ok(())
+    }
+
+    /// Notes that a script has this map, and whether another one had it before.
+    fn note_use(&mut self, script: Script<'_>, map: &str) -> Result<(), AllocError> {
+        let Some(number) = self.folder.number(map) else {
+            return Ok(());
+        };
+        if self.use_map(number) {
+            let message = format!(in self.book.alloc; "has the map of another script: {map}")?;
+            self.book.add(Check::SharedMap, script.file, message)?;
+        }
+        Ok(())
+    }
+
+    /// Lints a file of the folder as the map of a script.
+    fn lint_file(&mut self, script: Script<'_>, map: &str) -> Result<(), Stop> {
+        self.note_use(script, map)?;
+        let file = self.folder.file(self.host.alloc(), map)?;
+        let Some(bytes) = self.read(file.as_str())? else {
+            return Ok(());
+        };
+        let mut case = Case {
+            book: self.book,
+            folder: self.folder,
+            file: file.as_str(),
+            name: map,
+            is_inline: false,
+            script: Some(script),
+        };
+        case.lint(self.host.disk, bytes)?;
+        Ok(())
+    }
+
+    /// Lints a script that names a file of the folder for its map.
+    fn lint_linked(&mut self, script: Script<'_>, map: &str) -> Result<(), Stop> {
+        if map != script.beside {
+            self.note_second(script, map)?;
+        }
+        self.lint_file(script, map)
+    }
+
+    /// Lints a script that has its map in itself.
+    fn lint_inline(&mut self, script: Script<'_>, bytes: Vec<u8>) -> Result<(), Stop> {
+        self.note_second(script, "a map in itself")?;
+        let mut case = Case {
+            book: self.book,
+            folder: self.folder,
+            file: script.file,
+            name: script.name,
+            is_inline: true,
+            script: Some(script),
+        };
+        case.lint(self.host.disk, bytes)?;
+        Ok(())
+    }
+
+    /// Lints a script that names no map, or none that can be followed: by the map beside it, if there is one.
+    fn lint_beside(&mut self, script: Script<'_>, is_named: bool) -> Result<(), Stop> {
+        if self.folder.number(script.beside).is_some() {
+            return self.lint_file(script, script.beside);
+        }
+        if !is_named {
+            let message = "names no map, and none lies beside it";
+            self.book.say(Check::MissingMap, script.file, message)?;
+        }
+        Ok(())
+    }
+
+    /// Lints a script that names this URL for its map.
+    fn lint_named(&mut self, script: Script<'_>, url: &[u8]) -> Result<(), Stop> {
+        let alloc = self.host.alloc();
+        let home = Home {
+            path: self.folder.path.as_str(),
+            url: self.folder.url.as_bytes(),
+        };
+        let name = script.name.as_bytes();
+        let (check, message) = match target_of(alloc, self.host.disk, home, name, url)? {
+            Target::Inline(bytes) => return self.lint_inline(script, bytes),
+            Target::File(map) => return self.lint_linked(script, map.as_str()),
+            Target::Absent(_, why) => absent_words(alloc, why, url)?,
+            Target::Wrong(why) => wrong_words(alloc, why, url)?,
+        };
+        self.book.add(check, script.file, message)?;
+        self.lint_beside(script, true)
+    }
+
+    /// Lints the script with this name, and its map.
+    pub(crate) fn lint_script(&mut self, name: &str) -> Result<(), Stop> {
+        let alloc = self.host.alloc();
+        let file = self.folder.file(alloc, name)?;
+        let Some(text) = self.read(file.as_str())? else {
+            return Ok(());
+        };
+        let beside = format!(in alloc; "{name}.map")?;
+        let script = Script {
+            name,
+            file: file.as_str(),
+            beside: beside.as_str(),
+            text: &text,
+        };
+        match link_in(name.as_bytes(), script.text) {
+            Some(url) => self.lint_named(script, url),
+            None => self.lint_beside(script, false),
+        }
+    }
+}

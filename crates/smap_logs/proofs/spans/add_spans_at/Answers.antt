@@ -1,0 +1,25 @@
+use Rattle.std.proofs.Common.{◌∙◌, ◌++◌, ◌∷◌, [], ap}
+use Rattle.smap_logs.specs.Spans.{span_if}
+use Rattle.smap_logs.specs.declared.beginnings.Beginnings.{Beginnings}
+use Rattle.smap_logs.proofs.SpanLemmas.{adds_trans, four_more}
+use Rattle.smap_logs.proofs.spans.add_spans_at.Goals as goal
+
+pub returns-clause-ok : goal.returns-clause-ok
+returns-clause-ok c =
+    four_more c.args.spans.now.items _ _ _ _ _ _ _ _ c.in_ok-add_span.ensures.ok c.in_ok-add_span-2.ensures.ok
+    c.in_ok-add_span-3.ensures.ok c.in_ok-add_span-4.ensures.ok
+    ∙ ap (λ (f : Beginnings). c.args.spans.now.items ++ (span_if c.args.place f.nearest []
+    ++ (span_if c.args.place f.scheme (f.nearest ∷ [])
+    ++ (span_if c.args.place f.root (f.nearest ∷ f.scheme ∷ [])
+    ++ span_if c.args.place f.farthest (f.nearest ∷ f.scheme ∷ f.root ∷ [])))))
+    c.beginnings_of-found.ensures.value
+
+pub returns-clause-within : goal.returns-clause-within
+returns-clause-within c =
+    adds_trans (adds_trans (adds_trans c.add_span.ensures.within c.add_span-2.ensures.within)
+    c.add_span-3.ensures.within) c.add_span-4.ensures.within
+
+pub returns-in_err-add_span-4-clause-within : goal.returns-in_err-add_span-4-clause-within
+returns-in_err-add_span-4-clause-within c =
+    adds_trans (adds_trans (adds_trans c.add_span.ensures.within c.add_span-2.ensures.within)
+    c.add_span-3.ensures.within) c.add_span-4.ensures.within

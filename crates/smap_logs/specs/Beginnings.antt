@@ -1,0 +1,59 @@
+-- Where the URL of a script may begin.
+use Rattle.std.specs.Prelude.{ℕ, zero, suc, ◌-◌, ◌<◌, ◌==◌, ◌&&◌, ◌||◌, Bool, not, cond, List, [], ◌∷◌}
+use Rattle.std.specs.Prelude.{drop, take, find, nat_eq, nat_lt, slice_index, slice_range, IfSome}
+use Rattle.std.specs.Prelude.{Option, None, Some}
+use Rattle.std.specs.Char.{is_ascii_alphabetic}
+use Rattle.std.specs.List.{prefix_len, slice_get, starts_with}
+use Rattle.smap_frames.specs.Places.{may_begin}
+use Rattle.smap_logs.specs.Bytes.{ends_url, is_scheme_byte}
+use Rattle.smap_logs.specs.declared.beginnings.Beginnings.{Beginnings}
+
+-- whether a text begins with a letter, letters, digits, `+`, `-` and `.`, and `://`
+abbrev pub begins_with_scheme : List ℕ → Bool
+begins_with_scheme text = is_ascii_alphabetic (slice_index text 0)
+    && starts_with nat_eq (drop (prefix_len is_scheme_byte text) text) (58 ∷ 47 ∷ 47 ∷ [])
+
+-- whether a text begins with one slash and not with two
+abbrev pub begins_with_slash : List ℕ → Bool
+begins_with_slash text = starts_with nat_eq text (47 ∷ []) && not (starts_with nat_eq text (47 ∷ 47 ∷ []))
+
+-- whether a text begins with a letter, a colon, and a slash or a backslash
+abbrev pub begins_with_drive : List ℕ → Bool
+begins_with_drive text = is_ascii_alphabetic (slice_index text 0) && (slice_index text 1 == 58)
+    && (slice_index text 2 == 47 || slice_index text 2 == 92)
+
+abbrev pub begins_with_root : List ℕ → Bool
+begins_with_root text = begins_with_slash text || begins_with_drive text
+
+-- The places of a line from `low` on and below another where a URL may begin, from the last back to the byte
+-- that ends URLs.
+abbrev pub starts_below : List ℕ → ℕ → ℕ → List ℕ
+starts_below line low zero = []
+starts_below line low (suc at) = cond (nat_lt at low || ends_url (slice_index line at)) []
+    (cond (may_begin (take at line)) (at ∷ starts_below line low at) (starts_below line low at))
+
+-- the last of a list
+abbrev pub last : {X : Type 0} → List X → Option X
+last [] = None
+last (x ∷ []) = Some x
+last (x ∷ y ∷ ys) = last (y ∷ ys)
+
+-- those of these places that count for a URL that ends here
+abbrev pub chosen : List ℕ → ℕ → List ℕ → Beginnings
+chosen line end starts = record {
+  nearest = slice_get starts 0;
+  scheme = find (λ s. begins_with_scheme (slice_range line s end)) starts;
+  root = find (λ s. begins_with_root (slice_range line s end)) starts;
+  farthest = last starts;
+}
+
+-- where a URL of at most 1,024 bytes may begin that ends here
+abbrev pub beginnings : List ℕ → ℕ → Beginnings
+beginnings line end = chosen line end (starts_below line (end - 1024) end)
+
+-- each of them is before this place
+pub record AreBefore (end : ℕ) (found : Beginnings) : Type 0 where
+  pub nearest : IfSome found.nearest (λ start. start < end)
+  pub scheme : IfSome found.scheme (λ start. start < end)
+  pub root : IfSome found.root (λ start. start < end)
+  pub farthest : IfSome found.farthest (λ start. start < end)

@@ -1,0 +1,10 @@
+pub mod BesideView
+pub mod Fixed
+pub mod Held
+pub mod Paths
+pub mod Printing
+pub mod Rights
+pub mod Status
+pub mod Tree
+pub mod Walking
+pub mod Watched

@@ -1,0 +1,9 @@
+pub mod FolderLemmas
+pub mod FollowingLemmas
+pub mod GivenLemmas
+pub mod KeptLemmas
+pub mod ListLemmas
+pub mod NamedLemmas
+pub mod NamingLemmas
+pub mod ReachedLemmas
+pub mod SettlingLemmas

@@ -1,0 +1,185 @@
+-- What a file gives for a map: itself, or the map that it names where it is a script or a style sheet
+-- (ECMA-426, "Linking generated code to source maps").
+use Rattle.std.specs.Prelude.{◌≡◌, ◌⊎◌, ℕ, ◌-◌, ◌==◌, ◌&&◌, false, not, nat_eq}
+use Rattle.std.specs.Prelude.{List, [], ◌++◌, codes, cond, drop, length, take, ⊤}
+use Rattle.std.specs.Prelude.{Option, Some, None, option_and_then, option_map, unwrap_or, Result, Ok, Err}
+use Rattle.std.specs.Prelude.{IsErr}
+use Rattle.std.specs.List.{starts_with, suffix_len}
+use Rattle.std.specs.Path.{rsplit_once, slash}
+use Rattle.std.specs.Str.{is_utf8}
+use Rattle.url.specs.Parser.{parse_url}
+use Rattle.url.specs.Parts.{Parts}
+use Rattle.smap_link.specs.Inline.{is_data}
+use Rattle.smap_link.specs.Kinds.{link_in}
+use Rattle.smap_link.specs.Paths.{bare}
+use Rattle.smap_link.specs.Resolved.{resolved}
+use Rattle.smap_link.specs.Urls.{is_slash}
+use Rattle.smap_link.specs.declared.resolve.LinkFault.{LinkFault}
+use Rattle.smap_pick.specs.Linked.{linked}
+use Rattle.smap_pick.specs.Named.{IsGarbled, IsInline, is_vain}
+use Rattle.smap_pick.specs.Places.{MapPlace}
+use Rattle.smap_record.specs.Faults.{Checked}
+use Rattle.smap_record.specs.Record.{ReadMap, usual}
+use Rattle.smap_record.specs.UrlBytes.{reading_within}
+use Rattle.smap_map_files.specs.declared.following.Followed.{Followed}
+use Rattle.smap_map_files.specs.declared.following.Followed.TheVariants as followed
+use Rattle.smap_map_files.specs.declared.loading.Content.{Content}
+use Rattle.smap_map_files.specs.declared.loading.Content.TheVariants as content
+use Rattle.smap_map_files.specs.declared.loading.Loaded.{Loaded}
+use Rattle.smap_map_files.specs.declared.loading.Loaded.TheVariants as loaded
+use Rattle.smap_map_files.specs.declared.loading.MapFault.{MapFault}
+use Rattle.smap_map_files.specs.declared.loading.MapFault.TheVariants as fault
+
+-- These bytes, with this URL of their own, are read so, where the URLs of a map's sources may take so many
+-- bytes.
+abbrev pub IsReading : ℕ → List ℕ → List ℕ → Checked (Option ReadMap) → Type 0
+IsReading most url bytes read =
+    (base : Parts) × (parse_url None url ≡ Ok base) × (reading_within base usual most bytes ≡ read)
+
+-- What is wrong with these bytes as a map with this URL.
+abbrev pub IsFault : ℕ → List ℕ → List ℕ → MapFault → Type 0
+IsFault most url bytes fault.Unread = ⊥
+IsFault most url bytes fault.TooLong = ⊥
+IsFault most url bytes fault.NotUtf8 = is_utf8 url ≡ false
+IsFault most url bytes fault.NotUrl = IsErr (parse_url None url)
+IsFault most url bytes (fault.Link what) = ⊥
+IsFault most url bytes (fault.Refused e start) = IsReading most url bytes (Err e)
+IsFault most url bytes (fault.UrlBytes n) = (n ≡ most) × IsReading most url bytes (Ok None)
+
+-- What became of these bytes: the map that they are, or what is wrong with them.
+abbrev pub IsRead : ℕ → List ℕ → List ℕ → Loaded → Type 0
+IsRead most url bytes (loaded.Map m) = IsReading most url bytes (Ok (Some m))
+IsRead most url bytes (loaded.Broken e) = IsFault most url bytes e
+
+abbrev pub IsUnreadBy : MapFault → Type 0
+IsUnreadBy fault.Unread = ⊤
+IsUnreadBy fault.TooLong = ⊤
+IsUnreadBy fault.NotUtf8 = ⊥
+IsUnreadBy fault.NotUrl = ⊥
+IsUnreadBy (fault.Link what) = ⊥
+IsUnreadBy (fault.Refused e start) = ⊥
+IsUnreadBy (fault.UrlBytes n) = ⊥
+
+-- A file can't be read, or is too long.
+abbrev pub IsUnread : Loaded → Type 0
+IsUnread (loaded.Map m) = ⊥
+IsUnread (loaded.Broken e) = IsUnreadBy e
+
+-- What became of the file of a map, where it is said what files hold.
+abbrev pub IsLoaded : ℕ → (List ℕ → Option (List ℕ)) → MapPlace → Loaded → Type 0
+IsLoaded most held place it =
+    IsUnread it ⊎ ((bytes : List ℕ) × (held place.file ≡ Some bytes) × IsRead most place.base bytes it)
+
+-- What the file of a place holds: the text of a script, or other bytes; or it can't be read.
+abbrev pub IsContent : (List ℕ → Option (List ℕ)) → MapPlace → Content → Type 0
+IsContent held place (content.Bytes bytes) = held place.file ≡ Some bytes.items
+IsContent held place (content.Script text) = held place.file ≡ Some text.items
+IsContent held place (content.Unread why) = IsUnreadBy why
+
+-- ---- what a script names
+
+abbrev pub unless_vain : List ℕ → Option (List ℕ)
+unless_vain url = cond (not (is_data url) && is_vain url) None (Some url)
+
+-- The URL by which the text of a script names a map: one that is empty or too long names none, unless it is a
+-- `data:` URL.
+abbrev pub named_url : List ℕ → List ℕ → Option (List ℕ)
+named_url script text = option_and_then unless_vain (link_in script text)
+
+-- The name of a file below a folder with this path.
+abbrev pub without_slash : List ℕ → List ℕ
+without_slash rest = cond (starts_with nat_eq rest (codes "/")) (drop 1 rest) rest
+
+abbrev pub name_below : List ℕ → List ℕ → List ℕ
+name_below path file = without_slash (cond (starts_with nat_eq file path) (drop (length path) file) file)
+
+-- What stands before the name of each file in a folder with this path, in which this file stands: the root
+-- has the same path as the working directory.
+abbrev pub front : List ℕ → List ℕ → List ℕ
+front path file =
+    cond ((length path == 0) && not (starts_with nat_eq file (codes "/"))) [] (path ++ codes "/")
+
+-- The file with this name in a folder, next to which this one stands.
+abbrev pub beside : List ℕ → List ℕ → List ℕ → List ℕ
+beside path file name = cond ((length path == 0) && not (starts_with nat_eq file (codes "/"))) name
+    (path ++ (codes "/" ++ name))
+
+-- A folder: the URL of what is in it, and its path.
+pub record Folder : Type 0 where
+  pub url : List ℕ
+  pub path : List ℕ
+
+-- how many bytes are behind the last slash or backslash
+abbrev pub last_size : List ℕ → ℕ
+last_size url = suffix_len (λ b. not (is_slash b)) url
+
+abbrev pub or_root : List ℕ → List ℕ
+or_root url = cond (length url == 0) (codes "/") url
+
+-- The URL of the folder of what has this one: up to the last slash.
+abbrev pub folder_url : List ℕ → List ℕ
+folder_url url = or_root (take (length url - last_size url) url)
+
+-- The path of the folder of a file: what stands before the last slash.
+abbrev pub folder_path : List ℕ → List ℕ
+folder_path file = unwrap_or (option_map (λ split. split.0) (rsplit_once slash file)) []
+
+-- The folder of a script that is named by itself.
+abbrev pub own_folder : MapPlace → Folder
+own_folder place = record { url = folder_url (bare place.script); path = folder_path place.file }
+
+-- The folder in which a script was found, or else its own.
+abbrev pub folder_for : Option Folder → MapPlace → Folder
+folder_for root place = unwrap_or root (own_folder place)
+
+-- A script in this file names another by this URL: that file, of this folder.
+pub record NamesBy (folder : Folder) (script url file : List ℕ) : Type 0 where
+  pub name : List ℕ
+  pub linked_is : linked folder.url (name_below folder.path script) url ≡ Ok name
+  pub file_is : file ≡ beside folder.path script name
+
+-- Its text names that file.
+pub record Names (folder : Folder) (script text file : List ℕ) : Type 0 where
+  pub url : List ℕ
+  pub named : named_url script text ≡ Some url
+  pub is_link : is_data url ≡ false
+  pub by : NamesBy folder script url file
+
+-- It holds the map itself in a URL.
+pub record Holds (script text bytes : List ℕ) : Type 0 where
+  pub url : List ℕ
+  pub named : named_url script text ≡ Some url
+  pub inline : IsInline url bytes
+
+-- It names nothing. Nor does a script whose own name isn't UTF-8.
+abbrev pub NamesNothing : List ℕ → List ℕ → Type 0
+NamesNothing script text = (is_utf8 script ≡ false) ⊎ (named_url script text ≡ None)
+
+-- What can't be had by a URL: it is none, or leaves the folder; or it names a file that isn't there, or that
+-- is no file of the folder once links are followed. (What a disk answers to that, no clause says.)
+abbrev pub IsUnfound : Folder → List ℕ → List ℕ → Type 0
+IsUnfound folder script url = IsErr (linked folder.url (name_below folder.path script) url)
+    ⊎ ((file : List ℕ) × NamesBy folder script url file)
+
+-- The text of a script names what can't be had.
+pub record NamesUnfound (folder : Folder) (script text : List ℕ) : Type 0 where
+  pub url : List ℕ
+  pub named : named_url script text ≡ Some url
+  pub unfound : IsGarbled url ⊎ ((is_data url ≡ false) × IsUnfound folder script url)
+
+abbrev pub url_or : List ℕ → Result (List ℕ) LinkFault → List ℕ
+url_or base (Ok url) = url
+url_or base (Err e) = base
+
+-- The own URL of the map that a script names by this one: that, seen from the script's; or that of the place,
+-- where there is none.
+abbrev pub linked_base : MapPlace → List ℕ → List ℕ
+linked_base place url = url_or place.base (resolved place.script url)
+
+-- What was found of what the text of a script names, in this folder.
+abbrev pub IsFollowed : Folder → MapPlace → List ℕ → Followed → Type 0
+IsFollowed folder place text (followed.Inline bytes) = Holds place.file text bytes.items
+IsFollowed folder place text (followed.File found) =
+    (n : Names folder place.file text found.file.items) × (found.base.items ≡ linked_base place n.url)
+IsFollowed folder place text followed.Nothing = NamesNothing place.file text
+IsFollowed folder place text (followed.Wrong what) = NamesUnfound folder place.file text

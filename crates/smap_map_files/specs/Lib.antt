@@ -1,0 +1,10 @@
+pub mod Chosen
+pub mod Given
+pub mod Lists
+pub mod Naming
+pub mod Opened
+pub mod RootView
+pub mod Settling
+pub mod Target
+pub mod WantedView
+pub mod Within

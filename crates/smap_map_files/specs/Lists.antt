@@ -1,0 +1,137 @@
+-- What arguments name, as lists, and what is added to them.
+use Rattle.std.specs.Prelude.{ℕ, Bool, not, ◌==◌, ◌&&◌, List, [], ◌∷◌, ◌++◌, codes, filter, length, map}
+use Rattle.std.specs.Prelude.{Option, Some, None, is_some, string_bytes, String}
+use Rattle.std.specs.List.{list_any}
+use Rattle.std.specs.Str.{bytes_eq}
+use Rattle.smap_link.specs.Ends.{stem}
+use Rattle.smap_link.specs.Kinds.{is_map}
+use Rattle.smap_pick.specs.PlaceView.{places_in}
+use Rattle.smap_pick.specs.Places.{MapPlace, below, folder_place, usual_place}
+use Rattle.smap_map_files.specs.declared.wanted.Origin.{Origin}
+use Rattle.smap_map_files.specs.declared.wanted.Origin.TheVariants.{Alone, Below}
+use Rattle.smap_map_files.specs.declared.wanted.Root.{Root}
+use Rattle.smap_map_files.specs.declared.wanted.Wanted.{Wanted}
+
+-- A folder: its URL and its path.
+abbrev pub Folder : Type 0
+Folder = List ℕ × List ℕ
+
+abbrev pub folder_in : Root → Folder
+folder_in r = (r.url.items, string_bytes r.path)
+
+-- What arguments name: maps of scripts and how each is named, files of folders without a URL and the numbers
+-- of these folders, all folders, and logs.
+pub record Lists : Type 0 where
+  pub places : List MapPlace
+  pub origins : List Origin
+  pub files : List (List ℕ)
+  pub file_roots : List ℕ
+  pub folders : List Folder
+  pub logs : List (List ℕ)
+
+abbrev pub lists_of : Wanted → Lists
+lists_of w = record {
+  places = places_in w.places.items;
+  origins = w.origins.items;
+  files = map (λ f. f.items) w.files.items;
+  file_roots = w.file_roots.items;
+  folders = map folder_in w.roots.items;
+  logs = map (λ l. l.now) w.logs.items;
+}
+
+-- nothing
+abbrev pub no_lists : Lists
+no_lists = record { places = []; origins = []; files = []; file_roots = []; folders = []; logs = [] }
+
+-- ---- a log, and a map by its own argument
+
+abbrev pub with_log : List ℕ → Lists → Lists
+with_log word b = record {
+  places = b.places;
+  origins = b.origins;
+  files = b.files;
+  file_roots = b.file_roots;
+  folders = b.folders;
+  logs = b.logs ++ word ∷ [];
+}
+
+-- The base, or else the usual one.
+abbrev pub place_with : List ℕ → List ℕ → Option (List ℕ) → MapPlace
+place_with url file None = usual_place url file
+place_with url file (Some base) = record { script = url; file = file; base = base }
+
+abbrev pub with_map : List ℕ → List ℕ → Option (List ℕ) → Lists → Lists
+with_map url file base b = record {
+  places = b.places ++ place_with url file base ∷ [];
+  origins = b.origins ++ Alone (is_some base) ∷ [];
+  files = b.files;
+  file_roots = b.file_roots;
+  folders = b.folders;
+  logs = b.logs;
+}
+
+-- ---- a folder, in which files have these names
+
+abbrev pub texts : {Z : Type 0} → List (String Z) → List (List ℕ)
+texts names = map string_bytes names
+
+-- Among the names is that of a map whose script has this one.
+abbrev pub has_own_map : List (List ℕ) → List ℕ → Bool
+has_own_map names name = list_any (λ m. is_map m && bytes_eq name (stem m)) names
+
+-- Those without a map of their own beside them: the maps, and the scripts that may name theirs.
+abbrev pub wanted_names : List (List ℕ) → List (List ℕ)
+wanted_names names = filter (λ name. not (has_own_map names name)) names
+
+-- a space, with which no log can name a script
+abbrev pub holds_space : List ℕ → Bool
+holds_space script = list_any (λ b. b == 32) script
+
+-- the maps and scripts with these names whose scripts a log can name
+abbrev pub folder_named : List ℕ → List ℕ → List (List ℕ) → List MapPlace
+folder_named url path names = filter (λ place. not (holds_space place.script)) (map
+    (folder_place url path) names)
+
+abbrev pub with_places : ℕ → List MapPlace → Lists → Lists
+with_places number places b = record {
+  places = b.places ++ places;
+  origins = b.origins ++ map (λ place. Below number) places;
+  files = b.files;
+  file_roots = b.file_roots;
+  folders = b.folders;
+  logs = b.logs;
+}
+
+abbrev pub with_root : Folder → Lists → Lists
+with_root folder b = record {
+  places = b.places;
+  origins = b.origins;
+  files = b.files;
+  file_roots = b.file_roots;
+  folders = b.folders ++ folder ∷ [];
+  logs = b.logs;
+}
+
+-- A folder whose scripts are below a URL, or below a path as the log has it.
+abbrev pub with_folder : List ℕ → List ℕ → List (List ℕ) → Lists → Lists
+with_folder url path names b =
+    with_root (url, path) (with_places (length b.folders) (folder_named url path names) b)
+
+abbrev pub with_files : ℕ → List (List ℕ) → Lists → Lists
+with_files number files b = record {
+  places = b.places;
+  origins = b.origins;
+  files = b.files ++ files;
+  file_roots = b.file_roots ++ map (λ file. number) files;
+  folders = b.folders;
+  logs = b.logs;
+}
+
+-- the URL of a folder that is given alone
+abbrev pub own_folder : List ℕ
+own_folder = codes "file:///folder/"
+
+-- A folder that is given alone: its files go by the ends of their names.
+abbrev pub with_folder_alone : List ℕ → List (List ℕ) → Lists → Lists
+with_folder_alone path names b =
+    with_root (own_folder, path) (with_files (length b.folders) (map (below path) names) b)

@@ -1,0 +1,119 @@
+-- The maps that were opened.
+use Rattle.std.specs.Prelude.{◌≡◌, ◌⊎◌, ℕ, ◌<◌, Bool, List, cond, ⊤, Option, Some, None}
+use Rattle.smap_machine.specs.Held.{Held, IsHeld}
+use Rattle.smap_link.specs.Alike.{own_url}
+use Rattle.smap_pick.specs.Places.{MapPlace}
+use Rattle.smap_record.specs.Record.{ReadMap}
+use Rattle.smap_map_files.specs.declared.loading.Loaded.{Loaded}
+use Rattle.smap_map_files.specs.declared.loading.Loaded.TheVariants as loaded
+use Rattle.smap_map_files.specs.declared.loading.MapFault.{MapFault}
+use Rattle.smap_map_files.specs.declared.loading.MapFault.TheVariants as fault
+use Rattle.smap_map_files.specs.Given.{Folder, Holds, IsRead, IsUnread, Names, NamesNothing, NamesUnfound}
+use Rattle.smap_map_files.specs.Given.{folder_for, linked_base}
+
+-- ---- the bytes of a map, and the URL that they are read with
+
+-- The own URL of a map within its script: the one that was given with the script, or else the script's.
+abbrev pub within_base : Bool → MapPlace → List ℕ
+within_base has_base place = cond has_base place.base (own_url place.script)
+
+-- That of a map beside its script, which names it by this URL: the one that was given, or else the one that
+-- is named.
+abbrev pub beside_base : Bool → MapPlace → List ℕ → List ℕ
+beside_base has_base place url = cond has_base place.base (linked_base place url)
+
+-- The place that was found, with the URL that was given, if one was.
+abbrev pub with_base : Bool → List ℕ → MapPlace → MapPlace
+with_base has_base base found =
+    record { script = found.script; file = found.file; base = cond has_base base found.base }
+
+-- The file of a place holds these bytes.
+abbrev pub IsItself : (List ℕ → Option (List ℕ)) → MapPlace → List ℕ → List ℕ → Type 0
+IsItself held place base bytes = (held place.file ≡ Some bytes) × (base ≡ place.base)
+
+-- The file of a place is a script, whose text holds them in a URL.
+pub record IsWithin (held : List ℕ → Option (List ℕ)) (has_base : Bool) (place : MapPlace)
+    (base bytes : List ℕ) : Type 0 where
+  pub text : List ℕ
+  pub held_is : held place.file ≡ Some text
+  pub holds : Holds place.file text bytes
+  pub base_is : base ≡ within_base has_base place
+
+-- The file of a place is a script, which names the file that holds them, seen from its folder.
+pub record IsBeside (held : List ℕ → Option (List ℕ)) (root : Option Folder) (has_base : Bool)
+    (place : MapPlace) (base bytes : List ℕ) : Type 0 where
+  pub text : List ℕ
+  pub held_is : held place.file ≡ Some text
+  pub file : List ℕ
+  pub names : Names (folder_for root place) place.file text file
+  pub bytes_are : held file ≡ Some bytes
+  pub base_is : base ≡ beside_base has_base place names.url
+
+-- The bytes that the file of a place, found in this folder if in one, gives for a map, and the URL for them.
+abbrev pub Gives : (List ℕ → Option (List ℕ)) → Option Folder → Bool → MapPlace → List ℕ → List ℕ → Type 0
+Gives held root has_base place base bytes = IsItself held place base bytes
+    ⊎ (IsWithin held has_base place base bytes ⊎ IsBeside held root has_base place base bytes)
+
+-- What became of them, where the URLs of a map's sources may take so many bytes.
+pub record IsGiven (most : ℕ) (held : List ℕ → Option (List ℕ)) (root : Option Folder) (has_base : Bool)
+    (place : MapPlace) (it : Loaded) : Type 0 where
+  pub base : List ℕ
+  pub bytes : List ℕ
+  pub gives : Gives held root has_base place base bytes
+  pub read : IsRead most base bytes it
+
+-- ---- a map was opened
+
+-- The map of the file of a place, where it is said what files hold.
+abbrev pub IsOpened : ℕ → Held → Option Folder → Bool → MapPlace → ReadMap → Type 0
+IsOpened most None root has_base place m = ⊤
+IsOpened most (Some held) root has_base place m = IsGiven most held root has_base place (loaded.Map m)
+
+-- ---- or none was
+
+-- It is refused for what it names.
+abbrev pub IsLink : Loaded → Type 0
+IsLink (loaded.Map m) = ⊥
+IsLink (loaded.Broken fault.Unread) = ⊥
+IsLink (loaded.Broken fault.TooLong) = ⊥
+IsLink (loaded.Broken fault.NotUtf8) = ⊥
+IsLink (loaded.Broken fault.NotUrl) = ⊥
+IsLink (loaded.Broken (fault.Link what)) = ⊤
+IsLink (loaded.Broken (fault.Refused e start)) = ⊥
+IsLink (loaded.Broken (fault.UrlBytes n)) = ⊥
+
+-- A script that was found in no folder names what can't be had.
+pub record IsUnlinked (held : List ℕ → Option (List ℕ)) (root : Option Folder) (place : MapPlace)
+    (it : Loaded) : Type 0 where
+  pub is_link : IsLink it
+  pub no_root : root ≡ None
+  pub text : List ℕ
+  pub held_is : held place.file ≡ Some text
+  pub names : NamesUnfound (folder_for root place) place.file text
+
+-- What became of the map of a place: its file, or that which a script names, can't be read; the script names
+-- what can't be had; or there are bytes for the map.
+abbrev pub IsReached : ℕ → Held → Option Folder → Bool → MapPlace → Loaded → Type 0
+IsReached most None root has_base place it = ⊤
+IsReached most (Some held) root has_base place it =
+    IsUnread it ⊎ (IsUnlinked held root place it ⊎ IsGiven most held root has_base place it)
+
+-- It is no map, which ends the run with this status or a greater one, unless such maps are skipped.
+pub record IsRefused (most : ℕ) (held : Held) (root : Option Folder) (has_base : Bool) (place : MapPlace)
+    (worst : ℕ) : Type 0 where
+  pub is_bad : 0 < worst
+  pub why : MapFault
+  pub reached : IsReached most held root has_base place (loaded.Broken why)
+
+-- A script in a folder is left out: its text names nothing, or what can't be had.
+pub record IsLeftOut (held : Held) (root : Option Folder) (place : MapPlace) : Type 0 where
+  pub folder : Folder
+  pub root_is : root ≡ Some folder
+  pub text : List ℕ
+  pub text_is : IsHeld held place.file text
+  pub names : NamesNothing place.file text ⊎ NamesUnfound folder place.file text
+
+-- The file of a place gives no map.
+abbrev pub GivesNone : ℕ → Held → Option Folder → Bool → MapPlace → ℕ → Type 0
+GivesNone most held root has_base place worst =
+    IsLeftOut held root place ⊎ IsRefused most held root has_base place worst

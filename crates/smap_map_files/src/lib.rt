@@ -1,0 +1,32 @@
+//! What a file gives for a map: itself, or, where it is a script or a style sheet, the map that its text
+//! holds or names ([`settle_content`]); what the URL that a script names leads to, within its folder
+//! ([`target_of`]); and the URL of a folder's files ([`folder_url`]). What URL a text names is found by
+//! `smap_link`; which files are opened for a log is decided above. The file system is `smap_machine`'s trait,
+//! so that tests have it in memory. What is wrong is said on standard error, with the status of that.
+//!
+//! What the arguments of `smap-trace` name on the file system ([`wanted_by`]): maps of scripts, the files of
+//! folders, logs; and one map for each script of these ([`settle`]). How an argument is read is decided by
+//! `smap_words`.
+#![tactic(auto)]
+
+mod arguments;
+mod bases;
+mod folders;
+mod following;
+mod loading;
+mod opening;
+mod settling;
+mod target;
+mod telling;
+mod wanted;
+mod within;
+
+pub use arguments::wanted_by;
+pub use bases::{base_given, folder_url};
+pub use following::{Followed, follow};
+pub use loading::{Content, FileStore, Loaded, MapFault, NoFault};
+pub use opening::{How, Subject, copied, settle_content};
+pub use settling::settle;
+pub use target::{Absence, Home, Target, target_of};
+pub use wanted::{Origin, Root, Wanted, may_name_map};
+pub use within::is_within;

@@ -1,0 +1,205 @@
+//! The files of maps, read.
+ghost use Rattle.std.specs.Prelude.{◌≡◌, ◌++◌, ◌∷◌, [], IfOk, OnErr, OnOk, map};
+ghost use Rattle.smap_map_files.specs.Given.{IsContent, IsLoaded, IsRead, IsUnreadBy};
+ghost use Rattle.smap_pick.specs.Memory.{names_in};
+ghost use Rattle.smap_pick.specs.Opening.{IsMadeOf};
+ghost use Rattle.smap_pick.specs.PlaceView.{place_in};
+
+use crate::may_name_map;
+use smap_machine::{Disk, FileFault, Kind, LIMIT, read_file};
+use smap_pick::{OpenFault, Place, Store};
+use smap_places::{Start, start_of};
+use smap_record::{Base, BaseFault, Fault, Limits, ReadError, SourceMap};
+use std::alloc::{AllocError, Global};
+
+/// Why a file gives no map.
+#[derive(Debug, Drop)]
+pub enum MapFault {
+    /// It can't be read.
+    Unread,
+    /// It is longer than what is read.
+    TooLong,
+    /// The URL of its script, or its own, isn't UTF-8.
+    NotUtf8,
+    /// Its base is no URL.
+    NotUrl,
+    /// It is a script, and what it names for its map is none: this, in words.
+    Link(String),
+    /// It isn't accepted.
+    Refused(Fault, Start),
+    /// The URLs of its sources take more than this many bytes, which are allowed.
+    UrlBytes(usize),
+}
+
+/// What a file gives for a map.
+#[derive(Drop)]
+pub enum Loaded {
+    /// The map.
+    Map(SourceMap),
+    /// None, and why.
+    Broken(MapFault),
+}
+
+/// What a file holds.
+#[derive(Drop)]
+pub enum Content {
+    /// Bytes, to be read as a map.
+    Bytes(Vec<u8>),
+    /// The text of a script, which may name its map.
+    Script(Vec<u8>),
+    /// It can't be read.
+    Unread(MapFault),
+}
+
+/// The map that these bytes are, the URLs of whose sources may take so many bytes, or what is wrong with
+/// them.
+pub(crate) fn loaded_from(
+    alloc: Global,
+    bytes: &[u8],
+    base: &[u8],
+    url_bytes: usize,
+) -> Result<Loaded, AllocError>
+    ensures { IfOk result (IsRead url_bytes base.now bytes.now) }
+{
+    let start = start_of(bytes);
+    let Ok(base) = std::str::from_utf8(base) else {
+        return Ok(Loaded::Broken(MapFault::NotUtf8));
+    };
+    let base = match Base::new(alloc, base) {
+        Ok(base) => base,
+        Err(BaseFault::NotUrl) => return Ok(Loaded::Broken(MapFault::NotUrl)),
+        Err(BaseFault::Memory) => return Err(AllocError),
+    };
+    match SourceMap::from_slice_within(alloc, bytes, &base, Limits::usual(), url_bytes) {
+        Ok(Some((map, _))) => Ok(Loaded::Map(map)),
+        Ok(None) => Ok(Loaded::Broken(MapFault::UrlBytes(url_bytes))),
+        Err(ReadError::Refused(fault)) => Ok(Loaded::Broken(MapFault::Refused(fault, start))),
+        Err(ReadError::Memory) => Err(AllocError),
+    }
+}
+
+/// A fault that a store of files doesn't have: what is wrong with a file is in what it holds.
+#[derive(Clone, Copy, Debug, PartialEq, Eq)]
+pub struct NoFault;
+
+/// The files of a disk as maps and scripts.
+#[derive(Drop)]
+pub struct FileStore<'a, D> {
+    /// The disk that has them.
+    pub disk: &'a D,
+    /// The names of the files that were opened, in order.
+    opened: Vec<Vec<u8>>,
+}
+
+/// Why a file isn't read.
+fn unread(fault: FileFault) -> Result<MapFault, AllocError>
+    ensures { IfOk result IsUnreadBy }
+{
+    match fault {
+        FileFault::TooLong => Ok(MapFault::TooLong),
+        FileFault::Read(_) => Ok(MapFault::Unread),
+        FileFault::Memory => Err(AllocError),
+    }
+}
+
+/// The map that a file is, whatever its name, or what is wrong with it.
+fn load_map<D: Disk>(
+    alloc: Global,
+    disk: &D,
+    place: &Place,
+    url_bytes: usize,
+) -> Result<Loaded, AllocError>
+    ensures { IfOk result (IsMadeOf (IsLoaded url_bytes) (D.held disk.now) (place_in place.now)) }
+{
+    let Ok(file) = std::str::from_utf8(&place.file) else {
+        return Ok(Loaded::Broken(MapFault::Unread));
+    };
+    match read_file(alloc, disk, file, LIMIT) {
+        Ok(bytes) => loaded_from(alloc, &bytes, &place.base, url_bytes),
+        Err(fault) => Ok(Loaded::Broken(unread(fault)?)),
+    }
+}
+
+/// What a file holds, read whole.
+fn load<D: Disk>(alloc: Global, disk: &D, place: &Place) -> Result<Content, AllocError>
+    ensures { IfOk result (IsMadeOf IsContent (D.held disk.now) (place_in place.now)) }
+{
+    let Ok(file) = std::str::from_utf8(&place.file) else {
+        return Ok(Content::Unread(MapFault::Unread));
+    };
+    match read_file(alloc, disk, file, LIMIT) {
+        Ok(bytes) if may_name_map(&place.file) && disk.kind(file) == Kind::File => {
+            Ok(Content::Script(bytes))
+        }
+        Ok(bytes) => Ok(Content::Bytes(bytes)),
+        Err(fault) => Ok(Content::Unread(unread(fault)?)),
+    }
+}
+
+impl<'a, D> FileStore<'a, D> {
+    /// The files of this disk, of which none was opened.
+    pub fn new(alloc: Global, disk: &'a D) -> FileStore<'a, D>
+        ensures { result.disk.now ≡ disk.now }
+    {
+        FileStore {
+            disk,
+            opened: Vec::new(alloc),
+        }
+    }
+
+    /// Notes that this file is opened.
+    fn note(&mut self, alloc: Global, file: &[u8]) -> Result<(), AllocError>
+        ensures ok { OnOk result (names_in self.new.opened.items
+            ≡ names_in self.old.opened.items ++ file.now ∷ []) }
+        ensures err { OnErr result (self.new.opened.items ≡ self.old.opened.items) }
+        ensures disk { self.new.disk ≡ self.old.disk }
+    {
+        let text = Vec::from_slice(alloc, file)?;
+        match self.opened.push(text) {
+            Ok(()) => Ok(()),
+            Err(_) => Err(AllocError),
+        }
+    }
+
+    /// Opens the file of a map, whatever its name.
+    pub(crate) fn open_map(
+        &mut self,
+        alloc: Global,
+        place: &Place,
+        url_bytes: usize,
+    ) -> Result<Loaded, AllocError>
+    where
+        D: Disk,
+        ensures loaded { IfOk result
+            (IsMadeOf (IsLoaded url_bytes) (D.held self.old.disk.now) (place_in place.now)) }
+        ensures disk { self.new.disk ≡ self.old.disk }
+    {
+        self.note(alloc, &place.file)?;
+        load_map(alloc, self.disk, place, url_bytes)
+    }
+}
+
+impl<D: Disk> Store for FileStore<'_, D> {
+    ghost use Rattle.smap_map_files.specs.Given.{IsContent};
+    ghost use Rattle.smap_pick.specs.Memory.{names_in};
+
+    type Map = Content;
+
+    type Fault = NoFault;
+
+    ghost opened = { λ s. names_in s.opened.items };
+
+    ghost held = { λ s. D.held s.disk.now };
+
+    ghost made_of = { λ held place it. IsContent held place it };
+
+    fn open(&mut self, alloc: Global, place: &Place) -> Result<Content, OpenFault<NoFault>> {
+        let Ok(()) = self.note(alloc, place.file.as_slice()) else {
+            return Err(OpenFault::Memory);
+        };
+        match load(alloc, self.disk, place) {
+            Ok(content) => Ok(content),
+            Err(_) => Err(OpenFault::Memory),
+        }
+    }
+}

@@ -1,0 +1,119 @@
+//! What is said of a map: why it is refused, where it is from.
+ghost use Rattle.std.specs.Prelude.{◌<◌, IfOk};
+
+use crate::loading::MapFault;
+use crate::opening::{How, Subject};
+use smap_link::{FileKind, file_kind};
+use smap_machine::{Disk, Host, Stop, shown};
+use smap_pick::Place;
+use smap_places::{Start, hint};
+use smap_record::{Fault, Kind};
+use std::alloc::{AllocError, Global};
+
+/// Says something of a map: its file, its script, and what.
+pub(crate) fn say_of<E: Eprint + AllocGlobal, D: Disk>(
+    host: &Host<'_, E, D>,
+    place: &Place,
+    what: &str,
+) -> Result<(), Stop> {
+    let alloc = host.alloc();
+    let file = shown(alloc, &place.file)?;
+    let script = shown(alloc, &place.script)?;
+    let (file, script) = (file.as_str(), script.as_str());
+    let text = format!(in alloc; "{file} ({script}){what}")?;
+    host.say(text.as_str());
+    Ok(())
+}
+
+/// What may help with a map that isn't accepted, by what it shows at its beginning or else by its name.
+fn hint_for(fault: &Fault, start: Start, file: &[u8]) -> &'static str {
+    if fault.kind != Kind::Json || start != Start::Other {
+        return hint(fault, start);
+    }
+    match file_kind(file) {
+        FileKind::Script => " (it is a script, which names no map)",
+        FileKind::StyleSheet => " (it is a style sheet, which names no map)",
+        FileKind::Map | FileKind::Other => "",
+    }
+}
+
+/// What a file is that names its map.
+fn kind_word(file: &[u8]) -> &'static str {
+    match file_kind(file) {
+        FileKind::StyleSheet => "style sheet",
+        FileKind::Script | FileKind::Map | FileKind::Other => "script",
+    }
+}
+
+/// What is wrong with a map in words, and the status of that.
+fn words_of(alloc: Global, place: &Place, fault: &MapFault) -> Result<(String, u8), AllocError>
+    ensures { IfOk result (λ told. 0 < told.1) }
+{
+    match fault {
+        MapFault::Unread => Ok((String::from_str(alloc, "cannot read it")?, 3)),
+        MapFault::TooLong => Ok((String::from_str(alloc, "input too long")?, 3)),
+        MapFault::NotUtf8 => Ok((String::from_str(alloc, "its URL is not in UTF-8")?, 1)),
+        MapFault::NotUrl => {
+            let base = shown(alloc, &place.base)?;
+            let script = shown(alloc, &place.script)?;
+            let file = shown(alloc, &place.file)?;
+            let (base, script, file) = (base.as_str(), script.as_str(), file.as_str());
+            let text = format!(in alloc;
+                "base is no URL: {base} (add =BASE, the URL of the map: \
+                 {script}={file}=https://example.org/{script}.map)"
+            )?;
+            Ok((text, 1))
+        }
+        MapFault::Link(what) => {
+            let what = what.as_str();
+            Ok((format!(in alloc; "it {what}")?, 1))
+        }
+        MapFault::Refused(fault, start) => {
+            let hint = hint_for(fault, *start, &place.file);
+            Ok((format!(in alloc; "{fault}{hint}")?, 1))
+        }
+        MapFault::UrlBytes(most) => {
+            let most = *most;
+            let text = format!(in alloc;
+                "the URLs of its sources take more than {most} bytes (--url-bytes allows more)"
+            )?;
+            Ok((text, 1))
+        }
+    }
+}
+
+/// Names a map that is refused. Answers its status.
+pub(crate) fn say_fault<E: Eprint + AllocGlobal, D: Disk>(
+    host: &Host<'_, E, D>,
+    place: &Place,
+    fault: &MapFault,
+) -> Result<u8, Stop>
+    ensures { IfOk result (λ status. 0 < status) }
+{
+    let alloc = host.alloc();
+    let (words, status) = words_of(alloc, place, fault)?;
+    let words = words.as_str();
+    let text = format!(in alloc; ": {words}")?;
+    say_of(host, place, text.as_str())?;
+    Ok(status)
+}
+
+/// Says which map of a script is used.
+pub(crate) fn say_used<E: Eprint + AllocGlobal, D: Disk>(
+    host: &Host<'_, E, D>,
+    how: How,
+    subject: &Subject<'_>,
+    which: &str,
+) -> Result<(), Stop> {
+    let alloc = host.alloc();
+    if subject.root.is_none() {
+        let kind = kind_word(&subject.place.file);
+        let text = format!(in alloc; " is a {kind}: its {which} is used")?;
+        return say_of(host, &subject.place, text.as_str());
+    }
+    if how.verbose {
+        let text = format!(in alloc; ": its {which} is used")?;
+        return say_of(host, &subject.place, text.as_str());
+    }
+    Ok(())
+}

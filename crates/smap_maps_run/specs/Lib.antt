@@ -1,0 +1,6 @@
+pub mod Deciding
+pub mod Forms
+pub mod JsonLines
+pub mod Judging
+pub mod Outcomes
+pub mod Remarks

@@ -1,0 +1,116 @@
+//! The maps that the paths name, with their URLs.
+
+use smap_link::script_url;
+use smap_machine::{Disk, Host, Kind, Stop, parted, walk};
+use smap_map_files::folder_url;
+use std::alloc::{AllocError, Global};
+
+/// A map to be looked at.
+#[derive(Debug, Drop)]
+pub(crate) struct Target {
+    /// Its file, as it was given or found below a folder.
+    pub(crate) file: String,
+    /// Its URL, against which its sources are resolved.
+    pub(crate) url: Vec<u8>,
+}
+
+fn add(
+    alloc: Global,
+    folder_url: &[u8],
+    name: &str,
+    file: String,
+    targets: &mut Vec<Target>,
+) -> Result<(), AllocError> {
+    let url = script_url(alloc, folder_url, name.as_bytes())?;
+    targets.push(Target { file, url })?;
+    Ok(())
+}
+
+/// The names of the maps in a folder and below it, in byte order. A folder without any is refused.
+fn names_in<E: Eprint + AllocGlobal, D: Disk>(
+    host: &Host<'_, E, D>,
+    given: &str,
+    folder: &str,
+) -> Result<Vec<String>, Stop> {
+    let alloc = host.alloc();
+    let start = if folder.is_empty() { "/" } else { folder };
+    let found = match walk(alloc, host.disk, start, &[".map"]) {
+        Ok(found) => found,
+        Err(fault) => return Err(host.fail_walking(given, fault)),
+    };
+    host.say_unnamed(given, found.unnamed)?;
+    if !found.names.is_empty() {
+        return Ok(found.names);
+    }
+    let why = if found.only_links {
+        ", which holds only links (those to folders aren't followed)"
+    } else {
+        ""
+    };
+    let text = format!(in alloc; "no *.map in {given}{why}")?;
+    Err(host.fail(2, text.as_str()))
+}
+
+/// Adds the maps in a folder and below it.
+fn add_folder<E: Eprint + AllocGlobal, D: Disk>(
+    host: &Host<'_, E, D>,
+    base: Option<&str>,
+    given: &str,
+    targets: &mut Vec<Target>,
+) -> Result<(), Stop> {
+    let alloc = host.alloc();
+    let folder = given.trim_end_matches('/');
+    let names = names_in(host, given, folder)?;
+    let start = if folder.is_empty() { "/" } else { folder };
+    let url = folder_url(host, base, start)?;
+    for name in &names {
+        let name = name.as_str();
+        let file = format!(in alloc; "{folder}/{name}")?;
+        add(alloc, &url, name, file, targets)?;
+    }
+    Ok(())
+}
+
+/// Adds a map by itself.
+fn add_file<E: Eprint + AllocGlobal, D: Disk>(
+    host: &Host<'_, E, D>,
+    base: Option<&str>,
+    given: &str,
+    targets: &mut Vec<Target>,
+) -> Result<(), Stop> {
+    let alloc = host.alloc();
+    let (folder, name) = parted(given);
+    let url = folder_url(host, base, folder)?;
+    let file = String::from_str(alloc, given)?;
+    Ok(add(alloc, &url, name, file, targets)?)
+}
+
+/// Adds what a path names.
+fn add_path<E: Eprint + AllocGlobal, D: Disk>(
+    host: &Host<'_, E, D>,
+    base: Option<&str>,
+    given: &str,
+    targets: &mut Vec<Target>,
+) -> Result<(), Stop> {
+    let alloc = host.alloc();
+    let text = match host.disk.kind(given) {
+        Kind::Folder => return add_folder(host, base, given, targets),
+        Kind::File => return add_file(host, base, given, targets),
+        Kind::Special => format!(in alloc; "neither a file nor a folder: {given}")?,
+        Kind::Missing => format!(in alloc; "no such file or folder: {given}")?,
+    };
+    Err(host.fail(2, text.as_str()))
+}
+
+/// The maps that the paths name, in their order, those of a folder in byte order of their names below it.
+pub(crate) fn targets_of<E: Eprint + AllocGlobal, D: Disk>(
+    host: &Host<'_, E, D>,
+    base: Option<&str>,
+    paths: &[&str],
+) -> Result<Vec<Target>, Stop> {
+    let mut targets = Vec::new(host.alloc());
+    for path in paths {
+        add_path(host, base, *path, &mut targets)?;
+    }
+    Ok(targets)
+}

@@ -1,3 +1,0 @@
-pub mod FolderLemmas
-pub mod FollowingLemmas
-pub mod ReachedLemmas

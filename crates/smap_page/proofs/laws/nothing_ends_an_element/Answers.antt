@@ -1,5 +1,0 @@
-use Rattle.smap_page.proofs.EmbeddingLemmas.{none}
-use Rattle.smap_page.proofs.laws.nothing_ends_an_element.Goals as goal
-
-pub returns : goal.returns
-returns c = none

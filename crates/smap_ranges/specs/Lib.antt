@@ -1,3 +1,0 @@
-pub mod Faults
-pub mod FaultRanges
-pub mod Starts

@@ -1,0 +1,92 @@
+-- What a run writes of its logs.
+use Rattle.std.specs.Prelude.{◌≡◌, ◌⊎◌, ℕ, false, List, [], ◌∷◌, map, ⊤, Option, None}
+use Rattle.std.specs.Borrow.{Bor}
+use Rattle.std.specs.Io.KnownBytes.{Appends}
+use Rattle.smap_machine.specs.Held.{Held}
+use Rattle.smap_machine.specs.Tree.{Told}
+use Rattle.smap_map_files.specs.Lists.{lists_of, no_lists}
+use Rattle.smap_map_files.specs.Naming.{NamesAll}
+use Rattle.smap_map_files.specs.Settling.{IsSettled}
+use Rattle.smap_map_files.specs.declared.wanted.Wanted.{Wanted}
+use Rattle.smap_trace_run.specs.Written.{AreTraced, IsTracedFront, IsTracedTextIn}
+use Rattle.smap_trace_run.specs.declared.program.TheConstants.{STDIN}
+use Rattle.smap_trace_run.specs.declared.program.InputKind.{InputKind}
+use Rattle.smap_trace_run.specs.declared.program.InputKind.TheVariants.{Closed, File, Other, Terminal}
+use Rattle.smap_trace_run.specs.declared.tracing.Job.{Job}
+use Rattle.smap_words.specs.declared.request.Asked.{Asked}
+use Rattle.smap_words.specs.declared.request.Asked.TheVariants.{Help, Trace, Version}
+use Rattle.smap_words.specs.declared.request.TraceWords.{TraceWords}
+use Rattle.smap_words.specs.declared.values.Prefix.{Prefix}
+
+-- Standard input that is a file was translated and written as far as it went, if it can be read from its
+-- beginning as well, or else to its end.
+abbrev pub IsTracedRedirected : Held → Job → Option (List ℕ) → Option (List ℕ) → Option (List ℕ) → Type 0
+IsTracedRedirected held job left before after =
+    IsTracedFront held job STDIN.now left before after ⊎ IsTracedTextIn held job (λ name. ⊤) left before after
+
+-- Standard input was translated and written so, or, if it is none, to its end.
+abbrev pub IsTracedInput : Held → Job → InputKind → Option (List ℕ) → Option (List ℕ) → Option (List ℕ)
+    → Type 0
+IsTracedInput held job File left before after = IsTracedRedirected held job left before after
+IsTracedInput held job Closed left before after = IsTracedTextIn held job (λ name. ⊤) left before after
+IsTracedInput held job Terminal left before after = IsTracedTextIn held job (λ name. ⊤) left before after
+IsTracedInput held job Other left before after = IsTracedTextIn held job (λ name. ⊤) left before after
+
+-- The logs with these names were translated and written, or standard input if there are none.
+abbrev pub IsTracedRun : Held → Job → List (List ℕ) → InputKind → Option (List ℕ) → Option (List ℕ)
+    → Option (List ℕ) → Type 0
+IsTracedRun held job [] kind left before after = IsTracedInput held job kind left before after
+IsTracedRun held job (path ∷ paths) kind left before after = AreTraced held job (path ∷ paths) before after
+
+-- The logs of a run were translated and written.
+abbrev pub IsTracedJob : Held → Job → InputKind → Option (List ℕ) → Option (List ℕ) → Option (List ℕ) → Type 0
+IsTracedJob held job kind left before after =
+    IsTracedRun held job (map (λ p. p.now) job.wanted.logs.items) kind left before after
+
+-- what is written for the beginnings of source URLs: for each its first text the second
+abbrev pub pairs_of : List (Bor (List ℕ) × Bor (List ℕ)) → List (List ℕ × List ℕ)
+pairs_of pairs = map (λ p. (p.0.now, p.1.now)) pairs
+
+-- the same as the words have it
+abbrev pub prefixes_of : List Prefix → List (List ℕ × List ℕ)
+prefixes_of prefixes = map (λ p. (p.from.now, p.to.now)) prefixes
+
+-- A run does what these words ask for. A URL in the log is taken with its query.
+pub record IsJobOf (asked : TraceWords) (job : Job) : Type 0 where
+  pub anywhere : job.anywhere ≡ asked.anywhere
+  pub list : job.list ≡ asked.list
+  pub check_all : job.check_all ≡ asked.check_all
+  pub skip : job.how.skip ≡ asked.skip_broken
+  pub verbose : job.how.verbose ≡ asked.verbose
+  pub found_anywhere : job.style.mode.anywhere ≡ asked.anywhere
+  pub queries : job.style.mode.ignore_query ≡ false
+  pub hide : job.style.hide ≡ asked.hide_ignored
+  pub context : job.style.context ≡ asked.context
+  pub prefixes : pairs_of job.style.prefixes.now ≡ prefixes_of asked.prefixes.items
+
+-- These are the maps and logs that the arguments of these words name, one map for each script, and the URLs
+-- of a map's sources may take as many bytes as the words say.
+pub record AreFound (told : Told) (held : Held) (asked : TraceWords) (wanted : Wanted) : Type 0 where
+  pub named : Wanted
+  pub names : NamesAll told held asked.arguments.items no_lists (lists_of named)
+  pub settled : IsSettled named wanted
+  pub url_bytes : wanted.url_bytes ≡ asked.url_bytes
+
+-- What is wanted was translated and written by a run that does what these words ask for.
+pub record IsTracedAsked (held : Held) (wanted : Wanted) (asked : TraceWords) (kind : InputKind)
+    (left before after : Option (List ℕ)) : Type 0 where
+  pub job : Job
+  pub wanted_is : job.wanted ≡ wanted
+  pub is_job : IsJobOf asked job
+  pub traced : IsTracedJob held job kind left before after
+
+-- The same of what the words name, where they ask for a translation on standard output; or the help or the
+-- version was written.
+abbrev pub IsAnswered : Told → Held → List ℕ → List ℕ → Asked → InputKind → Option (List ℕ) → Option (List ℕ)
+    → Option (List ℕ) → Type 0
+IsAnswered told held help version Help kind left before after = Appends before after help
+IsAnswered told held help version Version kind left before after = Appends before after version
+IsAnswered told held help version (Trace asked) kind left before after =
+    asked.output ≡ None → asked.list ≡ false
+    → (wanted : Wanted) × AreFound told held asked wanted
+    × IsTracedAsked held wanted asked kind left before after

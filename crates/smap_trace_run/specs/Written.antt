@@ -1,0 +1,191 @@
+-- What is written of a log.
+use Rattle.std.specs.Prelude.{◌≡◌, ◌⊎◌, ℕ, ◌<◌, ◌==◌, ◌&&◌, Bool, not, true, List, [], ◌∷◌, flat_map, get_or}
+use Rattle.std.specs.Prelude.{length, map, slice_index, take, ⊤}
+use Rattle.std.specs.Prelude.{Option, Some, None, option_map}
+use Rattle.std.specs.List.{All, Contains, concat}
+use Rattle.std.specs.Borrow.{Bor}
+use Rattle.std.specs.Option.{is_some, unwrap_or}
+use Rattle.std.specs.Io.{IsEmptyOrEndsWith}
+use Rattle.std.specs.Io.KnownBytes.{Appends}
+use Rattle.smap_machine.specs.Held.{GivesHeld, HasSize, Held, IsHeld}
+use Rattle.smap_finder.specs.ChosenView.{AreChosen, AreEndsOf, Choices, HasNamedMap, IsJudged, IsLeft}
+use Rattle.smap_finder.specs.ChosenView.{IsSettledIn}
+use Rattle.smap_map_files.specs.declared.wanted.Wanted.{Wanted}
+use Rattle.smap_map_files.specs.declared.opening.How.{How}
+use Rattle.smap_trace.specs.Naming.{urls_of}
+use Rattle.smap_trace.specs.Translation.{Fate, Script, fate_by, translation_by}
+pub use Rattle.smap_logs.specs.Logs.{IsAll}
+use Rattle.smap_logs.specs.Naming.{asked_in}
+use Rattle.smap_trace_run.specs.declared.decorating.Style.{Style}
+use Rattle.smap_trace_run.specs.declared.tracing.Job.{Job}
+
+-- Lines are written as they are translated: no beginnings of URLs are replaced, and no sources are shown.
+abbrev pub is_plain_style : {A B : Type 0} → List A → Option B → Bool
+is_plain_style prefixes context = (length prefixes == 0) && not (is_some context)
+
+-- The translation of all that a reader had was written behind what the output held.
+pub record IsTranslated (fates : List ℕ → Fate) (left before after : Option (List ℕ)) : Type 0 where
+  pub text : List ℕ
+  pub all : IsAll left text
+  pub written : Appends before after (translation_by fates text)
+
+-- One of the scripts has this name.
+abbrev pub IsNameIn : List Script → List ℕ → Type 0
+IsNameIn scripts name = Contains (map (λ script. script.0) scripts) name
+
+-- The same by the names that have maps, in a plain style; of another nothing is said.
+abbrev pub IsTranslatedIn : Choices → Style → Option (List ℕ) → Option (List ℕ) → Option (List ℕ) → Type 0
+IsTranslatedIn choices style left before after = is_plain_style style.prefixes.now style.context ≡ true
+    → IsTranslated (fate_by style.mode choices.scripts style.hide) left before after
+
+-- what may be looked for of the files with these names, where it is said what they hold
+abbrev pub asked_of : Held → Bool → List (List ℕ) → Option (List (List ℕ))
+asked_of None anywhere paths = None
+asked_of (Some held) anywhere [] = None
+asked_of (Some held) anywhere (path ∷ paths) =
+    Some (flat_map (λ p. asked_in anywhere (unwrap_or (held p) [])) (path ∷ paths))
+
+-- the same of the logs of a run; nothing is said of standard input
+abbrev pub asked_by : Held → Job → Option (List (List ℕ))
+asked_by held job = asked_of held job.anywhere (map (λ p. p.now) job.wanted.logs.items)
+
+-- The name is one of these, where they are known.
+abbrev pub IsAmong : Option (List (List ℕ)) → List ℕ → Type 0
+IsAmong None name = ⊤
+IsAmong (Some asked) name = Contains asked name
+
+abbrev pub AreAmong : Option (List (List ℕ)) → List (List ℕ) → Type 0
+AreAmong asked names = (name : List ℕ) → Contains names name → IsAmong asked name
+
+-- Files that end as names do were opened for these names alone, where they are known.
+abbrev pub AreEndsAmong : Held → Wanted → Option (List (List ℕ)) → Choices → Type 0
+AreEndsAmong held wanted None choices = ⊤
+AreEndsAmong held wanted (Some asked) choices = AreEndsOf held wanted (Contains asked) choices
+
+-- All that a reader has left has such names of a run's logs alone.
+abbrev pub IsOfLogs : Held → Job → Option (List ℕ) → Type 0
+IsOfLogs held job left = (text : List ℕ) → IsAll left text
+    → AreAmong (asked_by held job) (asked_in job.anywhere text)
+
+-- So does the file with this name.
+abbrev pub IsLog : Held → Job → List ℕ → Type 0
+IsLog held job path = (text : List ℕ) → IsHeld held path text
+    → AreAmong (asked_by held job) (asked_in job.anywhere text)
+
+-- So do those with these names.
+abbrev pub AreLogs : Held → Job → List (Bor (List ℕ)) → Type 0
+AreLogs held job paths = (k : ℕ) (d : Bor (List ℕ)) → k < length paths → IsLog held job (get_or paths k d).now
+
+-- Each name of the log has, of the maps that the arguments name, the one that it has by the definition; and
+-- files that end as names do were opened for names of the logs alone.
+pub record AreNamed (held : Held) (job : Job) (choices : Choices) : Type 0 where
+  pub named : AreChosen held job.wanted choices
+  pub ends : AreEndsAmong held job.wanted (asked_by held job) choices
+
+-- A name is that of a script, or is left without a map.
+abbrev pub IsGiven : Held → Wanted → Choices → List Script → List ℕ → Type 0
+IsGiven held wanted choices scripts name = IsNameIn scripts name ⊎ IsLeft held wanted true choices name
+
+-- Each name of a frame of a text that was looked for is so.
+abbrev pub AreGiven : Held → Wanted → Choices → List Script → (List ℕ → Type 0) → List ℕ → Type 0
+AreGiven held wanted choices scripts Sought text =
+    (name : List ℕ) → Contains (urls_of text) name → Sought name
+    → IsGiven held wanted choices scripts name
+
+-- The translation of all that a reader had was written, by scripts whose maps the arguments name. These are
+-- all names of its frames that were looked for, but those that are left without a map. Files that end as
+-- names do were opened for names of the logs alone; and no map was refused, unless broken maps are skipped.
+pub record IsTraced (held : Held) (job : Job) (Sought : List ℕ → Type 0) (left before after : Option (List ℕ))
+    : Type 0 where
+  pub scripts : List Script
+  pub have_maps : All (HasNamedMap held job.wanted) scripts
+  pub translated : IsTranslated (fate_by job.style.mode scripts job.style.hide) left before after
+  pub choices : Choices
+  pub given : AreGiven held job.wanted choices scripts Sought translated.text
+  pub ends : AreEndsAmong held job.wanted (asked_by held job) choices
+  pub judged : IsJudged job.how.skip choices
+
+-- The same in a plain style; of another nothing is said.
+abbrev pub IsTracedIn : Held → Job → (List ℕ → Type 0) → Option (List ℕ) → Option (List ℕ) → Option (List ℕ)
+    → Type 0
+IsTracedIn held job Sought left before after =
+    is_plain_style job.style.prefixes.now job.style.context ≡ true
+    → IsTraced held job Sought left before after
+
+-- Parts of a log were translated and written, one behind another.
+abbrev pub AreTracedParts : Held → Job → (List ℕ → Type 0) → List (List ℕ) → Option (List ℕ) → Option (List ℕ)
+    → Type 0
+AreTracedParts held job Sought [] before after = after ≡ before
+AreTracedParts held job Sought (part ∷ parts) before after = (middle : Option (List ℕ))
+    × IsTraced held job Sought (Some part) before middle × AreTracedParts held job Sought parts middle after
+
+-- Each of these parts but the last is whole lines.
+abbrev pub AreWhole : List (List ℕ) → Type 0
+AreWhole [] = ⊤
+AreWhole (part ∷ []) = ⊤
+AreWhole (part ∷ next ∷ parts) = IsEmptyOrEndsWith part 10 × AreWhole (next ∷ parts)
+
+-- All that a reader had was translated and written, in parts.
+pub record IsTracedText (held : Held) (job : Job) (Sought : List ℕ → Type 0)
+    (left before after : Option (List ℕ)) : Type 0 where
+  pub parts : List (List ℕ)
+  pub whole : AreWhole parts
+  pub all : IsAll left (concat parts)
+  pub traced : AreTracedParts held job Sought parts before after
+
+-- The same in a plain style; of another nothing is said.
+abbrev pub IsTracedTextIn : Held → Job → (List ℕ → Type 0) → Option (List ℕ) → Option (List ℕ)
+    → Option (List ℕ)
+    → Type 0
+IsTracedTextIn held job Sought left before after =
+    is_plain_style job.style.prefixes.now job.style.context ≡ true
+    → IsTracedText held job Sought left before after
+
+-- What the file with this name holds, where that is said, has a frame with this name.
+abbrev pub IsNameOf : Held → List ℕ → List ℕ → Type 0
+IsNameOf None path name = ⊥
+IsNameOf (Some held) path name = (bytes : List ℕ) × (held path ≡ Some bytes) × Contains (urls_of bytes) name
+
+-- Each of these names has its map, or is left without one; and no map was refused, unless broken maps are
+-- skipped.
+pub record AreSettled (held : Held) (wanted : Wanted) (how : How) (choices : Choices)
+    (IsName : List ℕ → Type 0) : Type 0 where
+  pub each : (name : List ℕ) → IsName name → IsSettledIn held wanted true choices name
+  pub judged : IsJudged how.skip choices
+
+-- The same of the names of frames of what the files with these names hold.
+abbrev pub AreSettledLogs : Held → Wanted → How → Choices → List (Bor (List ℕ)) → Type 0
+AreSettledLogs held wanted how choices paths = (k : ℕ) (d : Bor (List ℕ)) → k < length paths
+    → AreSettled held wanted how choices (IsNameOf held (get_or paths k d).now)
+
+-- So much of what a reader had was translated and written as the file with this name is long.
+abbrev pub IsTracedFront : Held → Job → List ℕ → Option (List ℕ) → Option (List ℕ) → Option (List ℕ)
+    → Type 0
+IsTracedFront held job path left before after =
+    (size : ℕ) × HasSize held path size
+    × IsTracedTextIn held job (IsNameOf held path) (option_map (take size) left) before after
+
+-- Before a log there may be a line feed.
+abbrev pub IsBegun : Option (List ℕ) → Option (List ℕ) → Type 0
+IsBegun before after = Appends before after [] ⊎ Appends before after (10 ∷ [])
+
+-- All that the file with this name holds was translated and written, perhaps behind a line feed.
+pub record IsTracedLog (held : Held) (job : Job) (path : List ℕ) (before after : Option (List ℕ))
+    : Type 0 where
+  pub begun : Option (List ℕ)
+  pub left : Option (List ℕ)
+  pub is_begun : IsBegun before begun
+  pub gives : GivesHeld held path left
+  pub traced : IsTracedTextIn held job (IsNameOf held path) left begun after
+
+-- The logs with these names were translated and written so, one after another.
+abbrev pub AreTraced : Held → Job → List (List ℕ) → Option (List ℕ) → Option (List ℕ) → Type 0
+AreTraced held job [] before after = after ≡ before
+AreTraced held job (path ∷ paths) before after = (middle : Option (List ℕ))
+    × IsTracedLog held job path before middle × AreTraced held job paths middle after
+
+-- So long are the files with these names.
+abbrev pub HaveSizes : Held → List (Bor (List ℕ)) → List ℕ → Type 0
+HaveSizes held paths sizes = (length sizes ≡ length paths)
+    × ((k : ℕ) (d : Bor (List ℕ)) → k < length paths
+    → HasSize held (get_or paths k d).now (slice_index sizes k))

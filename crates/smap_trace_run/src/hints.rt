@@ -1,0 +1,94 @@
+//! What helps where nothing was translated, or a log can't be read as it is.
+use crate::tracing::Job;
+use smap_finder::Finder;
+use smap_logs::Names;
+use smap_machine::{Disk, Host, Stop, shown};
+use smap_map_files::Wanted;
+
+/// Says what a log is that isn't text in UTF-8, by its first bytes. Answers whether it is none.
+pub(crate) fn hint_at_start<E: Eprint + AllocGlobal, D: Disk>(
+    host: &Host<'_, E, D>,
+    start: &[u8],
+    verbose: bool,
+) -> bool {
+    if start.starts_with(b"\x1f\x8b") {
+        host.say("the log is compressed: zcat crash.log.gz | smap-trace ... reads it");
+        return true;
+    }
+    if start.starts_with(b"\xff\xfe") || start.starts_with(b"\xfe\xff") {
+        host.say(
+            "the log is in UTF-16: iconv -f UTF-16 -t UTF-8 crash.log | smap-trace ... reads it",
+        );
+        return true;
+    }
+    if verbose && start.starts_with(b"\xef\xbb\xbf") {
+        host.say("the log begins with a byte order mark");
+    }
+    false
+}
+
+/// Why a script has no map.
+fn why_no_map<E: Eprint + AllocGlobal, D: Disk>(
+    host: &Host<'_, E, D>,
+    wanted: &Wanted<'_>,
+    script: &[u8],
+) -> Result<String, Stop> {
+    let alloc = host.alloc();
+    let given = wanted
+        .places
+        .iter()
+        .any(|place| place.script.as_slice() == script);
+    if given {
+        let text = String::from_str(alloc, "what is given for it has none; -v says more")?;
+        return Ok(text);
+    }
+    let text = match (wanted.places.first(), wanted.roots.last()) {
+        (Some(place), _) => {
+            let name = shown(alloc, &place.script)?;
+            let name = name.as_str();
+            format!(in alloc; "the first map is that of {name}")?
+        }
+        (None, Some(root)) => {
+            let name = shown(alloc, root.path.as_str().as_bytes())?;
+            let name = name.as_str();
+            format!(in alloc; "no file of {name} ends as it does")?
+        }
+        (None, None) => String::from_str(alloc, "no map is given")?,
+    };
+    Ok(text)
+}
+
+/// Says why nothing was translated.
+pub(crate) fn hint_at_nothing<E: Eprint + AllocGlobal, D: Disk>(
+    host: &Host<'_, E, D>,
+    job: &Job<'_>,
+    names: &Names,
+    finder: &Finder<'_, E, D>,
+) -> Result<(), Stop> {
+    let alloc = host.alloc();
+    if finder.is_unclear() {
+        return Ok(());
+    }
+    let Some(name) = names.most_frequent() else {
+        host.say(if job.anywhere {
+            "nothing was translated: no position in the log is one of a script that has a map"
+        } else {
+            "no line of the log is a stack frame alone; --anywhere finds positions in other lines"
+        });
+        return Ok(());
+    };
+    let is_mapped = finder.map_of(name).is_some();
+    let why = why_no_map(host, &job.wanted, name)?;
+    let why = why.as_str();
+    let name = shown(alloc, name)?;
+    let name = name.as_str();
+    let text = if is_mapped {
+        format!(in alloc;
+            "no position in {name}, the script that most frames name, has a mapping in its map"
+        )?
+    } else {
+        format!(in alloc; "no map for {name}, the script that most frames name; {why}")?
+    };
+    host.say(text.as_str());
+    Ok(())
+}

@@ -1,0 +1,412 @@
+//! Logs translated: files, whose names are all looked for first, and streams, as they come.
+ghost use Rattle.std.specs.Prelude.{◌≡◌, [], IfOk, OnOk, Some, map, ⊤};
+ghost use Rattle.std.specs.List.{Contains};
+ghost use Rattle.std.specs.Io.Take.{take_remaining};
+ghost use Rattle.smap_machine.specs.Held.{GivesHeld, HasSize};
+ghost use Rattle.smap_finder.specs.ChosenView.{AreChosen, KeepEnds, no_choices};
+ghost use Rattle.smap_finder.specs.Finding.{IsSameSearch};
+ghost use Rattle.smap_trace.specs.Naming.{urls_of};
+ghost use Rattle.smap_logs.specs.Naming.{AddsNames, HaveNames, asked_in, frames_of, names_of};
+ghost use Rattle.smap_trace_run.specs.OutputView.{contents_of};
+ghost use Rattle.smap_trace_run.specs.Running.{IsRunning, IsSameRun};
+ghost use Rattle.smap_trace_run.specs.Written.{AreTraced, HaveSizes, IsTracedFront, IsTracedIn, IsTracedLog};
+ghost use Rattle.smap_trace_run.specs.Written.{AreAmong, AreLogs, IsLog, IsOfLogs, asked_by};
+ghost use Rattle.smap_trace_run.specs.Written.{AreSettled, AreSettledLogs, IsNameOf, IsTracedTextIn};
+
+use crate::decorating::Style;
+use crate::hints::{hint_at_nothing, hint_at_start};
+use crate::output::Output;
+use crate::translating::Tally;
+use smap_finder::{Finder, How};
+use smap_logs::{Log, Names, has_control, names_in};
+use smap_machine::{Disk, Host, Stop};
+use smap_map_files::Wanted;
+use std::alloc::{AllocError, Global};
+use std::io::{Read, Take, Write};
+use std::marker::Model;
+
+/// So many names are counted at most, where a log is read once, for what is said at its end.
+const MOST_COUNTED: usize = 10_000;
+
+/// What a run has been asked for, and has found.
+#[derive(Drop)]
+pub(crate) struct Job<'a> {
+    pub(crate) anywhere: bool,
+    pub(crate) list: bool,
+    pub(crate) check_all: bool,
+    pub(crate) wanted: Wanted<'a>,
+    /// The scripts that are given by names with control characters.
+    pub(crate) with_controls: Vec<Vec<u8>>,
+    pub(crate) how: How,
+    pub(crate) style: Style<'a>,
+}
+
+/// The scripts that are given by names with control characters.
+pub(crate) fn with_controls(
+    alloc: Global,
+    wanted: &Wanted<'_>,
+) -> Result<Vec<Vec<u8>>, AllocError> {
+    let mut names = Vec::new(alloc);
+    for place in &wanted.places {
+        if has_control(&place.script) {
+            names.push(Vec::from_slice(alloc, &place.script)?)?;
+        }
+    }
+    Ok(names)
+}
+
+/// A run: its job, the maps that it has found, and what has become of the logs.
+#[derive(Drop)]
+pub(crate) struct Run<'a, E, D: Disk> {
+    pub(crate) host: &'a Host<'a, E, D>,
+    pub(crate) job: &'a Job<'a>,
+    pub(crate) finder: Finder<'a, E, D>,
+    /// The names that logs have, for what is said at the end.
+    names: Names,
+    pub(crate) tally: Tally,
+    start: Start,
+}
+
+/// What the beginning of the first log shows.
+#[derive(Drop)]
+struct Start {
+    is_known: bool,
+    /// Whether it was said that a log isn't text in UTF-8.
+    is_hinted: bool,
+}
+
+impl Start {
+    /// Says what the first log is, where it isn't text in UTF-8.
+    fn note<E: Eprint + AllocGlobal, D: Disk>(
+        &mut self,
+        host: &Host<'_, E, D>,
+        job: &Job<'_>,
+        lines: &[u8],
+    ) {
+        if !self.is_known {
+            self.is_known = true;
+            self.is_hinted = hint_at_start(host, lines, job.how.verbose);
+        }
+    }
+}
+
+impl<'a, E, D: Disk> Model for Run<'a, E, D> {
+    ghost use Rattle.smap_trace_run.specs.Running.{IsRunning, Running};
+
+    ghost Value = { Running D };
+
+    ghost view = { λ r. record {
+      disk = r.host.now.disk.now;
+      job = r.job.now;
+      chosen = r.finder.chosen;
+    } };
+
+    ghost invariant = { λ r. IsRunning D.held r.host.now.disk.now r.job.now r.finder };
+}
+
+/// What finds the maps of a job, once each was read that there is, if that is asked for.
+pub(crate) fn finder_of<'a, E: Eprint + AllocGlobal, D: Disk>(
+    host: &'a Host<'a, E, D>,
+    job: &'a Job<'a>,
+) -> Result<Finder<'a, E, D>, Stop>
+    ensures { IfOk result (IsRunning D.held host.now.disk.now job.now) }
+{
+    let mut finder = Finder::new(host, job.how, &job.wanted)?;
+    if !job.check_all {
+        return Ok(finder);
+    }
+    finder.check_all()?;
+    Ok(finder)
+}
+
+/// Opens the maps of these names.
+pub(crate) fn open_names<E: Eprint + AllocGlobal, D: Disk>(
+    alloc: Global,
+    with_controls: &[Vec<u8>],
+    names: &Names,
+    finder: &mut Finder<'_, E, D>,
+) -> Result<(), Stop>
+    ensures same { IsSameSearch finder.old finder.new }
+    ensures named { AreChosen (D.held finder.old.disk) finder.old.wanted finder.old.chosen
+        → AreChosen (D.held finder.new.disk) finder.new.wanted finder.new.chosen }
+    ensures ends { KeepEnds (D.held finder.old.disk) finder.old.wanted (names_of names.now)
+        finder.old.chosen finder.new.chosen }
+    ensures settled { OnOk result (AreSettled (D.held finder.old.disk) finder.old.wanted finder.old.how
+        finder.new.chosen (Contains (frames_of names.now))) }
+{
+    let frames = names.of_frames(alloc)?;
+    finder.open_for(true, frames.as_slice())?;
+    let others = names.of_others(alloc, with_controls)?;
+    finder.open_for(false, others.as_slice())
+}
+
+/// Opens a log.
+pub(crate) fn open_log<E: Eprint + AllocGlobal, D: Disk>(
+    host: &Host<'_, E, D>,
+    path: &str,
+) -> Result<D::Reader, Stop>
+    ensures { IfOk result (λ log. GivesHeld (D.held host.now.disk.now) path.now
+        (D.Reader.remaining log)) }
+{
+    match host.disk.open(path) {
+        Ok(log) => Ok(log),
+        Err(error) => Err(host.fail_for("cannot read the log", &error)),
+    }
+}
+
+/// Opens a log that is a file, as far as it went at this size.
+fn open_front<E: Eprint + AllocGlobal, D: Disk>(
+    host: &Host<'_, E, D>,
+    path: &str,
+    size: u64,
+) -> Result<Take<D::Reader>, Stop>
+    requires { HasSize (D.held host.now.disk.now) path.now size }
+    ensures { IfOk result (λ log. GivesHeld (D.held host.now.disk.now) path.now
+        (take_remaining D.Reader.remaining log)) }
+{
+    let log = open_log(host, path)?;
+    Ok(log.take(size))
+}
+
+/// Adds the names that a log has.
+fn name_log<E: Eprint + AllocGlobal, D: Disk, R: Read>(
+    host: &Host<'_, E, D>,
+    job: &Job<'_>,
+    reader: R,
+    start: &mut Start,
+    names: &mut Names,
+) -> Result<(), Stop>
+where
+    R: Drop,
+    requires asked { IsOfLogs (D.held host.now.disk.now) job.now (R.remaining reader) }
+    requires names { AreAmong (asked_by (D.held host.now.disk.now) job.now) (names_of names.old) }
+    ensures names { OnOk result (AddsNames (R.remaining reader) names.old names.new) }
+    ensures asked { OnOk result
+        (AreAmong (asked_by (D.held host.now.disk.now) job.now) (names_of names.new)) }
+{
+    let mut log = Log::new(host.alloc(), reader);
+    for _ in 0..u64::MAX {
+        let more = log.advance(host)?;
+        if !more {
+            return Ok(());
+        }
+        let lines = log.lines();
+        start.note(host, job, lines);
+        names.add_lines(host.alloc(), lines, job.anywhere)?;
+    }
+    Err(host.fail(3, "cannot read the log"))
+}
+
+/// Adds the names of logs that are files. Answers how far each was read.
+fn name_logs<E: Eprint + AllocGlobal, D: Disk>(
+    host: &Host<'_, E, D>,
+    job: &Job<'_>,
+    paths: &[&str],
+    start: &mut Start,
+    names: &mut Names,
+) -> Result<Vec<u64>, Stop>
+    requires logs { AreLogs (D.held host.now.disk.now) job.now paths.now }
+    requires names { AreAmong (asked_by (D.held host.now.disk.now) job.now) (names_of names.old) }
+    ensures names { OnOk result (HaveNames (D.held host.now.disk.now) paths.now names.new) }
+    ensures asked { OnOk result
+        (AreAmong (asked_by (D.held host.now.disk.now) job.now) (names_of names.new)) }
+    ensures sizes { IfOk result (λ sizes. HaveSizes (D.held host.now.disk.now) paths.now sizes.items) }
+{
+    let mut sizes = Vec::new(host.alloc());
+    for path in paths {
+        let size = match host.disk.size(path) {
+            Ok(size) => size,
+            Err(error) => return Err(host.fail_for("cannot read the log", &error)),
+        };
+        let log = open_front(host, path, size)?;
+        name_log(host, job, log, start, names)?;
+        sizes.push(size)?;
+    }
+    Ok(sizes)
+}
+
+impl<'a, E: Eprint + AllocGlobal, D: Disk> Run<'a, E, D> {
+    /// A run that has read nothing yet.
+    pub(crate) fn new(host: &'a Host<'a, E, D>, job: &'a Job<'a>) -> Result<Run<'a, E, D>, Stop>
+        ensures { IfOk result (λ r. r.disk ≡ host.now.disk.now × r.job ≡ job.now) }
+    {
+        let finder = finder_of(host, job)?;
+        Ok(Run {
+            host,
+            job,
+            finder,
+            names: Names::new(host.alloc()),
+            tally: Tally::none(),
+            start: Start {
+                is_known: false,
+                is_hinted: false,
+            },
+        })
+    }
+
+    /// Opens the maps of the scripts that lines name.
+    fn open_lines(&mut self, lines: &[u8]) -> Result<(), Stop>
+        requires { AreAmong (asked_by (D.held self.old.disk) self.old.job)
+            (asked_in self.old.job.anywhere lines.now) }
+        ensures same { IsSameRun self.old self.new }
+        ensures settled { OnOk result (AreSettled (D.held self.new.disk) self.new.job.wanted self.new.job.how
+            self.new.chosen (Contains (urls_of lines.now))) }
+    {
+        let (alloc, job) = (self.host.alloc(), self.job);
+        let names = names_in(alloc, lines, job.anywhere)?;
+        self.names.add_counts(alloc, &names, MOST_COUNTED)?;
+        self.finder.forget_many();
+        open_names(alloc, &job.with_controls, &names, &mut self.finder)
+    }
+
+    /// Translates a log that is read once: maps are opened as its frames first name their scripts.
+    pub(crate) fn follow_log<R: Read, W: Write + Drop>(
+        &mut self,
+        reader: R,
+        output: &mut Output<W>,
+    ) -> Result<(), Stop>
+    where
+        R: Drop,
+        requires { IsOfLogs (D.held self.old.disk) self.old.job (R.remaining reader) }
+        ensures same { IsSameRun self.old self.new }
+        ensures traced { OnOk result (IsTracedTextIn (D.held self.old.disk) self.old.job (λ name. ⊤)
+            (R.remaining reader) (contents_of W.contents output.old) (contents_of W.contents output.new)) }
+    {
+        let mut log = Log::new(self.host.alloc(), reader);
+        for _ in 0..u64::MAX {
+            let more = log.advance(self.host)?;
+            if !more {
+                return Ok(());
+            }
+            let lines = log.lines();
+            self.start.note(self.host, self.job, lines);
+            self.open_lines(lines)?;
+            self.translate_log(lines, output)?;
+        }
+        Err(self.host.fail(3, "cannot read the log"))
+    }
+
+    /// Opens the maps of all names of logs that are files, and answers how far each was read.
+    fn open_files(&mut self, paths: &[&str]) -> Result<Vec<u64>, Stop>
+        requires { AreLogs (D.held self.old.disk) self.old.job paths.now }
+        ensures same { IsSameRun self.old self.new }
+        ensures settled { OnOk result (AreSettledLogs (D.held self.new.disk) self.new.job.wanted
+            self.new.job.how self.new.chosen paths.now) }
+        ensures sizes { IfOk result (λ sizes. HaveSizes (D.held self.old.disk) paths.now sizes.items) }
+    {
+        let (host, job) = (self.host, self.job);
+        let mut names = Names::new(host.alloc());
+        let sizes = name_logs(host, job, paths, &mut self.start, &mut names)?;
+        open_names(host.alloc(), &job.with_controls, &names, &mut self.finder)?;
+        self.names = names;
+        self.finder.tell_count()?;
+        Ok(sizes)
+    }
+
+    /// Translates logs that are files, as far as their names were looked for.
+    fn translate_files<W: Write + Drop>(
+        &mut self,
+        paths: &[&str],
+        sizes: &[u64],
+        output: &mut Output<W>,
+    ) -> Result<(), Stop>
+        requires settled { AreSettledLogs (D.held self.old.disk) self.old.job.wanted self.old.job.how
+            self.old.chosen paths.now }
+        requires sizes { HaveSizes (D.held self.old.disk) paths.now sizes.now }
+        ensures kept { self.new ≡ self.old }
+        ensures traced { OnOk result (AreTraced (D.held self.old.disk) self.old.job
+            (map (λ p. p.now) paths.now) (contents_of W.contents output.old)
+            (contents_of W.contents output.new)) }
+    {
+        for i in 0..paths.len() {
+            self.begin_log(output)?;
+            let log = open_front(self.host, paths[i], sizes[i])?;
+            self.translate_log(log, output)?;
+        }
+        Ok(())
+    }
+
+    /// Translates logs that are files: all names first, then the maps of these, then the logs.
+    pub(crate) fn trace_files<W: Write + Drop>(
+        &mut self,
+        paths: &[&str],
+        output: &mut Output<W>,
+    ) -> Result<(), Stop>
+        requires { AreLogs (D.held self.old.disk) self.old.job paths.now }
+        ensures same { IsSameRun self.old self.new }
+        ensures traced { OnOk result (AreTraced (D.held self.old.disk) self.old.job
+            (map (λ p. p.now) paths.now) (contents_of W.contents output.old)
+            (contents_of W.contents output.new)) }
+    {
+        let sizes = self.open_files(paths)?;
+        if sizes.contains(&0) {
+            // The kernel says 0 of files of its own that aren't empty, such as those of /proc.
+            return self.follow_paths(paths, output);
+        }
+        self.translate_files(paths, &sizes, output)
+    }
+
+    /// The same of standard input, which is a file with this name as well. It is read on from where it is.
+    pub(crate) fn trace_input<I: Read, W: Write + Drop>(
+        &mut self,
+        path: &str,
+        input: I,
+        output: &mut Output<W>,
+    ) -> Result<(), Stop>
+    where
+        I: Drop,
+        requires { self.old.job.wanted.logs.items ≡ [] }
+        ensures same { IsSameRun self.old self.new }
+        ensures traced { OnOk result (IsTracedFront (D.held self.old.disk) self.old.job path.now
+            (I.remaining input) (contents_of W.contents output.old) (contents_of W.contents output.new)) }
+    {
+        let paths = [path];
+        let sizes = self.open_files(paths.as_slice())?;
+        let size = sizes[0];
+        self.translate_log(input.take(size), output)
+    }
+
+    /// Translates logs with these names that are read once, one after another.
+    fn follow_paths<W: Write + Drop>(
+        &mut self,
+        paths: &[&str],
+        output: &mut Output<W>,
+    ) -> Result<(), Stop>
+        requires { AreLogs (D.held self.old.disk) self.old.job paths.now }
+        ensures same { IsSameRun self.old self.new }
+        ensures traced { OnOk result (AreTraced (D.held self.old.disk) self.old.job
+            (map (λ p. p.now) paths.now) (contents_of W.contents output.old)
+            (contents_of W.contents output.new)) }
+    {
+        for path in paths {
+            self.begin_log(output)?;
+            let log = open_log(self.host, path)?;
+            self.follow_log(log, output)?;
+        }
+        Ok(())
+    }
+
+    /// Translates logs of which one can be read only once.
+    pub(crate) fn trace_streams<W: Write + Drop>(
+        &mut self,
+        paths: &[&str],
+        output: &mut Output<W>,
+    ) -> Result<(), Stop>
+        requires { AreLogs (D.held self.old.disk) self.old.job paths.now }
+        ensures same { IsSameRun self.old self.new }
+        ensures traced { OnOk result (AreTraced (D.held self.old.disk) self.old.job
+            (map (λ p. p.now) paths.now) (contents_of W.contents output.old)
+            (contents_of W.contents output.new)) }
+    {
+        self.follow_paths(paths, output)?;
+        self.finder.tell_count()
+    }
+
+    /// Says why nothing was translated, where nothing was.
+    pub(crate) fn say_nothing(&self) -> Result<(), Stop> {
+        if self.tally.changed > 0 || self.tally.lines == 0 || self.start.is_hinted {
+            return Ok(());
+        }
+        hint_at_nothing(self.host, self.job, &self.names, &self.finder)
+    }
+}

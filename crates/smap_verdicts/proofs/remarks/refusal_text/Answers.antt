@@ -1,4 +1,0 @@
-use Rattle.smap_verdicts.proofs.remarks.refusal_text.Goals as goal
-
-pub returns-in-Some : goal.returns-in-Some
-returns-in-Some c = rw (c.in-Some.is, ← c.as_str-left.ensures.value) c.format.ensures.ok

@@ -1,4 +1,0 @@
-pub mod JsonLines
-pub mod Judging
-pub mod Outcomes
-pub mod Remarks

@@ -1,0 +1,319 @@
+//! A map and its script, read.
+use crate::files::{read_named, text_of};
+use crate::links::{Link, link_of};
+use crate::refusals::{hint, place_of};
+use crate::scripts::script_of;
+use serde_json::Value;
+use smap_link::{FileKind, file_kind, script_url};
+use smap_machine::{Disk, Host, Stop, parted};
+use smap_map_files::{Home, folder_url, is_within};
+use smap_record::{Base, BaseFault, Fault, Limits, ReadError, SourceMap};
+
+/// How maps are read.
+#[derive(Clone, Copy)]
+pub(crate) struct Reading<'a> {
+    /// The URL of the folder, with a slash at its end, if one is given.
+    pub(crate) base: Option<&'a str>,
+    /// How many bytes the URLs of a map's sources may take.
+    pub(crate) url_bytes: usize,
+}
+
+/// What is to be looked at.
+#[derive(Clone, Copy)]
+pub(crate) enum Item<'a> {
+    /// A map, and its script if that is named.
+    Map {
+        path: &'a str,
+        script: Option<&'a str>,
+    },
+    /// A script, in this folder or below it.
+    Script {
+        folder: &'a str,
+        name: &'a str,
+        /// Whether it was found there: what is named is the folder.
+        found: bool,
+    },
+}
+
+/// What there is to show of a map.
+#[derive(Drop)]
+pub(crate) enum Content {
+    /// The map and its script.
+    Map(SourceMap, String),
+    /// The fault, and its place or null.
+    Refused(String, Value),
+}
+
+/// A map that was read, and what it and its script are called.
+#[derive(Drop)]
+pub(crate) struct Loaded {
+    /// The name of the map's file.
+    pub(crate) map: String,
+    pub(crate) url: String,
+    /// The name of the script's file; empty where the map is refused.
+    pub(crate) script: String,
+    pub(crate) content: Content,
+}
+
+/// The bytes of a map, and where they come from.
+#[derive(Drop)]
+struct Found {
+    /// The path of the file that holds it, as messages have it.
+    path: String,
+    name: String,
+    url: String,
+    bytes: Vec<u8>,
+}
+
+/// A script that was read before its map.
+#[derive(Drop)]
+struct Script {
+    path: String,
+    bytes: Vec<u8>,
+}
+
+/// Says why a map is refused, and what may help.
+fn refuse<E: Eprint + AllocGlobal, D: Disk>(
+    host: &Host<'_, E, D>,
+    found: Found,
+    error: String,
+    hint: &str,
+    place: Value,
+) -> Result<Loaded, Stop> {
+    let alloc = host.alloc();
+    let (path, text) = (found.path.as_str(), error.as_str());
+    let said = format!(in alloc; "{path}: {text}{hint}")?;
+    host.say(said.as_str());
+    Ok(Loaded {
+        map: found.name,
+        url: found.url,
+        script: String::new(alloc),
+        content: Content::Refused(error, place),
+    })
+}
+
+fn refuse_map<E: Eprint + AllocGlobal, D: Disk>(
+    host: &Host<'_, E, D>,
+    found: Found,
+    fault: &Fault,
+) -> Result<Loaded, Stop> {
+    let alloc = host.alloc();
+    let error = format!(in alloc; "{fault}")?;
+    let hint = hint(&found.bytes, fault);
+    let place = place_of(alloc, &found.bytes, fault)?;
+    refuse(host, found, error, hint, place)
+}
+
+fn refuse_urls<E: Eprint + AllocGlobal, D: Disk>(
+    host: &Host<'_, E, D>,
+    found: Found,
+    most: usize,
+) -> Result<Loaded, Stop> {
+    let error = format!(in host.alloc(); "the URLs of its sources take more than {most} bytes")?;
+    refuse(
+        host,
+        found,
+        error,
+        " (--url-bytes allows more)",
+        Value::Null,
+    )
+}
+
+fn base_of<E: Eprint + AllocGlobal, D: Disk>(
+    host: &Host<'_, E, D>,
+    found: &Found,
+) -> Result<Base, Stop> {
+    match Base::new(host.alloc(), found.url.as_str()) {
+        Ok(base) => Ok(base),
+        Err(BaseFault::Memory) => Err(Stop::Memory),
+        Err(BaseFault::NotUrl) => Err(host.fail_with(1, found.path.as_str(), "base is no URL")),
+    }
+}
+
+/// The script: the one that was read before, or that is named, or beside the map.
+fn script_for<E: Eprint + AllocGlobal, D: Disk>(
+    host: &Host<'_, E, D>,
+    map_path: &str,
+    map: &SourceMap,
+    script: Option<Script>,
+    named: Option<&str>,
+) -> Result<Script, Stop> {
+    let alloc = host.alloc();
+    if let Some(script) = script {
+        return Ok(script);
+    }
+    let path = match named {
+        Some(path) => String::from_str(alloc, path)?,
+        None => script_of(host, map_path, map)?,
+    };
+    let bytes = read_named(host, path.as_str())?;
+    Ok(Script { path, bytes })
+}
+
+/// Reads a map that was found, and its script.
+fn load_found<E: Eprint + AllocGlobal, D: Disk>(
+    host: &Host<'_, E, D>,
+    found: Found,
+    url_bytes: usize,
+    script: Option<Script>,
+    named: Option<&str>,
+) -> Result<Loaded, Stop> {
+    let alloc = host.alloc();
+    let base = base_of(host, &found)?;
+    let (bytes, limits) = (found.bytes.as_slice(), Limits::usual());
+    let map = match SourceMap::from_slice_within(alloc, bytes, &base, limits, url_bytes) {
+        Ok(Some((map, _))) => map,
+        Ok(None) => return refuse_urls(host, found, url_bytes),
+        Err(ReadError::Memory) => return Err(Stop::Memory),
+        Err(ReadError::Refused(fault)) => return refuse_map(host, found, &fault),
+    };
+    let Script { path, bytes } = script_for(host, found.path.as_str(), &map, script, named)?;
+    let name = String::from_str(alloc, parted(path.as_str()).1)?;
+    let text = text_of(host, path.as_str(), bytes)?;
+    Ok(Loaded {
+        map: found.name,
+        url: found.url,
+        script: name,
+        content: Content::Map(map, text),
+    })
+}
+
+/// The URL of the file with this name below a folder.
+fn file_url_of<E: Eprint + AllocGlobal, D: Disk>(
+    host: &Host<'_, E, D>,
+    folder_url: &[u8],
+    name: &str,
+) -> Result<String, Stop> {
+    let url = script_url(host.alloc(), folder_url, name.as_bytes())?;
+    match String::from_utf8(url) {
+        Ok(url) => Ok(url),
+        Err(_) => Err(host.fail_with(3, name, "has no URL")),
+    }
+}
+
+/// The map in a file.
+fn found_in<E: Eprint + AllocGlobal, D: Disk>(
+    host: &Host<'_, E, D>,
+    home: Home<'_>,
+    name: &str,
+) -> Result<Found, Stop> {
+    let alloc = host.alloc();
+    let folder = home.path;
+    let path = format!(in alloc; "{folder}{name}")?;
+    let bytes = read_named(host, path.as_str())?;
+    let url = file_url_of(host, home.url, name)?;
+    let name = String::from_str(alloc, parted(name).1)?;
+    Ok(Found {
+        path,
+        name,
+        url,
+        bytes,
+    })
+}
+
+/// Says that a script has no map.
+fn fail_alone<E: Eprint + AllocGlobal, D: Disk>(
+    host: &Host<'_, E, D>,
+    path: &str,
+    what: &str,
+) -> Stop {
+    match format!(in host.alloc();
+        "{path}: {what}, and none lies beside it: smap-view MAP SCRIPT names both"
+    ) {
+        Ok(text) => host.fail(2, text.as_str()),
+        Err(_) => Stop::Memory,
+    }
+}
+
+/// What a script holds. Nobody has named one that was found in a folder, so a link that leads out of it isn't
+/// followed.
+fn read_script<E: Eprint + AllocGlobal, D: Disk>(
+    host: &Host<'_, E, D>,
+    home: Home<'_>,
+    path: &str,
+    found: bool,
+) -> Result<Vec<u8>, Stop> {
+    if found && !is_within(host.alloc(), host.disk, home.path, path)? {
+        let text = format!(in host.alloc(); "{path} is a link to elsewhere")?;
+        return Err(host.fail(1, text.as_str()));
+    }
+    read_named(host, path)
+}
+
+/// Reads a script and its map. One that was found in a folder may have none.
+fn load_script<E: Eprint + AllocGlobal, D: Disk>(
+    host: &Host<'_, E, D>,
+    reading: Reading<'_>,
+    home: Home<'_>,
+    name: &str,
+    found: bool,
+) -> Result<Option<Loaded>, Stop> {
+    let alloc = host.alloc();
+    let folder = home.path;
+    let path = format!(in alloc; "{folder}{name}")?;
+    let bytes = read_script(host, home, path.as_str(), found)?;
+    let map = match link_of(alloc, host.disk, home, name, &bytes)? {
+        Link::File(map) => found_in(host, home, map.as_str())?,
+        Link::Inline(map) => Found {
+            path: String::from_str(alloc, path.as_str())?,
+            name: String::from_str(alloc, parted(name).1)?,
+            url: file_url_of(host, home.url, name)?,
+            bytes: map,
+        },
+        Link::Nothing | Link::Broken if found => return Ok(None),
+        Link::Nothing => return Err(fail_alone(host, path.as_str(), "it names no map")),
+        Link::Broken => {
+            let what = "the map that it names isn't here";
+            return Err(fail_alone(host, path.as_str(), what));
+        }
+    };
+    let script = Some(Script { path, bytes });
+    Ok(Some(load_found(host, map, reading.url_bytes, script, None)?))
+}
+
+/// Reads what is to be looked at: nothing where a script that was found in a folder has no map.
+pub(crate) fn load<E: Eprint + AllocGlobal, D: Disk>(
+    host: &Host<'_, E, D>,
+    reading: Reading<'_>,
+    item: Item<'_>,
+) -> Result<Option<Loaded>, Stop> {
+    match item {
+        Item::Script {
+            folder,
+            name,
+            found,
+        } => {
+            let url = folder_url(host, reading.base, folder)?;
+            let home = Home {
+                path: folder,
+                url: &url,
+            };
+            load_script(host, reading, home, name, found)
+        }
+        Item::Map { path, script } => {
+            let (folder, name) = parted(path);
+            let url = folder_url(host, reading.base, folder)?;
+            let home = Home {
+                path: folder,
+                url: &url,
+            };
+            let map = found_in(host, home, name)?;
+            Ok(Some(load_found(host, map, reading.url_bytes, None, script)?))
+        }
+    }
+}
+
+/// What a single file is: a script that is followed to its map, unless a script is named with it.
+pub(crate) fn item_of<'a>(path: &'a str, script: Option<&'a str>) -> Item<'a> {
+    match (file_kind(path.as_bytes()), script) {
+        (FileKind::Script | FileKind::StyleSheet, None) => {
+            let (folder, name) = parted(path);
+            Item::Script {
+                folder,
+                name,
+                found: false,
+            }
+        }
+        _ => Item::Map { path, script },
+    }
+}

@@ -1,0 +1,82 @@
+//! The script of a map, where none is named.
+use smap_machine::{Disk, Host, Kind, Stop, parted};
+use smap_map_files::is_within;
+use smap_record::SourceMap;
+
+/// The file beside a map with this name, if there is one. A link counts only if it leads to a file there.
+fn beside<E: Eprint + AllocGlobal, D: Disk>(
+    host: &Host<'_, E, D>,
+    map_path: &str,
+    folder: &str,
+    name: &str,
+) -> Result<Option<String>, Stop> {
+    let alloc = host.alloc();
+    let path = format!(in alloc; "{folder}{name}")?;
+    if host.disk.kind(path.as_str()) != Kind::File {
+        return Ok(None);
+    }
+    if is_within(alloc, host.disk, folder, path.as_str())? {
+        return Ok(Some(path));
+    }
+    let path = path.as_str();
+    let text = format!(in alloc;
+        "{map_path}: {path} is a link to elsewhere: smap-view MAP SCRIPT names the script"
+    )?;
+    Err(host.fail(2, text.as_str()))
+}
+
+/// The last part of a name that may have folders before it.
+fn last_part(name: &str) -> &str {
+    parted(name).1
+}
+
+/// The script beside a map with this name, unless it is empty or the map's own.
+fn candidate<E: Eprint + AllocGlobal, D: Disk>(
+    host: &Host<'_, E, D>,
+    map_path: &str,
+    script: &str,
+) -> Result<Option<String>, Stop> {
+    let (folder, name) = parted(map_path);
+    if script.is_empty() || script == name {
+        return Ok(None);
+    }
+    beside(host, map_path, folder, script)
+}
+
+fn fail_missing<E: Eprint + AllocGlobal, D: Disk>(
+    host: &Host<'_, E, D>,
+    map_path: &str,
+    name: &str,
+) -> Stop {
+    match format!(in host.alloc();
+        "{map_path}: its script isn't beside it ({name}): smap-view MAP SCRIPT names it"
+    ) {
+        Ok(text) => host.fail(2, text.as_str()),
+        Err(_) => Stop::Memory,
+    }
+}
+
+/// The path of a map's script: the file beside it that is called as the last part of its member `file`, or as
+/// the map without `.map`. So a map can't name any other file of this machine.
+pub(crate) fn script_of<E: Eprint + AllocGlobal, D: Disk>(
+    host: &Host<'_, E, D>,
+    map_path: &str,
+    map: &SourceMap,
+) -> Result<String, Stop> {
+    let named = match map.file() {
+        Some(file) => last_part(file),
+        None => "",
+    };
+    if let Some(path) = candidate(host, map_path, named)? {
+        return Ok(path);
+    }
+    let name = last_part(map_path);
+    let without = name.strip_suffix(".map").unwrap_or(name);
+    if let Some(path) = candidate(host, map_path, without)? {
+        return Ok(path);
+    }
+    if named.is_empty() {
+        return Err(fail_missing(host, map_path, without));
+    }
+    Err(fail_missing(host, map_path, named))
+}
