@@ -60,7 +60,7 @@ extern "C" {
 /* ---- the version */
 
 #define SMAP_VERSION_MAJOR 0
-#define SMAP_VERSION_MINOR 2
+#define SMAP_VERSION_MINOR 3
 #define SMAP_VERSION_PATCH 0
 
 /* The version of this header: two decimal digits each for the minor and the patch version. */

@@ -1,18 +1,19 @@
 # Completion of smap-trace for fish. tests/rows/completion.rows compares its options with --help.
 
-complete -c smap-trace -s h -l help -d 'Print help'
+# written by tools/options
+complete -c smap-trace -l anywhere -d 'Find positions anywhere in a line: behind a time, in JSON, in colours'
+complete -c smap-trace -l hide-ignored -d 'Leave out frames in ignored sources (libraries, mostly)'
+complete -c smap-trace -l skip-broken -d 'Leave out maps that smap refuses, naming each, instead of stopping'
+complete -c smap-trace -l check-all -d 'Check every map, those too whose scripts the log doesn\'t name'
+complete -c smap-trace -l list -d 'List the scripts that the log names: how often, and whether each has a map'
+complete -c smap-trace -x -l context -d 'Show N lines of the source around each position, where the map has its text'
+complete -c smap-trace -x -l url-bytes -d 'Refuse a map if the URLs of its sources take more than N bytes (default 67108864)'
+complete -c smap-trace -x -l source-prefix -d 'Write TO for FROM at the start of a source\'s URL. Of several the first that fits counts'
+complete -c smap-trace -r -F -s o -d 'Write to FILE, which changes only when all is written'
+complete -c smap-trace -s v -l verbose -d 'Say which maps are opened, and for which names in the log'
 complete -c smap-trace -s V -l version -d 'Print the version'
-complete -c smap-trace -l anywhere -d 'Find positions anywhere in a line'
-complete -c smap-trace -l ignore-query -d 'Ignore a query behind the URL of a script'
-complete -c smap-trace -l hide-ignored -d 'Leave out frames in ignored sources'
-complete -c smap-trace -l skip-broken -d 'Leave out maps that are refused'
-complete -c smap-trace -l check-all -d 'Check the maps of all scripts'
-complete -c smap-trace -s v -l verbose -d 'Say which maps are opened'
-complete -c smap-trace -l list -d 'List the scripts that the log names'
-complete -c smap-trace -x -l context -d 'Show so many lines of the source around each position'
-complete -c smap-trace -x -l url-bytes -d 'Refuse a map if the URLs of its sources take more bytes'
-complete -c smap-trace -x -l source-prefix -d 'Write TO for FROM at the start of a source\'s URL'
-complete -c smap-trace -r -F -s o -d 'Write to a file, which changes only when all is written'
+complete -c smap-trace -s h -l help -d 'Print help'
+# end of what tools/options writes
 complete -c smap-trace -n '__smap_trace_has_url' -f -a '(__smap_trace_maps)'
 
 # Whether the word that is completed has a =. Without one it is a folder or a log, which fish completes itself.

@@ -3,8 +3,9 @@
 # bash-completion loads this file once one of them is completed; without that package, `. smap.bash` in ~/.bashrc
 # does.
 
-# The options of each command. tests/rows/completion.rows compares these lines with --help, and
-# tests/library/event_lines.py that of smap-events.
+# The options of each command. Those of smap-trace, smap-maps and smap-view are written by tools/options;
+# tests/rows/completion.rows compares those of smap with --help, and tests/library/event_lines.py that of
+# smap-events.
 _smap_options='
 smap: --version --help
 smap check: --help
@@ -14,15 +15,35 @@ smap lookup: --help
 smap respell: --help
 smap scripts: --help
 smap translate: --hide-ignored --anywhere --ignore-query --help
-smap-trace: --anywhere --ignore-query --hide-ignored --skip-broken --check-all --list --context --url-bytes --source-prefix --verbose --version --help
-smap-view: --base --url-bytes --sizes --budget --version --help
 smap-events: --no-raw --context --version --help
+smap-trace: --anywhere --hide-ignored --skip-broken --check-all --list --context --url-bytes --source-prefix --verbose --version --help
 smap-maps: --version --help
-smap-maps check: --base --jobs --url-bytes --json --version --help
-smap-maps tidy: --base --jobs --url-bytes --json --absolute --relative --write --drop --diff --version --help
-smap-maps flatten: --base --jobs --url-bytes --json --write --drop --diff --version --help
-smap-maps lint: --base --jobs --url-bytes --format --rule --min-mapped --version --help
-smap-maps repair: --base --jobs --url-bytes --write --version --help
+smap-maps check: --base --json --url-bytes --version --help
+smap-maps tidy: --base --absolute --relative --write --drop --diff --json --url-bytes --version --help
+smap-maps flatten: --base --write --drop --diff --json --url-bytes --version --help
+smap-maps lint: --format --rule --min-mapped --url-bytes --version --help
+smap-maps repair: --base --write --url-bytes --version --help
+smap-view: --base --url-bytes --sizes --budget --version --help
+'
+
+# What the values of options are: FILE, words to choose from, or what can't be completed. Written in the same
+# way.
+_smap_values='
+smap-events --context:
+smap-trace --context:
+smap-trace --url-bytes:
+smap-trace --source-prefix:
+smap-trace -o: FILE
+smap-maps --base:
+smap-maps --format: text gnu github sarif junit json
+smap-maps --rule:
+smap-maps --min-mapped:
+smap-maps --url-bytes:
+smap-view --base:
+smap-view --url-bytes:
+smap-view -o: FILE
+smap-view --sizes: table tsv json
+smap-view --budget: FILE
 '
 
 # Writes what a program takes next: the options of one of its commands, or with one argument its commands.
@@ -34,6 +55,15 @@ _smap_words() {
         *) [[ $line == "$1${2:+ $2}: "* ]] && echo "${line#*: }" ;;
         esac
     done <<<"$_smap_options"
+}
+
+# Writes what the value of an option of a program is. It fails where the word is no option with a value.
+_smap_value() {
+    local line
+    while IFS= read -r line; do
+        [[ $line != "$1 $2:"* ]] || { echo "${line#*:}" && return; }
+    done <<<"$_smap_values"
+    return 1
 }
 
 # Splits the line before the cursor into `words`, without their quotes, and sets `quote` to the quote that is
@@ -146,15 +176,26 @@ _smap_files() {
 }
 
 _smap() {
-    local program=${1##*/} piece=$2 words quote kept word before command='' last i
+    local program=${1##*/} piece=$2 words quote kept word before value command='' last i
     COMPREPLY=()
     _smap_split "$piece"
     last=$((${#words[@]} - 1))
+    # `smap trace` and the others are the programs of that name, and lint and repair commands of smap-maps.
+    if [[ $program == smap && $last -gt 1 ]]; then
+        case ${words[1]} in
+        trace | maps | view)
+            program=smap-${words[1]}
+            words=("${words[@]:1}")
+            ((last--))
+            ;;
+        lint | repair) program=smap-maps ;;
+        esac
+    fi
     word=${words[last]}
     before=${words[last - 1]}
     if [[ $program == smap || $program == smap-maps ]]; then
         for ((i = 1; i < last; i++)); do
-            if [[ ${words[i]} == --base || ${words[i]} == --jobs || ${words[i]} == --url-bytes ]]; then
+            if _smap_value "$program" "${words[i]}" >/dev/null; then
                 ((i++))
             elif [[ ${words[i]} == [\<\>] ]]; then
                 break
@@ -172,27 +213,18 @@ _smap() {
         esac
         return
         ;;
-    *:'>' | smap-trace:-o)
+    *:'>')
         _smap_files "$word" '' any
         return
         ;;
-    smap-maps:--format)
-        _smap_choose 'text gnu github sarif junit json' "$word"
-        return
-        ;;
-    smap-maps:--base | smap-maps:--jobs | smap-view:--base) return ;;
-    *:--url-bytes) return ;;
-    smap-view:--sizes)
-        _smap_choose 'table tsv json' "$word"
-        return
-        ;;
-    smap-view:--budget | smap-view:-o)
-        _smap_files "$word" '' any
-        return
-        ;;
-    smap-maps:--rule | smap-maps:--min-mapped | smap-maps:--url-bytes) return ;;
-    smap-trace:--context | smap-trace:--source-prefix | smap-events:--context) return ;;
     esac
+    if value=$(_smap_value "$program" "$before"); then
+        case $value in
+        *FILE) _smap_files "$word" '' any ;;
+        *) _smap_choose "$value" "$word" ;;
+        esac
+        return
+    fi
     case $program:$word in
     *:-*) _smap_choose "$(_smap_words "$program" "$command")" "$word" ;;
     smap-trace:*=*)
@@ -205,7 +237,9 @@ _smap() {
     smap-view:*) _smap_files "$word" '' "$([[ $before != *.map ]] || echo any)" ;;
     *)
         if [[ -z $command ]]; then
-            _smap_choose "$(_smap_words "$program")" "$word"
+            value=$(_smap_words "$program")
+            [[ $program != smap ]] || value+=' trace maps lint repair view'
+            _smap_choose "$value" "$word"
         elif [[ $program == smap-maps ]]; then
             _smap_files "$word" ''
         fi

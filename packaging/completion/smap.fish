@@ -12,6 +12,23 @@ complete -c smap -n __fish_use_subcommand -a respell -d 'Re-encode a bare mappin
 complete -c smap -n __fish_use_subcommand -a translate -d 'Translate a stack trace'
 complete -c smap -n __fish_use_subcommand -a scripts -d 'Count the scripts that a stack trace names'
 
+complete -c smap -n __fish_use_subcommand -a trace -d 'Translate the stack traces of a log'
+complete -c smap -n __fish_use_subcommand -a maps -d 'Check, tidy, flatten, lint or repair maps'
+complete -c smap -n __fish_use_subcommand -a lint -d 'Say why the maps of a build don\'t work'
+complete -c smap -n __fish_use_subcommand -a repair -d 'Mend maps that are refused for small faults'
+complete -c smap -n __fish_use_subcommand -a view -d 'Make a page of a map'
+
+# These are the programs of that name, and lint and repair commands of smap-maps.
+function __smap_as
+    set -l words (commandline -opc)[3..]
+    complete -C (string join ' ' -- $argv (string escape -- $words) (commandline -ct))
+end
+complete -c smap -n '__fish_seen_subcommand_from trace' -a '(__smap_as smap-trace)'
+complete -c smap -n '__fish_seen_subcommand_from maps' -a '(__smap_as smap-maps)'
+complete -c smap -n '__fish_seen_subcommand_from lint' -a '(__smap_as smap-maps lint)'
+complete -c smap -n '__fish_seen_subcommand_from repair' -a '(__smap_as smap-maps repair)'
+complete -c smap -n '__fish_seen_subcommand_from view' -a '(__smap_as smap-view)'
+
 complete -c smap -n '__fish_seen_subcommand_from tidy' -l relative -d 'Write source URLs relative to BASE'
 complete -c smap -n '__fish_seen_subcommand_from translate' -l hide-ignored -d 'Leave out frames in ignored sources'
 complete -c smap -n '__fish_seen_subcommand_from translate' -l anywhere -d 'Find positions anywhere in a line'

@@ -212,12 +212,21 @@ class BindingsTest(unittest.TestCase):
         lacks = "has, in a version that was released, what smap.h doesn't declare: smap_version"
         self.assert_asks(VERSIONS, lacks)
         self.change(HEADER, "uint32_t smap_number(void);", f"{declared}\nuint32_t smap_number(void);")
-        (self.top / "VERSION").write_text(f"{last}.1\n")
-        self.assert_asks(VERSIONS, f"ends with version {last}, which was released: begin the next one there")
+        for number in (f"{last}.0", f"{last}.1-dev", f"{last}.1"):
+            (self.top / "VERSION").write_text(f"{number}\n")
+            self.assert_asks(VERSIONS, f"ends with version {last}, which was released: begin the next one there")
         with (self.top / VERSIONS).open("a") as file:
             file.write(f"\nSMAP_100.0 {{\nglobal:\n}} SMAP_{last};\n")
         self.assert_writes([PYTHON, CRATE, WRAPPER, VERSIONS])
         self.assertIn("SMAP_100.0 {\nglobal:\n    smap_number;\n}", self.read(VERSIONS))
+
+    def test_a_version_grows_until_its_release(self):
+        last = self.read(VERSIONS).rsplit("SMAP_", 2)[1].split(" ")[0]
+        (self.top / "VERSION").write_text(f"{last}.0-dev\n")
+        declared = "uint32_t smap_version(void);"
+        self.change(HEADER, declared, f"{declared}\nuint32_t smap_number(void);")
+        self.assert_writes([PYTHON, CRATE, WRAPPER, VERSIONS])
+        self.assertIn("    smap_number;\n", self.read(VERSIONS).split(f"SMAP_{last} ")[1])
 
 
 if __name__ == "__main__":

@@ -12,7 +12,7 @@ TESTS = Path(__file__).resolve().parent
 TOP = TESTS.parent.parent
 PROGRAM = TESTS.parent.parent / "capi" / "python" / "smap-events"
 PAGE = TOP / "packaging" / "man" / "smap-events.1"
-VERSION = (TOP / "VERSION").read_text().strip()
+VERSION = subprocess.check_output([TOP / "tools" / "version", "python"], text=True).strip()
 
 # The program finds the module beside it, and leaves no files there.
 PATHS = [str(PROGRAM.parent), *filter(None, [os.environ.get("PYTHONPATH")])]

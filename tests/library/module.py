@@ -5,6 +5,7 @@ import copy
 import ctypes
 import pickle
 import re
+import subprocess
 import sys
 import threading
 import unittest
@@ -19,7 +20,7 @@ from smap import _declarations as declarations  # noqa: E402
 from smap import _library as library  # noqa: E402
 
 PLACES = Path(__file__).resolve().parent / "places.h"
-VERSION = PLACES.parent.parent.parent / "VERSION"
+VERSION = PLACES.parent.parent.parent / "tools" / "version"
 BASE = "http://h/m/out.js.map"
 TEXT = (
     b'{"version":3,"file":"out.js","sources":["a.js","b.js",null],"sourcesContent":["x\\ny",null],'
@@ -258,8 +259,9 @@ class ModuleTest(unittest.TestCase):
             thread.join()
         self.assertEqual(wrong, [])
 
-    def test_the_version_is_that_of_the_release(self):
-        self.assertEqual([smap.version(), smap.__version__], [VERSION.read_text().strip()] * 2)
+    def test_the_versions_are_those_of_the_library_and_of_the_package(self):
+        said = [subprocess.check_output([VERSION, form], text=True).strip() for form in ("library", "python")]
+        self.assertEqual([smap.version(), smap.__version__], said)
 
     def test_counts_show_their_numbers(self):
         wanted = r"^Counts\(sources=3, listed_sources=3, names=1, mappings=4, lines=2\b.*\)$"

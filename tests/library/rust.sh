@@ -13,7 +13,7 @@ fn main() {
 }
 END
     rustc --edition 2024 -D warnings -L "$usr/lib" -l smap -o "$work/module/main" "$work/module/main.rs" &&
-        [ "$(LD_LIBRARY_PATH=$usr/lib "$work/module/main")" = "$(cat VERSION)" ]
+        [ "$(LD_LIBRARY_PATH=$usr/lib "$work/module/main")" = "$(tools/version library)" ]
 }
 
 # cargo without a network, over a copy of the crate that was installed, since it writes there: variables, and
@@ -56,7 +56,7 @@ END
     echo 'fn main() { println!("{}", unsafe { smap_sys::smap_version() }) }' >"$work/dependent/src/main.rs"
     found=$(cd "$work/dependent" &&
         SMAP_LIB_DIR=$usr/lib CARGO_TARGET_DIR=$work/target cargo run -q --offline) &&
-        [ "$found" = "$(awk -F. '{ print $1 * 10000 + $2 * 100 + $3 }' "$top/VERSION")" ]
+        [ "$found" = "$(tools/version library | awk -F. '{ print $1 * 10000 + $2 * 100 + $3 }')" ]
 }
 
 test_installed_rust() {

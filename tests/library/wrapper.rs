@@ -177,6 +177,8 @@ fn main() -> Result<(), Error> {
     let other = map.share()?;
     let found = std::thread::spawn(move || other.lookup(0, 5)).join().unwrap();
     assert_eq!(found, map.lookup(0, 5));
-    assert_eq!(smap::version(), (0, 2, 0));
+    let (major, minor, patch) = smap::version();
+    let numbers = include_str!("../../VERSION").trim_end().trim_end_matches("-dev");
+    assert_eq!(format!("{major}.{minor}.{patch}"), numbers);
     Ok(())
 }

@@ -56,5 +56,5 @@ builds_container() {
     command=$(sed -n '/^RUN /,/[^\\]$/p' packaging/Containerfile | sed 's/^RUN //')
     # shellcheck disable=SC2086
     (cd "$dist" && as_root cp $files "$root/tmp") && [ -n "$command" ] && in_root sh -c "$command" &&
-        [ "$(in_root smap-maps --version)" = "smap $version" ]
+        [ "$(in_root smap-maps --version)" = "$says" ]
 }

@@ -30,6 +30,12 @@ smap-maps --base http://h/m/ ch|smap-maps --base http://h/m/ check
 smap-maps check d|smap-maps check dist/
 smap-view --ba|smap-view --base
 smap-view d|smap-view dist/
+smap vi|smap view
+smap trace --li|smap trace --list
+smap trace dist/ cr|smap trace dist/ crash.log
+smap maps tidy --ba|smap maps tidy --base
+smap lint --fo|smap lint --format
+smap repair d|smap repair dist/
 END
 }
 

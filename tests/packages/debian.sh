@@ -39,7 +39,7 @@ unpacks_in_root() {
 
 says_number() {
     for program in smap smap-trace smap-maps smap-view; do
-        [ "$(in_root "$program" --version)" = "smap $version" ] || return 1
+        [ "$(in_root "$program" --version)" = "$says" ] || return 1
     done
 }
 
@@ -63,7 +63,7 @@ says_processor_is_old() {
     for file in "$root"/usr/libexec/*/isa-support/test-*; do
         printf '#!/bin/sh\nexit 1\n' | as_root tee "$file" >"$work/tester" || return 1
     done
-    ! apt install "/try/smap_${version}_amd64.deb" >"$work/said" 2>&1 || return 1
+    ! apt install "/try/smap_${debian_version}_amd64.deb" >"$work/said" 2>&1 || return 1
     cat "$work/said"
     grep "^This machine doesn't support" "$work/said" && [ ! -e "$root/usr/bin/smap" ] &&
         apt purge --autoremove isa-support
@@ -72,7 +72,7 @@ says_processor_is_old() {
 installs_all() {
     contents >"$work/before"
     # shellcheck disable=SC2046
-    apt install $(cd "$work/try" && printf '/try/%s\n' *"_${version}_"*.deb)
+    apt install $(cd "$work/try" && printf '/try/%s\n' *"_${debian_version}_"*.deb)
 }
 
 runs_c_program() {
@@ -83,7 +83,7 @@ runs_c_program() {
 
 runs_python_program() {
     in_root sh -c 'cd /try/py && python3 program.py >written && diff program.py.out written' &&
-        [ "$(in_root smap-events --version)" = "smap-events $version" ] &&
+        [ "$(in_root smap-events --version)" = "smap-events $python_version" ] &&
         [ "$(in_root man -w smap-events)" = /usr/share/man/man1/smap-events.1.gz ]
 }
 
@@ -104,12 +104,12 @@ is_whole() {
 
 # Makes packages of the next number out of these, with one file more and one less, and upgrades to them.
 upgrades() {
-    next=${version%.*}.$((${version##*.} + 1))
+    next=${library_version%.*}.$((${library_version##*.} + 1))
     mkdir -p "$work/next"
     for package in $debs; do
         rm -rf "$work/next/tree"
         dpkg-deb -R "$package" "$work/next/tree" &&
-            sed -i "s/\<$version\>/$next/g" "$work/next/tree/DEBIAN/control" &&
+            sed -i "s/\<$debian_version\>/$next/g" "$work/next/tree/DEBIAN/control" &&
             touch "$work/next/tree/usr/share/doc/$(dpkg-deb -f "$package" Package)/next" &&
             rm -f "$work/next/tree/usr/share/bash-completion/completions/smap" &&
             dpkg-deb --root-owner-group -b "$work/next/tree" "$work/next" || return 1

@@ -15,7 +15,7 @@ archive_compiles() {
     put_program c "$work/compiled" || return 1
     (
         cd "$work/compiled" && PKG_CONFIG_PATH=$usr/lib/pkgconfig &&
-            export PKG_CONFIG_PATH && pkg-config --cflags --libs "smap = $version" >words &&
+            export PKG_CONFIG_PATH && pkg-config --cflags --libs "smap = $library_version" >words &&
             eval "cc -o program program.c $(cat words)" &&
             LD_LIBRARY_PATH=$usr/lib ./program <out.js.map >written && diff program.c.out written
     )
@@ -28,7 +28,8 @@ installs_wheel() {
     (
         cd "$dist" && PATH="$venv/bin:$PATH" PIP_NO_INDEX=1 PIP_DISABLE_PIP_VERSION_CHECK=1 sh "$work/line"
     ) && "$venv/bin/python" -m pip check &&
-        [ "$(cd / && "$venv/bin/python" -c 'import smap; print(smap.version())')" = "$version" ]
+        [ "$(cd / && "$venv/bin/python" -c 'import smap; print(smap.__version__, smap.version())')" = \
+            "$python_version $library_version" ]
 }
 
 wheel_runs_program() {
@@ -40,7 +41,7 @@ wheel_runs_program() {
 wheel_runs_events() {
     page=$venv/share/man/man1/smap-events.1
     cmp packaging/man/smap-events.1 "$page" && mkdir "$work/events" || return 1
-    sed -n '/^\.Sh EXAMPLES/,/^\.Ed/p' "$page" | sed -e '1,/^\.Bd/d' -e '/^\.Ed/d' >"$work/events/example"
+    sed -n '/^\.Ss Examples/,/^\.Ed/p' "$page" | sed -e '1,/^\.Bd/d' -e '/^\.Ed/d' >"$work/events/example"
     (
         cd "$work/events" && sed -n 's/^\$ //p' example >commands && grep -v '^\$ ' example >wanted &&
             PATH="$venv/bin:$PATH" sh ./commands >written 2>&1 && diff wanted written
@@ -63,11 +64,11 @@ programs_run() {
     put_example "$work/programs-example" || return 1
     for program in smap smap-trace smap-maps smap-view; do
         cmp "packaging/man/$program.1" "$venv/share/man/man1/$program.1" || return 1
-        [ "$(PATH=/nowhere "$venv/bin/$program" --version)" = "smap $version" ] || return 1
+        [ "$(PATH=/nowhere "$venv/bin/$program" --version)" = "$says" ] || return 1
     done
     (
         cd "$work/programs-example" && PATH="$venv/bin:$PATH" sh ./command >written && diff wanted written &&
-            [ "$(PATH=/nowhere "$venv/bin/python" -m smap --version)" = "smap $version" ] || exit 1
+            [ "$(PATH=/nowhere "$venv/bin/python" -m smap --version)" = "$says" ] || exit 1
         "$venv/bin/smap-view" dist/cart.js.map >page.html && grep -q src/cart.ts page.html || exit 1
         printf x | "$venv/bin/smap" check 'http://h/a b'
         [ "$?" -eq 1 ] || exit 1
@@ -88,11 +89,11 @@ sdist_makes_wheel() {
         ! "$builder" -c 'import build, hatchling' 2>/dev/null || break
     done
     "$builder" -m build --no-isolation --skip-dependency-check --wheel --outdir "$work/sdist" \
-        "$work/sdist/smap-$version" || return 1
-    pure=$work/sdist/smap-$version-py3-none-any.whl
+        "$work/sdist/smap-$python_version" || return 1
+    pure=$work/sdist/smap-$python_version-py3-none-any.whl
     "$venv/bin/python" -m pip install --no-index --disable-pip-version-check "$pure" && (
         cd / && [ "$(SMAP_LIBRARY="$lib/libsmap.so.0" "$venv/bin/python" -c 'import smap; print(smap.__version__)')" = \
-            "$version" ] && ! "$venv/bin/python" -c 'import smap' 2>"$work/said" &&
+            "$python_version" ] && ! "$venv/bin/python" -c 'import smap' 2>"$work/said" &&
             grep "ImportError: smap can't load its library: " "$work/said"
     )
 }
@@ -137,7 +138,7 @@ installs_npm() {
     mkdir "$project" "$work/npm-home" && cp "$npm_tgz" "$npm_platform_tgz" "$project" &&
         echo '{"private":true}' >"$project/package.json" && install_line 'npm install' >"$work/line" &&
         with_npm sh "$work/line" &&
-        [ "$(cd "$project" && node -p "require('smap').version")" = "$version" ]
+        [ "$(cd "$project" && node -p "require('smap').version")" = "$library_version" ]
 }
 
 # The programs of its manual, as they stand in what was installed, and a stack with smap/register.
@@ -165,7 +166,7 @@ npm_has_commands() {
         export PATH
         cd "$project/example" && sh ./command >written && diff wanted written || return 1
         for program in smap smap-trace smap-maps smap-view; do
-            [ "$($program --version)" = "smap $version" ] || return 1
+            [ "$($program --version)" = "$says" ] || return 1
         done
         smap-view dist/cart.js.map >page.html && grep -q src/cart.ts page.html || return 1
         echo '{"version":4}' | smap check http://h/x.map
@@ -189,7 +190,7 @@ npm_leaves_platform_out() {
             grep -F "at f ($PWD/a.ts:3:7)" written) || return 1
     (cd "$project" && rm -rf node_modules package-lock.json && echo '{"private":true}' >package.json) &&
         with_npm npm install "$@" "./${npm_tgz##*/}" && ! [ -e "$project/node_modules/smap-linux-x64" ] &&
-        with_npm npm ci && [ "$(cd "$project" && node -p "require('smap').version")" = "$version" ]
+        with_npm npm ci && [ "$(cd "$project" && node -p "require('smap').version")" = "$library_version" ]
 }
 
 removes_npm() {
@@ -218,9 +219,9 @@ installs_yarn() {
 yarn_has_all() {
     modules=$yarn_project/node_modules
     for program in smap smap-trace smap-maps smap-view; do
-        [ "$("$modules/.bin/$program" --version)" = "smap $version" ] || return 1
+        [ "$("$modules/.bin/$program" --version)" = "$says" ] || return 1
     done
-    [ "$(cd "$yarn_project" && node -p "require('smap').version")" = "$version" ]
+    [ "$(cd "$yarn_project" && node -p "require('smap').version")" = "$library_version" ]
 }
 
 removes_yarn() {

@@ -4,8 +4,8 @@
 
 dist=$work/dist
 archive=smap-$version-linux-x86_64
-debs="$dist/smap_${version}_amd64.deb $dist/libsmap0_${version}_amd64.deb
-    $dist/libsmap-dev_${version}_amd64.deb $dist/python3-smap_${version}_all.deb"
+debs="$dist/smap_${debian_version}_amd64.deb $dist/libsmap0_${debian_version}_amd64.deb
+    $dist/libsmap-dev_${debian_version}_amd64.deb $dist/python3-smap_${debian_version}_all.deb"
 
 makes() {
     SMAP=$SMAP SMAP_CAPI=$lib tools/build-packages "$dist"
@@ -13,7 +13,7 @@ makes() {
 
 # The packages for Node are made where Node's headers are, and those for npm where npm is.
 counts_node() {
-    node_deb=$dist/node-smap_${version}_amd64.deb
+    node_deb=$dist/node-smap_${debian_version}_amd64.deb
     npm_tgz=$dist/smap-$version.tgz
     npm_platform_tgz=$dist/smap-linux-x64-$version.tgz
     [ ! -e "$node_deb" ] || debs="$debs $node_deb"
@@ -27,14 +27,14 @@ counts_node() {
 counts_python() {
     wheel=$(find "$dist" -name 'smap-*.whl')
     programs=$(find "$dist" -name 'smap_programs-*.whl')
-    sdist=$(find "$dist" -name "smap-$version.tar.gz")
+    sdist=$(find "$dist" -name "smap-$python_version.tar.gz")
     [ -n "$wheel" ] ||
         leave_out 'the wheels' "$(sed -n 's/^build-packages: the wheels are left out: //p' "$work/log" | sed 1q)"
 }
 
 # Makes them once more out of the source package, in another folder, at another time, with other settings.
 makes_the_same() {
-    dpkg-source --no-check -x "$dist/smap_$version.dsc" "$work/a copy" && rm -r "$work/a copy/debian" || return 1
+    dpkg-source --no-check -x "$dist/smap_$debian_version.dsc" "$work/a copy" && rm -r "$work/a copy/debian" || return 1
     mkdir "$work/a folder" && cp "$SMAP" "$work/a folder/program" && cp -r "$lib" "$work/a folder/library" || return 1
     (
         umask 077
@@ -46,7 +46,7 @@ makes_the_same() {
 
 # Debian's own tool makes the Debian packages of it.
 source_makes_the_same() {
-    mkdir "$work/source" && dpkg-source --no-check -x "$dist/smap_$version.dsc" "$work/source/smap" || return 1
+    mkdir "$work/source" && dpkg-source --no-check -x "$dist/smap_$debian_version.dsc" "$work/source/smap" || return 1
     profiles=
     [ -e "$node_deb" ] || profiles=pkg.smap.nonode
     (
@@ -100,23 +100,25 @@ names_no_folder() {
     ! grep -r -a -F -f "$work/folders" -l --exclude=OUTPUT.md "$work/unpacked"
 }
 
-# Everything in the Debian packages, their source and the packages for npm belongs to root, and is of the day of
-# the release.
-belongs_to_root() {
+# Everything in the Debian packages, their source and the packages for npm belongs to root, and is of the time of
+# the sources.
+belongs_to_root() (
+    TZ=UTC
+    export TZ
     for package in "$dist"/*.deb; do
         dpkg-deb -c "$package"
     done >"$work/contents" || return 1
-    tar -tvJf "$dist/smap_$version.tar.xz" | sed 's| 0/0 | root/root |' >>"$work/contents"
+    tar -tvJf "$dist/smap_$debian_version.tar.xz" | sed 's| 0/0 | root/root |' >>"$work/contents"
     [ ! -e "$npm_tgz" ] || for file in "$npm_tgz" "$npm_platform_tgz"; do
         tar -tvzf "$file" | sed 's| 0/0 | root/root |' >>"$work/contents"
     done
-    day=$(sed -n "s/^## \[$version\] - //p" CHANGELOG.md)
-    [ -s "$work/contents" ] && ! grep -v " root/root .* $day " "$work/contents"
-}
+    time=$(date -d "@$(tools/version time)" '+%Y-%m-%d %H:%M')
+    [ -s "$work/contents" ] && ! grep -v " root/root .* $time " "$work/contents"
+)
 
 # Every Debian package in a folder and their source name this maintainer, and so do the changelogs.
 says_maintainer() {
-    grep -x "Maintainer: $2" "$1/smap_$version.dsc" || return 1
+    grep -x "Maintainer: $2" "$1/smap_$debian_version.dsc" || return 1
     for package in "$1"/*.deb; do
         name=$(dpkg-deb -f "$package" Package)
         [ "$(dpkg-deb -f "$package" Maintainer)" = "$2" ] || return 1
@@ -148,25 +150,41 @@ refuses_maintainer() {
     done
 }
 
+# Each in its form; and what comes before a release is replaced by it.
 numbers() {
+    dpkg --compare-versions "$debian_version" le "$library_version" || return 1
     for package in $debs; do
-        [ "$(dpkg-deb -f "$package" Version)" = "$version" ] || return 1
+        [ "$(dpkg-deb -f "$package" Version)" = "$debian_version" ] || return 1
         [ "$(dpkg-deb -f "$package" Installed-Size)" -gt 0 ] || return 1
     done
-    grep -x "Version: $version" "$dist/smap_$version.dsc" || return 1
+    grep -x "Version: $debian_version" "$dist/smap_$debian_version.dsc" || return 1
     [ ! -e "$npm_tgz" ] || for folder in npm npm-platform; do
         grep -x "  \"version\": \"$version\"," "$work/unpacked/$folder/package/package.json" || return 1
     done
-    grep -x "Version: $version" "$work/unpacked/libsmap-dev/usr/lib/x86_64-linux-gnu/pkgconfig/smap.pc" &&
-        grep -x "Version: $version" "$work/unpacked/archive/$archive/lib/pkgconfig/smap.pc" || return 1
-    module=usr/lib/python3/dist-packages/smap-$version.dist-info
-    set -- "$work/unpacked/python3-smap/$module/METADATA"
-    [ -z "$wheel" ] || set -- "$@" "$work/unpacked/wheel/smap-$version.dist-info/METADATA" \
-        "$work/unpacked/programs/smap_programs-$version.dist-info/METADATA" \
-        "$work/unpacked/sdist/smap-$version/PKG-INFO"
-    for file in "$@"; do
-        grep -x "Version: $version" "$file" || return 1
+    for folder in libsmap-dev/usr/lib/x86_64-linux-gnu "archive/$archive/lib"; do
+        grep -x "Version: $library_version" "$work/unpacked/$folder/pkgconfig/smap.pc" || return 1
     done
+    module=usr/lib/python3/dist-packages/smap-$python_version.dist-info
+    set -- "python3-smap/$module/METADATA"
+    [ -z "$wheel" ] || set -- "$@" "wheel/smap-$python_version.dist-info/METADATA" \
+        "programs/smap_programs-$python_version.dist-info/METADATA" "sdist/smap-$python_version/PKG-INFO"
+    for file in "$@"; do
+        grep -x "Version: $python_version" "$work/unpacked/$file" || return 1
+    done
+}
+
+# What the programs say has the commit before a release; the wheel has that of the archive. The source package has
+# the commit in a file.
+programs_say_commit() {
+    [ -z "$wheel" ] ||
+        cmp "$work/unpacked/programs/smap_programs/smap" "$work/unpacked/archive/$archive/bin/smap" || return 1
+    set -- smap/usr/bin/smap "archive/$archive/bin/smap"
+    [ ! -e "$npm_platform_tgz" ] || set -- "$@" npm-platform/package/bin/smap
+    for program in "$@"; do
+        [ "$("$work/unpacked/$program" --version)" = "$says" ] || return 1
+    done
+    tar -xOJf "$dist/smap_$debian_version.tar.xz" --wildcards '*/COMMIT' >"$work/commit" 2>/dev/null
+    tools/version commit | diff - "$work/commit"
 }
 
 # The greatest version of the C library that a symbol of these files wants: N of 2.N.
@@ -176,9 +194,9 @@ greatest_glibc() {
 
 wheels_name_c_library() {
     greatest=$(greatest_glibc "$work/unpacked/wheel/smap/libsmap.so.0") &&
-        [ "$wheel" = "$dist/smap-$version-py3-none-manylinux_2_${greatest}_x86_64.whl" ] &&
+        [ "$wheel" = "$dist/smap-$python_version-py3-none-manylinux_2_${greatest}_x86_64.whl" ] &&
         greatest=$(greatest_glibc "$work/unpacked/programs/smap_programs/smap") &&
-        [ "$programs" = "$dist/smap_programs-$version-py3-none-manylinux_2_${greatest}_x86_64.whl" ]
+        [ "$programs" = "$dist/smap_programs-$python_version-py3-none-manylinux_2_${greatest}_x86_64.whl" ]
 }
 
 # README says what the program and the library want together.
@@ -191,7 +209,7 @@ readme_names_c_library() {
 # The first release whose library has versions of names, without which no program starts that wants them: this
 # one, until that is made.
 first_with_versions() {
-    if dpkg --compare-versions "$version" lt 0.3.0; then echo "$version"; else echo 0.3.0; fi
+    if dpkg --compare-versions "$debian_version" lt 0.3.0; then echo "$debian_version"; else echo 0.3.0; fi
 }
 
 # The symbols file has each name of the library, with its version and the number of that release.
@@ -274,6 +292,7 @@ test_release() {
     try 'nothing packed names a folder of this machine' names_no_folder
     try 'what the packages hold is root'\''s, and of that day' belongs_to_root
     try 'all that is made has the number of VERSION' numbers
+    try 'the programs say it, and before a release the commit' programs_say_commit
     try 'the Debian packages name their maintainer' names_maintainer
     try 'what is no maintainer is refused' refuses_maintainer
     [ -z "$wheel" ] || try 'the wheels name the C library that they want' wheels_name_c_library

@@ -71,7 +71,7 @@ compare() {
 refused_by_maps() {
     for command in check tidy flatten lint repair; do
         options_in "$1" "smap-maps $command" | while read -r option; do
-            smap-maps "$command" "$option" 2>&1 | grep -e 'no such option' -e ' has no '
+            smap-maps "$command" "$option" 2>&1 | grep -e 'unexpected argument' -e ' has no '
         done
     done
     :

@@ -14,7 +14,7 @@ options_of_help() {
 # Runs the example of a page: its lines that begin with `$ ` as commands, in the folder $work. Says where
 # what they write isn't what the page says, and how many there were.
 run_example() {
-    sed -n '/^\.Sh EXAMPLES/,$p' "$1" | sed -e '1,/^\.Bd/d' -e '/^\.Ed/,$d' -e 's/\\e/\\/g' >example
+    sed -n '/^\.Ss Examples/,$p' "$1" | sed -e '1,/^\.Bd/d' -e '/^\.Ed/,$d' -e 's/\\e/\\/g' >example
     : >commands
     : >wanted
     while IFS= read -r line; do

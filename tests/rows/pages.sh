@@ -42,7 +42,7 @@ END
 stand_in_for_repository() {
     stand_in_for_rt
     mkdir -p temp/crates/smap temp/crates/smap_view_run temp/capi temp/packaging
-    cp -R "$rows/../../tools" "$rows/../../docs" temp
+    cp -R "$rows/../../tools" "$rows/../../docs" "$rows/../../VERSION" temp
     cp "$rows/../../crates/smap_view_run/smap-view.html" temp/crates/smap_view_run
     cp -R "$rows/../../packaging/completion" "$rows/../../packaging/man" temp/packaging
     for name in cpp python rust examples; do

@@ -151,6 +151,13 @@ def fields_table(header):
 # ---- the names that the shared object has
 
 
+def is_released(version):
+    """Whether there was a release of this version, whose first is its number and a 0."""
+    number, before, _ = text_of("VERSION").strip().partition("-dev")
+    first, last = ([int(part) for part in text.split(".")] for text in (f"{version}.0", number))
+    return first < last or first == last and not before
+
+
 def version_script(header):
     """the names that are new, in the last version"""
     path = "capi/libsmap.versions"
@@ -164,7 +171,6 @@ def version_script(header):
     new = "".join(f"    {name};\n" for name in names if name not in had)
     start = f"SMAP_{version} {{\nglobal:\n"
     text = replaced(path, rf"^{re.escape(start)}[^}}]*", start + new)
-    released = [int(part) for part in text_of("VERSION").split(".")[:2]]
-    if text != text_of(path) and [int(part) for part in version.split(".")] <= released:
+    if text != text_of(path) and is_released(version):
         raise Refused(f"{path} ends with version {version}, which was released: begin the next one there")
     return text

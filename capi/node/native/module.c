@@ -3,7 +3,7 @@
 
 #include "smap_node.h"
 
-/* version(): the library's, such as 0.2.0 */
+/* version(): the library's, such as 0.3.0 */
 static napi_value do_version(napi_env env, napi_callback_info info)
 {
     char text[48];

@@ -34,8 +34,8 @@ __all__ += ["Store", "StoreCounts", "TraceCounts", "alike", "code_point", "data_
 __all__ += ["frame", "named_scripts", "normal_form", "resolve", "respell", "script_link", "script_name"]
 __all__ += ["script_url", "translate", "version"]
 
-# The module and the library are those of one release.
-__version__ = version()
+# That of the package; `version` is the library's, which has three numbers alone.
+__version__ = "0.3.0.dev0"
 
 # The errors' names before 0.3.0.
 Refused, Repeated, OutsideFolder = RefusedError, RepeatedError, OutsideFolderError

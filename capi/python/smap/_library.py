@@ -261,7 +261,7 @@ def how_bits(hide: bool, anywhere: bool, ignore_query: bool) -> int:
 
 
 def version() -> str:
-    """The library's version, as "0.2.0"."""
+    """The library's version, three numbers as "0.3.0"; `__version__` is the module's."""
     n: int = lib.smap_version()
     return f"{n // 10000}.{n // 100 % 100}.{n % 100}"
 

@@ -39,9 +39,10 @@ fn without_escapes(path: &str) -> String {
 /// The folder that pkg-config knows, of this version of the library or a later one.
 fn known_folder() -> Result<PathBuf, String> {
     let program = env::var_os("PKG_CONFIG").unwrap_or_else(|| "pkg-config".into());
-    let wanted = concat!("smap >= ", env!("CARGO_PKG_VERSION"));
+    let (major, minor) = (env!("CARGO_PKG_VERSION_MAJOR"), env!("CARGO_PKG_VERSION_MINOR"));
+    let wanted = format!("smap >= {major}.{minor}.{}", env!("CARGO_PKG_VERSION_PATCH"));
     let run = |word: &str| {
-        let output = Command::new(&program).args(["--print-errors", word, wanted]).output();
+        let output = Command::new(&program).args(["--print-errors", word, &wanted]).output();
         match output {
             Err(error) => Err(format!("{}: {error}", program.to_string_lossy())),
             Ok(output) if output.status.success() => Ok(output.stdout),

@@ -1,16 +1,19 @@
 //! The programs of this repository in one, each by the name that it is called by: `smap-trace`, `smap-maps`,
-//! `smap-view`, or `smap` by any other. `smap` reads its arguments as a task, runs it on the standard streams
-//! and exits with its status; what each run reads and writes is defined in `smap_tool`. Standard input is
-//! buffered there, since a bundle's headers are read byte by byte. `smap-trace` is a run of `smap_trace_run`
-//! over the file system, `smap-maps` one of `smap_maps_run`, and `smap-view` one of `smap_view_run`.
+//! `smap-view`, or `smap` by any other. `smap trace`, `smap maps` and `smap view` are the first three as
+//! well, and `smap lint` and `smap repair` are these commands of `smap-maps`. With any other command `smap`
+//! reads its arguments as a task, runs it on the standard streams and exits with its status; what each run
+//! reads and writes is defined in `smap_tool`. Standard input is buffered there, since a bundle's headers are
+//! read byte by byte. `smap-trace` is a run of `smap_trace_run` over the file system, `smap-maps` one of
+//! `smap_maps_run`, and `smap-view` one of `smap_view_run`.
 #![tactic(auto)]
 
 mod standard;
 
 use clap::Error;
 use smap_io::Device;
-use smap_machine::{Disk, System, printable};
-use smap_tool::{RunFault, WordsFault, run, status, task_of};
+use smap_map_files::printable_lines;
+use smap_system::{Disk, Kind, System, printable};
+use smap_tool::{RunFault, Task, WordsFault, run, status, task_of};
 use smap_trace_run::{Input, Output};
 use standard::{input, is_output_closed, placeholders};
 use std::alloc::{AllocError, Global};
@@ -44,57 +47,71 @@ fn texts(alloc: Global, words: &[String]) -> Result<Vec<&str>, AllocError> {
     Ok(texts)
 }
 
-/// The name that the program is called by, without its folder.
-fn name<'a>(words: &[&'a str]) -> &'a str {
-    let [name, ..] = words else {
-        return "";
+/// A program over files.
+#[derive(Clone, Copy, Debug, PartialEq, Eq)]
+enum Tool {
+    Trace,
+    Maps,
+    View,
+}
+
+impl Tool {
+    /// The name that it is installed by.
+    fn name(self) -> &'static str {
+        match self {
+            Tool::Trace => "smap-trace",
+            Tool::Maps => "smap-maps",
+            Tool::View => "smap-view",
+        }
+    }
+
+    /// The tool whose name is the last part of a path.
+    fn at(path: &str) -> Option<Tool> {
+        let name = match path.rsplit_once('/') {
+            Some((_, name)) => name,
+            None => path,
+        };
+        match name {
+            "smap-trace" => Some(Tool::Trace),
+            "smap-maps" => Some(Tool::Maps),
+            "smap-view" => Some(Tool::View),
+            _ => None,
+        }
+    }
+
+    /// The tool that a command of `smap` is, and whether the command is one of the tool's own.
+    fn of_command(command: &str) -> Option<(Tool, bool)> {
+        match command {
+            "trace" => Some((Tool::Trace, false)),
+            "maps" => Some((Tool::Maps, false)),
+            "lint" | "repair" => Some((Tool::Maps, true)),
+            "view" => Some((Tool::View, false)),
+            _ => None,
+        }
+    }
+}
+
+/// The tool that is called, if it is one, and its words. The first is the path of this program, by which what
+/// is installed with it is found.
+fn tool_of<'a>(
+    alloc: Global,
+    words: &[&'a str],
+) -> Result<Option<(Tool, Vec<&'a str>)>, AllocError> {
+    let [path, after @ ..] = words else {
+        return Ok(None);
     };
-    match name.rsplit_once('/') {
-        Some((_, name)) => name,
-        None => *name,
+    if let Some(tool) = Tool::at(path) {
+        return Ok(Some((tool, Vec::from_slice(alloc, words)?)));
     }
-}
-
-/// Runs `smap-trace`.
-fn trace<D: Disk>(rt: &HostRuntime, disk: &D, words: &[&str], input: Input<Stdin>) -> u8 {
-    let mut output = Output::new(io::writer(rt));
-    smap_trace_run::run(rt, disk, words, input, &mut output)
-}
-
-/// Runs the tool that is called by this name, over the file system.
-fn tool(rt: &HostRuntime, name: &str, words: &[&str]) -> u8 {
-    let disk = System::new(rt);
-    if is_output_closed(&disk) {
-        let _ = eprint!(rt; "{name}: cannot write: standard output is closed\n");
-        return 3;
-    }
-    let input = input(rt, &disk);
-    let held = placeholders(rt.alloc(), &disk);
-    let status = match name {
-        "smap-trace" => trace(rt, &disk, words, input),
-        "smap-maps" => {
-            let on_terminal = rt.stderr().is_terminal();
-            smap_maps_run::run(rt, &disk, words, on_terminal, io::writer(rt))
-        }
-        _ => {
-            let on_terminal = rt.stdout().is_terminal();
-            smap_view_run::run(rt, &disk, words, on_terminal, io::writer(rt))
-        }
+    let [command, rest @ ..] = after else {
+        return Ok(None);
     };
-    drop(held);
-    status
-}
-
-/// The lines of a text, each as a terminal may have it.
-fn printable_lines(alloc: Global, text: &str) -> Result<String, AllocError> {
-    let mut lines = String::new(alloc);
-    for (number, line) in text.split('\n').enumerate() {
-        if number > 0 {
-            lines.push('\n')?;
-        }
-        lines.push_str(&printable(alloc, line.as_bytes())?)?;
-    }
-    Ok(lines)
+    let Some((tool, is_its_own)) = Tool::of_command(command) else {
+        return Ok(None);
+    };
+    let mut own = Vec::from_slice(alloc, &[*path])?;
+    own.extend_from_slice(if is_its_own { after } else { rest })?;
+    Ok(Some((tool, own)))
 }
 
 /// Says what is wrong with the arguments, which a stranger may have chosen, and answers the exit status.
@@ -126,10 +143,40 @@ fn help(rt: &HostRuntime, text: &Error) -> u8 {
     }
 }
 
+/// The command for a file that a task is like, where the path of a file stands in place of its base.
+fn command_for_file<'a>(task: &Task<'a>) -> Option<(&'static str, &'a str)> {
+    let (command, base) = match task {
+        Task::Check { base } => ("maps check", *base),
+        Task::Tidy { base, .. } => ("maps tidy", *base),
+        Task::Flatten { base } => ("maps flatten", *base),
+        _ => return None,
+    };
+    if base.contains(':') {
+        None
+    } else {
+        Some((command, base))
+    }
+}
+
+/// Says what to call where the path of a file stands in place of a base, which is no URL then.
+fn advise(rt: &HostRuntime, task: &Task<'_>) {
+    let Some((command, path)) = command_for_file(task) else {
+        return;
+    };
+    if System::new(rt).kind(path) != Kind::File {
+        return;
+    }
+    if let Ok(path) = printable(rt.alloc(), path.as_bytes()) {
+        let path = path.as_str();
+        let _ = eprint!(rt; "smap: for a file: smap {command} {path}\n");
+    }
+}
+
 /// Runs `smap`.
 fn map(rt: &HostRuntime, words: &[&str]) -> u8 {
     match task_of(rt.alloc(), words) {
         Ok(task) => {
+            advise(rt, &task);
             let Ok(input) = BufReader::new(rt.alloc(), rt.reader()) else {
                 let _ = eprint!(rt; "{OUT_OF_MEMORY}");
                 return 4;
@@ -156,25 +203,43 @@ fn map(rt: &HostRuntime, words: &[&str]) -> u8 {
     }
 }
 
+/// Says that memory ran out, and answers the exit status.
+fn out_of_memory(rt: &HostRuntime) -> ExitCode {
+    let _ = eprint!(rt; "{OUT_OF_MEMORY}");
+    ExitCode::from(4)
+}
+
 fn main(rt: HostRuntime) -> ExitCode {
     let words = match arguments(&rt) {
         Ok(words) => words,
-        Err(error) => {
-            if error.kind() == ErrorKind::OutOfMemory {
-                let _ = eprint!(rt; "{OUT_OF_MEMORY}");
-                return ExitCode::from(4);
-            }
+        Err(error) if error.kind() == ErrorKind::OutOfMemory => return out_of_memory(&rt),
+        Err(_) => {
             let _ = eprint!(rt; "error: invalid UTF-8 was detected in one or more arguments\n");
             return ExitCode::from(2);
         }
     };
     let Ok(words) = texts(rt.alloc(), words.as_slice()) else {
-        let _ = eprint!(rt; "{OUT_OF_MEMORY}");
-        return ExitCode::from(4);
+        return out_of_memory(&rt);
     };
-    let words = words.as_slice();
-    ExitCode::from(match name(words) {
-        name @ ("smap-trace" | "smap-maps" | "smap-view") => tool(&rt, name, words),
-        _ => map(&rt, words),
-    })
+    let (tool, words) = match tool_of(rt.alloc(), words.as_slice()) {
+        Ok(Some(called)) => called,
+        Ok(None) => return ExitCode::from(map(&rt, words.as_slice())),
+        Err(_) => return out_of_memory(&rt),
+    };
+    let disk = System::new(&rt);
+    if is_output_closed(&disk) {
+        let name = tool.name();
+        let _ = eprint!(rt; "{name}: cannot write: standard output is closed\n");
+        return ExitCode::from(3);
+    }
+    let input = input(&rt, &disk);
+    let held = placeholders(rt.alloc(), &disk);
+    let (words, writer) = (words.as_slice(), io::writer(&rt));
+    let status = match tool {
+        Tool::Trace => smap_trace_run::run(&rt, &disk, words, input, &mut Output::new(writer)),
+        Tool::Maps => smap_maps_run::run(&rt, &disk, words, rt.stderr().is_terminal(), writer),
+        Tool::View => smap_view_run::run(&rt, &disk, words, rt.stdout().is_terminal(), writer),
+    };
+    drop(held);
+    ExitCode::from(status)
 }

@@ -1,7 +1,7 @@
 //! The standard streams as `smap-trace`, `smap-maps` and `smap-view` have them. A descriptor that is closed
 //! is told by its name in `/proc`, before anything is opened that could take its number; where there is no
 //! `/proc`, none is taken for closed.
-use smap_machine::{Disk, Kind};
+use smap_system::{Disk, Kind};
 use smap_trace_run::{Input, InputKind};
 use std::alloc::Global;
 use std::io::{IsTerminal, Stdin};

@@ -2,11 +2,11 @@
 use Rattle.std.specs.Prelude.{◌≡◌, ◌⊎◌, ℕ, Bool, List, Option, Some, None, cond}
 use Rattle.std.specs.Global.{Vec}
 use Rattle.smap_link.specs.Kinds.{says_nothing}
-use Rattle.smap_pick.specs.Named.{IsNamed}
-use Rattle.smap_pick.specs.declared.named.Named.{Named}
-use Rattle.smap_pick.specs.declared.named.Named.TheVariants as named
-use Rattle.smap_pick.specs.declared.named.NamedFault.{NamedFault}
-use Rattle.smap_pick.specs.declared.named.NamedFault.TheVariants as fault
+use Rattle.smap_map_choice.specs.Named.{IsNamed}
+use Rattle.smap_map_choice.specs.declared.named.Named.{Named}
+use Rattle.smap_map_choice.specs.declared.named.Named.TheVariants as named
+use Rattle.smap_map_choice.specs.declared.named.NamedFault.{NamedFault}
+use Rattle.smap_map_choice.specs.declared.named.NamedFault.TheVariants as fault
 use Rattle.smap_c.specs.Bytes.{Holds}
 use Rattle.smap_c.specs.Codes as codes
 

@@ -7,7 +7,7 @@ ghost use Rattle.smap_c.specs.Named as spec;
 use crate::codes::{MEMORY, NONE, OK};
 use crate::handles::{Held, SmapBytes};
 use smap_link::says_nothing;
-use smap_pick::{Named, NamedFault, named_map};
+use smap_map_choice::{Named, NamedFault, named_map};
 use std::alloc::Global;
 
 /// The number of why a URL gives neither a map nor a file.

@@ -1,7 +1,7 @@
 //! What is asked of a run.
 use smap_lint_rules::{RULES, rule_named};
-use smap_machine::{Disk, Host, Stop};
 use smap_report::{Format, Level};
+use smap_system::{Disk, Host, Stop};
 use std::alloc::{AllocError, Global};
 
 /// What is asked of a run.

@@ -2,12 +2,12 @@
 use crate::book::Book;
 use crate::folder::Folder;
 use crate::scripts::Script;
+use smap_fault_places::{point_of, range_of};
 use smap_link::script_url;
 use smap_lint_rules::Check;
-use smap_machine::Disk;
-use smap_places::{point_of, range_of};
 use smap_record::{Base, BaseFault, Fault, Limits, ReadError, SourceMap};
 use smap_report::Point;
+use smap_system::Disk;
 use std::alloc::AllocError;
 
 /// A map that is looked at, and the script that has it.
@@ -52,7 +52,7 @@ impl Case<'_, '_> {
         let Some(range) = range_of(self.book.alloc, bytes, fault)? else {
             return Ok(None);
         };
-        let smap_places::Point { line, column } = point_of(bytes, range.start);
+        let smap_fault_places::Point { line, column } = point_of(bytes, range.start);
         Ok(Some(Point { line, column }))
     }
 

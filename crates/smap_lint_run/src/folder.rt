@@ -1,6 +1,6 @@
 //! A folder and the names of its files.
 use smap_link::file_url;
-use smap_machine::{Disk, FileFault, Host, Kind, LIMIT, Stop, parted, read_file, reason, walk};
+use smap_system::{Disk, FileFault, Host, Kind, LIMIT, Stop, parted, read_file, reason, walk};
 use std::alloc::{AllocError, Global};
 use std::io::ErrorKind;
 

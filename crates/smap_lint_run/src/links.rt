@@ -1,13 +1,13 @@
 //! What is wrong with the URL that a script names for its map: the rule, and a sentence after the script's
 //! name.
 use smap_lint_rules::Check;
-use smap_machine::shown;
+use smap_map_choice::NamedFault;
 use smap_map_files::Absence;
-use smap_pick::NamedFault;
+use smap_system::printable;
 use std::alloc::{AllocError, Global};
 
 fn with_url(alloc: Global, what: &str, url: &[u8]) -> Result<String, AllocError> {
-    let url = shown(alloc, url)?;
+    let url = printable(alloc, url)?;
     let url = url.as_str();
     format!(in alloc; "{what}: {url}")
 }

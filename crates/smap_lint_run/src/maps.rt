@@ -4,8 +4,8 @@ use crate::wording::{counted, example, one_or_more, some_of};
 use smap_lint_rules::{
     Check, Members, Paths, debug_id, file_agrees, members_of, repeated_count, same_id, unused_count,
 };
-use smap_machine::shown;
 use smap_record::{ReadError, SourceMap, map_tree};
+use smap_system::printable;
 use std::alloc::AllocError;
 
 impl Case<'_, '_> {
@@ -21,7 +21,7 @@ impl Case<'_, '_> {
             return Ok(());
         }
         let alloc = self.book.alloc;
-        let of_script = shown(alloc, of_script)?;
+        let of_script = printable(alloc, of_script)?;
         let (of_script, of_map) = (of_script.as_str(), of_map.as_str());
         let message = format!(in alloc; "has debug id {of_map}, and its script {of_script}")?;
         self.add(Check::DebugId, message)

@@ -3,8 +3,8 @@ use crate::asked::{LintAsked, levels_of};
 use crate::book::Book;
 use crate::visit::lint_folder;
 use smap_lint_rules::RULES;
-use smap_machine::{Disk, Host, Stop, Watched};
 use smap_report::{Report, has_error, report_text};
+use smap_system::{Disk, Host, Stop, Watched};
 use std::io::Write;
 
 /// Lints all folders.

@@ -4,8 +4,8 @@ use crate::links::{absent_words, wrong_words};
 use crate::visit::Visit;
 use smap_link::link_in;
 use smap_lint_rules::Check;
-use smap_machine::{Disk, Stop};
 use smap_map_files::{Home, Target, target_of};
+use smap_system::{Disk, Stop};
 use std::alloc::AllocError;
 
 /// A script of a folder.

@@ -3,7 +3,7 @@ use crate::book::Book;
 use crate::case::Case;
 use crate::folder::{Folder, read};
 use smap_lint_rules::Check;
-use smap_machine::{Disk, Host, Kind, Stop};
+use smap_system::{Disk, Host, Kind, Stop};
 use std::alloc::AllocError;
 
 /// A folder that is looked at.

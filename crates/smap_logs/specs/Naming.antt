@@ -5,7 +5,7 @@ use Rattle.std.specs.Borrow.{Bor}
 use Rattle.std.specs.Global.{Vec}
 use Rattle.std.specs.List.{Contains, list_any, slice_split}
 use Rattle.indexmap.specs.IndexMap.{keys}
-use Rattle.smap_machine.specs.Held.{GivesHeld, Held}
+use Rattle.smap_system.specs.Held.{GivesHeld, Held}
 use Rattle.smap_frames.specs.Places.{query_len}
 use Rattle.smap_logs.specs.Lines.{is_feed}
 use Rattle.smap_logs.specs.Spans.{spans}

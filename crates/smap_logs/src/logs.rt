@@ -4,7 +4,7 @@ ghost use Rattle.std.specs.Io.KnownBytes.{Keeps};
 ghost use Rattle.smap_logs.specs.Logs.{GoesOn, IsStep, handed, pending, waiting};
 
 use crate::Block;
-use smap_machine::{Disk, Host, Stop};
+use smap_system::{Disk, Host, Stop};
 use std::alloc::{AllocError, Global};
 use std::io::{self, ErrorKind, Read};
 

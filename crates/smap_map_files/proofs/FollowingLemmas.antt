@@ -4,10 +4,10 @@ use Rattle.std.proofs.Common.{None, Some, Result, Ok, IsErr, append_assoc, refl}
 use Rattle.smap_link.specs.Inline.{is_data, data_of, some_map}
 use Rattle.smap_link.specs.Kinds.{link_in}
 use Rattle.smap_link.specs.declared.inline.InlineFault.{InlineFault}
-use Rattle.smap_pick.specs.Named.{IsFileUrl, IsInline, IsWrong, is_vain}
-use Rattle.smap_pick.specs.Places.{MapPlace}
-use Rattle.smap_pick.specs.declared.named.NamedFault.{NamedFault}
-use Rattle.smap_pick.specs.declared.named.NamedFault.TheVariants as fault
+use Rattle.smap_map_choice.specs.Named.{IsFileUrl, IsInline, IsWrong, is_vain}
+use Rattle.smap_map_choice.specs.Places.{MapPlace}
+use Rattle.smap_map_choice.specs.declared.named.NamedFault.{NamedFault}
+use Rattle.smap_map_choice.specs.declared.named.NamedFault.TheVariants as fault
 use Rattle.smap_map_files.specs.Given.{Folder, Holds, IsUnfound, Names, NamesUnfound, beside, front}
 use Rattle.smap_map_files.specs.Given.{linked_base, name_below, named_url}
 use Rattle.smap_map_files.specs.Target.{LeadsTo}

@@ -14,8 +14,8 @@ use Rattle.smap_map_files.specs.declared.wanted.Origin.{Origin}
 use Rattle.smap_map_files.specs.declared.wanted.Wanted.{Wanted}
 use Rattle.smap_map_files.proofs.ListLemmas.{beside_flag-map, firsts_beside_flag, firsts_filtered}
 use Rattle.smap_map_files.proofs.ListLemmas.{seconds_beside_flag, seconds_filtered}
-use Rattle.smap_pick.specs.PlaceView.{place_in, places_in}
-use Rattle.smap_pick.specs.declared.places.Place.{Place}
+use Rattle.smap_map_choice.specs.PlaceView.{place_in, places_in}
+use Rattle.smap_map_choice.specs.declared.places.Place.{Place}
 
 module _ (places : List Place) (origins : List Origin) (flags : List Bool)
     (count : length flags ≡ length (zip (places_in places) origins))

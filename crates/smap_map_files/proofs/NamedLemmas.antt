@@ -12,8 +12,8 @@ use Rattle.smap_map_files.specs.Settling.{is_mapped, may_link}
 use Rattle.smap_map_files.specs.WantedView.{Named}
 use Rattle.smap_map_files.specs.declared.wanted.Origin.{Origin}
 use Rattle.smap_map_files.proofs.ListLemmas.{drop_at, drop_none_more, slice_get-zip}
-use Rattle.smap_pick.specs.PlaceView.{place_in, places_in}
-use Rattle.smap_pick.specs.declared.places.Place.{Place}
+use Rattle.smap_map_choice.specs.PlaceView.{place_in, places_in}
+use Rattle.smap_map_choice.specs.declared.places.Place.{Place}
 
 pub named_is : (places : List Place) (origins : List Origin) (i : ℕ) (place : Place) (origin : Origin)
     → slice_get places i ≡ Some place → slice_get origins i ≡ Some origin

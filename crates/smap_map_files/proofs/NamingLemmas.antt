@@ -3,17 +3,17 @@ use Rattle.std.proofs.Common.{◌≡◌, ◌∙◌, ◌⊎◌, ℕ, ◌+◌, Lis
 use Rattle.std.proofs.Common.{inr, refl, ap, sym, subst, ◌<◌, get_or, length, take}
 use Rattle.std.proofs.lemmas.Bool.{cases_lt}
 use Rattle.std.proofs.lemmas.List.{take_more}
-use Rattle.smap_machine.specs.Held.{Held}
-use Rattle.smap_machine.specs.Tree.{IsKind, Told}
-use Rattle.smap_machine.specs.declared.disk.Kind.{Kind as OnDisk}
-use Rattle.smap_machine.specs.declared.disk.Kind.TheVariants as disk
-use Rattle.smap_words.specs.Following.{Follows, IsFirst}
-use Rattle.smap_words.specs.Order.{ComesBefore, IsSplit}
-use Rattle.smap_words.specs.Splits.{base_in, split_fault}
-use Rattle.smap_words.specs.declared.splits.Kind.{Kind}
-use Rattle.smap_words.specs.declared.splits.Kind.TheVariants.{File, Folder}
-use Rattle.smap_words.specs.declared.splits.Split.{Split}
-use Rattle.smap_words.specs.declared.argument.Argument.{Argument}
+use Rattle.smap_system.specs.Held.{Held}
+use Rattle.smap_system.specs.Tree.{IsKind, Told}
+use Rattle.smap_system.specs.declared.disk.Kind.{Kind as OnDisk}
+use Rattle.smap_system.specs.declared.disk.Kind.TheVariants as disk
+use Rattle.smap_command_line.specs.Following.{Follows, IsFirst}
+use Rattle.smap_command_line.specs.Order.{ComesBefore, IsSplit}
+use Rattle.smap_command_line.specs.Splits.{base_in, split_fault}
+use Rattle.smap_command_line.specs.declared.trace.splits.Kind.{Kind}
+use Rattle.smap_command_line.specs.declared.trace.splits.Kind.TheVariants.{File, Folder}
+use Rattle.smap_command_line.specs.declared.trace.splits.Split.{Split}
+use Rattle.smap_command_line.specs.declared.trace.arguments.Argument.{Argument}
 use Rattle.smap_map_files.specs.Lists.{Lists, with_map}
 use Rattle.smap_map_files.specs.Naming.{IsFirstThere, IsNotThere, IsReadable, IsThere, Names, NamesAll}
 use Rattle.smap_map_files.specs.Naming.{NamesFolder, NamesFolderAlone, NamesLog}

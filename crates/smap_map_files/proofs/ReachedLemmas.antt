@@ -2,9 +2,9 @@
 use Rattle.std.proofs.Common.{◌≡◌, ◌⊎◌, ◌<◌, inl, inr, cond, List, ℕ, Bool, Option, Some, None, Result, Ok}
 use Rattle.std.proofs.Common.{Err, IfOk, IsSome, MatchOption, ap, refl}
 use Rattle.std.specs.Global.{Vec}
-use Rattle.smap_machine.specs.Held.{Held, IsHeld}
-use Rattle.smap_pick.specs.Opening.{IsMadeOf}
-use Rattle.smap_pick.specs.Places.{MapPlace}
+use Rattle.smap_system.specs.Held.{Held, IsHeld}
+use Rattle.smap_map_choice.specs.Opening.{IsMadeOf}
+use Rattle.smap_map_choice.specs.Places.{MapPlace}
 use Rattle.smap_record.specs.Record.{ReadMap}
 use Rattle.smap_map_files.specs.declared.loading.Content.TheVariants as content
 use Rattle.smap_map_files.specs.declared.loading.Loaded.{Loaded}

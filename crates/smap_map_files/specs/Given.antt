@@ -15,9 +15,9 @@ use Rattle.smap_link.specs.Paths.{bare}
 use Rattle.smap_link.specs.Resolved.{resolved}
 use Rattle.smap_link.specs.Urls.{is_slash}
 use Rattle.smap_link.specs.declared.resolve.LinkFault.{LinkFault}
-use Rattle.smap_pick.specs.Linked.{linked}
-use Rattle.smap_pick.specs.Named.{IsGarbled, IsInline, is_vain}
-use Rattle.smap_pick.specs.Places.{MapPlace}
+use Rattle.smap_map_choice.specs.Linked.{linked}
+use Rattle.smap_map_choice.specs.Named.{IsGarbled, IsInline, is_vain}
+use Rattle.smap_map_choice.specs.Places.{MapPlace}
 use Rattle.smap_record.specs.Faults.{Checked}
 use Rattle.smap_record.specs.Record.{ReadMap, usual}
 use Rattle.smap_record.specs.UrlBytes.{reading_within}

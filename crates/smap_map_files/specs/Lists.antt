@@ -5,8 +5,8 @@ use Rattle.std.specs.List.{list_any}
 use Rattle.std.specs.Str.{bytes_eq}
 use Rattle.smap_link.specs.Ends.{stem}
 use Rattle.smap_link.specs.Kinds.{is_map}
-use Rattle.smap_pick.specs.PlaceView.{places_in}
-use Rattle.smap_pick.specs.Places.{MapPlace, below, folder_place, usual_place}
+use Rattle.smap_map_choice.specs.PlaceView.{places_in}
+use Rattle.smap_map_choice.specs.Places.{MapPlace, below, folder_place, usual_place}
 use Rattle.smap_map_files.specs.declared.wanted.Origin.{Origin}
 use Rattle.smap_map_files.specs.declared.wanted.Origin.TheVariants.{Alone, Below}
 use Rattle.smap_map_files.specs.declared.wanted.Root.{Root}

@@ -5,17 +5,17 @@ use Rattle.std.specs.Prelude.{None, Some, cond, ◌==◌, ⊤, string_bytes, str
 use Rattle.std.specs.Global.{Global}
 use Rattle.std.specs.List.{All, list_any}
 use Rattle.std.specs.List.Sorted.{IsSorted}
-use Rattle.smap_machine.specs.Held.{Held, IsNotHeld, IsOneHeld}
-use Rattle.smap_machine.specs.Paths.{joined}
-use Rattle.smap_machine.specs.Tree.{Told}
-use Rattle.smap_machine.specs.declared.disk.Kind.TheVariants as disk
-use Rattle.smap_machine.specs.Walking.{AreFilesBelow, has_one}
-use Rattle.smap_words.specs.Order.{ComesBefore, IsSplit}
-use Rattle.smap_words.specs.Splits.{base_in, needs_url, split_fault}
-use Rattle.smap_words.specs.declared.argument.Argument.{Argument}
-use Rattle.smap_words.specs.declared.argument.Argument.TheVariants.{Path, Place}
-use Rattle.smap_words.specs.declared.splits.Kind.{Kind}
-use Rattle.smap_words.specs.declared.splits.Kind.TheVariants.{File, Folder}
+use Rattle.smap_system.specs.Held.{Held, IsNotHeld, IsOneHeld}
+use Rattle.smap_system.specs.Paths.{joined}
+use Rattle.smap_system.specs.Tree.{Told}
+use Rattle.smap_system.specs.declared.disk.Kind.TheVariants as disk
+use Rattle.smap_system.specs.Walking.{AreFilesBelow, has_one}
+use Rattle.smap_command_line.specs.Order.{ComesBefore, IsSplit}
+use Rattle.smap_command_line.specs.Splits.{base_in, needs_url, split_fault}
+use Rattle.smap_command_line.specs.declared.trace.arguments.Argument.{Argument}
+use Rattle.smap_command_line.specs.declared.trace.arguments.Argument.TheVariants.{Path, Place}
+use Rattle.smap_command_line.specs.declared.trace.splits.Kind.{Kind}
+use Rattle.smap_command_line.specs.declared.trace.splits.Kind.TheVariants.{File, Folder}
 use Rattle.smap_map_files.specs.Lists.{Lists, texts, wanted_names, with_folder, with_folder_alone, with_log}
 use Rattle.smap_map_files.specs.Lists.{with_map}
 

@@ -1,8 +1,8 @@
 -- The maps that were opened.
 use Rattle.std.specs.Prelude.{◌≡◌, ◌⊎◌, ℕ, ◌<◌, Bool, List, cond, ⊤, Option, Some, None}
-use Rattle.smap_machine.specs.Held.{Held, IsHeld}
+use Rattle.smap_system.specs.Held.{Held, IsHeld}
 use Rattle.smap_link.specs.Alike.{own_url}
-use Rattle.smap_pick.specs.Places.{MapPlace}
+use Rattle.smap_map_choice.specs.Places.{MapPlace}
 use Rattle.smap_record.specs.Record.{ReadMap}
 use Rattle.smap_map_files.specs.declared.loading.Loaded.{Loaded}
 use Rattle.smap_map_files.specs.declared.loading.Loaded.TheVariants as loaded

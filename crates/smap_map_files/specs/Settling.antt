@@ -7,7 +7,7 @@ use Rattle.smap_map_files.specs.WantedView.{Named, OfFolder, files_in, may_name_
 use Rattle.smap_map_files.specs.declared.wanted.Origin.{Origin}
 use Rattle.smap_map_files.specs.declared.wanted.Origin.TheVariants as origin
 use Rattle.smap_map_files.specs.declared.wanted.Wanted.{Wanted}
-use Rattle.smap_pick.specs.PlaceView.{places_in}
+use Rattle.smap_map_choice.specs.PlaceView.{places_in}
 
 -- ---- maps of scripts with names
 

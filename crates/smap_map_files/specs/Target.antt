@@ -1,7 +1,7 @@
 -- What a URL that a script names for its map leads to.
 use Rattle.std.specs.Prelude.{◌≡◌, ℕ, List, Ok, string_bytes}
-use Rattle.smap_pick.specs.Linked.{linked}
-use Rattle.smap_pick.specs.Named.{IsFileUrl, IsInline, IsWrong}
+use Rattle.smap_map_choice.specs.Linked.{linked}
+use Rattle.smap_map_choice.specs.Named.{IsFileUrl, IsInline, IsWrong}
 use Rattle.smap_map_files.specs.declared.target.Target.{Target}
 use Rattle.smap_map_files.specs.declared.target.Target.TheVariants as target
 

@@ -4,8 +4,8 @@ use Rattle.std.specs.List.{zip}
 use Rattle.smap_link.specs.Kinds.{file_kind}
 use Rattle.smap_link.specs.declared.kinds.FileKind.{FileKind}
 use Rattle.smap_link.specs.declared.kinds.FileKind.TheVariants.{Script, StyleSheet, Map, Other}
-use Rattle.smap_pick.specs.PlaceView.{places_in}
-use Rattle.smap_pick.specs.Places.{MapPlace}
+use Rattle.smap_map_choice.specs.PlaceView.{places_in}
+use Rattle.smap_map_choice.specs.Places.{MapPlace}
 use Rattle.smap_map_files.specs.declared.wanted.Origin.{Origin}
 use Rattle.smap_map_files.specs.declared.wanted.Wanted.{Wanted}
 

@@ -1,6 +1,6 @@
 //! From the arguments to what they name, as the file system has it.
 ghost use Rattle.std.specs.Prelude.{◌≡◌, IfOk, IfSome, MatchOption, OnOk, option_map};
-ghost use Rattle.smap_pick.specs.PlaceView.{place_in};
+ghost use Rattle.smap_map_choice.specs.PlaceView.{place_in};
 ghost use Rattle.smap_map_files.specs.Lists as spec;
 ghost use Rattle.smap_map_files.specs.Lists.{lists_of, no_lists, with_map, with_log};
 ghost use Rattle.smap_map_files.specs.Naming.{IsFirstThere, IsNotThere, IsReadable, Names, NamesAll};
@@ -9,9 +9,11 @@ ghost use Rattle.smap_map_files.specs.Naming.{NamesPlace, NamesWay};
 
 use crate::folders::{add_folder, add_folder_alone};
 use crate::wanted::{Origin, Wanted};
-use smap_machine::{Disk, Host, Kind as OnDisk, Stop};
-use smap_pick::{Place, usual_place};
-use smap_words::{Argument, Kind, Split, needs_url, path_message, place_message, split_message};
+use smap_command_line::trace::{
+    Argument, Kind, Split, needs_url, path_message, place_message, split_message,
+};
+use smap_map_choice::{Place, usual_place};
+use smap_system::{Disk, Host, Kind as OnDisk, Stop};
 use std::alloc::{AllocError, Global};
 
 /// What is there under the name of a file, if a map can be read from it or it is a folder. A pipe is let be:

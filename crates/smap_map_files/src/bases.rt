@@ -1,7 +1,7 @@
 //! The URLs of files, against which the sources of maps are resolved.
 use smap_link::own_url;
-use smap_machine::{Disk, Host, Stop};
 use smap_record::{Base, BaseFault};
+use smap_system::{Disk, Host, Stop};
 use std::alloc::{AllocError, Global};
 
 fn holds_space(text: &str) -> bool {

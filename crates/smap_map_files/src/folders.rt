@@ -7,15 +7,15 @@ ghost use Rattle.smap_map_files.specs.Lists.{lists_of, texts};
 ghost use Rattle.smap_map_files.specs.Naming.{AreNames, IsPath, NamesFolder, NamesFolderAlone};
 ghost use Rattle.smap_link.specs.Ends.{stem as stem_of};
 ghost use Rattle.smap_link.specs.Kinds.{is_map as has_map_ending};
-ghost use Rattle.smap_pick.specs.PlaceView.{place_in};
-ghost use Rattle.smap_pick.specs.Places as places;
+ghost use Rattle.smap_map_choice.specs.PlaceView.{place_in};
+ghost use Rattle.smap_map_choice.specs.Places as places;
 
 use crate::settling::{add_text, chosen};
 use crate::wanted::{Origin, Root, Wanted, may_name_map};
 use indexmap::IndexSet;
 use smap_link::{link_in, script_url};
-use smap_machine::{Disk, Host, LIMIT, Stop, read_file, shown, walk};
-use smap_pick::{Place, below, usual_place};
+use smap_map_choice::{Place, below, usual_place};
+use smap_system::{Disk, Host, LIMIT, Stop, printable, read_file, walk};
 use std::alloc::{AllocError, Global};
 
 const ENDINGS: [&str; 5] = [".map", ".js", ".mjs", ".cjs", ".css"];
@@ -195,7 +195,7 @@ fn leave_out<E: Eprint + AllocGlobal, D: Disk>(
     file: &[u8],
 ) -> Result<(), Stop> {
     let alloc = host.alloc();
-    let file = shown(alloc, file)?;
+    let file = printable(alloc, file)?;
     let file = file.as_str();
     let text = format!(in alloc; "left out {file}: no frame is found whose path holds a space")?;
     host.say(text.as_str());

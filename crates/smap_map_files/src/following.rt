@@ -1,7 +1,7 @@
 //! The map that a script names.
 ghost use Rattle.std.specs.Prelude.{◌≡◌, ◌≤◌, ◌++◌, IfOk, length, string_bytes};
 ghost use Rattle.smap_link.specs.Alike.{own_url as own_url_of};
-ghost use Rattle.smap_pick.specs.PlaceView.{place_in};
+ghost use Rattle.smap_map_choice.specs.PlaceView.{place_in};
 ghost use Rattle.smap_map_files.specs.Given as spec;
 ghost use Rattle.smap_map_files.specs.Given.{IsFollowed};
 ghost use Rattle.smap_map_files.specs.RootView.{folder_of};
@@ -9,8 +9,8 @@ ghost use Rattle.smap_map_files.specs.RootView.{folder_of};
 use crate::Root;
 use crate::target::{Absence, Home, Target, target_of};
 use smap_link::{LinkFault, bare, link_in, own_url, resolved};
-use smap_machine::{Disk, Host, Stop, shown};
-use smap_pick::{NamedFault, Place};
+use smap_map_choice::{NamedFault, Place};
+use smap_system::{Disk, Host, Stop, printable};
 use std::alloc::{AllocError, Global};
 
 /// What a script names for its map.
@@ -84,7 +84,7 @@ fn front(alloc: Global, folder: &str, file: &[u8]) -> Result<String, AllocError>
 
 /// What a script names that is wrong, as in a sentence after "it".
 fn wrong(alloc: Global, what: &str, name: &[u8]) -> Result<String, AllocError> {
-    let name = shown(alloc, name)?;
+    let name = printable(alloc, name)?;
     let name = name.as_str();
     format!(in alloc; "{what}: {name}")
 }

@@ -1,12 +1,12 @@
 //! What a file gives for a map: itself, or, where it is a script or a style sheet, the map that its text
 //! holds or names ([`settle_content`]); what the URL that a script names leads to, within its folder
 //! ([`target_of`]); and the URL of a folder's files ([`folder_url`]). What URL a text names is found by
-//! `smap_link`; which files are opened for a log is decided above. The file system is `smap_machine`'s trait,
+//! `smap_link`; which files are opened for a log is decided above. The file system is `smap_system`'s trait,
 //! so that tests have it in memory. What is wrong is said on standard error, with the status of that.
 //!
 //! What the arguments of `smap-trace` name on the file system ([`wanted_by`]): maps of scripts, the files of
 //! folders, logs; and one map for each script of these ([`settle`]). How an argument is read is decided by
-//! `smap_words`.
+//! `smap_command_line`, and what it finds wrong with options is printed here ([`refuse_options`]).
 #![tactic(auto)]
 
 mod arguments;
@@ -15,6 +15,7 @@ mod folders;
 mod following;
 mod loading;
 mod opening;
+mod refusing;
 mod settling;
 mod target;
 mod telling;
@@ -26,6 +27,7 @@ pub use bases::{base_given, folder_url};
 pub use following::{Followed, follow};
 pub use loading::{Content, FileStore, Loaded, MapFault, NoFault};
 pub use opening::{How, Subject, copied, settle_content};
+pub use refusing::{printable_lines, refuse_options};
 pub use settling::settle;
 pub use target::{Absence, Home, Target, target_of};
 pub use wanted::{Origin, Root, Wanted, may_name_map};

@@ -1,15 +1,15 @@
 //! The files of maps, read.
 ghost use Rattle.std.specs.Prelude.{◌≡◌, ◌++◌, ◌∷◌, [], IfOk, OnErr, OnOk, map};
 ghost use Rattle.smap_map_files.specs.Given.{IsContent, IsLoaded, IsRead, IsUnreadBy};
-ghost use Rattle.smap_pick.specs.Memory.{names_in};
-ghost use Rattle.smap_pick.specs.Opening.{IsMadeOf};
-ghost use Rattle.smap_pick.specs.PlaceView.{place_in};
+ghost use Rattle.smap_map_choice.specs.Memory.{names_in};
+ghost use Rattle.smap_map_choice.specs.Opening.{IsMadeOf};
+ghost use Rattle.smap_map_choice.specs.PlaceView.{place_in};
 
 use crate::may_name_map;
-use smap_machine::{Disk, FileFault, Kind, LIMIT, read_file};
-use smap_pick::{OpenFault, Place, Store};
-use smap_places::{Start, start_of};
+use smap_fault_places::{Start, start_of};
+use smap_map_choice::{OpenFault, Place, Store};
 use smap_record::{Base, BaseFault, Fault, Limits, ReadError, SourceMap};
+use smap_system::{Disk, FileFault, Kind, LIMIT, read_file};
 use std::alloc::{AllocError, Global};
 
 /// Why a file gives no map.
@@ -181,7 +181,7 @@ impl<'a, D> FileStore<'a, D> {
 
 impl<D: Disk> Store for FileStore<'_, D> {
     ghost use Rattle.smap_map_files.specs.Given.{IsContent};
-    ghost use Rattle.smap_pick.specs.Memory.{names_in};
+    ghost use Rattle.smap_map_choice.specs.Memory.{names_in};
 
     type Map = Content;
 

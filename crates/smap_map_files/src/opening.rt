@@ -1,21 +1,21 @@
 //! The map that a file is, holds or names.
 ghost use Rattle.std.specs.Prelude.{◌≡◌, ◌<◌, ◌≤◌, cond, IfOk, IsSome, MatchOption, None};
-ghost use Rattle.smap_machine.specs.Held.{IsHeld};
+ghost use Rattle.smap_system.specs.Held.{IsHeld};
 ghost use Rattle.smap_map_files.specs.Given.{IsContent, IsLoaded, IsRead};
 ghost use Rattle.smap_map_files.specs.Opened.{GivesNone, IsLeftOut, IsLink, IsOpened, IsReached, with_base};
 ghost use Rattle.smap_map_files.specs.Opened.{within_base};
 ghost use Rattle.smap_map_files.specs.RootView.{folder_of};
-ghost use Rattle.smap_pick.specs.Opening.{IsMadeOf};
-ghost use Rattle.smap_pick.specs.PlaceView.{place_in};
+ghost use Rattle.smap_map_choice.specs.Opening.{IsMadeOf};
+ghost use Rattle.smap_map_choice.specs.PlaceView.{place_in};
 ghost use Rattle.smap_map_files.specs.declared.loading.MapFault.{MapFault};
 
 use crate::Root;
 use crate::following::{Followed, follow, inline_base};
 use crate::loading::{Content, FileStore, Loaded, MapFault, loaded_from};
 use crate::telling::{say_fault, say_of, say_used};
-use smap_machine::{Disk, Host, Stop, shown};
-use smap_pick::Place;
+use smap_map_choice::Place;
 use smap_record::SourceMap;
+use smap_system::{Disk, Host, Stop, printable};
 use std::alloc::{AllocError, Global};
 
 /// How maps are opened.
@@ -112,7 +112,7 @@ fn beside_loaded<E: Eprint + AllocGlobal, D: Disk>(
     ensures held { D.held store.new.disk.now ≡ D.held store.old.disk.now }
 {
     let alloc = host.alloc();
-    let file = shown(alloc, &found.file)?;
+    let file = printable(alloc, &found.file)?;
     let file = file.as_str();
     let which = format!(in alloc; "map, {file},")?;
     say_used(host, how, subject, which.as_str())?;

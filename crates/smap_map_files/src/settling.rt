@@ -8,12 +8,12 @@ ghost use Rattle.std.specs.Str.{bytes_eq};
 ghost use Rattle.smap_map_files.specs.Chosen.{beside_flag, holds};
 ghost use Rattle.smap_map_files.specs.Settling as spec;
 ghost use Rattle.smap_map_files.specs.WantedView as view;
-ghost use Rattle.smap_pick.specs.PlaceView.{place_in, places_in};
+ghost use Rattle.smap_map_choice.specs.PlaceView.{place_in, places_in};
 
 use crate::wanted::{Origin, Wanted, may_name_map};
 use indexmap::IndexSet;
-use smap_machine::{Disk, Host, Stop, shown};
-use smap_pick::Place;
+use smap_map_choice::Place;
+use smap_system::{Disk, Host, Stop, printable};
 use std::alloc::{AllocError, Global};
 
 /// Which places are kept, and which are repeated.
@@ -128,8 +128,8 @@ fn say_repeated<E: Eprint + AllocGlobal, D: Disk>(
     ensures { IfErr result (λ s. s ≡ Stop.Memory) }
 {
     let alloc = host.alloc();
-    let file = shown(alloc, &place.file)?;
-    let script = shown(alloc, &place.script)?;
+    let file = printable(alloc, &place.file)?;
+    let script = printable(alloc, &place.script)?;
     let (file, script) = (file.as_str(), script.as_str());
     let text = format!(in alloc; "{file} ({script}): script repeated")?;
     host.say(text.as_str());

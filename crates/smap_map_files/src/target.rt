@@ -3,8 +3,8 @@ ghost use Rattle.std.specs.Prelude.{IfOk};
 ghost use Rattle.smap_map_files.specs.Target.{IsTarget, IsTargetFile};
 
 use crate::within::is_within;
-use smap_machine::{Disk, Kind};
-use smap_pick::{Named, NamedFault, named_by};
+use smap_map_choice::{Named, NamedFault, named_by};
+use smap_system::{Disk, Kind};
 use std::alloc::{AllocError, Global};
 
 /// The folder of a script.

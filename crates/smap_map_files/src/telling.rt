@@ -3,11 +3,11 @@ ghost use Rattle.std.specs.Prelude.{◌<◌, IfOk};
 
 use crate::loading::MapFault;
 use crate::opening::{How, Subject};
+use smap_fault_places::{Start, hint};
 use smap_link::{FileKind, file_kind};
-use smap_machine::{Disk, Host, Stop, shown};
-use smap_pick::Place;
-use smap_places::{Start, hint};
+use smap_map_choice::Place;
 use smap_record::{Fault, Kind};
+use smap_system::{Disk, Host, Stop, printable};
 use std::alloc::{AllocError, Global};
 
 /// Says something of a map: its file, its script, and what.
@@ -17,8 +17,8 @@ pub(crate) fn say_of<E: Eprint + AllocGlobal, D: Disk>(
     what: &str,
 ) -> Result<(), Stop> {
     let alloc = host.alloc();
-    let file = shown(alloc, &place.file)?;
-    let script = shown(alloc, &place.script)?;
+    let file = printable(alloc, &place.file)?;
+    let script = printable(alloc, &place.script)?;
     let (file, script) = (file.as_str(), script.as_str());
     let text = format!(in alloc; "{file} ({script}){what}")?;
     host.say(text.as_str());
@@ -54,9 +54,9 @@ fn words_of(alloc: Global, place: &Place, fault: &MapFault) -> Result<(String, u
         MapFault::TooLong => Ok((String::from_str(alloc, "input too long")?, 3)),
         MapFault::NotUtf8 => Ok((String::from_str(alloc, "its URL is not in UTF-8")?, 1)),
         MapFault::NotUrl => {
-            let base = shown(alloc, &place.base)?;
-            let script = shown(alloc, &place.script)?;
-            let file = shown(alloc, &place.file)?;
+            let base = printable(alloc, &place.base)?;
+            let script = printable(alloc, &place.script)?;
+            let file = printable(alloc, &place.file)?;
             let (base, script, file) = (base.as_str(), script.as_str(), file.as_str());
             let text = format!(in alloc;
                 "base is no URL: {base} (add =BASE, the URL of the map: \

@@ -4,7 +4,7 @@ ghost use Rattle.smap_map_files.specs.Lists.{lists_of, no_lists};
 ghost use Rattle.smap_map_files.specs.WantedView as spec;
 
 use smap_link::{FileKind, file_kind};
-use smap_pick::Place;
+use smap_map_choice::Place;
 use std::alloc::Global;
 
 /// A folder.

@@ -2,7 +2,7 @@
 ghost use Rattle.std.specs.Prelude.{◌≡◌};
 ghost use Rattle.smap_map_files.specs.Within as spec;
 
-use smap_machine::Disk;
+use smap_system::Disk;
 use std::alloc::{AllocError, Global};
 use std::io::ErrorKind;
 

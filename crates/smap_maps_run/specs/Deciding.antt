@@ -1,7 +1,7 @@
 -- What is done with a map that would change.
 use Rattle.std.specs.Prelude.{◌&&◌, Bool, false, not, if◌then◌else◌}
-use Rattle.smap_maps_words.specs.declared.request.Rewrite.{Rewrite}
-use Rattle.smap_maps_words.specs.declared.request.Rewrite.TheVariants as rewrite
+use Rattle.smap_command_line.specs.declared.maps.words.Rewrite.{Rewrite}
+use Rattle.smap_command_line.specs.declared.maps.words.Rewrite.TheVariants as rewrite
 use Rattle.smap_maps_run.specs.declared.deciding.Deed.{Deed}
 use Rattle.smap_maps_run.specs.declared.deciding.Deed.TheVariants as deeds
 

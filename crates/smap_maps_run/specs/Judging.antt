@@ -5,9 +5,9 @@ use Rattle.smap_record.specs.Record.{ReadMap}
 use Rattle.smap_record.specs.declared.fault.Fault.{Fault}
 use Rattle.smap_record.specs.declared.fault.ReadError.{ReadError}
 use Rattle.smap_record.specs.declared.fault.ReadError.TheVariants as error
-use Rattle.smap_places.specs.Points.{point_at}
-use Rattle.smap_places.specs.FaultRanges.{IsFaultRange}
-use Rattle.smap_places.specs.Starts.{start_of}
+use Rattle.smap_fault_places.specs.Points.{point_at}
+use Rattle.smap_fault_places.specs.FaultRanges.{IsFaultRange}
+use Rattle.smap_fault_places.specs.Starts.{start_of}
 use Rattle.smap_maps_run.specs.declared.outcome.Failure.TheVariants.{Memory}
 use Rattle.smap_maps_run.specs.declared.outcome.Refusal.{Refusal}
 use Rattle.smap_maps_run.specs.declared.outcome.TextPlace.{TextPlace}

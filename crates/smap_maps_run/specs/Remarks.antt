@@ -3,9 +3,9 @@ use Rattle.std.specs.Prelude.{ℕ, ◌==◌, Bool, true, false, List, ◌++◌, 
 use Rattle.std.specs.Prelude.{Option, Some, None, slice_get, String, string_bytes}
 use Rattle.std.specs.List.{join_by}
 use Rattle.std.specs.declared.alloc.Global.{Global}
-use Rattle.smap_changes.specs.Naming.{shown_name}
+use Rattle.smap_differences.specs.Naming.{shown_name}
 use Rattle.smap_record.specs.Messages.{fault_message}
-use Rattle.smap_places.specs.Starts.{hint}
+use Rattle.smap_fault_places.specs.Starts.{hint}
 use Rattle.smap_maps_run.specs.JsonLines.{failure_text, long_urls}
 use Rattle.smap_maps_run.specs.declared.outcome.Outcome.{Outcome}
 use Rattle.smap_maps_run.specs.declared.outcome.Refusal.{Refusal}

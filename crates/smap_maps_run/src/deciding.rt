@@ -2,7 +2,7 @@
 ghost use Rattle.std.specs.Prelude.{◌≡◌};
 ghost use Rattle.smap_maps_run.specs.Deciding as spec;
 
-use smap_maps_words::Rewrite;
+use smap_command_line::maps::Rewrite;
 
 /// What is done with a map that would change.
 #[derive(Clone, Copy, Debug, PartialEq, Eq)]

@@ -1,6 +1,6 @@
 //! `smap-maps`: a run of it, from the words of its command line to its status ([`run`]). What the words say
-//! is read by `smap_maps_words`, what a rewrite drops and changes is told by `smap_changes`, and what is
-//! repaired by `smap_repair`; maps are read by `smap_record` and written by `smap_canon`, as by `smap`
+//! is read by `smap_command_line`, what a rewrite drops and changes is told by `smap_differences`, and what
+//! is repaired by `smap_repair`; maps are read by `smap_record` and written by `smap_canon`, as by `smap`
 //! itself. One map is looked at after the other, so that one is in memory at a time. `lint` is a run of
 //! `smap_lint_run`.
 //!

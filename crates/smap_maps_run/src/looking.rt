@@ -6,10 +6,10 @@ use crate::replacing::replace;
 use crate::targets::Target;
 use crate::{Failure, Outcome, Verdict, judged, unread};
 use serde_json::Value;
-use smap_changes::{Drops, changes, dropped};
-use smap_machine::{Disk, FileFault, LIMIT, Stamp, read_file};
-use smap_maps_words::Rewrite;
+use smap_command_line::maps::Rewrite;
+use smap_differences::{Drops, changes, dropped};
 use smap_record::{Base, BaseFault, map_tree};
+use smap_system::{Disk, FileFault, LIMIT, Stamp, read_file};
 use std::alloc::{AllocError, Global};
 
 /// A map that is looked at.

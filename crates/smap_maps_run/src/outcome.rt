@@ -2,7 +2,7 @@
 ghost use Rattle.std.specs.Prelude.{◌≡◌};
 ghost use Rattle.smap_maps_run.specs.Outcomes as spec;
 
-use smap_places::{Point, Start, TextRange};
+use smap_fault_places::{Point, Start, TextRange};
 use smap_record::Fault;
 
 /// Why a map is neither accepted nor refused, or can't be replaced.

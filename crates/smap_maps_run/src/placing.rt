@@ -3,7 +3,7 @@ ghost use Rattle.std.specs.Prelude.{IfOk, IfSome};
 ghost use Rattle.smap_maps_run.specs.Judging.{IsJudgedFor, IsPlaceOf, IsRefusedFor};
 
 use crate::outcome::{Failure, Refusal, TextPlace, Verdict};
-use smap_places::{point_of, range_of, start_of};
+use smap_fault_places::{point_of, range_of, start_of};
 use smap_record::{Fault, ReadError};
 use std::alloc::{AllocError, Global};
 

@@ -9,12 +9,11 @@ use crate::repairing::repair;
 use crate::reporting::{Style, report, says_something, write_line};
 use crate::targets::{Target, targets_of};
 use crate::{Outcome, Tally};
+use smap_command_line::maps::{Asked, HELP, MapsWords, Rewrite, WordFault, maps_words, message};
+use smap_command_line::{MapsCommand, VERSION};
 use smap_lint_run::lint;
-use smap_machine::{Disk, Host, Stop, Watched};
-use smap_map_files::base_given;
-use smap_maps_words::{
-    Asked, HELP, MapsWords, Rewrite, Task, VERSION, WordFault, maps_words, message,
-};
+use smap_map_files::{base_given, refuse_options};
+use smap_system::{Disk, Host, Stop, Watched};
 use std::io::Write;
 use std::rt::Clock;
 
@@ -104,7 +103,7 @@ fn targets<E: Eprint + AllocGlobal, D: Disk>(
     host: &Host<'_, E, D>,
     asked: &MapsWords<'_>,
 ) -> Result<Vec<Target>, Stop> {
-    match asked.base {
+    match asked.options.text("base") {
         Some(base) => {
             let base = base_given(host, base)?;
             targets_of(host, Some(base.as_str()), &asked.paths)
@@ -125,7 +124,7 @@ fn work_on<E: Eprint + AllocGlobal + Clock, D: Disk, W: Write>(
     let mut progress = Progress::new(targets.len(), on_terminal);
     let job = Job {
         work,
-        url_bytes: asked.url_bytes,
+        url_bytes: asked.options.url_bytes(),
     };
     let answer = look_at_all(host, job, &targets, &mut progress, writer);
     progress.erase(host.rt);
@@ -146,29 +145,26 @@ fn do_task<E: Eprint + AllocGlobal + Clock, D: Disk, W: Write>(
     on_terminal: bool,
     writer: &mut Watched<W>,
 ) -> Result<(), Stop> {
-    let work = match &asked.task {
-        Task::Check { json } => Work::Check { json: *json },
-        Task::Tidy { relative, rewrite } => Work::Compare {
+    let options = &asked.options;
+    let work = match asked.command {
+        MapsCommand::Check => Work::Check {
+            json: options.has("json"),
+        },
+        MapsCommand::Tidy => Work::Compare {
             form: Form::Canonical {
-                relative: *relative,
+                relative: asked.relative(),
             },
-            rewrite: *rewrite,
+            rewrite: asked.rewrite(),
         },
-        Task::Flatten { rewrite } => Work::Compare {
+        MapsCommand::Flatten => Work::Compare {
             form: Form::Flat,
-            rewrite: *rewrite,
+            rewrite: asked.rewrite(),
         },
-        Task::Repair { write } => Work::Repair { write: *write },
-        Task::Lint {
-            format,
-            rules,
-            min_mapped,
-        } => {
-            if asked.base.is_some() {
-                return Err(host.fail(2, "lint has no --base"));
-            }
-            let alloc = host.alloc();
-            let asked = lint_asked(alloc, asked, *format, rules, *min_mapped)?;
+        MapsCommand::Repair => Work::Repair {
+            write: options.has("write"),
+        },
+        MapsCommand::Lint => {
+            let asked = lint_asked(host.alloc(), asked)?;
             return lint(host, &asked, writer);
         }
     };
@@ -186,7 +182,7 @@ fn answer<E: Eprint + AllocGlobal + Clock, D: Disk, W: Write>(
         Ok(Asked::Help) => host.write(HELP.as_bytes(), writer),
         Ok(Asked::Version) => host.write(VERSION.as_bytes(), writer),
         Ok(Asked::Maps(asked)) => do_task(host, &asked, on_terminal, writer),
-        Err(WordFault::Memory) => Err(Stop::Memory),
+        Err(WordFault::Options(fault)) => Err(refuse_options(host, &fault)),
         Err(WordFault::Nothing) => Err(host.fail_with_help(HELP)),
         Err(fault) => Err(host.fail_words(message(host.alloc(), &fault), None)),
     }

@@ -4,8 +4,8 @@ ghost use Rattle.smap_maps_run.specs.Remarks as spec;
 
 use crate::json_lines::{failure_text, long_urls};
 use crate::outcome::{Outcome, Refusal, TextPlace, Verdict};
-use smap_changes::shown_name;
-use smap_places::hint;
+use smap_differences::shown_name;
+use smap_fault_places::hint;
 use std::alloc::{AllocError, Global};
 
 /// The names of members, as JSON writes them.

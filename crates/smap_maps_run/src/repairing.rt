@@ -3,9 +3,9 @@
 use crate::deciding::Deed;
 use crate::looking::{Case, plain};
 use crate::{Failure, Outcome, Verdict, refused_for};
-use smap_machine::Disk;
 use smap_record::{Base, Fault, Limits};
 use smap_repair::{Repair, Repaired, repair_text, sentence};
+use smap_system::Disk;
 use std::alloc::{AllocError, Global};
 
 fn sentences(alloc: Global, repairs: &[Repair]) -> Result<Vec<String>, AllocError> {

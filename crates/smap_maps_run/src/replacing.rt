@@ -1,7 +1,7 @@
 //! A file that gets other bytes.
 
 use crate::Failure;
-use smap_machine::{BesideFault, Disk, Stamp, create_beside};
+use smap_system::{BesideFault, Disk, Stamp, create_beside};
 use std::alloc::Global;
 use std::io::{self, Write};
 

@@ -1,7 +1,7 @@
 //! What is said of a map, and written.
 
 use crate::{Outcome, Verdict, is_named, json_line, remark, said_name};
-use smap_machine::{Disk, Host, Stop, Watched, printable};
+use smap_system::{Disk, Host, Stop, Watched, printable};
 use std::io::Write;
 
 /// How the outcomes are written.

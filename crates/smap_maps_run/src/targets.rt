@@ -1,8 +1,8 @@
 //! The maps that the paths name, with their URLs.
 
 use smap_link::script_url;
-use smap_machine::{Disk, Host, Kind, Stop, parted, walk};
 use smap_map_files::folder_url;
+use smap_system::{Disk, Host, Kind, Stop, parted, walk};
 use std::alloc::{AllocError, Global};
 
 /// A map to be looked at.

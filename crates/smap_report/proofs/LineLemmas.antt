@@ -12,7 +12,7 @@ use Rattle.std.proofs.lemmas.Fmt.{decimal_by_steps}
 use Rattle.std.proofs.lemmas.List.Concat.{flat_map-cons}
 use Rattle.std.proofs.lemmas.List.Folds.{list_any-append}
 use Rattle.serde_json.specs.Written.{compact_text}
-use Rattle.smap_machine.specs.Printing.{escaped as control, hex_byte, is_unsafe, printable, safe_char}
+use Rattle.smap_system.specs.Printing.{escaped as control, hex_byte, is_unsafe, printable, safe_char}
 use Rattle.smap_report.specs.declared.escapes.Place.TheVariants.{Data as message_data, Property, Xml}
 use Rattle.smap_report.specs.declared.findings.Finding.{Finding}
 use Rattle.smap_report.specs.declared.findings.Level.{Level}

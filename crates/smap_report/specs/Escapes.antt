@@ -4,7 +4,7 @@ use Rattle.std.specs.List.{flat_map}
 use Rattle.std.specs.Option.{option_map_or}
 use Rattle.serde_json.specs.Data.{Data as Json}
 use Rattle.serde_json.specs.Written.{compact_text}
-use Rattle.smap_machine.specs.Printing.{printable}
+use Rattle.smap_system.specs.Printing.{printable}
 use Rattle.smap_report.specs.declared.escapes.Place.{Place}
 use Rattle.smap_report.specs.declared.escapes.Place.TheVariants.{Data, Property, Xml}
 

@@ -2,7 +2,7 @@
 use Rattle.std.specs.Prelude.{ℕ, List, [], ◌++◌, codes, decimal, Option, option_map, string_bytes}
 use Rattle.std.specs.Option.{option_map_or}
 use Rattle.serde_json.specs.Data.{Data, null, number, unsigned, string, object, member, no_members}
-use Rattle.smap_machine.specs.Printing.{printable}
+use Rattle.smap_system.specs.Printing.{printable}
 use Rattle.smap_report.specs.declared.escapes.Place.TheVariants.{Data as message_data, Property}
 use Rattle.smap_report.specs.declared.findings.Finding.{Finding}
 use Rattle.smap_report.specs.declared.findings.Level.{Level}

@@ -2,7 +2,7 @@
 use Rattle.std.specs.Prelude.{ℕ, zero, suc, Bool, false, bytes_eq, cond, List, [], ◌++◌, codes, string_bytes}
 use Rattle.std.specs.List.{slice_get}
 use Rattle.std.specs.Option.{option_map_or}
-use Rattle.smap_machine.specs.Printing.{printable}
+use Rattle.smap_system.specs.Printing.{printable}
 use Rattle.smap_report.specs.declared.findings.Finding.{Finding}
 use Rattle.smap_report.specs.declared.findings.Level.{Level}
 use Rattle.smap_report.specs.declared.findings.Level.TheVariants.{Note, Warning, Error}

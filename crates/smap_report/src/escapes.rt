@@ -5,7 +5,7 @@ ghost use Rattle.serde_json.specs.Written.{has_float};
 ghost use Rattle.smap_report.specs.Escapes as spec;
 
 use serde_json::Value;
-use smap_machine::printable;
+use smap_system::printable;
 use std::alloc::{AllocError, Global};
 
 /// Where a text is put.

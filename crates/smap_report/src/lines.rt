@@ -8,7 +8,7 @@ use crate::escapes::{Place, json_text, shown};
 use crate::findings::{Finding, Level, Point, Report, Rule, level_word, rule_name};
 use crate::phrases::place_text;
 use serde_json::{Value, json};
-use smap_machine::printable;
+use smap_system::printable;
 use std::alloc::{AllocError, Global};
 
 /// The form of a line.

@@ -5,7 +5,7 @@ ghost use Rattle.smap_report.specs.Text as spec;
 
 use crate::findings::{Finding, Level, Report, Rule, rule_name};
 use crate::phrases::{place_text, summary};
-use smap_machine::printable;
+use smap_system::printable;
 use std::alloc::{AllocError, Global};
 
 /// A level in a column of seven characters.

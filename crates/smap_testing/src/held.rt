@@ -1,6 +1,6 @@
 //! What a disk in memory holds.
 
-use smap_machine::{Entry, EntryKind, Kind, Listing, Stamp, joined, parted};
+use smap_system::{Entry, EntryKind, Kind, Listing, Stamp, joined, parted};
 use std::alloc::{AllocError, Global};
 use std::cell::RefCell;
 use std::io::{self, ErrorKind};

@@ -1,7 +1,6 @@
-//! Readers and writers over memory, a file system in memory, and tables of rows, for the tests of the other
-//! crates.
+//! Readers and writers over memory, and a file system in memory, for the tests of the other crates.
 //!
-//! [`MemoryDisk`] is for tests of what works over any [`smap_machine::Disk`]: folders, links, special files,
+//! [`MemoryDisk`] is for tests of what works over any [`smap_system::Disk`]: folders, links, special files,
 //! names that aren't UTF-8, and calls that fail.
 //!
 //! Tests can see what no contract says of a reader or a writer: how often it was called, what comes of a
@@ -13,11 +12,9 @@ mod held;
 mod memory_disk;
 mod slow_reader;
 mod slow_writer;
-mod table;
 mod watched;
 
 pub use memory_disk::{MemoryDisk, MemoryReader, MemoryWriter};
 pub use slow_reader::{LongReader, SlowReader};
 pub use slow_writer::SlowWriter;
-pub use table::{parts, rows};
 pub use watched::{WatchedWriter, WatchingReader};

@@ -1,7 +1,7 @@
 //! A disk in memory, for tests.
 
 use crate::held::{Content, Shared, Step, Table};
-use smap_machine::{Disk, Kind, Listing, Stamp};
+use smap_system::{Disk, Kind, Listing, Stamp};
 use std::alloc::Global;
 use std::cell::RefCell;
 use std::io::{self, ErrorKind, Read, Write};

@@ -1,7 +1,6 @@
 pub mod Bundle
 pub mod BundleLaws
 pub mod BundleLine
-pub mod BundleScripts
 pub mod Commands
 pub mod Entries
 pub mod FaultLine

@@ -87,6 +87,15 @@ pub enum Task<'a> {
     Scripts,
 }
 
+/// The end of the help: the programs over files, which have command lines of their own.
+const TOOLS: &str = "\
+Over files, each with a --help of its own:
+  smap trace   Translate the stack traces of a log (smap-trace)
+  smap maps    Check, tidy, flatten, lint or repair maps (smap-maps)
+  smap lint    Say why the maps of a build don't work (smap-maps lint)
+  smap repair  Mend maps that are refused for small faults (smap-maps repair)
+  smap view    Make a page of a map (smap-view)";
+
 /// The program, without its commands.
 fn alone<'a>(alloc: Global) -> Command<'a>
     ensures shape { app_of result ≡ line.smap_alone }
@@ -96,7 +105,8 @@ fn alone<'a>(alloc: Global) -> Command<'a>
         .about(
             "Validate and normalize source maps, and translate stack traces, read from standard input",
         )
-        .version("0.2.0")
+        .version("0.3.0-dev (commit unknown)")
+        .after_help(TOOLS)
         .subcommand_required(true)
         .disable_help_subcommand(true)
 }

@@ -15,7 +15,6 @@ ghost use Rattle.smap_tool.specs.Entries.{cut_off, refusal};
 ghost use Rattle.smap_tool.specs.Header.{trace_line};
 ghost use Rattle.smap_tool.specs.Reach.{IsWithinEntry, IsWithinMap, ReadsNoMore};
 ghost use Rattle.smap_tool.specs.Reading.{IsLine};
-ghost use Rattle.smap_tool.specs.BundleScripts.{scripts_of};
 ghost use Rattle.smap_tool.specs.Stopping as stopping;
 ghost use Rattle.smap_tool.specs.Stopping.{Says, Stops};
 ghost use Rattle.url.specs.Parser.{parse_url};
@@ -23,9 +22,9 @@ ghost use Rattle.url.specs.Parser.{parse_url};
 use crate::bundle::Bundle;
 use crate::fault::{BundleFault, EntryFault, Refusal};
 use crate::header::{Header, LONGEST_HEADER, parse_header};
-use indexmap::IndexMap;
 use smap_io::{Device, LIMIT, MOST_CALLS, ReadFault, read_line, read_up_to};
 use smap_record::{Base, BaseFault, Limits, ReadError, SourceMap};
+use smap_trace::{Maps, Scripts};
 use std::alloc::Global;
 use std::io::Read;
 
@@ -46,24 +45,31 @@ fn unread(fault: ReadFault) -> BundleFault
     }
 }
 
+/// Whether a script with this URL was read.
+fn has_script(scripts: &Scripts<SourceMap>, script: &str) -> bool
+    ensures { result ≡ spec.has_script scripts.now script.now }
+{
+    scripts.map_of(script.as_bytes()).is_some()
+}
+
 /// The base of the next entry, once its length and its script are checked.
 fn base_of(
     alloc: Global,
     header: &Header<'_>,
-    scripts: &IndexMap<String, SourceMap>,
+    scripts: &Scripts<SourceMap>,
 ) -> Result<Base, BundleFault>
     ensures fits { OnOk result (header.now.length ≤ longest_input) }
-    ensures new { OnOk result (IsNew (scripts_of scripts.now.entries) header.now.script.now) }
+    ensures new { OnOk result (IsNew scripts.now header.now.script.now) }
     ensures base { IfOk result (λ base. parse_url None header.now.base.now ≡ Ok base) }
     ensures stops { (n : ℕ) (more : List ℕ) → header.now.length ≡ min n (2 ^ 64 - 1)
-        → IfErr result (Says (λ found. spec.entry_with (scripts_of scripts.now.entries)
+        → IfErr result (Says (λ found. spec.entry_with scripts.now
         (record { script = header.now.script.now; base = header.now.base.now; bytes = n }) more
         ≡ Err found)) }
 {
     if header.length > LIMIT as u64 {
         return Err(BundleFault::TooLong);
     }
-    if scripts.contains_key(header.script) {
+    if has_script(scripts, header.script) {
         return Err(refused(scripts.len(), EntryFault::Repeated));
     }
     match Base::new(alloc, header.base) {
@@ -128,20 +134,19 @@ fn map_of(
 /// Adds a script after the others.
 fn add(
     alloc: Global,
-    scripts: &mut IndexMap<String, SourceMap>,
+    scripts: &mut Scripts<SourceMap>,
     script: &str,
     map: SourceMap,
 ) -> Result<(), BundleFault>
-    requires { IsNew (scripts_of scripts.old.entries) script.now }
-    ensures added { OnOk result (scripts_of scripts.new.entries ≡ scripts_of scripts.old.entries ++
-        (script.now, record_of map) ∷ []) }
+    requires { IsNew scripts.old script.now }
+    ensures added { OnOk result (scripts.new ≡ scripts.old ++ (script.now, record_of map) ∷ []) }
     ensures memory { IfErr result (λ fault. fault ≡ BundleFault.Memory) }
 {
-    let Ok(url) = String::from_str(alloc, script) else {
+    let Ok(url) = Vec::from_slice(alloc, script.as_bytes()) else {
         return Err(BundleFault::Memory);
     };
-    match scripts.insert(url, map) {
-        Ok(_) => Ok(()),
+    match scripts.put(url, map) {
+        Ok(()) => Ok(()),
         Err(_) => Err(BundleFault::Memory),
     }
 }
@@ -152,18 +157,17 @@ fn take_map<R: Read>(
     reader: &mut Device<R>,
     calls: &mut u64,
     header: &Header<'_>,
-    scripts: &mut IndexMap<String, SourceMap>,
+    scripts: &mut Scripts<SourceMap>,
 ) -> Result<(), BundleFault>
     requires failures { device_failures reader.old < 2 ^ 64 - 1 }
     requires not_ended { has_ended reader.old ≡ false }
     ensures takes { OnOk result (TakesMap R.remaining reader.old reader.new calls.old calls.new
-        header.now.script.now header.now.base.now header.now.length (scripts_of scripts.old.entries)
-        (scripts_of scripts.new.entries)) }
+        header.now.script.now header.now.base.now header.now.length scripts.old scripts.new) }
     ensures failures { OnOk result (device_failures reader.new ≡ device_failures reader.old) }
     ensures not_ended { OnOk result (has_ended reader.new ≡ false) }
     ensures stops { (n : ℕ) → header.now.length ≡ min n (2 ^ 64 - 1)
         → IfErr result (Stops R.remaining reader.old reader.new calls.old
-        (λ more found. spec.entry_with (scripts_of scripts.old.entries)
+        (λ more found. spec.entry_with scripts.old
         (record { script = header.now.script.now; base = header.now.base.now; bytes = n }) more ≡ Err found)
         (IsWithinMap n)) }
     ensures in_time { StopsInTime reader.old reader.new }
@@ -183,17 +187,17 @@ fn take_entry<R: Read>(
     reader: &mut Device<R>,
     calls: &mut u64,
     line: &[u8],
-    scripts: &mut IndexMap<String, SourceMap>,
+    scripts: &mut Scripts<SourceMap>,
 ) -> Result<(), BundleFault>
     requires failures { device_failures reader.old < 2 ^ 64 - 1 }
     requires line { IsLine (has_ended reader.old) line.now }
     requires no_trace { line.now ≢ trace_line }
     ensures takes { OnOk result (TakesEntry R.remaining reader.old reader.new calls.old calls.new
-        line.now (scripts_of scripts.old.entries) (scripts_of scripts.new.entries)) }
+        line.now scripts.old scripts.new) }
     ensures failures { OnOk result (device_failures reader.new ≡ device_failures reader.old) }
     ensures not_ended { OnOk result (has_ended reader.new ≡ false) }
     ensures stops { IfErr result (Stops R.remaining reader.old reader.new calls.old
-        (λ more. IsFaultAt (scripts_of scripts.old.entries) (line.now ++ more))
+        (λ more. IsFaultAt scripts.old (line.now ++ more))
         (IsWithinEntry line.now)) }
     ensures open { MatchResult result (λ _. has_ended reader.old ≡ false)
         (λ fault. fault ≡ BundleFault.Read → has_ended reader.old ≡ false) }
@@ -241,7 +245,7 @@ pub fn read_bundle<R: Read>(alloc: Global, reader: &mut Device<R>) -> Result<Bun
     ensures in_time { StopsInTime reader.old reader.new }
     ensures still { OnOk result (is_over reader.new ≡ is_over reader.old) }
 {
-    let mut scripts = IndexMap::new(alloc);
+    let mut scripts = Scripts::new(alloc);
     let mut calls = MOST_CALLS;
     'entries: loop {
         let line = match read_line(alloc, reader, &mut calls, LONGEST_HEADER) {

@@ -13,3 +13,28 @@ pub(crate) fn equal<T: Copy + Debug + PartialEq>(rt: &impl Abort, found: T, expe
 pub(crate) fn holds(rt: &impl Abort, claim: bool) {
     assert!(rt; claim);
 }
+
+/// Asserts which list was made.
+pub(crate) fn lists<T: Copy + Debug + PartialEq, E: Drop>(
+    rt: &impl Abort,
+    made: Result<Vec<T>, E>,
+    expected: &[T],
+) {
+    match made {
+        Ok(items) => equal(rt, items.as_slice(), expected),
+        Err(_) => holds(rt, false),
+    }
+}
+
+/// Asserts which text was made.
+pub(crate) fn makes<E: Drop>(rt: &impl Abort, made: Result<Vec<u8>, E>, expected: &str) {
+    lists(rt, made, expected.as_bytes());
+}
+
+/// Asserts that there is a text, and which.
+pub(crate) fn finds<E: Drop>(rt: &impl Abort, found: Result<Option<Vec<u8>>, E>, expected: &str) {
+    match found {
+        Ok(Some(bytes)) => equal(rt, bytes.as_slice(), expected.as_bytes()),
+        _ => holds(rt, false),
+    }
+}

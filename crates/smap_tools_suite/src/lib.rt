@@ -1,34 +1,42 @@
-//! Tests of what the tools say and do, that need only the public interface: what a rewrite drops and changes,
-//! where in a text a fault is, repairs, rules of `smap-maps lint`, what a page holds, the names in a log; and
-//! whole runs of `smap-trace`, `smap-maps` and `smap-view` over files in memory: the status, what is written,
-//! what is left on the disk, and files that fail. The expected results were found by hand. What the built
-//! programs show is in the tables of `tests/rows/`. The crate has only tests, like `smap_reading_suite`.
+//! Tests of what the tools stand on, say and do, that need only the public interface: links in scripts and
+//! URLs, the file that serves a name, folders and files on a disk, the words of command lines, the forms of a
+//! report; what a rewrite drops and changes, where in a text a fault is, repairs, what a page holds, the
+//! names in a log and the lines around a position; and whole runs of `smap-trace`, `smap-maps` and
+//! `smap-view` over files in memory, with files that fail. The expected results were found by hand. What the
+//! built programs show is in the tables of `tests/rows/`. The crate has only tests, like
+//! `smap_reading_suite`.
 #![tactic(auto)]
 
 #[cfg(test)]
 mod asserted;
 #[cfg(test)]
-mod changes;
+mod differences;
 #[cfg(test)]
-mod drops;
+mod disk;
+#[cfg(test)]
+mod fault_places;
 #[cfg(test)]
 mod lines;
 #[cfg(test)]
-mod lint;
+mod link;
 #[cfg(test)]
 mod linter;
 #[cfg(test)]
-mod logs;
+mod map_choice;
 #[cfg(test)]
 mod mapper;
 #[cfg(test)]
+mod memory_disk;
+#[cfg(test)]
 mod page;
 #[cfg(test)]
-mod places;
-#[cfg(test)]
-mod ranges;
-#[cfg(test)]
 mod repair;
+#[cfg(test)]
+mod report;
+#[cfg(test)]
+mod tool_words;
+#[cfg(test)]
+mod trace_words;
 #[cfg(test)]
 mod tracer;
 #[cfg(test)]

@@ -1,4 +1,4 @@
-//! Rows for each repair, with what is said of it.
+//! Repairs, with what is said of them. Many more are in `tests/repairs`.
 use crate::asserted::equal;
 use smap_record::{Base, Limits};
 use smap_repair::{Repair, Repaired, repair_text, sentence};
@@ -26,16 +26,13 @@ fn said(alloc: Global, text: &[u8], url_bytes: usize) -> Result<String, Fail> {
     }
 }
 
-const LONG: [(&[u8], usize, &str); 4] = [
+/// A text, how many bytes its URLs may take, and what becomes of it. The URL `http://h/m/a` has 12 bytes, and
+/// `w://a%20b` that a repair makes has 9.
+const ROWS: [(&[u8], usize, &str); 5] = [
     (
         b"{\"version\":3,\"sources\":[\"a\"],\"mappings\":\"\"}",
         12,
         "sound",
-    ),
-    (
-        b"{\"version\":3,\"sources\":[\"a\"],\"mappings\":\"\"}",
-        11,
-        "long URLs",
     ),
     (
         b"\xef\xbb\xbf{\"version\":3,\"sources\":[\"a\"],\"mappings\":\"\"}",
@@ -47,43 +44,28 @@ const LONG: [(&[u8], usize, &str); 4] = [
         9,
         "long URLs",
     ),
-];
-
-#[test]
-fn a_mark_and_halves(rt: HostRuntime) -> Result<(), Fail> {
-    let text =
-        b"\xef\xbb\xbf{\"version\":3,\"mappings\":\"\",\"x\":\"\\ud800\\ud83d\\ude00\\\\ud800\"}";
-    equal(
-        &rt,
-        said(rt.alloc(), text, usize::MAX)?.as_str(),
+    (
+        b"\xef\xbb\xbf{\"version\":3,\"mappings\":\"\",\"x\":\"\\ud800\\ud83d\\ude00\\\\ud800\"}",
+        0,
         "{\"version\":3,\"mappings\":\"\",\"x\":\"\\ufffd\\ud83d\\ude00\\\\ud800\"}\n\
          byte order mark: removed\n\
          byte 32: \\ud800 becomes \\ufffd",
-    );
-    Ok(())
-}
-
-#[test]
-fn maps_of_sections(rt: HostRuntime) -> Result<(), Fail> {
-    let text =
+    ),
+    (
         b"{\"version\":3,\"mappings\":\"\",\"sections\":[{\"offset\":{\"line\":0,\"column\":0},\
-        \"map\":{\"version\":\"3\", \"sources\":[null,\"w://a [b/c\"],\"mappings\":\"\"}}]}";
-    equal(
-        &rt,
-        said(rt.alloc(), text, usize::MAX)?.as_str(),
+        \"map\":{\"version\":\"3\", \"sources\":[null,\"w://a [b/c\"],\"mappings\":\"\"}}]}",
+        99,
         "{\"version\":3,\"mappings\":null,\"sections\":[{\"offset\":{\"line\":0,\"column\":0},\
          \"map\":{\"version\":3, \"sources\":[null,\"w://a%20%5Bb/c\"],\"mappings\":\"\"}}]}\n\
          mappings beside sections: \"\" becomes null\n\
          version of section 0: \"3\" becomes 3\n\
          source 1 of section 0: \"w://a [b/c\" becomes \"w://a%20%5Bb/c\"",
-    );
-    Ok(())
-}
+    ),
+];
 
-/// The URL `http://h/m/a` has 12 bytes, and `w://a%20b` that a repair makes has 9.
 #[test]
-fn urls_that_take_more(rt: HostRuntime) -> Result<(), Fail> {
-    for (text, url_bytes, want) in &LONG {
+fn each_repair_is_told(rt: HostRuntime) -> Result<(), Fail> {
+    for (text, url_bytes, want) in &ROWS {
         equal(&rt, said(rt.alloc(), text, *url_bytes)?.as_str(), *want);
     }
     Ok(())

@@ -41,44 +41,6 @@ fn traced(
 }
 
 #[test]
-fn a_pipe_is_translated_with_a_map(rt: HostRuntime) -> Result<(), Fail> {
-    let disk = MemoryDisk::new(rt.alloc());
-    disk.add_file("/x.map", MAP)?;
-    let words = ["smap-trace", "http://h/m/out.js=/x.map"];
-    let (status, out) = traced(&rt, &disk, &words, b"@http://h/m/out.js:1:2\nx")?;
-    equal(&rt, status, 0);
-    equal(&rt, out.as_slice(), b"@http://h/m/a.js:11:3\nx".as_slice());
-    Ok(())
-}
-
-#[test]
-fn a_log_takes_the_files_whose_names_end_as_its_scripts_do(rt: HostRuntime) -> Result<(), Fail> {
-    let disk = MemoryDisk::new(rt.alloc());
-    disk.add_file("/dist/js/out.js.map", MAP)?;
-    disk.add_file("/crash.log", b"@http://h/m/js/out.js:1:5\n")?;
-    let words = ["smap-trace", "/dist", "/crash.log"];
-    let (status, out) = traced(&rt, &disk, &words, b"")?;
-    equal(&rt, status, 0);
-    equal(
-        &rt,
-        out.as_slice(),
-        b"@http://h/m/js/a.js:13:3\n".as_slice(),
-    );
-    Ok(())
-}
-
-#[test]
-fn a_refused_map_ends_the_run_and_the_output_file_stays(rt: HostRuntime) -> Result<(), Fail> {
-    let disk = with_log(&rt, b"{\"version\":2}")?;
-    disk.add_file("/out", b"old")?;
-    let (status, _) = traced(&rt, &disk, &TO_A_FILE, b"")?;
-    equal(&rt, status, 1);
-    equal(&rt, disk.bytes("/out")?.as_slice(), b"old".as_slice());
-    holds(&rt, disk.bytes("/.smap-1").is_err());
-    Ok(())
-}
-
-#[test]
 fn an_output_file_is_written_whole(rt: HostRuntime) -> Result<(), Fail> {
     let disk = with_log(&rt, MAP)?;
     let (status, out) = traced(&rt, &disk, &TO_A_FILE, b"")?;

@@ -26,6 +26,14 @@ pub trait HasMap {
         ensures { result.now ≡ held_map self.now };
 }
 
+impl HasMap for SourceMap {
+    ghost held_map = { λ m. m };
+
+    fn map(&self) -> &SourceMap {
+        self
+    }
+}
+
 impl HasMap for &SourceMap {
     ghost held_map = { λ m. m.now };
 

@@ -12,11 +12,11 @@ use Rattle.std.proofs.lemmas.List.Elements.{Contains-append_cases, Contains-appe
 use Rattle.std.proofs.lemmas.List.Elements.{Contains-append_right, Contains-push_cases}
 use Rattle.std.proofs.lemmas.List.Splits.{length-slice_split}
 use Rattle.smap_map_files.specs.declared.wanted.Wanted.{Wanted}
-use Rattle.smap_machine.specs.Held.{GivesHeld, Held, IsHeld}
-use Rattle.smap_finder.specs.ChosenView.{AreChosen, AreEnds, Choices, IsEndOf, KeepEnds}
-use Rattle.smap_finder.specs.ChosenView.{no_choices}
-use Rattle.smap_finder.proofs.ChosenLemmas.{mapped_among}
-use Rattle.smap_finder.proofs.EndLemmas.{none_ended}
+use Rattle.smap_system.specs.Held.{GivesHeld, Held, IsHeld}
+use Rattle.smap_map_finder.specs.ChosenView.{AreChosen, AreEnds, Choices, IsEndOf, KeepEnds}
+use Rattle.smap_map_finder.specs.ChosenView.{no_choices}
+use Rattle.smap_map_finder.proofs.ChosenLemmas.{mapped_among}
+use Rattle.smap_map_finder.proofs.EndLemmas.{none_ended}
 use Rattle.smap_logs.specs.Lines.{is_feed, open_line, whole_lines}
 use Rattle.smap_trace.specs.Naming.{urls_of}
 use Rattle.smap_io.specs.Lines.{IsWhole}

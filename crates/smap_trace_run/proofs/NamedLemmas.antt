@@ -8,7 +8,7 @@ use Rattle.std.proofs.lemmas.Bool.{cases_lt}
 use Rattle.std.proofs.lemmas.List.{get_or_append_left, get_or_default, take_more}
 use Rattle.std.proofs.lemmas.List.Elements.{Contains-append_left, Contains-append_right}
 use Rattle.std.proofs.Math.Seq.{get_or-append_seam, take-length}
-use Rattle.smap_machine.specs.Held.{GivesHeld, HasSize, Held}
+use Rattle.smap_system.specs.Held.{GivesHeld, HasSize, Held}
 use Rattle.smap_trace.specs.Naming.{urls_of}
 use Rattle.smap_io.specs.Lines.{IsWhole}
 use Rattle.smap_trace.proofs.NamingLemmas.{urls_of-append}

@@ -10,7 +10,7 @@ use Rattle.std.proofs.KnownBytes.{Consumes-nil, Consumes-trans}
 use Rattle.std.proofs.lemmas.List.{get_or_default}
 use Rattle.std.proofs.lemmas.List.Folds.{concat-append}
 use Rattle.std.proofs.Math.Seq.{take-length}
-use Rattle.smap_machine.specs.Held.{GivesHeld, HasSize, Held}
+use Rattle.smap_system.specs.Held.{GivesHeld, HasSize, Held}
 use Rattle.smap_trace_run.specs.declared.tracing.Job.{Job}
 use Rattle.smap_trace_run.specs.Written.{AreTracedParts, AreWhole, HaveSizes, IsBegun, IsTraced, IsTracedLog}
 use Rattle.smap_trace_run.specs.Written.{IsTracedText, IsTracedTextIn, IsNameOf}

@@ -1,11 +1,13 @@
 -- What a run answers to its words.
 use Rattle.std.proofs.Common.{◌≡◌, ◌∙◌, ◌==◌, [], ◌∷◌, Bor, false, true, length, map, subst, sym, arith}
-use Rattle.std.proofs.Common.{ℕ, List, Option, None, Result, Ok, Err, OnOk, inl, inr}
+use Rattle.std.proofs.Common.{ℕ, Bool, List, Option, None, Result, Ok, Err, OnOk, codes, inl, inr, refl}
 use Rattle.std.proofs.lemmas.Bool.Decides.{nat_tests}
 use Rattle.std.proofs.lemmas.List.{nil_from_length}
-use Rattle.std.specs.Prelude.{⊤}
-use Rattle.smap_machine.specs.Held.{Held}
-use Rattle.smap_machine.specs.Tree.{Told}
+use Rattle.std.specs.Prelude.{⊤, if◌then◌else◌}
+use Rattle.smap_system.specs.Held.{Held}
+use Rattle.smap_system.specs.Status.{status_after, status_of}
+use Rattle.smap_system.specs.Tree.{Told}
+use Rattle.smap_system.specs.declared.stop.Stop.{Stop}
 use Rattle.smap_map_files.specs.declared.wanted.Wanted.{Wanted}
 use Rattle.smap_trace_run.specs.Runs.{AreFound, IsAnswered, IsJobOf, IsTracedAsked, IsTracedJob, IsTracedRun}
 use Rattle.smap_trace_run.specs.Runs.{IsTracedInput}
@@ -14,9 +16,10 @@ use Rattle.smap_trace_run.specs.declared.program.TheConstants.{STDIN}
 use Rattle.smap_trace_run.specs.declared.program.InputKind.{InputKind}
 use Rattle.smap_trace_run.specs.declared.program.InputKind.TheVariants.{Closed, File, Other, Terminal}
 use Rattle.smap_trace_run.specs.declared.tracing.Job.{Job}
-use Rattle.smap_words.specs.Request.{IsAsked}
-use Rattle.smap_words.specs.declared.request.Asked.{Asked}
-use Rattle.smap_words.specs.declared.request.TraceWords.{TraceWords}
+use Rattle.smap_command_line.specs.Lookups.{has, text}
+use Rattle.smap_command_line.specs.Trace.{IsAsked}
+use Rattle.smap_command_line.specs.declared.trace.words.Asked.{Asked}
+use Rattle.smap_command_line.specs.declared.trace.words.TraceWords.{TraceWords}
 
 -- standard input that is a file, as far as it went
 pub to_its_size : {A E : Type 0} (held : Held) (job : Job) (kind : InputKind)
@@ -38,30 +41,24 @@ to_its_end held job Terminal left before after (Ok a) traced = traced
 to_its_end held job Other left before after (Ok a) traced = traced
 to_its_end held job kind left before after (Err e) traced = tt
 
-pub traced_asked : {A E : Type 0} (held : Held) (asked : TraceWords) (wanted : Wanted) (job : Job)
-    (kind : InputKind)
-    (left before after : Option (List ℕ)) (result : Result A E) → job.wanted ≡ wanted → IsJobOf asked job
-    → OnOk result (job.list ≡ false → IsTracedJob held job kind left before after)
-    → OnOk result
-    (asked.output ≡ None → asked.list ≡ false → IsTracedAsked held wanted asked kind left before after)
-traced_asked held asked wanted job kind left before after (Ok a) is of traced = λ none off. record {
-  job = job;
-  wanted_is = is;
-  is_job = of;
-  traced = traced (of.list ∙ off);
-}
-traced_asked held asked wanted job kind left before after (Err e) is of traced = tt
-
-pub wanted_traced : {A E : Type 0} (told : Told) (held : Held) (asked : TraceWords) (wanted : Wanted)
+-- what the words ask for, by its job
+pub asked_traced : {A E : Type 0} (told : Told) (held : Held) (asked : TraceWords) (job : Job)
     (kind : InputKind) (left before after : Option (List ℕ)) (result : Result A E)
-    → AreFound told held asked wanted
-    → OnOk result
-    (asked.output ≡ None → asked.list ≡ false → IsTracedAsked held wanted asked kind left before after)
-    → OnOk result (asked.output ≡ None → asked.list ≡ false
+    → AreFound told held asked job.wanted → IsJobOf asked job
+    → OnOk result (job.list ≡ false → IsTracedJob held job kind left before after)
+    → OnOk result (text asked.options (codes "output") ≡ None → has asked.options (codes "list") ≡ false
     → (w : Wanted) × AreFound told held asked w × IsTracedAsked held w asked kind left before after)
-wanted_traced told held asked wanted kind left before after (Ok a) found traced = λ none off.
-    (wanted, found, traced none off)
-wanted_traced told held asked wanted kind left before after (Err e) found traced = tt
+asked_traced told held asked job kind left before after (Ok a) found of traced = λ none off. (
+  job.wanted,
+  found,
+  record {
+    job = job;
+    wanted_is = refl;
+    is_job = of;
+    traced = traced (of.list ∙ off);
+  },
+)
+asked_traced told held asked job kind left before after (Err e) found of traced = tt
 
 pub answered : {A E : Type 0} (told : Told) (held : Held) (help version : List ℕ) (words : List (List ℕ))
     (asked : Asked)
@@ -78,16 +75,14 @@ some_logs : (held : Held) (job : Job) (paths : List (Bor (List ℕ))) (kind : In
 some_logs held job [] kind left before after some all = absurd cc
 some_logs held job (path ∷ paths) kind left before after some all = all
 
-pub logs_traced : {A E : Type 0} (held : Held) (job : Job) (paths : List (Bor (List ℕ))) (kind : InputKind)
-    (left before after : Option (List ℕ)) (result : Result A E) → paths ≡ job.wanted.logs.items
-    → (length paths == 0) ≡ false
-    → OnOk result (AreTraced held job (map (λ (p : Bor (List ℕ)). p.now) paths) before after)
-    → OnOk result (IsTracedJob held job kind left before after)
-logs_traced held job paths kind left before after (Ok a) is some all =
+pub logs_traced : (held : Held) (job : Job) (paths : List (Bor (List ℕ))) (kind : InputKind)
+    (left before after : Option (List ℕ)) → paths ≡ job.wanted.logs.items → (length paths == 0) ≡ false
+    → AreTraced held job (map (λ (p : Bor (List ℕ)). p.now) paths) before after
+    → IsTracedJob held job kind left before after
+logs_traced held job paths kind left before after is some all =
     subst (λ (ps : List (Bor (List ℕ))).
     IsTracedRun held job (map (λ (p : Bor (List ℕ)). p.now) ps) kind left before after)
     is (some_logs held job paths kind left before after some all)
-logs_traced held job paths kind left before after (Err e) is some all = tt
 
 -- there is none
 pub no_items : (job : Job) (paths : List (Bor (List ℕ))) → paths ≡ job.wanted.logs.items
@@ -102,13 +97,11 @@ no_logs held job paths kind left before after is traced =
     subst (λ (ps : List (Bor (List ℕ))).
     IsTracedRun held job (map (λ (p : Bor (List ℕ)). p.now) ps) kind left before after) (sym is) traced
 
-pub standard_traced : {A E : Type 0} (held : Held) (job : Job) (kind : InputKind)
-    (left before after : Option (List ℕ)) (result : Result A E) → job.wanted.logs.items ≡ []
-    → OnOk result (IsTracedInput held job kind left before after)
-    → OnOk result (IsTracedJob held job kind left before after)
-standard_traced held job kind left before after (Ok a) is traced =
+pub standard_traced : (held : Held) (job : Job) (kind : InputKind) (left before after : Option (List ℕ))
+    → job.wanted.logs.items ≡ [] → IsTracedInput held job kind left before after
+    → IsTracedJob held job kind left before after
+standard_traced held job kind left before after is traced =
     no_logs held job job.wanted.logs.items kind left before after is traced
-standard_traced held job kind left before after (Err e) is traced = tt
 
 -- a list is no translation
 pub not_listed : {A E : Type 0} (job : Job) (P : Type 0) (result : Result A E) → job.list ≡ true
@@ -116,7 +109,24 @@ pub not_listed : {A E : Type 0} (job : Job) (P : Type 0) (result : Result A E) �
 not_listed job P (Ok a) is = λ off. absurd cc
 not_listed job P (Err e) is = tt
 
-pub in_turn : {A E : Type 0} (job : Job) (P : Type 0) (result : Result A E) → OnOk result P
-    → OnOk result (job.list ≡ false → P)
-in_turn job P (Ok a) is = λ off. is
-in_turn job P (Err e) is = tt
+pub on_ok : {A E : Type 0} (P : Type 0) (result : Result A E) → P → OnOk result P
+on_ok P (Ok a) p = p
+on_ok P (Err e) p = tt
+
+by_test : (n : ℕ) (b : Bool) → (n == 0) ≡ b → (if b then 1 else n) ≡ 0 → ⊥
+by_test n true e is = absurd (omega (arith, is))
+by_test n false e is = absurd (grind (arith, nat_tests, e, is))
+
+never_zero : (n : ℕ) → (if n == 0 then 1 else n) ≡ 0 → ⊥
+never_zero n is = by_test n (n == 0) refl is
+
+-- a run whose status is 0 has come to its end
+pub finished : {A : Type 0} (answer : Result A Stop) (P : Type 0) (status : ℕ) → status ≡ status_after answer
+    → OnOk answer P → status ≡ 0 → P
+finished (Ok a) P status is done none = done
+finished (Err stop) P status is done none = absurd (never_zero (status_of stop) (sym is ∙ none))
+
+-- and that of one that stopped is never 0
+pub stopped : (stop : Stop) (P : Type 0) (status : ℕ)
+    → status ≡ (if status_of stop == 0 then 1 else status_of stop) → status ≡ 0 → P
+stopped stop P status is none = absurd (never_zero (status_of stop) (sym is ∙ none))

@@ -1,9 +1,9 @@
 -- A run goes on: it finds maps of its own job.
 use Rattle.std.proofs.Common.{◌≡◌, ◌∙◌, subst, sym, ℕ, List, Option, Result, Ok, Err, OnOk}
 use Rattle.std.specs.List.{Contains}
-use Rattle.smap_machine.specs.Held.{Held}
-use Rattle.smap_finder.specs.ChosenView.{AreChosen, Choices, KeepEnds}
-use Rattle.smap_finder.specs.Finding.{Finding, IsSameSearch}
+use Rattle.smap_system.specs.Held.{Held}
+use Rattle.smap_map_finder.specs.ChosenView.{AreChosen, Choices, KeepEnds}
+use Rattle.smap_map_finder.specs.Finding.{Finding, IsSameSearch}
 use Rattle.smap_trace_run.specs.declared.tracing.Job.{Job}
 use Rattle.smap_trace_run.specs.Running.{IsRunning, IsSameRun, Running}
 use Rattle.smap_trace_run.specs.Written.{AreAmong, AreSettled, IsLog, IsTracedLog, asked_by}

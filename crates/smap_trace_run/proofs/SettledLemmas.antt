@@ -4,12 +4,13 @@ use Rattle.std.proofs.Common.{Ok, Err, OnOk, map, true}
 use Rattle.std.specs.Prelude.{⊤}
 use Rattle.std.specs.List.{All, Contains}
 use Rattle.std.proofs.lemmas.List.Elements.{All-contains, All-map, All-nil}
-use Rattle.smap_machine.specs.Held.{GivesHeld, Held}
+use Rattle.smap_system.specs.Held.{GivesHeld, Held}
 use Rattle.smap_map_files.specs.declared.wanted.Wanted.{Wanted}
 use Rattle.smap_map_files.specs.declared.opening.How.{How}
-use Rattle.smap_finder.specs.ChosenView.{AreChosen, Choices, Grows, HasNamedMap, IsFor, IsJudged, IsLeftName}
-use Rattle.smap_finder.specs.ChosenView.{IsSettledIn, no_choices}
-use Rattle.smap_finder.proofs.GrowthLemmas.{settled_grown}
+use Rattle.smap_map_finder.specs.ChosenView.{AreChosen, Choices, Grows, HasNamedMap, IsFor, IsJudged}
+use Rattle.smap_map_finder.specs.ChosenView.{IsLeftName}
+use Rattle.smap_map_finder.specs.ChosenView.{IsSettledIn, no_choices}
+use Rattle.smap_map_finder.proofs.GrowthLemmas.{settled_grown}
 use Rattle.smap_trace.specs.Naming.{urls_of}
 use Rattle.smap_logs.specs.Naming.{AreIn, HaveNames, frames_of}
 use Rattle.smap_trace_run.specs.Written.{AreSettled, AreSettledLogs, IsBegun, IsNameOf, IsTracedLog}

@@ -5,8 +5,8 @@ use Rattle.std.specs.Prelude.{⊤}
 use Rattle.std.specs.List.{Contains}
 use Rattle.smap_trace.specs.Naming.{urls_of}
 use Rattle.std.proofs.lemmas.List.{map-append, take_more}
-use Rattle.smap_machine.specs.Held.{GivesHeld, HasSize, Held}
-use Rattle.smap_finder.specs.ChosenView.{Choices}
+use Rattle.smap_system.specs.Held.{GivesHeld, HasSize, Held}
+use Rattle.smap_map_finder.specs.ChosenView.{Choices}
 use Rattle.smap_trace_run.specs.declared.tracing.Job.{Job}
 use Rattle.smap_trace_run.proofs.PartsLemmas.{one_log, one_part}
 use Rattle.smap_trace_run.specs.Written.{AreNamed, AreTraced, AreSettled, IsNameOf}

@@ -1,6 +1,6 @@
 -- What contracts say of what lines are written to.
 use Rattle.std.specs.Prelude.{ℕ, List, Option, option_and_then}
-use Rattle.smap_machine.specs.Watched.{inner_of}
+use Rattle.smap_system.specs.Watched.{inner_of}
 use Rattle.smap_trace_run.specs.declared.output.Output.{Output}
 
 -- the bytes that it holds, where they are known

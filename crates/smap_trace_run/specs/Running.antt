@@ -1,8 +1,8 @@
 -- What contracts say of a run.
 use Rattle.std.specs.Prelude.{◌≡◌}
-use Rattle.smap_machine.specs.Held.{Held}
-use Rattle.smap_finder.specs.ChosenView.{Choices}
-use Rattle.smap_finder.specs.Finding.{Finding}
+use Rattle.smap_system.specs.Held.{Held}
+use Rattle.smap_map_finder.specs.ChosenView.{Choices}
+use Rattle.smap_map_finder.specs.Finding.{Finding}
 use Rattle.smap_trace_run.specs.Written.{AreNamed}
 use Rattle.smap_trace_run.specs.declared.tracing.Job.{Job}
 

@@ -1,9 +1,9 @@
 -- What a run writes of its logs.
-use Rattle.std.specs.Prelude.{◌≡◌, ◌⊎◌, ℕ, false, List, [], ◌∷◌, map, ⊤, Option, None}
+use Rattle.std.specs.Prelude.{◌≡◌, ◌⊎◌, ℕ, false, List, [], ◌∷◌, map, ⊤, Option, None, codes}
 use Rattle.std.specs.Borrow.{Bor}
 use Rattle.std.specs.Io.KnownBytes.{Appends}
-use Rattle.smap_machine.specs.Held.{Held}
-use Rattle.smap_machine.specs.Tree.{Told}
+use Rattle.smap_system.specs.Held.{Held}
+use Rattle.smap_system.specs.Tree.{Told}
 use Rattle.smap_map_files.specs.Lists.{lists_of, no_lists}
 use Rattle.smap_map_files.specs.Naming.{NamesAll}
 use Rattle.smap_map_files.specs.Settling.{IsSettled}
@@ -13,10 +13,11 @@ use Rattle.smap_trace_run.specs.declared.program.TheConstants.{STDIN}
 use Rattle.smap_trace_run.specs.declared.program.InputKind.{InputKind}
 use Rattle.smap_trace_run.specs.declared.program.InputKind.TheVariants.{Closed, File, Other, Terminal}
 use Rattle.smap_trace_run.specs.declared.tracing.Job.{Job}
-use Rattle.smap_words.specs.declared.request.Asked.{Asked}
-use Rattle.smap_words.specs.declared.request.Asked.TheVariants.{Help, Trace, Version}
-use Rattle.smap_words.specs.declared.request.TraceWords.{TraceWords}
-use Rattle.smap_words.specs.declared.values.Prefix.{Prefix}
+use Rattle.smap_command_line.specs.Lookups.{has, number, text, url_bytes}
+use Rattle.smap_command_line.specs.declared.pairs.Pair.{Pair}
+use Rattle.smap_command_line.specs.declared.trace.words.Asked.{Asked}
+use Rattle.smap_command_line.specs.declared.trace.words.Asked.TheVariants.{Help, Trace, Version}
+use Rattle.smap_command_line.specs.declared.trace.words.TraceWords.{TraceWords}
 
 -- Standard input that is a file was translated and written as far as it went, if it can be read from its
 -- beginning as well, or else to its end.
@@ -48,20 +49,20 @@ abbrev pub pairs_of : List (Bor (List ℕ) × Bor (List ℕ)) → List (List ℕ
 pairs_of pairs = map (λ p. (p.0.now, p.1.now)) pairs
 
 -- the same as the words have it
-abbrev pub prefixes_of : List Prefix → List (List ℕ × List ℕ)
-prefixes_of prefixes = map (λ p. (p.from.now, p.to.now)) prefixes
+abbrev pub prefixes_of : List Pair → List (List ℕ × List ℕ)
+prefixes_of prefixes = map (λ p. (p.key.now, p.text.now)) prefixes
 
 -- A run does what these words ask for. A URL in the log is taken with its query.
 pub record IsJobOf (asked : TraceWords) (job : Job) : Type 0 where
-  pub anywhere : job.anywhere ≡ asked.anywhere
-  pub list : job.list ≡ asked.list
-  pub check_all : job.check_all ≡ asked.check_all
-  pub skip : job.how.skip ≡ asked.skip_broken
-  pub verbose : job.how.verbose ≡ asked.verbose
-  pub found_anywhere : job.style.mode.anywhere ≡ asked.anywhere
+  pub anywhere : job.anywhere ≡ has asked.options (codes "anywhere")
+  pub list : job.list ≡ has asked.options (codes "list")
+  pub check_all : job.check_all ≡ has asked.options (codes "check-all")
+  pub skip : job.how.skip ≡ has asked.options (codes "skip-broken")
+  pub verbose : job.how.verbose ≡ has asked.options (codes "verbose")
+  pub found_anywhere : job.style.mode.anywhere ≡ has asked.options (codes "anywhere")
   pub queries : job.style.mode.ignore_query ≡ false
-  pub hide : job.style.hide ≡ asked.hide_ignored
-  pub context : job.style.context ≡ asked.context
+  pub hide : job.style.hide ≡ has asked.options (codes "hide-ignored")
+  pub context : job.style.context ≡ number asked.options (codes "context")
   pub prefixes : pairs_of job.style.prefixes.now ≡ prefixes_of asked.prefixes.items
 
 -- These are the maps and logs that the arguments of these words name, one map for each script, and the URLs
@@ -70,7 +71,7 @@ pub record AreFound (told : Told) (held : Held) (asked : TraceWords) (wanted : W
   pub named : Wanted
   pub names : NamesAll told held asked.arguments.items no_lists (lists_of named)
   pub settled : IsSettled named wanted
-  pub url_bytes : wanted.url_bytes ≡ asked.url_bytes
+  pub url_bytes : wanted.url_bytes ≡ url_bytes asked.options
 
 -- What is wanted was translated and written by a run that does what these words ask for.
 pub record IsTracedAsked (held : Held) (wanted : Wanted) (asked : TraceWords) (kind : InputKind)
@@ -87,6 +88,6 @@ abbrev pub IsAnswered : Told → Held → List ℕ → List ℕ → Asked → In
 IsAnswered told held help version Help kind left before after = Appends before after help
 IsAnswered told held help version Version kind left before after = Appends before after version
 IsAnswered told held help version (Trace asked) kind left before after =
-    asked.output ≡ None → asked.list ≡ false
+    text asked.options (codes "output") ≡ None → has asked.options (codes "list") ≡ false
     → (wanted : Wanted) × AreFound told held asked wanted
     × IsTracedAsked held wanted asked kind left before after

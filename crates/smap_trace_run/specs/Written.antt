@@ -7,9 +7,9 @@ use Rattle.std.specs.Borrow.{Bor}
 use Rattle.std.specs.Option.{is_some, unwrap_or}
 use Rattle.std.specs.Io.{IsEmptyOrEndsWith}
 use Rattle.std.specs.Io.KnownBytes.{Appends}
-use Rattle.smap_machine.specs.Held.{GivesHeld, HasSize, Held, IsHeld}
-use Rattle.smap_finder.specs.ChosenView.{AreChosen, AreEndsOf, Choices, HasNamedMap, IsJudged, IsLeft}
-use Rattle.smap_finder.specs.ChosenView.{IsSettledIn}
+use Rattle.smap_system.specs.Held.{GivesHeld, HasSize, Held, IsHeld}
+use Rattle.smap_map_finder.specs.ChosenView.{AreChosen, AreEndsOf, Choices, HasNamedMap, IsJudged, IsLeft}
+use Rattle.smap_map_finder.specs.ChosenView.{IsSettledIn}
 use Rattle.smap_map_files.specs.declared.wanted.Wanted.{Wanted}
 use Rattle.smap_map_files.specs.declared.opening.How.{How}
 use Rattle.smap_trace.specs.Naming.{urls_of}

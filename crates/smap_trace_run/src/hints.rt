@@ -1,9 +1,9 @@
 //! What helps where nothing was translated, or a log can't be read as it is.
 use crate::tracing::Job;
-use smap_finder::Finder;
 use smap_logs::Names;
-use smap_machine::{Disk, Host, Stop, shown};
 use smap_map_files::Wanted;
+use smap_map_finder::Finder;
+use smap_system::{Disk, Host, Stop, printable};
 
 /// Says what a log is that isn't text in UTF-8, by its first bytes. Answers whether it is none.
 pub(crate) fn hint_at_start<E: Eprint + AllocGlobal, D: Disk>(
@@ -44,12 +44,12 @@ fn why_no_map<E: Eprint + AllocGlobal, D: Disk>(
     }
     let text = match (wanted.places.first(), wanted.roots.last()) {
         (Some(place), _) => {
-            let name = shown(alloc, &place.script)?;
+            let name = printable(alloc, &place.script)?;
             let name = name.as_str();
             format!(in alloc; "the first map is that of {name}")?
         }
         (None, Some(root)) => {
-            let name = shown(alloc, root.path.as_str().as_bytes())?;
+            let name = printable(alloc, root.path.as_str().as_bytes())?;
             let name = name.as_str();
             format!(in alloc; "no file of {name} ends as it does")?
         }
@@ -80,7 +80,7 @@ pub(crate) fn hint_at_nothing<E: Eprint + AllocGlobal, D: Disk>(
     let is_mapped = finder.map_of(name).is_some();
     let why = why_no_map(host, &job.wanted, name)?;
     let why = why.as_str();
-    let name = shown(alloc, name)?;
+    let name = printable(alloc, name)?;
     let name = name.as_str();
     let text = if is_mapped {
         format!(in alloc;

@@ -1,6 +1,6 @@
 //! `smap-trace`: a run of it, from the words of its command line to its status ([`run`]). What the words say
-//! is read by `smap_words`, maps are found and opened by `smap_finder`, and lines are translated by
-//! `smap_trace`; logs are read block by block by `smap_logs`, and their lines are written here.
+//! is read by `smap_command_line`, maps are found and opened by `smap_map_finder`, and lines are translated
+//! by `smap_trace`; logs are read block by block by `smap_logs`, and their lines are written here.
 #![tactic(auto)]
 
 mod decorating;

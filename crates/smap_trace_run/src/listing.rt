@@ -1,10 +1,10 @@
 //! `--list`: the scripts that a log names.
 use crate::hints::hint_at_start;
 use crate::tracing::Job;
-use smap_finder::Finder;
 use smap_logs::{Log, Looked, Names};
-use smap_machine::{Disk, Host, Stop, printable, shown};
 use smap_map_files::Wanted;
+use smap_map_finder::Finder;
+use smap_system::{Disk, Host, Stop, printable};
 use std::alloc::{AllocError, Global};
 use std::io::Read;
 
@@ -145,7 +145,7 @@ fn hint_at_maps<E: Eprint + AllocGlobal, D: Disk>(
     }
     let text = match wanted.places.first() {
         Some(place) => {
-            let name = shown(alloc, &place.script)?;
+            let name = printable(alloc, &place.script)?;
             let name = name.as_str();
             format!(in alloc; "none of these has a map; the first map is that of {name}")?
         }

@@ -3,7 +3,7 @@ ghost use Rattle.std.specs.Prelude.{◌≡◌, OnOk};
 ghost use Rattle.std.specs.Io.KnownBytes.{Appends};
 ghost use Rattle.smap_trace_run.specs.OutputView.{contents_of};
 
-use smap_machine::{Disk, Host, Stop, Watched};
+use smap_system::{Disk, Host, Stop, Watched};
 use std::io::{self, Write};
 
 /// What lines are written to. The writer is lent out whole while a log is translated.

@@ -1,22 +1,22 @@
 //! A run of `smap-trace`.
-ghost use Rattle.std.specs.Prelude.{◌≡◌, [], false, true, IfOk, OnOk, map};
+ghost use Rattle.std.specs.Prelude.{◌≡◌, [], false, true, IfOk, None, OnOk, codes, map};
+ghost use Rattle.smap_command_line.specs.Lookups.{has, text};
 ghost use Rattle.smap_trace_run.specs.OutputView.{contents_of};
 ghost use Rattle.smap_trace_run.specs.Runs.{AreFound, IsAnswered, IsJobOf, IsTracedAsked, IsTracedInput};
-ghost use Rattle.smap_trace_run.specs.Runs.{IsTracedJob, IsTracedRedirected};
+ghost use Rattle.smap_trace_run.specs.Runs.{IsTracedJob};
 ghost use Rattle.smap_trace_run.specs.Runs.{pairs_of, prefixes_of};
-ghost use Rattle.smap_words.specs.Request.{IsAsked};
+ghost use Rattle.smap_command_line.specs.Trace.{IsAsked};
 
 use crate::decorating::Style;
 use crate::listing::{Listed, hint_at_list, list_log, list_text};
 use crate::output::Output;
 use crate::tracing::{Job, Run, finder_of, open_log, open_names, with_controls};
-use smap_finder::{Finder, How};
-use smap_machine::{Disk, Host, Kind, Stop, create_beside};
-use smap_map_files::{Wanted, settle, wanted_by};
+use smap_command_line::trace::{Asked, HELP, TraceWords, WordFault, message, trace_words};
+use smap_command_line::{Pair, VERSION};
+use smap_map_files::{Wanted, refuse_options, settle, wanted_by};
+use smap_map_finder::{Finder, How};
+use smap_system::{Disk, Host, Kind, Stop, create_beside};
 use smap_trace::MatchMode;
-use smap_words::{
-    Asked, HELP, Prefix, TRY_HELP, TraceWords, VERSION, WordFault, message, trace_words,
-};
 use std::alloc::{AllocError, Global};
 use std::io::{Read, Write};
 
@@ -40,23 +40,23 @@ pub struct Input<I> {
     pub kind: InputKind,
 }
 
+/// Whether a file says how long it is. The kernel says 0 of files of its own that aren't empty, as of those
+/// of `/proc`.
+fn has_size<D: Disk>(disk: &D, path: &str) -> bool {
+    match disk.size(path) {
+        Ok(size) => size > 0,
+        Err(_) => false,
+    }
+}
+
 /// Whether all logs can be read twice.
 fn are_files<D: Disk>(disk: &D, paths: &[&str]) -> bool {
     for path in paths {
-        if disk.kind(path) != Kind::File {
+        if disk.kind(path) != Kind::File || !has_size(disk, path) {
             return false;
         }
     }
     !paths.is_empty()
-}
-
-/// Whether a file can be read from its beginning by the name of standard input: it may be opened so, and says
-/// how long it is. The kernel says 0 of files of its own that aren't empty, as of those of `/proc`.
-fn opens_by_name<D: Disk>(disk: &D) -> bool {
-    match disk.size(STDIN) {
-        Ok(size) => size > 0 && disk.open(STDIN).is_ok(),
-        Err(_) => false,
-    }
 }
 
 /// Whether standard input is a file that can be read from its beginning by its name.
@@ -64,7 +64,7 @@ fn has_name<D: Disk>(disk: &D, kind: InputKind) -> bool
     ensures { result ≡ true → kind ≡ InputKind.File }
 {
     match kind {
-        InputKind::File => opens_by_name(disk),
+        InputKind::File => has_size(disk, STDIN) && disk.open(STDIN).is_ok(),
         InputKind::Closed | InputKind::Terminal | InputKind::Other => false,
     }
 }
@@ -110,8 +110,8 @@ impl<E: Eprint + AllocGlobal, D: Disk> Run<'_, E, D> {
         self.finder.tell_count()
     }
 
-    /// Translates the logs.
-    fn trace_logs<I: Read, W: Write + Drop>(
+    /// Translates the logs, or standard input where there are none.
+    fn trace<I: Read, W: Write + Drop>(
         &mut self,
         input: Input<I>,
         output: &mut Output<W>,
@@ -128,26 +128,10 @@ impl<E: Eprint + AllocGlobal, D: Disk> Run<'_, E, D> {
             return self.trace_standard(input, output);
         }
         if are_files(host.disk, logs) {
-            self.trace_files(logs, output)
-        } else {
-            self.trace_streams(logs, output)
+            return self.trace_files(logs, output);
         }
-    }
-
-    /// Translates the logs, and says why nothing was translated, where nothing was.
-    fn trace<I: Read, W: Write + Drop>(
-        &mut self,
-        input: Input<I>,
-        output: &mut Output<W>,
-    ) -> Result<(), Stop>
-    where
-        I: Drop,
-        ensures { OnOk result (IsTracedJob (D.held self.old.disk) self.old.job input.kind
-            (I.remaining input.reader) (contents_of W.contents output.old)
-            (contents_of W.contents output.new)) }
-    {
-        self.trace_logs(input, output)?;
-        self.say_nothing()
+        self.follow_paths(logs, output)?;
+        self.finder.tell_count()
     }
 }
 
@@ -197,7 +181,7 @@ where
     list_with(&*host, &*job, input, &mut finder, output)
 }
 
-/// Does a job.
+/// Does a job, and says why nothing was translated, where nothing was.
 fn run_job<'h, E: Eprint + AllocGlobal, D: Disk, I: Read, W: Write + Drop>(
     host: &'h Host<'h, E, D>,
     job: &Job<'_>,
@@ -213,7 +197,8 @@ where
         return list(host, job, input.reader, output);
     }
     let mut run = Run::new(&*host, &*job)?;
-    run.trace(input, output)
+    run.trace(input, output)?;
+    run.say_nothing()
 }
 
 /// Refuses a log that can't be had, and says what is waited for.
@@ -238,12 +223,12 @@ fn check_input<E: Eprint + AllocGlobal, D: Disk>(
 }
 
 /// The prefixes as pairs.
-fn prefixes<'a>(alloc: Global, all: &[Prefix<'a>]) -> Result<Vec<(&'a str, &'a str)>, AllocError>
+fn prefixes<'a>(alloc: Global, all: &[Pair<'a>]) -> Result<Vec<(&'a str, &'a str)>, AllocError>
     ensures { IfOk result (λ pairs. pairs_of pairs.items ≡ prefixes_of all.now) }
 {
     let mut prefixes = Vec::new(alloc);
     for prefix in all {
-        prefixes.push((prefix.from, prefix.to))?;
+        prefixes.push((prefix.key, prefix.text))?;
     }
     Ok(prefixes)
 }
@@ -292,9 +277,9 @@ fn found<'a, E: Eprint + AllocGlobal, D: Disk>(
     ensures { IfOk result (AreFound (D.tree host.now.disk.now) (D.held host.now.disk.now) asked.now) }
 {
     let mut wanted = wanted_by(host, &asked.arguments)?;
-    settle(host, asked.skip_broken, &mut wanted)?;
-    wanted.url_bytes = asked.url_bytes;
-    if wanted.is_empty() && !asked.list {
+    settle(host, asked.options.has("skip-broken"), &mut wanted)?;
+    wanted.url_bytes = asked.options.url_bytes();
+    if wanted.is_empty() && !asked.options.has("list") {
         return Err(host.fail(
             2,
             "no map is given: expected URL=FILE, URL/=FOLDER/ or a folder",
@@ -304,60 +289,41 @@ fn found<'a, E: Eprint + AllocGlobal, D: Disk>(
     Ok(wanted)
 }
 
-/// What a run does, of these words and of what their arguments name.
-fn job_of<'a>(
+/// What a run does, by its words and by what their arguments name.
+fn job_of<'p, 'a: 'p, E: Eprint + AllocGlobal, D: Disk>(
+    host: &Host<'_, E, D>,
     asked: &TraceWords<'a>,
-    wanted: Wanted<'a>,
-    with_controls: Vec<Vec<u8>>,
-    prefixes: &'a [(&'a str, &'a str)],
-) -> Job<'a>
+    prefixes: &'p [(&'p str, &'p str)],
+    kind: InputKind,
+) -> Result<Job<'p>, Stop>
     requires { pairs_of prefixes.now ≡ prefixes_of asked.now.prefixes.items }
-    ensures wanted { result.wanted ≡ wanted.entry }
-    ensures job { IsJobOf asked.now result }
+    ensures found { IfOk result (λ job.
+        AreFound (D.tree host.now.disk.now) (D.held host.now.disk.now) asked.now job.wanted) }
+    ensures job { IfOk result (IsJobOf asked.now) }
 {
-    Job {
-        anywhere: asked.anywhere,
-        list: asked.list,
-        check_all: asked.check_all,
+    let options = &asked.options;
+    let wanted = found(host, asked, kind)?;
+    let with_controls = with_controls(host.alloc(), &wanted)?;
+    Ok(Job {
+        anywhere: options.has("anywhere"),
+        list: options.has("list"),
+        check_all: options.has("check-all"),
         wanted,
         with_controls,
         how: How {
-            skip: asked.skip_broken,
-            verbose: asked.verbose,
+            skip: options.has("skip-broken"),
+            verbose: options.has("verbose"),
         },
         style: Style {
             mode: MatchMode {
-                anywhere: asked.anywhere,
+                anywhere: options.has("anywhere"),
                 ignore_query: false,
             },
-            hide: asked.hide_ignored,
+            hide: options.has("hide-ignored"),
             prefixes,
-            context: asked.context,
+            context: options.number("context"),
         },
-    }
-}
-
-/// Translates or lists what is wanted.
-fn trace_wanted<'h, E: Eprint + AllocGlobal, D: Disk, I: Read, W: Write + Drop>(
-    host: &'h Host<'h, E, D>,
-    asked: &TraceWords<'_>,
-    wanted: Wanted<'_>,
-    input: Input<I>,
-    output: &mut Output<W>,
-) -> Result<(), Stop>
-where
-    I: Drop,
-    ensures { OnOk result (asked.now.output ≡ None → asked.now.list ≡ false
-        → IsTracedAsked (D.held host.now.disk.now) wanted.entry asked.now input.kind
-        (I.remaining input.reader) (contents_of W.contents output.old) (contents_of W.contents output.new)) }
-{
-    let prefixes = prefixes(host.alloc(), &asked.prefixes)?;
-    let with_controls = with_controls(host.alloc(), &wanted)?;
-    let job = job_of(asked, wanted, with_controls, &prefixes);
-    match asked.output {
-        Some(file) => run_to_file(host, &job, input, file),
-        None => run_job(host, &job, input, output),
-    }
+    })
 }
 
 /// Translates or lists.
@@ -369,44 +335,17 @@ fn trace<'h, E: Eprint + AllocGlobal, D: Disk, I: Read, W: Write + Drop>(
 ) -> Result<(), Stop>
 where
     I: Drop,
-    ensures { OnOk result (asked.now.output ≡ None → asked.now.list ≡ false → (wanted : Wanted)
+    ensures { OnOk result (text asked.now.options (codes "output") ≡ None
+        → has asked.now.options (codes "list") ≡ false → (wanted : Wanted)
         × AreFound (D.tree host.now.disk.now) (D.held host.now.disk.now) asked.now wanted
         × IsTracedAsked (D.held host.now.disk.now) wanted asked.now input.kind (I.remaining input.reader)
         (contents_of W.contents output.old) (contents_of W.contents output.new)) }
 {
-    let wanted = found(host, asked, input.kind)?;
-    trace_wanted(host, asked, wanted, input, output)
-}
-
-/// What helps with a wrong command line.
-fn advice(fault: &WordFault<'_>) -> Option<&'static str> {
-    match fault {
-        WordFault::Argument { .. } => None,
-        _ => Some(TRY_HELP),
-    }
-}
-
-/// What the words ask for.
-fn answer<'h, E: Eprint + AllocGlobal, D: Disk, I: Read, W: Write + Drop>(
-    host: &'h Host<'h, E, D>,
-    words: &[&str],
-    input: Input<I>,
-    output: &mut Output<W>,
-) -> Result<(), Stop>
-where
-    I: Drop,
-    ensures { OnOk result ((asked : Asked) × IsAsked (map (λ w. w.now) words.now) asked
-        × IsAnswered (D.tree host.now.disk.now) (D.held host.now.disk.now) HELP.now VERSION.now asked
-        input.kind (I.remaining input.reader) (contents_of W.contents output.old)
-        (contents_of W.contents output.new)) }
-{
-    match trace_words(host.alloc(), words) {
-        Ok(Asked::Help) => output.write(host, HELP.as_bytes()),
-        Ok(Asked::Version) => output.write(host, VERSION.as_bytes()),
-        Ok(Asked::Trace(asked)) => trace(host, &asked, input, output),
-        Err(WordFault::Memory) => Err(Stop::Memory),
-        Err(WordFault::Nothing) => Err(host.fail_with_help(HELP)),
-        Err(fault) => Err(host.fail_words(message(host.alloc(), &fault), advice(&fault))),
+    let prefixes = prefixes(host.alloc(), &asked.prefixes)?;
+    let job = job_of(&*host, asked, &prefixes, input.kind)?;
+    match asked.options.text("output") {
+        Some(file) => run_to_file(host, &job, input, file),
+        None => run_job(host, &job, input, output),
     }
 }
 
@@ -433,8 +372,12 @@ where
         disk: &*disk,
         name: "smap-trace",
     };
-    match answer(&host, words, input, output) {
-        Ok(()) => 0,
-        Err(stop) => host.end(stop).max(1),
+    match trace_words(host.alloc(), words) {
+        Ok(Asked::Help) => host.status(output.write(&host, HELP.as_bytes())),
+        Ok(Asked::Version) => host.status(output.write(&host, VERSION.as_bytes())),
+        Ok(Asked::Trace(asked)) => host.status(trace(&host, &asked, input, output)),
+        Err(WordFault::Options(fault)) => host.status(Err(refuse_options(&host, &fault))),
+        Err(WordFault::Nothing) => host.status(Err(host.fail_with_help(HELP))),
+        Err(fault) => host.status(Err(host.fail_words(message(host.alloc(), &fault), None))),
     }
 }

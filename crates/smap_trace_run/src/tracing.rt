@@ -2,9 +2,9 @@
 ghost use Rattle.std.specs.Prelude.{◌≡◌, [], IfOk, OnOk, Some, map, ⊤};
 ghost use Rattle.std.specs.List.{Contains};
 ghost use Rattle.std.specs.Io.Take.{take_remaining};
-ghost use Rattle.smap_machine.specs.Held.{GivesHeld, HasSize};
-ghost use Rattle.smap_finder.specs.ChosenView.{AreChosen, KeepEnds, no_choices};
-ghost use Rattle.smap_finder.specs.Finding.{IsSameSearch};
+ghost use Rattle.smap_system.specs.Held.{GivesHeld, HasSize};
+ghost use Rattle.smap_map_finder.specs.ChosenView.{AreChosen, KeepEnds, no_choices};
+ghost use Rattle.smap_map_finder.specs.Finding.{IsSameSearch};
 ghost use Rattle.smap_trace.specs.Naming.{urls_of};
 ghost use Rattle.smap_logs.specs.Naming.{AddsNames, HaveNames, asked_in, frames_of, names_of};
 ghost use Rattle.smap_trace_run.specs.OutputView.{contents_of};
@@ -17,10 +17,10 @@ use crate::decorating::Style;
 use crate::hints::{hint_at_nothing, hint_at_start};
 use crate::output::Output;
 use crate::translating::Tally;
-use smap_finder::{Finder, How};
 use smap_logs::{Log, Names, has_control, names_in};
-use smap_machine::{Disk, Host, Stop};
 use smap_map_files::Wanted;
+use smap_map_finder::{Finder, How};
+use smap_system::{Disk, Host, Stop};
 use std::alloc::{AllocError, Global};
 use std::io::{Read, Take, Write};
 use std::marker::Model;
@@ -339,10 +339,6 @@ impl<'a, E: Eprint + AllocGlobal, D: Disk> Run<'a, E, D> {
             (contents_of W.contents output.new)) }
     {
         let sizes = self.open_files(paths)?;
-        if sizes.contains(&0) {
-            // The kernel says 0 of files of its own that aren't empty, such as those of /proc.
-            return self.follow_paths(paths, output);
-        }
         self.translate_files(paths, &sizes, output)
     }
 
@@ -367,7 +363,7 @@ impl<'a, E: Eprint + AllocGlobal, D: Disk> Run<'a, E, D> {
     }
 
     /// Translates logs with these names that are read once, one after another.
-    fn follow_paths<W: Write + Drop>(
+    pub(crate) fn follow_paths<W: Write + Drop>(
         &mut self,
         paths: &[&str],
         output: &mut Output<W>,
@@ -384,22 +380,6 @@ impl<'a, E: Eprint + AllocGlobal, D: Disk> Run<'a, E, D> {
             self.follow_log(log, output)?;
         }
         Ok(())
-    }
-
-    /// Translates logs of which one can be read only once.
-    pub(crate) fn trace_streams<W: Write + Drop>(
-        &mut self,
-        paths: &[&str],
-        output: &mut Output<W>,
-    ) -> Result<(), Stop>
-        requires { AreLogs (D.held self.old.disk) self.old.job paths.now }
-        ensures same { IsSameRun self.old self.new }
-        ensures traced { OnOk result (AreTraced (D.held self.old.disk) self.old.job
-            (map (λ p. p.now) paths.now) (contents_of W.contents output.old)
-            (contents_of W.contents output.new)) }
-    {
-        self.follow_paths(paths, output)?;
-        self.finder.tell_count()
     }
 
     /// Says why nothing was translated, where nothing was.

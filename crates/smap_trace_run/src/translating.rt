@@ -8,7 +8,7 @@ use crate::output::Output;
 use crate::tracing::Run;
 use smap_io::Device;
 use smap_logs::{Heeded, Log};
-use smap_machine::{Disk, Host, Stop};
+use smap_system::{Disk, Host, Stop};
 use smap_trace::{Counts, TraceError, translate_in};
 use std::io::{Read, Write};
 

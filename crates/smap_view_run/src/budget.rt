@@ -1,8 +1,8 @@
 //! How many bytes sources may have.
 use crate::files::read_named;
 use serde_json::Value;
-use smap_machine::{Disk, Host, Stop};
 use smap_record::SourceMap;
+use smap_system::{Disk, Host, Stop};
 use smap_view_page::Sizes;
 use std::alloc::Global;
 

@@ -1,5 +1,5 @@
 //! Files that are named on the command line, and where they are.
-use smap_machine::{Disk, FileFault, Host, Kind, LIMIT, Stop, read_file};
+use smap_system::{Disk, FileFault, Host, Kind, LIMIT, Stop, read_file};
 
 /// What a file that is there holds.
 fn read<E: Eprint + AllocGlobal, D: Disk>(

@@ -1,5 +1,5 @@
 //! The scripts of a folder.
-use smap_machine::{Disk, Host, Stop, walk};
+use smap_system::{Disk, Host, Stop, walk};
 use std::alloc::{AllocError, Global};
 
 const ENDINGS: [&str; 4] = [".js", ".mjs", ".cjs", ".css"];

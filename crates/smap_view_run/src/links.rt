@@ -1,7 +1,7 @@
 //! The map of a script.
 use smap_link::link_in;
-use smap_machine::{Disk, Kind};
 use smap_map_files::{Home, Target, is_within, target_of};
+use smap_system::{Disk, Kind};
 use std::alloc::{AllocError, Global};
 
 /// The map of a script.

@@ -5,9 +5,9 @@ use crate::refusals::{hint, place_of};
 use crate::scripts::script_of;
 use serde_json::Value;
 use smap_link::{FileKind, file_kind, script_url};
-use smap_machine::{Disk, Host, Stop, parted};
 use smap_map_files::{Home, folder_url, is_within};
 use smap_record::{Base, BaseFault, Fault, Limits, ReadError, SourceMap};
+use smap_system::{Disk, Host, Stop, parted};
 
 /// How maps are read.
 #[derive(Clone, Copy)]

@@ -1,8 +1,8 @@
 //! The page of one script or several.
 use crate::loading::{Content, Loaded};
 use serde_json::{Value, json};
-use smap_machine::{Disk, Host, Stop, Watched};
 use smap_record::SourceMap;
+use smap_system::{Disk, Host, Stop, Watched};
 use smap_view_page::{embedded, map_json, measured, text_json};
 use std::alloc::{AllocError, Global};
 use std::io::Write;

@@ -6,10 +6,11 @@ use crate::page::{data_of, write_data};
 use crate::sizing::sizes_text;
 use crate::status::Verdict;
 use crate::template::{parts, read_template};
-use smap_machine::{Disk, Host, Kind, Stop, Watched, create_beside};
-use smap_map_files::base_given;
+use smap_command_line::VERSION;
+use smap_command_line::view::{Asked, HELP, SizesForm, ViewWords, WordFault, message, view_words};
+use smap_map_files::{base_given, refuse_options};
+use smap_system::{Disk, Host, Kind, Stop, Watched, create_beside};
 use smap_view_page::measured;
-use smap_view_words::{Asked, HELP, SizesForm, VERSION, ViewWords, WordFault, message, view_words};
 use std::io::Write;
 
 /// What a run does.
@@ -146,7 +147,7 @@ fn write_sizes<E: Eprint + AllocGlobal, D: Disk, W: Write>(
     asked: &ViewWords<'_>,
     writer: &mut Watched<W>,
 ) -> Result<Verdict, Stop> {
-    let mut budget = match asked.budget {
+    let mut budget = match asked.options.text("budget") {
         Some(path) => Budget::read(host, path)?,
         None => Budget::none(host.alloc()),
     };
@@ -157,7 +158,7 @@ fn write_sizes<E: Eprint + AllocGlobal, D: Disk, W: Write>(
             continue;
         };
         shown = true;
-        measure(host, asked.sizes, &mut budget, &loaded, writer)?;
+        measure(host, asked.sizes(), &mut budget, &loaded, writer)?;
     }
     if !shown {
         return Err(fail_empty(host, job, verdict));
@@ -168,7 +169,7 @@ fn write_sizes<E: Eprint + AllocGlobal, D: Disk, W: Write>(
 
 /// Whether sizes are asked for, and no page.
 fn is_about_sizes(asked: &ViewWords<'_>) -> bool {
-    asked.sizes.is_some() || asked.budget.is_some()
+    asked.sizes().is_some() || asked.options.text("budget").is_some()
 }
 
 /// Writes what is asked for.
@@ -183,7 +184,7 @@ fn show<E: Eprint + AllocGlobal, D: Disk, W: Write>(
         return write_sizes(host, job, asked, writer);
     }
     let template = read_template(host, program)?;
-    match asked.output {
+    match asked.options.text("output") {
         Some(file) => write_file(host, job, template.as_str(), file),
         None => write_page(host, job, template.as_str(), writer),
     }
@@ -228,12 +229,13 @@ fn view<E: Eprint + AllocGlobal, D: Disk, W: Write>(
     on_terminal: bool,
     writer: &mut Watched<W>,
 ) -> Result<Verdict, Stop> {
-    if on_terminal && asked.output.is_none() && !is_about_sizes(asked) {
+    let output = asked.options.text("output");
+    if on_terminal && output.is_none() && !is_about_sizes(asked) {
         let text =
             "the page would go to the terminal: smap-view MAP >page.html writes it to a file";
         return Err(host.fail(2, text));
     }
-    let base = match asked.base {
+    let base = match asked.options.text("base") {
         Some(base) => Some(base_given(host, base)?),
         None => None,
     };
@@ -243,7 +245,7 @@ fn view<E: Eprint + AllocGlobal, D: Disk, W: Write>(
     };
     let reading = Reading {
         base,
-        url_bytes: asked.url_bytes,
+        url_bytes: asked.options.url_bytes(),
     };
     if host.disk.kind(asked.file) == Kind::Folder {
         return show_folder(host, program, asked, reading, writer);
@@ -272,7 +274,7 @@ fn answer<E: Eprint + AllocGlobal, D: Disk, W: Write>(
         Ok(Asked::Help) => host.write(HELP.as_bytes(), writer)?,
         Ok(Asked::Version) => host.write(VERSION.as_bytes(), writer)?,
         Ok(Asked::View(asked)) => return view(host, program, &asked, on_terminal, writer),
-        Err(WordFault::Memory) => return Err(Stop::Memory),
+        Err(WordFault::Options(fault)) => return Err(refuse_options(host, &fault)),
         Err(WordFault::Nothing) => return Err(host.fail_with_help(HELP)),
         Err(fault) => return Err(host.fail_words(message(host.alloc(), &fault), None)),
     }

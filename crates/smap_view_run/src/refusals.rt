@@ -1,6 +1,6 @@
 //! Why a map is refused, and where in its text that is.
 use serde_json::{Value, json};
-use smap_places::{Point, Start, TextRange, point_of, range_of, start_of};
+use smap_fault_places::{Point, Start, TextRange, point_of, range_of, start_of};
 use smap_record::Fault;
 use std::alloc::{AllocError, Global};
 
@@ -12,7 +12,7 @@ const ELLIPSIS: &str = "\u{2026}";
 
 /// What may help with a file that isn't JSON, where its first bytes show what it is.
 pub(crate) fn hint(bytes: &[u8], fault: &Fault) -> &'static str {
-    smap_places::hint(fault, start_of(bytes))
+    smap_fault_places::hint(fault, start_of(bytes))
 }
 
 /// Whether no character begins with this byte.

@@ -1,7 +1,7 @@
 //! The script of a map, where none is named.
-use smap_machine::{Disk, Host, Kind, Stop, parted};
 use smap_map_files::is_within;
 use smap_record::SourceMap;
+use smap_system::{Disk, Host, Kind, Stop, parted};
 
 /// The file beside a map with this name, if there is one. A link counts only if it leads to a file there.
 fn beside<E: Eprint + AllocGlobal, D: Disk>(

@@ -1,10 +1,10 @@
 //! The sizes of sources, as they are written for people and for programs.
 use crate::loading::{Content, Loaded};
 use serde_json::{Value, json};
-use smap_machine::printable;
+use smap_command_line::view::SizesForm;
 use smap_record::SourceMap;
+use smap_system::printable;
 use smap_view_page::Sizes;
-use smap_view_words::SizesForm;
 use std::alloc::{AllocError, Global};
 
 /// One line of a list of sizes.

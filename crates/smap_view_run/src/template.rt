@@ -1,5 +1,5 @@
 //! The page without its data: a file that is installed with the program.
-use smap_machine::{Disk, FileFault, Host, Kind, LIMIT, Stop, parted, read_file};
+use smap_system::{Disk, FileFault, Host, Kind, LIMIT, Stop, parted, read_file};
 
 /// The file's name.
 const NAME: &str = "smap-view.html";

@@ -1,5 +1,4 @@
 //! Devices, the loops over them, and the readers and writers that these tests are made with.
 mod device;
-mod lines;
 mod loops;
 mod testing;

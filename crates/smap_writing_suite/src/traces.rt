@@ -1,6 +1,4 @@
-//! Stack traces: frames, lookups, lines, and whole traces.
-mod anywhere;
-mod frames;
+//! Stack traces: lookups, lines, and whole traces.
 mod lines;
 mod lookups;
 mod streaming;

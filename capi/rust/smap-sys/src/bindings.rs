@@ -3,7 +3,7 @@
 use std::os::raw::{c_char, c_void};
 
 pub const SMAP_VERSION_MAJOR: u32 = 0;
-pub const SMAP_VERSION_MINOR: u32 = 2;
+pub const SMAP_VERSION_MINOR: u32 = 3;
 pub const SMAP_VERSION_PATCH: u32 = 0;
 pub const SMAP_VERSION: u32 = SMAP_VERSION_MAJOR * 10000 + SMAP_VERSION_MINOR * 100 + SMAP_VERSION_PATCH;
 pub const SMAP_OK: u32 = 0;

@@ -46,7 +46,8 @@ fn an_error_is_told() {
 
 #[test]
 fn the_library_is_of_the_version_of_the_declarations() {
-    let version = format!("{SMAP_VERSION_MAJOR}.{SMAP_VERSION_MINOR}.{SMAP_VERSION_PATCH}");
-    assert_eq!(version, env!("CARGO_PKG_VERSION"));
+    assert_eq!(SMAP_VERSION_MAJOR.to_string(), env!("CARGO_PKG_VERSION_MAJOR"));
+    assert_eq!(SMAP_VERSION_MINOR.to_string(), env!("CARGO_PKG_VERSION_MINOR"));
+    assert_eq!(SMAP_VERSION_PATCH.to_string(), env!("CARGO_PKG_VERSION_PATCH"));
     assert_eq!(unsafe { smap_version() }, SMAP_VERSION);
 }

@@ -19,7 +19,7 @@ use crate::words::with_flag;
 use crate::{Bundle, BundleFault, Refusal, read_bundle};
 use clap::Command;
 use smap_io::Device;
-use smap_trace::{MatchMode, TraceError, translate_by};
+use smap_trace::{MatchMode, TraceError, translate_in};
 use std::alloc::{AllocError, Global};
 use std::io::{Read, Write};
 
@@ -91,10 +91,7 @@ fn translate_trace<R: Read, W: Write>(
     ensures writes_in_time { StopsInTime writer.old writer.new }
     ensures flushed { OnOk result (is_over writer.new ≡ true) }
 {
-    let Ok(scripts) = bundle.scripts(alloc) else {
-        return Err(RunFault::Memory);
-    };
-    match translate_by(alloc, reader, scripts.as_slice(), mode, hide, writer) {
+    match translate_in(alloc, reader, bundle.scripts(), mode, hide, writer) {
         Ok(_) => Ok(Outcome::Done),
         Err(TraceError::Read) => Err(RunFault::Read),
         Err(TraceError::Write) => Err(RunFault::Write),

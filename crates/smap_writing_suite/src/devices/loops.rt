@@ -4,7 +4,7 @@
 ghost use Rattle.std.specs.Prelude.{◌-◌, ◌^◌, ◌<◌};
 ghost use Rattle.smap_io.specs.Device.{device_failures};
 
-use crate::asserted::{equal, holds};
+use crate::asserted::equal;
 use smap_io::{Device, Failed, ReadFault, read_line, read_up_to, write_all, write_and_flush};
 use smap_testing::{SlowReader, SlowWriter};
 use std::alloc::Global;
@@ -62,150 +62,112 @@ fn is_read(
     equal(rt, row, state(reader), expected);
 }
 
-#[test]
-fn bytes_are_read_up_to_the_bound_or_the_end(rt: HostRuntime) {
-    for &(step, most, bytes, ended, made, left) in &[
-        (1, 0, "", false, 0, "abcde"),
-        (1, 4, "abcd", false, 4, "e"),
-        (1, 5, "abcde", false, 5, ""),
-        (1, 6, "abcde", true, 6, ""),
-        (2, 5, "abcde", false, 3, ""),
-        (2, 6, "abcde", true, 4, ""),
-        (usize::MAX, 5, "abcde", false, 1, ""),
-        (usize::MAX, 6, "abcde", true, 2, ""),
-    ] {
-        let after = (ended, 0, made, left);
-        is_read(&rt, ("abcde", most, false), (step, 0, 10), Ok(bytes), after);
-    }
-}
+const FAILED: Result<&str, ReadFault> = Err(ReadFault::Failed);
+
+const SPENT: Result<&str, ReadFault> = Err(ReadFault::Spent);
 
 #[test]
-fn reading_stops_at_the_call_that_fails_or_is_one_too_many(rt: HostRuntime) {
-    for &(fails_at, made, left) in &[(1, 1, "abc"), (2, 2, "bc"), (3, 3, "c"), (4, 4, "")] {
-        let calls = (1, fails_at, 10);
-        let after = (false, 1, made, left);
-        is_read(&rt, ("abc", 8, false), calls, Err(ReadFault::Failed), after);
-    }
-    for &(most_calls, made, left) in &[(0, 0, "abc"), (1, 1, "bc"), (3, 3, "")] {
-        let calls = (1, 0, most_calls);
-        let after = (false, 0, made, left);
-        is_read(&rt, ("abc", 8, false), calls, Err(ReadFault::Spent), after);
-    }
-    for &(fails_at, most_calls, made, left) in &[(5, 10, 4, ""), (0, 4, 4, "")] {
-        let calls = (1, fails_at, most_calls);
-        let after = (true, 0, made, left);
-        is_read(&rt, ("abc", 8, false), calls, Ok("abc"), after);
-    }
-}
-
-#[test]
-fn a_line_is_read_to_its_feed_the_bound_or_the_end(rt: HostRuntime) {
-    for &(text, most, line, ended, made, left) in &[
-        ("ab\ncd", 9, "ab\n", false, 3, "cd"),
-        ("ab\ncd", 3, "ab\n", false, 3, "cd"),
-        ("ab\ncd", 2, "ab", false, 2, "\ncd"),
-        ("\n\n", 9, "\n", false, 1, "\n"),
-        ("ab", 3, "ab", true, 3, ""),
-        ("ab", 2, "ab", false, 2, ""),
-        ("ab", 0, "", false, 0, "ab"),
-        ("", 9, "", true, 1, ""),
-    ] {
-        let after = (ended, 0, made, left);
-        is_read(&rt, (text, most, true), (2, 0, 10), Ok(line), after);
-    }
-}
-
-#[test]
-fn a_line_stops_at_the_call_that_fails_or_is_one_too_many(rt: HostRuntime) {
-    for &(fails_at, made, left) in &[(1, 1, "ab\ncd"), (3, 3, "\ncd")] {
-        let calls = (2, fails_at, 10);
-        let after = (false, 1, made, left);
-        is_read(
-            &rt,
+fn reading_stops_at_the_bound_the_end_or_the_call_that_fails(rt: HostRuntime) {
+    for &(asked, calls, answer, after) in &[
+        (
+            ("abcde", 0, false),
+            (1, 0, 10),
+            Ok(""),
+            (false, 0, 0, "abcde"),
+        ),
+        (
+            ("abcde", 4, false),
+            (1, 0, 10),
+            Ok("abcd"),
+            (false, 0, 4, "e"),
+        ),
+        (
+            ("abcde", 5, false),
+            (2, 0, 10),
+            Ok("abcde"),
+            (false, 0, 3, ""),
+        ),
+        (
+            ("abcde", 6, false),
+            (2, 0, 10),
+            Ok("abcde"),
+            (true, 0, 4, ""),
+        ),
+        (
+            ("abcde", 6, false),
+            (usize::MAX, 0, 2),
+            Ok("abcde"),
+            (true, 0, 2, ""),
+        ),
+        (("abc", 8, false), (1, 1, 10), FAILED, (false, 1, 1, "abc")),
+        (("abc", 8, false), (1, 4, 10), FAILED, (false, 1, 4, "")),
+        (("abc", 8, false), (1, 5, 10), Ok("abc"), (true, 0, 4, "")),
+        (("abc", 8, false), (1, 0, 0), SPENT, (false, 0, 0, "abc")),
+        (("abc", 8, false), (1, 0, 3), SPENT, (false, 0, 3, "")),
+        (
+            ("ab\ncd", 9, true),
+            (2, 4, 3),
+            Ok("ab\n"),
+            (false, 0, 3, "cd"),
+        ),
+        (
+            ("ab\ncd", 2, true),
+            (2, 0, 10),
+            Ok("ab"),
+            (false, 0, 2, "\ncd"),
+        ),
+        (("\n\n", 9, true), (2, 0, 10), Ok("\n"), (false, 0, 1, "\n")),
+        (("ab", 3, true), (2, 0, 10), Ok("ab"), (true, 0, 3, "")),
+        (
             ("ab\ncd", 8, true),
-            calls,
-            Err(ReadFault::Failed),
-            after,
-        );
-    }
-    for &(most_calls, made, left) in &[(0, 0, "ab\ncd"), (2, 2, "\ncd")] {
-        let calls = (2, 0, most_calls);
-        let after = (false, 0, made, left);
-        is_read(
-            &rt,
-            ("ab\ncd", 8, true),
-            calls,
-            Err(ReadFault::Spent),
-            after,
-        );
-    }
-    for &(fails_at, most_calls, made, left) in &[(4, 10, 3, "cd"), (0, 3, 3, "cd")] {
-        let calls = (2, fails_at, most_calls);
-        let after = (false, 0, made, left);
-        is_read(&rt, ("ab\ncd", 8, true), calls, Ok("ab\n"), after);
+            (2, 3, 10),
+            FAILED,
+            (false, 1, 3, "\ncd"),
+        ),
+        (("ab\ncd", 8, true), (2, 0, 2), SPENT, (false, 0, 2, "\ncd")),
+    ] {
+        is_read(&rt, asked, calls, answer, after);
     }
 }
 
-/// Asserts how far `abc` is written, with this many bytes a call and a call that fails; then the failures and
-/// the calls, none of them a flush.
-fn writing_stops(
+/// Asserts how far a text is written, and flushed if that is asked for, with this many bytes a call and a
+/// call that fails; then the failures, the calls, the flushes and what was written.
+fn is_written(
     rt: &(impl Abort + AllocGlobal),
+    (text, flush): (&str, bool),
     (step, fails_at): (usize, u64),
     answer: Result<(), Failed>,
-    (failures, made, written): (u64, u64, &str),
+    (failures, made, flushes, written): (u64, u64, u64, &str),
 ) {
     let mut writer = Device::new(SlowWriter::new(rt.alloc(), step, fails_at));
-    let found = (write_all(&mut writer, b"abc"), writer.failures());
-    equal(rt, (step, fails_at), found, (answer, failures));
-    let writer = writer.into_inner();
-    let found = (writer.calls, writer.flushes, writer.bytes.as_slice());
-    equal(rt, (step, fails_at), found, (made, 0, written.as_bytes()));
-}
-
-#[test]
-fn writing_stops_at_the_write_that_fails(rt: HostRuntime) {
-    for &(step, fails_at, answer, failures, made, written) in &[
-        (1, 1, Err(Failed), 1, 1, ""),
-        (1, 3, Err(Failed), 1, 3, "ab"),
-        (1, 4, Ok(()), 0, 3, "abc"),
-        (2, 0, Ok(()), 0, 2, "abc"),
-        (usize::MAX, 0, Ok(()), 0, 1, "abc"),
-        (0, 0, Err(Failed), 1, 1, ""),
-    ] {
-        writing_stops(&rt, (step, fails_at), answer, (failures, made, written));
-    }
-}
-
-/// Asserts how far a text is written and flushed, byte by byte and with a call that fails; then the failures,
-/// the calls and the flushes.
-fn is_flushed(
-    rt: &(impl Abort + AllocGlobal),
-    text: &str,
-    fails_at: u64,
-    answer: Result<(), Failed>,
-    (failures, made, flushes): (u64, u64, u64),
-) {
-    let mut writer = Device::new(SlowWriter::new(rt.alloc(), 1, fails_at));
-    let row = (text, fails_at);
-    let answered = write_and_flush(&mut writer, text.as_bytes());
-    equal(rt, row, (answered, writer.failures()), (answer, failures));
+    let found = if flush {
+        write_and_flush(&mut writer, text.as_bytes())
+    } else {
+        write_all(&mut writer, text.as_bytes())
+    };
+    let row = (text, flush, step, fails_at);
+    equal(rt, row, (found, writer.failures()), (answer, failures));
     let writer = writer.into_inner();
     let calls = (writer.calls, writer.flushes, writer.written_after_flush);
     equal(rt, row, calls, (made, flushes, false));
-    let written = writer.bytes.as_slice();
-    holds(rt, row, text.as_bytes().starts_with(written));
+    equal(rt, row, writer.bytes.as_slice(), written.as_bytes());
 }
 
 #[test]
-fn a_text_is_flushed_once_where_it_was_written(rt: HostRuntime) {
-    for &(text, fails_at, answer, failures, made, flushes) in &[
-        ("ab", 1, Err(Failed), 1, 1, 0),
-        ("ab", 2, Err(Failed), 1, 2, 0),
-        ("ab", 3, Err(Failed), 1, 3, 1),
-        ("ab", 4, Ok(()), 0, 3, 1),
-        ("", 1, Err(Failed), 1, 1, 1),
-        ("", 0, Ok(()), 0, 1, 1),
+fn writing_stops_at_the_write_or_the_flush_that_fails(rt: HostRuntime) {
+    for &(asked, calls, answer, after) in &[
+        (("abc", false), (1, 1), Err(Failed), (1, 1, 0, "")),
+        (("abc", false), (1, 3), Err(Failed), (1, 3, 0, "ab")),
+        (("abc", false), (1, 4), Ok(()), (0, 3, 0, "abc")),
+        (("abc", false), (2, 0), Ok(()), (0, 2, 0, "abc")),
+        (("abc", false), (usize::MAX, 0), Ok(()), (0, 1, 0, "abc")),
+        (("abc", false), (0, 0), Err(Failed), (1, 1, 0, "")),
+        (("ab", true), (1, 2), Err(Failed), (1, 2, 0, "a")),
+        (("ab", true), (1, 3), Err(Failed), (1, 3, 1, "ab")),
+        (("ab", true), (1, 4), Ok(()), (0, 3, 1, "ab")),
+        (("", true), (1, 1), Err(Failed), (1, 1, 1, "")),
+        (("", true), (1, 0), Ok(()), (0, 1, 1, "")),
     ] {
-        is_flushed(&rt, text, fails_at, answer, (failures, made, flushes));
+        is_written(&rt, asked, calls, answer, after);
     }
 }

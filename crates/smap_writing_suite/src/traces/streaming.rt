@@ -7,7 +7,7 @@ use smap_io::Device;
 use smap_record::SourceMap;
 use smap_testing::{SlowReader, SlowWriter, WatchedWriter, WatchingReader};
 use smap_trace::{Counts, TraceError, translate};
-use std::alloc::{AllocError, Global};
+use std::alloc::Global;
 use std::cell::Cell;
 use std::process::Abort;
 use std::test::Fail;
@@ -18,84 +18,26 @@ const IGNORED: &str = r#"{"version":3,"sources":["a.js"],"ignoreList":[0],"mappi
 
 const SCRIPT: &str = "http://h/m/out.js";
 
-/// The lines of the example trace, and what is written for each. All but the last have a line feed.
-const WORKED: [(&str, &str); 10] = [
-    ("Error: x", "Error: x"),
-    (
-        "    at f (http://h/m/out.js:1:2)",
-        "    at f (http://h/m/a.js:11:3)",
-    ),
-    (
-        "    at async http://h/m/out.js:1:5",
-        "    at async http://h/m/a.js:13:3",
-    ),
-    ("g@http://h/m/out.js:1:4\r", "g@http://h/m/a.js:11:3\r"),
-    (
-        "    at eval (eval at f (http://h/m/out.js:1:2), <anonymous>:1:1)",
-        "    at eval (eval at f (http://h/m/out.js:1:2), <anonymous>:1:1)",
-    ),
-    (
-        "    at f (http://h/m/out.js:0:1)",
-        "    at f (http://h/m/out.js:0:1)",
-    ),
-    (
-        "    at f (http://h/m/out.js:2:1)",
-        "    at f (http://h/m/out.js:2:1)",
-    ),
-    (
-        "    at f (http://h/m/other.js:1:2)",
-        "    at f (http://h/m/other.js:1:2)",
-    ),
-    ("", ""),
-    ("@http://h/m/out.js:1:2147483648", "@http://h/m/a.js:13:3"),
-];
+const TRACE: &str =
+    "Error: x\n    at f (http://h/m/out.js:1:2)\n    at async http://h/m/out.js:1:5\n\
+    g@http://h/m/out.js:1:4\r\n    at f (http://h/m/other.js:1:2)\n\n@http://h/m/out.js:1:2147483648";
 
-/// The example trace, its translation, and what is left if its frames are left out.
-#[derive(Drop)]
-struct Texts {
-    trace: String,
-    told: String,
-    left: String,
-}
+/// Its translation.
+const WRITTEN: &str =
+    "Error: x\n    at f (http://h/m/a.js:11:3)\n    at async http://h/m/a.js:13:3\n\
+    g@http://h/m/a.js:11:3\r\n    at f (http://h/m/other.js:1:2)\n\n@http://h/m/a.js:13:3";
 
-/// Appends a line and what ends it.
-fn push_line(text: &mut String, line: &str, feed: &str) -> Result<(), AllocError> {
-    text.push_str(line)?;
-    text.push_str(feed)
-}
-
-impl Texts {
-    /// Appends a line, its translation, and what ends both.
-    fn push(&mut self, line: &str, written: &str, feed: &str) -> Result<(), AllocError> {
-        if line == written {
-            push_line(&mut self.left, line, feed)?;
-        }
-        push_line(&mut self.trace, line, feed)?;
-        push_line(&mut self.told, written, feed)
-    }
-}
-
-fn worked(alloc: Global) -> Result<Texts, AllocError> {
-    let mut texts = Texts {
-        trace: String::new(alloc),
-        told: String::new(alloc),
-        left: String::new(alloc),
-    };
-    for (i, (line, written)) in WORKED.iter().enumerate() {
-        let feed = if i + 1 < WORKED.len() { "\n" } else { "" };
-        texts.push(line, written, feed)?;
-    }
-    Ok(texts)
-}
+/// What is left of it if its frames are left out.
+const LEFT: &str = "Error: x\n    at f (http://h/m/other.js:1:2)\n\n";
 
 const TOLD: Counts = Counts {
-    lines: 10,
+    lines: 7,
     translated: 4,
     dropped: 0,
 };
 
 const HIDDEN: Counts = Counts {
-    lines: 10,
+    lines: 7,
     translated: 0,
     dropped: 4,
 };
@@ -134,9 +76,9 @@ fn run(
     }
 }
 
-/// Translates a trace, 50 bytes a call, with the read and the write that fail; 0 means none.
-fn failing(alloc: Global, map: &SourceMap, trace: &[u8], read: u64, write: u64) -> Ran {
-    let reader = SlowReader::new(trace, 50, read);
+/// Translates the trace, 50 bytes a call, with the read and the write that fail; 0 means none.
+fn failing(alloc: Global, map: &SourceMap, read: u64, write: u64) -> Ran {
+    let reader = SlowReader::new(TRACE.as_bytes(), 50, read);
     run(alloc, map, false, reader, SlowWriter::new(alloc, 50, write))
 }
 
@@ -177,15 +119,12 @@ fn is_told_by_steps(rt: &(impl Abort + AllocGlobal), map: &SourceMap, case: Case
     }
 }
 
-/// Asserts what comes of the example trace, and of an empty one.
-fn are_told(rt: &(impl Abort + AllocGlobal), texts: &Texts) {
-    let trace = texts.trace.as_str();
-    let told = texts.told.as_str();
+#[test]
+fn the_trace_is_told_with_its_counts(rt: HostRuntime) {
     for &(map, hide, trace, written, counts) in &[
-        (MAP, false, trace, told, TOLD),
-        (MAP, true, trace, told, TOLD),
-        (IGNORED, false, trace, told, TOLD),
-        (IGNORED, true, trace, texts.left.as_str(), HIDDEN),
+        (MAP, true, TRACE, WRITTEN, TOLD),
+        (IGNORED, false, TRACE, WRITTEN, TOLD),
+        (IGNORED, true, TRACE, LEFT, HIDDEN),
         (MAP, false, "", "", NONE),
     ] {
         let case = Case {
@@ -194,71 +133,51 @@ fn are_told(rt: &(impl Abort + AllocGlobal), texts: &Texts) {
             written,
             counts,
         };
-        is_told_by_steps(rt, &read(rt, map), case);
+        is_told_by_steps(&rt, &read(&rt, map), case);
     }
 }
 
-#[test]
-fn the_worked_trace_is_told_with_its_counts(rt: HostRuntime) -> Result<(), Fail> {
-    are_told(&rt, &worked(rt.alloc())?);
-    Ok(())
-}
-
-/// How many reads and how many writes and flushes it takes to translate a trace.
-fn calls(alloc: Global, map: &SourceMap, trace: &[u8]) -> (u64, u64) {
-    let ran = failing(alloc, map, trace, 0, 0);
-    (ran.reads, ran.writes)
-}
-
 /// Asserts that a translation ends with the k-th read if that fails.
-fn ends_with_read(rt: &(impl Abort + AllocGlobal), map: &SourceMap, trace: &[u8], k: u64) {
-    let ran = failing(rt.alloc(), map, trace, k, 0);
+fn ends_with_read(rt: &(impl Abort + AllocGlobal), map: &SourceMap, k: u64) {
+    let ran = failing(rt.alloc(), map, k, 0);
     let found = (ran.answer, ran.reads, ran.writer.flushes);
     equal(rt, ("read", k), found, (Err(TraceError::Read), k, 0));
 }
 
 /// Asserts that a translation ends with the k-th write if that fails, and what it wrote before is right.
-fn ends_with_write(rt: &(impl Abort + AllocGlobal), map: &SourceMap, texts: &Texts, k: u64) {
-    let ran = failing(rt.alloc(), map, texts.trace.as_bytes(), 0, k);
+fn ends_with_write(rt: &(impl Abort + AllocGlobal), map: &SourceMap, k: u64) {
+    let ran = failing(rt.alloc(), map, 0, k);
     let found = (ran.answer, ran.writes);
     equal(rt, ("write", k), found, (Err(TraceError::Write), k));
     let written = ran.writer.bytes.as_slice();
-    holds(rt, ("write", k), texts.told.as_bytes().starts_with(written));
+    holds(rt, ("write", k), WRITTEN.as_bytes().starts_with(written));
 }
 
 /// Asserts that a translation ends with the first write if the writer takes nothing.
-fn ends_if_nothing_is_taken(rt: &(impl Abort + AllocGlobal), map: &SourceMap, trace: &[u8]) {
-    let reader = SlowReader::new(trace, 50, 0);
-    let ran = run(
-        rt.alloc(),
-        map,
-        false,
-        reader,
-        SlowWriter::new(rt.alloc(), 0, 0),
-    );
+fn ends_if_nothing_is_taken(rt: &(impl Abort + AllocGlobal), map: &SourceMap) {
+    let reader = SlowReader::new(TRACE.as_bytes(), 50, 0);
+    let writer = SlowWriter::new(rt.alloc(), 0, 0);
+    let ran = run(rt.alloc(), map, false, reader, writer);
     let found = (ran.answer, ran.writes);
     equal(rt, "nothing taken", found, (Err(TraceError::Write), 1));
 }
 
-/// Asserts that each call that fails gives the example trace up.
-fn is_given_up(rt: &(impl Abort + AllocGlobal), map: &SourceMap, texts: &Texts) {
-    let trace = texts.trace.as_bytes();
-    let (reads, writes) = calls(rt.alloc(), map, trace);
-    equal(rt, "reads", reads, trace.len().div_ceil(50) as u64 + 1);
-    for k in 1..reads.saturating_add(1) {
-        ends_with_read(rt, map, trace, k);
+/// Asserts that each call that fails gives the trace up.
+fn is_given_up(rt: &(impl Abort + AllocGlobal), map: &SourceMap) {
+    let ran = failing(rt.alloc(), map, 0, 0);
+    equal(rt, "reads", ran.reads, TRACE.len().div_ceil(50) as u64 + 1);
+    for k in 1..=ran.reads {
+        ends_with_read(rt, map, k);
     }
-    for k in 1..writes.saturating_add(1) {
-        ends_with_write(rt, map, texts, k);
+    for k in 1..=ran.writes {
+        ends_with_write(rt, map, k);
     }
-    ends_if_nothing_is_taken(rt, map, trace);
+    ends_if_nothing_is_taken(rt, map);
 }
 
 #[test]
-fn a_call_that_fails_gives_the_trace_up(rt: HostRuntime) -> Result<(), Fail> {
-    let texts = worked(rt.alloc())?;
-    is_given_up(&rt, &read(&rt, MAP), &texts);
-    Ok(())
+fn a_call_that_fails_gives_the_trace_up(rt: HostRuntime) {
+    is_given_up(&rt, &read(&rt, MAP));
 }
 
 /// Asserts that all 10,000 lines of a trace are translated, in as many reads and writes as there are pieces.

@@ -1,5 +1,5 @@
 use Rattle.std.proofs.Common.{◌∙◌, ap, option_map, subst, sym, take}
-use Rattle.smap_words.specs.Splits.{base_in, split_fault}
+use Rattle.smap_command_line.specs.Splits.{base_in, split_fault}
 use Rattle.smap_map_files.specs.Lists.{lists_of}
 use Rattle.smap_map_files.specs.Naming.{NamesWay}
 use Rattle.smap_map_files.proofs.KeptLemmas.{on_ok}

@@ -1,6 +1,6 @@
 use Rattle.std.proofs.Common.{List, arith, subst}
 use Rattle.std.proofs.lemmas.List.{take_all}
-use Rattle.smap_words.specs.declared.argument.Argument.{Argument}
+use Rattle.smap_command_line.specs.declared.trace.arguments.Argument.{Argument}
 use Rattle.smap_map_files.specs.Lists.{lists_of, no_lists}
 use Rattle.smap_map_files.specs.Naming.{NamesAll}
 use Rattle.smap_map_files.proofs.NamingLemmas.{argument_more}

@@ -1,14 +1,16 @@
-use Rattle.std.proofs.Common.{◌≡◌, ◌∙◌, ◌∷◌, [], List, ℕ, Some, ap, rules, slice_get, string_bytes}
+use Rattle.std.proofs.Common.{◌≡◌, ◌∙◌, ◌∷◌, [], List, ℕ, Some, ap, rules, slice_get, string_bytes, arith}
+use Rattle.std.proofs.Common.{refl}
 use Rattle.std.proofs.lemmas.Option.{slice_get_read}
-use Rattle.smap_pick.specs.Places.{below}
+use Rattle.smap_map_choice.specs.Places.{below}
 use Rattle.smap_map_files.specs.Lists.{lists_of, texts, with_files}
 use Rattle.smap_map_files.proofs.GivenLemmas.{files_all, files_more, past_texts, text_at}
 use Rattle.smap_map_files.proofs.folders.add_files.Goals as goal
 
 pub loop-i-preserved : goal.loop-i-preserved
 loop-i-preserved c =
-    let at : slice_get c.args.names.now c.loop-i.i ≡ Some c.index-names-i.result = search
-    (rules, slice_get_read) in
+    let at : slice_get c.args.names.now c.loop-i.i ≡ Some c.index-names-i.result =
+    slice_get_read c.args.names.now _ c.loop-i.i c.index-names-i.result refl (omega
+    (arith, c.loop-i-test.true)) c.index-names-i.is in
     let file : c.in_ok-file.file.items ≡ below c.args.path.now
     (string_bytes c.index-names-i.result) = search rules in
     files_more c.args.path.now c.args.number c.loop-i.i (texts c.args.names.now)

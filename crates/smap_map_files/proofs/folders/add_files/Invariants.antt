@@ -1,5 +1,5 @@
 use Rattle.std.proofs.Common.{◌≡◌, drop, map}
-use Rattle.smap_pick.specs.Places.{below}
+use Rattle.smap_map_choice.specs.Places.{below}
 use Rattle.smap_map_files.specs.Lists.{lists_of, texts, with_files}
 use Rattle.smap_map_files.proofs.folders.add_files.Given as goal
 

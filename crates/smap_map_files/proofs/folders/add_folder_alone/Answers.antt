@@ -1,6 +1,6 @@
 use Rattle.std.proofs.Common.{◌≡◌, ◌∙◌, List, String, Global, ap, length, map, rules, sym}
 use Rattle.std.proofs.lemmas.List.{length-map}
-use Rattle.smap_pick.specs.Places.{below}
+use Rattle.smap_map_choice.specs.Places.{below}
 use Rattle.smap_map_files.specs.Lists.{Folder, folder_in, lists_of, own_folder, texts, with_files}
 use Rattle.smap_map_files.proofs.GivenLemmas.{alone_added}
 use Rattle.smap_map_files.proofs.folders.add_folder_alone.Goals as goal

@@ -1,4 +1,5 @@
-use Rattle.std.proofs.Common.{◌≡◌, ◌∙◌, ◌||◌, List, ℕ, Some, ap, false, true, rules, slice_get, string_bytes}
+use Rattle.std.proofs.Common.{◌≡◌, ◌∙◌, ◌||◌, List, ℕ, Some, ap, arith, false, true, refl, rules, slice_get}
+use Rattle.std.proofs.Common.{string_bytes}
 use Rattle.std.proofs.lemmas.Option.{slice_get_read}
 use Rattle.std.specs.Str.{bytes_eq}
 use Rattle.smap_link.specs.Ends.{stem}
@@ -10,8 +11,9 @@ use Rattle.smap_map_files.proofs.folders.mapped_names.Goals as goal
 
 pub loop-i-preserved-then-not-is_map : goal.loop-i-preserved-then-not-is_map
 loop-i-preserved-then-not-is_map c =
-    let name : slice_get c.args.names.now c.loop-i.i ≡ Some c.index-names-i.result = search
-    (rules, slice_get_read) in
+    let name : slice_get c.args.names.now c.loop-i.i ≡ Some c.index-names-i.result =
+    slice_get_read c.args.names.now _ c.loop-i.i c.index-names-i.result refl (omega
+    (arith, c.loop-i-test.true)) c.index-names-i.is in
     let other : is_map (string_bytes c.index-names-i.result) ≡ false = search rules in
     mapped_passed (texts c.args.names.now) c.loop-i.i c.loop-i.mapped.keys
     (string_bytes c.index-names-i.result)
@@ -19,8 +21,9 @@ loop-i-preserved-then-not-is_map c =
 
 pub loop-i-preserved : goal.loop-i-preserved
 loop-i-preserved c =
-    let name : slice_get c.args.names.now c.loop-i.i ≡ Some c.index-names-i.result = search
-    (rules, slice_get_read) in
+    let name : slice_get c.args.names.now c.loop-i.i ≡ Some c.index-names-i.result =
+    slice_get_read c.args.names.now _ c.loop-i.i c.index-names-i.result refl (omega
+    (arith, c.loop-i-test.true)) c.index-names-i.is in
     let is : is_map (string_bytes c.index-names-i.result) ≡ true = search rules in
     let its : c.stem.result.now ≡ stem (string_bytes c.index-names-i.result) = search rules in
     mapped_added (texts c.args.names.now) c.loop-i.i c.loop-i.mapped.keys c.add_text.new.texts.keys

@@ -1,7 +1,7 @@
 use Rattle.std.proofs.Common.{◌≡◌, ◌∙◌, ◌==◌, ap, codes, length, string_bytes, subst, sym}
 use Rattle.std.proofs.lemmas.Bool.{cond-false, cond-true}
 use Rattle.std.proofs.lemmas.List.Elements.{All-weaker}
-use Rattle.smap_machine.specs.Walking.{AreFilesBelow}
+use Rattle.smap_system.specs.Walking.{AreFilesBelow}
 use Rattle.smap_map_files.specs.Naming.{IsWanted, has_ending, start_of}
 use Rattle.smap_map_files.proofs.folders.names_in.Goals as goal
 use Rattle.smap_map_files.proofs.folders.names_in.Goals.{then-is_empty, else-is_empty}

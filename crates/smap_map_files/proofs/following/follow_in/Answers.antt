@@ -1,4 +1,4 @@
-use Rattle.smap_pick.specs.PlaceView.{place_in}
+use Rattle.smap_map_choice.specs.PlaceView.{place_in}
 use Rattle.smap_map_files.proofs.FollowingLemmas.{holds, names_absent, names_file, names_wrong}
 use Rattle.smap_map_files.proofs.following.follow_in.Goals as goal
 

@@ -1,5 +1,5 @@
 use Rattle.std.proofs.Common.{inl, inr}
-use Rattle.smap_pick.specs.PlaceView.{place_in}
+use Rattle.smap_map_choice.specs.PlaceView.{place_in}
 use Rattle.smap_map_files.proofs.ReachedLemmas.{if_both, left_out, reached_beside}
 use Rattle.smap_map_files.proofs.ReachedLemmas.{reached_itself, reached_link}
 use Rattle.smap_map_files.proofs.ReachedLemmas.{reached_within}

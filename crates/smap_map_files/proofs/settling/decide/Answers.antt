@@ -9,7 +9,7 @@ use Rattle.smap_map_files.proofs.SettlingLemmas.{decided_past, no_element}
 use Rattle.std.proofs.lemmas.List.{nil_from_length}
 use Rattle.smap_map_files.proofs.NamedLemmas.{past_end}
 use Rattle.smap_map_files.proofs.SettlingLemmas.{none_decided, is_old, not_new}
-use Rattle.smap_pick.specs.PlaceView.{place_in, places_in}
+use Rattle.smap_map_choice.specs.PlaceView.{place_in, places_in}
 use Rattle.smap_map_files.proofs.settling.decide.Goals as goal
 
 pub loop-i-init : goal.loop-i-init

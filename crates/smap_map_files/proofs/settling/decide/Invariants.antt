@@ -1,5 +1,5 @@
 use Rattle.std.specs.List.{zip}
-use Rattle.smap_pick.specs.PlaceView.{places_in}
+use Rattle.smap_map_choice.specs.PlaceView.{places_in}
 use Rattle.smap_map_files.proofs.SettlingLemmas.{IsDecidedUpTo}
 use Rattle.smap_map_files.proofs.settling.decide.Given as goal
 

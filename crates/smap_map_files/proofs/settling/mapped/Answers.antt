@@ -5,7 +5,7 @@ use Rattle.std.proofs.lemmas.Slice.Zip.{length-zip}
 use Rattle.smap_map_files.proofs.NamedLemmas.{mapped_added, mapped_all, mapped_passed, mapped_past}
 use Rattle.std.specs.Str.{bytes_eq}
 use Rattle.smap_map_files.specs.Chosen.{holds}
-use Rattle.smap_pick.specs.PlaceView.{place_in, places_in}
+use Rattle.smap_map_choice.specs.PlaceView.{place_in, places_in}
 use Rattle.smap_map_files.proofs.settling.mapped.Goals as goal
 
 pub loop-i-preserved-in_default : goal.loop-i-preserved-in_default

@@ -3,7 +3,7 @@ use Rattle.std.specs.List.{zip}
 use Rattle.smap_map_files.specs.Settling.{has_repeated}
 use Rattle.smap_map_files.specs.WantedView.{named_in}
 use Rattle.smap_map_files.proofs.KeptLemmas.{always_ok, if_err, on_ok, repeated_is, same_named, settled}
-use Rattle.smap_pick.specs.PlaceView.{places_in}
+use Rattle.smap_map_choice.specs.PlaceView.{places_in}
 use Rattle.smap_map_files.proofs.settling.settle.Goals as goal
 use Rattle.smap_map_files.proofs.settling.settle.Goals.{After-drop-decided-3}
 use Rattle.smap_map_files.proofs.settling.settle.Given.{Over}

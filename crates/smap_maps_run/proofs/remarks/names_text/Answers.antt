@@ -1,7 +1,7 @@
 use Rattle.std.proofs.Common.{◌≡◌, ◌∙◌, ℕ, List, ◌++◌, ap, codes, slice_index_or, String, string_bytes}
 use Rattle.std.proofs.Common.{take_all}
 use Rattle.std.specs.declared.alloc.Global.{Global}
-use Rattle.smap_changes.specs.Naming.{shown_name}
+use Rattle.smap_differences.specs.Naming.{shown_name}
 use Rattle.smap_maps_run.specs.Remarks.{names_text}
 use Rattle.smap_maps_run.proofs.JoiningLemmas.{joined_first, joined_more}
 use Rattle.smap_maps_run.proofs.remarks.names_text.Goals as goal

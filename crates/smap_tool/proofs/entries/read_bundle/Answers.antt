@@ -10,7 +10,6 @@ use Rattle.smap_tool.specs.Header.{longest_header, trace_line}
 use Rattle.smap_tool.specs.Bundle.{HasFault, entry_in}
 use Rattle.smap_tool.specs.Entries.{IsFaultAt}
 use Rattle.smap_tool.specs.Reach.{IsWithinEntry, ReadsNoMore}
-use Rattle.smap_tool.specs.BundleScripts.{scripts_of}
 use Rattle.smap_tool.proofs.BundleLemmas.{entries_more, faulty_bundle, whole_bundle}
 use Rattle.smap_tool.proofs.EntryLemmas.{AreEntries, distinct_more, ends_within, line_read, no_more}
 use Rattle.smap_tool.proofs.StopLemmas.{gave_up_stops, stops_after}
@@ -22,7 +21,7 @@ returns-in-Err-clause-stops g c =
     gave_up_stops g.R.Read.remaining c.args.reader.now c.entries.reader c.read_line.new.reader reads.0
     (IsWithinLine longest_header) most_calls c.entries.calls c.in-Err.fault c.unread.result
     HasFault ReadsNoMore reads.1 c.entries.invariant.failures reads.3
-    (λ line within. ends_within (scripts_of c.entries.scripts.entries) reads.0 line reads.2
+    (λ line within. ends_within c.entries.scripts reads.0 line reads.2
     within) c.in-Err.ensures.reads c.unread.ensures
 
 pub returns-then-eq-clause-takes : goal.returns-then-eq-clause-takes
@@ -46,7 +45,7 @@ returns-in_err-take_entry-clause-stops g c =
     let p = err_from_is_err_and c.from_residual.result c.from_residual.ensures.1 in
     let reads = c.entries.invariant.reads in
     let line = c.in-Ok.line.items in
-    let seen = scripts_of c.entries.scripts.entries in
+    let seen = c.entries.scripts in
     let was = line_read g.R.Read.remaining c.entries.reader c.read_line.new.reader line
     c.entries.invariant.not_ended c.in-Ok.ensures.reads in
     let stops = rw c.as_slice-in-entries-2.ensures.value at c.in_err-take_entry.ensures.stops in
@@ -66,7 +65,7 @@ pub entries-preserved : goal.entries-preserved
 entries-preserved g c =
     let reads = c.entries.invariant.reads in
     let line = c.in-Ok.line.items in
-    let seen = scripts_of c.entries.scripts.entries in
+    let seen = c.entries.scripts in
     let was = line_read g.R.Read.remaining c.entries.reader c.read_line.new.reader line
     c.entries.invariant.not_ended c.in-Ok.ensures.reads in
     let t = rw c.as_slice-in-entries-2.ensures.value at c.in_ok-take_entry.ensures.takes in

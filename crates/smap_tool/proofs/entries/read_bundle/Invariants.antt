@@ -5,14 +5,13 @@ use Rattle.smap_io.specs.Reading.{Gave}
 use Rattle.smap_io.specs.Limits.{most_calls}
 use Rattle.smap_record.specs.Scripts.{AreDistinct}
 use Rattle.smap_tool.proofs.EntryLemmas.{AreEntries}
-use Rattle.smap_tool.specs.BundleScripts.{scripts_of}
 use Rattle.smap_tool.proofs.entries.read_bundle.Given as goal
 
 abbrev pub invariant-entries : goal.invariant-entries
 invariant-entries g l = record {
   reads : (entries : List ℕ) × Gave g.R.Read.remaining l.fn.reader l.reader entries
-      × AreEntries entries (scripts_of l.scripts.entries) × (most_calls ≤ l.calls + length entries);
-  distinct : AreDistinct (scripts_of l.scripts.entries);
+      × AreEntries entries l.scripts × (most_calls ≤ l.calls + length entries);
+  distinct : AreDistinct l.scripts;
   failures : device_failures l.reader ≡ device_failures l.fn.reader;
   not_ended : has_ended l.reader ≡ false;
   in_time : StopsInTime l.fn.reader l.reader;

@@ -1,5 +1,4 @@
 use Rattle.std.proofs.Common.{arith, ◌≡◌, ◌∙◌, ◌++◌, [], Err, inl, inr, sym, refl}
-use Rattle.std.proofs.lemmas.List.{length-map}
 use Rattle.std.proofs.lemmas.Result.{on_ok_weaker}
 use Rattle.smap_io.specs.Device.{has_ended}
 use Rattle.smap_io.proofs.ReadingLemmas.{Gave-none}
@@ -7,7 +6,6 @@ use Rattle.smap_tool.specs.Bundle.{entry_with}
 use Rattle.smap_tool.specs.Entries.{IsFaultAt}
 use Rattle.smap_tool.specs.declared.fault.EntryFault.TheVariants as wrong
 use Rattle.smap_tool.specs.Reach.{IsWithinEntry, IsWithinMap}
-use Rattle.smap_tool.specs.BundleScripts.{script_of, scripts_of}
 use Rattle.smap_tool.specs.Stopping.{Stops}
 use Rattle.smap_tool.proofs.EntryLemmas.{entry_taken, fault_of_entry, no_entry}
 use Rattle.smap_tool.proofs.StopLemmas.{refusal_stops, stops_after}
@@ -16,8 +14,8 @@ use Rattle.smap_tool.proofs.entries.take_entry.Goals as goal
 
 pub returns-in_default-clause-stops : goal.returns-in_default-clause-stops
 returns-in_default-clause-stops g c =
-    let seen = scripts_of c.args.scripts.now.entries in
-    let at = c.len.ensures.len ∙ sym (length-map c.args.scripts.now.entries script_of) in
+    let seen = c.args.scripts.now in
+    let at = c.len.ensures in
     refusal_stops g.R.Read.remaining c.args.reader.now c.args.reader.now []
     (Gave-none g.R.Read.remaining c.args.reader.now) refl
     c.args.calls.now (record { entry = c.len.result; fault = wrong.Header })
@@ -31,12 +29,12 @@ returns-clause-takes g c = on_ok_weaker c.take_map.result
     (entry_taken g.R.Read.remaining c.args.reader.now c.take_map.new.reader c.args.calls.now
     c.take_map.new.calls c.args.line.now c.in-Some.header.script.now c.in-Some.header.base.now
     c.in-Some.ensures.0 c.in-Some.header.length
-    (scripts_of c.args.scripts.now.entries) (scripts_of c.take_map.new.scripts.entries) c.in-Some.ensures.1
+    c.args.scripts.now c.take_map.new.scripts c.in-Some.ensures.1
     c.in-Some.ensures.2) c.take_map.ensures.takes
 
 pub returns-clause-stops : goal.returns-clause-stops
 returns-clause-stops g c =
-    let seen = scripts_of c.args.scripts.now.entries in
+    let seen = c.args.scripts.now in
     let script = c.in-Some.header.script.now in
     let base = c.in-Some.header.base.now in
     let n = c.in-Some.ensures.0 in

@@ -1,7 +1,6 @@
 use Rattle.std.proofs.Common.{◌≡◌, ◌∙◌, ℕ, List, ◌++◌, ◌∷◌, [], inl, inr}
 use Rattle.std.proofs.Common.{Err, length-append, sym, refl}
 use Rattle.std.proofs.Common.{arith, subst}
-use Rattle.std.proofs.lemmas.List.{length-map}
 use Rattle.std.proofs.lemmas.Result.{err_from_is_err_and}
 use Rattle.smap_io.proofs.ReadingLemmas.{Gave-none}
 use Rattle.smap_record.specs.Reading.{reading}
@@ -13,7 +12,6 @@ use Rattle.smap_tool.specs.declared.fault.BundleFault.{BundleFault}
 use Rattle.smap_tool.specs.Bundle.{entry_with, usual}
 use Rattle.smap_tool.specs.Entries.{cut_off, refusal}
 use Rattle.smap_tool.specs.Reach.{IsFaultOfMap, IsWithinMap}
-use Rattle.smap_tool.specs.BundleScripts.{script_of, scripts_of}
 use Rattle.smap_tool.specs.Stopping.{Stops}
 use Rattle.smap_tool.proofs.EntryLemmas.{bad_map, cut_entry, is_len, refused_at, within_map}
 use Rattle.std.proofs.lemmas.Result.{IfErr-weaker}
@@ -28,7 +26,7 @@ Faults seen script base n more found =
 pub returns-in_err-base-clause-stops : goal.returns-in_err-base-clause-stops
 returns-in_err-base-clause-stops g c = λ n e.
     let p = err_from_is_err_and c.from_residual.result c.from_residual.ensures.1 in
-    let faults = Faults (scripts_of c.args.scripts.now.entries) c.args.header.now.script.now
+    let faults = Faults c.args.scripts.now c.args.header.now.script.now
     c.args.header.now.base.now n in
     rw (p.1, p.2) (says_stops g.R.Read.remaining c.args.reader.now c.args.reader.now []
     (Gave-none g.R.Read.remaining c.args.reader.now) refl c.args.calls.now faults (IsWithinMap n)
@@ -39,11 +37,11 @@ returns-in_err-base-clause-stops g c = λ n e.
 pub returns-in_err-bytes-clause-stops : goal.returns-in_err-bytes-clause-stops
 returns-in_err-bytes-clause-stops g c = λ n e.
     let p = err_from_is_err_and c.from_residual-in_err-bytes.result c.from_residual-in_err-bytes.ensures.1 in
-    let seen = scripts_of c.args.scripts.now.entries in
+    let seen = c.args.scripts.now in
     let script = c.args.header.now.script.now in
     let base = c.args.header.now.base.now in
     let len = is_len n c.args.header.now.length e c.in_ok-base.ensures.fits in
-    let at = c.len-entry.ensures.len ∙ sym (length-map c.args.scripts.now.entries script_of) in
+    let at = c.len-entry.ensures in
     rw (p.1, p.2) (stops_after g.R.Read.remaining c.args.reader.now c.args.reader.now []
     (Gave-none g.R.Read.remaining c.args.reader.now) refl c.bytes_of.new.reader
     c.args.calls.now c.args.calls.now (cut_off c.len-entry.result n) (Faults seen script base n)
@@ -57,12 +55,12 @@ returns-in_err-bytes-clause-stops g c = λ n e.
 pub returns-in_err-map-clause-stops : goal.returns-in_err-map-clause-stops
 returns-in_err-map-clause-stops g c = λ n e.
     let p = err_from_is_err_and c.from_residual-in_err-map.result c.from_residual-in_err-map.ensures.1 in
-    let seen = scripts_of c.args.scripts.now.entries in
+    let seen = c.args.scripts.now in
     let script = c.args.header.now.script.now in
     let base = c.args.header.now.base.now in
     let bytes = c.in_ok-bytes.bytes.items in
     let len = is_len n c.args.header.now.length e c.in_ok-base.ensures.fits in
-    let at = c.len-entry.ensures.len ∙ sym (length-map c.args.scripts.now.entries script_of) in
+    let at = c.len-entry.ensures in
     rw (p.1, p.2) (says_stops g.R.Read.remaining c.args.reader.now c.bytes_of.new.reader (bytes ++ 10 ∷ [])
     c.in_ok-bytes.ensures.gave c.in_ok-bytes.ensures.failures
     c.args.calls.now (Faults seen script base n) (IsWithinMap n) c.in_err-map.field-0.0
@@ -89,7 +87,7 @@ returns-in_err-map-clause-stops g c = λ n e.
 
 pub returns-clause-stops : goal.returns-clause-stops
 returns-clause-stops g c = λ n e.
-    let fault = Faults (scripts_of c.args.scripts.now.entries) c.args.header.now.script.now
+    let fault = Faults c.args.scripts.now c.args.header.now.script.now
     c.args.header.now.base.now n in
     IfErr-weaker c.add.result (λ s. s ≡ stop.Memory)
     (Stops g.R.Read.remaining c.args.reader.now c.bytes_of.new.reader c.args.calls.now fault

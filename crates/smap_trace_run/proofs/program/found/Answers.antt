@@ -1,4 +1,3 @@
-use Rattle.std.proofs.Common.{refl}
 use Rattle.smap_trace_run.proofs.program.found.Goals as goal
 
 pub returns : goal.returns
@@ -16,5 +15,5 @@ returns g c =
         roots = settled.roots;
         logs = settled.logs;
       };
-      url_bytes = refl;
+      url_bytes = c.url_bytes.ensures;
     }

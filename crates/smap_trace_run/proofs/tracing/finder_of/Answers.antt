@@ -1,5 +1,5 @@
 use Rattle.std.proofs.Common.{refl}
-use Rattle.smap_finder.specs.ChosenView.{no_choices}
+use Rattle.smap_map_finder.specs.ChosenView.{no_choices}
 use Rattle.smap_trace_run.specs.Running.{IsRunning}
 use Rattle.smap_trace_run.proofs.AskedLemmas.{none_named}
 use Rattle.smap_trace_run.proofs.RunningLemmas.{runs_still}

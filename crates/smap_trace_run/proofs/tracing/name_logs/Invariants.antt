@@ -1,5 +1,5 @@
 use Rattle.std.proofs.Common.{◌≡◌, ◌<◌, ℕ, List, Bor, get_or, length}
-use Rattle.smap_machine.specs.Held.{HasSize}
+use Rattle.smap_system.specs.Held.{HasSize}
 use Rattle.smap_logs.specs.Naming.{names_of}
 use Rattle.smap_trace_run.specs.Written.{AreAmong, asked_by}
 use Rattle.smap_trace_run.proofs.NamedLemmas.{HaveNamesTo}

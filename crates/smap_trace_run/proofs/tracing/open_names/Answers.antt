@@ -1,5 +1,5 @@
 use Rattle.std.proofs.Common.{◌∙◌, Bor, List, OnOk, ap, filter, map, subst, ℕ}
-use Rattle.smap_finder.specs.ChosenView.{IsJudged}
+use Rattle.smap_map_finder.specs.ChosenView.{IsJudged}
 use Rattle.smap_logs.specs.Naming.{frames_of, is_sought, others_of}
 use Rattle.smap_map_files.specs.declared.opening.How.{How}
 use Rattle.smap_trace_run.proofs.AskedLemmas.{both_kept, fewer_kept, first_names_kept, names_kept}

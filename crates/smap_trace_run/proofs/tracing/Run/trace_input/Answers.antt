@@ -1,5 +1,5 @@
 use Rattle.std.proofs.Common.{OnOk, ap, option_map, subst, sym, take}
-use Rattle.smap_machine.specs.Held.{HasSize}
+use Rattle.smap_system.specs.Held.{HasSize}
 use Rattle.smap_trace_run.specs.OutputView.{contents_of}
 use Rattle.smap_trace_run.specs.Written.{IsTracedFront}
 use Rattle.smap_trace_run.proofs.PartsLemmas.{first_size}

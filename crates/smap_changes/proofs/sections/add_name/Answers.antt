@@ -1,5 +1,0 @@
-use Rattle.smap_changes.proofs.DropLemmas.{added}
-use Rattle.smap_changes.proofs.sections.add_name.Goals as goal
-
-pub returns : goal.returns
-returns c = added c.args.found.now.keys c.insert.new.self.keys c.args.name c.in_ok-insert.ensures.keys

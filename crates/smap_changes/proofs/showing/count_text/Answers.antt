@@ -1,6 +1,0 @@
-use Rattle.std.proofs.lemmas.Fmt.{IsAscii-decimal}
-use Rattle.smap_changes.proofs.showing.count_text.Goals as goal
-
-pub grouped-requires : goal.grouped-requires
-grouped-requires c =
-    rw (c.as_str.ensures.value, c.in_ok-digits.ensures.ok) (IsAscii-decimal c.args.count c.ranges.count.fits)

@@ -1,0 +1,13 @@
+pub mod Arguments
+pub mod Clashes
+pub mod Following
+pub mod Line
+pub mod Lookups
+pub mod Maps
+pub mod Order
+pub mod Reading
+pub mod Rows
+pub mod Splits
+pub mod Trace
+pub mod Values
+pub mod View

@@ -1,0 +1,39 @@
+//! The text of `--help`.
+
+/// What `--help` prints. It is printed on standard error where no command is given.
+pub const HELP: &str = "\
+Usage: smap-maps check [--base URL] [--json] PATH...
+       smap-maps tidy [--base URL] [--absolute] [--json] [--write [--drop] | --diff] PATH...
+       smap-maps flatten [--base URL] [--json] [--write [--drop] | --diff] PATH...
+       smap-maps lint [--format FORMAT] [--rule NAME=LEVEL]... [--min-mapped N] FOLDER...
+       smap-maps repair [--base URL] [--write] PATH...
+
+Checks, tidies, flattens, lints or repairs source maps: files, and each *.map in folders and below them.
+
+  check       Name each map that smap refuses, with its fault
+  tidy        Name each map that isn't in canonical form
+  flatten     Name each map that isn't a flat map as smap writes it
+  lint        Say why maps don't work: of each script and each map of a build, what is wrong
+  repair      Name each refused map that a few bytes void, with what would mend it
+
+  --base URL      A map's URL is URL/ and its path below the folder, instead of the file: URL of the file
+                  (check, tidy, flatten, repair)
+  --absolute      Write source URLs as they are (tidy)
+  --relative      Write source URLs relative to the map's where that round-trips, which is the default (tidy)
+  --write         Rewrite the maps that would change, unless they would lose a member (tidy, flatten, repair)
+  --drop          Rewrite those too that lose a member, such as debugId, naming each (tidy, flatten)
+  --diff          Show which members would change (tidy, flatten)
+  --json          Write a line of JSON for each map (check, tidy, flatten)
+  --format FORMAT
+                  Write findings as text, gnu, github, sarif, junit or json (lint)
+  --rule NAME=LEVEL
+                  Set how much a rule counts: off, note, warning or error (lint)
+  --min-mapped N  The least part of a script, in percent, that has to be mapped (lint)
+  --url-bytes N   Refuse a map if the URLs of its sources take more than N bytes (default 67108864)
+  -V, --version   Print the version
+  -h, --help      Print help
+
+Status: 0 done: no map would change, or --write has rewritten those that would; 1 a map is refused, would
+change or lose a member, or lint finds an error; 2 the command line is wrong; 3 a file can't be read or
+written; 4 out of memory; 141 nobody reads the output any more.
+";

@@ -1,0 +1,51 @@
+//! What is said of a fault, without the name of the program before it. What a command line holds is in these
+//! texts as it is.
+use super::clashes::Clash;
+use super::words::WordFault;
+use crate::fault::option_message;
+use crate::rows::MapsCommand;
+use std::alloc::{AllocError, Global};
+
+fn command_text(command: MapsCommand) -> &'static str {
+    match command {
+        MapsCommand::Check => "check",
+        MapsCommand::Tidy => "tidy",
+        MapsCommand::Flatten => "flatten",
+        MapsCommand::Lint => "lint",
+        MapsCommand::Repair => "repair",
+    }
+}
+
+fn clash_text(clash: Clash) -> &'static str {
+    match clash {
+        Clash::WriteDiff => "--write and --diff at once",
+        Clash::RelativeAbsolute => "--relative and --absolute at once",
+        Clash::JsonDiff => "--json and --diff at once",
+        Clash::DropAlone => "--drop needs --write",
+    }
+}
+
+/// What is wrong with a command line. In its place [`HELP`](super::HELP) is printed where the fault is
+/// `WordFault::Nothing`.
+///
+/// # Errors
+///
+/// `AllocError`.
+pub fn message(alloc: Global, fault: &WordFault<'_>) -> Result<String, AllocError> {
+    match fault {
+        WordFault::Options(fault) => option_message(alloc, fault),
+        WordFault::Nothing => String::from_str(alloc, "no command"),
+        WordFault::NoCommand(word) => {
+            format!(in alloc; "no such command: {word} (check, tidy, flatten, lint or repair)")
+        }
+        WordFault::Foreign(command, option) => {
+            let (command, name) = (command_text(*command), option.name);
+            format!(in alloc; "{command} has no --{name}")
+        }
+        WordFault::Clashing(clash) => String::from_str(alloc, clash_text(*clash)),
+        WordFault::NoPath(command) => {
+            let command = command_text(*command);
+            format!(in alloc; "{command} needs a file or a folder")
+        }
+    }
+}

@@ -1,0 +1,143 @@
+//! The options of `smap-maps`.
+use crate::rows::{Commands, FLAG, NO_COMMANDS, OptionOf, OptionRow, URL_BYTES, Value};
+
+/// The options, in the order in which the help lists them and they are looked at.
+pub const OPTIONS: [OptionRow; 11] = [
+    OptionOf {
+        name: "base",
+        value: Value::Text,
+        value_name: "URL",
+        commands: Commands {
+            check: true,
+            tidy: true,
+            flatten: true,
+            repair: true,
+            ..NO_COMMANDS
+        },
+        help: "A map's URL is URL/ and its path below the folder, instead of the file: URL of the file",
+        details: "Of a file that is given it is URL/ and its name. URL has neither a query nor a \
+                  fragment. The sources of a map are resolved against its URL, and flatten writes them \
+                  so.",
+        ..FLAG
+    },
+    OptionOf {
+        name: "absolute",
+        commands: Commands {
+            tidy: true,
+            ..NO_COMMANDS
+        },
+        help: "Write source URLs as they are",
+        ..FLAG
+    },
+    OptionOf {
+        name: "relative",
+        commands: Commands {
+            tidy: true,
+            ..NO_COMMANDS
+        },
+        help: "Write source URLs relative to the map's where that round-trips, which is the default",
+        details: "So what is written is the same on every machine.",
+        ..FLAG
+    },
+    OptionOf {
+        name: "write",
+        commands: Commands {
+            tidy: true,
+            flatten: true,
+            repair: true,
+            ..NO_COMMANDS
+        },
+        help: "Rewrite the maps that would change, unless they would lose a member",
+        details: "They are named. A refused map is left alone, and so is one that would lose a member, \
+                  which is named on standard error. The new map is written to another file in the same \
+                  folder, which is then renamed: at any time the map is whole, old or new. A map that \
+                  another program writes meanwhile is left as that wrote it. Permissions stay, and the \
+                  owner where the system allows that; a link stays a link, and one of another user \
+                  than root isn't followed. A run that a signal ends may leave that other file behind, \
+                  which is .smap-1, or the first number after it that is free.",
+        ..FLAG
+    },
+    OptionOf {
+        name: "drop",
+        commands: Commands {
+            tidy: true,
+            flatten: true,
+            ..NO_COMMANDS
+        },
+        help: "Rewrite those too that lose a member, such as debugId, naming each",
+        ..FLAG
+    },
+    OptionOf {
+        name: "diff",
+        commands: Commands {
+            tidy: true,
+            flatten: true,
+            ..NO_COMMANDS
+        },
+        help: "Show which members would change",
+        details: "There is a line for each member of the map that would be another: how large it is \
+                  before and after, and of sources and names which ones are merged, gone or new.",
+        ..FLAG
+    },
+    OptionOf {
+        name: "json",
+        commands: Commands {
+            check: true,
+            tidy: true,
+            flatten: true,
+            ..NO_COMMANDS
+        },
+        help: "Write a line of JSON for each map",
+        details: "It has the members path, status, fault, place, line, column, range and, but for \
+                  check, drops, and nothing else but errors of the command line is written. The line, \
+                  the column and the range of bytes are those of the fault in the text of the map.",
+        ..FLAG
+    },
+    OptionOf {
+        name: "format",
+        value: Value::Format,
+        value_name: "FORMAT",
+        expected: "text, gnu, github, sarif, junit or json",
+        commands: Commands {
+            lint: true,
+            ..NO_COMMANDS
+        },
+        help: "Write findings as text, gnu, github, sarif, junit or json",
+        ..FLAG
+    },
+    OptionOf {
+        name: "rule",
+        value: Value::Level,
+        value_name: "NAME=LEVEL",
+        expected: "NAME=LEVEL, where LEVEL is off, note, warning or error",
+        repeats: true,
+        commands: Commands {
+            lint: true,
+            ..NO_COMMANDS
+        },
+        help: "Set how much a rule counts: off, note, warning or error",
+        ..FLAG
+    },
+    OptionOf {
+        name: "min-mapped",
+        value: Value::Number(100),
+        value_name: "N",
+        expected: "a number from 0 to 100",
+        commands: Commands {
+            lint: true,
+            ..NO_COMMANDS
+        },
+        help: "The least part of a script, in percent, that has to be mapped",
+        ..FLAG
+    },
+    OptionOf {
+        commands: Commands {
+            check: true,
+            tidy: true,
+            flatten: true,
+            lint: true,
+            repair: true,
+        },
+        ..URL_BYTES
+    },
+];

@@ -1,0 +1,43 @@
+//! The text of `--help`.
+
+/// What `--help` prints. It is printed on standard error where nothing is asked for.
+pub const HELP: &str = "\
+Usage: smap-trace [OPTION]... URL=FILE[=BASE]... <crash.log
+       smap-trace [OPTION]... URL/=FOLDER/... <crash.log
+       smap-trace [OPTION]... FOLDER... [LOG]...
+       smap-trace --list [OPTION]... [URL=FILE[=BASE]]... [URL/=FOLDER/]... <crash.log
+
+Rewrites the stack traces in a log: positions in scripts become positions in their sources.
+
+  URL=FILE[=BASE]  FILE is the source map of the script that the log calls URL, or the script, if it names
+                   its map. BASE is the URL of the map, against which its sources are resolved: URL.map by
+                   default, as a file: URL if the log has an absolute path
+  URL/=FOLDER/     Each NAME.map in FOLDER, or below it, is the map of URL/NAME. Where there is none, the
+                   script NAME may name its map
+  FOLDER           Each script of the log takes the map, of those in FOLDER or below it, whose name agrees
+                   with its own in most whole segments from the end
+  LOG              A log, in place of standard input
+
+  --anywhere      Find positions anywhere in a line: behind a time, in JSON, in colours
+  --hide-ignored  Leave out frames in ignored sources (libraries, mostly)
+  --skip-broken   Leave out maps that smap refuses, naming each, instead of stopping
+  --check-all     Check every map, those too whose scripts the log doesn't name
+  --list          List the scripts that the log names: how often, and whether each has a map
+  --context N     Show N lines of the source around each position, where the map has its text
+  --url-bytes N   Refuse a map if the URLs of its sources take more than N bytes (default 67108864)
+  --source-prefix FROM=TO
+                  Write TO for FROM at the start of a source's URL. Of several the first that fits counts
+  -o FILE         Write to FILE, which changes only when all is written
+  -v, --verbose   Say which maps are opened, and for which names in the log
+  -V, --version   Print the version
+  -h, --help      Print help
+
+Only the maps of scripts that the log names are opened. Lines are written as soon as they are read, so a log
+can be followed:
+
+  tail -f app.log | smap-trace https://example.org/=dist/
+
+Status: 0 done; 1 a map is refused, without --skip-broken; 2 the command line is wrong, or names a map that
+can't be read; 3 the log or a file can't be read, or the output can't be written; 4 out of memory; 141 nobody
+reads the output any more.
+";

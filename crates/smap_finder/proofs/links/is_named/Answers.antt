@@ -1,5 +1,0 @@
-use Rattle.std.proofs.Common.{rules}
-use Rattle.smap_finder.proofs.links.is_named.Goals as goal
-
-pub returns-then-eq : goal.returns-then-eq
-returns-then-eq c = λ same. (c.in-Some.name, c.in-Some.is, search rules)

@@ -1,7 +1,0 @@
-use Rattle.std.proofs.Common.{◌≡◌, drop}
-use Rattle.smap_machine.specs.Fixed as spec
-use Rattle.smap_machine.proofs.fixed.entries_of.Given as goal
-
-abbrev pub invariant-loop-folder : goal.invariant-loop-folder
-invariant-loop-folder l = spec.entries_by l.folders l.name ≡ spec.entries_by
-    (drop l.folder-index l.folders) l.name

@@ -1,7 +1,0 @@
-use Rattle.std.proofs.Common.{◌≡◌, map, take}
-use Rattle.smap_machine.specs.Fixed as spec
-use Rattle.smap_machine.specs.Tree.{entry_in}
-use Rattle.smap_machine.proofs.fixed.listing_of.Given as goal
-
-abbrev pub invariant-loop-i : goal.invariant-loop-i
-invariant-loop-i l = map entry_in l.listed.items ≡ map spec.entry_of (take l.i l.entries)

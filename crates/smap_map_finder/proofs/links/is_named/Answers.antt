@@ -1,0 +1,5 @@
+use Rattle.std.proofs.Common.{rules}
+use Rattle.smap_map_finder.proofs.links.is_named.Goals as goal
+
+pub returns-then-eq : goal.returns-then-eq
+returns-then-eq c = λ same. (c.in-Some.name, c.in-Some.is, search rules)

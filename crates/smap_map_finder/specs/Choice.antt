@@ -1,0 +1,242 @@
+-- Which map a name of a log has, of those that the arguments name.
+use Rattle.std.specs.Prelude.{◌≡◌, ◌⊎◌, ◌+◌, ℕ, Bool, true, false, not, ◌==◌, ◌&&◌, ◌||◌}
+use Rattle.std.specs.Prelude.{nat_eq, nat_lt, List, ◌++◌, codes, cond, drop, length, map, min, take, ⊤}
+use Rattle.std.specs.Prelude.{IfSome, Option, Some, None, option_and_then, option_map}
+use Rattle.std.specs.Global.{Vec}
+use Rattle.std.specs.Char.{is_ascii_alphanumeric}
+use Rattle.std.specs.List.{All, list_any, prefix_len, slice_get, starts_with}
+use Rattle.smap_system.specs.Held.{Held}
+use Rattle.smap_link.specs.Alike.{own_url}
+use Rattle.smap_link.specs.Paths.{bare}
+use Rattle.smap_link.specs.Urls.{is_path}
+use Rattle.smap_map_choice.specs.Picks.{ArePicks, IsFound}
+use Rattle.smap_map_choice.specs.Opening.{found_place}
+use Rattle.smap_map_choice.specs.PlaceView.{places_in}
+use Rattle.smap_map_choice.specs.Places.{MapPlace, scripts_of}
+use Rattle.smap_map_choice.specs.declared.picks.Found.{Found}
+use Rattle.smap_map_choice.specs.declared.picks.Found.TheVariants.{Given, ByEnd, Unclear, Missing}
+use Rattle.smap_map_choice.specs.declared.picks.Pick.{Pick}
+use Rattle.smap_record.specs.Record.{ReadMap}
+use Rattle.smap_map_files.specs.Given.{Folder, Names}
+use Rattle.smap_map_files.specs.Opened.{GivesNone, IsOpened}
+use Rattle.smap_map_files.specs.RootView.{folder_in}
+use Rattle.smap_map_files.specs.declared.wanted.Origin.{Origin}
+use Rattle.smap_map_files.specs.declared.wanted.Origin.TheVariants as origin
+use Rattle.smap_map_files.specs.declared.wanted.Wanted.{Wanted}
+
+-- ---- what the arguments name
+
+abbrev pub places_of : Wanted → List MapPlace
+places_of w = places_in w.places.items
+
+abbrev pub files_of : Wanted → List (List ℕ)
+files_of w = map (λ f. f.items) w.files.items
+
+-- those of the files that are maps, and the scripts behind them
+abbrev pub map_count_of : Wanted → ℕ
+map_count_of w = min w.map_count (length (files_of w))
+
+abbrev pub map_files_of : Wanted → List (List ℕ)
+map_files_of w = take (map_count_of w) (files_of w)
+
+abbrev pub script_files_of : Wanted → List (List ℕ)
+script_files_of w = drop (map_count_of w) (files_of w)
+
+abbrev pub root_at : Wanted → ℕ → Option Folder
+root_at w n = option_map folder_in (slice_get w.roots.items n)
+
+abbrev pub root_below : Wanted → Origin → Option Folder
+root_below w (origin.Alone has_base) = None
+root_below w (origin.Below n) = root_at w n
+
+-- The folder in which it was found, if it was in one.
+abbrev pub root_of : Wanted → Found → Option Folder
+root_of w (Given i) = option_and_then (root_below w) (slice_get w.origins.items i)
+root_of w (ByEnd i) = option_and_then (root_at w) (slice_get w.file_roots.items i)
+root_of w (Unclear i j) = None
+root_of w Missing = None
+
+abbrev pub gives_base : Option Origin → Bool
+gives_base None = false
+gives_base (Some (origin.Alone has_base)) = has_base
+gives_base (Some (origin.Below n)) = false
+
+-- The map's own URL was given with its argument.
+abbrev pub has_base : Wanted → Found → Bool
+has_base w (Given i) = gives_base (slice_get w.origins.items i)
+has_base w (ByEnd i) = false
+has_base w (Unclear i j) = false
+has_base w Missing = false
+
+-- ---- what a name has
+
+-- The map of the script that is meant, or the file that ends alike; of some names of files.
+abbrev pub IsFoundIn : Wanted → List (List ℕ) → List ℕ → Found → Type 0
+IsFoundIn w files name found = IsFound true (scripts_of (places_of w)) files name found
+
+-- What each of these names has so.
+abbrev pub ArePicksIn : Wanted → List (List ℕ) → List (List ℕ) → List Pick → Type 0
+ArePicksIn w files names picks = ArePicks true (scripts_of (places_of w)) files names picks
+
+-- The text of a script names the file of a map, seen from this folder.
+pub record NamesFile (held : List ℕ → Option (List ℕ)) (folder : Folder) (script file : List ℕ) : Type 0 where
+  pub text : List ℕ
+  pub held_is : held script ≡ Some text
+  pub names : Names folder script text file
+
+-- The same, where it is said what files hold.
+abbrev pub NamesMap : Held → Folder → List ℕ → List ℕ → Type 0
+NamesMap None folder script file = ⊤
+NamesMap (Some held) folder script file = NamesFile held folder script file
+
+-- The script with this number among the files names this file, seen from the folder that it was found in:
+-- whatever name of a log it is to have.
+pub record IsNamedBy (held : Held) (w : Wanted) (script : ℕ) (file : List ℕ) : Type 0 where
+  pub folder : Folder
+  pub folder_is : root_of w (ByEnd script) ≡ Some folder
+  pub script_name : List ℕ
+  pub script_is : slice_get (files_of w) script ≡ Some script_name
+  pub names : NamesMap held folder script_name file
+
+-- It names the map with that number.
+abbrev pub Links : Held → Wanted → ℕ → ℕ → Type 0
+Links held w script file =
+    (name : List ℕ) × (slice_get (files_of w) file ≡ Some name) × IsNamedBy held w script name
+
+-- What is kept of scripts: the file that each names, if it names one.
+abbrev pub AreLinks : Held → Wanted → List (ℕ × Option (Vec ℕ)) → Type 0
+AreLinks held w kept = All (λ e. IfSome e.1 (λ file. IsNamedBy held w e.0 file.items)) kept
+
+-- A script ends alike with the name, and names the map that does so.
+pub record IsThrough (held : Held) (w : Wanted) (name : List ℕ) (found : Found) : Type 0 where
+  pub script : ℕ
+  pub file : ℕ
+  pub by_script : IsFoundIn w (script_files_of w) name (ByEnd script)
+  pub by_map : IsFoundIn w (map_files_of w) name (ByEnd file)
+  pub found_is : found ≡ ByEnd (map_count_of w + script)
+  pub links : Links held w (map_count_of w + script) file
+
+-- A map ends alike, and another file does.
+abbrev pub is_half_unclear : Wanted → Found → Bool
+is_half_unclear w (Given i) = false
+is_half_unclear w (ByEnd i) = false
+is_half_unclear w (Unclear i j) = nat_lt (min i j) (map_count_of w)
+is_half_unclear w Missing = false
+
+-- A map ends alike with the name, and another file does.
+pub record IsHalfUnclear (w : Wanted) (name : List ℕ) : Type 0 where
+  pub found : Found
+  pub is_found : IsFoundIn w (files_of w) name found
+  pub is_half : is_half_unclear w found ≡ true
+
+-- Then the map is meant, or the script that names it.
+pub record IsSettled (held : Held) (w : Wanted) (name : List ℕ) (found : Found) : Type 0 where
+  pub unclear : IsHalfUnclear w name
+  pub settled : IsFoundIn w (map_files_of w) name found ⊎ IsThrough held w name found
+
+-- What is found for the name, where it isn't so.
+pub record IsClear (w : Wanted) (name : List ℕ) (found : Found) : Type 0 where
+  pub is_found : IsFoundIn w (files_of w) name found
+  pub is_clear : is_half_unclear w found ≡ false
+
+-- What is found for a name of a log.
+abbrev pub IsChoice : Held → Wanted → List ℕ → Found → Type 0
+IsChoice held w name found = IsClear w name found ⊎ IsSettled held w name found
+
+abbrev pub IsChoiceOf : Held → Wanted → Pick → Type 0
+IsChoiceOf held w pick = IsChoice held w pick.name.now pick.found
+
+-- Picks of this kind, one for each of these names, in their order.
+pub record ArePicksOf (Is : Pick → Type 0) (names : List (List ℕ)) (picks : List Pick) : Type 0 where
+  pub named : map (λ p. p.name.now) picks ≡ names
+  pub each : All Is picks
+
+-- What is found for each of these names.
+abbrev pub AreChoices : Held → Wanted → List (List ℕ) → List Pick → Type 0
+AreChoices held w names picks = ArePicksOf (IsChoiceOf held w) names picks
+
+-- ---- the map of what a name has
+
+abbrev pub scheme_size : List ℕ → ℕ
+scheme_size name = prefix_len (λ b. is_ascii_alphanumeric b || list_any (nat_eq b) (codes "+-.")) name
+
+-- a scheme and `://`, as a URL with a host begins
+abbrev pub has_scheme : List ℕ → Bool
+has_scheme name =
+    not (scheme_size name == 0) && starts_with nat_eq (drop (scheme_size name) name) (codes "://")
+
+-- a URL that names a place, or an absolute path
+abbrev pub is_absolute : List ℕ → Bool
+is_absolute name = is_path name || has_scheme name
+
+-- A name may belong to a file by its end: a URL that names a place, a path; of a frame also a name without a
+-- colon, since `node:internal/x.js` names none.
+abbrev pub may_end_alike : List ℕ → Bool → Bool
+may_end_alike name in_frames = is_absolute name || (in_frames && not (list_any (λ b. nat_eq b 58) name))
+
+-- Found, but not by its end for a name that may not belong to a file by it.
+abbrev pub within_ends : List ℕ → Bool → Found → Found
+within_ends name in_frames (Given i) = Given i
+within_ends name in_frames (ByEnd i) = cond (may_end_alike name in_frames) (ByEnd i) Missing
+within_ends name in_frames (Unclear i j) = cond (may_end_alike name in_frames) (Unclear i j) Missing
+within_ends name in_frames Missing = Missing
+
+-- What a name of a log has.
+pub record IsPicked (held : Held) (w : Wanted) (in_frames : Bool) (name : List ℕ)
+    (found : Found) : Type 0 where
+  pub choice : Found
+  pub is_choice : IsChoice held w name choice
+  pub found_is : found ≡ within_ends name in_frames choice
+
+abbrev pub IsPickedBy : Held → Wanted → Bool → Pick → Type 0
+IsPickedBy held w in_frames pick = IsPicked held w in_frames pick.name.now pick.found
+
+-- What each of these names has.
+abbrev pub ArePicked : Held → Wanted → Bool → List (List ℕ) → List Pick → Type 0
+ArePicked held w in_frames names picks = ArePicksOf (IsPickedBy held w in_frames) names picks
+
+-- The URL of a file that is given without one.
+abbrev pub name_of_file : List ℕ → List ℕ
+name_of_file file = own_url (codes "/" ++ file)
+
+-- a name that is absolute, or else that of the file
+abbrev pub own_name : List ℕ → Option (List ℕ) → List ℕ
+own_name name None = name
+own_name name (Some file) = cond (is_absolute name) name (name_of_file file)
+
+-- The name under which a map is opened: that of the log; but of a map in a folder without a URL, where the
+-- log's is neither a URL nor a path, that of its own file.
+abbrev pub opening_name : Wanted → List ℕ → Found → List ℕ
+opening_name w name (Given i) = name
+opening_name w name (ByEnd i) = own_name name (slice_get (files_of w) i)
+opening_name w name (Unclear i j) = name
+opening_name w name Missing = name
+
+-- A map was opened by this name for this.
+pub record IsOpenedAs (held : Held) (w : Wanted) (name : List ℕ) (found : Found) (m : ReadMap) : Type 0 where
+  pub place : MapPlace
+  pub is_place : found_place (places_of w) (files_of w) name found ≡ Some place
+  pub opened : IsOpened w.url_bytes held (root_of w found) (has_base w found) place m
+
+-- None was opened by this name for this, and so much is the worst since: it has no place, or that gives none.
+abbrev pub IsUnopened : Held → Wanted → List ℕ → Found → ℕ → Type 0
+IsUnopened held w name found worst = (found_place (places_of w) (files_of w) name found ≡ None)
+    ⊎ ((place : MapPlace) × (found_place (places_of w) (files_of w) name found ≡ Some place)
+    × GivesNone w.url_bytes held (root_of w found) (has_base w found) place worst)
+
+-- The map of what a name of a log has.
+abbrev pub IsOpenedFor : Held → Wanted → List ℕ → Found → ReadMap → Type 0
+IsOpenedFor held w name found m = IsOpenedAs held w (opening_name w name found) found m
+
+-- What this name has gives no map.
+abbrev pub IsWithout : Held → Wanted → ℕ → List ℕ → Found → Type 0
+IsWithout held w worst name found = IsUnopened held w (opening_name w name found) found worst
+
+-- The map of a name of a log: what the name has, opened for it, or for a name that differs from it in its
+-- query or its fragment alone.
+pub record IsMapOf (held : Held) (w : Wanted) (name : List ℕ) (m : ReadMap) : Type 0 where
+  pub found : Found
+  pub is_choice : IsChoice held w name found
+  pub other : List ℕ
+  pub alike : bare other ≡ bare name
+  pub opened : IsOpenedFor held w other found m

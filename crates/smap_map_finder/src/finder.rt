@@ -1,0 +1,152 @@
+//! The maps of the scripts that a log names, as one value.
+ghost use Rattle.std.specs.Prelude.{◌≡◌, IfOk, OnOk, map, option_map};
+ghost use Rattle.std.specs.List.{All};
+ghost use Rattle.smap_map_finder.specs.ChosenView.{AreChosen, Grows, IsJudged, IsSettledIn, KeepEnds};
+ghost use Rattle.smap_map_finder.specs.ChosenView.{no_choices};
+ghost use Rattle.smap_map_finder.specs.Finding.{IsSameSearch};
+ghost use Rattle.smap_record.specs.Record.{record_of};
+ghost use Rattle.smap_trace.specs.Scripts.{map_of};
+
+use crate::chosen::Chosen;
+use crate::opening::{Opener, Search};
+use smap_map_files::{How, Wanted};
+use smap_record::SourceMap;
+use smap_system::{Disk, Host, Stop};
+use smap_trace::Scripts;
+use std::marker::Model;
+use std::sync::Arc;
+
+/// The maps of the scripts that a log names, of those that the arguments name, opened as the log first names
+/// them. What is wrong is said on standard error.
+#[derive(Drop)]
+pub struct Finder<'a, E, D: Disk> {
+    search: Search<'a, E, D>,
+    opener: Opener<'a, D>,
+    chosen: Chosen,
+}
+
+impl<'a, E, D: Disk> Model for Finder<'a, E, D> {
+    ghost use Rattle.smap_map_finder.specs.Finding.{Finding, IsFinding};
+
+    ghost Value = { Finding D };
+
+    ghost use Rattle.smap_map_finder.specs.ChosenView.{choices_of};
+
+    ghost view = { λ f. record {
+      disk = f.search.host.now.disk.now;
+      how = f.search.how;
+      wanted = f.search.wanted.now;
+      chosen = choices_of f.chosen;
+    } };
+
+    ghost invariant = { λ f. IsFinding D.held f.search.host.now.disk.now f.search.wanted.now f.opener
+        (choices_of f.chosen) };
+}
+
+impl<'a, E: Eprint + AllocGlobal, D: Disk> Finder<'a, E, D> {
+    /// Over maps of which no two have the same script.
+    ///
+    /// # Errors
+    ///
+    /// `Stop`.
+    pub fn new(
+        host: &'a Host<'a, E, D>,
+        how: How,
+        wanted: &'a Wanted<'a>,
+    ) -> Result<Finder<'a, E, D>, Stop>
+        ensures { IfOk result (λ f. f ≡ record {
+          disk = host.now.disk.now;
+          how = how;
+          wanted = wanted.now;
+          chosen = no_choices;
+        }) }
+    {
+        let alloc = host.alloc();
+        let opener = Opener::new(alloc, host.disk, wanted)?;
+        Ok(Finder {
+            search: Search { host, how, wanted },
+            opener,
+            chosen: Chosen::new(alloc),
+        })
+    }
+
+    /// Gives each of these names of a log its map, or finds that it has none: names that frames have, or
+    /// other texts with a position after them. Maps are opened that aren't yet. Each map that is refused is
+    /// named; then the run ends, unless broken maps are skipped.
+    ///
+    /// # Errors
+    ///
+    /// `Stop`.
+    pub fn open_for(&mut self, in_frames: bool, names: &[&[u8]]) -> Result<(), Stop>
+        ensures settled { OnOk result (All (λ n. IsSettledIn (D.held self.old.disk) self.old.wanted in_frames
+            self.new.chosen n.now) names.now) }
+        ensures judged { OnOk result (IsJudged self.old.how.skip self.new.chosen) }
+        ensures grows { Grows self.old.chosen self.new.chosen }
+        ensures ends { KeepEnds (D.held self.old.disk) self.old.wanted (map (λ n. n.now) names.now)
+            self.old.chosen self.new.chosen }
+        ensures named { AreChosen (D.held self.new.disk) self.new.wanted self.new.chosen }
+        ensures same { IsSameSearch self.old self.new }
+    {
+        self.search
+            .open_for(&mut self.opener, in_frames, names, &mut self.chosen)
+    }
+
+    /// Reads every map there is, and names each that is refused; then the run ends, unless broken maps are
+    /// skipped. No map is kept.
+    ///
+    /// # Errors
+    ///
+    /// `Stop`.
+    pub fn check_all(&mut self) -> Result<(), Stop>
+        ensures judged { OnOk result (IsJudged self.old.how.skip self.new.chosen) }
+        ensures ends { self.new.chosen.ends ≡ self.old.chosen.ends }
+        ensures named { AreChosen (D.held self.new.disk) self.new.wanted self.new.chosen }
+        ensures same { IsSameSearch self.old self.new }
+    {
+        self.search.check_all(&mut self.opener, &mut self.chosen)
+    }
+
+    /// Forgets the names that have maps, once there are many; the maps stay open, and names that come again
+    /// find them.
+    pub fn forget_many(&mut self)
+        ensures ends { self.new.chosen.ends ≡ self.old.chosen.ends }
+        ensures named { AreChosen (D.held self.new.disk) self.new.wanted self.new.chosen }
+        ensures same { IsSameSearch self.old self.new }
+    {
+        self.chosen.forget_many(self.search.host.alloc());
+    }
+
+    /// Says how many maps were opened.
+    ///
+    /// # Errors
+    ///
+    /// `Stop::Memory`.
+    pub fn tell_count(&self) -> Result<(), Stop> {
+        self.search.tell_count(&self.chosen)
+    }
+
+    /// The names that have maps, as scripts: each has one that the arguments name.
+    pub fn scripts(&self) -> &Scripts<Arc<SourceMap>>
+        ensures value { result.now ≡ self.now.chosen.scripts }
+        ensures named { AreChosen (D.held self.now.disk) self.now.wanted self.now.chosen }
+    {
+        self.chosen.scripts()
+    }
+
+    /// The map of a name.
+    pub fn map_of(&self, name: &[u8]) -> Option<&SourceMap>
+        ensures { option_map (λ m. record_of m.now) result ≡ map_of self.now.chosen.scripts name.now }
+    {
+        self.chosen.map_of(name)
+    }
+
+    /// Whether it was reported of a name that it isn't clear which map it has.
+    pub fn is_unclear(&self) -> bool {
+        self.chosen.is_unclear()
+    }
+
+    /// How many files gave maps.
+    pub fn opened_count(&self) -> usize {
+        self.chosen.opened_count()
+    }
+}

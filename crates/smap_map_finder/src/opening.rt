@@ -1,0 +1,110 @@
+//! The maps of the scripts that a log names, opened as the log first names them.
+ghost use Rattle.std.specs.Prelude.{◌≡◌, ◌≤◌, IfNone, IfOk, IfSome, None};
+ghost use Rattle.std.specs.Prelude.{option_map};
+ghost use Rattle.smap_map_finder.specs.Choice.{IsOpenedAs, IsUnopened, files_of, places_of};
+ghost use Rattle.smap_map_finder.specs.ChosenView.{IsOver};
+ghost use Rattle.smap_map_choice.specs.Opening.{found_place};
+ghost use Rattle.smap_map_choice.specs.PlaceView.{place_in};
+ghost use Rattle.smap_map_finder.specs.Searching.{wanted_in};
+
+use crate::links::Links;
+use crate::roots::{has_base, root_of};
+use smap_link::{ChoiceFault, ScriptTable};
+use smap_map_choice::{Found, Pick, Place, table_of, usual_place};
+use smap_map_files::{FileStore, How, Subject, Wanted, copied, settle_content};
+use smap_record::SourceMap;
+use smap_system::{Disk, Host, Stop};
+use std::alloc::{AllocError, Global};
+
+/// What is searched: the machine, how maps are opened, and what the arguments name.
+#[derive(Drop)]
+pub(crate) struct Search<'a, E, D> {
+    pub(crate) host: &'a Host<'a, E, D>,
+    pub(crate) how: How,
+    pub(crate) wanted: &'a Wanted<'a>,
+}
+
+/// What opens the maps.
+#[derive(Drop)]
+pub(crate) struct Opener<'a, D> {
+    pub(crate) table: ScriptTable,
+    pub(crate) links: Links,
+    pub(crate) store: FileStore<'a, D>,
+}
+
+impl<'a, D> Opener<'a, D> {
+    /// Over maps of which no two have the same script.
+    pub(crate) fn new(
+        alloc: Global,
+        disk: &'a D,
+        wanted: &Wanted<'_>,
+    ) -> Result<Opener<'a, D>, Stop>
+    where
+        D: Disk,
+        ensures { IfOk result (IsOver D.held (D.held disk.now) wanted.now) }
+    {
+        match table_of(alloc, wanted.places.as_slice()) {
+            Ok(table) => Ok(Opener {
+                table,
+                links: Links::new(alloc),
+                store: FileStore::new(alloc, disk),
+            }),
+            Err(ChoiceFault::Memory) => Err(Stop::Memory),
+            Err(_) => Err(Stop::Reported(1)),
+        }
+    }
+}
+
+/// The place of what a pick found.
+fn place_of(
+    alloc: Global,
+    wanted: &Wanted<'_>,
+    pick: &Pick<'_>,
+) -> Result<Option<Place>, AllocError>
+    ensures { IfOk result (λ found. option_map place_in found ≡ found_place (places_of wanted.now)
+        (files_of wanted.now) pick.now.name.now pick.now.found) }
+{
+    match pick.found {
+        Found::Given(i) => match wanted.places.get(i) {
+            Some(place) => Ok(Some(copied(alloc, place)?)),
+            None => Ok(None),
+        },
+        Found::ByEnd(i) => match wanted.files.get(i) {
+            Some(file) => Ok(Some(usual_place(alloc, pick.name, file)?)),
+            None => Ok(None),
+        },
+        Found::Unclear(_, _) | Found::Missing => Ok(None),
+    }
+}
+
+impl<E: Eprint + AllocGlobal, D: Disk> Search<'_, E, D> {
+    /// The map of a pick, opened.
+    pub(crate) fn opened_map(
+        &self,
+        store: &mut FileStore<'_, D>,
+        pick: &Pick<'_>,
+        worst: &mut u8,
+    ) -> Result<Option<SourceMap>, Stop>
+        ensures named { IfOk result (λ found. IfSome found (IsOpenedAs (D.held store.old.disk.now)
+            (wanted_in self.now) pick.now.name.now pick.now.found)) }
+        ensures none { IfOk result (λ found. IfNone found (IsUnopened (D.held store.old.disk.now) (wanted_in
+            self.now) pick.now.name.now pick.now.found worst.new)) }
+        ensures worst { worst.old ≤ worst.new }
+        ensures held { D.held store.new.disk.now ≡ D.held store.old.disk.now }
+    {
+        let (alloc, wanted) = (self.host.alloc(), self.wanted);
+        let Some(place) = place_of(alloc, wanted, pick)? else {
+            return Ok(None);
+        };
+        let subject = Subject {
+            place,
+            root: root_of(wanted, pick.found),
+            has_base: has_base(wanted, pick.found),
+            url_bytes: wanted.url_bytes,
+        };
+        match smap_map_choice::Store::open(store, alloc, &subject.place) {
+            Ok(content) => settle_content(self.host, store, self.how, &subject, content, worst),
+            Err(_) => Err(Stop::Memory),
+        }
+    }
+}

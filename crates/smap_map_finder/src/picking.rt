@@ -1,0 +1,307 @@
+//! Which file each name of a log has.
+ghost use Rattle.std.specs.Prelude.{◌≡◌, IfOk, List, false, map, option_map, true, ℕ};
+ghost use Rattle.std.specs.List.{All};
+ghost use Rattle.smap_map_finder.specs.Choice as spec;
+ghost use Rattle.smap_map_finder.specs.Choice.{AreChoices, AreLinks, ArePicked, ArePicksIn, IsChoice};
+ghost use Rattle.smap_map_finder.specs.Choice.{IsChoiceOf};
+ghost use Rattle.smap_map_finder.specs.Choice.{IsFoundIn};
+ghost use Rattle.smap_map_finder.specs.Choice.{IsHalfUnclear, files_of, places_of};
+ghost use Rattle.smap_map_files.specs.declared.wanted.Wanted.{Wanted};
+ghost use Rattle.smap_system.specs.Held.{Held};
+ghost use Rattle.smap_map_finder.specs.ChosenView.{IsOver};
+ghost use Rattle.smap_map_finder.specs.Searching.{held_in, wanted_in};
+
+use crate::links::Links;
+use crate::opening::{Opener, Search};
+use crate::roots::slices;
+use smap_link::{ScriptTable, bare, is_path, own_url};
+use smap_map_choice::{Found, Pick, pick_all};
+use smap_map_files::Wanted;
+use smap_system::{Disk, Host, Stop};
+use std::alloc::{AllocError, Global};
+
+/// What stands for what was found in the table of what was opened: a map in a folder without a URL is
+/// another for each script, since its own URL is.
+pub(crate) fn key_of_found(alloc: Global, pick: &Pick<'_>) -> Result<Vec<u8>, AllocError> {
+    match pick.found {
+        Found::Given(i) => Ok(format!(in alloc; "{i}")?.into_bytes()),
+        Found::ByEnd(i) => {
+            let mut key = format!(in alloc; "{i} ")?.into_bytes();
+            key.extend_from_slice(bare(pick.name))?;
+            Ok(key)
+        }
+        Found::Unclear(_, _) | Found::Missing => Ok(Vec::new(alloc)),
+    }
+}
+
+/// How long the scheme is that a name begins with.
+fn scheme_size(name: &[u8]) -> usize
+    ensures { result ≡ spec.scheme_size name.now }
+{
+    name.iter()
+        .take_while(|b| b.is_ascii_alphanumeric() || b"+-.".contains(*b))
+        .count()
+}
+
+/// Whether a name begins as a URL with a host or a path does: a scheme, `://`.
+fn has_scheme(name: &[u8]) -> bool
+    ensures { result ≡ spec.has_scheme name.now }
+{
+    let size = scheme_size(name);
+    size != 0 && name.get(size..).unwrap_or(b"").starts_with(b"://")
+}
+
+/// Whether a name is a URL that names a place, or an absolute path.
+fn is_absolute(name: &[u8]) -> bool
+    ensures { result ≡ spec.is_absolute name.now }
+{
+    is_path(name) || has_scheme(name)
+}
+
+/// The name by which a map is opened: the log's, or, of a map in a folder without a URL, where the log's is
+/// neither a URL nor a path, the URL of its own file.
+pub(crate) fn opening_name(
+    alloc: Global,
+    wanted: &Wanted<'_>,
+    pick: &Pick<'_>,
+) -> Result<Vec<u8>, AllocError>
+    ensures { IfOk result
+        (λ name. name.items ≡ spec.opening_name wanted.now pick.now.name.now pick.now.found) }
+{
+    match pick.found {
+        Found::ByEnd(i) => own_name(alloc, pick.name, wanted.files.get(i)),
+        Found::Given(_) | Found::Unclear(_, _) | Found::Missing => Vec::from_slice(
+            alloc, pick.name,
+        ),
+    }
+}
+
+/// A name that is absolute, or else that of the file.
+fn own_name(alloc: Global, name: &[u8], file: Option<&Vec<u8>>) -> Result<Vec<u8>, AllocError>
+    ensures { IfOk result
+        (λ own. own.items ≡ spec.own_name name.now (option_map (λ f. f.now.items) file.entry)) }
+{
+    match file {
+        Some(file) if !is_absolute(name) => name_of_file(alloc, file),
+        _ => Vec::from_slice(alloc, name),
+    }
+}
+
+/// Whether a name may belong to a file by its end. `node:internal/x.js` names none. Of a name that is neither
+/// a URL nor a path only a frame shows where it begins.
+fn may_end_alike(name: &[u8], in_frames: bool) -> bool
+    ensures { result ≡ spec.may_end_alike name.now in_frames }
+{
+    is_absolute(name) || in_frames && !name.contains(&b':')
+}
+
+/// What was found for a name, but none by its end for a name that may not belong to a file by it.
+fn within_ends(name: &[u8], in_frames: bool, found: Found) -> Found
+    ensures { result ≡ spec.within_ends name.now in_frames found }
+{
+    match found {
+        Found::ByEnd(_) | Found::Unclear(_, _) if !may_end_alike(name, in_frames) => Found::Missing,
+        _ => found,
+    }
+}
+
+/// How many of the files are maps.
+fn map_count(wanted: &Wanted<'_>) -> usize
+    ensures { result ≡ spec.map_count_of wanted.now }
+{
+    wanted.map_count.min(wanted.files.len())
+}
+
+/// Whether a map ends alike with a name, and another file does, perhaps a script.
+fn is_half_unclear(wanted: &Wanted<'_>, found: Found) -> bool
+    ensures { result ≡ spec.is_half_unclear wanted.now found }
+{
+    match found {
+        Found::Unclear(i, j) => i.min(j) < map_count(wanted),
+        _ => false,
+    }
+}
+
+/// Whether there is such a name among these.
+fn has_half_unclear(wanted: &Wanted<'_>, picks: &[Pick<'_>]) -> bool
+    ensures { result ≡ false → All (λ p. spec.is_half_unclear wanted.now p.found ≡ false) picks.now }
+{
+    for i in 0..picks.len() {
+        if is_half_unclear(wanted, picks[i].found) {
+            return true;
+        }
+    }
+    false
+}
+
+/// What is found for a name among all files, among the scripts, and among the maps.
+#[derive(Clone, Copy)]
+struct Finds {
+    of_all: Found,
+    of_scripts: Found,
+    of_maps: Found,
+}
+
+/// What is found for each of a list of names, likewise.
+#[derive(Drop)]
+struct PicksByKind<'p, 'n> {
+    all: &'p [Pick<'n>],
+    scripts: &'p [Pick<'n>],
+    maps: &'p [Pick<'n>],
+}
+
+/// These picks, but none by its end for a name that may not belong to a file by it.
+fn all_within<'a>(
+    alloc: Global,
+    in_frames: bool,
+    picks: &[Pick<'a>],
+) -> Result<Vec<Pick<'a>>, AllocError>
+    ensures { (held : Held) (wanted : Wanted) → All (IsChoiceOf held wanted) picks.now
+        → IfOk result (λ all. ArePicked held wanted in_frames (map (λ p. p.name.now) picks.now) all.items) }
+{
+    let mut all = Vec::with_capacity(alloc, picks.len())?;
+    for i in 0..picks.len() {
+        let name = picks[i].name;
+        let found = within_ends(name, in_frames, picks[i].found);
+        all.push(Pick { name, found })?;
+    }
+    Ok(all)
+}
+
+impl<E: Eprint + AllocGlobal, D: Disk> Search<'_, E, D> {
+    /// The script that was found if it names the map that was, and else the map.
+    fn script_or_map(
+        &self,
+        name: &[u8],
+        script: Found,
+        map: Found,
+        links: &mut Links,
+    ) -> Result<Found, Stop>
+        requires links { AreLinks (held_in D.held self.now) (wanted_in self.now) links.old.named.entries }
+        requires unclear { IsHalfUnclear (wanted_in self.now) name.now }
+        requires script { IsFoundIn (wanted_in self.now) (spec.script_files_of (wanted_in self.now))
+            name.now script }
+        requires map { IsFoundIn (wanted_in self.now) (spec.map_files_of (wanted_in self.now)) name.now map }
+        ensures choice { IfOk result (IsChoice (held_in D.held self.now) (wanted_in self.now) name.now) }
+        ensures links { AreLinks (held_in D.held self.now) (wanted_in self.now) links.new.named.entries }
+    {
+        if let (Found::ByEnd(i), Found::ByEnd(of_map)) = (script, map) {
+            if let Some(number) = map_count(self.wanted).checked_add(i) {
+                if self.names_this(number, of_map, links)? {
+                    return Ok(Found::ByEnd(number));
+                }
+            }
+        }
+        Ok(map)
+    }
+
+    /// What is found for a name, of which this is found among the files.
+    fn settled_found(&self, name: &[u8], finds: Finds, links: &mut Links) -> Result<Found, Stop>
+        requires links { AreLinks (held_in D.held self.now) (wanted_in self.now) links.old.named.entries }
+        requires found { IsFoundIn (wanted_in self.now) (files_of (wanted_in self.now)) name.now
+            finds.of_all }
+        requires script { IsFoundIn (wanted_in self.now) (spec.script_files_of (wanted_in self.now)) name.now
+            finds.of_scripts }
+        requires map { IsFoundIn (wanted_in self.now) (spec.map_files_of (wanted_in self.now)) name.now
+            finds.of_maps }
+        ensures choice { IfOk result (IsChoice (held_in D.held self.now) (wanted_in self.now) name.now) }
+        ensures links { AreLinks (held_in D.held self.now) (wanted_in self.now) links.new.named.entries }
+    {
+        if is_half_unclear(self.wanted, finds.of_all) {
+            return self.script_or_map(name, finds.of_scripts, finds.of_maps, links);
+        }
+        Ok(finds.of_all)
+    }
+
+    /// The same of each name.
+    fn settle_each<'n>(
+        &self,
+        names: &[&'n [u8]],
+        picks: &PicksByKind<'_, 'n>,
+        links: &mut Links,
+    ) -> Result<Vec<Pick<'n>>, Stop>
+        requires links { AreLinks (held_in D.held self.now) (wanted_in self.now) links.old.named.entries }
+        requires picks { ArePicksIn (wanted_in self.now) (files_of (wanted_in self.now)) (map (λ n. n.now)
+            names.now) picks.now.all.now }
+        requires scripts { ArePicksIn (wanted_in self.now) (spec.script_files_of (wanted_in self.now)) (map
+            (λ n. n.now) names.now) picks.now.scripts.now }
+        requires maps { ArePicksIn (wanted_in self.now) (spec.map_files_of (wanted_in self.now))
+            (map (λ n. n.now) names.now) picks.now.maps.now }
+        ensures choices { IfOk result (λ all. AreChoices (held_in D.held self.now) (wanted_in self.now)
+            (map (λ n. n.now) names.now) all.items) }
+        ensures links { AreLinks (held_in D.held self.now) (wanted_in self.now) links.new.named.entries }
+    {
+        let mut settled = Vec::with_capacity(self.host.alloc(), names.len())?;
+        for i in 0..names.len() {
+            let name = names[i];
+            let finds = Finds {
+                of_all: picks.all[i].found,
+                of_scripts: picks.scripts[i].found,
+                of_maps: picks.maps[i].found,
+            };
+            let found = self.settled_found(name, finds, links)?;
+            settled.push(Pick { name, found })?;
+        }
+        Ok(settled)
+    }
+
+    /// What each name has, of which these are found among all files: where a script and a map end alike
+    /// with it, the map, through the script if that names it.
+    fn settled<'n>(
+        &self,
+        opener: &mut Opener<'_, D>,
+        files: &[&[u8]],
+        names: &[&'n [u8]],
+        picks: Vec<Pick<'n>>,
+    ) -> Result<Vec<Pick<'n>>, Stop>
+        requires over { IsOver D.held (held_in D.held self.now) (wanted_in self.now) opener.old }
+        requires files { map (λ f. f.now) files.now ≡ files_of (wanted_in self.now) }
+        requires picks { ArePicksIn (wanted_in self.now) (files_of (wanted_in self.now)) (map (λ n. n.now)
+            names.now) picks.items }
+        ensures picked { IfOk result (λ all. AreChoices (held_in D.held self.now) (wanted_in self.now)
+            (map (λ n. n.now) names.now) all.items) }
+        ensures over { IsOver D.held (held_in D.held self.now) (wanted_in self.now) opener.new }
+    {
+        if !has_half_unclear(self.wanted, &picks) {
+            return Ok(picks);
+        }
+        let alloc = self.host.alloc();
+        let (maps, scripts) = files.split_at(map_count(self.wanted));
+        let by_script = pick_all(alloc, &mut opener.table, scripts, true, names)?;
+        let by_map = pick_all(alloc, &mut opener.table, maps, true, names)?;
+        let picks = PicksByKind {
+            all: picks.as_slice(),
+            scripts: by_script.as_slice(),
+            maps: by_map.as_slice(),
+        };
+        self.settle_each(names, &picks, &mut opener.links)
+    }
+
+    /// What each name has.
+    pub(crate) fn picks_of<'n>(
+        &self,
+        opener: &mut Opener<'_, D>,
+        in_frames: bool,
+        names: &[&'n [u8]],
+    ) -> Result<Vec<Pick<'n>>, Stop>
+        requires over { IsOver D.held (held_in D.held self.now) (wanted_in self.now) opener.old }
+        ensures picked { IfOk result (λ all. ArePicked (held_in D.held self.now) (wanted_in self.now)
+            in_frames (map (λ n. n.now) names.now) all.items) }
+        ensures over { IsOver D.held (held_in D.held self.now) (wanted_in self.now) opener.new }
+    {
+        let alloc = self.host.alloc();
+        let files = slices(alloc, self.wanted.files.as_slice())?;
+        let picks = pick_all(alloc, &mut opener.table, &files, true, names)?;
+        let picks = self.settled(opener, &files, names, picks)?;
+        Ok(all_within(alloc, in_frames, &picks)?)
+    }
+}
+
+/// The URL by which a file that has none is checked.
+pub(crate) fn name_of_file(alloc: Global, file: &[u8]) -> Result<Vec<u8>, AllocError>
+    ensures { IfOk result (λ name. name.items ≡ spec.name_of_file file.now) }
+{
+    let mut path = Vec::from_slice(alloc, b"/")?;
+    path.extend_from_slice(file)?;
+    own_url(alloc, &path)
+}

@@ -1,3 +1,0 @@
-pub mod LineLemmas
-pub mod ListLemmas
-pub mod RequestLemmas

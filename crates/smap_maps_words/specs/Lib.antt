@@ -1,4 +1,0 @@
-pub mod Line
-pub mod Options
-pub mod Request
-pub mod Values

@@ -1,8 +1,0 @@
-use Rattle.std.proofs.Common.{◌≡◌, map, take}
-use Rattle.smap_pick.specs.PlaceView.{places_in}
-use Rattle.smap_pick.specs.Places.{scripts_of}
-use Rattle.smap_pick.proofs.table.scripts_in.Given as goal
-
-abbrev pub invariant-loop-place : goal.invariant-loop-place
-invariant-loop-place l =
-    map (λ s. s.now) l.scripts.items ≡ scripts_of (places_in (take l.place-index l.places))
