@@ -53,13 +53,15 @@ class NamedTest(FilesCase):
         self.assertEqual(self.found("/s/", "/s/one.js"), "file:///s/maps/o%20t.map?x#y")
         self.assertEqual(self.found("C:\\s\\", "C:\\s\\in\\two.js"), "file:///C:/s/maps/o%20t.map")
 
-    def test_a_map_beside_the_script_comes_first(self):
+    def test_the_map_that_the_script_names_comes_before_the_one_beside_it(self):
         self.script("out.js", b"maps/other.map")
         self.put("dist/maps/other", b"other")
         find = smap.Folders({"http://h/": self.dist})
-        self.assertEqual(find("http://h/out.js"), (MAP, "http://h/out.js.map"))
-        (self.dist / "out.js.map").unlink()
         self.assertEqual(find("http://h/out.js"), (b"other", "http://h/maps/other.map"))
+        # what can't be had leaves that one
+        for url in b"none.map", b"../secret.map", b"data:x":
+            self.script("out.js", url)
+            self.assertEqual(find("http://h/out.js"), (MAP, "http://h/out.js.map"))
 
     def test_the_last_comment_counts(self):
         self.put("dist/a", b"a")

@@ -8,7 +8,7 @@ options_of_page() {
 
 # The options that a text of help names.
 options_of_help() {
-    grep -o -e '--*[a-zA-Z][-a-z]*' | grep -e '^--[a-z]' -e '^-[hovV]$' | sort -u
+    grep -o -e '--*[a-zA-Z][-a-z]*' | grep -e '^--[a-z]' -e '^-[hoqvV]$' | sort -u
 }
 
 # Runs the example of a page: its lines that begin with `$ ` as commands, in the folder $work. Says where

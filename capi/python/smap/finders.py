@@ -198,11 +198,12 @@ def _named_by(file: str) -> Iterator[None]:
 class Folders:
     """Finds maps in files and folders, as smap-trace does: Folders({"https://h/m/": "dist/"}).
 
-    For a key that ends in `/` or `\\`, each NAME.map in the folder or below it is the map of the script whose
-    URL is the key with NAME behind it, percent-encoded unless the key is a path. Where there is none, the
-    script NAME (.js, .mjs, .cjs, .css) may name its map in its last comment: one in the folder or below it,
-    by a relative URL, or in a data: URL. Links to files are followed, links to folders aren't, and what a
-    script names is read nowhere else than in the folder (`OutsideFolderError`). Any other key is a script
+    For a key that ends in `/` or `\\`, the map of the script whose URL is the key with NAME behind it,
+    percent-encoded unless the key is a path, is the one that the file NAME (.js, .mjs, .cjs, .css) in the
+    folder or below it names in its last comment: one in the folder or below it, by a relative URL, or in a
+    data: URL. Where that can't be had, it is the file NAME.map. Links to files are followed, links to folders
+    aren't, and what a script names is read nowhere else than in the folder (`OutsideFolderError`, where there
+    is no NAME.map). Any other key is a script
     itself, and its value the file of its map, or the script's, if that names a map in its own folder.
 
     Raises NotADirectoryError if there is no such folder, and ValueError if a folder's key lacks its `/`.
@@ -244,11 +245,13 @@ class Folders:
         if len(files) > 1:
             raise RepeatedError(files)
         try:
-            if files:
-                return self._read(files[0], base_by_default(script))
-            return self._in_scripts(script, below)
+            return self._in_scripts(script, below, may_fail=bool(files)) or self._beside(script, files)
         except FileNotFoundError:
             return None  # it was removed meanwhile
+
+    def _beside(self, script: str, files: List[str]) -> Optional[Found]:
+        """The map next to a script."""
+        return self._read(files[0], base_by_default(script)) if files else None
 
     def _read(self, file: str, base: str) -> Found:
         return Found(read_file(file, self._map_bytes), base)
@@ -260,13 +263,20 @@ class Folders:
         if link is not None and link.kind != NAMED_NOTHING:
             yield link
 
-    def _in_scripts(self, script: str, below: List[Tuple[Folder, str]]) -> Optional[Found]:
-        """The map that a script names, whose file is in one of these folders under this name."""
+    def _in_scripts(self, script: str, below: List[Tuple[Folder, str]], may_fail: bool) -> Optional[Found]:
+        """The map that a script names, whose file is in one of these folders under this name. Where that can't
+        be had, it is None if there is another.
+        """
         there = [(folder.place, name) for folder, name in below for _ in folder.scripts(name)]
         links = [link for place, name in there for link in self._links(place, name)]
-        if len(links) > 1:
-            raise RepeatedError([link.script for link in links])
-        return self._linked(script, links[0]) if links else None
+        try:
+            if len(links) > 1:
+                raise RepeatedError([link.script for link in links])
+            return self._linked(script, links[0]) if links else None
+        except (Error, OSError):
+            if may_fail:
+                return None
+            raise
 
     def _in_file(self, script: str, file: str) -> Found:
         """The map of a script whose file is given, or the script's, which may name its map."""

@@ -3,7 +3,8 @@
 //! An argument with a `=` is a place, `URL=FILE[=BASE]` or `URL/=FOLDER/`. Where its URL ends depends on
 //! which files there are, so [`Split::first`] and [`Split::following`] give the ways to read it in order, and
 //! [`Split::fault`] says what is wrong with the one whose file is there. Any other argument is the path of a
-//! folder or of a log, which the disk tells apart; [`needs_url`] says which files are neither.
+//! folder, a map or a log, which the disk tells apart, or a position; [`needs_url`] says which files are no
+//! logs.
 
 mod arguments;
 mod help;

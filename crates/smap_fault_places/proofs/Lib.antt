@@ -1,3 +1,11 @@
 mod DepthLemmas
+mod LexLemmas
+mod PartLemmas
+mod PassLemmas
+mod PlaceLemmas
+mod PunctuationLemmas
 mod RangeLemmas
 mod SegmentLemmas
+mod StringLemmas
+mod TreeLemmas
+mod WordLemmas

@@ -21,11 +21,15 @@ in_text text tree path (Some place) r is = (is.is.ordered, omega (arith, is.is.e
 one_tree : (text : List ℕ) (a b : Data) → tree_of text ≡ Some a → tree_of text ≡ Some b → a ≡ b
 one_tree text a b first second = cc
 
+some_or_none : (text : List ℕ) (tree : Data) → tree_of text ≡ Some tree → tree_of text ≡ None → ⊥
+some_or_none text tree reads none = cc
+
 -- the range of a fault in a text that has this tree
 pub of_tree : (text : List ℕ) (tree : Data) (fault : Fault) (r : TextRange) → tree_of text ≡ Some tree
     → IsPlaced text tree (path_of tree fault) fault.place r → IsJsonRange text fault r
 of_tree text tree fault r reads is = record {
   within = in_text text tree (path_of tree fault) fault.place r is;
+  empty = λ none. absurd (some_or_none text tree reads none);
   is = λ other same. subst (λ d. IsPlaced text d (path_of d fault) fault.place r)
       (one_tree text tree other reads same) is;
 }
@@ -40,19 +44,20 @@ of_result text tree fault (Ok None) reads is = tt
 of_result text tree fault (Ok (Some r)) reads is = of_tree text tree fault r reads is
 of_result text tree fault (Err e) reads is = tt
 
--- nothing is promised of a range where the text has a tree
+-- nothing more is promised where the text has a tree
 pub told_of_tree : {E : Type 0} (text : List ℕ) (tree : Data) (result : Result (Option TextRange) E)
     → tree_of text ≡ Some tree → IfOk result (λ o. tree_of text ≡ None → is_some o ≡ true)
 told_of_tree text tree (Ok o) reads = λ none. absurd (some_or_none text tree reads none)
-  where
-    some_or_none : (text : List ℕ) (tree : Data) → tree_of text ≡ Some tree → tree_of text ≡ None → ⊥
-    some_or_none text tree reads none = cc
 told_of_tree text tree (Err e) reads = tt
 
 -- a range of a text that has no tree
 pub of_none : (text : List ℕ) (fault : Fault) (r : TextRange) → tree_of text ≡ None
-    → IsRangeOf (length text) r → IsJsonRange text fault r
-of_none text fault r none within = record { within = within; is = λ tree same. cc }
+    → IsRangeOf (length text) r → r.start ≡ r.end → IsJsonRange text fault r
+of_none text fault r none within empty = record {
+  within = within;
+  empty = λ none. empty;
+  is = λ tree same. absurd (some_or_none text tree same none);
+}
 
 -- the range of a fault in the bytes of a map
 pub of_json : (bytes : List ℕ) (fault : Fault) (start : ℕ) (r : TextRange) → start ≤ length bytes

@@ -1,6 +1,5 @@
 -- What has to be tried of a segment's range, put together.
-use Rattle.std.proofs.Common.{◌≡◌, ℕ, ◌+◌, ◌-◌, ◌≤◌, ◌<◌, List, ◌++◌, length, take, drop, Some, true, arith}
-use Rattle.std.proofs.Common.{append_assoc, take-add, take-append-drop}
+use Rattle.std.proofs.Common.{◌≡◌, ℕ, ◌+◌, ◌-◌, ◌≤◌, ◌<◌, List, length, take, drop, Some, true}
 use Rattle.std.proofs.lemmas.List.{take_rest}
 use Rattle.serde_json.specs.Data.{string}
 use Rattle.serde_json.specs.Read.{read}
@@ -8,17 +7,7 @@ use Rattle.smap_mappings.specs.declared.error.SegmentPlace.{SegmentPlace}
 use Rattle.smap_fault_places.specs.declared.range.TextRange.{TextRange}
 use Rattle.smap_fault_places.specs.Ranges.{IsRangeOf, between}
 use Rattle.smap_fault_places.specs.Segments.{IsSegmentIn, is_segment, quoted}
-
--- a list, cut at two places
-three_parts : (m n : ℕ) (xs : List ℕ) → m ≤ n → take m xs ++ (take (n - m) (drop m xs) ++ drop n xs) ≡ xs
-three_parts m n xs less = rw (
-  ← append_assoc (take m xs) (take (n - m) (drop m xs)) (drop n xs),
-  ← take-add m (n - m) xs,
-  cut,
-) (take-append-drop n xs)
-  where
-    cut : m + (n - m) ≡ n
-    cut = omega (arith, less)
+use Rattle.smap_fault_places.proofs.PlaceLemmas.{three_parts}
 
 pub is_in : (text mappings : List ℕ) (within span r : TextRange) (place : SegmentPlace)
     → IsRangeOf (length mappings) span

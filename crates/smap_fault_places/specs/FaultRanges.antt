@@ -22,9 +22,12 @@ IsPlaced text tree path (Some place) r = IsSegmentWritten text path place r
 abbrev pub shifted : ℕ → TextRange → TextRange
 shifted n r = record { start = n + r.start; end = n + r.end }
 
--- The range is one of the JSON text; and if that has a tree, what the fault is about is written there.
+-- The range is one of the JSON text; if that has a tree, what the fault is about is written there, and if
+-- not,
+-- the range is empty.
 pub record IsJsonRange (json : List ℕ) (fault : Fault) (r : TextRange) : Type 0 where
   pub within : IsRangeOf (length json) r
+  pub empty : tree_of json ≡ None → r.start ≡ r.end
   pub is : (tree : Data) → tree_of json ≡ Some tree → IsPlaced json tree (path_of tree fault) fault.place r
 
 -- The range is such a range of the JSON text in the bytes of a map, which is at their end: as many bytes

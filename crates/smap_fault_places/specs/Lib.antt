@@ -1,3 +1,4 @@
+pub mod Contexts
 pub mod FaultRanges
 pub mod Faults
 pub mod Paths

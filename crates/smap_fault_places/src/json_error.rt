@@ -1,5 +1,5 @@
 //! Where a text that isn't JSON goes wrong.
-ghost use Rattle.std.specs.Prelude.{◌≤◌, length};
+ghost use Rattle.std.specs.Prelude.{◌≡◌, ◌≤◌, length};
 ghost use Rattle.smap_fault_places.specs.Ranges.{IsRangeOf};
 
 use crate::TextRange;
@@ -23,7 +23,8 @@ fn line_start(text: &[u8], line: usize) -> usize
 /// Where reading a text as JSON stopped. An error at the last byte that says that the text is cut short is
 /// one at the end of the text.
 pub(crate) fn error_range(text: &[u8], error: &Error) -> TextRange
-    ensures { IsRangeOf (length text.now) result }
+    ensures within { IsRangeOf (length text.now) result }
+    ensures empty { result.start ≡ result.end }
 {
     let ahead = error.column().saturating_sub(1);
     let at = line_start(text, error.line()).saturating_add(ahead);

@@ -2,10 +2,11 @@
 //! ([`value_range`]), and a segment of a mappings string ([`segment_range`]). [`point_of`] makes a line and a
 //! column of a place.
 //!
-//! A place is found by a scan, and no answer rests on that scan: what is found is tried before it is handed
-//! out. The bytes there must read as the value that the tree of the text has at the path, and where another
-//! value is put in their place, the text must read as a tree that has that other value there. So a range is
-//! the range of that value, and not of an equal one elsewhere in the text.
+//! A place is found by a scan, and no answer rests on that scan: each step is tried before the next one, by
+//! the tokens of what is before the place, in it and behind it. That proves that the bytes there read as the
+//! value that the tree of the text has at the path, and that with another value in their place the text has
+//! that other value there. So a range is the range of that value, and not of an equal one elsewhere in the
+//! text. No text is copied for it, and no further tree is read.
 //!
 //! Where in the text of a source map a fault is: [`range_of`] gives the range of bytes of the member, the
 //! section or the segment that a [`smap_record::Fault`] is about, and [`point_of`] makes a line and a column
@@ -20,6 +21,9 @@ mod fault_path;
 mod fault_range;
 mod json_error;
 mod member;
+mod part;
+mod passing;
+mod place;
 mod point;
 mod range;
 mod scan;
@@ -27,7 +31,6 @@ mod segment;
 mod spelling;
 mod starts;
 mod step;
-mod trial;
 mod walk;
 mod written;
 

@@ -1,5 +1,4 @@
 //! Ranges of bytes.
-ghost use Rattle.std.specs.Bool.{OnTrue};
 ghost use Rattle.smap_fault_places.specs.Ranges.{IsRangeOf};
 
 /// A range of bytes of a text: from `start`, which counts from 0, up to `end`, which isn't in it.
@@ -20,11 +19,4 @@ pub(crate) fn clamped(start: usize, end: usize, len: usize) -> TextRange
         start: start.min(end),
         end,
     }
-}
-
-/// Whether a text of this length has such a range.
-pub(crate) fn is_range_of(range: TextRange, len: usize) -> bool
-    ensures { OnTrue result (IsRangeOf len range) }
-{
-    range.start <= range.end && range.end <= len
 }

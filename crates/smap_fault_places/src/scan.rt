@@ -1,6 +1,7 @@
 //! The scan for the range of a value, step by step. What it finds is tried afterwards, so nothing is promised
 //! of it but that a range is one of the text.
-ghost use Rattle.std.specs.Prelude.{◌≤◌, IfOk, IfSome, length};
+ghost use Rattle.std.specs.Prelude.{◌≡◌, ◌≤◌, IfOk, IfSome, length};
+ghost use Rattle.json.specs.Word.{is_space as is_json_space};
 ghost use Rattle.smap_fault_places.specs.Ranges.{IsRangeOf};
 
 use crate::range::{TextRange, clamped};
@@ -9,12 +10,14 @@ use json::{MAX_DEPTH, Reader, Scratch, Token};
 use std::alloc::{AllocError, Global};
 
 /// Whether the byte is white space (RFC 8259, section 2).
-fn is_space(byte: u8) -> bool {
-    matches!(byte, b' ' | b'\t' | b'\n' | b'\r')
+pub(crate) fn is_space(byte: u8) -> bool
+    ensures { result ≡ is_json_space byte }
+{
+    byte == b' ' || byte == b'\t' || byte == b'\n' || byte == b'\r'
 }
 
 /// How much white space is at the end of a text.
-fn space_at_end(text: &[u8]) -> usize
+pub(crate) fn space_at_end(text: &[u8]) -> usize
     ensures { result ≤ length text.now }
 {
     text.iter().rev().take_while(|b| is_space(**b)).count()
@@ -90,7 +93,11 @@ fn entry_range(
 }
 
 /// The range of what a step leads to, in the text of a value.
-fn child_range(alloc: Global, text: &[u8], step: Step) -> Result<Option<TextRange>, AllocError>
+pub(crate) fn child_range(
+    alloc: Global,
+    text: &[u8],
+    step: Step,
+) -> Result<Option<TextRange>, AllocError>
     ensures { IfOk result (λ o. IfSome o (IsRangeOf (length text.now))) }
 {
     let Ok(value) = str::from_utf8(text) else {
@@ -103,29 +110,9 @@ fn child_range(alloc: Global, text: &[u8], step: Step) -> Result<Option<TextRang
 }
 
 /// The range of a text without the white space around it.
-fn root_range(text: &[u8]) -> TextRange
+pub(crate) fn root_range(text: &[u8]) -> TextRange
     ensures { IsRangeOf (length text.now) result }
 {
     let start = text.iter().take_while(|b| is_space(**b)).count();
     clamped(start, text.len() - space_at_end(text), text.len())
-}
-
-/// Where the value at a path may be written.
-pub(crate) fn candidate(
-    alloc: Global,
-    text: &[u8],
-    path: &[Step],
-) -> Result<Option<TextRange>, AllocError> {
-    let mut range = root_range(text);
-    'steps: for step in path {
-        let Some(inner) = child_range(alloc, &text[range.start..range.end], *step)? else {
-            return Ok(None);
-        };
-        range = clamped(
-            range.start + inner.start,
-            range.start + inner.end,
-            text.len(),
-        );
-    }
-    Ok(Some(range))
 }

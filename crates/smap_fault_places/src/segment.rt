@@ -11,13 +11,29 @@ use crate::bytes::is_segment;
 use crate::range::TextRange;
 use crate::spelling::spelled_len;
 use crate::step::Step;
-use crate::trial::value_of;
 use crate::walk::value_at;
 use crate::written::value_range;
 use memchr::memchr;
 use serde_json::Value;
 use smap_mappings::SegmentPlace;
 use std::alloc::{AllocError, Global};
+
+/// The value that a text is, if it is JSON.
+fn value_of(alloc: Global, text: &[u8]) -> Result<Option<Value>, AllocError>
+    ensures reads { IfOk result (λ o. IfSome o (λ v. read text.now ≡ Some (view v))) }
+    ensures nests { IfOk result (λ o. IfSome o (λ v. depth (view v) ≤ max_depth)) }
+{
+    match Value::from_slice(alloc, text) {
+        Ok(value) => Ok(Some(value)),
+        Err(error) => {
+            if error.is_memory() {
+                Err(AllocError)
+            } else {
+                Ok(None)
+            }
+        }
+    }
+}
 
 /// What is behind so many of these bytes, by its place; none if there are fewer.
 fn after_count(text: &[u8], byte: u8, count: u32) -> Option<usize>

@@ -13,13 +13,14 @@ use Rattle.std.proofs.lemmas.List.{map-append, take_more}
 use Rattle.std.proofs.lemmas.List.Sums.{prefix_len-le-length, prefix_len_passes, prefix_len_stops}
 use Rattle.std.proofs.lemmas.Slice.Eq.{bytes_eq-Decides}
 use Rattle.indexmap.specs.IndexMap.{insert_entry}
-use Rattle.smap_link.specs.Endings.{AtMostFrom, EndsAlike, HasEarlier, HasLatest, IsLatest, IsMostAlikeFrom}
-use Rattle.smap_link.specs.Endings.{last_segment, segment_size, up_to}
-use Rattle.smap_link.specs.Likeness.{IsMostAlike, IsMostAlikeOf}
+use Rattle.smap_link.specs.Endings.{EndsAlike, HasEarlier, HasLatest, IsLatest, last_segment, segment_size}
+use Rattle.smap_link.specs.Endings.{up_to}
+use Rattle.smap_link.specs.Likeness.{IsLike, IsMostAlike, IsMostAlikeFrom}
 use Rattle.smap_link.specs.Table.{Row, place_in, rows_of}
 use Rattle.smap_link.specs.Tails.{Begins, IsCommonTail, IsLongestTail}
 use Rattle.smap_link.specs.declared.likeness.Likeness.{Likeness}
 use Rattle.smap_link.specs.declared.likeness.Likeness.TheVariants.{Unlike, Like, Unclear}
+use Rattle.smap_link.specs.declared.tails.Agreement.{Agreement}
 
 -- ---- the last segment
 
@@ -113,66 +114,64 @@ unlike a b n other tail =
 
 module _ (path : List ℕ) (names : List (List ℕ)) (i j : ℕ) (le : j ≤ i)
     (others : (k : ℕ) → j ≤ k → k < i → ¬ (last_segment (get_or names k []) ≡ last_segment path)) where
-  at_most : (n : ℕ) → AtMostFrom path names i n → AtMostFrom path names j n
-  at_most n below k m low lt like =
+  -- what is like it comes no earlier
+  late : (k : ℕ) (b : Agreement) → j ≤ k → IsLike path names k b → i ≤ k
+  late k b low like =
       let cases : (k < i) ⊎ (i ≤ k) = grind arith in
-      ⊎_elim (λ early. omega (arith, unlike path (get_or names k []) m (others k low early) like))
-      (λ late. below k m late lt like) cases
+      ⊎_elim
+      (λ early. absurd (omega (
+        arith,
+        like.0,
+        unlike path (get_or names k []) b.size (others k low early) like.1.tail,
+      )))
+      (λ le. le) cases
 
   -- those that end in another segment change nothing
-  passed : (n : ℕ) (found : Likeness) → IsMostAlikeFrom path names i n found
-      → IsMostAlikeFrom path names j n found
-  passed n Unlike is = (is.0, at_most n is.1)
-  passed n (Like one) is = (
-    is.0,
-    omega (arith, le, is.1),
+  passed : (a : Agreement) (found : Likeness) → IsMostAlikeFrom path names i a found
+      → IsMostAlikeFrom path names j a found
+  passed a Unlike is = (is.0, λ k b low lt like. is.1 k b (late k b low like) lt like)
+  passed a (Like one) is =
+      (omega (arith, le, is.0), is.1, is.2, λ k b low lt like. is.3 k b (late k b low like) lt like)
+  passed a (Unclear one other) is = (
+    omega (arith, le, is.0),
+    is.1,
     is.2,
     is.3,
-    λ k m low lt like other.
-        let cases : (k < i) ⊎ (i ≤ k) = grind arith in
-        ⊎_elim (λ early. omega (arith, is.0, unlike path (get_or names k []) m (others k low early) like))
-        (λ late. is.4 k m late lt like other) cases,
+    is.4,
+    λ k b low lt like. is.5 k b (late k b low like) lt like,
   )
-  passed n (Unclear one other) is = (is.0, omega (arith, le, is.1), is.2, is.3, is.4, is.5, at_most n is.6)
 
-nothing_yet : (path : List ℕ) (names : List (List ℕ)) → IsMostAlikeFrom path names (length names) 0 Unlike
-nothing_yet path names = (refl, λ k m low lt like. absurd (omega (arith, low, lt)))
+nothing_yet : (path : List ℕ) (names : List (List ℕ)) (a : Agreement) → a.size ≡ 0
+    → IsMostAlikeFrom path names (length names) a Unlike
+nothing_yet path names a none = (none, λ k b low lt like. absurd (omega (arith, low, lt)))
 
-pub at_first : (path : List ℕ) (names : List (List ℕ)) (at : Option ℕ)
+pub at_first : (path : List ℕ) (names : List (List ℕ)) (a : Agreement) (at : Option ℕ) → a.size ≡ 0
     → IsLatest names (length names) (last_segment path) at
-    → IsMostAlikeFrom path names (up_to at) 0 Unlike × EndsAlike path names at
-at_first path names None is = (
-  passed path names (length names) 0 (omega arith) (λ k low lt. is k lt) 0 Unlike (nothing_yet path names),
+    → IsMostAlikeFrom path names (up_to at) a Unlike × EndsAlike path names at
+at_first path names a None none is = (
+  passed path names (length names) 0 (omega arith) (λ k low lt. is k lt) a Unlike
+      (nothing_yet path names a none),
   tt,
 )
-at_first path names (Some i) is = (
+at_first path names a (Some i) none is = (
   passed path names (length names) (i + 1) (omega (arith, is.0)) (λ k low lt. is.2 k (omega (arith, low)) lt)
-      0 Unlike (nothing_yet path names),
+      a Unlike (nothing_yet path names a none),
   (is.0, is.1),
 )
 
-pub at_earlier : (path : List ℕ) (names : List (List ℕ)) (i n : ℕ) (found : Likeness) (at : Option ℕ)
-    → IsLatest names i (last_segment (get_or names i [])) at → EndsAlike path names (Some i)
-    → IsMostAlikeFrom path names i n found
-    → IsMostAlikeFrom path names (up_to at) n found × EndsAlike path names at
-at_earlier path names i n found None is same from = (
-  passed path names i 0 (omega arith) (λ k low lt e. is k lt (e ∙ sym same.1)) n found from,
+pub at_earlier : (path : List ℕ) (names : List (List ℕ)) (i : ℕ) (a : Agreement) (found : Likeness)
+    (at : Option ℕ) → IsLatest names i (last_segment (get_or names i [])) at → EndsAlike path names (Some i)
+    → IsMostAlikeFrom path names i a found
+    → IsMostAlikeFrom path names (up_to at) a found × EndsAlike path names at
+at_earlier path names i a found None is same from = (
+  passed path names i 0 (omega arith) (λ k low lt e. is k lt (e ∙ sym same.1)) a found from,
   tt,
 )
-at_earlier path names i n found (Some j) is same from = (
+at_earlier path names i a found (Some j) is same from = (
   passed path names i (j + 1) (omega (arith, is.0))
-      (λ k low lt e. is.2 k (omega (arith, low)) lt (e ∙ sym same.1)) n found from,
+      (λ k low lt e. is.2 k (omega (arith, low)) lt (e ∙ sym same.1)) a found from,
   (omega (arith, is.0, same.0), is.1 ∙ same.1),
 )
-
--- all of them are looked at
-pub all_looked_at : (path : List ℕ) (names : List (List ℕ)) (n : ℕ) (found : Likeness)
-    → IsMostAlikeFrom path names 0 n found → IsMostAlikeOf path names (length names) n found
-all_looked_at path names n Unlike is = (is.0, λ k m lt like. is.1 k m (omega arith) lt like)
-all_looked_at path names n (Like i) is =
-    (is.0, is.2, is.3, λ k m lt like other. is.4 k m (omega arith) lt like other)
-all_looked_at path names n (Unclear i j) is =
-    (is.0, is.2, is.3, is.4, is.5, λ k m lt like. is.6 k m (omega arith) lt like)
 
 -- ---- the table
 

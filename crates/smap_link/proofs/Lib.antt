@@ -1,6 +1,7 @@
 pub mod CommentLemmas
 pub mod EndingLemmas
 pub mod InlineLemmas
+pub mod LikenessLemmas
 pub mod LineLemmas
 pub mod NameLemmas
 pub mod SeparatorLemmas

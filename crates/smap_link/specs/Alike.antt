@@ -1,15 +1,15 @@
 -- Names of one script, as logs and folders have them: they differ in the query, the fragment, the default
 -- port, the capitals of the host, in being a path or its file: URL, or in the case of the drive. Over the URL
 -- Standard's parser.
-use Rattle.std.specs.Prelude.{◌≡◌, ℕ, ◌==◌, Bool, not, ◌&&◌, List, [], ◌∷◌, ◌++◌, codes, cond, drop, take}
+use Rattle.std.specs.Prelude.{◌≡◌, ℕ, Bool, not, ◌&&◌, List, [], ◌∷◌, ◌++◌, codes, cond, drop}
 use Rattle.std.specs.Prelude.{Some, None, unwrap_or, Ok, Err}
-use Rattle.std.specs.List.{prefix_len}
 use Rattle.std.specs.Str.{bytes_eq, is_utf8}
 use Rattle.std.specs.Char.{to_ascii_lowercase}
 use Rattle.percent_encoding.specs.Percent.{percent_decode}
 use Rattle.url.specs.Parser.{Parsed, parse_url}
 use Rattle.url.specs.Parts.{Parts, has_host, text_between}
 use Rattle.url.specs.declared.slicing.Position.TheVariants.{BeforeScheme, AfterPath}
+use Rattle.smap_link.specs.Inline.{without_fragment}
 use Rattle.smap_link.specs.Paths.{bare_size, has_drive}
 use Rattle.smap_link.specs.Urls.{url_of}
 
@@ -47,16 +47,9 @@ normal_form name = form_of (own_url name)
 
 -- ---- names with their query
 
--- a URL without its fragment
-abbrev pub whole_size : List ℕ → ℕ
-whole_size url = prefix_len (λ b. not (b == 35)) url
-
-abbrev pub whole : List ℕ → List ℕ
-whole url = take (whole_size url) url
-
 -- the query of a URL, from its question mark on; empty where there is none
 abbrev pub query_of : List ℕ → List ℕ
-query_of url = drop (bare_size (whole url)) (whole url)
+query_of url = let whole = without_fragment url in drop (bare_size whole) whole
 
 -- What names have in common that are alike and have the same query: a script with another query is another
 -- one. (A query has no `#`.)

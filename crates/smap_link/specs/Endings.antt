@@ -1,12 +1,9 @@
--- For private contracts: paths that end in the same segment, and what is most alike from some path on.
-use Rattle.std.specs.Prelude.{◌≡◌, ℕ, ◌+◌, ◌-◌, ◌==◌, ◌<◌, ◌≤◌, not, List, [], drop, get_or, length, reverse}
+-- For private contracts: paths that end in the same segment.
+use Rattle.std.specs.Prelude.{◌≡◌, ℕ, ◌+◌, ◌-◌, ◌==◌, ◌<◌, not, List, [], drop, get_or, length, reverse}
 use Rattle.std.specs.Prelude.{Option, Some, None, MatchOption}
 use Rattle.std.specs.List.{prefix_len}
-use Rattle.smap_link.specs.Likeness.{IsLike}
 use Rattle.smap_link.specs.Table.{Row, place_in, rows_of}
 use Rattle.smap_link.specs.declared.endings.Endings.{Endings}
-use Rattle.smap_link.specs.declared.likeness.Likeness.{Likeness}
-use Rattle.smap_link.specs.declared.likeness.Likeness.TheVariants.{Unlike, Like, Unclear}
 
 -- how many bytes the last segment of a path has
 abbrev pub segment_size : List ℕ → ℕ
@@ -38,22 +35,7 @@ abbrev pub AreEndings : Endings → List (List ℕ) → Type 0
 AreEndings e paths = HasLatest (rows_of e.latest.entries) paths (length paths)
     × (length e.earlier.items ≡ length paths) × HasEarlier e.earlier.items paths (length paths)
 
--- ---- the paths from some path on
-
-abbrev pub AtMostFrom : List ℕ → List (List ℕ) → ℕ → ℕ → Type 0
-AtMostFrom path names from n = (k m : ℕ) → from ≤ k → k < length names → IsLike path names k m → m ≤ n
-
-abbrev pub OthersBelowFrom : List ℕ → List (List ℕ) → ℕ → ℕ → ℕ → Type 0
-OthersBelowFrom path names from i n =
-    (k m : ℕ) → from ≤ k → k < length names → IsLike path names k m → ¬ (k ≡ i) → m < n
-
--- What `IsMostAlikeOf` says of the first paths, of those from this one on.
-abbrev pub IsMostAlikeFrom : List ℕ → List (List ℕ) → ℕ → ℕ → Likeness → Type 0
-IsMostAlikeFrom path names from n Unlike = (n ≡ 0) × AtMostFrom path names from n
-IsMostAlikeFrom path names from n (Like i) = (0 < n) × (from ≤ i) × (i < length names) × IsLike path names i n
-    × OthersBelowFrom path names from i n
-IsMostAlikeFrom path names from n (Unclear i j) = (0 < n) × (from ≤ i) × (i < j) × (j < length names)
-    × IsLike path names i n × IsLike path names j n × AtMostFrom path names from n
+-- ---- the paths that are looked at
 
 -- the number of paths up to this one
 abbrev pub up_to : Option ℕ → ℕ

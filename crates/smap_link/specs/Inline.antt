@@ -19,22 +19,19 @@ use Rattle.smap_link.specs.declared.inline.InlineFault.TheVariants as fault
 abbrev pub is_ascii_white : ℕ → Bool
 is_ascii_white b = b == 9 || b == 10 || b == 12 || b == 13 || b == 32
 
-abbrev pub is_space : ℕ → Bool
-is_space b = b == 32
-
 -- the same but for the case of ASCII letters
 abbrev pub same_word : List ℕ → List ℕ → Bool
 same_word a b = bytes_eq (map to_ascii_lowercase a) (map to_ascii_lowercase b)
 
 -- ---- base64
 
--- `=`
-abbrev pub is_pad : ℕ → Bool
-is_pad b = b == 61
+-- how often this byte stands at the end
+abbrev pub count_at_end : List ℕ → ℕ → ℕ
+count_at_end text byte = suffix_len (λ b. b == byte) text
 
 -- one or two `=` at the end of whole groups of four are left out
 abbrev pub unpadded : List ℕ → List ℕ
-unpadded text = take (length text - cond (length text % 4 == 0) (min 2 (suffix_len is_pad text)) 0) text
+unpadded text = take (length text - cond (length text % 4 == 0) (min 2 (count_at_end text 61)) 0) text
 
 -- The standard alphabet, no padding, and bits that are left over at the end aren't looked at.
 abbrev pub IsForgiving : GeneralPurpose → Type 0
@@ -69,7 +66,7 @@ abbrev pub without_white_end : List ℕ → List ℕ
 without_white_end text = take (length text - suffix_len is_ascii_white text) text
 
 abbrev pub without_spaces_end : List ℕ → List ℕ
-without_spaces_end text = take (length text - suffix_len is_space text) text
+without_spaces_end text = take (length text - count_at_end text 32) text
 
 abbrev pub ends_in_base64 : List ℕ → Bool
 ends_in_base64 text = same_word (drop (length text - 6) text) (codes "base64")

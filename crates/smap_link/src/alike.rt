@@ -1,9 +1,9 @@
 //! Names of one script that differ in spelling.
-ghost use Rattle.std.specs.Prelude.{◌≡◌, ◌≤◌, ◌++◌, IfOk, codes, length, not, ◌&&◌, string_bytes};
+ghost use Rattle.std.specs.Prelude.{◌≡◌, ◌++◌, IfOk, codes, not, ◌&&◌, string_bytes};
 ghost use Rattle.smap_link.specs.Alike as spec;
 
 use crate::encoding::{url_of, utf8};
-use crate::inline::bytes_of;
+use crate::inline::{bytes_of, without_fragment};
 use crate::paths::{bare_size, has_drive};
 use std::alloc::{AllocError, Global};
 use url::{ParseError, Position, Url};
@@ -33,16 +33,11 @@ fn with_small_drive(path: Vec<u8>) -> Vec<u8>
     path
 }
 
-fn is_local_file(url: &Url) -> bool
-    ensures { result ≡ spec.is_local_file url.now }
-{
-    url.scheme() == "file" && !url.has_host()
-}
-
 fn form_of_url(alloc: Global, url: &Url) -> Result<Vec<u8>, AllocError>
     ensures { IfOk result (λ form. form.items ≡ spec.form_of_url url.now) }
 {
-    if is_local_file(url) {
+    let is_local_file = url.scheme() == "file" && !url.has_host();
+    if is_local_file {
         let path = bytes_of(alloc, url.path().as_bytes())?;
         return Ok(with_small_drive(path));
     }
@@ -81,18 +76,11 @@ pub fn normal_form(alloc: Global, name: &[u8]) -> Result<Vec<u8>, AllocError>
     form_of(alloc, &url)
 }
 
-fn whole_size(url: &[u8]) -> usize
-    ensures value { result ≡ spec.whole_size url.now }
-    ensures within { result ≤ length url.now }
-{
-    url.iter().take_while(|b| **b != b'#').count()
-}
-
 /// The query of a URL, from its question mark on; empty where there is none.
 fn query_of<'a>(url: &'a [u8]) -> &'a [u8]
     ensures { result.now ≡ spec.query_of url.now }
 {
-    let whole = &url[..whole_size(url)];
+    let whole = without_fragment(url);
     &whole[bare_size(whole)..]
 }
 

@@ -1,13 +1,13 @@
 //! Which of many maps and many scripts belong together, where maps are known by their files' names alone.
 ghost use Rattle.std.specs.Prelude.{◌≡◌, ◌≤◌, ℕ, IfOk, length, map};
 ghost use Rattle.smap_link.specs.Endings as spec;
-ghost use Rattle.smap_link.specs.Ends.{script_path as path_in, stem as stem_of};
+ghost use Rattle.smap_link.specs.Ends.{BelongsTo, script_path as path_in, stem as stem_of};
 ghost use Rattle.smap_link.specs.Likeness.{AreMostAlike, IsMostAlike};
 
 use crate::ends::{script_path, stem};
-use crate::likeness::{Best, Likeness, better_before};
+use crate::likeness::{Best, Likeness, better};
 use crate::table::place;
-use crate::tails::common_tail;
+use crate::tails::{Agreement, agreement_of};
 use indexmap::IndexMap;
 use std::alloc::{AllocError, Global};
 
@@ -76,7 +76,7 @@ fn most_alike_in(wanted: &[u8], paths: &[Vec<u8>], endings: &Endings) -> Likenes
     ensures { IsMostAlike wanted.now (map (λ p. p.items) paths.now) result }
 {
     let mut best = Best {
-        size: 0,
+        agreement: Agreement { size: 0, left: 0 },
         found: Likeness::Unlike,
     };
     let mut at = place(&endings.latest, last_segment(wanted));
@@ -84,7 +84,7 @@ fn most_alike_in(wanted: &[u8], paths: &[Vec<u8>], endings: &Endings) -> Likenes
         let Some(i) = at else {
             return best.found;
         };
-        best = better_before(best, i, common_tail(wanted, &paths[i]));
+        best = better(best, i, agreement_of(wanted, &paths[i]));
         at = endings.earlier[i];
     }
 }
@@ -104,6 +104,22 @@ fn each_most_alike(
         found.push(most_alike_in(&wanted[i], paths, &ends))?;
     }
     Ok(found)
+}
+
+/// Which of these scripts the map in a file belongs to: the one with whose URL's path the file's name,
+/// without `.map`, has the longest end in common, by whole segments, and at least its last one. So
+/// `build/static/js/main.js.map` belongs to `https://h/static/js/main.js`. Of several such scripts it is the
+/// one whose path has the fewest segments before that end.
+///
+/// # Errors
+///
+/// `AllocError`.
+pub fn script_of_map(alloc: Global, name: &[u8], scripts: &[&[u8]]) -> Result<Likeness, AllocError>
+    ensures { IfOk result (λ found. BelongsTo name.now (map (λ s. s.now) scripts.now) found) }
+{
+    let paths = script_paths(alloc, scripts)?;
+    let ends = endings_of(alloc, &paths)?;
+    Ok(most_alike_in(stem(name), &paths, &ends))
 }
 
 /// Which of these scripts each of these maps belongs to, as `script_of_map` says it of one.
@@ -128,8 +144,9 @@ pub fn scripts_of_maps(
 }
 
 /// Which of these maps belongs to each of these scripts: the one whose name, without `.map`, has the longest
-/// end in common with the path of the script's URL, by whole segments, and at least its last one. It takes as
-/// much time as `scripts_of_maps`.
+/// end in common with the path of the script's URL, by whole segments, and at least its last one. Of several
+/// such maps it is the one whose name has the fewest segments before that end: `dist/app.js.map`, and not
+/// `dist/old/app.js.map`, belongs to `https://h/app.js`. It takes as much time as `scripts_of_maps`.
 ///
 /// # Errors
 ///

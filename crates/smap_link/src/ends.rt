@@ -1,13 +1,11 @@
-//! Which script a map belongs to, where the map is known by its file's name alone.
-ghost use Rattle.std.specs.Prelude.{◌≡◌, ◌≤◌, List, ℕ, IfOk, map, take, length};
-ghost use Rattle.smap_link.specs.Alike.{own_url as url_of};
+//! What of a script's URL and of a map's name is compared, where the map is known by its file's name alone.
+ghost use Rattle.std.specs.Prelude.{◌≡◌, ◌↔◌, IfOk, IsTrue};
 ghost use Rattle.smap_link.specs.Ends as spec;
-ghost use Rattle.smap_link.specs.Likeness.{IsMostAlikeOf};
+ghost use Rattle.smap_link.specs.Tails.{AgreeEqually};
 
 use crate::alike::own_url;
 use crate::encoding::utf8;
 use crate::inline::bytes_of;
-use crate::likeness::{Best, Likeness, better};
 use crate::paths::bare;
 use crate::tails::common_tail;
 use std::alloc::{AllocError, Global};
@@ -44,24 +42,16 @@ pub(crate) fn stem<'a>(name: &'a [u8]) -> &'a [u8]
     }
 }
 
-/// Which of these scripts the map in a file belongs to: the one with whose URL's path the file's name,
-/// without `.map`, has the longest end in common, by whole segments, and at least its last one. So
-/// `build/static/js/main.js.map` belongs to `https://h/static/js/main.js`.
+/// Whether two files agree with a script in equally many bytes: with the path of its URL their names, without
+/// `.map`, have ends in common that are equally long.
 ///
 /// # Errors
 ///
 /// `AllocError`.
-pub fn script_of_map(alloc: Global, name: &[u8], scripts: &[&[u8]]) -> Result<Likeness, AllocError>
-    ensures { IfOk result (λ found. spec.BelongsTo name.now (map (λ s. s.now) scripts.now) found) }
+pub fn agree_equally(alloc: Global, script: &[u8], a: &[u8], b: &[u8]) -> Result<bool, AllocError>
+    ensures { IfOk result (λ same. IsTrue same
+        ↔ AgreeEqually (spec.script_path script.now) (spec.stem a.now) (spec.stem b.now)) }
 {
-    let wanted = stem(name);
-    let mut best = Best {
-        size: 0,
-        found: Likeness::Unlike,
-    };
-    for i in 0..scripts.len() {
-        let path = script_path(alloc, scripts[i])?;
-        best = better(best, i, common_tail(wanted, &path));
-    }
-    Ok(best.found)
+    let path = script_path(alloc, script)?;
+    Ok(common_tail(&path, stem(a)) == common_tail(&path, stem(b)))
 }

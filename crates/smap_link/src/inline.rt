@@ -5,6 +5,7 @@ ghost use Rattle.base64.specs.declared.engine.general_purpose.GeneralPurpose.{Ge
 ghost use Rattle.percent_encoding.specs.Percent.{percent_decode as decoded};
 ghost use Rattle.smap_link.specs.Inline as spec;
 
+use crate::paths::size_before;
 use base64::engine::general_purpose::{GeneralPurpose, NO_PAD};
 use base64::{DecodeAllocError, alphabet};
 use percent_encoding::percent_decode;
@@ -45,19 +46,10 @@ pub(crate) fn same_word(a: &[u8], b: &[u8]) -> bool
     a.eq_ignore_ascii_case(b)
 }
 
-/// Where the first comma is, or the length.
-fn comma(text: &[u8]) -> usize
-    ensures value { result ≡ spec.comma text.now }
-    ensures within { result ≤ length text.now }
+pub(crate) fn without_fragment<'a>(url: &'a [u8]) -> &'a [u8]
+    ensures { result.now ≡ spec.without_fragment url.now }
 {
-    text.iter().take_while(|b| **b != b',').count()
-}
-
-fn fragment(url: &[u8]) -> usize
-    ensures value { result ≡ spec.fragment url.now }
-    ensures within { result ≤ length url.now }
-{
-    url.iter().take_while(|b| **b != b'#').count()
+    &url[..size_before(url, b'#')]
 }
 
 fn white_count_at_end(text: &[u8]) -> usize
@@ -70,18 +62,12 @@ fn white_count_at_end(text: &[u8]) -> usize
         .count()
 }
 
-fn space_count_at_end(text: &[u8]) -> usize
-    ensures value { result ≡ suffix_len spec.is_space text.now }
+/// How often this byte stands at the end.
+fn count_at_end(text: &[u8], byte: u8) -> usize
+    ensures value { result ≡ spec.count_at_end text.now byte }
     ensures within { result ≤ length text.now }
 {
-    text.iter().rev().take_while(|b| **b == b' ').count()
-}
-
-fn pad_count_at_end(text: &[u8]) -> usize
-    ensures value { result ≡ suffix_len spec.is_pad text.now }
-    ensures within { result ≤ length text.now }
-{
-    text.iter().rev().take_while(|b| **b == b'=').count()
+    text.iter().rev().take_while(|b| **b == byte).count()
 }
 
 fn ends_in_base64(text: &[u8]) -> bool
@@ -90,7 +76,7 @@ fn ends_in_base64(text: &[u8]) -> bool
     let at = text.len().saturating_sub(6);
     let front = &text[..at];
     same_word(&text[at..], b"base64")
-        && front[..front.len() - space_count_at_end(front)].ends_with(b";")
+        && front[..front.len() - count_at_end(front, b' ')].ends_with(b";")
 }
 
 fn is_base64(mime_type: &[u8]) -> bool
@@ -119,7 +105,7 @@ fn unpadded<'a>(text: &'a [u8]) -> &'a [u8]
     if text.len() % 4 > 0 {
         return text;
     }
-    &text[..text.len() - pad_count_at_end(text).min(2)]
+    &text[..text.len() - count_at_end(text, b'=').min(2)]
 }
 
 /// The engine of the forgiving decode.
@@ -169,7 +155,7 @@ fn of_data(alloc: Global, engine: &GeneralPurpose, rest: &[u8]) -> Result<Vec<u8
     ensures fault { IfErr result
         (λ e. (e ≡ InlineFault.Memory) ⊎ (spec.of_data engine.now rest.now ≡ Err e)) }
 {
-    let at = comma(rest);
+    let at = size_before(rest, b',');
     if at >= rest.len() {
         return Err(InlineFault::Form);
     }
@@ -182,23 +168,6 @@ fn is_data(url: &[u8]) -> bool
     same_word(&url[..url.len().min(5)], b"data:")
 }
 
-/// What follows `data:`, as the map that was looked for.
-fn some_map(
-    alloc: Global,
-    engine: &GeneralPurpose,
-    rest: &[u8],
-) -> Result<Option<Vec<u8>>, InlineFault>
-    ensures value { IfOk result (λ found. Ok (option_map (λ v. v.items) found)
-        ≡ spec.some_map (spec.of_data engine.now (spec.without_fragment rest.now))) }
-    ensures fault { IfErr result (λ e. (e ≡ InlineFault.Memory)
-        ⊎ (spec.some_map (spec.of_data engine.now (spec.without_fragment rest.now)) ≡ Err e)) }
-{
-    match of_data(alloc, engine, &rest[..fragment(rest)]) {
-        Ok(bytes) => Ok(Some(bytes)),
-        Err(fault) => Err(fault),
-    }
-}
-
 fn inline_map_by(
     alloc: Global,
     engine: &GeneralPurpose,
@@ -209,10 +178,13 @@ fn inline_map_by(
     ensures fault { IfErr result
         (λ e. (e ≡ InlineFault.Memory) ⊎ (spec.inline_map engine.now url.now ≡ Err e)) }
 {
-    if is_data(url) {
-        return some_map(alloc, engine, &url[5..]);
+    if !is_data(url) {
+        return Ok(None);
     }
-    Ok(None)
+    match of_data(alloc, engine, without_fragment(&url[5..])) {
+        Ok(bytes) => Ok(Some(bytes)),
+        Err(fault) => Err(fault),
+    }
 }
 
 /// The map that a data: URL holds; `None` for any other URL. The URL is read by the Fetch Standard: its

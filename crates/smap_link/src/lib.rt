@@ -5,7 +5,7 @@
 //! The functions and their clauses are stable: `map_url`, `css_map_url`, `inline_map`, `resolved`,
 //! `file_url`, `file_path`, `script_url`, `script_name`, `normal_form`, `key_of`, `most_alike`,
 //! `common_tail`, `script_of_map`, `scripts_of_maps`, `maps_of_scripts`, `choose`,
-//! `file_kind`, `link_in` and `says_nothing`.
+//! `agree_equally`, `file_kind`, `link_in` and `says_nothing`.
 #![tactic(auto)]
 
 mod alike;
@@ -29,8 +29,8 @@ pub use alike::{key_of, normal_form, own_url};
 pub use choice::{Choice, ChoiceFault, choose};
 pub use comment::{css_map_url, map_url};
 pub use encoding::{IN_PATH, PathFault, file_url, is_path, script_url};
-pub use endings::{maps_of_scripts, scripts_of_maps};
-pub use ends::script_of_map;
+pub use endings::{maps_of_scripts, script_of_map, scripts_of_maps};
+pub use ends::agree_equally;
 pub use inline::{InlineFault, inline_map};
 pub use kinds::{FileKind, file_kind, link_in, says_nothing};
 pub use likeness::{Likeness, most_alike};

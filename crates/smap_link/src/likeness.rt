@@ -1,70 +1,54 @@
 //! The map whose path is most like a script's.
-ghost use Rattle.std.specs.Prelude.{◌+◌, ◌<◌, ℕ, List, length, map};
-ghost use Rattle.smap_link.specs.Endings.{IsMostAlikeFrom};
-ghost use Rattle.smap_link.specs.Likeness.{IsLike, IsMostAlike, IsMostAlikeOf};
+ghost use Rattle.std.specs.Prelude.{◌≡◌, ◌+◌, ◌<◌, ℕ, List, [], get_or, length, map};
+ghost use Rattle.smap_link.specs.Likeness as spec;
+ghost use Rattle.smap_link.specs.Likeness.{IsMostAlike, IsMostAlikeFrom};
+ghost use Rattle.smap_link.specs.Tails.{IsAgreement};
 
-use crate::tails::common_tail;
+use crate::tails::{Agreement, agreement_of};
 
 /// Which of some paths is most like the path of a script.
 #[derive(Clone, Copy, Debug, PartialEq, Eq)]
 pub enum Likeness {
     /// None ends as the script's path does, in at least one whole segment.
     Unlike,
-    /// This one does, in more than each other.
+    /// This one does, in more bytes than each other, or in as many with fewer segments left over.
     Like(usize),
-    /// These two do, and none in more, so that it isn't clear which is meant.
+    /// These two do, with as many segments left over, and none more, so that it isn't clear which is meant.
     Unclear(usize, usize),
 }
 
-/// The one that is most alike so far, and in how many bytes.
+/// The one that is most alike so far, and how much of it is.
 #[derive(Clone, Copy)]
 pub(crate) struct Best {
-    pub(crate) size: usize,
+    pub(crate) agreement: Agreement,
     pub(crate) found: Likeness,
 }
 
-/// What is most alike once this path is among them.
-pub(crate) fn better(best: Best, i: usize, size: usize) -> Best
-    ensures { (path : List ℕ) (names : List (List ℕ)) → IsLike path names i size
-        → IsMostAlikeOf path names i best.size best.found
-        → IsMostAlikeOf path names (i + 1) result.size result.found }
+fn is_more(a: Agreement, b: Agreement) -> bool
+    ensures { result ≡ spec.is_more a b }
 {
-    if size > best.size {
-        return Best {
-            size,
-            found: Likeness::Like(i),
-        };
-    }
-    if size < best.size || size == 0 {
-        return best;
-    }
-    match best.found {
-        Likeness::Like(first) => Best {
-            size,
-            found: Likeness::Unclear(first, i),
-        },
-        _ => best,
-    }
+    b.size < a.size || (a.size == b.size && a.left < b.left)
 }
 
-/// What is most alike once this path is among them, which stands before the others.
-pub(crate) fn better_before(best: Best, i: usize, size: usize) -> Best
-    ensures { (path : List ℕ) (names : List (List ℕ)) → i < length names → IsLike path names i size
-        → IsMostAlikeFrom path names (i + 1) best.size best.found
-        → IsMostAlikeFrom path names i result.size result.found }
+/// What is most alike once this path is among them, which comes before the others.
+pub(crate) fn better(best: Best, i: usize, own: Agreement) -> Best
+    ensures { (path : List ℕ) (names : List (List ℕ)) → i < length names
+        → IsAgreement path (get_or names i []) own
+        → IsMostAlikeFrom path names (i + 1) best.agreement best.found
+        → IsMostAlikeFrom path names i result.agreement result.found }
 {
-    if size > best.size {
+    if own.size == 0 || is_more(best.agreement, own) {
+        return best;
+    }
+    if is_more(own, best.agreement) {
         return Best {
-            size,
+            agreement: own,
             found: Likeness::Like(i),
         };
-    }
-    if size < best.size || size == 0 {
-        return best;
     }
     match best.found {
         Likeness::Like(later) | Likeness::Unclear(later, _) => Best {
-            size,
+            agreement: own,
             found: Likeness::Unclear(i, later),
         },
         Likeness::Unlike => best,
@@ -72,17 +56,18 @@ pub(crate) fn better_before(best: Best, i: usize, size: usize) -> Best
 }
 
 /// Which of these paths is most like the path of a script: the one that has the longest end in common with
-/// it, by whole segments.
+/// it, by whole segments, and of several such the one with the fewest segments before that end.
 pub fn most_alike(path: &[u8], names: &[&[u8]]) -> Likeness
     ensures { IsMostAlike path.now (map (λ n. n.now) names.now) result }
 {
     let mut best = Best {
-        size: 0,
+        agreement: Agreement { size: 0, left: 0 },
         found: Likeness::Unlike,
     };
-    for i in 0..names.len() {
-        let size = common_tail(path, names[i]);
-        best = better(best, i, size);
+    let mut i = names.len();
+    'paths: while i > 0 {
+        i -= 1;
+        best = better(best, i, agreement_of(path, names[i]));
     }
     best.found
 }

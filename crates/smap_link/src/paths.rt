@@ -1,6 +1,6 @@
 //! The path of a file: URL.
-ghost use Rattle.std.specs.Prelude.{◌≡◌, ◌⊎◌, ◌≤◌, ◌==◌, IfErr, IfOk, count_by, length, option_map};
-ghost use Rattle.std.specs.List.{list_any};
+ghost use Rattle.std.specs.Prelude.{◌≡◌, ◌⊎◌, ◌≤◌, ◌==◌, not, IfErr, IfOk, count_by, length, option_map};
+ghost use Rattle.std.specs.List.{list_any, prefix_len};
 ghost use Rattle.percent_encoding.specs.Percent.{percent_decode as decoded};
 ghost use Rattle.smap_link.specs.Paths as spec;
 
@@ -24,11 +24,12 @@ pub fn bare<'a>(url: &'a [u8]) -> &'a [u8]
     &url[..bare_size(url)]
 }
 
-fn host_size(text: &[u8]) -> usize
-    ensures value { result ≡ spec.host_size text.now }
+/// How many bytes come before the first such byte; all where there is none.
+pub(crate) fn size_before(text: &[u8], byte: u8) -> usize
+    ensures value { result ≡ prefix_len (λ b. not (b == byte)) text.now }
     ensures within { result ≤ length text.now }
 {
-    text.iter().take_while(|b| **b != b'/').count()
+    text.iter().take_while(|b| **b != byte).count()
 }
 
 fn is_local(host: &[u8]) -> bool
@@ -49,7 +50,8 @@ pub(crate) fn has_drive(path: &[u8]) -> bool
     }
 }
 
-fn slash_count(path: &[u8]) -> usize
+/// How many segments of a path end in a slash.
+pub(crate) fn slash_count(path: &[u8]) -> usize
     ensures { result ≡ count_by (λ b. b == 47) path.now }
 {
     path.iter().filter(|b| **b == b'/').count()
@@ -99,7 +101,7 @@ fn path_in(alloc: Global, rest: &[u8]) -> Result<Option<Vec<u8>>, PathFault>
     ensures value { IfOk result (λ found. Ok (option_map (λ p. p.items) found) ≡ spec.path_in rest.now) }
     ensures fault { IfErr result (λ e. (e ≡ PathFault.Memory) ⊎ (spec.path_in rest.now ≡ Err e)) }
 {
-    let at = host_size(rest);
+    let at = size_before(rest, b'/');
     if !is_local(&rest[..at]) {
         return Err(PathFault::Host);
     }

@@ -8,17 +8,11 @@ fn is_white_byte(a: u8) -> bool
     a == b'\t' || a == 0x0b || a == 0x0c || a == b' '
 }
 
-fn is_general_space(c: u8) -> bool
-    ensures { result ≡ spec.is_general_space c }
-{
-    (0x7f < c && c < 0x8b) || c == 0xaf
-}
-
 fn is_white_triple(a: u8, b: u8, c: u8) -> bool
     ensures { result ≡ spec.is_white_triple a b c }
 {
     (a == 0xe1 && b == 0x9a && c == 0x80)
-        || (a == 0xe2 && b == 0x80 && is_general_space(c))
+        || (a == 0xe2 && b == 0x80 && ((0x7f < c && c < 0x8b) || c == 0xaf))
         || (a == 0xe2 && b == 0x81 && c == 0x9f)
         || (a == 0xe3 && b == 0x80 && c == 0x80)
         || (a == 0xef && b == 0xbb && c == 0xbf)

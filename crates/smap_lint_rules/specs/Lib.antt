@@ -6,3 +6,4 @@ pub mod Share
 pub mod Ids
 pub mod Contents
 pub mod Listed
+pub mod Checks

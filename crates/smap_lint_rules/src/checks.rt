@@ -1,5 +1,7 @@
 //! The rules, each with its name, the level that it has unless another is set, and what it finds.
-ghost use Rattle.std.specs.Prelude.{◌<◌, IfSome};
+ghost use Rattle.std.specs.Prelude.{◌≡◌, ◌<◌, bytes_eq, slice_get};
+ghost use Rattle.std.specs.List.{position};
+ghost use Rattle.smap_lint_rules.specs.Checks as spec;
 
 use smap_report::{Level, Rule};
 
@@ -19,6 +21,7 @@ pub enum Check {
     OriginalPastEnd,
     MissingSource,
     StaleContent,
+    OpenChain,
     MachinePath,
     AbsoluteRoot,
     DebugId,
@@ -29,7 +32,7 @@ pub enum Check {
 
 /// The rules, by the numbers that findings have. Errors are what makes a map useless to whoever opens it;
 /// what only may be meant otherwise is a warning, and what costs nothing but bytes a note.
-pub const RULES: [Rule; 19] = [
+pub const RULES: [Rule; 20] = [
     Rule {
         name: "missing-map",
         level: Level::Warning,
@@ -96,6 +99,11 @@ pub const RULES: [Rule; 19] = [
         summary: "The content of a source differs from the source's file.",
     },
     Rule {
+        name: "open-chain",
+        level: Level::Warning,
+        summary: "The content of a source names a map of its own: traces end in generated text.",
+    },
+    Rule {
         name: "machine-path",
         level: Level::Warning,
         summary: "A map names its sources by paths of the machine that built it.",
@@ -130,15 +138,23 @@ pub const RULES: [Rule; 19] = [
 impl Check {
     /// The number of the rule in [`RULES`].
     pub fn number(self) -> usize
-        ensures { result < 19 }
+        ensures within { result < 20 }
+        ensures own { slice_get spec.checks result ≡ Some self }
     {
         self as usize
     }
 }
 
+/// The number of the first of these rules that has this name.
+fn number_in(rules: &[Rule], word: &str) -> Option<usize>
+    ensures { result ≡ position (λ rule. bytes_eq rule.name.now word.now) rules.now }
+{
+    rules.iter().position(|rule| rule.name == word)
+}
+
 /// The number of the rule with this name.
 pub fn rule_named(word: &str) -> Option<usize>
-    ensures { IfSome result (λ number. number < 19) }
+    ensures { result ≡ spec.named word.now }
 {
-    RULES.iter().position(|rule| rule.name == word)
+    number_in(&RULES, word)
 }

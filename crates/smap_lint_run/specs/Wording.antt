@@ -18,3 +18,8 @@ one_or_more count one more = cond (count == 1) one more
 -- an example of what is spoken of, which is all of it where that is one
 abbrev pub example : ℕ → List ℕ → List ℕ
 example count first = one_or_more count (codes ": ") (codes ", such as ") ++ first
+
+-- scripts without a map, in the file of the first one
+abbrev pub mapless_words : ℕ → List ℕ
+mapless_words count = cond (count == 1) (codes "names no map, and none lies beside it")
+    (decimal count ++ codes " scripts name no map and have none next to them; this is the first")

@@ -1,7 +1,16 @@
 //! What a run has found so far.
+use crate::wording::mapless_words;
 use smap_lint_rules::Check;
 use smap_report::{Finding, Level, Point};
 use std::alloc::{AllocError, Global};
+
+/// Scripts without a map, which are one finding however many they are: most were never compiled.
+#[derive(Drop)]
+struct Mapless {
+    count: usize,
+    /// The path of the first one's file.
+    first: Option<String>,
+}
 
 /// What a run has found so far, and the files that it looked at.
 #[derive(Drop)]
@@ -11,6 +20,8 @@ pub(crate) struct Book {
     levels: Vec<Option<Level>>,
     pub(crate) findings: Vec<Finding>,
     pub(crate) files: Vec<String>,
+    /// The scripts that name no map and have none beside them.
+    mapless: Mapless,
     /// Whether a file couldn't be read.
     pub(crate) unread: bool,
     /// How much of a script has to have an original, in percent.
@@ -31,6 +42,10 @@ impl Book {
             levels,
             findings: Vec::new(alloc),
             files: Vec::new(alloc),
+            mapless: Mapless {
+                count: 0,
+                first: None,
+            },
             unread: false,
             min_mapped,
             url_bytes,
@@ -94,8 +109,28 @@ impl Book {
         }
     }
 
-    /// Puts the findings in the order of their files, by bytes.
-    pub(crate) fn sort(&mut self) -> Result<(), AllocError> {
+    /// Counts a script that names no map and has none beside it.
+    pub(crate) fn count_mapless(&mut self, file: &str) -> Result<(), AllocError> {
+        self.mapless.count = self.mapless.count.saturating_add(1);
+        if self.mapless.first.is_none() {
+            self.mapless.first = Some(String::from_str(self.alloc, file)?);
+        }
+        Ok(())
+    }
+
+    /// Notes the scripts that were counted, in the file of the first one.
+    fn add_mapless(&mut self) -> Result<(), AllocError> {
+        let count = self.mapless.count;
+        let Some(first) = self.mapless.first.take() else {
+            return Ok(());
+        };
+        let message = mapless_words(self.alloc, count)?;
+        self.add(Check::MissingMap, first.as_str(), message)
+    }
+
+    /// Notes what was counted, and puts the findings in the order of their files, by bytes.
+    pub(crate) fn finish(&mut self) -> Result<(), AllocError> {
+        self.add_mapless()?;
         self.findings
             .sort_by(|a, b| a.file.as_str().cmp(b.file.as_str()))
     }

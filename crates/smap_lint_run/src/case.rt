@@ -103,6 +103,7 @@ impl Case<'_, '_> {
         self.lint_generated(&map)?;
         self.lint_originals(&map)?;
         self.lint_sources(disk, &map)?;
+        self.lint_chains(&map)?;
         self.lint_lists(&map)
     }
 }

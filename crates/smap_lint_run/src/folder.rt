@@ -1,4 +1,5 @@
 //! A folder and the names of its files.
+use crate::refusing::{refuse_empty, refuse_path};
 use smap_link::file_url;
 use smap_system::{Disk, FileFault, Host, Kind, LIMIT, Stop, parted, read_file, reason, walk};
 use std::alloc::{AllocError, Global};
@@ -18,7 +19,7 @@ pub(crate) struct Folder {
     pub(crate) names: Vec<String>,
 }
 
-/// The names of the scripts and maps in a folder and below it.
+/// The names of the scripts and maps in a folder and below it. A folder without any is refused.
 fn names_in<E: Eprint + AllocGlobal, D: Disk>(
     host: &Host<'_, E, D>,
     given: &str,
@@ -26,6 +27,10 @@ fn names_in<E: Eprint + AllocGlobal, D: Disk>(
     match walk(host.alloc(), host.disk, given, &ENDINGS) {
         Ok(found) => {
             host.say_unnamed(given, found.unnamed)?;
+            if found.names.is_empty() {
+                let wanted = "*.js, *.mjs, *.cjs, *.css or *.map";
+                return Err(refuse_empty(host, given, wanted, found.only_links));
+            }
             Ok(found.names)
         }
         Err(fault) => Err(host.fail_walking(given, fault)),
@@ -101,14 +106,19 @@ impl Folder {
         host: &Host<'_, E, D>,
         given: &str,
     ) -> Result<Folder, Stop> {
-        if host.disk.kind(given) == Kind::File {
-            let (folder, name) = parted(given);
-            let names = pair_names(host.alloc(), host.disk, folder, name)?;
-            let path = folder.strip_suffix('/').unwrap_or(".");
-            return Folder::with(host, path, names, false);
+        match host.disk.kind(given) {
+            Kind::File => {
+                let (folder, name) = parted(given);
+                let names = pair_names(host.alloc(), host.disk, folder, name)?;
+                let path = folder.strip_suffix('/').unwrap_or(".");
+                Folder::with(host, path, names, false)
+            }
+            Kind::Folder => {
+                let names = names_in(host, given)?;
+                Folder::with(host, given.trim_end_matches('/'), names, true)
+            }
+            kind => Err(refuse_path(host, given, kind)),
         }
-        let names = names_in(host, given)?;
-        Folder::with(host, given.trim_end_matches('/'), names, true)
     }
 
     /// The path of the file with this name.

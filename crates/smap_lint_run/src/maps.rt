@@ -65,13 +65,14 @@ impl Case<'_, '_> {
         self.lint_paths(&members.paths)
     }
 
-    /// Whether the member `file` names the script.
+    /// Whether the member `file` names the script. Of a map in the script itself it doesn't matter: bundlers
+    /// add a hash to the script's name once they wrote the map.
     fn lint_name(&mut self, map: &SourceMap) -> Result<(), AllocError> {
         let (Some(script), Some(file)) = (self.script, map.file()) else {
             return Ok(());
         };
         let name = script.name;
-        if file_agrees(file.as_bytes(), name.as_bytes()) {
+        if self.is_inline || file_agrees(file.as_bytes(), name.as_bytes()) {
             return Ok(());
         }
         let message = format!(in self.book.alloc; "is the map of {file}, and {name} has it")?;

@@ -17,7 +17,7 @@ fn lint_folders<E: Eprint + AllocGlobal, D: Disk>(
     for given in &asked.folders {
         lint_folder(host, &mut book, given)?;
     }
-    book.sort()?;
+    book.finish()?;
     Ok(book)
 }
 
@@ -26,8 +26,9 @@ fn lint_folders<E: Eprint + AllocGlobal, D: Disk>(
 ///
 /// # Errors
 ///
-/// With status 1 where an error was found, 2 where a rule that was set is unknown, 3 where something can't be
-/// read or written; where nobody reads the report; and where memory ran out.
+/// With status 1 where an error was found; 2 where a rule that was set is unknown, a path isn't there, or a
+/// folder has no script and no map; 3 where something can't be read or written; where nobody reads the
+/// report; and where memory ran out.
 pub fn lint<E: Eprint + AllocGlobal, D: Disk, W: Write>(
     host: &Host<'_, E, D>,
     asked: &LintAsked<'_>,

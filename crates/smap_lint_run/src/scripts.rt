@@ -91,8 +91,7 @@ impl<E: Eprint + AllocGlobal, D: Disk> Visit<'_, '_, E, D> {
             return self.lint_file(script, script.beside);
         }
         if !is_named {
-            let message = "names no map, and none lies beside it";
-            self.book.say(Check::MissingMap, script.file, message)?;
+            self.book.count_mapless(script.file)?;
         }
         Ok(())
     }

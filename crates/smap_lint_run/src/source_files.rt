@@ -191,7 +191,7 @@ impl Case<'_, '_> {
     }
 
     /// A URL below the folder without the folder's.
-    fn own_part<'u>(&self, url: &'u str) -> &'u str {
+    pub(crate) fn own_part<'u>(&self, url: &'u str) -> &'u str {
         url.strip_prefix(self.folder.url.as_str()).unwrap_or(url)
     }
 

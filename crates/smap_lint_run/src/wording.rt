@@ -45,3 +45,13 @@ pub(crate) fn example(alloc: Global, count: usize, first: &str) -> Result<String
     let before = one_or_more(count, ": ", ", such as ");
     format!(in alloc; "{before}{first}")
 }
+
+/// What is said in the file of the first of so many scripts that name no map and have none beside them.
+pub(crate) fn mapless_words(alloc: Global, count: usize) -> Result<String, AllocError>
+    ensures { IfOk result (λ t. string_bytes t ≡ spec.mapless_words count) }
+{
+    if count == 1 {
+        return String::from_str(alloc, "names no map, and none lies beside it");
+    }
+    format!(in alloc; "{count} scripts name no map and have none next to them; this is the first")
+}

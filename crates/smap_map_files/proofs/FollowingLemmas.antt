@@ -5,11 +5,11 @@ use Rattle.smap_link.specs.Inline.{is_data, data_of, some_map}
 use Rattle.smap_link.specs.Kinds.{link_in}
 use Rattle.smap_link.specs.declared.inline.InlineFault.{InlineFault}
 use Rattle.smap_map_choice.specs.Named.{IsFileUrl, IsInline, IsWrong, is_vain}
-use Rattle.smap_map_choice.specs.Places.{MapPlace}
+use Rattle.smap_map_choice.specs.Places.{MapPlace, below}
 use Rattle.smap_map_choice.specs.declared.named.NamedFault.{NamedFault}
 use Rattle.smap_map_choice.specs.declared.named.NamedFault.TheVariants as fault
-use Rattle.smap_map_files.specs.Given.{Folder, Holds, IsUnfound, Names, NamesUnfound, beside, front}
-use Rattle.smap_map_files.specs.Given.{linked_base, name_below, named_url}
+use Rattle.smap_map_files.specs.Given.{Folder, Holds, IsUnfound, Names, NamesUnfound, linked_base}
+use Rattle.smap_map_files.specs.Given.{name_below, named_url}
 use Rattle.smap_map_files.specs.Target.{LeadsTo}
 
 -- ---- what a text names
@@ -35,21 +35,16 @@ holds script text url bytes named inline = record {
 
 -- ---- a file
 
-front_name : (alone : Bool) (path slash name : List ℕ)
-    → cond alone [] (path ++ slash) ++ name ≡ cond alone name (path ++ (slash ++ name))
-front_name true path slash name = refl
-front_name false path slash name = append_assoc path slash name
-
 pub names_file : (folder : Folder) (place : MapPlace) (text url name file base : List ℕ)
     → Some url ≡ link_in place.file text → LeadsTo folder.url (name_below folder.path place.file) url name
-    → file ≡ front folder.path place.file ++ name → base ≡ linked_base place url
+    → file ≡ below folder.path name → base ≡ linked_base place url
     → (n : Names folder place.file text file) × (base ≡ linked_base place n.url)
 names_file folder place text url name file base named leads is own = (
   record {
     url = url;
     named = named_by place.file text url named (rw (leads.0.0, leads.0.1) refl);
     is_link = leads.0.0;
-    by = record { name = name; linked_is = leads.1; file_is = is ∙ front_name _ folder.path _ name };
+    by = record { name = name; linked_is = leads.1; file_is = is };
   },
   own,
 )
@@ -69,7 +64,7 @@ pub names_absent : (folder : Folder) (script text url name : List ℕ) → Some 
     → LeadsTo folder.url (name_below folder.path script) url name
     → NamesUnfound folder script text
 names_absent folder script text url name named leads = unfound folder script text url named leads.0
-    (inr (beside folder.path script name, record { name = name; linked_is = leads.1; file_is = refl }))
+    (inr (below folder.path name, record { name = name; linked_is = leads.1; file_is = refl }))
 
 fails : (is_one : Bool) (r : Result (List ℕ) InlineFault) → IsErr (cond is_one (some_map r) (Ok None))
     → is_one ≡ true

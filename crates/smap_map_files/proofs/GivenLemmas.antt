@@ -67,26 +67,29 @@ beside_test p (x ∷ xs) = ap (λ ys. cond (p x) (x ∷ ys) ys) (beside_test p x
 -- ---- places in a folder
 
 pub same_lists : (a b : Lists) → a.places ≡ b.places → a.origins ≡ b.origins → a.files ≡ b.files
-    → a.file_roots ≡ b.file_roots → a.folders ≡ b.folders → a.logs ≡ b.logs → a ≡ b
-same_lists a b p o f r d l = λ j. record {
+    → a.file_roots ≡ b.file_roots → a.folders ≡ b.folders → a.logs ≡ b.logs
+    → a.scripts ≡ b.scripts → a.positions ≡ b.positions → a ≡ b
+same_lists a b p o f r d l s w = λ j. record {
   places = p j;
   origins = o j;
   files = f j;
   file_roots = r j;
   folders = d j;
   logs = l j;
+  scripts = s j;
+  positions = w j;
 }
 
 pub no_places : (number : ℕ) (b : Lists) → with_places number [] b ≡ b
 no_places number b = same_lists (with_places number [] b) b (append-nil b.places)
-    (append-nil b.origins) refl refl refl refl
+    (append-nil b.origins) refl refl refl refl refl refl
 
 pub places_more : (number : ℕ) (ps qs : List MapPlace) (b : Lists)
     → with_places number (ps ++ qs) b ≡ with_places number qs (with_places number ps b)
 places_more number ps qs b = same_lists _ _ (sym (append_assoc b.places ps qs))
     (ap (λ (os : List Origin). b.origins ++ os) (map-append (λ (p : MapPlace). Below number) ps qs)
     ∙ sym (append_assoc b.origins (map (λ p. Below number) ps) (map
-    (λ p. Below number) qs))) refl refl refl refl
+    (λ p. Below number) qs))) refl refl refl refl refl refl
 
 named_more : (url path name : List ℕ) (names : List (List ℕ))
     → folder_named url path (name ∷ names) ≡ folder_named url path (name ∷ []) ++ folder_named url path names
@@ -122,7 +125,7 @@ below_all url path number i names now whole past h =
 
 no_files : (number : ℕ) (b : Lists) → with_files number [] b ≡ b
 no_files number b = same_lists (with_files number [] b) b refl refl (append-nil b.files)
-    (append-nil b.file_roots) refl refl
+    (append-nil b.file_roots) refl refl refl refl
 
 pub files_more : (path : List ℕ) (number i : ℕ) (names : List (List ℕ)) (name : List ℕ)
     (now new whole : Lists)
@@ -135,7 +138,7 @@ files_more path number i names name now new whole at added h =
     ∙ same_lists (with_files number rest (with_files number (below path name ∷ []) now))
     (with_files number (below path name ∷ rest) now) refl refl
     (append_assoc now.files (below path name ∷ []) rest)
-    (append_assoc now.file_roots (number ∷ []) (map (λ file. number) rest)) refl refl
+    (append_assoc now.file_roots (number ∷ []) (map (λ file. number) rest)) refl refl refl refl
     ∙ ap (λ ns. with_files number (map (below path) ns) now) (sym (drop_at names i name at)) ∙ h
 
 pub files_all : (path : List ℕ) (number i : ℕ) (names : List (List ℕ)) (now whole : Lists) → length names ≤ i
@@ -185,19 +188,20 @@ alone_added path names b between a root number is n mid e =
 
 pub is_path : (given path : List ℕ) (at : ℕ) → at ≤ length given → path ≡ take at given
     → ((k : ℕ) → at ≤ k → k < length given → slice_index given k ≡ 47)
-    → (0 < at → slice_index given (at - 1) ≢ 47) → IsPath given path
-is_path given path at inside is slashes other =
+    → (1 < at → slice_index given (at - 1) ≢ 47) → (0 < length given → 0 < at) → IsPath given path
+is_path given path at inside is slashes other some =
     let long : length path ≡ at = ap length is ∙ omega (arith, length-take-le at given inside) in
     record {
       front = is ∙ ap (λ n. take n given) (sym long);
       slashes = λ k from lt. slashes k (omega (arith, long, from)) lt;
-      own = λ some slash. other (omega (arith, long, some))
+      own = λ more slash. other (omega (arith, long, more))
           (sym (ap (λ n. slice_index path (n - 1)) long ∙ ap (λ p. slice_index p (at - 1)) is
-          ∙ get_or-take at given (at - 1) 0 (omega (arith, long, some))) ∙ slash);
+          ∙ get_or-take at given (at - 1) 0 (omega (arith, long, more))) ∙ slash);
+      some = λ any. omega (arith, long, some any);
     }
 
 pub whole_path : (given : List ℕ) (at : ℕ) → at ≤ length given → length given ≤ at
     → ((k : ℕ) → at ≤ k → k < length given → slice_index given k ≡ 47)
-    → (0 < at → slice_index given (at - 1) ≢ 47) → IsPath given given
-whole_path given at inside all slashes other =
-    is_path given given at inside (sym (take_all at given all)) slashes other
+    → (1 < at → slice_index given (at - 1) ≢ 47) → (0 < length given → 0 < at) → IsPath given given
+whole_path given at inside all slashes other some =
+    is_path given given at inside (sym (take_all at given all)) slashes other some

@@ -121,11 +121,12 @@ pub settled : (before middle after : Wanted) (places : List Place) (origins : Li
     → middle.origins.items ≡ beside_flag true given before.origins.items
     → (middle.files ≡ before.files) × (middle.file_roots ≡ before.file_roots)
     × (middle.map_count ≡ before.map_count) × (middle.roots ≡ before.roots) × (middle.logs ≡ before.logs)
+    × (middle.positions ≡ before.positions)
     → names_of after.files.items ≡ map (λ f. f.0) (maps_first (files_in middle))
     → after.file_roots.items ≡ map (λ f. f.1) (maps_first (files_in middle))
     → after.map_count ≡ length (maps_of (files_in middle))
     → (after.places ≡ middle.places) × (after.origins ≡ middle.origins) × (after.roots ≡ middle.roots)
-    × (after.logs ≡ middle.logs) → IsSettled before after
+    × (after.logs ≡ middle.logs) × (after.positions ≡ middle.positions) → IsSettled before after
 settled before middle after places origins flags given p o count is g mp mo m f fr mc a =
     let named = same_named before places origins p o in
     let files : files_in middle ≡ files_in before =
@@ -147,6 +148,7 @@ settled before middle after places origins flags given p o count is g mp mo m f 
       map_count = mc ∙ ap (λ fs. length (maps_of fs)) files;
       roots = a.2 ∙ m.3;
       logs = a.3 ∙ m.4;
+      positions = a.4 ∙ m.5;
     }
 
 pub if_ok : {T E : Type 0} {P Q : T → Type 0} (r : Result T E) → ((x : T) → P x → Q x) → IfOk r P → IfOk r Q

@@ -5,5 +5,6 @@ pub mod KeptLemmas
 pub mod ListLemmas
 pub mod NamedLemmas
 pub mod NamingLemmas
+pub mod PositionLemmas
 pub mod ReachedLemmas
 pub mod SettlingLemmas

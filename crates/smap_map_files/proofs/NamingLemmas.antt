@@ -16,7 +16,7 @@ use Rattle.smap_command_line.specs.declared.trace.splits.Split.{Split}
 use Rattle.smap_command_line.specs.declared.trace.arguments.Argument.{Argument}
 use Rattle.smap_map_files.specs.Lists.{Lists, with_map}
 use Rattle.smap_map_files.specs.Naming.{IsFirstThere, IsNotThere, IsReadable, IsThere, Names, NamesAll}
-use Rattle.smap_map_files.specs.Naming.{NamesFolder, NamesFolderAlone, NamesLog}
+use Rattle.smap_map_files.specs.Naming.{NamesFile, NamesFolder, NamesFolderAlone}
 use Rattle.smap_map_files.specs.Naming.{NamesPath, NamesWay, file_in}
 
 module _ (told : Told) (held : Held) where
@@ -58,27 +58,6 @@ module _ (told : Told) where
     named = h ∙ ap (λ x. with_map x file base before) e ∙ ap (λ x. with_map (take u word) x base before) g
         ∙ ap (λ x. with_map (take u word) (file_in word u f) x before) k;
   }
-
-  -- what is there under the name of a log
-  pub names_log : (disk_kind : OnDisk) (word : List ℕ) (before after : Lists) → IsKind told word disk_kind
-      → (disk_kind ≡ disk.File) ⊎ (disk_kind ≡ disk.Special) → NamesLog word before after
-      → NamesPath told word before after
-  names_log kind word before after is which log = inl (there told is, log)
-    where
-      there : (t : Told) → IsKind t word kind → IsThere t File word
-      there None is = tt
-      there (Some t) is = elim which [
-        | inl e ↦ inl (is ∙ e)
-        | inr e ↦ inr (is ∙ e)
-      ]
-
-  pub names_folder : (disk_kind : OnDisk) (word : List ℕ) (before after : Lists) → IsKind told word disk_kind
-      → disk_kind ≡ disk.Folder → NamesFolderAlone told word before after → NamesPath told word before after
-  names_folder kind word before after is e folder = inr (there told is, folder)
-    where
-      there : (t : Told) → IsKind t word kind → IsThere t Folder word
-      there None is = tt
-      there (Some t) is = is ∙ e
 
 -- ---- the ways to read an argument, one after another
 

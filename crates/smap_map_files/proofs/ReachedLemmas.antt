@@ -1,6 +1,6 @@
 -- What was reached by what a file holds and what that names.
-use Rattle.std.proofs.Common.{◌≡◌, ◌⊎◌, ◌<◌, inl, inr, cond, List, ℕ, Bool, Option, Some, None, Result, Ok}
-use Rattle.std.proofs.Common.{Err, IfOk, IsSome, MatchOption, ap, refl}
+use Rattle.std.proofs.Common.{◌≡◌, ◌⊎◌, ◌<◌, inl, inr, cond, List, ℕ, Bool, true, Option, Some, None}
+use Rattle.std.proofs.Common.{Result, Ok, Err, IfOk, IfSome, IsSome, MatchOption, ap, refl}
 use Rattle.std.specs.Global.{Vec}
 use Rattle.smap_system.specs.Held.{Held, IsHeld}
 use Rattle.smap_map_choice.specs.Opening.{IsMadeOf}
@@ -13,8 +13,8 @@ use Rattle.smap_map_files.specs.declared.loading.MapFault.{MapFault}
 use Rattle.smap_map_files.specs.Given.{Folder, Holds, IsContent, IsLoaded, IsRead, Names}
 use Rattle.smap_map_files.specs.Given.{NamesNothing}
 use Rattle.smap_map_files.specs.Given.{NamesUnfound, folder_for, linked_base}
-use Rattle.smap_map_files.specs.Opened.{GivesNone, IsLeftOut, IsLink, IsOpened, IsReached, with_base}
-use Rattle.smap_map_files.specs.Opened.{within_base}
+use Rattle.smap_map_files.specs.Opened.{GivesNone, IsFollowedUp, IsLeftOut, IsLink, IsOpened, IsReached}
+use Rattle.smap_map_files.specs.Opened.{may_lie_beside, script_beside, with_base, within_base}
 
 -- ---- what became of a file
 
@@ -32,13 +32,13 @@ held_bytes (Some held) place bytes made = made
 
 pub reached_unread : (most : ℕ) (held : Held) (root : Option Folder) (has_base : Bool) (place : MapPlace)
     (why : MapFault) → IsMadeOf IsContent held place (content.Unread why)
-    → IsReached most held root has_base place (loaded.Broken why)
+    → IsFollowedUp most held root has_base place (loaded.Broken why)
 reached_unread most None root has_base place why made = tt
 reached_unread most (Some held) root has_base place why made = inl made
 
 pub reached_itself : (most : ℕ) (held : Held) (root : Option Folder) (has_base : Bool) (place : MapPlace)
     (text : List ℕ) (it : Loaded) → IsHeld held place.file text → IsRead most place.base text it
-    → IsReached most held root has_base place it
+    → IsFollowedUp most held root has_base place it
 reached_itself most None root has_base place text it is read = tt
 reached_itself most (Some held) root has_base place text it is read = inr (inr (record {
   base = place.base;
@@ -49,7 +49,7 @@ reached_itself most (Some held) root has_base place text it is read = inr (inr (
 
 pub reached_within : (most : ℕ) (held : Held) (root : Option Folder) (has_base : Bool) (place : MapPlace)
     (text bytes : List ℕ) (it : Loaded) → IsHeld held place.file text → Holds place.file text bytes
-    → IsRead most (within_base has_base place) bytes it → IsReached most held root has_base place it
+    → IsRead most (within_base has_base place) bytes it → IsFollowedUp most held root has_base place it
 reached_within most None root has_base place text bytes it is holds read = tt
 reached_within most (Some held) root has_base place text bytes it is holds read = inr (inr (record {
   base = within_base has_base place;
@@ -63,7 +63,7 @@ pub reached_beside : (most : ℕ) (held : Held) (root : Option Folder) (has_base
     → (names : Names (folder_for root place) place.file text found.file)
     → found.base ≡ linked_base place names.url
     → IsMadeOf (IsLoaded most) held (with_base has_base place.base found) it
-    → IsReached most held root has_base place it
+    → IsFollowedUp most held root has_base place it
 reached_beside most None root has_base place found text it is names own made = tt
 reached_beside most (Some held) root has_base place found text it is names own (inl unread) = inl unread
 reached_beside most (Some held) root has_base place found text it is names own (inr made) = inr (inr (record {
@@ -83,7 +83,7 @@ reached_beside most (Some held) root has_base place found text it is names own (
 pub reached_link : (most : ℕ) (held : Held) (root : Option Folder) (has_base : Bool) (place : MapPlace)
     (text : List ℕ) (it : Loaded) → IsHeld held place.file text
     → NamesUnfound (folder_for root place) place.file text → (root ≡ None) × IsLink it
-    → IsReached most held root has_base place it
+    → IsFollowedUp most held root has_base place it
 reached_link most None root has_base place text it is names link = tt
 reached_link most (Some held) root has_base place text it is names link = inr (inl (record {
   is_link = link.1;
@@ -92,6 +92,46 @@ reached_link most (Some held) root has_base place text it is names link = inr (i
   held_is = is;
   names = names;
 }))
+
+-- what the file of a place gives by itself, and, of a map, what the script next to it does
+pub reached_itself_by : (most : ℕ) (held : Held) (root : Option Folder) (has_base : Bool) (place : MapPlace)
+    (it : Loaded) → IsFollowedUp most held root has_base place it → IsReached most held root has_base place it
+reached_itself_by most None root has_base place it up = tt
+reached_itself_by most (Some held) root has_base place it (inl unread) = inl unread
+reached_itself_by most (Some held) root has_base place it (inr (inl unlinked)) = inr (inl unlinked)
+reached_itself_by most (Some held) root has_base place it (inr (inr given)) = inr (inr (record {
+  base = given.base;
+  bytes = given.bytes;
+  gives = inl given.gives;
+  read = given.read;
+}))
+
+no_folder : (root : Option Folder) (place : MapPlace) → may_lie_beside root place ≡ true → root ≡ None → ⊥
+no_folder None place lies is = cc
+no_folder (Some root) place lies is = cc
+
+pub reached_by_script : (most : ℕ) (held : Held) (root : Option Folder) (has_base : Bool) (place : MapPlace)
+    (it : Loaded) → may_lie_beside root place ≡ true
+    → IsFollowedUp most held root has_base (script_beside place) it
+    → IsReached most held root has_base place it
+reached_by_script most None root has_base place it lies up = tt
+reached_by_script most (Some held) root has_base place it lies (inl unread) = inl unread
+reached_by_script most (Some held) root has_base place it lies (inr (inl unlinked)) =
+    absurd (no_folder root place lies unlinked.no_root)
+reached_by_script most (Some held) root has_base place it lies (inr (inr given)) = inr (inr (record {
+  base = given.base;
+  bytes = given.bytes;
+  gives = inr (lies, given.gives);
+  read = given.read;
+}))
+
+-- the same, of a script that is the one next to the map by equations
+pub script_gives : (most given : ℕ) (held told : Held) (root home : Option Folder) (has_base with : Bool)
+    (place script : MapPlace) (it : Loaded) → may_lie_beside root place ≡ true → script ≡ script_beside place
+    → home ≡ root → with ≡ has_base → given ≡ most → told ≡ held
+    → IsFollowedUp given told home with script it → IsReached most held root has_base place it
+script_gives most given held told root home has_base with place script it lies s r b m h up =
+    reached_by_script most held root has_base place it lies (rw (m, h, r, b, s) at up)
 
 pub left_out : (held : Held) (root : Option Folder) (place : MapPlace) (text : List ℕ)
     → IsHeld held place.file text
@@ -147,3 +187,11 @@ pub if_both : {A E P Q : Type 0} {R S : A → Type 0} (result : Result (Option A
 if_both (Ok (Some a)) f g p = g a p
 if_both (Ok None) f g p = f p
 if_both (Err e) f g p = tt
+
+-- what is said of a map where there is one
+pub if_some : {A E : Type 0} (Q : Type 0) {R S : A → Type 0} (result : Result (Option A) E)
+    → ((a : A) → R a → S a) → IfOk result (λ found. MatchOption found Q R)
+    → IfOk result (λ found. IfSome found S)
+if_some Q (Ok (Some a)) f p = f a p
+if_some Q (Ok None) f p = tt
+if_some Q (Err e) f p = tt

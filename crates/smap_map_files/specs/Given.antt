@@ -17,7 +17,7 @@ use Rattle.smap_link.specs.Urls.{is_slash}
 use Rattle.smap_link.specs.declared.resolve.LinkFault.{LinkFault}
 use Rattle.smap_map_choice.specs.Linked.{linked}
 use Rattle.smap_map_choice.specs.Named.{IsGarbled, IsInline, is_vain}
-use Rattle.smap_map_choice.specs.Places.{MapPlace}
+use Rattle.smap_map_choice.specs.Places.{MapPlace, below}
 use Rattle.smap_record.specs.Faults.{Checked}
 use Rattle.smap_record.specs.Record.{ReadMap, usual}
 use Rattle.smap_record.specs.UrlBytes.{reading_within}
@@ -93,18 +93,7 @@ without_slash rest = cond (starts_with nat_eq rest (codes "/")) (drop 1 rest) re
 abbrev pub name_below : List ℕ → List ℕ → List ℕ
 name_below path file = without_slash (cond (starts_with nat_eq file path) (drop (length path) file) file)
 
--- What stands before the name of each file in a folder with this path, in which this file stands: the root
--- has the same path as the working directory.
-abbrev pub front : List ℕ → List ℕ → List ℕ
-front path file =
-    cond ((length path == 0) && not (starts_with nat_eq file (codes "/"))) [] (path ++ codes "/")
-
--- The file with this name in a folder, next to which this one stands.
-abbrev pub beside : List ℕ → List ℕ → List ℕ → List ℕ
-beside path file name = cond ((length path == 0) && not (starts_with nat_eq file (codes "/"))) name
-    (path ++ (codes "/" ++ name))
-
--- A folder: the URL of what is in it, and its path.
+-- A folder: the URL of what is in it, and its path, which is empty for the working directory.
 pub record Folder : Type 0 where
   pub url : List ℕ
   pub path : List ℕ
@@ -120,9 +109,9 @@ or_root url = cond (length url == 0) (codes "/") url
 abbrev pub folder_url : List ℕ → List ℕ
 folder_url url = or_root (take (length url - last_size url) url)
 
--- The path of the folder of a file: what stands before the last slash.
+-- The path of the folder of a file: what stands before the last slash, or that of the root.
 abbrev pub folder_path : List ℕ → List ℕ
-folder_path file = unwrap_or (option_map (λ split. split.0) (rsplit_once slash file)) []
+folder_path file = unwrap_or (option_map (λ split. or_root split.0) (rsplit_once slash file)) []
 
 -- The folder of a script that is named by itself.
 abbrev pub own_folder : MapPlace → Folder
@@ -136,7 +125,7 @@ folder_for root place = unwrap_or root (own_folder place)
 pub record NamesBy (folder : Folder) (script url file : List ℕ) : Type 0 where
   pub name : List ℕ
   pub linked_is : linked folder.url (name_below folder.path script) url ≡ Ok name
-  pub file_is : file ≡ beside folder.path script name
+  pub file_is : file ≡ below folder.path name
 
 -- Its text names that file.
 pub record Names (folder : Folder) (script text file : List ℕ) : Type 0 where

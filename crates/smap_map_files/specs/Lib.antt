@@ -3,8 +3,10 @@ pub mod Given
 pub mod Lists
 pub mod Naming
 pub mod Opened
+pub mod Positions
 pub mod RootView
 pub mod Settling
+pub mod SubjectView
 pub mod Target
 pub mod WantedView
 pub mod Within

@@ -1,7 +1,7 @@
 -- What each argument names, by what stands under the names of files, as far as the disk says so.
 use Rattle.std.specs.Prelude.{◌≡◌, ◌≢◌, true, ◌<◌, ◌≤◌, ◌-◌, length, slice_index, ◌⊎◌, ℕ, ◌+◌, Bool, false}
 use Rattle.std.specs.Prelude.{List, [], ◌∷◌, codes, slice_range, take}
-use Rattle.std.specs.Prelude.{None, Some, cond, ◌==◌, ⊤, string_bytes, string_cmp, String}
+use Rattle.std.specs.Prelude.{None, Option, Some, cond, ◌==◌, ⊤, string_bytes, string_cmp, String}
 use Rattle.std.specs.Global.{Global}
 use Rattle.std.specs.List.{All, list_any}
 use Rattle.std.specs.List.Sorted.{IsSorted}
@@ -15,9 +15,12 @@ use Rattle.smap_command_line.specs.Splits.{base_in, needs_url, split_fault}
 use Rattle.smap_command_line.specs.declared.trace.arguments.Argument.{Argument}
 use Rattle.smap_command_line.specs.declared.trace.arguments.Argument.TheVariants.{Path, Place}
 use Rattle.smap_command_line.specs.declared.trace.splits.Kind.{Kind}
+use Rattle.smap_command_line.specs.declared.trace.splits.Split.{Split}
 use Rattle.smap_command_line.specs.declared.trace.splits.Kind.TheVariants.{File, Folder}
 use Rattle.smap_map_files.specs.Lists.{Lists, texts, wanted_names, with_folder, with_folder_alone, with_log}
-use Rattle.smap_map_files.specs.Lists.{with_map}
+use Rattle.smap_map_files.specs.Lists.{with_map, with_map_alone, with_position}
+use Rattle.smap_map_files.specs.Positions.{is_position}
+use Rattle.smap_link.specs.Kinds.{is_map}
 
 -- ---- the files of a folder
 
@@ -30,11 +33,12 @@ has_ending name =
 abbrev pub IsWanted : List ℕ → Type 0
 IsWanted path = (folder : List ℕ) × (name : List ℕ) × (path ≡ joined folder name) × (has_ending name ≡ true)
 
--- A folder's name without slashes (47) at its end.
+-- A folder's name without slashes (47) at its end. That of the root is a slash.
 pub record IsPath (given path : List ℕ) : Type 0 where
   pub front : path ≡ take (length path) given
   pub slashes : (k : ℕ) → length path ≤ k → k < length given → slice_index given k ≡ 47
-  pub own : 0 < length path → slice_index path (length path - 1) ≢ 47
+  pub own : 1 < length path → slice_index path (length path - 1) ≢ 47
+  pub some : 0 < length given → 0 < length path
 
 -- ---- what is there under a name
 
@@ -43,6 +47,10 @@ abbrev pub IsThere : Told → Kind → List ℕ → Type 0
 IsThere None kind name = ⊤
 IsThere (Some t) File name = (t.kinds name ≡ disk.File) ⊎ (t.kinds name ≡ disk.Special)
 IsThere (Some t) Folder name = t.kinds name ≡ disk.Folder
+
+abbrev pub IsMissing : Told → List ℕ → Type 0
+IsMissing None name = ⊤
+IsMissing (Some t) name = t.kinds name ≡ disk.Missing
 
 -- The same, of a file that can be opened.
 abbrev pub IsReadable : Told → Held → Kind → List ℕ → Type 0
@@ -61,12 +69,19 @@ IsNotThere (Some t) held name = (t.kinds name ≡ disk.Missing) ⊎
 abbrev pub file_in : List ℕ → ℕ → ℕ → List ℕ
 file_in word u f = slice_range word (u + 1) f
 
--- The name of the root is a slash.
-abbrev pub start_of : List ℕ → List ℕ
-start_of path = cond (length path == 0) (codes "/") path
-
 abbrev pub NamesLog : List ℕ → Lists → Lists → Type 0
 NamesLog word before after = (needs_url word ≡ false) × (after ≡ with_log word before)
+
+abbrev pub NamesMap : List ℕ → Lists → Lists → Type 0
+NamesMap word before after = (is_map word ≡ true) × (after ≡ with_map_alone word before)
+
+-- a file by its name alone: a map, or a log
+abbrev pub NamesFile : List ℕ → Lists → Lists → Type 0
+NamesFile word before after = NamesMap word before after ⊎ NamesLog word before after
+
+-- a position, where nothing is there under its name
+abbrev pub NamesPosition : List ℕ → Lists → Lists → Type 0
+NamesPosition word before after = (is_position word ≡ true) × (after ≡ with_position word before)
 
 module _ (told : Told) where
   -- Of the files in a folder and below it that have such names, in byte order, those beside which there is no
@@ -74,7 +89,7 @@ module _ (told : Told) where
   -- their own.
   abbrev pub AreNames : List ℕ → List (List ℕ) → Type 0
   AreNames path names = (found : List (String Global)) × IsSorted string_cmp found
-      × All (λ n. IsWanted (string_bytes n)) found × AreFilesBelow told (start_of path) has_ending found
+      × All (λ n. IsWanted (string_bytes n)) found × AreFilesBelow told path has_ending found
       × (names ≡ wanted_names (texts found))
 
   abbrev pub NamesFolderAlone : List ℕ → Lists → Lists → Type 0
@@ -85,10 +100,11 @@ module _ (told : Told) where
   NamesFolder url given before after = (path : List ℕ) × (names : List (List ℕ)) × IsPath given path
       × AreNames path names × (after ≡ with_folder url path names before)
 
-  -- a log, or a folder alone
+  -- a map, a log, a folder alone, or a position
   abbrev pub NamesPath : List ℕ → Lists → Lists → Type 0
-  NamesPath word before after = (IsThere told File word × NamesLog word before after)
-      ⊎ (IsThere told Folder word × NamesFolderAlone word before after)
+  NamesPath word before after = (IsThere told File word × NamesFile word before after)
+      ⊎ ((IsThere told Folder word × NamesFolderAlone word before after)
+      ⊎ (IsMissing told word × NamesPosition word before after))
 
   abbrev pub NamesKind : Kind → List ℕ → ℕ → ℕ → Lists → Lists → Type 0
   NamesKind File word u f before after = after ≡ with_map (take u word) (file_in word u f)
@@ -109,9 +125,24 @@ module _ (told : Told) (held : Held) where
     pub there : IsReadable told held kind (file_in word u f)
     pub earlier : (v g : ℕ) → IsSplit word v g → ComesBefore v g u f → IsNotThere told held (file_in word v g)
 
-  abbrev pub NamesPlace : List ℕ → Lists → Lists → Type 0
-  NamesPlace word before after = (u : ℕ) × (f : ℕ) × (kind : Kind) × IsFirstThere kind word u f
+  -- Nothing is there for any way to read an argument.
+  abbrev pub IsNoneThere : List ℕ → Type 0
+  IsNoneThere word = (u f : ℕ) → IsSplit word u f → IsNotThere told held (file_in word u f)
+
+  -- The way that counts, and what is there for it; or none.
+  abbrev pub IsWayFound : List ℕ → Option (Split × Kind) → Type 0
+  IsWayFound word None = IsNoneThere word
+  IsWayFound word (Some p) = (p.0.word.now ≡ word) × IsFirstThere p.1 word p.0.url_end p.0.file_end
+
+  -- a map or a folder
+  abbrev pub NamesThere : List ℕ → Lists → Lists → Type 0
+  NamesThere word before after = (u : ℕ) × (f : ℕ) × (kind : Kind) × IsFirstThere kind word u f
       × NamesWay told kind word u f before after
+
+  -- one of these, or a position, whose script may have a `=`
+  abbrev pub NamesPlace : List ℕ → Lists → Lists → Type 0
+  NamesPlace word before after = NamesThere word before after
+      ⊎ (IsNoneThere word × NamesPosition word before after)
 
   -- What was named before this argument, and what is named with it.
   abbrev pub Names : Argument → Lists → Lists → Type 0

@@ -1,7 +1,9 @@
 -- The maps that were opened.
-use Rattle.std.specs.Prelude.{◌≡◌, ◌⊎◌, ℕ, ◌<◌, Bool, List, cond, ⊤, Option, Some, None}
+use Rattle.std.specs.Prelude.{◌≡◌, ◌⊎◌, ℕ, ◌<◌, ◌&&◌, Bool, true, List, cond, ⊤, Option, Some, None, is_some}
 use Rattle.smap_system.specs.Held.{Held, IsHeld}
 use Rattle.smap_link.specs.Alike.{own_url}
+use Rattle.smap_link.specs.Ends.{stem}
+use Rattle.smap_link.specs.Kinds.{is_map}
 use Rattle.smap_map_choice.specs.Places.{MapPlace}
 use Rattle.smap_record.specs.Record.{ReadMap}
 use Rattle.smap_map_files.specs.declared.loading.Loaded.{Loaded}
@@ -10,6 +12,7 @@ use Rattle.smap_map_files.specs.declared.loading.MapFault.{MapFault}
 use Rattle.smap_map_files.specs.declared.loading.MapFault.TheVariants as fault
 use Rattle.smap_map_files.specs.Given.{Folder, Holds, IsRead, IsUnread, Names, NamesNothing, NamesUnfound}
 use Rattle.smap_map_files.specs.Given.{folder_for, linked_base}
+use Rattle.smap_map_files.specs.WantedView.{may_name_map}
 
 -- ---- the bytes of a map, and the URL that they are read with
 
@@ -49,17 +52,31 @@ pub record IsBeside (held : List ℕ → Option (List ℕ)) (root : Option Folde
   pub bytes_are : held file ≡ Some bytes
   pub base_is : base ≡ beside_base has_base place names.url
 
--- The bytes that the file of a place, found in this folder if in one, gives for a map, and the URL for them.
-abbrev pub Gives : (List ℕ → Option (List ℕ)) → Option Folder → Bool → MapPlace → List ℕ → List ℕ → Type 0
-Gives held root has_base place base bytes = IsItself held place base bytes
+-- The bytes that the file of a place, found in this folder if in one, is, holds or names for a map, and the
+-- URL for them.
+abbrev pub GivesBy : (List ℕ → Option (List ℕ)) → Option Folder → Bool → MapPlace → List ℕ → List ℕ → Type 0
+GivesBy held root has_base place base bytes = IsItself held place base bytes
     ⊎ (IsWithin held has_base place base bytes ⊎ IsBeside held root has_base place base bytes)
 
--- What became of them, where the URLs of a map's sources may take so many bytes.
-pub record IsGiven (most : ℕ) (held : List ℕ → Option (List ℕ)) (root : Option Folder) (has_base : Bool)
-    (place : MapPlace) (it : Loaded) : Type 0 where
+-- A map that was found in a folder, with the name of a script or a style sheet and `.map` after it.
+abbrev pub may_lie_beside : Option Folder → MapPlace → Bool
+may_lie_beside root place = is_some root && (is_map place.file && may_name_map (stem place.file))
+
+-- The script next to a map.
+abbrev pub script_beside : MapPlace → MapPlace
+script_beside place = record { script = place.script; file = stem place.file; base = place.base }
+
+-- What the file of a place gives for a map: by itself; or, of a map that lies next to its script in a folder,
+-- by that script, which may name another.
+abbrev pub Gives : (List ℕ → Option (List ℕ)) → Option Folder → Bool → MapPlace → List ℕ → List ℕ → Type 0
+Gives held root has_base place base bytes = GivesBy held root has_base place base bytes
+    ⊎ ((may_lie_beside root place ≡ true) × GivesBy held root has_base (script_beside place) base bytes)
+
+-- What became of bytes that are so given, where the URLs of a map's sources may take so many bytes.
+pub record IsGivenBy (most : ℕ) (Are : List ℕ → List ℕ → Type 0) (it : Loaded) : Type 0 where
   pub base : List ℕ
   pub bytes : List ℕ
-  pub gives : Gives held root has_base place base bytes
+  pub gives : Are base bytes
   pub read : IsRead most base bytes it
 
 -- ---- a map was opened
@@ -67,7 +84,8 @@ pub record IsGiven (most : ℕ) (held : List ℕ → Option (List ℕ)) (root : 
 -- The map of the file of a place, where it is said what files hold.
 abbrev pub IsOpened : ℕ → Held → Option Folder → Bool → MapPlace → ReadMap → Type 0
 IsOpened most None root has_base place m = ⊤
-IsOpened most (Some held) root has_base place m = IsGiven most held root has_base place (loaded.Map m)
+IsOpened most (Some held) root has_base place m =
+    IsGivenBy most (Gives held root has_base place) (loaded.Map m)
 
 -- ---- or none was
 
@@ -91,12 +109,24 @@ pub record IsUnlinked (held : List ℕ → Option (List ℕ)) (root : Option Fol
   pub held_is : held place.file ≡ Some text
   pub names : NamesUnfound (folder_for root place) place.file text
 
--- What became of the map of a place: its file, or that which a script names, can't be read; the script names
--- what can't be had; or there are bytes for the map.
+-- The file of a place, or that which a script names, can't be read; the script names what can't be had; or
+-- bytes are so given for the map.
+abbrev pub IsReachedBy : ℕ → (List ℕ → Option (List ℕ)) → (List ℕ → List ℕ → Type 0) → Option Folder
+    → MapPlace → Loaded → Type 0
+IsReachedBy most held Are root place it =
+    IsUnread it ⊎ (IsUnlinked held root place it ⊎ IsGivenBy most Are it)
+
+-- What became of what the file of a place is, holds or names.
+abbrev pub IsFollowedUp : ℕ → Held → Option Folder → Bool → MapPlace → Loaded → Type 0
+IsFollowedUp most None root has_base place it = ⊤
+IsFollowedUp most (Some held) root has_base place it =
+    IsReachedBy most held (GivesBy held root has_base place) root place it
+
+-- What became of the map of a place.
 abbrev pub IsReached : ℕ → Held → Option Folder → Bool → MapPlace → Loaded → Type 0
 IsReached most None root has_base place it = ⊤
 IsReached most (Some held) root has_base place it =
-    IsUnread it ⊎ (IsUnlinked held root place it ⊎ IsGiven most held root has_base place it)
+    IsReachedBy most held (Gives held root has_base place) root place it
 
 -- It is no map, which ends the run with this status or a greater one, unless such maps are skipped.
 pub record IsRefused (most : ℕ) (held : Held) (root : Option Folder) (has_base : Bool) (place : MapPlace)

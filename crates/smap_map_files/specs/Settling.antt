@@ -70,3 +70,4 @@ pub record IsSettled (before after : Wanted) : Type 0 where
   pub map_count : after.map_count ≡ length (maps_of (files_in before))
   pub roots : after.roots ≡ before.roots
   pub logs : after.logs ≡ before.logs
+  pub positions : after.positions ≡ before.positions

@@ -1,13 +1,15 @@
 //! From the arguments to what they name, as the file system has it.
-ghost use Rattle.std.specs.Prelude.{◌≡◌, IfOk, IfSome, MatchOption, OnOk, option_map};
+ghost use Rattle.std.specs.Prelude.{◌≡◌, IfOk, MatchOption, OnOk, option_map, true};
 ghost use Rattle.smap_map_choice.specs.PlaceView.{place_in};
 ghost use Rattle.smap_map_files.specs.Lists as spec;
 ghost use Rattle.smap_map_files.specs.Lists.{lists_of, no_lists, with_map, with_log};
-ghost use Rattle.smap_map_files.specs.Naming.{IsFirstThere, IsNotThere, IsReadable, Names, NamesAll};
-ghost use Rattle.smap_map_files.specs.Naming.{NamesPath};
-ghost use Rattle.smap_map_files.specs.Naming.{NamesPlace, NamesWay};
+ghost use Rattle.smap_map_files.specs.Naming.{IsNotThere, IsReadable, IsWayFound};
+ghost use Rattle.smap_map_files.specs.Naming.{Names, NamesAll, NamesFile, NamesPath, NamesPlace};
+ghost use Rattle.smap_map_files.specs.Naming.{NamesPosition, NamesWay};
+ghost use Rattle.smap_map_files.specs.Positions.{is_position as is_position_by};
 
-use crate::folders::{add_folder, add_folder_alone};
+use crate::folders::{add_folder, add_folder_alone, add_map_alone, is_map, push_script};
+use crate::positions::is_position;
 use crate::wanted::{Origin, Wanted};
 use smap_command_line::trace::{
     Argument, Kind, Split, needs_url, path_message, place_message, split_message,
@@ -64,6 +66,8 @@ fn add_map(
     wanted.origins.push(Origin::Alone {
         has_base: base.is_some(),
     })?;
+    let script = Vec::from_slice(alloc, url.as_bytes())?;
+    push_script(script, wanted)?;
     Ok(())
 }
 
@@ -95,35 +99,47 @@ fn add_split<E: Eprint + AllocGlobal, D: Disk>(
 fn way_of<'a, E: Eprint + AllocGlobal, D: Disk>(
     host: &Host<'_, E, D>,
     word: &'a str,
-) -> Option<(Split<'a>, Kind)>
-    ensures word { IfSome result (λ p. p.0.word.now ≡ word.now) }
-    ensures first { IfSome result (λ p. IsFirstThere (D.tree host.now.disk.now) (D.held host.now.disk.now) p.1
-        word.now p.0.url_end p.0.file_end) }
+) -> Result<Option<(Split<'a>, Kind)>, Stop>
+    ensures { IfOk result (IsWayFound (D.tree host.now.disk.now) (D.held host.now.disk.now) word.now) }
 {
     let mut split = Split::first(word);
     for _ in 0..u64::MAX {
         let Some(way) = split else {
-            return None;
+            return Ok(None);
         };
         if let Some(kind) = kind_of(host, way.file()) {
-            return Some((way, kind));
+            return Ok(Some((way, kind)));
         }
         split = way.following();
     }
-    None
+    Err(host.fail(2, "an argument is too long"))
 }
 
-/// Adds what `URL=FILE[=BASE]` or `URL/=FOLDER/` names: of all ways to read it the first whose file is there.
-fn add_place<E: Eprint + AllocGlobal, D: Disk>(
+/// Adds a position.
+fn add_position<'a>(word: &'a str, wanted: &mut Wanted<'a>) -> Result<(), AllocError>
+    requires { is_position_by word.now ≡ true }
+    ensures { OnOk result (NamesPosition word.now (lists_of wanted.old) (lists_of wanted.new)) }
+{
+    wanted.positions.words.push(word)?;
+    Ok(())
+}
+
+/// Adds what `URL=FILE[=BASE]` or `URL/=FOLDER/` names: of all ways to read it the first whose file is there;
+/// or a position, if none is.
+fn add_place<'a, E: Eprint + AllocGlobal, D: Disk>(
     host: &Host<'_, E, D>,
-    word: &str,
-    wanted: &mut Wanted<'_>,
+    word: &'a str,
+    wanted: &mut Wanted<'a>,
 ) -> Result<(), Stop>
     ensures { OnOk result (NamesPlace (D.tree host.now.disk.now) (D.held host.now.disk.now) word.now
         (lists_of wanted.old) (lists_of wanted.new)) }
 {
-    match way_of(host, word) {
+    match way_of(host, word)? {
         Some((way, kind)) => add_split(host, &way, kind, wanted),
+        None if is_position(word) => {
+            add_position(word, wanted)?;
+            Ok(())
+        }
         None => {
             let text = place_message(host.alloc(), word)?;
             Err(host.fail(2, text.as_str()))
@@ -138,7 +154,27 @@ fn push_log<'a>(word: &'a str, wanted: &mut Wanted<'a>) -> Result<(), AllocError
     Ok(())
 }
 
-/// Adds a folder or a log.
+/// Adds a map or a log, by the name of its file.
+fn add_file<'a, E: Eprint + AllocGlobal, D: Disk>(
+    host: &Host<'_, E, D>,
+    word: &'a str,
+    wanted: &mut Wanted<'a>,
+) -> Result<(), Stop>
+    ensures { OnOk result (NamesFile word.now (lists_of wanted.old) (lists_of wanted.new)) }
+{
+    if is_map(word.as_bytes()) {
+        add_map_alone(host.alloc(), word, wanted)?;
+        return Ok(());
+    }
+    if needs_url(word) {
+        let text = path_message(host.alloc(), word)?;
+        return Err(host.fail(2, text.as_str()));
+    }
+    push_log(word, wanted)?;
+    Ok(())
+}
+
+/// Adds a folder, a map, a log or a position.
 fn add_path<'a, E: Eprint + AllocGlobal, D: Disk>(
     host: &Host<'_, E, D>,
     word: &'a str,
@@ -149,11 +185,12 @@ fn add_path<'a, E: Eprint + AllocGlobal, D: Disk>(
 {
     match host.disk.kind(word) {
         OnDisk::Folder => add_folder_alone(host, word, wanted),
-        OnDisk::File | OnDisk::Special if !needs_url(word) => {
-            push_log(word, wanted)?;
+        OnDisk::File | OnDisk::Special => add_file(host, word, wanted),
+        OnDisk::Missing if is_position(word) => {
+            add_position(word, wanted)?;
             Ok(())
         }
-        OnDisk::File | OnDisk::Special | OnDisk::Missing => {
+        OnDisk::Missing => {
             let text = path_message(host.alloc(), word)?;
             Err(host.fail(2, text.as_str()))
         }

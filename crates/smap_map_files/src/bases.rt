@@ -13,7 +13,11 @@ fn has_query(text: &str) -> bool {
 }
 
 /// A URL or a path with one slash at its end at least.
-fn with_slash(alloc: Global, text: &str) -> Result<String, AllocError> {
+///
+/// # Errors
+///
+/// `AllocError`.
+pub fn with_slash(alloc: Global, text: &str) -> Result<String, AllocError> {
     let text = text.strip_suffix("/").unwrap_or(text);
     format!(in alloc; "{text}/")
 }

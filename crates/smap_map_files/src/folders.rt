@@ -10,28 +10,30 @@ ghost use Rattle.smap_link.specs.Kinds.{is_map as has_map_ending};
 ghost use Rattle.smap_map_choice.specs.PlaceView.{place_in};
 ghost use Rattle.smap_map_choice.specs.Places as places;
 
+use crate::following::folder_path;
 use crate::settling::{add_text, chosen};
 use crate::wanted::{Origin, Root, Wanted, may_name_map};
 use indexmap::IndexSet;
-use smap_link::{link_in, script_url};
+use smap_link::{link_in, own_url, script_url};
 use smap_map_choice::{Place, below, usual_place};
 use smap_system::{Disk, Host, LIMIT, Stop, printable, read_file, walk};
 use std::alloc::{AllocError, Global};
 
 const ENDINGS: [&str; 5] = [".map", ".js", ".mjs", ".cjs", ".css"];
 
-/// Where the slashes at the end of a name begin.
+/// Where the slashes at the end of a name begin, after its first byte.
 fn slashes_start(name: &[u8]) -> usize
     ensures within { result ≤ length name.now }
     ensures slashes { (k : ℕ) → result ≤ k → k < length name.now → slice_index name.now k ≡ 47 }
-    ensures other { 0 < result → slice_index name.now (result - 1) ≢ 47 }
+    ensures other { 1 < result → slice_index name.now (result - 1) ≢ 47 }
+    ensures some { 0 < length name.now → 0 < result }
 {
-    for i in (0..name.len()).rev() {
+    for i in (1..name.len()).rev() {
         if name[i] != b'/' {
             return i + 1;
         }
     }
-    0
+    name.len().min(1)
 }
 
 /// What stands before a slash.
@@ -43,8 +45,8 @@ fn before_slash(name: &str, at: usize) -> &str
     &name[..at]
 }
 
-/// A folder's name without slashes at its end; the root's is empty.
-pub(crate) fn without_slashes(given: &str) -> &str
+/// A folder's name without slashes at its end; the root's is `/`.
+pub fn without_slashes(given: &str) -> &str
     ensures { IsPath given.now result.now }
 {
     let at = slashes_start(given.as_bytes());
@@ -55,14 +57,14 @@ pub(crate) fn without_slashes(given: &str) -> &str
     }
 }
 
-fn is_map(name: &[u8]) -> bool
+pub(crate) fn is_map(name: &[u8]) -> bool
     ensures { result ≡ has_map_ending name.now }
 {
     name.ends_with(b".map")
 }
 
 /// The name of a script whose map has this name.
-fn stem<'a>(name: &'a [u8]) -> &'a [u8]
+pub(crate) fn stem<'a>(name: &'a [u8]) -> &'a [u8]
     ensures { result.now ≡ stem_of name.now }
 {
     if name.ends_with(b".map") {
@@ -152,8 +154,7 @@ fn names_in<E: Eprint + AllocGlobal, D: Disk>(
         (texts names.items)) }
 {
     let alloc = host.alloc();
-    let start = if path.is_empty() { "/" } else { path };
-    let found = match walk(alloc, host.disk, start, &ENDINGS) {
+    let found = match walk(alloc, host.disk, path, &ENDINGS) {
         Ok(found) => found,
         Err(fault) => return Err(host.fail_walking(given, fault)),
     };
@@ -329,5 +330,40 @@ pub(crate) fn add_folder_alone<E: Eprint + AllocGlobal, D: Disk>(
     let number = wanted.roots.len();
     add_files(alloc, path, number, &names, wanted)?;
     push_root(root, wanted)?;
+    Ok(())
+}
+
+/// Adds a script whose map is given by its file.
+pub(crate) fn push_script(url: Vec<u8>, wanted: &mut Wanted<'_>) -> Result<(), AllocError>
+    ensures { OnOk result (lists_of wanted.new ≡ spec.with_script url.items (lists_of wanted.old)) }
+{
+    wanted.positions.scripts.push(url)?;
+    Ok(())
+}
+
+/// The URL of a file that is given without one.
+pub fn name_of_file(alloc: Global, file: &[u8]) -> Result<Vec<u8>, AllocError>
+    ensures { IfOk result (λ name. name.items ≡ spec.name_of_file file.now) }
+{
+    let mut path = Vec::from_slice(alloc, b"/")?;
+    path.extend_from_slice(file)?;
+    own_url(alloc, &path)
+}
+
+/// Adds a map that goes by the end of its name, as the only file of the folder that it lies in.
+pub(crate) fn add_map_alone(
+    alloc: Global,
+    file: &str,
+    wanted: &mut Wanted<'_>,
+) -> Result<(), AllocError>
+    ensures { OnOk result (lists_of wanted.new ≡ spec.with_map_alone file.now (lists_of wanted.old)) }
+{
+    let root = root_with(alloc, b"file:///folder/", folder_path(file))?;
+    let name = Vec::from_slice(alloc, file.as_bytes())?;
+    let number = wanted.roots.len();
+    push_file(name, number, wanted)?;
+    push_root(root, wanted)?;
+    let script = name_of_file(alloc, stem(file.as_bytes()))?;
+    push_script(script, wanted)?;
     Ok(())
 }

@@ -1,5 +1,5 @@
 //! The map that a script names.
-ghost use Rattle.std.specs.Prelude.{◌≡◌, ◌≤◌, ◌++◌, IfOk, length, string_bytes};
+ghost use Rattle.std.specs.Prelude.{◌≡◌, ◌≤◌, IfOk, length};
 ghost use Rattle.smap_link.specs.Alike.{own_url as own_url_of};
 ghost use Rattle.smap_map_choice.specs.PlaceView.{place_in};
 ghost use Rattle.smap_map_files.specs.Given as spec;
@@ -7,9 +7,10 @@ ghost use Rattle.smap_map_files.specs.Given.{IsFollowed};
 ghost use Rattle.smap_map_files.specs.RootView.{folder_of};
 
 use crate::Root;
+use crate::bases::with_slash;
 use crate::target::{Absence, Home, Target, target_of};
 use smap_link::{LinkFault, bare, link_in, own_url, resolved};
-use smap_map_choice::{NamedFault, Place};
+use smap_map_choice::{NamedFault, Place, below};
 use smap_system::{Disk, Host, Stop, printable};
 use std::alloc::{AllocError, Global};
 
@@ -48,12 +49,19 @@ fn folder_url<'a>(url: &'a [u8]) -> &'a [u8]
     &url[..size]
 }
 
-/// The path of the folder of a file.
-fn folder_path<'a>(file: &'a str) -> &'a str
+/// The path of the root in place of an empty one.
+fn or_root<'a>(path: &'a str) -> &'a str
+    ensures { result.now ≡ spec.or_root path.now }
+{
+    if path.is_empty() { "/" } else { path }
+}
+
+/// The path of the folder of a file: empty for the working directory.
+pub(crate) fn folder_path<'a>(file: &'a str) -> &'a str
     ensures { result.now ≡ spec.folder_path file.now }
 {
     match file.rsplit_once('/') {
-        Some((folder, _)) => folder,
+        Some((folder, _)) => or_root(folder),
         None => "",
     }
 }
@@ -72,14 +80,12 @@ fn name_below<'a>(path: &str, file: &'a [u8]) -> &'a [u8]
     }
 }
 
-/// What stands before the name of each file in a folder with this path, in which this file stands.
-fn front(alloc: Global, folder: &str, file: &[u8]) -> Result<String, AllocError>
-    ensures { IfOk result (λ t. string_bytes t ≡ spec.front folder.now file.now) }
-{
-    if folder.is_empty() && !file.starts_with(b"/") {
+/// What stands before the name of each file in a folder with this path.
+fn front(alloc: Global, folder: &str) -> Result<String, AllocError> {
+    if folder.is_empty() {
         return Ok(String::new(alloc));
     }
-    format!(in alloc; "{folder}/")
+    with_slash(alloc, folder)
 }
 
 /// What a script names that is wrong, as in a sentence after "it".
@@ -108,15 +114,6 @@ fn wrong_file(alloc: Global, why: Absence, file: &[u8]) -> Result<String, AllocE
             wrong(alloc, "names what is no file of its folder", file)
         }
     }
-}
-
-/// The path of a file of a folder.
-fn path_of(alloc: Global, front: &str, name: &[u8]) -> Result<Vec<u8>, AllocError>
-    ensures { IfOk result (λ path. path.items ≡ front.now ++ name.now) }
-{
-    let mut path = Vec::from_slice(alloc, front.as_bytes())?;
-    path.extend_from_slice(name)?;
-    Ok(path)
 }
 
 /// The own URL of the map that a script names by this one: that, seen from the script's, or else that of the
@@ -164,7 +161,7 @@ fn follow_in<E: Eprint + AllocGlobal, D: Disk>(
     let Some(url) = link_in(&script.file, text) else {
         return Ok(Followed::Nothing);
     };
-    let front = front(alloc, folder, &script.file)?;
+    let front = front(alloc, folder)?;
     let home = Home {
         path: front.as_str(),
         url: folder_url,
@@ -174,11 +171,11 @@ fn follow_in<E: Eprint + AllocGlobal, D: Disk>(
     match target {
         Target::Inline(bytes) => Ok(Followed::Inline(bytes)),
         Target::File(name) => {
-            let file = path_of(alloc, front.as_str(), name.as_bytes())?;
+            let file = below(alloc, folder.as_bytes(), name.as_bytes())?;
             Ok(Followed::File(found_place(alloc, script, file, url)?))
         }
         Target::Absent(name, why) => {
-            let file = path_of(alloc, front.as_str(), &name)?;
+            let file = below(alloc, folder.as_bytes(), &name)?;
             Ok(Followed::Wrong(wrong_file(alloc, why, &file)?))
         }
         Target::Wrong(why) => match why {

@@ -1,5 +1,5 @@
 //! What a file gives for a map: itself, or, where it is a script or a style sheet, the map that its text
-//! holds or names ([`settle_content`]); what the URL that a script names leads to, within its folder
+//! holds or names ([`open_map_of`]); what the URL that a script names leads to, within its folder
 //! ([`target_of`]); and the URL of a folder's files ([`folder_url`]). What URL a text names is found by
 //! `smap_link`; which files are opened for a log is decided above. The file system is `smap_system`'s trait,
 //! so that tests have it in memory. What is wrong is said on standard error, with the status of that.
@@ -15,6 +15,7 @@ mod folders;
 mod following;
 mod loading;
 mod opening;
+mod positions;
 mod refusing;
 mod settling;
 mod target;
@@ -23,12 +24,14 @@ mod wanted;
 mod within;
 
 pub use arguments::wanted_by;
-pub use bases::{base_given, folder_url};
+pub use bases::{base_given, folder_url, with_slash};
+pub use folders::{name_of_file, without_slashes};
 pub use following::{Followed, follow};
 pub use loading::{Content, FileStore, Loaded, MapFault, NoFault};
-pub use opening::{How, Subject, copied, settle_content};
+pub use opening::{How, Subject, copied, open_map_of};
+pub use positions::{check_positions, log_of};
 pub use refusing::{printable_lines, refuse_options};
 pub use settling::settle;
 pub use target::{Absence, Home, Target, target_of};
-pub use wanted::{Origin, Root, Wanted, may_name_map};
+pub use wanted::{Origin, Positions, Root, Wanted, may_name_map};
 pub use within::is_within;

@@ -1,19 +1,22 @@
 //! The map that a file is, holds or names.
-ghost use Rattle.std.specs.Prelude.{◌≡◌, ◌<◌, ◌≤◌, cond, IfOk, IsSome, MatchOption, None};
+ghost use Rattle.std.specs.Prelude.{◌≡◌, ◌<◌, ◌≤◌, cond, IfOk, IfSome, IsSome, MatchOption, None};
 ghost use Rattle.smap_system.specs.Held.{IsHeld};
 ghost use Rattle.smap_map_files.specs.Given.{IsContent, IsLoaded, IsRead};
-ghost use Rattle.smap_map_files.specs.Opened.{GivesNone, IsLeftOut, IsLink, IsOpened, IsReached, with_base};
-ghost use Rattle.smap_map_files.specs.Opened.{within_base};
+ghost use Rattle.smap_map_files.specs.Opened.{GivesNone, IsFollowedUp, IsLeftOut, IsLink, IsOpened};
+ghost use Rattle.smap_map_files.specs.Opened.{IsReached, with_base, within_base};
+ghost use Rattle.smap_map_files.specs.SubjectView.{IsScriptBeside};
 ghost use Rattle.smap_map_files.specs.RootView.{folder_of};
 ghost use Rattle.smap_map_choice.specs.Opening.{IsMadeOf};
 ghost use Rattle.smap_map_choice.specs.PlaceView.{place_in};
 ghost use Rattle.smap_map_files.specs.declared.loading.MapFault.{MapFault};
 
 use crate::Root;
+use crate::folders::{is_map, stem};
 use crate::following::{Followed, follow, inline_base};
 use crate::loading::{Content, FileStore, Loaded, MapFault, loaded_from};
 use crate::telling::{say_fault, say_of, say_used};
-use smap_map_choice::Place;
+use crate::wanted::may_name_map;
+use smap_map_choice::{Place, Store};
 use smap_record::SourceMap;
 use smap_system::{Disk, Host, Stop, printable};
 use std::alloc::{AllocError, Global};
@@ -147,7 +150,7 @@ fn map_of_script<E: Eprint + AllocGlobal, D: Disk>(
     requires { IsHeld (D.held store.old.disk.now) subject.now.place.file.items text.items }
     ensures reached { IfOk result (λ found. MatchOption found
         (IsLeftOut (D.held store.old.disk.now) (folder_of subject.now.root) (place_in subject.now.place))
-        (λ f. IsReached subject.now.url_bytes (D.held store.old.disk.now) (folder_of subject.now.root)
+        (λ f. IsFollowedUp subject.now.url_bytes (D.held store.old.disk.now) (folder_of subject.now.root)
         subject.now.has_base (place_in subject.now.place) f.1)) }
     ensures held { D.held store.new.disk.now ≡ D.held store.old.disk.now }
 {
@@ -156,7 +159,10 @@ fn map_of_script<E: Eprint + AllocGlobal, D: Disk>(
             drop(text);
             Ok(Some(inline_loaded(host, how, subject, bytes)?))
         }
-        Followed::File(found) => Ok(Some(beside_loaded(host, store, how, subject, found)?)),
+        Followed::File(found) => {
+            drop(text);
+            Ok(Some(beside_loaded(host, store, how, subject, found)?))
+        }
         Followed::Nothing => itself_loaded(host, how, subject, text),
         Followed::Wrong(what) => wrong_loaded(host, how, subject, what),
     }
@@ -221,7 +227,7 @@ fn map_in<E: Eprint + AllocGlobal, D: Disk>(
 }
 
 /// Takes what a file holds for a map, follows a script to its map, or says what is wrong.
-pub fn settle_content<E: Eprint + AllocGlobal, D: Disk>(
+fn settle_content<E: Eprint + AllocGlobal, D: Disk>(
     host: &Host<'_, E, D>,
     store: &mut FileStore<'_, D>,
     how: How,
@@ -249,5 +255,87 @@ pub fn settle_content<E: Eprint + AllocGlobal, D: Disk>(
             map_in(host, &subject.place, loaded, worst)
         }
         Content::Unread(why) => map_in(host, &subject.place, Loaded::Broken(why), worst),
+    }
+}
+
+/// The script or the style sheet next to a map that was found in a folder.
+fn script_beside<'a>(
+    alloc: Global,
+    subject: &Subject<'a>,
+) -> Result<Option<Subject<'a>>, AllocError>
+    ensures { IfOk result (λ found. IfSome found (IsScriptBeside subject.now)) }
+{
+    let file = subject.place.file.as_slice();
+    let script = stem(file);
+    if subject.root.is_none() || !is_map(file) || !may_name_map(script) {
+        return Ok(None);
+    }
+    let place = Place {
+        script: Vec::from_slice(alloc, &subject.place.script)?,
+        file: Vec::from_slice(alloc, script)?,
+        base: Vec::from_slice(alloc, &subject.place.base)?,
+    };
+    Ok(Some(Subject {
+        place,
+        root: subject.root,
+        has_base: subject.has_base,
+        url_bytes: subject.url_bytes,
+    }))
+}
+
+/// The map that the script next to a map of a folder names, if that can be had.
+fn named_instead<E: Eprint + AllocGlobal, D: Disk>(
+    host: &Host<'_, E, D>,
+    store: &mut FileStore<'_, D>,
+    how: How,
+    subject: &Subject<'_>,
+) -> Result<Option<(Place, Loaded)>, Stop>
+    ensures reached { IfOk result (λ found. IfSome found (λ f. IsReached subject.now.url_bytes
+        (D.held store.old.disk.now) (folder_of subject.now.root) subject.now.has_base
+        (place_in subject.now.place) f.1)) }
+    ensures held { D.held store.new.disk.now ≡ D.held store.old.disk.now }
+{
+    let Some(script) = script_beside(host.alloc(), subject)? else {
+        return Ok(None);
+    };
+    // what it leaves out is nothing to tell: the map next to it is there
+    let how = How {
+        skip: how.skip,
+        verbose: false,
+    };
+    match Store::open(store, host.alloc(), &script.place) {
+        Ok(Content::Script(text)) => map_of_script(host, store, how, &script, text),
+        Ok(Content::Bytes(_) | Content::Unread(_)) => Ok(None),
+        Err(_) => Err(Stop::Memory),
+    }
+}
+
+/// The map of a place, opened, or says what is wrong with it. Of a script it is the map that its last comment
+/// names; so it is of a map that lies next to its script in a folder, if what the script names can be had.
+///
+/// # Errors
+///
+/// `Stop::Memory` alone: that a map is refused is said, and raises `worst` to the status of that.
+pub fn open_map_of<E: Eprint + AllocGlobal, D: Disk>(
+    host: &Host<'_, E, D>,
+    store: &mut FileStore<'_, D>,
+    how: How,
+    subject: &Subject<'_>,
+    worst: &mut u8,
+) -> Result<Option<SourceMap>, Stop>
+    ensures settled { IfOk result (λ found. MatchOption found
+        (GivesNone subject.now.url_bytes (D.held store.old.disk.now) (folder_of subject.now.root)
+        subject.now.has_base (place_in subject.now.place) worst.new)
+        (IsOpened subject.now.url_bytes (D.held store.old.disk.now) (folder_of subject.now.root)
+        subject.now.has_base (place_in subject.now.place))) }
+    ensures worst { worst.old ≤ worst.new }
+    ensures held { D.held store.new.disk.now ≡ D.held store.old.disk.now }
+{
+    if let Some((place, loaded)) = named_instead(host, store, how, subject)? {
+        return map_in(host, &place, loaded, worst);
+    }
+    match Store::open(store, host.alloc(), &subject.place) {
+        Ok(content) => settle_content(host, store, how, subject, content, worst),
+        Err(_) => Err(Stop::Memory),
     }
 }

@@ -226,7 +226,8 @@ fn put_maps_first(alloc: Global, wanted: &mut Wanted<'_>) -> Result<(), AllocErr
     ensures map_count { OnOk result (wanted.new.map_count ≡ length (spec.maps_of
         (view.files_in wanted.old))) }
     ensures others { (wanted.new.places ≡ wanted.old.places) × (wanted.new.origins ≡ wanted.old.origins)
-        × (wanted.new.roots ≡ wanted.old.roots) × (wanted.new.logs ≡ wanted.old.logs) }
+        × (wanted.new.roots ≡ wanted.old.roots) × (wanted.new.logs ≡ wanted.old.logs)
+        × (wanted.new.positions ≡ wanted.old.positions) }
 {
     let files = std::mem::replace(&mut wanted.files, Vec::new(alloc));
     let roots = std::mem::replace(&mut wanted.file_roots, Vec::new(alloc));
@@ -247,7 +248,8 @@ fn leave_kept(alloc: Global, kept: &[bool], wanted: &mut Wanted<'_>) -> Result<(
         ≡ beside_flag true kept.now wanted.old.origins.items) }
     ensures others { (wanted.new.files ≡ wanted.old.files) × (wanted.new.file_roots ≡ wanted.old.file_roots)
         × (wanted.new.map_count ≡ wanted.old.map_count) × (wanted.new.roots ≡ wanted.old.roots)
-        × (wanted.new.logs ≡ wanted.old.logs) }
+        × (wanted.new.logs ≡ wanted.old.logs)
+        × (wanted.new.positions ≡ wanted.old.positions) }
 {
     let places = std::mem::replace(&mut wanted.places, Vec::new(alloc));
     let origins = std::mem::replace(&mut wanted.origins, Vec::new(alloc));

@@ -1,6 +1,7 @@
-//! What the arguments name: maps, files of folders, logs; and how much a map may take.
+//! What the arguments name: maps, files of folders, logs, positions; and how much a map may take.
 ghost use Rattle.std.specs.Prelude.{◌≡◌, ◌==◌, ◌&&◌, length};
 ghost use Rattle.smap_map_files.specs.Lists.{lists_of, no_lists};
+ghost use Rattle.smap_map_files.specs.Positions as spec_positions;
 ghost use Rattle.smap_map_files.specs.WantedView as spec;
 
 use smap_link::{FileKind, file_kind};
@@ -27,6 +28,15 @@ pub enum Origin {
     Below(usize),
 }
 
+/// Positions, and what those need that name no script.
+#[derive(Drop)]
+pub struct Positions<'a> {
+    /// The scripts whose maps are given by their files.
+    pub scripts: Vec<Vec<u8>>,
+    /// `LINE:COLUMN` or `NAME:LINE:COLUMN`, in the order of the words.
+    pub words: Vec<&'a str>,
+}
+
 /// What the arguments name, and how much a map of that may take.
 #[derive(Drop)]
 pub struct Wanted<'a> {
@@ -42,6 +52,7 @@ pub struct Wanted<'a> {
     pub map_count: usize,
     pub roots: Vec<Root>,
     pub logs: Vec<&'a str>,
+    pub positions: Positions<'a>,
     /// How many bytes the URLs of a map's sources may take: none, until that is said.
     pub url_bytes: usize,
 }
@@ -60,6 +71,10 @@ impl<'a> Wanted<'a> {
             map_count: 0,
             roots: Vec::new(alloc),
             logs: Vec::new(alloc),
+            positions: Positions {
+                scripts: Vec::new(alloc),
+                words: Vec::new(alloc),
+            },
             url_bytes: 0,
         }
     }
@@ -69,6 +84,13 @@ impl<'a> Wanted<'a> {
         ensures { result ≡ ((length self.now.places.items == 0) && (length self.now.files.items == 0)) }
     {
         self.places.is_empty() && self.files.is_empty()
+    }
+
+    /// Whether positions are given.
+    pub fn has_positions(&self) -> bool
+        ensures { result ≡ spec_positions.has_positions self.now }
+    {
+        !self.positions.words.is_empty()
     }
 }
 

@@ -1,6 +1,6 @@
 -- Names of a log, and what they have.
-use Rattle.std.proofs.Common.{arith, ◌≡◌, ◌∙◌, ◌<◌, ◌≤◌, ◌+◌, ◌++◌, ◌∷◌, ap, refl, sym, inl, ℕ, Bor, List, []}
-use Rattle.std.proofs.Common.{length, take}
+use Rattle.std.proofs.Common.{arith, ◌≡◌, ◌∙◌, ◌<◌, ◌≤◌, ◌+◌, ◌++◌, ◌∷◌, ap, refl, sym, inl, inr, ℕ}
+use Rattle.std.proofs.Common.{Bor, List, [], length, take}
 use Rattle.std.proofs.Common.{Some, None, get_or, map, subst, option_map, true, false}
 use Rattle.std.proofs.lemmas.List.{get_or-map, length-map, map_push, take_all, take_more}
 use Rattle.std.proofs.lemmas.List.Elements.{All-push}
@@ -9,13 +9,14 @@ use Rattle.std.specs.List.{All, slice_get}
 use Rattle.std.proofs.lemmas.Option.{get_or_from_slice_get, slice_get-get_or, slice_get-map, slice_get_within}
 use Rattle.smap_system.specs.Held.{Held, IsHeld}
 use Rattle.smap_map_finder.specs.Choice.{AreChoices, ArePicksIn, ArePicksOf, IsFoundIn, NamesMap, files_of}
-use Rattle.smap_map_finder.specs.Choice.{is_half_unclear}
+use Rattle.smap_map_finder.specs.Choice.{IsChoice, IsHalfUnclear, IsTied, is_plain, map_files_of}
 use Rattle.smap_map_finder.specs.Choice.{places_of}
 use Rattle.smap_map_files.specs.Given.{Folder, IsFollowed}
 use Rattle.smap_map_files.specs.declared.following.Followed.TheVariants as followed
 use Rattle.smap_map_files.specs.declared.wanted.Wanted.{Wanted}
 use Rattle.smap_map_choice.specs.Picks.{IsPick}
 use Rattle.smap_map_choice.specs.Places.{MapPlace, scripts_of}
+use Rattle.smap_map_choice.specs.declared.picks.Found.{Found}
 use Rattle.smap_map_choice.specs.declared.picks.Pick.{Pick}
 use Rattle.smap_map_choice.specs.declared.places.Place.{Place}
 
@@ -92,11 +93,29 @@ pub all_of : {X : Type 0} (Is : Pick → Type 0) (f : X → List ℕ) (xs : List
     → ArePicksOf Is (take i (map f xs)) picks → length xs ≤ i → ArePicksOf Is (map f xs) picks
 all_of Is f xs i picks are le = let long = length-map xs f in rw (take_all i (map f xs) (omega arith)) at are
 
--- a find that is not half unclear
+-- finds that no map is asked for
 pub clear_choice : (held : Held) (w : Wanted) (names : List (List ℕ)) (picks : List Pick)
-    → ArePicksIn w (files_of w) names picks → All (λ (p : Pick). is_half_unclear w p.found ≡ false) picks
+    → ArePicksIn w (files_of w) names picks → All (λ (p : Pick). is_plain w p.found ≡ true) picks
     → AreChoices held w names picks
 clear_choice held w names picks are clear = record {
   named = are.named;
-  each = λ k d lt. inl (record { is_found = are.each k d lt; is_clear = clear k d lt });
+  each = λ k d lt. inl (record { is_found = are.each k d lt; is_clear = inl (clear k d lt) });
 }
+
+pub tied_choice : (w : Wanted) (name : List ℕ) (found map : Found) → IsFoundIn w (files_of w) name found
+    → IsFoundIn w (map_files_of w) name map → IsTied w name found map → IsHalfUnclear w name
+tied_choice w name found map all maps tied = record {
+  found = found;
+  is_found = all;
+  map = map;
+  is_map = maps;
+  is_tied = tied;
+}
+
+pub untied_choice : (held : Held) (w : Wanted) (name : List ℕ) (found map : Found)
+    → IsFoundIn w (files_of w) name found → IsFoundIn w (map_files_of w) name map
+    → ¬ IsTied w name found map → IsChoice held w name found
+untied_choice held w name found map all maps untied = inl (record {
+  is_found = all;
+  is_clear = inr (record { map = map; is_map = maps; is_untied = untied });
+})

@@ -1,13 +1,15 @@
 -- Which map a name of a log has, of those that the arguments name.
-use Rattle.std.specs.Prelude.{◌≡◌, ◌⊎◌, ◌+◌, ℕ, Bool, true, false, not, ◌==◌, ◌&&◌, ◌||◌}
-use Rattle.std.specs.Prelude.{nat_eq, nat_lt, List, ◌++◌, codes, cond, drop, length, map, min, take, ⊤}
+use Rattle.std.specs.Prelude.{◌≡◌, ◌⊎◌, ◌+◌, ◌<◌, ◌≤◌, ℕ, Bool, true, false, not, ◌==◌, ◌&&◌, ◌||◌}
+use Rattle.std.specs.Prelude.{nat_eq, nat_le, nat_lt, List, [], ◌++◌, codes, cond, drop, length, map}
+use Rattle.std.specs.Prelude.{min, take, unwrap_or, ⊤}
 use Rattle.std.specs.Prelude.{IfSome, Option, Some, None, option_and_then, option_map}
 use Rattle.std.specs.Global.{Vec}
 use Rattle.std.specs.Char.{is_ascii_alphanumeric}
 use Rattle.std.specs.List.{All, list_any, prefix_len, slice_get, starts_with}
 use Rattle.smap_system.specs.Held.{Held}
-use Rattle.smap_link.specs.Alike.{own_url}
+use Rattle.smap_link.specs.Ends.{script_path, stem}
 use Rattle.smap_link.specs.Paths.{bare}
+use Rattle.smap_link.specs.Tails.{AgreeEqually}
 use Rattle.smap_link.specs.Urls.{is_path}
 use Rattle.smap_map_choice.specs.Picks.{ArePicks, IsFound}
 use Rattle.smap_map_choice.specs.Opening.{found_place}
@@ -18,6 +20,7 @@ use Rattle.smap_map_choice.specs.declared.picks.Found.TheVariants.{Given, ByEnd,
 use Rattle.smap_map_choice.specs.declared.picks.Pick.{Pick}
 use Rattle.smap_record.specs.Record.{ReadMap}
 use Rattle.smap_map_files.specs.Given.{Folder, Names}
+use Rattle.smap_map_files.specs.Lists.{name_of_file}
 use Rattle.smap_map_files.specs.Opened.{GivesNone, IsOpened}
 use Rattle.smap_map_files.specs.RootView.{folder_in}
 use Rattle.smap_map_files.specs.declared.wanted.Origin.{Origin}
@@ -116,28 +119,58 @@ pub record IsThrough (held : Held) (w : Wanted) (name : List ℕ) (found : Found
   pub found_is : found ≡ ByEnd (map_count_of w + script)
   pub links : Links held w (map_count_of w + script) file
 
--- A map ends alike, and another file does.
-abbrev pub is_half_unclear : Wanted → Found → Bool
-is_half_unclear w (Given i) = false
-is_half_unclear w (ByEnd i) = false
-is_half_unclear w (Unclear i j) = nat_lt (min i j) (map_count_of w)
-is_half_unclear w Missing = false
+abbrev pub file_at : Wanted → ℕ → List ℕ
+file_at w i = unwrap_or (slice_get (files_of w) i) []
+
+-- No script is found, and no two files of which one is a map.
+abbrev pub is_plain : Wanted → Found → Bool
+is_plain w (Given i) = true
+is_plain w (ByEnd i) = nat_lt i (map_count_of w)
+is_plain w (Unclear i j) = nat_le (map_count_of w) (min i j)
+is_plain w Missing = true
+
+-- The files with these numbers agree with the name in equally many bytes.
+abbrev pub Agree : Wanted → List ℕ → ℕ → ℕ → Type 0
+Agree w name i j = AgreeEqually (script_path name) (stem (file_at w i)) (stem (file_at w j))
+
+-- The map that is found agrees with the name in as many bytes as this script.
+abbrev pub IsMapAsLong : Wanted → List ℕ → ℕ → Found → Type 0
+IsMapAsLong w name script (Given i) = ⊥
+IsMapAsLong w name script (ByEnd i) = Agree w name script i
+IsMapAsLong w name script (Unclear i j) = Agree w name script i
+IsMapAsLong w name script Missing = ⊥
+
+-- Two files are found of which one is a map; or a script is, and of the maps one that agrees in as many
+-- bytes.
+abbrev pub IsTied : Wanted → List ℕ → Found → Found → Type 0
+IsTied w name (Given i) map = ⊥
+IsTied w name (ByEnd i) map = (map_count_of w ≤ i) × IsMapAsLong w name i map
+IsTied w name (Unclear i j) map = min i j < map_count_of w
+IsTied w name Missing map = ⊥
 
 -- A map ends alike with the name, and another file does.
 pub record IsHalfUnclear (w : Wanted) (name : List ℕ) : Type 0 where
   pub found : Found
   pub is_found : IsFoundIn w (files_of w) name found
-  pub is_half : is_half_unclear w found ≡ true
+  pub map : Found
+  pub is_map : IsFoundIn w (map_files_of w) name map
+  pub is_tied : IsTied w name found map
 
 -- Then the map is meant, or the script that names it.
 pub record IsSettled (held : Held) (w : Wanted) (name : List ℕ) (found : Found) : Type 0 where
   pub unclear : IsHalfUnclear w name
   pub settled : IsFoundIn w (map_files_of w) name found ⊎ IsThrough held w name found
 
+-- What is found among the maps isn't tied with this.
+pub record IsUntied (w : Wanted) (name : List ℕ) (found : Found) : Type 0 where
+  pub map : Found
+  pub is_map : IsFoundIn w (map_files_of w) name map
+  pub is_untied : ¬ IsTied w name found map
+
 -- What is found for the name, where it isn't so.
 pub record IsClear (w : Wanted) (name : List ℕ) (found : Found) : Type 0 where
   pub is_found : IsFoundIn w (files_of w) name found
-  pub is_clear : is_half_unclear w found ≡ false
+  pub is_clear : (is_plain w found ≡ true) ⊎ IsUntied w name found
 
 -- What is found for a name of a log.
 abbrev pub IsChoice : Held → Wanted → List ℕ → Found → Type 0
@@ -194,10 +227,6 @@ IsPickedBy held w in_frames pick = IsPicked held w in_frames pick.name.now pick.
 -- What each of these names has.
 abbrev pub ArePicked : Held → Wanted → Bool → List (List ℕ) → List Pick → Type 0
 ArePicked held w in_frames names picks = ArePicksOf (IsPickedBy held w in_frames) names picks
-
--- The URL of a file that is given without one.
-abbrev pub name_of_file : List ℕ → List ℕ
-name_of_file file = own_url (codes "/" ++ file)
 
 -- a name that is absolute, or else that of the file
 abbrev pub own_name : List ℕ → Option (List ℕ) → List ℕ

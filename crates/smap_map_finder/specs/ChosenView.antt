@@ -204,7 +204,3 @@ KeepsEnds held w name found old new = (asked : List (List ℕ)) (in_frames : Boo
 abbrev pub KeepEnds : Held → Wanted → List (List ℕ) → Choices → Choices → Type 0
 KeepEnds held w names old new = (asked : List (List ℕ)) → All (Contains asked) names
     → AreEndsOf held w (Contains asked) old → AreEndsOf held w (Contains asked) new
-
--- No map was refused, unless broken maps are skipped.
-abbrev pub IsJudged : Bool → Choices → Type 0
-IsJudged skip c = (skip ≡ true) ⊎ (c.worst ≡ 0)

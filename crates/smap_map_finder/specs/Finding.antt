@@ -1,5 +1,5 @@
 -- What contracts say of a finder.
-use Rattle.std.specs.Prelude.{◌≡◌}
+use Rattle.std.specs.Prelude.{◌≡◌, ◌≤◌}
 use Rattle.smap_system.specs.Held.{Held}
 use Rattle.smap_map_files.specs.declared.opening.How.{How}
 use Rattle.smap_map_files.specs.declared.wanted.Wanted.{Wanted}
@@ -19,8 +19,9 @@ pub record IsFinding {D : Type 0} (of : D → Held) (disk : D) (w : Wanted) (o :
   pub over : IsOver of (of disk) w o
   pub chosen : AreChosen (of disk) w c
 
--- They look for the same.
+-- They look for the same, and what was refused stays so.
 pub record IsSameSearch {D : Type 0} (old new : Finding D) : Type 0 where
   pub disk : new.disk ≡ old.disk
   pub how : new.how ≡ old.how
   pub wanted : new.wanted ≡ old.wanted
+  pub worst : old.chosen.worst ≤ new.chosen.worst

@@ -1,19 +1,17 @@
 //! Every map there is, read once.
-ghost use Rattle.std.specs.Prelude.{◌≡◌, OnOk};
-ghost use Rattle.smap_map_finder.specs.ChosenView.{AreChosen, IsJudged, IsOver, choices_of};
+ghost use Rattle.std.specs.Prelude.{◌≡◌, ◌≤◌};
+ghost use Rattle.smap_map_finder.specs.ChosenView.{AreChosen, IsOver, choices_of};
 ghost use Rattle.smap_map_finder.specs.Searching.{held_in, wanted_in};
 
 use crate::chosen::Chosen;
-use crate::giving::judge;
 use crate::opening::{Opener, Search};
-use crate::picking::{key_of_found, name_of_file};
+use crate::picking::key_of_found;
 use smap_map_choice::{Found, Pick};
-use smap_map_files::FileStore;
+use smap_map_files::{FileStore, name_of_file};
 use smap_system::{Disk, Stop};
 
 impl<E: Eprint + AllocGlobal, D: Disk> Search<'_, E, D> {
-    /// Reads every map there is, and names each that is refused; then the run ends, unless broken maps are
-    /// skipped. No map is kept.
+    /// Reads every map there is, and names each that is refused. No map is kept.
     pub(crate) fn check_all(
         &self,
         opener: &mut Opener<'_, D>,
@@ -21,14 +19,14 @@ impl<E: Eprint + AllocGlobal, D: Disk> Search<'_, E, D> {
     ) -> Result<(), Stop>
         requires named { AreChosen (held_in D.held self.now) (wanted_in self.now) (choices_of chosen.old) }
         requires over { IsOver D.held (held_in D.held self.now) (wanted_in self.now) opener.old }
-        ensures judged { OnOk result (IsJudged self.now.how.skip (choices_of chosen.new)) }
+        ensures worst { chosen.old.worst ≤ chosen.new.worst }
         ensures named { AreChosen (held_in D.held self.now) (wanted_in self.now) (choices_of chosen.new) }
         ensures ends { (choices_of chosen.new).ends ≡ (choices_of chosen.old).ends }
         ensures over { IsOver D.held (held_in D.held self.now) (wanted_in self.now) opener.new }
     {
         self.check_places(&mut opener.store, chosen)?;
         self.check_files(&mut opener.store, chosen)?;
-        judge(self.how, chosen)
+        Ok(())
     }
 
     /// Reads the maps of scripts with names.
@@ -36,6 +34,7 @@ impl<E: Eprint + AllocGlobal, D: Disk> Search<'_, E, D> {
         requires { AreChosen (D.held store.old.disk.now) (wanted_in self.now) (choices_of chosen.old) }
         ensures chosen { AreChosen (D.held store.old.disk.now) (wanted_in self.now) (choices_of chosen.new) }
         ensures ends { (choices_of chosen.new).ends ≡ (choices_of chosen.old).ends }
+        ensures worst { chosen.old.worst ≤ chosen.new.worst }
         ensures held { D.held store.new.disk.now ≡ D.held store.old.disk.now }
     {
         for (i, place) in self.wanted.places.iter().enumerate() {
@@ -53,6 +52,7 @@ impl<E: Eprint + AllocGlobal, D: Disk> Search<'_, E, D> {
         requires { AreChosen (D.held store.old.disk.now) (wanted_in self.now) (choices_of chosen.old) }
         ensures chosen { AreChosen (D.held store.old.disk.now) (wanted_in self.now) (choices_of chosen.new) }
         ensures ends { (choices_of chosen.new).ends ≡ (choices_of chosen.old).ends }
+        ensures worst { chosen.old.worst ≤ chosen.new.worst }
         ensures held { D.held store.new.disk.now ≡ D.held store.old.disk.now }
     {
         for (i, file) in self.wanted.files.iter().enumerate() {
@@ -76,6 +76,7 @@ impl<E: Eprint + AllocGlobal, D: Disk> Search<'_, E, D> {
         requires { AreChosen (D.held store.old.disk.now) (wanted_in self.now) (choices_of chosen.old) }
         ensures chosen { AreChosen (D.held store.old.disk.now) (wanted_in self.now) (choices_of chosen.new) }
         ensures ends { (choices_of chosen.new).ends ≡ (choices_of chosen.old).ends }
+        ensures worst { chosen.old.worst ≤ chosen.new.worst }
         ensures held { D.held store.new.disk.now ≡ D.held store.old.disk.now }
     {
         let map = self.opened_under(store, pick, &mut chosen.worst)?;

@@ -146,6 +146,7 @@ impl Chosen {
         ensures chosen { (held : Held) (wanted : Wanted) → AreChosen held wanted (choices_of self.old)
             → AreChosen held wanted (choices_of self.new) }
         ensures ends { (choices_of self.new).ends ≡ (choices_of self.old).ends }
+        ensures worst { self.new.worst ≡ self.old.worst }
     {
         if self.scripts.len() >= MOST_NAMES {
             self.scripts = Scripts::new(alloc);

@@ -1,7 +1,7 @@
 //! The maps of the scripts that a log names, as one value.
-ghost use Rattle.std.specs.Prelude.{◌≡◌, IfOk, OnOk, map, option_map};
+ghost use Rattle.std.specs.Prelude.{◌≡◌, IfOk, OnOk, cond, map, option_map};
 ghost use Rattle.std.specs.List.{All};
-ghost use Rattle.smap_map_finder.specs.ChosenView.{AreChosen, Grows, IsJudged, IsSettledIn, KeepEnds};
+ghost use Rattle.smap_map_finder.specs.ChosenView.{AreChosen, Grows, IsSettledIn, KeepEnds};
 ghost use Rattle.smap_map_finder.specs.ChosenView.{no_choices};
 ghost use Rattle.smap_map_finder.specs.Finding.{IsSameSearch};
 ghost use Rattle.smap_record.specs.Record.{record_of};
@@ -72,7 +72,7 @@ impl<'a, E: Eprint + AllocGlobal, D: Disk> Finder<'a, E, D> {
 
     /// Gives each of these names of a log its map, or finds that it has none: names that frames have, or
     /// other texts with a position after them. Maps are opened that aren't yet. Each map that is refused is
-    /// named; then the run ends, unless broken maps are skipped.
+    /// named.
     ///
     /// # Errors
     ///
@@ -80,7 +80,6 @@ impl<'a, E: Eprint + AllocGlobal, D: Disk> Finder<'a, E, D> {
     pub fn open_for(&mut self, in_frames: bool, names: &[&[u8]]) -> Result<(), Stop>
         ensures settled { OnOk result (All (λ n. IsSettledIn (D.held self.old.disk) self.old.wanted in_frames
             self.new.chosen n.now) names.now) }
-        ensures judged { OnOk result (IsJudged self.old.how.skip self.new.chosen) }
         ensures grows { Grows self.old.chosen self.new.chosen }
         ensures ends { KeepEnds (D.held self.old.disk) self.old.wanted (map (λ n. n.now) names.now)
             self.old.chosen self.new.chosen }
@@ -91,14 +90,12 @@ impl<'a, E: Eprint + AllocGlobal, D: Disk> Finder<'a, E, D> {
             .open_for(&mut self.opener, in_frames, names, &mut self.chosen)
     }
 
-    /// Reads every map there is, and names each that is refused; then the run ends, unless broken maps are
-    /// skipped. No map is kept.
+    /// Reads every map there is, and names each that is refused. No map is kept.
     ///
     /// # Errors
     ///
     /// `Stop`.
     pub fn check_all(&mut self) -> Result<(), Stop>
-        ensures judged { OnOk result (IsJudged self.old.how.skip self.new.chosen) }
         ensures ends { self.new.chosen.ends ≡ self.old.chosen.ends }
         ensures named { AreChosen (D.held self.new.disk) self.new.wanted self.new.chosen }
         ensures same { IsSameSearch self.old self.new }
@@ -138,6 +135,18 @@ impl<'a, E: Eprint + AllocGlobal, D: Disk> Finder<'a, E, D> {
         ensures { option_map (λ m. record_of m.now) result ≡ map_of self.now.chosen.scripts name.now }
     {
         self.chosen.map_of(name)
+    }
+
+    /// The status of a run whose maps are these: the greatest of a map that was refused, unless broken maps
+    /// are skipped.
+    pub fn status(&self) -> u8
+        ensures { result ≡ cond self.now.how.skip 0 self.now.chosen.worst }
+    {
+        if self.search.how.skip {
+            0
+        } else {
+            self.chosen.worst
+        }
     }
 
     /// Whether it was reported of a name that it isn't clear which map it has.

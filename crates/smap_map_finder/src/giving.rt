@@ -3,7 +3,7 @@ ghost use Rattle.std.specs.Prelude.{◌≡◌, ◌<◌, ◌≤◌, ◌⊎◌, Bo
 ghost use Rattle.std.specs.List.{All, Contains};
 ghost use Rattle.smap_system.specs.Held.{Held};
 ghost use Rattle.smap_map_finder.specs.Choice.{ArePicked, IsPickedBy};
-ghost use Rattle.smap_map_finder.specs.ChosenView.{AreChosen, Choices, Grows, IsFind, IsJudged, IsNumberOf};
+ghost use Rattle.smap_map_finder.specs.ChosenView.{AreChosen, Choices, Grows, IsFind, IsNumberOf};
 ghost use Rattle.smap_map_finder.specs.ChosenView.{IsOver};
 ghost use Rattle.smap_map_finder.specs.ChosenView.{IsNotOpened, IsServedBy, IsSettledIn, IsTried, KeepEnds};
 ghost use Rattle.smap_map_finder.specs.ChosenView.{KeepsEnds, choices_of};
@@ -16,7 +16,7 @@ use crate::chosen::Chosen;
 use crate::opening::{Opener, Search};
 use crate::picking::{key_of_found, opening_name};
 use smap_map_choice::{Found, Pick};
-use smap_map_files::{FileStore, How};
+use smap_map_files::FileStore;
 use smap_record::SourceMap;
 use smap_system::{Disk, Stop};
 use std::alloc::{AllocError, Global};
@@ -115,16 +115,6 @@ fn unknown<'a>(
         unknown.push(names[i])?;
     }
     Ok(unknown)
-}
-
-/// Ends the run where a map is refused, unless broken maps are skipped.
-pub(crate) fn judge(how: How, chosen: &Chosen) -> Result<(), Stop>
-    ensures { OnOk result (IsJudged how.skip (choices_of chosen.now)) }
-{
-    if chosen.worst > 0 && !how.skip {
-        return Err(Stop::Reported(chosen.worst));
-    }
-    Ok(())
 }
 
 impl<E: Eprint + AllocGlobal, D: Disk> Search<'_, E, D> {
@@ -307,7 +297,7 @@ impl<E: Eprint + AllocGlobal, D: Disk> Search<'_, E, D> {
 
     /// Gives each of these names of a log its map, or finds that it has none: names that frames have, or
     /// other texts with a position behind them. Maps are opened that aren't yet. Each map that is refused
-    /// is named; then the run ends, unless broken maps are skipped.
+    /// is named.
     pub(crate) fn open_for(
         &self,
         opener: &mut Opener<'_, D>,
@@ -319,7 +309,6 @@ impl<E: Eprint + AllocGlobal, D: Disk> Search<'_, E, D> {
         requires over { IsOver D.held (held_in D.held self.now) (wanted_in self.now) opener.old }
         ensures settled { OnOk result (All (λ n. IsSettledIn (held_in D.held self.now) (wanted_in self.now)
             in_frames (choices_of chosen.new) n.now) names.now) }
-        ensures judged { OnOk result (IsJudged self.now.how.skip (choices_of chosen.new)) }
         ensures named { AreChosen (held_in D.held self.now) (wanted_in self.now) (choices_of chosen.new) }
         ensures grows { Grows (choices_of chosen.old) (choices_of chosen.new) }
         ensures ends { KeepEnds (held_in D.held self.now) (wanted_in self.now) (map (λ n. n.now) names.now)
@@ -328,6 +317,6 @@ impl<E: Eprint + AllocGlobal, D: Disk> Search<'_, E, D> {
     {
         let fresh = unknown(self.host.alloc(), in_frames, names, chosen)?;
         self.give_names(opener, in_frames, &fresh, chosen)?;
-        judge(self.how, chosen)
+        Ok(())
     }
 }

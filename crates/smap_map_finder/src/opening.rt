@@ -11,7 +11,7 @@ use crate::links::Links;
 use crate::roots::{has_base, root_of};
 use smap_link::{ChoiceFault, ScriptTable};
 use smap_map_choice::{Found, Pick, Place, table_of, usual_place};
-use smap_map_files::{FileStore, How, Subject, Wanted, copied, settle_content};
+use smap_map_files::{FileStore, How, Subject, Wanted, copied, open_map_of};
 use smap_record::SourceMap;
 use smap_system::{Disk, Host, Stop};
 use std::alloc::{AllocError, Global};
@@ -102,9 +102,6 @@ impl<E: Eprint + AllocGlobal, D: Disk> Search<'_, E, D> {
             has_base: has_base(wanted, pick.found),
             url_bytes: wanted.url_bytes,
         };
-        match smap_map_choice::Store::open(store, alloc, &subject.place) {
-            Ok(content) => settle_content(self.host, store, self.how, &subject, content, worst),
-            Err(_) => Err(Stop::Memory),
-        }
+        open_map_of(self.host, store, self.how, &subject, worst)
     }
 }

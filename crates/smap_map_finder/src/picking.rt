@@ -1,5 +1,5 @@
 //! Which file each name of a log has.
-ghost use Rattle.std.specs.Prelude.{◌≡◌, IfOk, List, false, map, option_map, true, ℕ};
+ghost use Rattle.std.specs.Prelude.{◌≡◌, ◌↔◌, IfOk, IsTrue, List, map, option_map, true, ℕ};
 ghost use Rattle.std.specs.List.{All};
 ghost use Rattle.smap_map_finder.specs.Choice as spec;
 ghost use Rattle.smap_map_finder.specs.Choice.{AreChoices, AreLinks, ArePicked, ArePicksIn, IsChoice};
@@ -14,9 +14,9 @@ ghost use Rattle.smap_map_finder.specs.Searching.{held_in, wanted_in};
 use crate::links::Links;
 use crate::opening::{Opener, Search};
 use crate::roots::slices;
-use smap_link::{ScriptTable, bare, is_path, own_url};
+use smap_link::{ScriptTable, agree_equally, bare, is_path};
 use smap_map_choice::{Found, Pick, pick_all};
-use smap_map_files::Wanted;
+use smap_map_files::{Wanted, name_of_file};
 use smap_system::{Disk, Host, Stop};
 use std::alloc::{AllocError, Global};
 
@@ -112,26 +112,27 @@ fn map_count(wanted: &Wanted<'_>) -> usize
     wanted.map_count.min(wanted.files.len())
 }
 
-/// Whether a map ends alike with a name, and another file does, perhaps a script.
-fn is_half_unclear(wanted: &Wanted<'_>, found: Found) -> bool
-    ensures { result ≡ spec.is_half_unclear wanted.now found }
+/// Whether no script is found, and no two files of which one is a map.
+fn is_plain(wanted: &Wanted<'_>, found: Found) -> bool
+    ensures { result ≡ spec.is_plain wanted.now found }
 {
     match found {
-        Found::Unclear(i, j) => i.min(j) < map_count(wanted),
-        _ => false,
+        Found::ByEnd(i) => i < map_count(wanted),
+        Found::Unclear(i, j) => map_count(wanted) <= i.min(j),
+        Found::Given(_) | Found::Missing => true,
     }
 }
 
-/// Whether there is such a name among these.
-fn has_half_unclear(wanted: &Wanted<'_>, picks: &[Pick<'_>]) -> bool
-    ensures { result ≡ false → All (λ p. spec.is_half_unclear wanted.now p.found ≡ false) picks.now }
+/// Whether this holds of all these.
+fn are_plain(wanted: &Wanted<'_>, picks: &[Pick<'_>]) -> bool
+    ensures { result ≡ true → All (λ p. spec.is_plain wanted.now p.found ≡ true) picks.now }
 {
     for i in 0..picks.len() {
-        if is_half_unclear(wanted, picks[i].found) {
-            return true;
+        if !is_plain(wanted, picks[i].found) {
+            return false;
         }
     }
-    false
+    true
 }
 
 /// What is found for a name among all files, among the scripts, and among the maps.
@@ -140,6 +141,72 @@ struct Finds {
     of_all: Found,
     of_scripts: Found,
     of_maps: Found,
+}
+
+/// The file with this number; an empty name where there is none.
+fn file_at<'a>(wanted: &'a Wanted<'_>, number: usize) -> &'a [u8]
+    ensures { result.now ≡ spec.file_at wanted.now number }
+{
+    match wanted.files.get(number) {
+        Some(file) => file.as_slice(),
+        None => b"",
+    }
+}
+
+/// Whether the files with these numbers agree with a name in equally many bytes.
+fn agree(
+    alloc: Global,
+    wanted: &Wanted<'_>,
+    name: &[u8],
+    script: usize,
+    map: usize,
+) -> Result<bool, AllocError>
+    ensures { IfOk result (λ same. IsTrue same ↔ spec.Agree wanted.now name.now script map) }
+{
+    let of_script = file_at(wanted, script);
+    let of_map = file_at(wanted, map);
+    agree_equally(alloc, name, of_script, of_map)
+}
+
+/// Whether the map that is found agrees with a name in as many bytes as this script.
+fn is_map_as_long(
+    alloc: Global,
+    wanted: &Wanted<'_>,
+    name: &[u8],
+    script: usize,
+    map: Found,
+) -> Result<bool, AllocError>
+    ensures { IfOk result (λ same. IsTrue same ↔ spec.IsMapAsLong wanted.now name.now script map) }
+{
+    match map {
+        Found::ByEnd(i) => agree(alloc, wanted, name, script, i),
+        Found::Unclear(i, _) => agree(alloc, wanted, name, script, i),
+        Found::Given(_) | Found::Missing => Ok(false),
+    }
+}
+
+/// Whether a map and another file end alike with a name: both are found, or the other is a script, and of the
+/// maps one agrees in as many bytes.
+fn is_tied(
+    alloc: Global,
+    wanted: &Wanted<'_>,
+    name: &[u8],
+    finds: Finds,
+) -> Result<bool, AllocError>
+    ensures { IfOk result
+        (λ tied. IsTrue tied ↔ spec.IsTied wanted.now name.now finds.of_all finds.of_maps) }
+{
+    match finds.of_all {
+        Found::ByEnd(i) => {
+            if i < map_count(wanted) {
+                return Ok(false);
+            }
+            let same = is_map_as_long(alloc, wanted, name, i, finds.of_maps)?;
+            Ok(same)
+        }
+        Found::Unclear(i, j) => Ok(i.min(j) < map_count(wanted)),
+        Found::Given(_) | Found::Missing => Ok(false),
+    }
 }
 
 /// What is found for each of a list of names, likewise.
@@ -207,7 +274,8 @@ impl<E: Eprint + AllocGlobal, D: Disk> Search<'_, E, D> {
         ensures choice { IfOk result (IsChoice (held_in D.held self.now) (wanted_in self.now) name.now) }
         ensures links { AreLinks (held_in D.held self.now) (wanted_in self.now) links.new.named.entries }
     {
-        if is_half_unclear(self.wanted, finds.of_all) {
+        let tied = is_tied(self.host.alloc(), self.wanted, name, finds)?;
+        if tied {
             return self.script_or_map(name, finds.of_scripts, finds.of_maps, links);
         }
         Ok(finds.of_all)
@@ -245,8 +313,8 @@ impl<E: Eprint + AllocGlobal, D: Disk> Search<'_, E, D> {
         Ok(settled)
     }
 
-    /// What each name has, of which these are found among all files: where a script and a map end alike
-    /// with it, the map, through the script if that names it.
+    /// What each name has, of which these are found among all files: where a script and a map agree with it
+    /// in as many bytes, the map, through the script if that names it.
     fn settled<'n>(
         &self,
         opener: &mut Opener<'_, D>,
@@ -262,7 +330,7 @@ impl<E: Eprint + AllocGlobal, D: Disk> Search<'_, E, D> {
             (map (λ n. n.now) names.now) all.items) }
         ensures over { IsOver D.held (held_in D.held self.now) (wanted_in self.now) opener.new }
     {
-        if !has_half_unclear(self.wanted, &picks) {
+        if are_plain(self.wanted, &picks) {
             return Ok(picks);
         }
         let alloc = self.host.alloc();
@@ -295,13 +363,4 @@ impl<E: Eprint + AllocGlobal, D: Disk> Search<'_, E, D> {
         let picks = self.settled(opener, &files, names, picks)?;
         Ok(all_within(alloc, in_frames, &picks)?)
     }
-}
-
-/// The URL by which a file that has none is checked.
-pub(crate) fn name_of_file(alloc: Global, file: &[u8]) -> Result<Vec<u8>, AllocError>
-    ensures { IfOk result (λ name. name.items ≡ spec.name_of_file file.now) }
-{
-    let mut path = Vec::from_slice(alloc, b"/")?;
-    path.extend_from_slice(file)?;
-    own_url(alloc, &path)
 }

@@ -1,6 +1,7 @@
 //! The maps that the paths name, with their URLs.
 
 use smap_link::script_url;
+use smap_lint_run::{refuse_empty, refuse_path};
 use smap_map_files::folder_url;
 use smap_system::{Disk, Host, Kind, Stop, parted, walk};
 use std::alloc::{AllocError, Global};
@@ -42,13 +43,7 @@ fn names_in<E: Eprint + AllocGlobal, D: Disk>(
     if !found.names.is_empty() {
         return Ok(found.names);
     }
-    let why = if found.only_links {
-        ", which holds only links (those to folders aren't followed)"
-    } else {
-        ""
-    };
-    let text = format!(in alloc; "no *.map in {given}{why}")?;
-    Err(host.fail(2, text.as_str()))
+    Err(refuse_empty(host, given, "*.map", found.only_links))
 }
 
 /// Adds the maps in a folder and below it.
@@ -92,14 +87,11 @@ fn add_path<E: Eprint + AllocGlobal, D: Disk>(
     given: &str,
     targets: &mut Vec<Target>,
 ) -> Result<(), Stop> {
-    let alloc = host.alloc();
-    let text = match host.disk.kind(given) {
-        Kind::Folder => return add_folder(host, base, given, targets),
-        Kind::File => return add_file(host, base, given, targets),
-        Kind::Special => format!(in alloc; "neither a file nor a folder: {given}")?,
-        Kind::Missing => format!(in alloc; "no such file or folder: {given}")?,
-    };
-    Err(host.fail(2, text.as_str()))
+    match host.disk.kind(given) {
+        Kind::Folder => add_folder(host, base, given, targets),
+        Kind::File => add_file(host, base, given, targets),
+        kind => Err(refuse_path(host, given, kind)),
+    }
 }
 
 /// The maps that the paths name, in their order, those of a folder in byte order of their names below it.

@@ -46,8 +46,9 @@ fn names_and_urls_are_made(rt: HostRuntime) {
     );
 }
 
+/// Each in two folders.
 const SCRIPTS: [&[u8]; 3] = [
-    b"https://h/js/main.js?x",
+    b"https://h/js/x/main.js?x",
     b"https://h/static/js/main.js",
     b"/srv/a b/main.js",
 ];
@@ -72,7 +73,7 @@ fn maps_go_by_the_ends_of_their_names(rt: HostRuntime) {
     let wanted = [MAPS[0].1, MAPS[1].1, MAPS[2].1, MAPS[3].1, MAPS[4].1];
     lists(&rt, found, wanted.as_slice());
     let found = maps_of_scripts(rt.alloc(), SCRIPTS.as_slice(), names.as_slice());
-    let wanted = [Likeness::Like(0), Likeness::Like(0), Likeness::Like(2)];
+    let wanted = [Likeness::Like(1), Likeness::Like(0), Likeness::Like(2)];
     lists(&rt, found, wanted.as_slice());
 }
 

@@ -80,8 +80,8 @@ smap-trace --source-prefix =a => --source-prefix: expected FROM=TO: '=a'
 smap-trace --source-prefix=a --context=b => --context: expected a number of lines: 'b'
 smap-trace =f '' => the URL is empty or holds a space (in a URL that is %20): ''
 smap-trace u= => u=: expected URL=FILE
-smap-trace '' u= => an argument is empty: expected URL=FILE, URL/=FOLDER/, a folder or a log
-smap-trace -v => nothing to do: expected URL=FILE, URL/=FOLDER/, a folder or a log";
+smap-trace '' => an argument is empty: expected URL=FILE, URL/=FOLDER/, a folder, a map, a log or a position
+smap-trace -v => nothing to do: expected URL=FILE, URL/=FOLDER/, a folder, a map, a log or a position";
 
 #[test]
 fn what_is_said(rt: HostRuntime) -> Result<(), Fail> {
@@ -199,7 +199,12 @@ fn what_is_not_there(rt: HostRuntime) -> Result<(), Fail> {
     equal(
         &rt,
         path_message(alloc, "maps/trace.map")?.as_str(),
-        "maps/trace.map: expected URL=FILE, as https://example.org/app.js=maps/trace.map",
+        "cannot read maps/trace.map: no such file",
+    );
+    equal(
+        &rt,
+        path_message(alloc, "none.log")?.as_str(),
+        "no such file or folder: none.log",
     );
     holds(&rt, needs_url("a.css") && !needs_url("a.json"));
     Ok(())

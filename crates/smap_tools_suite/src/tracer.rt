@@ -56,6 +56,19 @@ fn an_output_file_is_written_whole(rt: HostRuntime) -> Result<(), Fail> {
 }
 
 #[test]
+fn the_root_is_a_folder(rt: HostRuntime) -> Result<(), Fail> {
+    let disk = MemoryDisk::new(rt.alloc());
+    disk.add_file("/zz.js", b"f()\n//# sourceMappingURL=zz.js.map\n")?;
+    disk.add_file("/zz.js.map", MAP)?;
+    for place in ["http://h/=/", "http://h/=//", "/", "http://h/zz.js=/zz.js"] {
+        let (status, out) = traced(&rt, &disk, &["smap-trace", place], b"@http://h/zz.js:1:2\n")?;
+        equal(&rt, status, 0);
+        equal(&rt, out.as_slice(), b"@http://h/a.js:11:3\n".as_slice());
+    }
+    Ok(())
+}
+
+#[test]
 fn a_log_that_can_not_be_read_has_status_3(rt: HostRuntime) -> Result<(), Fail> {
     let disk = with_log(&rt, MAP)?;
     disk.fail_reads("/crash.log", ErrorKind::PermissionDenied)?;
@@ -82,6 +95,10 @@ fn a_map_that_can_not_be_read_has_status_3(rt: HostRuntime) -> Result<(), Fail> 
     disk.add_file("/dist/out.js.map", MAP)?;
     disk.fail("/dist/out.js.map", ErrorKind::PermissionDenied)?;
     let words = ["smap-trace", "http://h/m/=/dist"];
+    let (status, out) = traced(&rt, &disk, &words, b"@http://h/m/out.js:1:2\n")?;
+    equal(&rt, status, 3);
+    equal(&rt, out.as_slice(), b"@http://h/m/out.js:1:2\n".as_slice());
+    let words = ["smap-trace", "--strict", "http://h/m/=/dist"];
     let (status, out) = traced(&rt, &disk, &words, b"@http://h/m/out.js:1:2\n")?;
     equal(&rt, status, 3);
     holds(&rt, out.is_empty());

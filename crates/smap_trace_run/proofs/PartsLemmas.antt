@@ -1,5 +1,5 @@
 -- Logs that are translated part by part.
-use Rattle.std.proofs.Common.{◌≡◌, ◌∙◌, ap, sym, subst, ℕ, ◌<◌, Bool, false, List, [], ◌∷◌, ◌++◌, length}
+use Rattle.std.proofs.Common.{◌≡◌, ◌∙◌, ap, sym, subst, ℕ, ◌<◌, ◌≤◌, Bool, false, List, [], ◌∷◌, ◌++◌, length}
 use Rattle.std.proofs.Common.{take, get_or, Bor, Option, Some, None, option_map, refl, append-nil, arith}
 use Rattle.std.specs.List.{concat}
 use Rattle.std.specs.Io.{IsEmptyOrEndsWith}
@@ -12,7 +12,8 @@ use Rattle.std.proofs.lemmas.List.Folds.{concat-append}
 use Rattle.std.proofs.Math.Seq.{take-length}
 use Rattle.smap_system.specs.Held.{GivesHeld, HasSize, Held}
 use Rattle.smap_trace_run.specs.declared.tracing.Job.{Job}
-use Rattle.smap_trace_run.specs.Written.{AreTracedParts, AreWhole, HaveSizes, IsBegun, IsTraced, IsTracedLog}
+use Rattle.smap_trace_run.specs.Written.{AreTraced, AreTracedParts, AreWhole, HaveSizes, IsBegun, IsTraced}
+use Rattle.smap_trace_run.specs.Written.{IsTracedLog}
 use Rattle.smap_trace_run.specs.Written.{IsTracedText, IsTracedTextIn, IsNameOf}
 use Rattle.smap_logs.specs.Logs.{IsAll}
 use Rattle.smap_logs.proofs.LogLemmas.{all_taken}
@@ -33,18 +34,18 @@ more_whole (p ∷ []) part all = (all.0, tt)
 more_whole (p ∷ q ∷ parts) part all = (all.0, more_whole (q ∷ parts) part all.1)
 
 -- what was handed out of a log was translated
-pub record SoFar (held : Held) (job : Job) (Sought : List ℕ → Type 0) (ended : Bool)
+pub record SoFar (held : Held) (job : Job) (worst : ℕ) (Sought : List ℕ → Type 0) (ended : Bool)
     (left rest before after : Option (List ℕ)) : Type 0 where
   pub parts : List (List ℕ)
   pub whole : AreWhole parts
   pub lines : ended ≡ false → AreLines parts
   pub taken : Consumes left rest (concat parts)
-  pub traced : AreTracedParts held job Sought parts before after
+  pub traced : AreTracedParts held job worst Sought parts before after
 
-pub none_so_far : (held : Held) (job : Job) (Sought : List ℕ → Type 0) (ended : Bool)
+pub none_so_far : (held : Held) (job : Job) (worst : ℕ) (Sought : List ℕ → Type 0) (ended : Bool)
     (left rest before : Option (List ℕ))
-    → rest ≡ left → SoFar held job Sought ended left rest before before
-none_so_far held job Sought ended left rest before is = record {
+    → rest ≡ left → SoFar held job worst Sought ended left rest before before
+none_so_far held job worst Sought ended left rest before is = record {
   parts = [];
   whole = tt;
   lines = λ going. tt;
@@ -52,38 +53,41 @@ none_so_far held job Sought ended left rest before is = record {
   traced = refl;
 }
 
-more_parts : (held : Held) (job : Job) (Sought : List ℕ → Type 0) (parts : List (List ℕ)) (part : List ℕ)
-    (before middle after : Option (List ℕ)) → AreTracedParts held job Sought parts before middle
-    → IsTraced held job Sought (Some part) middle after
-    → AreTracedParts held job Sought (parts ++ part ∷ []) before after
-more_parts held job Sought [] part before middle after all one =
-    (after, subst (λ (b : Option (List ℕ)). IsTraced held job Sought (Some part) b after) all one, refl)
-more_parts held job Sought (p ∷ parts) part before middle after all one =
-    (all.0, all.1, more_parts held job Sought parts part all.0 middle after all.2 one)
+more_parts : (held : Held) (job : Job) (worst : ℕ) (Sought : List ℕ → Type 0)
+    (parts : List (List ℕ)) (part : List ℕ) (before middle after : Option (List ℕ))
+    → AreTracedParts held job worst Sought parts before middle
+    → IsTraced held job worst Sought (Some part) middle after
+    → AreTracedParts held job worst Sought (parts ++ part ∷ []) before after
+more_parts held job worst Sought [] part before middle after all one =
+    (after, subst (λ (b : Option (List ℕ)). IsTraced held job worst Sought (Some part) b after) all one, refl)
+more_parts held job worst Sought (p ∷ parts) part before middle after all one =
+    (all.0, all.1, more_parts held job worst Sought parts part all.0 middle after all.2 one)
 
 one_joined : (parts : List (List ℕ)) (part : List ℕ) → concat (parts ++ part ∷ []) ≡ concat parts ++ part
 one_joined parts part = concat-append parts (part ∷ []) ∙ ap (λ l. concat parts ++ l) (append-nil part)
 
-pub one_more_part : (held : Held) (job : Job) (Sought : List ℕ → Type 0) (was ended : Bool)
+pub one_more_part : (held : Held) (job : Job) (worst : ℕ) (Sought : List ℕ → Type 0) (was ended : Bool)
     (left rest next before middle after : Option (List ℕ)) (part : List ℕ)
-    → SoFar held job Sought was left rest before middle → was ≡ false
+    → SoFar held job worst Sought was left rest before middle → was ≡ false
     → (ended ≡ false → IsEmptyOrEndsWith part 10) → Consumes rest next part
-    → IsTraced held job Sought (Some part) middle after → SoFar held job Sought ended left next before after
-one_more_part held job Sought was ended left rest next before middle after part all going lines taken one =
+    → IsTraced held job worst Sought (Some part) middle after
+    → SoFar held job worst Sought ended left next before after
+one_more_part held job worst Sought was ended left rest next before middle after part all going lines taken
+    one =
     record {
       parts = all.parts ++ part ∷ [];
       whole = more_whole all.parts part (all.lines going);
       lines = λ still. more_lines all.parts part (all.lines going) (lines still);
       taken = subst (Consumes left next) (sym (one_joined all.parts part))
           (Consumes-trans left rest next (concat all.parts) part all.taken taken);
-      traced = more_parts held job Sought all.parts part before middle after all.traced one;
+      traced = more_parts held job worst Sought all.parts part before middle after all.traced one;
     }
 
-pub all_parts : (held : Held) (job : Job) (Sought : List ℕ → Type 0) (ended : Bool)
-    (left rest before after : Option (List ℕ)) → SoFar held job Sought ended left rest before after
+pub all_parts : (held : Held) (job : Job) (worst : ℕ) (Sought : List ℕ → Type 0) (ended : Bool)
+    (left rest before after : Option (List ℕ)) → SoFar held job worst Sought ended left rest before after
     → IsAtEnd rest
-    → IsTracedText held job Sought left before after
-all_parts held job Sought ended left rest before after all end = record {
+    → IsTracedText held job worst Sought left before after
+all_parts held job worst Sought ended left rest before after all end = record {
   parts = all.parts;
   whole = all.whole;
   all = all_taken left rest (concat all.parts) all.taken end;
@@ -91,9 +95,10 @@ all_parts held job Sought ended left rest before after all end = record {
 }
 
 -- a text that is translated at once
-pub one_part : (held : Held) (job : Job) (Sought : List ℕ → Type 0) (left before after : Option (List ℕ))
-    → IsTraced held job Sought left before after → IsTracedText held job Sought left before after
-one_part held job Sought left before after one = record {
+pub one_part : (held : Held) (job : Job) (worst : ℕ) (Sought : List ℕ → Type 0)
+    (left before after : Option (List ℕ))
+    → IsTraced held job worst Sought left before after → IsTracedText held job worst Sought left before after
+one_part held job worst Sought left before after one = record {
   parts = one.translated.text ∷ [];
   whole = tt;
   all = subst (IsAll left) (sym (append-nil one.translated.text)) one.translated.all;
@@ -106,47 +111,80 @@ one_part held job Sought left before after one = record {
       choices = one.choices;
       given = one.given;
       ends = one.ends;
-      judged = one.judged;
+      within = one.within;
     },
     refl,
   );
 }
 
--- Less was looked for.
-pub parts_sought : (held : Held) (job : Job) (Sought Other : List ℕ → Type 0) (parts : List (List ℕ))
-    (before after : Option (List ℕ)) → ((name : List ℕ) → Other name → Sought name)
-    → AreTracedParts held job Sought parts before after → AreTracedParts held job Other parts before after
-parts_sought held job Sought Other [] before after less all = all
-parts_sought held job Sought Other (part ∷ parts) before after less all = (
-  all.0,
-  record {
-    scripts = all.1.scripts;
-    have_maps = all.1.have_maps;
-    translated = all.1.translated;
-    choices = all.1.choices;
-    given = λ name of sought. all.1.given name of (less name sought);
-    ends = all.1.ends;
-    judged = all.1.judged;
-  },
-  parts_sought held job Sought Other parts all.0 after less all.2,
-)
+-- Less was looked for, and worse may be refused.
+parts_weaker : (held : Held) (job : Job) (worst worse : ℕ) (Sought Other : List ℕ → Type 0)
+    (parts : List (List ℕ)) (before after : Option (List ℕ)) → worst ≤ worse
+    → ((name : List ℕ) → Other name → Sought name) → AreTracedParts held job worst Sought parts before after
+    → AreTracedParts held job worse Other parts before after
+parts_weaker held job worst worse Sought Other [] before after le less all = all
+parts_weaker held job worst worse Sought Other (part ∷ parts) before after le less all =
+    let within = all.1.within in (
+      all.0,
+      record {
+        scripts = all.1.scripts;
+        have_maps = all.1.have_maps;
+        translated = all.1.translated;
+        choices = all.1.choices;
+        given = λ name of sought. all.1.given name of (less name sought);
+        ends = all.1.ends;
+        within = omega arith;
+      },
+      parts_weaker held job worst worse Sought Other parts all.0 after le less all.2,
+    )
 
-pub text_sought : (held : Held) (job : Job) (Sought Other : List ℕ → Type 0)
-    (left before after : Option (List ℕ))
-    → ((name : List ℕ) → Other name → Sought name) → IsTracedText held job Sought left before after
-    → IsTracedText held job Other left before after
-text_sought held job Sought Other left before after less all = record {
+pub text_weaker : (held : Held) (job : Job) (worst worse : ℕ) (Sought Other : List ℕ → Type 0)
+    (left before after : Option (List ℕ)) → worst ≤ worse → ((name : List ℕ) → Other name → Sought name)
+    → IsTracedText held job worst Sought left before after
+    → IsTracedText held job worse Other left before after
+text_weaker held job worst worse Sought Other left before after le less all = record {
   parts = all.parts;
   whole = all.whole;
   all = all.all;
-  traced = parts_sought held job Sought Other all.parts before after less all.traced;
+  traced = parts_weaker held job worst worse Sought Other all.parts before after le less all.traced;
 }
 
-pub one_log : (held : Held) (job : Job) (path : List ℕ) (left before begun after : Option (List ℕ))
+pub so_far_worse : (held : Held) (job : Job) (worst worse : ℕ) (Sought : List ℕ → Type 0) (ended : Bool)
+    (left rest before after : Option (List ℕ)) → worst ≤ worse
+    → SoFar held job worst Sought ended left rest before after
+    → SoFar held job worse Sought ended left rest before after
+so_far_worse held job worst worse Sought ended left rest before after le all = record {
+  parts = all.parts;
+  whole = all.whole;
+  lines = all.lines;
+  taken = all.taken;
+  traced = parts_weaker held job worst worse Sought Sought all.parts before after le (λ name sought. sought)
+      all.traced;
+}
+
+pub logs_worse : (held : Held) (job : Job) (worst worse : ℕ) (paths : List (List ℕ))
+    (before after : Option (List ℕ)) → worst ≤ worse → AreTraced held job worst paths before after
+    → AreTraced held job worse paths before after
+logs_worse held job worst worse [] before after le all = all
+logs_worse held job worst worse (path ∷ paths) before after le all = (
+  all.0,
+  record {
+    begun = all.1.begun;
+    left = all.1.left;
+    is_begun = all.1.is_begun;
+    gives = all.1.gives;
+    traced = λ plain. text_weaker held job worst worse (IsNameOf held path) (IsNameOf held path) all.1.left
+        all.1.begun all.0 le (λ name of. of) (all.1.traced plain);
+  },
+  logs_worse held job worst worse paths all.0 after le all.2,
+)
+
+pub one_log : (held : Held) (job : Job) (worst : ℕ) (path : List ℕ)
+    (left before begun after : Option (List ℕ))
     → IsBegun before begun → GivesHeld held path left
-    → IsTracedTextIn held job (IsNameOf held path) left begun after
-    → IsTracedLog held job path before after
-one_log held job path left before begun after is gives traced = record {
+    → IsTracedTextIn held job worst (IsNameOf held path) left begun after
+    → IsTracedLog held job worst path before after
+one_log held job worst path left before begun after is gives traced = record {
   begun = begun;
   left = left;
   is_begun = is;

@@ -1,6 +1,7 @@
 -- What a run answers to its words.
-use Rattle.std.proofs.Common.{◌≡◌, ◌∙◌, ◌==◌, [], ◌∷◌, Bor, false, true, length, map, subst, sym, arith}
-use Rattle.std.proofs.Common.{ℕ, Bool, List, Option, None, Result, Ok, Err, OnOk, codes, inl, inr, refl}
+use Rattle.std.proofs.Common.{◌≡◌, ◌∙◌, ◌==◌, [], ◌∷◌, Bor, false, true, not, length, map, subst, sym, arith}
+use Rattle.std.proofs.Common.{ℕ, Bool, List, Option, None, Some, Result, Ok, Err, IfOk, OnOk, codes, inl, inr}
+use Rattle.std.proofs.Common.{refl}
 use Rattle.std.proofs.lemmas.Bool.Decides.{nat_tests}
 use Rattle.std.proofs.lemmas.List.{nil_from_length}
 use Rattle.std.specs.Prelude.{⊤, if◌then◌else◌}
@@ -8,9 +9,10 @@ use Rattle.smap_system.specs.Held.{Held}
 use Rattle.smap_system.specs.Status.{status_after, status_of}
 use Rattle.smap_system.specs.Tree.{Told}
 use Rattle.smap_system.specs.declared.stop.Stop.{Stop}
+use Rattle.smap_map_files.specs.Positions.{has_positions, log_in}
 use Rattle.smap_map_files.specs.declared.wanted.Wanted.{Wanted}
 use Rattle.smap_trace_run.specs.Runs.{AreFound, IsAnswered, IsJobOf, IsTracedAsked, IsTracedJob, IsTracedRun}
-use Rattle.smap_trace_run.specs.Runs.{IsTracedInput}
+use Rattle.smap_trace_run.specs.Runs.{AreTracedWords, IsTracedInput, IsTracedLines, IsTracedTo}
 use Rattle.smap_trace_run.specs.Written.{AreTraced, IsTracedFront, IsTracedTextIn}
 use Rattle.smap_trace_run.specs.declared.program.TheConstants.{STDIN}
 use Rattle.smap_trace_run.specs.declared.program.InputKind.{InputKind}
@@ -22,32 +24,33 @@ use Rattle.smap_command_line.specs.declared.trace.words.Asked.{Asked}
 use Rattle.smap_command_line.specs.declared.trace.words.TraceWords.{TraceWords}
 
 -- standard input that is a file, as far as it went
-pub to_its_size : {A E : Type 0} (held : Held) (job : Job) (kind : InputKind)
+pub to_its_size : {A E : Type 0} (held : Held) (job : Job) (worst : ℕ) (kind : InputKind)
     (left before after : Option (List ℕ)) (result : Result A E) → kind ≡ File
-    → OnOk result (IsTracedFront held job STDIN.now left before after)
-    → OnOk result (IsTracedInput held job kind left before after)
-to_its_size held job kind left before after (Ok a) is traced =
-    subst (λ (k : InputKind). IsTracedInput held job k left before after) (sym is) (inl traced)
-to_its_size held job kind left before after (Err e) is traced = tt
+    → OnOk result (IsTracedFront held job worst STDIN.now left before after)
+    → OnOk result (IsTracedInput held job worst kind left before after)
+to_its_size held job worst kind left before after (Ok a) is traced =
+    subst (λ (k : InputKind). IsTracedInput held job worst k left before after) (sym is) (inl traced)
+to_its_size held job worst kind left before after (Err e) is traced = tt
 
 -- and standard input to its end
-pub to_its_end : {A E : Type 0} (held : Held) (job : Job) (kind : InputKind)
+pub to_its_end : {A E : Type 0} (held : Held) (job : Job) (worst : ℕ) (kind : InputKind)
     (left before after : Option (List ℕ)) (result : Result A E)
-    → IsTracedTextIn held job (λ name. ⊤) left before after
-    → OnOk result (IsTracedInput held job kind left before after)
-to_its_end held job File left before after (Ok a) traced = inr traced
-to_its_end held job Closed left before after (Ok a) traced = traced
-to_its_end held job Terminal left before after (Ok a) traced = traced
-to_its_end held job Other left before after (Ok a) traced = traced
-to_its_end held job kind left before after (Err e) traced = tt
+    → IsTracedTextIn held job worst (λ name. ⊤) left before after
+    → OnOk result (IsTracedInput held job worst kind left before after)
+to_its_end held job worst File left before after (Ok a) traced = inr traced
+to_its_end held job worst Closed left before after (Ok a) traced = traced
+to_its_end held job worst Terminal left before after (Ok a) traced = traced
+to_its_end held job worst Other left before after (Ok a) traced = traced
+to_its_end held job worst kind left before after (Err e) traced = tt
 
 -- what the words ask for, by its job
-pub asked_traced : {A E : Type 0} (told : Told) (held : Held) (asked : TraceWords) (job : Job)
-    (kind : InputKind) (left before after : Option (List ℕ)) (result : Result A E)
+pub asked_traced : {E : Type 0} (told : Told) (held : Held) (asked : TraceWords) (job : Job)
+    (kind : InputKind) (left before after : Option (List ℕ)) (result : Result ℕ E)
     → AreFound told held asked job.wanted → IsJobOf asked job
-    → OnOk result (job.list ≡ false → IsTracedJob held job kind left before after)
-    → OnOk result (text asked.options (codes "output") ≡ None → has asked.options (codes "list") ≡ false
-    → (w : Wanted) × AreFound told held asked w × IsTracedAsked held w asked kind left before after)
+    → IfOk result (λ status. job.list ≡ false → IsTracedTo status held job kind left before after)
+    → IfOk result (λ status. text asked.options (codes "output") ≡ None
+    → has asked.options (codes "list") ≡ false → (w : Wanted) × AreFound told held asked w
+    × IsTracedAsked status held w asked kind left before after)
 asked_traced told held asked job kind left before after (Ok a) found of traced = λ none off. (
   job.wanted,
   found,
@@ -68,45 +71,70 @@ pub answered : {A E : Type 0} (told : Told) (held : Held) (help version : List �
 answered told held help version words asked kind left before after (Ok a) is done = (asked, is, done)
 answered told held help version words asked kind left before after (Err e) is done = tt
 
-some_logs : (held : Held) (job : Job) (paths : List (Bor (List ℕ))) (kind : InputKind)
+some_logs : (held : Held) (job : Job) (worst : ℕ) (paths : List (Bor (List ℕ))) (kind : InputKind)
     (left before after : Option (List ℕ)) → (length paths == 0) ≡ false
-    → AreTraced held job (map (λ (p : Bor (List ℕ)). p.now) paths) before after
-    → IsTracedRun held job (map (λ (p : Bor (List ℕ)). p.now) paths) kind left before after
-some_logs held job [] kind left before after some all = absurd cc
-some_logs held job (path ∷ paths) kind left before after some all = all
+    → AreTraced held job worst (map (λ (p : Bor (List ℕ)). p.now) paths) before after
+    → IsTracedRun held job worst (map (λ (p : Bor (List ℕ)). p.now) paths) kind left before after
+some_logs held job worst [] kind left before after some all = absurd cc
+some_logs held job worst (path ∷ paths) kind left before after some all = all
 
-pub logs_traced : (held : Held) (job : Job) (paths : List (Bor (List ℕ))) (kind : InputKind)
+pub logs_traced : (held : Held) (job : Job) (worst : ℕ) (paths : List (Bor (List ℕ))) (kind : InputKind)
     (left before after : Option (List ℕ)) → paths ≡ job.wanted.logs.items → (length paths == 0) ≡ false
-    → AreTraced held job (map (λ (p : Bor (List ℕ)). p.now) paths) before after
-    → IsTracedJob held job kind left before after
-logs_traced held job paths kind left before after is some all =
+    → AreTraced held job worst (map (λ (p : Bor (List ℕ)). p.now) paths) before after
+    → IsTracedJob held job worst kind left before after
+logs_traced held job worst paths kind left before after is some all =
     subst (λ (ps : List (Bor (List ℕ))).
-    IsTracedRun held job (map (λ (p : Bor (List ℕ)). p.now) ps) kind left before after)
-    is (some_logs held job paths kind left before after some all)
+    IsTracedRun held job worst (map (λ (p : Bor (List ℕ)). p.now) ps) kind left before after)
+    is (some_logs held job worst paths kind left before after some all)
 
 -- there is none
 pub no_items : (job : Job) (paths : List (Bor (List ℕ))) → paths ≡ job.wanted.logs.items
     → (length paths == 0) ≡ true → job.wanted.logs.items ≡ []
 no_items job paths is none = sym is ∙ nil_from_length paths (grind (arith, nat_tests, none))
 
-no_logs : (held : Held) (job : Job) (paths : List (Bor (List ℕ))) (kind : InputKind)
+no_logs : (held : Held) (job : Job) (worst : ℕ) (paths : List (Bor (List ℕ))) (kind : InputKind)
     (left before after : Option (List ℕ)) → paths ≡ []
-    → IsTracedInput held job kind left before after
-    → IsTracedRun held job (map (λ (p : Bor (List ℕ)). p.now) paths) kind left before after
-no_logs held job paths kind left before after is traced =
+    → IsTracedLines held job worst kind left before after
+    → IsTracedRun held job worst (map (λ (p : Bor (List ℕ)). p.now) paths) kind left before after
+no_logs held job worst paths kind left before after is traced =
     subst (λ (ps : List (Bor (List ℕ))).
-    IsTracedRun held job (map (λ (p : Bor (List ℕ)). p.now) ps) kind left before after) (sym is) traced
+    IsTracedRun held job worst (map (λ (p : Bor (List ℕ)). p.now) ps) kind left before after) (sym is) traced
 
-pub standard_traced : (held : Held) (job : Job) (kind : InputKind) (left before after : Option (List ℕ))
-    → job.wanted.logs.items ≡ [] → IsTracedInput held job kind left before after
-    → IsTracedJob held job kind left before after
-standard_traced held job kind left before after is traced =
-    no_logs held job job.wanted.logs.items kind left before after is traced
+pub lines_traced : (held : Held) (job : Job) (worst : ℕ) (kind : InputKind)
+    (left before after : Option (List ℕ))
+    → job.wanted.logs.items ≡ [] → IsTracedLines held job worst kind left before after
+    → IsTracedJob held job worst kind left before after
+lines_traced held job worst kind left before after is traced =
+    no_logs held job worst job.wanted.logs.items kind left before after is traced
+
+-- standard input, where there are no positions
+pub no_words : (held : Held) (job : Job) (worst : ℕ) (kind : InputKind) (left before after : Option (List ℕ))
+    → has_positions job.wanted ≡ false → IsTracedInput held job worst kind left before after
+    → IsTracedLines held job worst kind left before after
+no_words held job worst kind left before after none traced =
+    subst (λ (ws : List (Bor (List ℕ))). AreTracedWords held job worst ws kind left before after)
+    (sym (nil_from_length job.wanted.positions.words.items (grind (arith, nat_tests, none)))) traced
+
+by_words : (held : Held) (job : Job) (worst : ℕ) (words : List (Bor (List ℕ))) (kind : InputKind)
+    (left before after : Option (List ℕ)) → not (length words == 0) ≡ true
+    → IsTracedTextIn held job worst (λ name. ⊤) (Some (log_in job.wanted.positions)) before after
+    → AreTracedWords held job worst words kind left before after
+by_words held job worst [] kind left before after some traced = absurd cc
+by_words held job worst (word ∷ words) kind left before after some traced = traced
+
+-- and positions, where there are some
+pub some_words : (held : Held) (job : Job) (worst : ℕ) (kind : InputKind)
+    (left before after : Option (List ℕ))
+    → has_positions job.wanted ≡ true
+    → IsTracedTextIn held job worst (λ name. ⊤) (Some (log_in job.wanted.positions)) before after
+    → IsTracedLines held job worst kind left before after
+some_words held job worst kind left before after some traced =
+    by_words held job worst job.wanted.positions.words.items kind left before after some traced
 
 -- a list is no translation
-pub not_listed : {A E : Type 0} (job : Job) (P : Type 0) (result : Result A E) → job.list ≡ true
-    → OnOk result (job.list ≡ false → P)
-not_listed job P (Ok a) is = λ off. absurd cc
+pub not_listed : {E : Type 0} (job : Job) (P : ℕ → Type 0) (result : Result ℕ E) → job.list ≡ true
+    → IfOk result (λ status. job.list ≡ false → P status)
+not_listed job P (Ok status) is = λ off. absurd cc
 not_listed job P (Err e) is = tt
 
 pub on_ok : {A E : Type 0} (P : Type 0) (result : Result A E) → P → OnOk result P
@@ -130,3 +158,9 @@ finished (Err stop) P status is done none = absurd (never_zero (status_of stop) 
 pub stopped : (stop : Stop) (P : Type 0) (status : ℕ)
     → status ≡ (if status_of stop == 0 then 1 else status_of stop) → status ≡ 0 → P
 stopped stop P status is none = absurd (never_zero (status_of stop) (sym is ∙ none))
+
+-- what holds of a status holds of it where that is asked for
+pub if_asked : {E : Type 0} (Asked : Type 0) (P : ℕ → Type 0) (result : Result ℕ E) → IfOk result P
+    → IfOk result (λ status. Asked → P status)
+if_asked Asked P (Ok status) is = λ asked. is
+if_asked Asked P (Err e) is = tt

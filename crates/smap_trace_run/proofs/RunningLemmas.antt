@@ -1,5 +1,5 @@
 -- A run goes on: it finds maps of its own job.
-use Rattle.std.proofs.Common.{◌≡◌, ◌∙◌, subst, sym, ℕ, List, Option, Result, Ok, Err, OnOk}
+use Rattle.std.proofs.Common.{◌≡◌, ◌∙◌, arith, subst, sym, ℕ, List, Option, Result, Ok, Err, OnOk}
 use Rattle.std.specs.List.{Contains}
 use Rattle.smap_system.specs.Held.{Held}
 use Rattle.smap_map_finder.specs.ChosenView.{AreChosen, Choices, KeepEnds}
@@ -14,6 +14,7 @@ one_search f g h one two = record {
   disk = two.disk ∙ one.disk;
   how = two.how ∙ one.how;
   wanted = two.wanted ∙ one.wanted;
+  worst = omega (arith, one.worst, two.worst);
 }
 
 -- what was kept by the later of two searches for the same
@@ -23,7 +24,11 @@ pub kept_search : {D : Type 0} (of : D → Held) (f g : Finding D) (names : List
 kept_search of f g names old new same keep = rw (same.disk, same.wanted) at keep
 
 pub one_run : {D : Type 0} (f g h : Running D) → IsSameRun f g → IsSameRun g h → IsSameRun f h
-one_run f g h one two = record { disk = two.disk ∙ one.disk; job = two.job ∙ one.job }
+one_run f g h one two = record {
+  disk = two.disk ∙ one.disk;
+  job = two.job ∙ one.job;
+  worst = omega (arith, one.worst, two.worst);
+}
 
 -- a run that is as it was, and then goes on with its job
 pub started : {D : Type 0} (f g h : Running D) → g ≡ f → IsSameRun g h → IsSameRun f h
@@ -42,11 +47,11 @@ pub later : {D : Type 0} (P : D → Job → Type 0) (old new : Running D) → Is
     → P old.disk old.job → P new.disk new.job
 later P old new same p = rw (same.disk, same.job) p
 
-pub log_at_start : {D : Type 0} (of : D → Held) (old new : Running D) (path : List ℕ)
+pub log_at_start : {D : Type 0} (of : D → Held) (old new : Running D) (worst : ℕ) (path : List ℕ)
     (before after : Option (List ℕ)) → IsSameRun old new
-    → IsTracedLog (of new.disk) new.job path before after → IsTracedLog (of old.disk) old.job path before
-    after
-log_at_start of old new path before after same traced = rw (same.disk, same.job) at traced
+    → IsTracedLog (of new.disk) new.job worst path before after
+    → IsTracedLog (of old.disk) old.job worst path before after
+log_at_start of old new worst path before after same traced = rw (same.disk, same.job) at traced
 
 pub log_later : {D : Type 0} (of : D → Held) (old new : Running D) (path : List ℕ) → IsSameRun old new
     → IsLog (of old.disk) old.job path → IsLog (of new.disk) new.job path
@@ -87,15 +92,15 @@ runs_on of disk job f g names is same chosen keep among = record {
 -- what is settled by its finder is so by its job
 pub settled_by : {D : Type 0} (of : D → Held) (disk : D) (job : Job) (f : Finding D) (after : Choices)
     (names : List (List ℕ)) → IsRunning of disk job f
-    → AreSettled (of f.disk) f.wanted f.how after (Contains names)
-    → AreSettled (of disk) job.wanted job.how after (Contains names)
-settled_by of disk job f after names is settled = rw (is.disk_is, is.wanted_is, is.how_is) at settled
+    → AreSettled (of f.disk) f.wanted after (Contains names)
+    → AreSettled (of disk) job.wanted after (Contains names)
+settled_by of disk job f after names is settled = rw (is.disk_is, is.wanted_is) at settled
 
 -- and by a later one
 pub settled_on : {D A E : Type 0} (of : D → Held) (disk : D) (job : Job) (f g : Finding D) (after : Choices)
     (names : List (List ℕ)) (result : Result A E) → IsRunning of disk job f → IsSameSearch f g
-    → OnOk result (AreSettled (of g.disk) g.wanted g.how after (Contains names))
-    → OnOk result (AreSettled (of disk) job.wanted job.how after (Contains names))
+    → OnOk result (AreSettled (of g.disk) g.wanted after (Contains names))
+    → OnOk result (AreSettled (of disk) job.wanted after (Contains names))
 settled_on of disk job f g after names (Ok a) is same settled =
-    rw (same.disk ∙ is.disk_is, same.wanted ∙ is.wanted_is, same.how ∙ is.how_is) at settled
+    rw (same.disk ∙ is.disk_is, same.wanted ∙ is.wanted_is) at settled
 settled_on of disk job f g after names (Err e) is same settled = tt

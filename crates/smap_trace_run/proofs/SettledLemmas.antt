@@ -6,8 +6,7 @@ use Rattle.std.specs.List.{All, Contains}
 use Rattle.std.proofs.lemmas.List.Elements.{All-contains, All-map, All-nil}
 use Rattle.smap_system.specs.Held.{GivesHeld, Held}
 use Rattle.smap_map_files.specs.declared.wanted.Wanted.{Wanted}
-use Rattle.smap_map_files.specs.declared.opening.How.{How}
-use Rattle.smap_map_finder.specs.ChosenView.{AreChosen, Choices, Grows, HasNamedMap, IsFor, IsJudged}
+use Rattle.smap_map_finder.specs.ChosenView.{AreChosen, Choices, Grows, HasNamedMap, IsFor}
 use Rattle.smap_map_finder.specs.ChosenView.{IsLeftName}
 use Rattle.smap_map_finder.specs.ChosenView.{IsSettledIn, no_choices}
 use Rattle.smap_map_finder.proofs.GrowthLemmas.{settled_grown}
@@ -17,7 +16,7 @@ use Rattle.smap_trace_run.specs.Written.{AreSettled, AreSettledLogs, IsBegun, Is
 use Rattle.smap_trace_run.specs.Written.{IsTracedTextIn}
 use Rattle.smap_logs.specs.declared.naming.Names.{Names}
 use Rattle.smap_trace_run.specs.declared.tracing.Job.{Job}
-use Rattle.smap_trace_run.proofs.PartsLemmas.{one_log, text_sought}
+use Rattle.smap_trace_run.proofs.PartsLemmas.{one_log, text_weaker}
 use Rattle.smap_logs.specs.Logs.{IsAll}
 
 -- before any name
@@ -30,34 +29,33 @@ none_chosen held wanted choices is = subst (AreChosen held wanted) (sym is) (rec
 })
 
 -- names were settled, and then others
-pub names_settled : {A E : Type 0} (held : Held) (w : Wanted) (how : How) (before after : Choices)
-    (frames : List (Bor (List ℕ)))
-    (names : List (List ℕ)) (result : Result A E) → map (λ (n : Bor (List ℕ)). n.now) frames ≡ names
+pub names_settled : {A E : Type 0} (held : Held) (w : Wanted) (before after : Choices)
+    (frames : List (Bor (List ℕ))) (names : List (List ℕ)) (result : Result A E)
+    → map (λ (n : Bor (List ℕ)). n.now) frames ≡ names
     → All (λ (n : Bor (List ℕ)). IsSettledIn held w true before n.now) frames → Grows before after
-    → OnOk result (IsJudged how.skip after) → OnOk result (AreSettled held w how after (Contains names))
-names_settled held w how before after frames names (Ok a) is all grows judged = record {
+    → OnOk result (AreSettled held w after (Contains names))
+names_settled held w before after frames names (Ok a) is all grows = record {
   each = λ name there. settled_grown held w true before after name grows
       (All-contains (IsSettledIn held w true before) names name
       (subst (All (IsSettledIn held w true before)) is
       (All-map (IsSettledIn held w true before) (λ (n : Bor (List ℕ)). n.now) frames all)) there);
-  judged = judged;
 }
-names_settled held w how before after frames names (Err e) is all grows judged = tt
+names_settled held w before after frames names (Err e) is all grows = tt
 
-pub lines_settled : {A E : Type 0} (held : Held) (w : Wanted) (how : How) (choices : Choices)
+pub lines_settled : {A E : Type 0} (held : Held) (w : Wanted) (choices : Choices)
     (names urls : List (List ℕ)) (result : Result A E) → AreIn urls names
-    → OnOk result (AreSettled held w how choices (Contains names))
-    → OnOk result (AreSettled held w how choices (Contains urls))
-lines_settled held w how choices names urls (Ok a) are settled =
-    record { each = λ name there. settled.each name (are name there); judged = settled.judged }
-lines_settled held w how choices names urls (Err e) are settled = tt
+    → OnOk result (AreSettled held w choices (Contains names))
+    → OnOk result (AreSettled held w choices (Contains urls))
+lines_settled held w choices names urls (Ok a) are settled =
+    record { each = λ name there. settled.each name (are name there) }
+lines_settled held w choices names urls (Err e) are settled = tt
 
 -- What was named of logs is settled.
 pub settled_logs : (held : Held) (job : Job) (choices : Choices) (paths : List (Bor (List ℕ))) (names : Names)
-    → HaveNames held paths names → AreSettled held job.wanted job.how choices (Contains (frames_of names))
-    → AreSettledLogs held job.wanted job.how choices paths
+    → HaveNames held paths names → AreSettled held job.wanted choices (Contains (frames_of names))
+    → AreSettledLogs held job.wanted choices paths
 settled_logs None job choices paths names have settled k d lt =
-    record { each = λ name known. absurd known; judged = settled.judged }
+    record { each = λ name known. absurd known }
 settled_logs (Some held) job choices paths names have settled k d lt =
     let has = have k d lt in
     record {
@@ -66,22 +64,24 @@ settled_logs (Some held) job choices paths names have settled k d lt =
           subst (λ (l : Option (List ℕ)). IsAll l has.text) (sym has.gives.0 ∙ known.1) has.all in
           settled.each name
           (has.frames name (subst (λ (t : List ℕ). Contains (urls_of t) name) same known.2));
-      judged = settled.judged;
     }
 
 pub first_settled : (held : Held) (job : Job) (choices : Choices) (paths : List (Bor (List ℕ)))
     (path : Bor (List ℕ))
-    → paths ≡ path ∷ [] → AreSettledLogs held job.wanted job.how choices paths
-    → AreSettled held job.wanted job.how choices (IsNameOf held path.now)
+    → paths ≡ path ∷ [] → AreSettledLogs held job.wanted choices paths
+    → AreSettled held job.wanted choices (IsNameOf held path.now)
 first_settled held job choices paths path is all =
-    subst (λ (ps : List (Bor (List ℕ))). AreSettledLogs held job.wanted job.how choices ps) is all 0 path
+    subst (λ (ps : List (Bor (List ℕ))). AreSettledLogs held job.wanted choices ps) is all 0 path
     (omega arith)
 
 -- a log that is read once
-pub followed_log : (held : Held) (job : Job) (path : List ℕ) (left before begun after : Option (List ℕ))
+pub followed_log : (held : Held) (job : Job) (worst : ℕ) (path : List ℕ)
+    (left before begun after : Option (List ℕ))
     → IsBegun before begun → GivesHeld held path left
-    → IsTracedTextIn held job (λ name. ⊤) left begun after → IsTracedLog held job path before after
-followed_log held job path left before begun after is gives traced =
-    one_log held job path left before begun after is gives
-    (λ plain. text_sought held job (λ name. ⊤) (IsNameOf held path) left begun after (λ name known. tt)
+    → IsTracedTextIn held job worst (λ name. ⊤) left begun after
+    → IsTracedLog held job worst path before after
+followed_log held job worst path left before begun after is gives traced =
+    one_log held job worst path left before begun after is gives
+    (λ plain. text_weaker held job worst worst (λ name. ⊤) (IsNameOf held path) left begun after
+    (omega arith) (λ name known. tt)
     (traced plain))

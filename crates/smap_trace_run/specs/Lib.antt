@@ -1,3 +1,5 @@
+pub mod Builds
+pub mod Ending
 pub mod OutputView
 pub mod Running
 pub mod Runs

@@ -1,5 +1,5 @@
 -- What contracts say of a run.
-use Rattle.std.specs.Prelude.{◌≡◌}
+use Rattle.std.specs.Prelude.{◌≡◌, ◌≤◌}
 use Rattle.smap_system.specs.Held.{Held}
 use Rattle.smap_map_finder.specs.ChosenView.{Choices}
 use Rattle.smap_map_finder.specs.Finding.{Finding}
@@ -20,7 +20,8 @@ pub record IsRunning {D : Type 0} (of : D → Held) (disk : D) (job : Job) (f : 
   pub wanted_is : f.wanted ≡ job.wanted
   pub named : AreNamed (of disk) job f.chosen
 
--- A run goes on with its job.
+-- A run goes on with its job, and what was refused stays so.
 pub record IsSameRun {D : Type 0} (old new : Running D) : Type 0 where
   pub disk : new.disk ≡ old.disk
   pub job : new.job ≡ old.job
+  pub worst : old.chosen.worst ≤ new.chosen.worst

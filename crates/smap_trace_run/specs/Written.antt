@@ -1,5 +1,6 @@
 -- What is written of a log.
-use Rattle.std.specs.Prelude.{◌≡◌, ◌⊎◌, ℕ, ◌<◌, ◌==◌, ◌&&◌, Bool, not, true, List, [], ◌∷◌, flat_map, get_or}
+use Rattle.std.specs.Prelude.{◌≡◌, ◌⊎◌, ℕ, ◌<◌, ◌≤◌, ◌==◌, ◌&&◌, Bool, not, true, List, [], ◌∷◌, flat_map}
+use Rattle.std.specs.Prelude.{get_or}
 use Rattle.std.specs.Prelude.{length, map, slice_index, take, ⊤}
 use Rattle.std.specs.Prelude.{Option, Some, None, option_map}
 use Rattle.std.specs.List.{All, Contains, concat}
@@ -8,10 +9,9 @@ use Rattle.std.specs.Option.{is_some, unwrap_or}
 use Rattle.std.specs.Io.{IsEmptyOrEndsWith}
 use Rattle.std.specs.Io.KnownBytes.{Appends}
 use Rattle.smap_system.specs.Held.{GivesHeld, HasSize, Held, IsHeld}
-use Rattle.smap_map_finder.specs.ChosenView.{AreChosen, AreEndsOf, Choices, HasNamedMap, IsJudged, IsLeft}
+use Rattle.smap_map_finder.specs.ChosenView.{AreChosen, AreEndsOf, Choices, HasNamedMap, IsLeft}
 use Rattle.smap_map_finder.specs.ChosenView.{IsSettledIn}
 use Rattle.smap_map_files.specs.declared.wanted.Wanted.{Wanted}
-use Rattle.smap_map_files.specs.declared.opening.How.{How}
 use Rattle.smap_trace.specs.Naming.{urls_of}
 use Rattle.smap_trace.specs.Translation.{Fate, Script, fate_by, translation_by}
 pub use Rattle.smap_logs.specs.Logs.{IsAll}
@@ -94,30 +94,33 @@ AreGiven held wanted choices scripts Sought text =
 
 -- The translation of all that a reader had was written, by scripts whose maps the arguments name. These are
 -- all names of its frames that were looked for, but those that are left without a map. Files that end as
--- names do were opened for names of the logs alone; and no map was refused, unless broken maps are skipped.
-pub record IsTraced (held : Held) (job : Job) (Sought : List ℕ → Type 0) (left before after : Option (List ℕ))
-    : Type 0 where
+-- names do were opened for names of the logs alone; and no map was refused with a status above the worst.
+pub record IsTraced (held : Held) (job : Job) (worst : ℕ) (Sought : List ℕ → Type 0)
+    (left before after : Option (List ℕ)) : Type 0 where
   pub scripts : List Script
   pub have_maps : All (HasNamedMap held job.wanted) scripts
   pub translated : IsTranslated (fate_by job.style.mode scripts job.style.hide) left before after
   pub choices : Choices
   pub given : AreGiven held job.wanted choices scripts Sought translated.text
   pub ends : AreEndsAmong held job.wanted (asked_by held job) choices
-  pub judged : IsJudged job.how.skip choices
+  pub within : choices.worst ≤ worst
 
 -- The same in a plain style; of another nothing is said.
-abbrev pub IsTracedIn : Held → Job → (List ℕ → Type 0) → Option (List ℕ) → Option (List ℕ) → Option (List ℕ)
+abbrev pub IsTracedIn : Held → Job → ℕ → (List ℕ → Type 0) → Option (List ℕ) → Option (List ℕ)
+    → Option (List ℕ)
     → Type 0
-IsTracedIn held job Sought left before after =
+IsTracedIn held job worst Sought left before after =
     is_plain_style job.style.prefixes.now job.style.context ≡ true
-    → IsTraced held job Sought left before after
+    → IsTraced held job worst Sought left before after
 
 -- Parts of a log were translated and written, one behind another.
-abbrev pub AreTracedParts : Held → Job → (List ℕ → Type 0) → List (List ℕ) → Option (List ℕ) → Option (List ℕ)
+abbrev pub AreTracedParts : Held → Job → ℕ → (List ℕ → Type 0) → List (List ℕ) → Option (List ℕ)
+    → Option (List ℕ)
     → Type 0
-AreTracedParts held job Sought [] before after = after ≡ before
-AreTracedParts held job Sought (part ∷ parts) before after = (middle : Option (List ℕ))
-    × IsTraced held job Sought (Some part) before middle × AreTracedParts held job Sought parts middle after
+AreTracedParts held job worst Sought [] before after = after ≡ before
+AreTracedParts held job worst Sought (part ∷ parts) before after = (middle : Option (List ℕ))
+    × IsTraced held job worst Sought (Some part) before middle
+    × AreTracedParts held job worst Sought parts middle after
 
 -- Each of these parts but the last is whole lines.
 abbrev pub AreWhole : List (List ℕ) → Type 0
@@ -126,63 +129,61 @@ AreWhole (part ∷ []) = ⊤
 AreWhole (part ∷ next ∷ parts) = IsEmptyOrEndsWith part 10 × AreWhole (next ∷ parts)
 
 -- All that a reader had was translated and written, in parts.
-pub record IsTracedText (held : Held) (job : Job) (Sought : List ℕ → Type 0)
+pub record IsTracedText (held : Held) (job : Job) (worst : ℕ) (Sought : List ℕ → Type 0)
     (left before after : Option (List ℕ)) : Type 0 where
   pub parts : List (List ℕ)
   pub whole : AreWhole parts
   pub all : IsAll left (concat parts)
-  pub traced : AreTracedParts held job Sought parts before after
+  pub traced : AreTracedParts held job worst Sought parts before after
 
 -- The same in a plain style; of another nothing is said.
-abbrev pub IsTracedTextIn : Held → Job → (List ℕ → Type 0) → Option (List ℕ) → Option (List ℕ)
+abbrev pub IsTracedTextIn : Held → Job → ℕ → (List ℕ → Type 0) → Option (List ℕ) → Option (List ℕ)
     → Option (List ℕ)
     → Type 0
-IsTracedTextIn held job Sought left before after =
+IsTracedTextIn held job worst Sought left before after =
     is_plain_style job.style.prefixes.now job.style.context ≡ true
-    → IsTracedText held job Sought left before after
+    → IsTracedText held job worst Sought left before after
 
 -- What the file with this name holds, where that is said, has a frame with this name.
 abbrev pub IsNameOf : Held → List ℕ → List ℕ → Type 0
 IsNameOf None path name = ⊥
 IsNameOf (Some held) path name = (bytes : List ℕ) × (held path ≡ Some bytes) × Contains (urls_of bytes) name
 
--- Each of these names has its map, or is left without one; and no map was refused, unless broken maps are
--- skipped.
-pub record AreSettled (held : Held) (wanted : Wanted) (how : How) (choices : Choices)
-    (IsName : List ℕ → Type 0) : Type 0 where
+-- Each of these names has its map, or is left without one.
+pub record AreSettled (held : Held) (wanted : Wanted) (choices : Choices) (IsName : List ℕ → Type 0)
+    : Type 0 where
   pub each : (name : List ℕ) → IsName name → IsSettledIn held wanted true choices name
-  pub judged : IsJudged how.skip choices
 
 -- The same of the names of frames of what the files with these names hold.
-abbrev pub AreSettledLogs : Held → Wanted → How → Choices → List (Bor (List ℕ)) → Type 0
-AreSettledLogs held wanted how choices paths = (k : ℕ) (d : Bor (List ℕ)) → k < length paths
-    → AreSettled held wanted how choices (IsNameOf held (get_or paths k d).now)
+abbrev pub AreSettledLogs : Held → Wanted → Choices → List (Bor (List ℕ)) → Type 0
+AreSettledLogs held wanted choices paths = (k : ℕ) (d : Bor (List ℕ)) → k < length paths
+    → AreSettled held wanted choices (IsNameOf held (get_or paths k d).now)
 
 -- So much of what a reader had was translated and written as the file with this name is long.
-abbrev pub IsTracedFront : Held → Job → List ℕ → Option (List ℕ) → Option (List ℕ) → Option (List ℕ)
+abbrev pub IsTracedFront : Held → Job → ℕ → List ℕ → Option (List ℕ) → Option (List ℕ) → Option (List ℕ)
     → Type 0
-IsTracedFront held job path left before after =
+IsTracedFront held job worst path left before after =
     (size : ℕ) × HasSize held path size
-    × IsTracedTextIn held job (IsNameOf held path) (option_map (take size) left) before after
+    × IsTracedTextIn held job worst (IsNameOf held path) (option_map (take size) left) before after
 
 -- Before a log there may be a line feed.
 abbrev pub IsBegun : Option (List ℕ) → Option (List ℕ) → Type 0
 IsBegun before after = Appends before after [] ⊎ Appends before after (10 ∷ [])
 
 -- All that the file with this name holds was translated and written, perhaps behind a line feed.
-pub record IsTracedLog (held : Held) (job : Job) (path : List ℕ) (before after : Option (List ℕ))
+pub record IsTracedLog (held : Held) (job : Job) (worst : ℕ) (path : List ℕ) (before after : Option (List ℕ))
     : Type 0 where
   pub begun : Option (List ℕ)
   pub left : Option (List ℕ)
   pub is_begun : IsBegun before begun
   pub gives : GivesHeld held path left
-  pub traced : IsTracedTextIn held job (IsNameOf held path) left begun after
+  pub traced : IsTracedTextIn held job worst (IsNameOf held path) left begun after
 
 -- The logs with these names were translated and written so, one after another.
-abbrev pub AreTraced : Held → Job → List (List ℕ) → Option (List ℕ) → Option (List ℕ) → Type 0
-AreTraced held job [] before after = after ≡ before
-AreTraced held job (path ∷ paths) before after = (middle : Option (List ℕ))
-    × IsTracedLog held job path before middle × AreTraced held job paths middle after
+abbrev pub AreTraced : Held → Job → ℕ → List (List ℕ) → Option (List ℕ) → Option (List ℕ) → Type 0
+AreTraced held job worst [] before after = after ≡ before
+AreTraced held job worst (path ∷ paths) before after = (middle : Option (List ℕ))
+    × IsTracedLog held job worst path before middle × AreTraced held job worst paths middle after
 
 -- So long are the files with these names.
 abbrev pub HaveSizes : Held → List (Bor (List ℕ)) → List ℕ → Type 0

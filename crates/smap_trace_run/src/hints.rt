@@ -1,6 +1,8 @@
 //! What helps where nothing was translated, or a log can't be read as it is.
+use crate::frames::Frames;
 use crate::tracing::Job;
-use smap_logs::Names;
+use memchr::memmem;
+use smap_logs::look;
 use smap_map_files::Wanted;
 use smap_map_finder::Finder;
 use smap_system::{Disk, Host, Stop, printable};
@@ -58,37 +60,47 @@ fn why_no_map<E: Eprint + AllocGlobal, D: Disk>(
     Ok(text)
 }
 
-/// Says why nothing was translated.
+/// What helps where no script of a frame can have a map.
+fn hint_without_names(job: &Job<'_>, frames: &Frames, escaped: bool) -> &'static str {
+    if escaped {
+        "the log has URLs written with \\/ (JSON): smap-events reads it"
+    } else if job.anywhere {
+        "nothing was translated: no position in the log is one of a script that has a map"
+    } else if frames.foreign > 0 {
+        "no frame in the log is of a script that can have a map; --anywhere finds positions in other lines"
+    } else {
+        "no line of the log is a stack frame alone; --anywhere finds positions in other lines"
+    }
+}
+
+/// Says why nothing was translated, where no frame is of a script with a map.
 pub(crate) fn hint_at_nothing<E: Eprint + AllocGlobal, D: Disk>(
     host: &Host<'_, E, D>,
     job: &Job<'_>,
-    names: &Names,
+    frames: &Frames,
+    escaped: bool,
     finder: &Finder<'_, E, D>,
 ) -> Result<(), Stop> {
     let alloc = host.alloc();
     if finder.is_unclear() {
         return Ok(());
     }
-    let Some(name) = names.most_frequent() else {
-        host.say(if job.anywhere {
-            "nothing was translated: no position in the log is one of a script that has a map"
-        } else {
-            "no line of the log is a stack frame alone; --anywhere finds positions in other lines"
-        });
+    let Some(name) = frames.most_without() else {
+        host.say(hint_without_names(job, frames, escaped));
         return Ok(());
     };
-    let is_mapped = finder.map_of(name).is_some();
     let why = why_no_map(host, &job.wanted, name)?;
     let why = why.as_str();
     let name = printable(alloc, name)?;
     let name = name.as_str();
-    let text = if is_mapped {
-        format!(in alloc;
-            "no position in {name}, the script that most frames name, has a mapping in its map"
-        )?
-    } else {
-        format!(in alloc; "no map for {name}, the script that most frames name; {why}")?
-    };
+    let text = format!(in alloc; "no map for {name}, the script that most frames name; {why}")?;
     host.say(text.as_str());
     Ok(())
+}
+
+/// Whether a line has a position whose URL is written as in JSON with `\/` for each slash.
+pub(crate) fn has_escaped_url(lines: &[u8]) -> bool {
+    memmem::find(lines, b":\\/\\/").is_some()
+        && lines.split(|b| *b == b'\n').any(|line| memmem::find(line, b":\\/\\/").is_some()
+            && look(line).is_some())
 }

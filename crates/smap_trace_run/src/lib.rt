@@ -3,11 +3,16 @@
 //! by `smap_trace`; logs are read block by block by `smap_logs`, and their lines are written here.
 #![tactic(auto)]
 
+mod builds;
 mod decorating;
+mod ending;
+mod frames;
+mod given;
 mod hints;
 mod listing;
 mod output;
 mod program;
+mod summary;
 mod tracing;
 mod translating;
 

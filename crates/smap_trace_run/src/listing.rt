@@ -1,22 +1,23 @@
 //! `--list`: the scripts that a log names.
 use crate::hints::hint_at_start;
-use crate::tracing::Job;
+use crate::output::Output;
+use crate::tracing::{Job, finder_of, open_log, open_names, stop_if_strict};
 use smap_logs::{Log, Looked, Names};
 use smap_map_files::Wanted;
 use smap_map_finder::Finder;
 use smap_system::{Disk, Host, Stop, printable};
 use std::alloc::{AllocError, Global};
-use std::io::Read;
+use std::io::{Read, Write};
 
 /// What a list is made of.
 #[derive(Drop)]
-pub(crate) struct Listed {
-    pub(crate) names: Names,
+struct Listed {
+    names: Names,
     looked: Looked,
 }
 
 impl Listed {
-    pub(crate) fn new(alloc: Global) -> Listed {
+    fn new(alloc: Global) -> Listed {
         Listed {
             names: Names::new(alloc),
             looked: Looked::new(),
@@ -31,7 +32,7 @@ impl Listed {
 }
 
 /// Adds what a log has.
-pub(crate) fn list_log<E: Eprint + AllocGlobal, D: Disk, R: Read>(
+fn list_log<E: Eprint + AllocGlobal, D: Disk, R: Read>(
     host: &Host<'_, E, D>,
     reader: R,
     verbose: bool,
@@ -69,7 +70,7 @@ fn rows(alloc: Global, names: &Names) -> Result<Vec<(u64, &[u8])>, AllocError> {
 }
 
 /// The list.
-pub(crate) fn list_text<E: Eprint + AllocGlobal, D: Disk>(
+fn list_text<E: Eprint + AllocGlobal, D: Disk>(
     alloc: Global,
     names: &Names,
     finder: &Finder<'_, E, D>,
@@ -98,7 +99,7 @@ fn frame_count(names: &Names) -> u64 {
 }
 
 /// Says why the list isn't what one would expect, if that is plain.
-pub(crate) fn hint_at_list<E: Eprint + AllocGlobal, D: Disk>(
+fn hint_at_list<E: Eprint + AllocGlobal, D: Disk>(
     host: &Host<'_, E, D>,
     job: &Job<'_>,
     listed: &Listed,
@@ -156,4 +157,72 @@ fn hint_at_maps<E: Eprint + AllocGlobal, D: Disk>(
     };
     host.say(text.as_str());
     Ok(())
+}
+
+/// Reads the logs for a list.
+fn list_logs<E: Eprint + AllocGlobal, D: Disk, I: Read>(
+    host: &Host<'_, E, D>,
+    job: &Job<'_>,
+    input: I,
+    listed: &mut Listed,
+) -> Result<(), Stop>
+where
+    I: Drop,
+{
+    if job.wanted.logs.is_empty() {
+        return list_log(host, input, job.how.verbose, listed);
+    }
+    for path in &job.wanted.logs {
+        let log = open_log(host, path)?;
+        list_log(host, log, job.how.verbose, listed)?;
+    }
+    Ok(())
+}
+
+/// Writes the list of the names that were found, once their maps are opened. Answers the status of that.
+fn write_list<E: Eprint + AllocGlobal, D: Disk, W: Write + Drop>(
+    host: &Host<'_, E, D>,
+    job: &Job<'_>,
+    listed: &Listed,
+    finder: &mut Finder<'_, E, D>,
+    output: &mut Output<W>,
+) -> Result<u8, Stop> {
+    let alloc = host.alloc();
+    open_names(alloc, &job.with_controls, &listed.names, finder)?;
+    stop_if_strict(job, finder)?;
+    finder.tell_count()?;
+    let text = list_text(alloc, &listed.names, finder)?;
+    output.write(host, text.as_bytes())?;
+    hint_at_list(host, job, listed, finder)?;
+    Ok(finder.status())
+}
+
+/// Lists the scripts that the logs name, by what finds their maps.
+fn list_with<E: Eprint + AllocGlobal, D: Disk, I: Read, W: Write + Drop>(
+    host: &Host<'_, E, D>,
+    job: &Job<'_>,
+    input: I,
+    finder: &mut Finder<'_, E, D>,
+    output: &mut Output<W>,
+) -> Result<u8, Stop>
+where
+    I: Drop,
+{
+    let mut listed = Listed::new(host.alloc());
+    list_logs(host, job, input, &mut listed)?;
+    write_list(host, job, &listed, finder, output)
+}
+
+/// Lists the scripts that the logs name.
+pub(crate) fn list<'h, E: Eprint + AllocGlobal, D: Disk, I: Read, W: Write + Drop>(
+    host: &'h Host<'h, E, D>,
+    job: &Job<'_>,
+    input: I,
+    output: &mut Output<W>,
+) -> Result<u8, Stop>
+where
+    I: Drop,
+{
+    let mut finder = finder_of(&*host, &*job)?;
+    list_with(&*host, &*job, input, &mut finder, output)
 }

@@ -1,27 +1,29 @@
 //! A run of `smap-trace`.
-ghost use Rattle.std.specs.Prelude.{◌≡◌, [], false, true, IfOk, None, OnOk, codes, map};
+ghost use Rattle.std.specs.Prelude.{◌≡◌, ◌||◌, [], false, true, IfOk, None, Ok, OnOk, codes, map};
+ghost use Rattle.smap_map_files.specs.Positions.{AreClear, has_positions};
 ghost use Rattle.smap_command_line.specs.Lookups.{has, text};
 ghost use Rattle.smap_trace_run.specs.OutputView.{contents_of};
+ghost use Rattle.smap_trace_run.specs.Running.{IsSameRun};
 ghost use Rattle.smap_trace_run.specs.Runs.{AreFound, IsAnswered, IsJobOf, IsTracedAsked, IsTracedInput};
-ghost use Rattle.smap_trace_run.specs.Runs.{IsTracedJob};
+ghost use Rattle.smap_trace_run.specs.Runs.{IsTracedJob, IsTracedLines, IsTracedTo, skipping};
 ghost use Rattle.smap_trace_run.specs.Runs.{pairs_of, prefixes_of};
 ghost use Rattle.smap_command_line.specs.Trace.{IsAsked};
 
 use crate::decorating::Style;
-use crate::listing::{Listed, hint_at_list, list_log, list_text};
+use crate::listing::list;
 use crate::output::Output;
-use crate::tracing::{Job, Run, finder_of, open_log, open_names, with_controls};
+use crate::tracing::{Job, Run, with_controls};
 use smap_command_line::trace::{Asked, HELP, TraceWords, WordFault, message, trace_words};
-use smap_command_line::{Pair, VERSION};
-use smap_map_files::{Wanted, refuse_options, settle, wanted_by};
-use smap_map_finder::{Finder, How};
-use smap_system::{Disk, Host, Kind, Stop, create_beside};
+use smap_command_line::{Options, Pair, VERSION};
+use smap_map_files::{Wanted, check_positions, log_of, refuse_options, settle, wanted_by};
+use smap_map_finder::How;
+use smap_system::{Beside, Disk, Host, Kind, Stop, create_beside};
 use smap_trace::MatchMode;
 use std::alloc::{AllocError, Global};
 use std::io::{Read, Write};
 
 /// The name by which standard input can be read from its beginning, if it is a file.
-const STDIN: &str = "/proc/self/fd/0";
+pub(crate) const STDIN: &str = "/proc/self/fd/0";
 
 /// What standard input is.
 #[derive(Clone, Copy, Debug, PartialEq, Eq)]
@@ -69,26 +71,6 @@ fn has_name<D: Disk>(disk: &D, kind: InputKind) -> bool
     }
 }
 
-/// Reads the logs for a list.
-fn list_logs<E: Eprint + AllocGlobal, D: Disk, I: Read>(
-    host: &Host<'_, E, D>,
-    job: &Job<'_>,
-    input: I,
-    listed: &mut Listed,
-) -> Result<(), Stop>
-where
-    I: Drop,
-{
-    if job.wanted.logs.is_empty() {
-        return list_log(host, input, job.how.verbose, listed);
-    }
-    for path in &job.wanted.logs {
-        let log = open_log(host, path)?;
-        list_log(host, log, job.how.verbose, listed)?;
-    }
-    Ok(())
-}
-
 impl<E: Eprint + AllocGlobal, D: Disk> Run<'_, E, D> {
     /// Translates standard input.
     fn trace_standard<I: Read, W: Write + Drop>(
@@ -99,8 +81,9 @@ impl<E: Eprint + AllocGlobal, D: Disk> Run<'_, E, D> {
     where
         I: Drop,
         requires { self.old.job.wanted.logs.items ≡ [] }
-        ensures { OnOk result (IsTracedInput (D.held self.old.disk) self.old.job input.kind
-            (I.remaining input.reader) (contents_of W.contents output.old)
+        ensures same { IsSameRun self.old self.new }
+        ensures traced { OnOk result (IsTracedInput (D.held self.old.disk) self.old.job self.new.chosen.worst
+            input.kind (I.remaining input.reader) (contents_of W.contents output.old)
             (contents_of W.contents output.new)) }
     {
         if has_name(self.host.disk, input.kind) {
@@ -110,7 +93,30 @@ impl<E: Eprint + AllocGlobal, D: Disk> Run<'_, E, D> {
         self.finder.tell_count()
     }
 
-    /// Translates the logs, or standard input where there are none.
+    /// Translates the positions that are given, or standard input where there are none.
+    fn trace_lines<I: Read, W: Write + Drop>(
+        &mut self,
+        input: Input<I>,
+        output: &mut Output<W>,
+    ) -> Result<(), Stop>
+    where
+        I: Drop,
+        requires { self.old.job.wanted.logs.items ≡ [] }
+        ensures same { IsSameRun self.old self.new }
+        ensures traced { OnOk result (IsTracedLines (D.held self.old.disk) self.old.job self.new.chosen.worst
+            input.kind (I.remaining input.reader) (contents_of W.contents output.old)
+            (contents_of W.contents output.new)) }
+    {
+        let (alloc, job) = (self.host.alloc(), self.job);
+        if !job.wanted.has_positions() {
+            return self.trace_standard(input, output);
+        }
+        let log = log_of(alloc, &job.wanted.positions)?;
+        self.follow_log(log.as_slice(), output)?;
+        self.finder.tell_count()
+    }
+
+    /// Translates the logs, or, where there are none, the positions that are given or standard input.
     fn trace<I: Read, W: Write + Drop>(
         &mut self,
         input: Input<I>,
@@ -118,14 +124,15 @@ impl<E: Eprint + AllocGlobal, D: Disk> Run<'_, E, D> {
     ) -> Result<(), Stop>
     where
         I: Drop,
-        ensures { OnOk result (IsTracedJob (D.held self.old.disk) self.old.job input.kind
-            (I.remaining input.reader) (contents_of W.contents output.old)
+        ensures same { IsSameRun self.old self.new }
+        ensures traced { OnOk result (IsTracedJob (D.held self.old.disk) self.old.job self.new.chosen.worst
+            input.kind (I.remaining input.reader) (contents_of W.contents output.old)
             (contents_of W.contents output.new)) }
     {
         let (host, job) = (self.host, self.job);
         let logs = job.wanted.logs.as_slice();
         if logs.is_empty() {
-            return self.trace_standard(input, output);
+            return self.trace_lines(input, output);
         }
         if are_files(host.disk, logs) {
             return self.trace_files(logs, output);
@@ -133,81 +140,56 @@ impl<E: Eprint + AllocGlobal, D: Disk> Run<'_, E, D> {
         self.follow_paths(logs, output)?;
         self.finder.tell_count()
     }
+
+    /// Translates to the end, and answers the status of that: the greatest of a map that was refused, unless
+    /// broken maps are skipped. Where none was, it says what was not translated.
+    fn trace_to_end<I: Read, W: Write + Drop>(
+        &mut self,
+        input: Input<I>,
+        output: &mut Output<W>,
+    ) -> Result<u8, Stop>
+    where
+        I: Drop,
+        ensures { IfOk result (λ status. IsTracedTo status (D.held self.old.disk) self.old.job input.kind
+            (I.remaining input.reader) (contents_of W.contents output.old)
+            (contents_of W.contents output.new)) }
+    {
+        self.trace(input, output)?;
+        let status = self.status();
+        if status == 0 {
+            self.say_end()?;
+        }
+        Ok(status)
+    }
 }
 
-/// Writes the list of the names that were found, once their maps are opened.
-fn write_list<E: Eprint + AllocGlobal, D: Disk, W: Write + Drop>(
-    host: &Host<'_, E, D>,
-    job: &Job<'_>,
-    listed: &Listed,
-    finder: &mut Finder<'_, E, D>,
-    output: &mut Output<W>,
-) -> Result<(), Stop> {
-    let alloc = host.alloc();
-    open_names(alloc, &job.with_controls, &listed.names, finder)?;
-    finder.tell_count()?;
-    let text = list_text(alloc, &listed.names, finder)?;
-    output.write(host, text.as_bytes())?;
-    hint_at_list(host, job, listed, finder)
-}
-
-/// Lists the scripts that the logs name, by what finds their maps.
-fn list_with<E: Eprint + AllocGlobal, D: Disk, I: Read, W: Write + Drop>(
-    host: &Host<'_, E, D>,
-    job: &Job<'_>,
-    input: I,
-    finder: &mut Finder<'_, E, D>,
-    output: &mut Output<W>,
-) -> Result<(), Stop>
-where
-    I: Drop,
-{
-    let mut listed = Listed::new(host.alloc());
-    list_logs(host, job, input, &mut listed)?;
-    write_list(host, job, &listed, finder, output)
-}
-
-/// Lists the scripts that the logs name.
-fn list<'h, E: Eprint + AllocGlobal, D: Disk, I: Read, W: Write + Drop>(
-    host: &'h Host<'h, E, D>,
-    job: &Job<'_>,
-    input: I,
-    output: &mut Output<W>,
-) -> Result<(), Stop>
-where
-    I: Drop,
-{
-    let mut finder = finder_of(&*host, &*job)?;
-    list_with(&*host, &*job, input, &mut finder, output)
-}
-
-/// Does a job, and says why nothing was translated, where nothing was.
+/// Does a job to its end, and answers the status of that.
 fn run_job<'h, E: Eprint + AllocGlobal, D: Disk, I: Read, W: Write + Drop>(
     host: &'h Host<'h, E, D>,
     job: &Job<'_>,
     input: Input<I>,
     output: &mut Output<W>,
-) -> Result<(), Stop>
+) -> Result<u8, Stop>
 where
     I: Drop,
-    ensures { OnOk result (job.now.list ≡ false → IsTracedJob (D.held host.now.disk.now) job.now input.kind
-        (I.remaining input.reader) (contents_of W.contents output.old) (contents_of W.contents output.new)) }
+    ensures { IfOk result (λ status. job.now.list ≡ false → IsTracedTo status (D.held host.now.disk.now)
+        job.now input.kind (I.remaining input.reader) (contents_of W.contents output.old)
+        (contents_of W.contents output.new)) }
 {
     if job.list {
         return list(host, job, input.reader, output);
     }
     let mut run = Run::new(&*host, &*job)?;
-    run.trace(input, output)?;
-    run.say_nothing()
+    run.trace_to_end(input, output)
 }
 
-/// Refuses a log that can't be had, and says what is waited for.
+/// Refuses a log that can't be had, and says what is waited for. Positions are the log themselves.
 fn check_input<E: Eprint + AllocGlobal, D: Disk>(
     host: &Host<'_, E, D>,
     wanted: &Wanted<'_>,
     kind: InputKind,
 ) -> Result<(), Stop> {
-    if !wanted.logs.is_empty() {
+    if !wanted.logs.is_empty() || wanted.has_positions() {
         return Ok(());
     }
     match kind {
@@ -222,6 +204,33 @@ fn check_input<E: Eprint + AllocGlobal, D: Disk>(
     }
 }
 
+/// Refuses positions that can't be translated, and a log that can't be had.
+fn check_lines<E: Eprint + AllocGlobal, D: Disk>(
+    host: &Host<'_, E, D>,
+    wanted: &Wanted<'_>,
+    list: bool,
+    kind: InputKind,
+) -> Result<(), Stop>
+    ensures { OnOk result (AreClear wanted.now) }
+{
+    check_positions(host, wanted)?;
+    if list && wanted.has_positions() {
+        return Err(host.fail(
+            2,
+            "--list lists the scripts of a log, and none of positions",
+        ));
+    }
+    check_input(host, wanted, kind)?;
+    Ok(())
+}
+
+/// Whether positions are found anywhere in a line.
+fn is_anywhere(asked: &TraceWords<'_>, wanted: &Wanted<'_>) -> bool
+    ensures { result ≡ (has asked.now.options (codes "anywhere") || has_positions wanted.now) }
+{
+    asked.options.has("anywhere") || wanted.has_positions()
+}
+
 /// The prefixes as pairs.
 fn prefixes<'a>(alloc: Global, all: &[Pair<'a>]) -> Result<Vec<(&'a str, &'a str)>, AllocError>
     ensures { IfOk result (λ pairs. pairs_of pairs.items ≡ prefixes_of all.now) }
@@ -233,13 +242,46 @@ fn prefixes<'a>(alloc: Global, all: &[Pair<'a>]) -> Result<Vec<(&'a str, &'a str
     Ok(prefixes)
 }
 
-/// Writes to the file that `-o` names, beside it until all is written.
+/// Does a job, whose output goes to a writer.
+fn run_to_writer<'h, E: Eprint + AllocGlobal, D: Disk, I: Read, W: Write + Drop>(
+    host: &'h Host<'h, E, D>,
+    job: &Job<'_>,
+    input: Input<I>,
+    writer: W,
+) -> Result<u8, Stop>
+where
+    I: Drop,
+{
+    let mut output = Output::new(writer);
+    run_job(host, job, input, &mut output)
+}
+
+/// Gives a file its name once a run came to its end, and removes it if the run stopped.
+fn end_file<E: Eprint + AllocGlobal, D: Disk>(
+    host: &Host<'_, E, D>,
+    beside: Beside,
+    answer: Result<u8, Stop>,
+) -> Result<u8, Stop> {
+    match answer {
+        Ok(status) => match beside.finish(host.disk) {
+            Ok(()) => Ok(status),
+            Err(error) => Err(host.fail_writing(&error)),
+        },
+        Err(stop) => {
+            beside.abandon(host.disk);
+            Err(stop)
+        }
+    }
+}
+
+/// Writes to the file that `-o` names, beside it until all is written. Answers the status of a run that came
+/// to its end.
 fn run_to_file<'h, E: Eprint + AllocGlobal, D: Disk, I: Read>(
     host: &'h Host<'h, E, D>,
     job: &Job<'_>,
     input: Input<I>,
     file: &str,
-) -> Result<(), Stop>
+) -> Result<u8, Stop>
 where
     I: Drop,
 {
@@ -253,19 +295,15 @@ where
         Ok(made) => made,
         Err(fault) => return Err(host.fail_writing(&fault.into_error())),
     };
-    let mut output = Output::new(writer);
-    let answer = run_job(host, job, input, &mut output);
-    drop(output);
-    match answer {
-        Ok(()) => match beside.finish(host.disk) {
-            Ok(()) => Ok(()),
-            Err(error) => Err(host.fail_writing(&error)),
-        },
-        Err(stop) => {
-            beside.abandon(host.disk);
-            Err(stop)
-        }
-    }
+    let answer = run_to_writer(host, job, input, writer);
+    end_file(host, beside, answer)
+}
+
+/// Whether it is no fault of the run that maps are refused.
+fn skips(options: &Options<'_>) -> bool
+    ensures { result ≡ skipping options.now }
+{
+    options.has("skip-broken") && !options.has("strict")
 }
 
 /// What the arguments name.
@@ -277,15 +315,15 @@ fn found<'a, E: Eprint + AllocGlobal, D: Disk>(
     ensures { IfOk result (AreFound (D.tree host.now.disk.now) (D.held host.now.disk.now) asked.now) }
 {
     let mut wanted = wanted_by(host, &asked.arguments)?;
-    settle(host, asked.options.has("skip-broken"), &mut wanted)?;
+    settle(host, skips(&asked.options), &mut wanted)?;
     wanted.url_bytes = asked.options.url_bytes();
     if wanted.is_empty() && !asked.options.has("list") {
         return Err(host.fail(
             2,
-            "no map is given: expected URL=FILE, URL/=FOLDER/ or a folder",
+            "no map is given: expected URL=FILE, URL/=FOLDER/, a folder or a map",
         ));
     }
-    check_input(host, &wanted, kind)?;
+    check_lines(host, &wanted, asked.options.has("list"), kind)?;
     Ok(wanted)
 }
 
@@ -304,19 +342,22 @@ fn job_of<'p, 'a: 'p, E: Eprint + AllocGlobal, D: Disk>(
     let options = &asked.options;
     let wanted = found(host, asked, kind)?;
     let with_controls = with_controls(host.alloc(), &wanted)?;
+    let anywhere = is_anywhere(asked, &wanted);
     Ok(Job {
-        anywhere: options.has("anywhere"),
+        anywhere,
         list: options.has("list"),
         check_all: options.has("check-all"),
+        quiet: options.has("quiet"),
+        strict: options.has("strict"),
         wanted,
         with_controls,
         how: How {
-            skip: options.has("skip-broken"),
+            skip: skips(options),
             verbose: options.has("verbose"),
         },
         style: Style {
             mode: MatchMode {
-                anywhere: options.has("anywhere"),
+                anywhere,
                 ignore_query: false,
             },
             hide: options.has("hide-ignored"),
@@ -326,26 +367,39 @@ fn job_of<'p, 'a: 'p, E: Eprint + AllocGlobal, D: Disk>(
     })
 }
 
-/// Translates or lists.
+/// Translates or lists. Answers the status of a run that came to its end.
 fn trace<'h, E: Eprint + AllocGlobal, D: Disk, I: Read, W: Write + Drop>(
     host: &'h Host<'h, E, D>,
     asked: &TraceWords<'_>,
     input: Input<I>,
     output: &mut Output<W>,
-) -> Result<(), Stop>
+) -> Result<u8, Stop>
 where
     I: Drop,
-    ensures { OnOk result (text asked.now.options (codes "output") ≡ None
+    ensures { IfOk result (λ status. text asked.now.options (codes "output") ≡ None
         → has asked.now.options (codes "list") ≡ false → (wanted : Wanted)
         × AreFound (D.tree host.now.disk.now) (D.held host.now.disk.now) asked.now wanted
-        × IsTracedAsked (D.held host.now.disk.now) wanted asked.now input.kind (I.remaining input.reader)
-        (contents_of W.contents output.old) (contents_of W.contents output.new)) }
+        × IsTracedAsked status (D.held host.now.disk.now) wanted asked.now input.kind
+        (I.remaining input.reader) (contents_of W.contents output.old) (contents_of W.contents output.new)) }
 {
     let prefixes = prefixes(host.alloc(), &asked.prefixes)?;
     let job = job_of(&*host, asked, &prefixes, input.kind)?;
     match asked.options.text("output") {
         Some(file) => run_to_file(host, &job, input, file),
         None => run_job(host, &job, input, output),
+    }
+}
+
+/// The exit status of a run that came to its end with this status, or stopped: then it is never 0.
+fn exit_status<E: Eprint + AllocGlobal, D: Disk>(
+    host: &Host<'_, E, D>,
+    answer: Result<u8, Stop>,
+) -> u8
+    ensures { result ≡ 0 → answer ≡ Ok 0 }
+{
+    match answer {
+        Ok(status) => status,
+        Err(stop) => host.status(Err(stop)),
     }
 }
 
@@ -375,7 +429,7 @@ where
     match trace_words(host.alloc(), words) {
         Ok(Asked::Help) => host.status(output.write(&host, HELP.as_bytes())),
         Ok(Asked::Version) => host.status(output.write(&host, VERSION.as_bytes())),
-        Ok(Asked::Trace(asked)) => host.status(trace(&host, &asked, input, output)),
+        Ok(Asked::Trace(asked)) => exit_status(&host, trace(&host, &asked, input, output)),
         Err(WordFault::Options(fault)) => host.status(Err(refuse_options(&host, &fault))),
         Err(WordFault::Nothing) => host.status(Err(host.fail_with_help(HELP))),
         Err(fault) => host.status(Err(host.fail_words(message(host.alloc(), &fault), None))),

@@ -1,5 +1,5 @@
 //! Logs translated: files, whose names are all looked for first, and streams, as they come.
-ghost use Rattle.std.specs.Prelude.{◌≡◌, [], IfOk, OnOk, Some, map, ⊤};
+ghost use Rattle.std.specs.Prelude.{◌≡◌, [], IfOk, OnOk, Some, cond, map, ⊤};
 ghost use Rattle.std.specs.List.{Contains};
 ghost use Rattle.std.specs.Io.Take.{take_remaining};
 ghost use Rattle.smap_system.specs.Held.{GivesHeld, HasSize};
@@ -14,7 +14,9 @@ ghost use Rattle.smap_trace_run.specs.Written.{AreAmong, AreLogs, IsLog, IsOfLog
 ghost use Rattle.smap_trace_run.specs.Written.{AreSettled, AreSettledLogs, IsNameOf, IsTracedTextIn};
 
 use crate::decorating::Style;
-use crate::hints::{hint_at_nothing, hint_at_start};
+use crate::frames::Frames;
+use crate::given::Given;
+use crate::hints::{has_escaped_url, hint_at_start};
 use crate::output::Output;
 use crate::translating::Tally;
 use smap_logs::{Log, Names, has_control, names_in};
@@ -25,15 +27,16 @@ use std::alloc::{AllocError, Global};
 use std::io::{Read, Take, Write};
 use std::marker::Model;
 
-/// So many names are counted at most, where a log is read once, for what is said at its end.
-const MOST_COUNTED: usize = 10_000;
-
 /// What a run has been asked for, and has found.
 #[derive(Drop)]
 pub(crate) struct Job<'a> {
     pub(crate) anywhere: bool,
     pub(crate) list: bool,
     pub(crate) check_all: bool,
+    /// Whether nothing is said at the end of what was not translated.
+    pub(crate) quiet: bool,
+    /// Whether a map that is refused ends the run.
+    pub(crate) strict: bool,
     pub(crate) wanted: Wanted<'a>,
     /// The scripts that are given by names with control characters.
     pub(crate) with_controls: Vec<Vec<u8>>,
@@ -61,18 +64,34 @@ pub(crate) struct Run<'a, E, D: Disk> {
     pub(crate) host: &'a Host<'a, E, D>,
     pub(crate) job: &'a Job<'a>,
     pub(crate) finder: Finder<'a, E, D>,
-    /// The names that logs have, for what is said at the end.
-    names: Names,
+    /// The names of frames that logs have and that aren't counted among the frames yet.
+    pub(crate) names: Names,
+    pub(crate) given: Given,
+    /// The frames, for what is said at the end.
+    pub(crate) frames: Frames,
     pub(crate) tally: Tally,
-    start: Start,
+    pub(crate) start: Start,
 }
 
-/// What the beginning of the first log shows.
+/// What the logs show when their names are read.
 #[derive(Drop)]
-struct Start {
+pub(crate) struct Start {
     is_known: bool,
     /// Whether it was said that a log isn't text in UTF-8.
-    is_hinted: bool,
+    pub(crate) is_hinted: bool,
+    /// Whether a line has a URL as JSON has it that writes `\/`.
+    pub(crate) is_escaped: bool,
+    /// How many lines there are.
+    pub(crate) lines: u64,
+}
+
+/// How many lines these are, the last of which may have no end.
+fn line_count(lines: &[u8]) -> u64 {
+    let mut count = 0u64;
+    for _ in lines.split_inclusive(|b| *b == b'\n') {
+        count = count.saturating_add(1);
+    }
+    count
 }
 
 impl Start {
@@ -87,6 +106,8 @@ impl Start {
             self.is_known = true;
             self.is_hinted = hint_at_start(host, lines, job.how.verbose);
         }
+        self.lines = self.lines.saturating_add(line_count(lines));
+        self.is_escaped = self.is_escaped || has_escaped_url(lines);
     }
 }
 
@@ -104,6 +125,18 @@ impl<'a, E, D: Disk> Model for Run<'a, E, D> {
     ghost invariant = { λ r. IsRunning D.held r.host.now.disk.now r.job.now r.finder };
 }
 
+/// Ends a strict run where a map is refused.
+pub(crate) fn stop_if_strict<E: Eprint + AllocGlobal, D: Disk>(
+    job: &Job<'_>,
+    finder: &Finder<'_, E, D>,
+) -> Result<(), Stop> {
+    let worst = finder.status();
+    if job.strict && worst > 0 {
+        return Err(Stop::Reported(worst));
+    }
+    Ok(())
+}
+
 /// What finds the maps of a job, once each was read that there is, if that is asked for.
 pub(crate) fn finder_of<'a, E: Eprint + AllocGlobal, D: Disk>(
     host: &'a Host<'a, E, D>,
@@ -116,6 +149,7 @@ pub(crate) fn finder_of<'a, E: Eprint + AllocGlobal, D: Disk>(
         return Ok(finder);
     }
     finder.check_all()?;
+    stop_if_strict(job, &finder)?;
     Ok(finder)
 }
 
@@ -131,8 +165,8 @@ pub(crate) fn open_names<E: Eprint + AllocGlobal, D: Disk>(
         → AreChosen (D.held finder.new.disk) finder.new.wanted finder.new.chosen }
     ensures ends { KeepEnds (D.held finder.old.disk) finder.old.wanted (names_of names.now)
         finder.old.chosen finder.new.chosen }
-    ensures settled { OnOk result (AreSettled (D.held finder.old.disk) finder.old.wanted finder.old.how
-        finder.new.chosen (Contains (frames_of names.now))) }
+    ensures settled { OnOk result (AreSettled (D.held finder.old.disk) finder.old.wanted finder.new.chosen
+        (Contains (frames_of names.now))) }
 {
     let frames = names.of_frames(alloc)?;
     finder.open_for(true, frames.as_slice())?;
@@ -231,15 +265,20 @@ impl<'a, E: Eprint + AllocGlobal, D: Disk> Run<'a, E, D> {
         ensures { IfOk result (λ r. r.disk ≡ host.now.disk.now × r.job ≡ job.now) }
     {
         let finder = finder_of(host, job)?;
+        let given = Given::of(host.alloc(), &job.wanted)?;
         Ok(Run {
             host,
             job,
             finder,
             names: Names::new(host.alloc()),
+            given,
+            frames: Frames::none(host.alloc()),
             tally: Tally::none(),
             start: Start {
                 is_known: false,
                 is_hinted: false,
+                is_escaped: false,
+                lines: 0,
             },
         })
     }
@@ -249,12 +288,12 @@ impl<'a, E: Eprint + AllocGlobal, D: Disk> Run<'a, E, D> {
         requires { AreAmong (asked_by (D.held self.old.disk) self.old.job)
             (asked_in self.old.job.anywhere lines.now) }
         ensures same { IsSameRun self.old self.new }
-        ensures settled { OnOk result (AreSettled (D.held self.new.disk) self.new.job.wanted self.new.job.how
-            self.new.chosen (Contains (urls_of lines.now))) }
+        ensures settled { OnOk result (AreSettled (D.held self.new.disk) self.new.job.wanted self.new.chosen
+            (Contains (urls_of lines.now))) }
     {
         let (alloc, job) = (self.host.alloc(), self.job);
         let names = names_in(alloc, lines, job.anywhere)?;
-        self.names.add_counts(alloc, &names, MOST_COUNTED)?;
+        self.names.add_counts(alloc, &names, usize::MAX)?;
         self.finder.forget_many();
         open_names(alloc, &job.with_controls, &names, &mut self.finder)
     }
@@ -269,8 +308,9 @@ impl<'a, E: Eprint + AllocGlobal, D: Disk> Run<'a, E, D> {
         R: Drop,
         requires { IsOfLogs (D.held self.old.disk) self.old.job (R.remaining reader) }
         ensures same { IsSameRun self.old self.new }
-        ensures traced { OnOk result (IsTracedTextIn (D.held self.old.disk) self.old.job (λ name. ⊤)
-            (R.remaining reader) (contents_of W.contents output.old) (contents_of W.contents output.new)) }
+        ensures traced { OnOk result (IsTracedTextIn (D.held self.old.disk) self.old.job self.new.chosen.worst
+            (λ name. ⊤) (R.remaining reader) (contents_of W.contents output.old)
+            (contents_of W.contents output.new)) }
     {
         let mut log = Log::new(self.host.alloc(), reader);
         for _ in 0..u64::MAX {
@@ -281,7 +321,8 @@ impl<'a, E: Eprint + AllocGlobal, D: Disk> Run<'a, E, D> {
             let lines = log.lines();
             self.start.note(self.host, self.job, lines);
             self.open_lines(lines)?;
-            self.translate_log(lines, output)?;
+            stop_if_strict(self.job, &self.finder)?;
+            self.translate_lines(lines, output)?;
         }
         Err(self.host.fail(3, "cannot read the log"))
     }
@@ -291,13 +332,14 @@ impl<'a, E: Eprint + AllocGlobal, D: Disk> Run<'a, E, D> {
         requires { AreLogs (D.held self.old.disk) self.old.job paths.now }
         ensures same { IsSameRun self.old self.new }
         ensures settled { OnOk result (AreSettledLogs (D.held self.new.disk) self.new.job.wanted
-            self.new.job.how self.new.chosen paths.now) }
+            self.new.chosen paths.now) }
         ensures sizes { IfOk result (λ sizes. HaveSizes (D.held self.old.disk) paths.now sizes.items) }
     {
         let (host, job) = (self.host, self.job);
         let mut names = Names::new(host.alloc());
         let sizes = name_logs(host, job, paths, &mut self.start, &mut names)?;
         open_names(host.alloc(), &job.with_controls, &names, &mut self.finder)?;
+        stop_if_strict(job, &self.finder)?;
         self.names = names;
         self.finder.tell_count()?;
         Ok(sizes)
@@ -310,11 +352,11 @@ impl<'a, E: Eprint + AllocGlobal, D: Disk> Run<'a, E, D> {
         sizes: &[u64],
         output: &mut Output<W>,
     ) -> Result<(), Stop>
-        requires settled { AreSettledLogs (D.held self.old.disk) self.old.job.wanted self.old.job.how
-            self.old.chosen paths.now }
+        requires settled { AreSettledLogs (D.held self.old.disk) self.old.job.wanted self.old.chosen
+            paths.now }
         requires sizes { HaveSizes (D.held self.old.disk) paths.now sizes.now }
         ensures kept { self.new ≡ self.old }
-        ensures traced { OnOk result (AreTraced (D.held self.old.disk) self.old.job
+        ensures traced { OnOk result (AreTraced (D.held self.old.disk) self.old.job self.new.chosen.worst
             (map (λ p. p.now) paths.now) (contents_of W.contents output.old)
             (contents_of W.contents output.new)) }
     {
@@ -334,7 +376,7 @@ impl<'a, E: Eprint + AllocGlobal, D: Disk> Run<'a, E, D> {
     ) -> Result<(), Stop>
         requires { AreLogs (D.held self.old.disk) self.old.job paths.now }
         ensures same { IsSameRun self.old self.new }
-        ensures traced { OnOk result (AreTraced (D.held self.old.disk) self.old.job
+        ensures traced { OnOk result (AreTraced (D.held self.old.disk) self.old.job self.new.chosen.worst
             (map (λ p. p.now) paths.now) (contents_of W.contents output.old)
             (contents_of W.contents output.new)) }
     {
@@ -353,8 +395,9 @@ impl<'a, E: Eprint + AllocGlobal, D: Disk> Run<'a, E, D> {
         I: Drop,
         requires { self.old.job.wanted.logs.items ≡ [] }
         ensures same { IsSameRun self.old self.new }
-        ensures traced { OnOk result (IsTracedFront (D.held self.old.disk) self.old.job path.now
-            (I.remaining input) (contents_of W.contents output.old) (contents_of W.contents output.new)) }
+        ensures traced { OnOk result (IsTracedFront (D.held self.old.disk) self.old.job self.new.chosen.worst
+            path.now (I.remaining input) (contents_of W.contents output.old)
+            (contents_of W.contents output.new)) }
     {
         let paths = [path];
         let sizes = self.open_files(paths.as_slice())?;
@@ -370,7 +413,7 @@ impl<'a, E: Eprint + AllocGlobal, D: Disk> Run<'a, E, D> {
     ) -> Result<(), Stop>
         requires { AreLogs (D.held self.old.disk) self.old.job paths.now }
         ensures same { IsSameRun self.old self.new }
-        ensures traced { OnOk result (AreTraced (D.held self.old.disk) self.old.job
+        ensures traced { OnOk result (AreTraced (D.held self.old.disk) self.old.job self.new.chosen.worst
             (map (λ p. p.now) paths.now) (contents_of W.contents output.old)
             (contents_of W.contents output.new)) }
     {
@@ -382,11 +425,11 @@ impl<'a, E: Eprint + AllocGlobal, D: Disk> Run<'a, E, D> {
         Ok(())
     }
 
-    /// Says why nothing was translated, where nothing was.
-    pub(crate) fn say_nothing(&self) -> Result<(), Stop> {
-        if self.tally.changed > 0 || self.tally.lines == 0 || self.start.is_hinted {
-            return Ok(());
-        }
-        hint_at_nothing(self.host, self.job, &self.names, &self.finder)
+    /// The status of a run that comes to its end: the greatest of a map that was refused, unless broken maps
+    /// are skipped.
+    pub(crate) fn status(&self) -> u8
+        ensures { result ≡ cond self.now.job.how.skip 0 self.now.chosen.worst }
+    {
+        self.finder.status()
     }
 }

@@ -134,4 +134,20 @@ impl<E: Eprint + AllocGlobal, D: Disk> Run<'_, E, D> {
             Err(error) => Err(fail_translating(host, error, &reader, output)),
         }
     }
+
+    /// The same of lines of a log that is read once.
+    pub(crate) fn translate_lines<W: Write + Drop>(
+        &mut self,
+        lines: &[u8],
+        output: &mut Output<W>,
+    ) -> Result<(), Stop>
+        ensures named { AreNamed (D.held self.old.disk) self.old.job self.old.chosen }
+        ensures kept { self.new ≡ self.old }
+        ensures traced { OnOk result (IsTranslatedIn self.old.chosen self.old.job.style (Some lines.now)
+            (contents_of W.contents output.old) (contents_of W.contents output.new)) }
+    {
+        self.translate_log(lines, output)?;
+        self.count_lines(lines)?;
+        Ok(())
+    }
 }

@@ -10,8 +10,8 @@ use crate::values::parted;
 pub enum Argument<'a> {
     /// `URL=FILE[=BASE]` or `URL/=FOLDER/`: a text with a `=`, with something on both sides of the first.
     Place(&'a str),
-    /// A text without a `=`, which isn't empty: the path of a folder or of a log. One that ends in `/` can
-    /// only be a folder.
+    /// A text without a `=`, which isn't empty: the path of a folder, a map or a log, or a position. One that
+    /// ends in `/` can only be a folder.
     Path(&'a str),
 }
 

@@ -6,7 +6,7 @@ use super::words::WordFault;
 use crate::fault::option_message;
 use std::alloc::{AllocError, Global};
 
-const ANY: &str = "expected URL=FILE, URL/=FOLDER/, a folder or a log";
+const ANY: &str = "expected URL=FILE, URL/=FOLDER/, a folder, a map, a log or a position";
 
 fn wrong_url(alloc: Global, url: &str) -> Result<String, AllocError> {
     format!(in alloc; "the URL is empty or holds a space (in a URL that is %20): '{url}'")
@@ -84,7 +84,7 @@ pub fn place_message(alloc: Global, word: &str) -> Result<String, AllocError> {
     }
 }
 
-/// What is wrong with a path that is neither that of a folder nor that of a log.
+/// What is wrong with a path that is neither that of a folder nor that of a map or a log.
 ///
 /// # Errors
 ///
@@ -92,9 +92,11 @@ pub fn place_message(alloc: Global, word: &str) -> Result<String, AllocError> {
 pub fn path_message(alloc: Global, word: &str) -> Result<String, AllocError> {
     if word.contains("://") {
         format!(in alloc; "{word}: expected URL=FILE")
+    } else if word.ends_with(".map") {
+        format!(in alloc; "cannot read {word}: no such file")
     } else if needs_url(word) {
         format!(in alloc; "{word}: expected URL=FILE, as https://example.org/app.js={word}")
     } else {
-        format!(in alloc; "{word}: {ANY}")
+        format!(in alloc; "no such file or folder: {word}")
     }
 }

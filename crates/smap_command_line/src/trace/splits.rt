@@ -129,7 +129,7 @@ fn kind_fault(kind: Kind, url: &str, base: Option<&str>) -> Option<SplitFault>
     }
 }
 
-/// Whether a file with this name is no log: it is a map, a script or a style sheet, which needs a URL.
+/// Whether a file with this name is no log: it is a map, or a script or a style sheet, which needs a URL.
 pub fn needs_url(name: &str) -> bool
     ensures { result ≡ spec.needs_url name.now }
 {

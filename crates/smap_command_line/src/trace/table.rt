@@ -2,7 +2,7 @@
 use crate::rows::{FLAG, OptionOf, OptionRow, URL_BYTES, Value};
 
 /// The options, in the order in which the help lists them and values are looked at.
-pub const OPTIONS: [OptionRow; 10] = [
+pub const OPTIONS: [OptionRow; 12] = [
     OptionOf {
         name: "anywhere",
         help: "Find positions anywhere in a line: behind a time, in JSON, in colours",
@@ -16,7 +16,13 @@ pub const OPTIONS: [OptionRow; 10] = [
     },
     OptionOf {
         name: "skip-broken",
-        help: "Leave out maps that smap refuses, naming each, instead of stopping",
+        help: "Leave out maps that smap refuses, naming each; the status is 0 then",
+        ..FLAG
+    },
+    OptionOf {
+        name: "strict",
+        help: "Stop where smap refuses a map. Of logs that are files nothing is translated then",
+        details: "It outweighs --skip-broken.",
         ..FLAG
     },
     OptionOf {
@@ -63,6 +69,12 @@ pub const OPTIONS: [OptionRow; 10] = [
                   written; until then, and after an error, FILE is as it was. It has to be one that \
                   may be written, and keeps its permissions. A link still leads to it; one of another \
                   user than root isn't followed. No pipe or device may be named.",
+        ..FLAG
+    },
+    OptionOf {
+        name: "quiet",
+        short: Some('q'),
+        help: "Say nothing at the end of what was not translated",
         ..FLAG
     },
     OptionOf {

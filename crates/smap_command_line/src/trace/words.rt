@@ -15,7 +15,7 @@ use crate::reading::{Read, read_words};
 use std::alloc::{AllocError, AllocFailed, Global};
 
 /// What an error of `clap` shows of how the program is called.
-const USAGE: &str = "smap-trace [OPTION]... URL=FILE|URL/=FOLDER/|FOLDER|LOG...";
+const USAGE: &str = "smap-trace [OPTION]... URL=FILE|URL/=FOLDER/|FOLDER|MAP|LOG|POSITION...";
 
 /// The values of a command line.
 #[derive(Debug, Drop)]

@@ -17,4 +17,4 @@ pub returns-else-is_memory-clause-is : goal.returns-else-is_memory-clause-is
 returns-else-is_memory-clause-is c = of_none c.args.text.now c.args.fault.now c.error_range.result
     (tree_refused c.args.text.now
     (c.in-Err.ensures.err (λ memory. true≢false (sym (c.if-is_memory.ensures.1 memory)))))
-    c.error_range.ensures
+    c.error_range.ensures.within c.error_range.ensures.empty

@@ -18,15 +18,12 @@ loop-preserved g c =
     c.in_default-kind_of.ensures)
     c.following-split.ensures
 
-pub returns-in-Some-kind_of-clause-word : goal.returns-in-Some-kind_of-clause-word
-returns-in-Some-kind_of-clause-word g c =
-    (tried (g.D.Disk.tree c.args.host.now.disk.now) (g.D.Disk.held c.args.host.now.disk.now) c.args.word.now
-    c.loop.split c.in-Some.way c.in-Some.is c.loop.invariant).0
-
-pub returns-in-Some-kind_of-clause-first : goal.returns-in-Some-kind_of-clause-first
-returns-in-Some-kind_of-clause-first g c =
+pub returns-in-Some-kind_of : goal.returns-in-Some-kind_of
+returns-in-Some-kind_of g c =
     let told = g.D.Disk.tree c.args.host.now.disk.now in
     let held = g.D.Disk.held c.args.host.now.disk.now in
-    let before = tried told held c.args.word.now c.loop.split c.in-Some.way c.in-Some.is c.loop.invariant in
-    first_there told held c.args.word.now c.in-Some-kind_of.kind c.in-Some.way c.file.result.now before
-    c.file.ensures c.in-Some-kind_of.ensures
+    let before = tried told held c.args.word.now c.loop.split c.in-Some.way c.in-Some.is c.loop.invariant in (
+      before.0,
+      first_there told held c.args.word.now c.in-Some-kind_of.kind c.in-Some.way c.file.result.now before
+          c.file.ensures c.in-Some-kind_of.ensures,
+    )

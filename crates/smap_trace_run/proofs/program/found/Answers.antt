@@ -14,6 +14,8 @@ returns g c =
         map_count = settled.map_count;
         roots = settled.roots;
         logs = settled.logs;
+        positions = settled.positions;
       };
       url_bytes = c.url_bytes.ensures;
+      clear = c.in_ok-check_lines.ensures;
     }

@@ -17,10 +17,11 @@ returns-in-Ok-Version g c = finished c.write-in-Ok-Version.result _ c.status-in-
     (rw c.as_bytes-in-Ok-Version.ensures.value at c.write-in-Ok-Version.ensures))
 
 pub returns-in-Ok-Trace : goal.returns-in-Ok-Trace
-returns-in-Ok-Trace g c = finished c.trace.result _ c.status-in-Ok-Trace.result c.status-in-Ok-Trace.ensures
-    (answered _ _ _ _ (map (λ w. w.now) c.args.words.now) (Trace c.in-Ok-Trace.asked) _ _ _ _ c.trace.result
-    (rw c.in-Ok-Trace.field-0-is at c.in-Ok-Trace.ensures.asked)
-    c.trace.ensures)
+returns-in-Ok-Trace g c = λ none. (
+  Trace c.in-Ok-Trace.asked,
+  rw c.in-Ok-Trace.field-0-is at c.in-Ok-Trace.ensures.asked,
+  rw (c.exit_status.ensures none) at c.trace.ensures,
+)
 
 pub returns-in-Err-Options : goal.returns-in-Err-Options
 returns-in-Err-Options g c = stopped c.refuse_options.result _ c.status-in-Err-Options.result

@@ -1,7 +1,5 @@
-use Rattle.std.proofs.Common.{◌∙◌, Bor, List, OnOk, ap, filter, map, subst, ℕ}
-use Rattle.smap_map_finder.specs.ChosenView.{IsJudged}
+use Rattle.std.proofs.Common.{◌∙◌, Bor, List, ap, filter, map, ℕ}
 use Rattle.smap_logs.specs.Naming.{frames_of, is_sought, others_of}
-use Rattle.smap_map_files.specs.declared.opening.How.{How}
 use Rattle.smap_trace_run.proofs.AskedLemmas.{both_kept, fewer_kept, first_names_kept, names_kept}
 use Rattle.smap_trace_run.proofs.RunningLemmas.{kept_search, one_search}
 use Rattle.smap_trace_run.proofs.SettledLemmas.{names_settled}
@@ -10,13 +8,11 @@ use Rattle.smap_trace_run.proofs.tracing.open_names.Goals as goal
 pub returns-clause-settled : goal.returns-clause-settled
 returns-clause-settled g c =
     let f = c.args.finder.now in
-    names_settled (g.D.Disk.held f.disk) f.wanted f.how c.open_for.new.self.chosen
+    names_settled (g.D.Disk.held f.disk) f.wanted c.open_for.new.self.chosen
     c.open_for-2.new.self.chosen
     c.as_slice.result.now (frames_of c.args.names.now) c.open_for-2.result
     (ap (map (λ (n : Bor (List ℕ)). n.now)) c.as_slice.ensures.value ∙ c.in_ok-frames.ensures)
     c.in_ok-open_for.ensures.settled c.open_for-2.ensures.grows
-    (subst (λ (h : How). OnOk c.open_for-2.result (IsJudged h.skip c.open_for-2.new.self.chosen))
-    c.open_for.ensures.same.how c.open_for-2.ensures.judged)
 
 pub returns-clause-same : goal.returns-clause-same
 returns-clause-same g c = one_search _ _ _ c.open_for.ensures.same c.open_for-2.ensures.same

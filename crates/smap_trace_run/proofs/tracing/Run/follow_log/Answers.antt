@@ -1,4 +1,4 @@
-use Rattle.std.proofs.Common.{◌∙◌, ap, refl, subst, sym, List, ℕ, Some}
+use Rattle.std.proofs.Common.{◌∙◌, ap, arith, refl, subst, sym, List, ℕ, Some}
 use Rattle.std.specs.Prelude.{⊤}
 use Rattle.std.specs.Io.KnownBytes.{IsAtEnd}
 use Rattle.smap_logs.specs.Logs.{handed, pending}
@@ -7,21 +7,21 @@ use Rattle.smap_logs.specs.Naming.{asked_in}
 use Rattle.smap_trace_run.specs.Written.{AreAmong, IsOfLogs, IsTraced, IsTracedIn, asked_by}
 use Rattle.smap_trace_run.proofs.AskedLemmas.{next_asked}
 use Rattle.smap_logs.proofs.LogLemmas.{handed_lines, new_log}
-use Rattle.smap_trace_run.proofs.PartsLemmas.{all_parts, none_so_far, one_more_part}
+use Rattle.smap_trace_run.proofs.PartsLemmas.{all_parts, none_so_far, one_more_part, so_far_worse}
 use Rattle.smap_trace_run.proofs.RunningLemmas.{at_start, ended, later, one_run, started}
 use Rattle.smap_trace_run.proofs.TracedLemmas.{traced_lines}
 use Rattle.smap_trace_run.proofs.tracing.Run.follow_log.Goals as goal
 
 pub loop-init : goal.loop-init
 loop-init g c = record {
-  same = record { disk = refl; job = refl };
+  same = record { disk = refl; job = refl; worst = omega arith };
   asked = let log = c.new-log.result in
       subst (IsOfLogs (g.D.Disk.held c.args.self.now.disk) c.args.self.now.job)
       (sym (new_log (g.R.Read.remaining log.reader) log.block log.ended c.new-log.ensures.block
       c.new-log.ensures.ended
       ∙ ap g.R.Read.remaining c.new-log.ensures.reader)) c.requires;
   traced = λ plain. let log = c.new-log.result in
-      none_so_far (g.D.Disk.held c.args.self.now.disk) c.args.self.now.job (λ name. ⊤) log.ended
+      none_so_far (g.D.Disk.held c.args.self.now.disk) c.args.self.now.job _ (λ name. ⊤) log.ended
       (g.R.Read.remaining c.args.reader) (pending g.R.Read.remaining log)
       (contents_of g.W.Write.contents c.args.output.now)
       (new_log (g.R.Read.remaining log.reader) log.block log.ended c.new-log.ensures.block
@@ -33,7 +33,7 @@ pub returns-then-not-more-clause-traced : goal.returns-then-not-more-clause-trac
 returns-then-not-more-clause-traced g c plain =
     let end : IsAtEnd (pending g.R.Read.remaining c.loop.log) =
     rw c.if-not-more.true at c.in_ok-more.ensures.lines in
-    all_parts (g.D.Disk.held c.args.self.now.disk) c.args.self.now.job (λ name. ⊤) c.loop.log.ended
+    all_parts (g.D.Disk.held c.args.self.now.disk) c.args.self.now.job _ (λ name. ⊤) c.loop.log.ended
     (g.R.Read.remaining c.args.reader) (pending g.R.Read.remaining c.loop.log)
     (contents_of g.W.Write.contents c.args.output.now) (contents_of g.W.Write.contents c.loop.output)
     (c.loop.invariant.traced plain) end
@@ -54,7 +54,7 @@ pub loop-preserved : goal.loop-preserved
 loop-preserved g c = record {
   same = one_run _ _ _ c.loop.invariant.same
       (ended _ _ _ (started _ _ _ c.self-in-loop.view_is c.in_ok-open_lines.ensures.same)
-      c.translate_log.ensures.kept);
+      c.translate_lines.ensures.kept);
   asked = let log = c.advance.new.self in
       (next_asked (g.D.Disk.held c.args.self.now.disk) c.args.self.now.job
       (pending g.R.Read.remaining c.loop.log)
@@ -66,19 +66,23 @@ loop-preserved g c = record {
       let log = c.advance.new.self in
       let before = contents_of g.W.Write.contents c.args.output.now in
       let middle = contents_of g.W.Write.contents c.loop.output in
-      let after = contents_of g.W.Write.contents c.translate_log.new.output in
+      let after = contents_of g.W.Write.contents c.translate_lines.new.output in
       let run = c.open_lines.new.self in
-      let same = one_run _ _ _ c.loop.invariant.same
-      (started _ _ _ c.self-in-loop.view_is c.in_ok-open_lines.ensures.same) in
-      one_more_part held job (λ name. ⊤) c.loop.log.ended log.ended (g.R.Read.remaining c.args.reader)
+      let more = started _ _ _ c.self-in-loop.view_is c.in_ok-open_lines.ensures.same in
+      let same = one_run _ _ _ c.loop.invariant.same more in
+      rw c.translate_lines.ensures.kept (one_more_part held job run.chosen.worst (λ name. ⊤) c.loop.log.ended
+      log.ended (g.R.Read.remaining c.args.reader)
       (pending g.R.Read.remaining c.loop.log) (pending g.R.Read.remaining log) before middle after
-      (handed log) (c.loop.invariant.traced plain) (c.in_ok-more.ensures.going c.if-not-more.false)
+      (handed log) (so_far_worse _ _ _ _ _ _ _ _ _ _ more.worst (c.loop.invariant.traced plain))
+      (c.in_ok-more.ensures.going c.if-not-more.false)
       (handed_lines log.block log.ended) (rw c.if-not-more.false at c.in_ok-more.ensures.lines)
-      (subst (λ (part : List ℕ). IsTraced held job (λ name. ⊤) (Some part) middle after) c.lines-lines.ensures
-      (at_start (λ d j. IsTracedIn (g.D.Disk.held d) j (λ name. ⊤) (Some c.lines-lines.result.now) middle
+      (subst (λ (part : List ℕ). IsTraced held job run.chosen.worst (λ name. ⊤) (Some part) middle after)
+      c.lines-lines.ensures
+      (at_start (λ d j. IsTracedIn (g.D.Disk.held d) j run.chosen.worst (λ name. ⊤) (Some
+      c.lines-lines.result.now) middle
       after)
       c.args.self.now run same
       (traced_lines (g.D.Disk.held run.disk) run.job run.chosen c.lines-lines.result.now middle after
-      c.translate_log.ensures.named c.in_ok-open_lines.ensures.settled
-      c.in_ok-translate_log.ensures.traced) plain));
+      c.translate_lines.ensures.named c.in_ok-open_lines.ensures.settled
+      c.in_ok-translate_lines.ensures.traced) plain)));
 }

@@ -8,6 +8,7 @@ abbrev pub invariant-loop-path : goal.invariant-loop-path
 invariant-loop-path g l = record {
   same : IsSameRun l.initial.self l.self;
   traced : AreTraced (g.D.Disk.held l.initial.self.disk) l.initial.self.job
-      (map (λ p. p.now) (take l.path-index l.paths)) (contents_of g.W.Write.contents l.initial.output)
+      l.self.chosen.worst (map (λ p. p.now) (take l.path-index l.paths))
+      (contents_of g.W.Write.contents l.initial.output)
       (contents_of g.W.Write.contents l.output);
 }

@@ -29,6 +29,12 @@ invariant_of-self-in_err-open_names g c =
     c.open_names.new.finder (names_of c.name_logs.new.names) c.self.invariant c.open_names.ensures.same
     c.open_names.ensures.named c.open_names.ensures.ends c.in_ok-sizes.ensures.asked
 
+pub invariant_of-self-in_err-stop_if_strict : goal.invariant_of-self-in_err-stop_if_strict
+invariant_of-self-in_err-stop_if_strict g c =
+    runs_on g.D.Disk.held c.self.inside.host.now.disk.now c.self.inside.job.now c.self.inside.finder
+    c.open_names.new.finder (names_of c.name_logs.new.names) c.self.invariant c.open_names.ensures.same
+    c.open_names.ensures.named c.open_names.ensures.ends c.in_ok-sizes.ensures.asked
+
 pub invariant_of-self-in_err-tell_count : goal.invariant_of-self-in_err-tell_count
 invariant_of-self-in_err-tell_count g c =
     runs_on g.D.Disk.held c.self.inside.host.now.disk.now c.self.inside.job.now c.self.inside.finder

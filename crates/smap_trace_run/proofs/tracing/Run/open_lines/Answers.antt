@@ -21,7 +21,7 @@ invariant_of-self-2 g c =
 pub returns-clause-settled : goal.returns-clause-settled
 returns-clause-settled g c =
     let job = c.self.inside.job.now in
-    lines_settled (g.D.Disk.held c.self.inside.host.now.disk.now) job.wanted job.how
+    lines_settled (g.D.Disk.held c.self.inside.host.now.disk.now) job.wanted
     c.open_names.new.finder.chosen
     (frames_of c.in_ok-names.names) (urls_of c.args.lines.now) c.open_names.result
     c.in_ok-names.ensures.frames.1

@@ -16,11 +16,12 @@ loop-i-preserved g c =
     let own : c.self.inside.host.now.disk.now ≡ r.disk = ap (λ x. x.disk) (c.self.view_is ∙ kept) in
     record {
       kept = c.translate_log.ensures.kept ∙ kept;
-      traced = one_more_path _ _ c.args.paths.now c.loop-i.i _ (omega (arith, c.loop-i-test.true)) _ _ _
-          c.loop-i.invariant.traced
+      traced = rw (c.translate_log.ensures.kept ∙ kept) (one_more_path _ _ _ c.args.paths.now c.loop-i.i _
+          (omega (arith, c.loop-i-test.true)) _ _ _
+          (rw c.loop-i.invariant.kept at c.loop-i.invariant.traced)
           (traced_log (g.D.Disk.held r.disk) r.job r.chosen _ _ _ _ _
           (rw kept at c.translate_log.ensures.named)
           (c.requires.settled c.loop-i.i _ (omega (arith, c.loop-i-test.true)))
           c.in_ok-begin_log.ensures.begun (rw own at c.in_ok-log.ensures)
-          (rw kept at c.in_ok-translate_log.ensures.traced));
+          (rw kept at c.in_ok-translate_log.ensures.traced)));
     }

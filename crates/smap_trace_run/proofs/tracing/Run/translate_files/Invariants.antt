@@ -7,6 +7,7 @@ abbrev pub invariant-loop-i : goal.invariant-loop-i
 invariant-loop-i g l = record {
   kept : l.self ≡ l.initial.self;
   traced : AreTraced (g.D.Disk.held l.initial.self.disk) l.initial.self.job
-      (map (λ p. p.now) (take l.i l.paths)) (contents_of g.W.Write.contents l.initial.output)
+      l.self.chosen.worst (map (λ p. p.now) (take l.i l.paths))
+      (contents_of g.W.Write.contents l.initial.output)
       (contents_of g.W.Write.contents l.output);
 }

@@ -1,0 +1,80 @@
+//! Names of files that differ in a hash alone, as those of a script in two builds do.
+ghost use Rattle.std.specs.Prelude.{◌≡◌, ◌≤◌, length};
+ghost use Rattle.std.specs.Char.{is_ascii_alphanumeric, is_ascii_digit, is_ascii_lowercase};
+ghost use Rattle.std.specs.Char.{is_ascii_uppercase};
+ghost use Rattle.std.specs.List.{list_any, prefix_len};
+ghost use Rattle.smap_trace_run.specs.Builds as spec;
+
+/// So many letters and digits a hash has at least.
+const LEAST: usize = 6;
+
+fn is_separator(byte: u8) -> bool
+    ensures { result ≡ spec.is_separator byte }
+{
+    byte == b'-' || byte == b'.' || byte == b'_'
+}
+
+/// How many letters and digits a text begins with.
+fn word_len(text: &[u8]) -> usize
+    ensures value { result ≡ prefix_len is_ascii_alphanumeric text.now }
+    ensures within { result ≤ length text.now }
+{
+    for at in 0..text.len() {
+        if !text[at].is_ascii_alphanumeric() {
+            return at;
+        }
+    }
+    text.len()
+}
+
+fn has_digit(text: &[u8]) -> bool
+    ensures { result ≡ list_any is_ascii_digit text.now }
+{
+    text.iter().any(|b| b.is_ascii_digit())
+}
+
+fn has_capital(text: &[u8]) -> bool
+    ensures { result ≡ list_any is_ascii_uppercase text.now }
+{
+    text.iter().any(|b| b.is_ascii_uppercase())
+}
+
+fn has_small(text: &[u8]) -> bool
+    ensures { result ≡ list_any is_ascii_lowercase text.now }
+{
+    text.iter().any(|b| b.is_ascii_lowercase())
+}
+
+fn is_hash(text: &[u8]) -> bool
+    ensures { result ≡ spec.is_hash text.now }
+{
+    text.len() >= LEAST && (has_digit(text) || has_capital(text) && has_small(text))
+}
+
+/// Whether two texts begin with different hashes, and go on in the same way.
+fn begin_with_hashes(a: &[u8], b: &[u8]) -> bool
+    ensures { result ≡ spec.begin_with_hashes a.now b.now }
+{
+    let (i, j) = (word_len(a), word_len(b));
+    is_hash(&a[..i]) && is_hash(&b[..j]) && a[i..] == b[j..] && a[..i] != b[..j]
+}
+
+/// Whether two names differ in a hash alone: they are the same up to a separator, which is `-`, `.` or `_`,
+/// different hashes follow, and then the same again. A hash is six or more letters and digits, among them a
+/// digit, or capitals and small letters.
+pub(crate) fn differ_in_hash(a: &[u8], b: &[u8]) -> bool
+    ensures { result ≡ spec.differ_in_hash a.now b.now }
+{
+    for at in 0..a.len() {
+        if at >= b.len() {
+            return false;
+        }
+        if a[at] != b[at] {
+            return false;
+        }
+        if is_separator(a[at]) && begin_with_hashes(&a[at + 1..], &b[at + 1..]) {
+            return true;
+        }
+    }
+    false
+}

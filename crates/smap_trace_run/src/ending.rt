@@ -1,0 +1,291 @@
+//! What is said at the end of a run: how many frames stayed, and why.
+ghost use Rattle.std.specs.Prelude.{◌≡◌};
+
+use crate::builds::differ_in_hash;
+use crate::frames::{Counted, add_missed};
+use crate::hints::hint_at_nothing;
+use crate::program::STDIN;
+use crate::summary::{Stayed, Summary};
+use crate::tracing::{Run, open_log};
+use smap_link::bare;
+use smap_logs::{Log, Names};
+use smap_map_choice::{Found, pick_all, table_of};
+use smap_map_files::{Origin, Wanted};
+use smap_system::{Disk, Stop, printable};
+use std::alloc::{AllocError, Global};
+
+/// The file of the map of this script.
+fn file_of<'w>(
+    alloc: Global,
+    wanted: &'w Wanted<'_>,
+    name: &[u8],
+) -> Result<Option<&'w Vec<u8>>, AllocError> {
+    let Ok(mut table) = table_of(alloc, &wanted.places) else {
+        return Ok(None);
+    };
+    let mut files = Vec::with_capacity(alloc, wanted.files.len())?;
+    for file in &wanted.files {
+        files.push(file.as_slice())?;
+    }
+    let picks = pick_all(alloc, &mut table, &files, true, &[name])?;
+    let Some(pick) = picks.first() else {
+        return Ok(None);
+    };
+    Ok(match pick.found {
+        Found::Given(i) => wanted.places.get(i).map(|place| &place.file),
+        Found::ByEnd(i) => wanted.files.get(i),
+        Found::Unclear(i, j) => wanted.files.get(i.min(j)),
+        Found::Missing => None,
+    })
+}
+
+/// The last part of a path or URL.
+fn last_part<'a>(path: &'a [u8]) -> &'a [u8] {
+    path.rsplit(|b| *b == b'/' || *b == b'\\')
+        .next()
+        .unwrap_or(path)
+}
+
+/// A file's name without `.map`.
+fn stem<'a>(name: &'a [u8]) -> &'a [u8] {
+    name.strip_suffix(b".map".as_slice()).unwrap_or(name)
+}
+
+/// The number of the folder and the file of a map whose script's name differs from this one in a hash alone.
+fn map_of_build<'w>(wanted: &'w Wanted<'_>, name: &[u8]) -> Option<(usize, &'w [u8])> {
+    for (file, root) in wanted.files.iter().zip(wanted.file_roots.iter()) {
+        let file = last_part(file);
+        if differ_in_hash(stem(file), name) {
+            return Some((*root, file));
+        }
+    }
+    for (place, origin) in wanted.places.iter().zip(wanted.origins.iter()) {
+        if let Origin::Below(root) = origin {
+            if differ_in_hash(last_part(bare(&place.script)), name) {
+                return Some((*root, last_part(&place.file)));
+            }
+        }
+    }
+    None
+}
+
+/// Says of which build a script is that has no map, if the folder has a map whose name differs in a hash.
+fn build_text(
+    alloc: Global,
+    wanted: &Wanted<'_>,
+    name: &[u8],
+) -> Result<Option<String>, AllocError> {
+    let name = last_part(bare(name));
+    let Some((number, file)) = map_of_build(wanted, name) else {
+        return Ok(None);
+    };
+    let Some(root) = wanted.roots.get(number) else {
+        return Ok(None);
+    };
+    let root = root.path.as_str();
+    let (file, name) = (printable(alloc, file)?, printable(alloc, name)?);
+    let (file, name) = (file.as_str(), name.as_str());
+    let text = format!(in alloc; "{root} has {file}, the log {name}: of another build?")?;
+    Ok(Some(text))
+}
+
+/// Adds the frames of a log without a mapping, though their script has a map.
+fn add_missed_of<E: Eprint + AllocGlobal, D: Disk>(
+    run: &Run<'_, E, D>,
+    path: &str,
+    missed: &mut Counted,
+) -> Result<(), Stop> {
+    let (host, style) = (run.host, &run.job.style);
+    let mut log = Log::new(host.alloc(), open_log(host, path)?);
+    for _ in 0..u64::MAX {
+        if !log.advance(host)? {
+            return Ok(());
+        }
+        add_missed(
+            host.alloc(),
+            log.lines(),
+            run.finder.scripts(),
+            style,
+            missed,
+        )?;
+    }
+    Err(host.fail(3, "cannot read the log"))
+}
+
+/// The frames of logs without a mapping, though their scripts have maps: of these, or of standard input where
+/// there are none.
+fn missed_of<E: Eprint + AllocGlobal, D: Disk>(
+    run: &Run<'_, E, D>,
+    logs: &[&str],
+) -> Result<Counted, Stop> {
+    let mut missed = Counted::new(run.host.alloc());
+    if logs.is_empty() {
+        add_missed_of(run, STDIN, &mut missed)?;
+    }
+    for path in logs {
+        add_missed_of(run, path, &mut missed)?;
+    }
+    Ok(missed)
+}
+
+impl<E: Eprint + AllocGlobal, D: Disk> Run<'_, E, D> {
+    /// Counts the frames whose names wait for that.
+    fn count_frames(&mut self) -> Result<(), AllocError>
+        ensures { self.new ≡ self.old }
+    {
+        let alloc = self.host.alloc();
+        if !self.job.quiet {
+            self.frames
+                .add(alloc, &self.finder, &self.given, &self.names)?;
+        }
+        self.names = Names::new(alloc);
+        Ok(())
+    }
+
+    /// How many frames of scripts with a map have no mapping. Where positions are looked for anywhere, it is
+    /// known only if nothing was translated.
+    fn unmapped_count(&self) -> u64 {
+        if self.job.anywhere && self.tally.changed > 0 {
+            return 0;
+        }
+        self.frames.mapped.all().saturating_sub(self.tally.changed)
+    }
+
+    /// Whether it isn't known of all frames without a mapping of which scripts they are.
+    fn lacks_missed(&self) -> bool {
+        !self.job.anywhere && self.unmapped_count() > self.frames.missed.all()
+    }
+
+    /// Counts the frames of lines of a log that is read once, which were translated.
+    pub(crate) fn count_lines(&mut self, lines: &[u8]) -> Result<(), AllocError>
+        ensures { self.new ≡ self.old }
+    {
+        self.count_frames()?;
+        if self.lacks_missed() {
+            let (host, job, scripts) = (self.host, self.job, self.finder.scripts());
+            add_missed(
+                host.alloc(),
+                lines,
+                scripts,
+                &job.style,
+                &mut self.frames.missed,
+            )?;
+        }
+        Ok(())
+    }
+
+    /// Whether all frames without a mapping are of one script, or all frames are without one.
+    fn is_plain(&self) -> bool {
+        self.tally.changed == 0 || self.frames.mapped.is_of_one()
+    }
+
+    /// Looks through logs that are files once more, where it isn't known of which scripts frames without a
+    /// mapping are.
+    fn find_missed(&mut self) -> Result<(), Stop> {
+        if self.is_plain() || !self.lacks_missed() {
+            return Ok(());
+        }
+        let job = self.job;
+        self.frames.missed = missed_of(self, &job.wanted.logs)?;
+        Ok(())
+    }
+
+    /// The file of the map of which most frames without a mapping are.
+    fn unmapped_file(&self, alloc: Global) -> Result<String, AllocError> {
+        let frames = &self.frames;
+        let kind = if self.is_plain() {
+            &frames.mapped
+        } else {
+            &frames.missed
+        };
+        let Some(name) = kind.most().or(frames.mapped.most()) else {
+            return Ok(String::new(alloc));
+        };
+        match file_of(alloc, &self.job.wanted, name)? {
+            Some(file) => printable(alloc, file),
+            None => printable(alloc, name),
+        }
+    }
+
+    /// Says of which build the script is that most frames without a map are of, if the folder has a map whose
+    /// name differs in a hash.
+    fn build_text(&self) -> Result<Option<String>, AllocError> {
+        match self.frames.mapless.most() {
+            Some(name) => build_text(self.host.alloc(), &self.job.wanted, name),
+            None => Ok(None),
+        }
+    }
+
+    /// Whether there is such a map.
+    fn is_of_another_build(&self) -> Result<bool, AllocError> {
+        Ok(self.build_text()?.is_some())
+    }
+
+    /// What most frames without a map are of.
+    fn mapless_text(&self, alloc: Global) -> Result<String, AllocError> {
+        match self.build_text()? {
+            Some(text) => Ok(text),
+            None => printable(alloc, self.frames.mapless.most().unwrap_or(b"")),
+        }
+    }
+
+    /// Says how many frames stayed, if some did, and what most of them are of.
+    fn say_counts(&self, unmapped: &str, mapless: &str) -> Result<(), Stop> {
+        let summary = Summary {
+            anywhere: self.job.anywhere,
+            translated: self.tally.changed,
+            unmapped: Stayed {
+                count: self.unmapped_count(),
+                most: unmapped,
+            },
+            mapless: Stayed {
+                count: self.frames.mapless.all(),
+                most: mapless,
+            },
+        };
+        if summary.is_said() {
+            let text = summary.text(self.host.alloc())?;
+            self.host.say(text.as_str());
+        }
+        Ok(())
+    }
+
+    /// The same, where most frames without a mapping are of this.
+    fn say_with(&self, unmapped: &str) -> Result<(), Stop> {
+        let mapless = self.mapless_text(self.host.alloc())?;
+        self.say_counts(unmapped, mapless.as_str())
+    }
+
+    /// Says how many frames stayed, if some did.
+    fn say_summary(&self) -> Result<(), Stop> {
+        let unmapped = self.unmapped_file(self.host.alloc())?;
+        self.say_with(unmapped.as_str())
+    }
+
+    /// Whether no frame is of a script with a map, in this build or in another.
+    fn is_unmapped(&self) -> Result<bool, AllocError> {
+        if self.tally.changed > 0 || self.frames.mapped.all() > 0 {
+            return Ok(false);
+        }
+        Ok(!self.is_of_another_build()?)
+    }
+
+    /// Says in one line what wasn't translated, and why, unless that isn't wanted, or it was said at the
+    /// beginning that the log can't be read as it is.
+    pub(crate) fn say_end(&mut self) -> Result<(), Stop> {
+        if self.job.quiet || self.start.is_hinted || self.tally.lines == 0 {
+            return Ok(());
+        }
+        self.count_frames()?;
+        if self.is_unmapped()? {
+            let escaped = self.start.is_escaped;
+            return hint_at_nothing(self.host, self.job, &self.frames, escaped, &self.finder);
+        }
+        if self.start.lines != self.tally.lines {
+            // What was named and what was translated differ, as standard input does that was read before.
+            return Ok(());
+        }
+        self.find_missed()?;
+        self.say_summary()
+    }
+}
