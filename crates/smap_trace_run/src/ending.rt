@@ -4,40 +4,15 @@ ghost use Rattle.std.specs.Prelude.{◌≡◌};
 use crate::builds::differ_in_hash;
 use crate::frames::{Counted, add_missed};
 use crate::hints::hint_at_nothing;
+use crate::mismatches::files_of;
 use crate::program::STDIN;
 use crate::summary::{Stayed, Summary};
 use crate::tracing::{Run, open_log};
 use smap_link::bare;
 use smap_logs::{Log, Names};
-use smap_map_choice::{Found, pick_all, table_of};
 use smap_map_files::{Origin, Wanted};
 use smap_system::{Disk, Stop, printable};
 use std::alloc::{AllocError, Global};
-
-/// The file of the map of this script.
-fn file_of<'w>(
-    alloc: Global,
-    wanted: &'w Wanted<'_>,
-    name: &[u8],
-) -> Result<Option<&'w Vec<u8>>, AllocError> {
-    let Ok(mut table) = table_of(alloc, &wanted.places) else {
-        return Ok(None);
-    };
-    let mut files = Vec::with_capacity(alloc, wanted.files.len())?;
-    for file in &wanted.files {
-        files.push(file.as_slice())?;
-    }
-    let picks = pick_all(alloc, &mut table, &files, true, &[name])?;
-    let Some(pick) = picks.first() else {
-        return Ok(None);
-    };
-    Ok(match pick.found {
-        Found::Given(i) => wanted.places.get(i).map(|place| &place.file),
-        Found::ByEnd(i) => wanted.files.get(i),
-        Found::Unclear(i, j) => wanted.files.get(i.min(j)),
-        Found::Missing => None,
-    })
-}
 
 /// The last part of a path or URL.
 fn last_part<'a>(path: &'a [u8]) -> &'a [u8] {
@@ -137,6 +112,8 @@ impl<E: Eprint + AllocGlobal, D: Disk> Run<'_, E, D> {
         if !self.job.quiet {
             self.frames
                 .add(alloc, &self.finder, &self.given, &self.names)?;
+            self.frames
+                .add_used(alloc, &self.job.with_controls, &self.finder, &self.names)?;
         }
         self.names = Names::new(alloc);
         Ok(())
@@ -201,9 +178,10 @@ impl<E: Eprint + AllocGlobal, D: Disk> Run<'_, E, D> {
         let Some(name) = kind.most().or(frames.mapped.most()) else {
             return Ok(String::new(alloc));
         };
-        match file_of(alloc, &self.job.wanted, name)? {
-            Some(file) => printable(alloc, file),
-            None => printable(alloc, name),
+        let files = files_of(alloc, &self.job.wanted, &[name])?;
+        match files.first() {
+            Some(Some(file)) => printable(alloc, file),
+            Some(None) | None => printable(alloc, name),
         }
     }
 
@@ -277,6 +255,7 @@ impl<E: Eprint + AllocGlobal, D: Disk> Run<'_, E, D> {
             return Ok(());
         }
         self.count_frames()?;
+        self.say_mismatches()?;
         if self.is_unmapped()? {
             let escaped = self.start.is_escaped;
             return hint_at_nothing(self.host, self.job, &self.frames, escaped, &self.finder);

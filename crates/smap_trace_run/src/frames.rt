@@ -33,6 +33,15 @@ impl Counted {
         self.all
     }
 
+    /// Their names.
+    pub(crate) fn names(&self, alloc: Global) -> Result<Vec<&[u8]>, AllocError> {
+        let mut names = Vec::with_capacity(alloc, self.names.len())?;
+        for (name, _) in self.names.iter() {
+            names.push(name.as_slice())?;
+        }
+        Ok(names)
+    }
+
     /// Whether all have one name.
     pub(crate) fn is_of_one(&self) -> bool {
         self.names.len() == 1
@@ -80,6 +89,8 @@ pub(crate) struct Frames {
     pub(crate) foreign: u64,
     /// Those of scripts with maps that have no mapping for them, as far as they were looked for.
     pub(crate) missed: Counted,
+    /// Those of scripts with maps, and what else names such a script.
+    pub(crate) used: Counted,
 }
 
 impl Frames {
@@ -90,6 +101,7 @@ impl Frames {
             elsewhere: Counted::new(alloc),
             foreign: 0,
             missed: Counted::new(alloc),
+            used: Counted::new(alloc),
         }
     }
 
@@ -130,6 +142,27 @@ impl Frames {
                 self.mapped.add(alloc, name, *count)?;
             } else {
                 self.add_mapless(alloc, given, name, *count)?;
+            }
+        }
+        Ok(())
+    }
+
+    /// Counts the names of scripts whose maps are open, be they of frames or not.
+    pub(crate) fn add_used<E: Eprint + AllocGlobal, D: Disk>(
+        &mut self,
+        alloc: Global,
+        with_controls: &[Vec<u8>],
+        finder: &Finder<'_, E, D>,
+        names: &Names,
+    ) -> Result<(), AllocError> {
+        for (name, _) in names.frames.iter() {
+            if finder.map_of(name).is_some() {
+                self.used.add(alloc, name, 1)?;
+            }
+        }
+        for name in &names.of_others(alloc, with_controls)? {
+            if finder.map_of(name).is_some() {
+                self.used.add(alloc, name, 1)?;
             }
         }
         Ok(())

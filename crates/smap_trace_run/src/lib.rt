@@ -10,6 +10,7 @@ mod frames;
 mod given;
 mod hints;
 mod listing;
+mod mismatches;
 mod output;
 mod program;
 mod summary;
