@@ -7,9 +7,21 @@ use crate::opening::Search;
 use smap_link::bare;
 use smap_map_choice::{Found, Pick, Place};
 use smap_system::{Disk, Host, Stop, printable};
+use std::alloc::{AllocError, Global};
 
 /// So many names are told to be taken for others at most.
 const MOST_TOLD: usize = 1_000;
+
+/// Notes that something is told of a name. Answers whether it wasn't yet, and is to be.
+fn is_to_be_told(alloc: Global, name: &[u8], chosen: &mut Chosen) -> Result<bool, AllocError>
+    ensures { choices_of chosen.new ≡ choices_of chosen.old }
+{
+    if chosen.told.len() >= MOST_TOLD {
+        return Ok(false);
+    }
+    let key = Vec::from_slice(alloc, bare(name))?;
+    Ok(chosen.told.insert(key, ())?.is_none())
+}
 
 fn tell_alike<E: Eprint + AllocGlobal, D: Disk>(
     host: &Host<'_, E, D>,
@@ -20,11 +32,7 @@ fn tell_alike<E: Eprint + AllocGlobal, D: Disk>(
     ensures { choices_of chosen.new ≡ choices_of chosen.old }
 {
     let alloc = host.alloc();
-    if chosen.told.len() >= MOST_TOLD {
-        return Ok(());
-    }
-    let key = Vec::from_slice(alloc, bare(name))?;
-    if chosen.told.insert(key, ())?.is_some() {
+    if !is_to_be_told(alloc, name, chosen)? {
         return Ok(());
     }
     let name = printable(alloc, name)?;
@@ -32,6 +40,25 @@ fn tell_alike<E: Eprint + AllocGlobal, D: Disk>(
     let file = printable(alloc, &place.file)?;
     let (name, script, file) = (name.as_str(), script.as_str(), file.as_str());
     let text = format!(in alloc; "{name} in the log is taken for {script} ({file})")?;
+    host.say(text.as_str());
+    Ok(())
+}
+
+fn tell_end<E: Eprint + AllocGlobal, D: Disk>(
+    host: &Host<'_, E, D>,
+    file: &[u8],
+    name: &[u8],
+    chosen: &mut Chosen,
+) -> Result<(), Stop>
+    ensures { choices_of chosen.new ≡ choices_of chosen.old }
+{
+    let alloc = host.alloc();
+    if !is_to_be_told(alloc, name, chosen)? {
+        return Ok(());
+    }
+    let (name, file) = (printable(alloc, name)?, printable(alloc, file)?);
+    let (name, file) = (name.as_str(), file.as_str());
+    let text = format!(in alloc; "{name} in the log takes {file} by its end")?;
     host.say(text.as_str());
     Ok(())
 }
@@ -66,6 +93,10 @@ impl<E: Eprint + AllocGlobal, D: Disk> Search<'_, E, D> {
                     tell_alike(host, place, pick.name, chosen)
                 }
                 _ => Ok(()),
+            },
+            Found::ByEnd(i) if self.how.verbose => match wanted.files.get(i) {
+                Some(file) => tell_end(host, file, pick.name, chosen),
+                None => Ok(()),
             },
             Found::Unclear(i, j) => match (wanted.files.get(i), wanted.files.get(j)) {
                 (Some(first), Some(second)) => {
