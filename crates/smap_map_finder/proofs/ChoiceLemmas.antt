@@ -9,7 +9,8 @@ use Rattle.std.specs.List.{All, slice_get}
 use Rattle.std.proofs.lemmas.Option.{get_or_from_slice_get, slice_get-get_or, slice_get-map, slice_get_within}
 use Rattle.smap_system.specs.Held.{Held, IsHeld}
 use Rattle.smap_map_finder.specs.Choice.{AreChoices, ArePicksIn, ArePicksOf, IsFoundIn, NamesMap, files_of}
-use Rattle.smap_map_finder.specs.Choice.{IsChoice, IsHalfUnclear, IsTied, is_plain, map_files_of}
+use Rattle.smap_map_finder.specs.Choice.{FindsNone, HasNone, IsChoice, IsHalfUnclear, IsTied, NamesNone}
+use Rattle.smap_map_finder.specs.Choice.{is_plain, map_files_of}
 use Rattle.smap_map_finder.specs.Choice.{places_of}
 use Rattle.smap_map_files.specs.Given.{Folder, IsFollowed}
 use Rattle.smap_map_files.specs.declared.following.Followed.TheVariants as followed
@@ -119,3 +120,15 @@ untied_choice held w name found map all maps untied = inl (record {
   is_found = all;
   is_clear = inr (record { map = map; is_map = maps; is_untied = untied });
 })
+
+pub passed_choice : (held : Held) (w : Wanted) (name : List ℕ) (found map : Found)
+    → IsFoundIn w (files_of w) name found → IsFoundIn w (map_files_of w) name map → FindsNone held w found
+    → IsChoice held w name map
+passed_choice held w name found map all maps none =
+    inr (inr (record { script = found; by_all = all; without = none; by_map = maps }))
+
+-- a script whose text was followed to nothing has no map
+pub has_none : (held : Held) (folder : Folder) (script : MapPlace) (text : List ℕ)
+    → IsHeld held script.file text → NamesNone folder script.file text → HasNone held folder script.file
+has_none None folder script text is none = tt
+has_none (Some held) folder script text is none = (text, is, none)

@@ -2,8 +2,7 @@
 use Rattle.std.specs.Prelude.{◌≡◌, ◌⊎◌, ◌+◌, ◌<◌, ◌≤◌, ℕ, Bool, true, false, not, ◌==◌, ◌&&◌, ◌||◌}
 use Rattle.std.specs.Prelude.{nat_eq, nat_le, nat_lt, List, [], ◌++◌, codes, cond, drop, length, map}
 use Rattle.std.specs.Prelude.{min, take, unwrap_or, ⊤}
-use Rattle.std.specs.Prelude.{IfSome, Option, Some, None, option_and_then, option_map}
-use Rattle.std.specs.Global.{Vec}
+use Rattle.std.specs.Prelude.{Option, Some, None, option_and_then, option_map}
 use Rattle.std.specs.Char.{is_ascii_alphanumeric}
 use Rattle.std.specs.List.{All, list_any, prefix_len, slice_get, starts_with}
 use Rattle.smap_system.specs.Held.{Held}
@@ -19,13 +18,15 @@ use Rattle.smap_map_choice.specs.declared.picks.Found.{Found}
 use Rattle.smap_map_choice.specs.declared.picks.Found.TheVariants.{Given, ByEnd, Unclear, Missing}
 use Rattle.smap_map_choice.specs.declared.picks.Pick.{Pick}
 use Rattle.smap_record.specs.Record.{ReadMap}
-use Rattle.smap_map_files.specs.Given.{Folder, Names}
+use Rattle.smap_map_files.specs.Given.{Folder, Names, NamesNothing, NamesUnfound}
 use Rattle.smap_map_files.specs.Lists.{name_of_file}
 use Rattle.smap_map_files.specs.Opened.{GivesNone, IsOpened}
 use Rattle.smap_map_files.specs.RootView.{folder_in}
 use Rattle.smap_map_files.specs.declared.wanted.Origin.{Origin}
 use Rattle.smap_map_files.specs.declared.wanted.Origin.TheVariants as origin
 use Rattle.smap_map_files.specs.declared.wanted.Wanted.{Wanted}
+use Rattle.smap_map_finder.specs.declared.links.Named.{Named}
+use Rattle.smap_map_finder.specs.declared.links.Named.TheVariants as named
 
 -- ---- what the arguments name
 
@@ -106,9 +107,32 @@ abbrev pub Links : Held → Wanted → ℕ → ℕ → Type 0
 Links held w script file =
     (name : List ℕ) × (slice_get (files_of w) file ≡ Some name) × IsNamedBy held w script name
 
--- What is kept of scripts: the file that each names, if it names one.
-abbrev pub AreLinks : Held → Wanted → List (ℕ × Option (Vec ℕ)) → Type 0
-AreLinks held w kept = All (λ e. IfSome e.1 (λ file. IsNamedBy held w e.0 file.items)) kept
+-- The text of a script names no map, or one that can't be had.
+abbrev pub NamesNone : Folder → List ℕ → List ℕ → Type 0
+NamesNone folder script text = NamesNothing script text ⊎ NamesUnfound folder script text
+
+-- The same, where it is said what files hold.
+abbrev pub HasNone : Held → Folder → List ℕ → Type 0
+HasNone None folder script = ⊤
+HasNone (Some held) folder script =
+    (text : List ℕ) × (held script ≡ Some text) × NamesNone folder script text
+
+-- The script with this number among the files has no map, seen from the folder that it was found in.
+pub record IsWithoutMap (held : Held) (w : Wanted) (script : ℕ) : Type 0 where
+  pub folder : Folder
+  pub folder_is : root_of w (ByEnd script) ≡ Some folder
+  pub script_name : List ℕ
+  pub script_is : slice_get (files_of w) script ≡ Some script_name
+  pub none : HasNone held folder script_name
+
+-- What is kept of a script: the file that it names, or that it has no map.
+abbrev pub IsNamed : Held → Wanted → ℕ → Named → Type 0
+IsNamed held w script (named.File file) = IsNamedBy held w script file.items
+IsNamed held w script named.Nothing = IsWithoutMap held w script
+IsNamed held w script named.Other = ⊤
+
+abbrev pub AreLinks : Held → Wanted → List (ℕ × Named) → Type 0
+AreLinks held w kept = All (λ e. IsNamed held w e.0 e.1) kept
 
 -- A script ends alike with the name, and names the map that does so.
 pub record IsThrough (held : Held) (w : Wanted) (name : List ℕ) (found : Found) : Type 0 where
@@ -172,9 +196,24 @@ pub record IsClear (w : Wanted) (name : List ℕ) (found : Found) : Type 0 where
   pub is_found : IsFoundIn w (files_of w) name found
   pub is_clear : (is_plain w found ≡ true) ⊎ IsUntied w name found
 
+-- What is found is a script that has no map.
+abbrev pub FindsNone : Held → Wanted → Found → Type 0
+FindsNone held w (Given i) = ⊥
+FindsNone held w (ByEnd i) = (map_count_of w ≤ i) × IsWithoutMap held w i
+FindsNone held w (Unclear i j) = ⊥
+FindsNone held w Missing = ⊥
+
+-- Then what is found among the maps counts.
+pub record IsPassedOver (held : Held) (w : Wanted) (name : List ℕ) (found : Found) : Type 0 where
+  pub script : Found
+  pub by_all : IsFoundIn w (files_of w) name script
+  pub without : FindsNone held w script
+  pub by_map : IsFoundIn w (map_files_of w) name found
+
 -- What is found for a name of a log.
 abbrev pub IsChoice : Held → Wanted → List ℕ → Found → Type 0
-IsChoice held w name found = IsClear w name found ⊎ IsSettled held w name found
+IsChoice held w name found =
+    IsClear w name found ⊎ (IsSettled held w name found ⊎ IsPassedOver held w name found)
 
 abbrev pub IsChoiceOf : Held → Wanted → Pick → Type 0
 IsChoiceOf held w pick = IsChoice held w pick.name.now pick.found

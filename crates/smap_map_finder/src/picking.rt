@@ -262,6 +262,22 @@ impl<E: Eprint + AllocGlobal, D: Disk> Search<'_, E, D> {
         Ok(map)
     }
 
+    /// Whether a script is found that has no map, and a map is found besides.
+    fn is_passed_over(&self, finds: Finds, links: &mut Links) -> Result<bool, Stop>
+        requires { AreLinks (held_in D.held self.now) (wanted_in self.now) links.old.named.entries }
+        ensures over { IfOk result (λ b. b ≡ true
+            → spec.FindsNone (held_in D.held self.now) (wanted_in self.now) finds.of_all) }
+        ensures links { AreLinks (held_in D.held self.now) (wanted_in self.now) links.new.named.entries }
+    {
+        let Found::ByEnd(script) = finds.of_all else {
+            return Ok(false);
+        };
+        if script < map_count(self.wanted) || finds.of_maps == Found::Missing {
+            return Ok(false);
+        }
+        self.is_without_map(script, links)
+    }
+
     /// What is found for a name, of which this is found among the files.
     fn settled_found(&self, name: &[u8], finds: Finds, links: &mut Links) -> Result<Found, Stop>
         requires links { AreLinks (held_in D.held self.now) (wanted_in self.now) links.old.named.entries }
@@ -277,6 +293,9 @@ impl<E: Eprint + AllocGlobal, D: Disk> Search<'_, E, D> {
         let tied = is_tied(self.host.alloc(), self.wanted, name, finds)?;
         if tied {
             return self.script_or_map(name, finds.of_scripts, finds.of_maps, links);
+        }
+        if self.is_passed_over(finds, links)? {
+            return Ok(finds.of_maps);
         }
         Ok(finds.of_all)
     }

@@ -10,7 +10,7 @@ returns-then-branch-clause-choice g c =
     let links : Links (g.D.Disk.held c.args.self.now.host.now.disk.now) w c.in-Some.number
     c.in-ByEnd-ByEnd.of_map =
     c.in_ok-names_this.ensures.link c.if-branch.true in
-    inr (record {
+    inr (inl (record {
       unclear = c.requires.unclear;
       settled = inr (record {
         script = c.in-ByEnd-ByEnd.i;
@@ -20,4 +20,4 @@ returns-then-branch-clause-choice g c =
         found_is = ap ByEnd sum;
         links = rw sum at links;
       });
-    })
+    }))
