@@ -1,7 +1,7 @@
 -- Names of a log, and what they have.
 use Rattle.std.proofs.Common.{arith, ◌≡◌, ◌∙◌, ◌<◌, ◌≤◌, ◌+◌, ◌++◌, ◌∷◌, ap, refl, sym, inl, inr, ℕ}
 use Rattle.std.proofs.Common.{Bor, List, [], length, take}
-use Rattle.std.proofs.Common.{Some, None, get_or, map, subst, option_map, true, false}
+use Rattle.std.proofs.Common.{Some, None, get_or, map, subst, option_map, true}
 use Rattle.std.proofs.lemmas.List.{get_or-map, length-map, map_push, take_all, take_more}
 use Rattle.std.proofs.lemmas.List.Elements.{All-push}
 use Rattle.std.specs.Global.{Vec}

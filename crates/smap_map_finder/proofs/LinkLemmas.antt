@@ -8,9 +8,9 @@ use Rattle.smap_map_files.specs.declared.wanted.Wanted.{Wanted}
 use Rattle.smap_system.specs.Held.{Held}
 use Rattle.smap_map_finder.proofs.ChoiceLemmas.{one_of}
 use Rattle.smap_map_finder.proofs.ChosenLemmas.{all_inserted}
-use Rattle.smap_map_finder.specs.Choice.{AreLinks, IsNamed, IsNamedBy, Links, files_of}
+use Rattle.smap_map_finder.specs.Choice.{AreLinks, IsNamed, IsNamedBy, IsWithoutMap, Links, files_of}
 use Rattle.smap_map_finder.specs.declared.links.Named.{Named}
-use Rattle.smap_map_finder.specs.declared.links.Named.TheVariants.{File}
+use Rattle.smap_map_finder.specs.declared.links.Named.TheVariants.{File, Nothing}
 
 pub kept_more : (held : Held) (w : Wanted) (kept : List (ℕ × Named)) (script : ℕ)
     (named : Named) → AreLinks held w kept → IsNamed held w script named
@@ -34,3 +34,10 @@ kept_link held w kept i key script map named name file all there own at is same 
     is_link held w script map named name file at
     (subst (λ (s : ℕ). IsNamed held w s named) own
     (one_of (λ (e : ℕ × Named). IsNamed held w e.0 e.1) kept (key, named) i all there)) is same
+
+pub kept_none : (held : Held) (w : Wanted) (kept : List (ℕ × Named)) (i key script : ℕ) (named : Named)
+    → AreLinks held w kept → slice_get kept i ≡ Some (key, named) → key ≡ script → named ≡ Nothing
+    → IsWithoutMap held w script
+kept_none held w kept i key script named all there own is =
+    subst (IsWithoutMap held w) own (rw is at
+    (one_of (λ (e : ℕ × Named). IsNamed held w e.0 e.1) kept (key, named) i all there))

@@ -1,6 +1,6 @@
 -- Which map a name of a log has, of those that the arguments name.
 use Rattle.std.specs.Prelude.{◌≡◌, ◌⊎◌, ◌+◌, ◌<◌, ◌≤◌, ℕ, Bool, true, false, not, ◌==◌, ◌&&◌, ◌||◌}
-use Rattle.std.specs.Prelude.{nat_eq, nat_le, nat_lt, List, [], ◌++◌, codes, cond, drop, length, map}
+use Rattle.std.specs.Prelude.{nat_eq, nat_le, nat_lt, List, [], codes, cond, drop, length, map}
 use Rattle.std.specs.Prelude.{min, take, unwrap_or, ⊤}
 use Rattle.std.specs.Prelude.{Option, Some, None, option_and_then, option_map}
 use Rattle.std.specs.Char.{is_ascii_alphanumeric}

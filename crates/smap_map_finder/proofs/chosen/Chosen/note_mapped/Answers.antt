@@ -1,4 +1,4 @@
-use Rattle.std.proofs.Common.{◌≡◌, ◌∙◌, rules, List, ℕ, refl, sym, subst, arith}
+use Rattle.std.proofs.Common.{◌≡◌, rules, List, ℕ, refl, sym, subst, arith}
 use Rattle.std.specs.List.{All, Contains}
 use Rattle.smap_record.specs.Record.{record_of}
 use Rattle.smap_trace.specs.Scripts.{Script}

@@ -1,4 +1,4 @@
-use Rattle.std.proofs.Common.{rules, ◌≡◌, ◌+◌, inr, ap}
+use Rattle.std.proofs.Common.{rules, ◌≡◌, ◌+◌, inl, inr, ap}
 use Rattle.smap_map_choice.specs.declared.picks.Found.TheVariants.{ByEnd}
 use Rattle.smap_map_finder.specs.Choice.{Links, map_count_of}
 use Rattle.smap_map_finder.proofs.opening.Search.script_or_map.Goals as goal
