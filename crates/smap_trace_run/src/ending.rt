@@ -110,10 +110,8 @@ impl<E: Eprint + AllocGlobal, D: Disk> Run<'_, E, D> {
     {
         let alloc = self.host.alloc();
         if !self.job.quiet {
-            self.frames
-                .add(alloc, &self.finder, &self.given, &self.names)?;
-            self.frames
-                .add_used(alloc, &self.job.with_controls, &self.finder, &self.names)?;
+            let with_controls = self.job.with_controls.as_slice();
+            self.frames.add(alloc, with_controls, &self.finder, &self.given, &self.names)?;
         }
         self.names = Names::new(alloc);
         Ok(())

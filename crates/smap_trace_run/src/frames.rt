@@ -129,10 +129,27 @@ impl Frames {
         Ok(())
     }
 
-    /// Counts the frames with these names, whose maps are open.
+    /// Counts what else than frames names scripts whose maps are open.
+    fn add_others<E: Eprint + AllocGlobal, D: Disk>(
+        &mut self,
+        alloc: Global,
+        with_controls: &[Vec<u8>],
+        finder: &Finder<'_, E, D>,
+        names: &Names,
+    ) -> Result<(), AllocError> {
+        for name in &names.of_others(alloc, with_controls)? {
+            if finder.map_of(name).is_some() {
+                self.used.add(alloc, name, 1)?;
+            }
+        }
+        Ok(())
+    }
+
+    /// Counts the frames with these names, whose maps are open, and what else names scripts.
     pub(crate) fn add<E: Eprint + AllocGlobal, D: Disk>(
         &mut self,
         alloc: Global,
+        with_controls: &[Vec<u8>],
         finder: &Finder<'_, E, D>,
         given: &Given,
         names: &Names,
@@ -140,32 +157,12 @@ impl Frames {
         for (name, count) in names.frames.iter() {
             if finder.map_of(name).is_some() {
                 self.mapped.add(alloc, name, *count)?;
+                self.used.add(alloc, name, *count)?;
             } else {
                 self.add_mapless(alloc, given, name, *count)?;
             }
         }
-        Ok(())
-    }
-
-    /// Counts the names of scripts whose maps are open, be they of frames or not.
-    pub(crate) fn add_used<E: Eprint + AllocGlobal, D: Disk>(
-        &mut self,
-        alloc: Global,
-        with_controls: &[Vec<u8>],
-        finder: &Finder<'_, E, D>,
-        names: &Names,
-    ) -> Result<(), AllocError> {
-        for (name, _) in names.frames.iter() {
-            if finder.map_of(name).is_some() {
-                self.used.add(alloc, name, 1)?;
-            }
-        }
-        for name in &names.of_others(alloc, with_controls)? {
-            if finder.map_of(name).is_some() {
-                self.used.add(alloc, name, 1)?;
-            }
-        }
-        Ok(())
+        self.add_others(alloc, with_controls, finder, names)
     }
 }
 
