@@ -5,7 +5,7 @@
 LIB is the folder that tools/build-capi made, CLI that of the Node package, if it is built. Prints three tables.
 The first: a line through a pipe to `smap-trace`, once it has seen so many distinct names. The second: a log of
 --lines lines, each with a query of its own, as it is, with `--context` and with `--source-prefix`. The third: a
-call of `Scripts.translate` with a log of five lines, by so many scripts, in Python and in Node. None of the
+call of `smap_translate` with a log of five lines, by so many scripts, in C, in Python and in Node. None of the
 figures should grow with the number. Let nothing else run meanwhile.
 """
 
@@ -26,6 +26,38 @@ TOP = Path(__file__).resolve().parent.parent
 NUMBERS = [1, 1_000, 10_000, 90_000]
 SCRIPTS = [1, 100, 10_000]
 CALLS = 300
+C = r"""
+#include <smap.h>
+#include <stdio.h>
+#include <stdlib.h>
+#include <time.h>
+#define LINE "    at f (http://h/m/0.js:1:2)\n"
+static double now(void) { struct timespec t; clock_gettime(CLOCK_MONOTONIC, &t); return t.tv_sec * 1e6 + t.tv_nsec / 1e3; }
+int main(int count, char **words)
+{
+    static char text[1 << 24], url[64];
+    size_t size = fread(text, 1, sizeof text - 1, stdin);
+    smap_map map = {0};
+    if (!size || smap_open_text(&map, text, "http://h/m/0.js.map", NULL, NULL) != SMAP_OK) return 1;
+    for (int i = 1; i < count; i++) {
+        smap_scripts scripts = {0};
+        for (long j = 0; j < atol(words[i]); j++) {
+            snprintf(url, sizeof url, "http://h/m/%ld.js", j);
+            if (smap_add_script_text(&scripts, url, &map) != SMAP_OK) return 1;
+        }
+        double start = 0;
+        for (int call = 0; call <= CALLS; call++) {
+            smap_bytes out = {0};
+            if (call == 1) start = now();
+            if (smap_translate_text(&scripts, LINE LINE LINE LINE LINE, 0, &out, NULL) != SMAP_OK) return 1;
+            smap_bytes_free(&out);
+        }
+        printf("%f\n", (now() - start) / CALLS);
+        smap_close_scripts(&scripts);
+    }
+    return 0;
+}
+"""
 NODE = """
 const { Map, Scripts } = require(process.argv[1]);
 const { readFileSync } = require("fs");
@@ -82,6 +114,15 @@ def log_times(program, folder, log):
         yield " ".join(options[:1]) or "none", after.ru_utime + after.ru_stime - before.ru_utime - before.ru_stime
 
 
+def c_times(lib, folder, text):
+    """Microseconds of a call in C, by the number of scripts."""
+    timer = folder / "timer"
+    words = ["cc", "-O2", f"-DCALLS={CALLS}", "-x", "c", "-", "-I", lib, "-x", "none", lib / "libsmap.a", "-o", timer]
+    subprocess.run(words, input=C, text=True, check=True)
+    told = subprocess.run([timer, *map(str, SCRIPTS)], input=text, stdout=subprocess.PIPE, check=True).stdout
+    return [float(line) for line in told.split()]
+
+
 def python_times(lib, text):
     """Microseconds of a call in Python, by the number of scripts."""
     os.environ["SMAP_LIBRARY"] = str(lib / "libsmap.so")
@@ -124,7 +165,8 @@ def main():
         print(f"\n| option | {words.lines:,} lines, seconds |\n|---|---|")
         for name, used in log_times(trace, folder, log):
             print(f"| {name} | {used:.1f} |", flush=True)
-        columns = {"Python": list(python_times(words.lib, text.getvalue().encode()))}
+        data = text.getvalue().encode()
+        columns = {"C": c_times(words.lib, Path(temp), data), "Python": list(python_times(words.lib, data))}
         if words.node:
             given = [words.node, folder / "0.js.map", str(SCRIPTS)]
             told = subprocess.run(["node", "-e", NODE, *given], capture_output=True, text=True, check=True).stdout

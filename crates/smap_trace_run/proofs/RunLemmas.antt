@@ -1,6 +1,7 @@
 -- What a run answers to its words.
 use Rattle.std.proofs.Common.{◌≡◌, ◌∙◌, ◌==◌, [], ◌∷◌, Bor, false, true, not, length, map, subst, sym, arith}
 use Rattle.std.proofs.Common.{ℕ, Bool, List, Option, None, Some, Result, Ok, Err, IfOk, OnOk, codes, inl, inr}
+use Rattle.std.specs.Prelude.{IsOk, cond}
 use Rattle.std.proofs.Common.{refl}
 use Rattle.std.proofs.lemmas.Bool.Decides.{nat_tests}
 use Rattle.std.proofs.lemmas.List.{nil_from_length}
@@ -11,6 +12,7 @@ use Rattle.smap_system.specs.Tree.{Told}
 use Rattle.smap_system.specs.declared.stop.Stop.{Stop}
 use Rattle.smap_map_files.specs.Positions.{has_positions, log_in}
 use Rattle.smap_map_files.specs.declared.wanted.Wanted.{Wanted}
+use Rattle.smap_trace_run.specs.Running.{IsSameRun, Running}
 use Rattle.smap_trace_run.specs.Runs.{AreFound, IsAnswered, IsJobOf, IsTracedAsked, IsTracedJob, IsTracedRun}
 use Rattle.smap_trace_run.specs.Runs.{AreTracedWords, IsTracedInput, IsTracedLines, IsTracedTo}
 use Rattle.smap_trace_run.specs.Written.{AreTraced, IsTracedFront, IsTracedTextIn}
@@ -24,24 +26,20 @@ use Rattle.smap_command_line.specs.declared.trace.words.Asked.{Asked}
 use Rattle.smap_command_line.specs.declared.trace.words.TraceWords.{TraceWords}
 
 -- standard input that is a file, as far as it went
-pub to_its_size : {A E : Type 0} (held : Held) (job : Job) (worst : ℕ) (kind : InputKind)
-    (left before after : Option (List ℕ)) (result : Result A E) → kind ≡ File
-    → OnOk result (IsTracedFront held job worst STDIN.now left before after)
-    → OnOk result (IsTracedInput held job worst kind left before after)
-to_its_size held job worst kind left before after (Ok a) is traced =
+pub to_its_size : (held : Held) (job : Job) (worst : ℕ) (kind : InputKind) (left before after : Option (List ℕ))
+    → kind ≡ File → IsTracedFront held job worst STDIN.now left before after
+    → IsTracedInput held job worst kind left before after
+to_its_size held job worst kind left before after is traced =
     subst (λ (k : InputKind). IsTracedInput held job worst k left before after) (sym is) (inl traced)
-to_its_size held job worst kind left before after (Err e) is traced = tt
 
 -- and standard input to its end
-pub to_its_end : {A E : Type 0} (held : Held) (job : Job) (worst : ℕ) (kind : InputKind)
-    (left before after : Option (List ℕ)) (result : Result A E)
+pub to_its_end : (held : Held) (job : Job) (worst : ℕ) (kind : InputKind) (left before after : Option (List ℕ))
     → IsTracedTextIn held job worst (λ name. ⊤) left before after
-    → OnOk result (IsTracedInput held job worst kind left before after)
-to_its_end held job worst File left before after (Ok a) traced = inr traced
-to_its_end held job worst Closed left before after (Ok a) traced = traced
-to_its_end held job worst Terminal left before after (Ok a) traced = traced
-to_its_end held job worst Other left before after (Ok a) traced = traced
-to_its_end held job worst kind left before after (Err e) traced = tt
+    → IsTracedInput held job worst kind left before after
+to_its_end held job worst File left before after traced = inr traced
+to_its_end held job worst Closed left before after traced = traced
+to_its_end held job worst Terminal left before after traced = traced
+to_its_end held job worst Other left before after traced = traced
 
 -- what the words ask for, by its job
 pub asked_traced : {E : Type 0} (told : Told) (held : Held) (asked : TraceWords) (job : Job)
@@ -164,3 +162,32 @@ pub if_asked : {E : Type 0} (Asked : Type 0) (P : ℕ → Type 0) (result : Resu
     → IfOk result (λ status. Asked → P status)
 if_asked Asked P (Ok status) is = λ asked. is
 if_asked Asked P (Err e) is = tt
+
+not_ok : (A : Type 0) {E : Type 0} (error : E) → IsOk {T = A} (Err error) → ⊥
+not_ok A error is = let no : false ≡ true = is in absurd cc
+
+-- a run that came to its end, whose logs were translated
+ended_job : {A E F : Type 0} (held : Held) (job : Job) (worst : ℕ) (kind : InputKind)
+    (left before after : Option (List ℕ)) (answer : Result A E) (result : Result ℕ F)
+    → OnOk answer (IsTracedJob held job worst kind left before after)
+    → IfOk result (λ status. IsOk answer × status ≡ cond job.how.skip 0 worst)
+    → IfOk result (λ status. IsTracedTo status held job kind left before after)
+ended_job held job worst kind left before after (Ok a) (Ok status) traced ended = record {
+  worst = worst;
+  traced = traced;
+  status_is = ended.1;
+}
+ended_job {A = A} held job worst kind left before after (Err e) (Ok status) traced ended =
+    absurd (not_ok A e ended.0)
+ended_job held job worst kind left before after answer (Err f) traced ended = tt
+
+-- the same of one that had read its maps before
+pub ended_run : {D A E F : Type 0} (of : D → Held) (first next last : Running D) (kind : InputKind)
+    (left before after : Option (List ℕ)) (answer : Result A E) (result : Result ℕ F)
+    → IsSameRun first next → IsSameRun next last
+    → OnOk answer (IsTracedJob (of next.disk) next.job last.chosen.worst kind left before after)
+    → IfOk result (λ status. IsOk answer × status ≡ cond last.job.how.skip 0 last.chosen.worst)
+    → IfOk result (λ status. IsTracedTo status (of first.disk) first.job kind left before after)
+ended_run of first next last kind left before after answer result one two traced ended =
+    ended_job (of first.disk) first.job last.chosen.worst kind left before after answer result
+    (rw (one.disk, one.job) at traced) (rw (two.job ∙ one.job) at ended)

@@ -1,12 +1,12 @@
 -- A run goes on: it finds maps of its own job.
-use Rattle.std.proofs.Common.{◌≡◌, ◌∙◌, arith, subst, sym, ℕ, List, Option, Result, Ok, Err, OnOk}
+use Rattle.std.proofs.Common.{◌≡◌, ◌∙◌, arith, subst, sym, ℕ, List, Bor, Option, Result, Ok, Err, OnOk}
 use Rattle.std.specs.List.{Contains}
 use Rattle.smap_system.specs.Held.{Held}
 use Rattle.smap_map_finder.specs.ChosenView.{AreChosen, Choices, KeepEnds}
 use Rattle.smap_map_finder.specs.Finding.{Finding, IsSameSearch}
 use Rattle.smap_trace_run.specs.declared.tracing.Job.{Job}
 use Rattle.smap_trace_run.specs.Running.{IsRunning, IsSameRun, Running}
-use Rattle.smap_trace_run.specs.Written.{AreAmong, AreSettled, IsLog, IsTracedLog, asked_by}
+use Rattle.smap_trace_run.specs.Written.{AreAmong, AreSettled, AreSettledLogs, IsLog, IsTracedLog, asked_by}
 use Rattle.smap_trace_run.proofs.AskedLemmas.{ends_kept, same_ends}
 
 pub one_search : {D : Type 0} (f g h : Finding D) → IsSameSearch f g → IsSameSearch g h → IsSameSearch f h
@@ -104,3 +104,9 @@ pub settled_on : {D A E : Type 0} (of : D → Held) (disk : D) (job : Job) (f g 
 settled_on of disk job f g after names (Ok a) is same settled =
     rw (same.disk ∙ is.disk_is, same.wanted ∙ is.wanted_is) at settled
 settled_on of disk job f g after names (Err e) is same settled = tt
+
+-- what is settled in a run that is as it was
+pub settled_still : {D : Type 0} (of : D → Held) (old new : Running D) (paths : List (Bor (List ℕ)))
+    → new ≡ old → AreSettledLogs (of old.disk) old.job.wanted old.chosen paths
+    → AreSettledLogs (of new.disk) new.job.wanted new.chosen paths
+settled_still of old new paths is settled = rw is settled

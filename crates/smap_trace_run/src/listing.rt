@@ -1,7 +1,7 @@
 //! `--list`: the scripts that a log names.
 use crate::hints::hint_at_start;
 use crate::output::Output;
-use crate::tracing::{Job, finder_of, open_log, open_names, stop_if_strict};
+use crate::tracing::{Job, open_log, open_names, stop_if_strict};
 use smap_logs::{Log, Looked, Names};
 use smap_map_files::Wanted;
 use smap_map_finder::Finder;
@@ -208,6 +208,10 @@ fn list_with<E: Eprint + AllocGlobal, D: Disk, I: Read, W: Write + Drop>(
 where
     I: Drop,
 {
+    if job.check_all {
+        finder.check_all()?;
+        stop_if_strict(job, finder)?;
+    }
     let mut listed = Listed::new(host.alloc());
     list_logs(host, job, input, &mut listed)?;
     write_list(host, job, &listed, finder, output)
@@ -223,6 +227,6 @@ pub(crate) fn list<'h, E: Eprint + AllocGlobal, D: Disk, I: Read, W: Write + Dro
 where
     I: Drop,
 {
-    let mut finder = finder_of(&*host, &*job)?;
+    let mut finder = Finder::new(&*host, job.how, &job.wanted)?;
     list_with(&*host, &*job, input, &mut finder, output)
 }

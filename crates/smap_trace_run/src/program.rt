@@ -1,11 +1,12 @@
 //! A run of `smap-trace`.
-ghost use Rattle.std.specs.Prelude.{◌≡◌, ◌||◌, [], false, true, IfOk, None, Ok, OnOk, codes, map};
-ghost use Rattle.smap_map_files.specs.Positions.{AreClear, has_positions};
+ghost use Rattle.std.specs.Prelude.{◌≡◌, ◌||◌, [], false, true, IfOk, IsOk, None, Ok, OnOk, Some, codes, cond, map, ⊤};
+ghost use Rattle.smap_map_files.specs.Positions.{AreClear, has_positions, log_in};
 ghost use Rattle.smap_command_line.specs.Lookups.{has, text};
 ghost use Rattle.smap_trace_run.specs.OutputView.{contents_of};
 ghost use Rattle.smap_trace_run.specs.Running.{IsSameRun};
-ghost use Rattle.smap_trace_run.specs.Runs.{AreFound, IsAnswered, IsJobOf, IsTracedAsked, IsTracedInput};
-ghost use Rattle.smap_trace_run.specs.Runs.{IsTracedJob, IsTracedLines, IsTracedTo, skipping};
+ghost use Rattle.smap_trace_run.specs.Runs.{AreFound, IsAnswered, IsJobOf, IsTracedAsked, IsTracedJob};
+ghost use Rattle.smap_trace_run.specs.Runs.{IsTracedTo, skipping};
+ghost use Rattle.smap_trace_run.specs.Written.{IsTracedTextIn};
 ghost use Rattle.smap_trace_run.specs.Runs.{pairs_of, prefixes_of};
 ghost use Rattle.smap_command_line.specs.Trace.{IsAsked};
 
@@ -58,7 +59,7 @@ fn are_files<D: Disk>(disk: &D, paths: &[&str]) -> bool {
             return false;
         }
     }
-    !paths.is_empty()
+    true
 }
 
 /// Whether standard input is a file that can be read from its beginning by its name.
@@ -72,78 +73,36 @@ fn has_name<D: Disk>(disk: &D, kind: InputKind) -> bool
 }
 
 impl<E: Eprint + AllocGlobal, D: Disk> Run<'_, E, D> {
-    /// Translates standard input.
-    fn trace_standard<I: Read, W: Write + Drop>(
-        &mut self,
-        input: Input<I>,
-        output: &mut Output<W>,
-    ) -> Result<(), Stop>
-    where
-        I: Drop,
+    /// Translates the positions that are given.
+    fn follow_positions<W: Write + Drop>(&mut self, output: &mut Output<W>) -> Result<(), Stop>
         requires { self.old.job.wanted.logs.items ≡ [] }
         ensures same { IsSameRun self.old self.new }
-        ensures traced { OnOk result (IsTracedInput (D.held self.old.disk) self.old.job self.new.chosen.worst
-            input.kind (I.remaining input.reader) (contents_of W.contents output.old)
+        ensures traced { OnOk result (IsTracedTextIn (D.held self.old.disk) self.old.job self.new.chosen.worst
+            (λ name. ⊤) (Some (log_in self.old.job.wanted.positions)) (contents_of W.contents output.old)
             (contents_of W.contents output.new)) }
     {
-        if has_name(self.host.disk, input.kind) {
-            return self.trace_input(STDIN, input.reader, output);
-        }
-        self.follow_log(input.reader, output)?;
-        self.finder.tell_count()
+        let log = log_of(self.host.alloc(), &self.job.wanted.positions)?;
+        self.follow_log(log.as_slice(), output)
     }
 
-    /// Translates the positions that are given, or standard input where there are none.
-    fn trace_lines<I: Read, W: Write + Drop>(
-        &mut self,
-        input: Input<I>,
-        output: &mut Output<W>,
-    ) -> Result<(), Stop>
-    where
-        I: Drop,
-        requires { self.old.job.wanted.logs.items ≡ [] }
-        ensures same { IsSameRun self.old self.new }
-        ensures traced { OnOk result (IsTracedLines (D.held self.old.disk) self.old.job self.new.chosen.worst
-            input.kind (I.remaining input.reader) (contents_of W.contents output.old)
-            (contents_of W.contents output.new)) }
+    /// Ends a run whose logs were translated, if they were: says what was not translated, unless a map was
+    /// refused. Answers the status: the greatest of a map that was refused, unless broken maps are skipped.
+    fn end(&mut self, answer: Result<(), Stop>) -> Result<u8, Stop>
+        ensures { IfOk result (λ status. IsOk answer
+            × status ≡ cond self.old.job.how.skip 0 self.old.chosen.worst) }
     {
-        let (alloc, job) = (self.host.alloc(), self.job);
-        if !job.wanted.has_positions() {
-            return self.trace_standard(input, output);
+        answer?;
+        let status = self.status();
+        self.finder.tell_count()?;
+        if status == 0 {
+            self.say_end()?;
         }
-        let log = log_of(alloc, &job.wanted.positions)?;
-        self.follow_log(log.as_slice(), output)?;
-        self.finder.tell_count()
+        Ok(status)
     }
 
-    /// Translates the logs, or, where there are none, the positions that are given or standard input.
+    /// Translates the logs, or, where there are none, the positions that are given or standard input. Answers
+    /// the status of a run that came to its end.
     fn trace<I: Read, W: Write + Drop>(
-        &mut self,
-        input: Input<I>,
-        output: &mut Output<W>,
-    ) -> Result<(), Stop>
-    where
-        I: Drop,
-        ensures same { IsSameRun self.old self.new }
-        ensures traced { OnOk result (IsTracedJob (D.held self.old.disk) self.old.job self.new.chosen.worst
-            input.kind (I.remaining input.reader) (contents_of W.contents output.old)
-            (contents_of W.contents output.new)) }
-    {
-        let (host, job) = (self.host, self.job);
-        let logs = job.wanted.logs.as_slice();
-        if logs.is_empty() {
-            return self.trace_lines(input, output);
-        }
-        if are_files(host.disk, logs) {
-            return self.trace_files(logs, output);
-        }
-        self.follow_paths(logs, output)?;
-        self.finder.tell_count()
-    }
-
-    /// Translates to the end, and answers the status of that: the greatest of a map that was refused, unless
-    /// broken maps are skipped. Where none was, it says what was not translated.
-    fn trace_to_end<I: Read, W: Write + Drop>(
         &mut self,
         input: Input<I>,
         output: &mut Output<W>,
@@ -154,12 +113,27 @@ impl<E: Eprint + AllocGlobal, D: Disk> Run<'_, E, D> {
             (I.remaining input.reader) (contents_of W.contents output.old)
             (contents_of W.contents output.new)) }
     {
-        self.trace(input, output)?;
-        let status = self.status();
-        if status == 0 {
-            self.say_end()?;
+        self.check_maps()?;
+        let (host, job) = (self.host, self.job);
+        let logs = job.wanted.logs.as_slice();
+        if !logs.is_empty() {
+            if are_files(host.disk, logs) {
+                let answer = self.trace_files(logs, output);
+                return self.end(answer);
+            }
+            let answer = self.follow_paths(logs, output);
+            return self.end(answer);
         }
-        Ok(status)
+        if job.wanted.has_positions() {
+            let answer = self.follow_positions(output);
+            return self.end(answer);
+        }
+        if has_name(host.disk, input.kind) {
+            let answer = self.trace_input(STDIN, input.reader, output);
+            return self.end(answer);
+        }
+        let answer = self.follow_log(input.reader, output);
+        self.end(answer)
     }
 }
 
@@ -180,7 +154,7 @@ where
         return list(host, job, input.reader, output);
     }
     let mut run = Run::new(&*host, &*job)?;
-    run.trace_to_end(input, output)
+    run.trace(input, output)
 }
 
 /// Refuses a log that can't be had, and says what is waited for. Positions are the log themselves.
@@ -242,20 +216,6 @@ fn prefixes<'a>(alloc: Global, all: &[Pair<'a>]) -> Result<Vec<(&'a str, &'a str
     Ok(prefixes)
 }
 
-/// Does a job, whose output goes to a writer.
-fn run_to_writer<'h, E: Eprint + AllocGlobal, D: Disk, I: Read, W: Write + Drop>(
-    host: &'h Host<'h, E, D>,
-    job: &Job<'_>,
-    input: Input<I>,
-    writer: W,
-) -> Result<u8, Stop>
-where
-    I: Drop,
-{
-    let mut output = Output::new(writer);
-    run_job(host, job, input, &mut output)
-}
-
 /// Gives a file its name once a run came to its end, and removes it if the run stopped.
 fn end_file<E: Eprint + AllocGlobal, D: Disk>(
     host: &Host<'_, E, D>,
@@ -295,7 +255,7 @@ where
         Ok(made) => made,
         Err(fault) => return Err(host.fail_writing(&fault.into_error())),
     };
-    let answer = run_to_writer(host, job, input, writer);
+    let answer = run_job(host, job, input, &mut Output::new(writer));
     end_file(host, beside, answer)
 }
 

@@ -137,22 +137,6 @@ pub(crate) fn stop_if_strict<E: Eprint + AllocGlobal, D: Disk>(
     Ok(())
 }
 
-/// What finds the maps of a job, once each was read that there is, if that is asked for.
-pub(crate) fn finder_of<'a, E: Eprint + AllocGlobal, D: Disk>(
-    host: &'a Host<'a, E, D>,
-    job: &'a Job<'a>,
-) -> Result<Finder<'a, E, D>, Stop>
-    ensures { IfOk result (IsRunning D.held host.now.disk.now job.now) }
-{
-    let mut finder = Finder::new(host, job.how, &job.wanted)?;
-    if !job.check_all {
-        return Ok(finder);
-    }
-    finder.check_all()?;
-    stop_if_strict(job, &finder)?;
-    Ok(finder)
-}
-
 /// Opens the maps of these names.
 pub(crate) fn open_names<E: Eprint + AllocGlobal, D: Disk>(
     alloc: Global,
@@ -264,8 +248,8 @@ impl<'a, E: Eprint + AllocGlobal, D: Disk> Run<'a, E, D> {
     pub(crate) fn new(host: &'a Host<'a, E, D>, job: &'a Job<'a>) -> Result<Run<'a, E, D>, Stop>
         ensures { IfOk result (λ r. r.disk ≡ host.now.disk.now × r.job ≡ job.now) }
     {
-        let finder = finder_of(host, job)?;
         let given = Given::of(host.alloc(), &job.wanted)?;
+        let finder = Finder::new(host, job.how, &job.wanted)?;
         Ok(Run {
             host,
             job,
@@ -283,6 +267,29 @@ impl<'a, E: Eprint + AllocGlobal, D: Disk> Run<'a, E, D> {
         })
     }
 
+    /// Reads each map that there is, if that is asked for.
+    pub(crate) fn check_maps(&mut self) -> Result<(), Stop>
+        ensures { IsSameRun self.old self.new }
+    {
+        if !self.job.check_all {
+            return Ok(());
+        }
+        self.finder.check_all()?;
+        stop_if_strict(self.job, &self.finder)
+    }
+
+    /// Opens the maps of names that the logs have.
+    fn open_all(&mut self, names: &Names) -> Result<(), Stop>
+        requires { AreAmong (asked_by (D.held self.old.disk) self.old.job) (names_of names.now) }
+        ensures same { IsSameRun self.old self.new }
+        ensures settled { OnOk result (AreSettled (D.held self.new.disk) self.new.job.wanted self.new.chosen
+            (Contains (frames_of names.now))) }
+    {
+        let (alloc, job) = (self.host.alloc(), self.job);
+        open_names(alloc, &job.with_controls, names, &mut self.finder)?;
+        stop_if_strict(job, &self.finder)
+    }
+
     /// Opens the maps of the scripts that lines name.
     fn open_lines(&mut self, lines: &[u8]) -> Result<(), Stop>
         requires { AreAmong (asked_by (D.held self.old.disk) self.old.job)
@@ -291,11 +298,11 @@ impl<'a, E: Eprint + AllocGlobal, D: Disk> Run<'a, E, D> {
         ensures settled { OnOk result (AreSettled (D.held self.new.disk) self.new.job.wanted self.new.chosen
             (Contains (urls_of lines.now))) }
     {
-        let (alloc, job) = (self.host.alloc(), self.job);
-        let names = names_in(alloc, lines, job.anywhere)?;
+        let alloc = self.host.alloc();
+        let names = names_in(alloc, lines, self.job.anywhere)?;
         self.names.add_counts(alloc, &names, usize::MAX)?;
         self.finder.forget_many();
-        open_names(alloc, &job.with_controls, &names, &mut self.finder)
+        self.open_all(&names)
     }
 
     /// Translates a log that is read once: maps are opened as its frames first name their scripts.
@@ -321,8 +328,8 @@ impl<'a, E: Eprint + AllocGlobal, D: Disk> Run<'a, E, D> {
             let lines = log.lines();
             self.start.note(self.host, self.job, lines);
             self.open_lines(lines)?;
-            stop_if_strict(self.job, &self.finder)?;
-            self.translate_lines(lines, output)?;
+            self.translate_log(lines, output)?;
+            self.count_lines(lines)?;
         }
         Err(self.host.fail(3, "cannot read the log"))
     }
@@ -338,10 +345,8 @@ impl<'a, E: Eprint + AllocGlobal, D: Disk> Run<'a, E, D> {
         let (host, job) = (self.host, self.job);
         let mut names = Names::new(host.alloc());
         let sizes = name_logs(host, job, paths, &mut self.start, &mut names)?;
-        open_names(host.alloc(), &job.with_controls, &names, &mut self.finder)?;
-        stop_if_strict(job, &self.finder)?;
+        self.open_all(&names)?;
         self.names = names;
-        self.finder.tell_count()?;
         Ok(sizes)
     }
 

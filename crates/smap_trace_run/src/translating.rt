@@ -74,7 +74,24 @@ impl<E: Eprint + AllocGlobal, D: Disk> Run<'_, E, D> {
         Ok(())
     }
 
-    /// Translates a log whose maps are open, in a style that isn't plain.
+    /// Translates lines whose maps are open, in a style that isn't plain.
+    fn decorate_lines<W: Write + Drop>(
+        &mut self,
+        lines: &[u8],
+        output: &mut Output<W>,
+    ) -> Result<(), Stop>
+        ensures { self.new ≡ self.old }
+    {
+        let (host, job) = (self.host, self.job);
+        let mut out = Vec::new(host.alloc());
+        let scripts = self.finder.scripts();
+        let counts = decorate(host.alloc(), lines, scripts, &job.style, &mut out)?;
+        output.write(host, &out)?;
+        self.tally.add(counts, !lines.ends_with(b"\n"));
+        Ok(())
+    }
+
+    /// Translates a log whose maps are open, likewise.
     fn decorate_log<R: Read, W: Write + Drop>(
         &mut self,
         reader: R,
@@ -84,20 +101,14 @@ impl<E: Eprint + AllocGlobal, D: Disk> Run<'_, E, D> {
         R: Drop,
         ensures { self.new ≡ self.old }
     {
-        let (host, job) = (self.host, self.job);
-        let alloc = host.alloc();
-        let mut log = Log::new(alloc, reader);
+        let mut log = Log::new(self.host.alloc(), reader);
         for _ in 0..u64::MAX {
-            if !log.advance(host)? {
+            if !log.advance(self.host)? {
                 return Ok(());
             }
-            let lines = log.lines();
-            let mut out = Vec::new(alloc);
-            let counts = decorate(alloc, lines, self.finder.scripts(), &job.style, &mut out)?;
-            output.write(host, &out)?;
-            self.tally.add(counts, !lines.ends_with(b"\n"));
+            self.decorate_lines(log.lines(), output)?;
         }
-        Err(host.fail(3, "cannot read the log"))
+        Err(self.host.fail(3, "cannot read the log"))
     }
 
     /// Translates a log whose maps are open.
@@ -133,21 +144,5 @@ impl<E: Eprint + AllocGlobal, D: Disk> Run<'_, E, D> {
             }
             Err(error) => Err(fail_translating(host, error, &reader, output)),
         }
-    }
-
-    /// The same of lines of a log that is read once.
-    pub(crate) fn translate_lines<W: Write + Drop>(
-        &mut self,
-        lines: &[u8],
-        output: &mut Output<W>,
-    ) -> Result<(), Stop>
-        ensures named { AreNamed (D.held self.old.disk) self.old.job self.old.chosen }
-        ensures kept { self.new ≡ self.old }
-        ensures traced { OnOk result (IsTranslatedIn self.old.chosen self.old.job.style (Some lines.now)
-            (contents_of W.contents output.old) (contents_of W.contents output.new)) }
-    {
-        self.translate_log(lines, output)?;
-        self.count_lines(lines)?;
-        Ok(())
     }
 }

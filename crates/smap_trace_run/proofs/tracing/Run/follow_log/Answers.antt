@@ -54,7 +54,7 @@ pub loop-preserved : goal.loop-preserved
 loop-preserved g c = record {
   same = one_run _ _ _ c.loop.invariant.same
       (ended _ _ _ (started _ _ _ c.self-in-loop.view_is c.in_ok-open_lines.ensures.same)
-      c.translate_lines.ensures.kept);
+      (c.count_lines.ensures ∙ c.translate_log.ensures.kept));
   asked = let log = c.advance.new.self in
       (next_asked (g.D.Disk.held c.args.self.now.disk) c.args.self.now.job
       (pending g.R.Read.remaining c.loop.log)
@@ -66,11 +66,11 @@ loop-preserved g c = record {
       let log = c.advance.new.self in
       let before = contents_of g.W.Write.contents c.args.output.now in
       let middle = contents_of g.W.Write.contents c.loop.output in
-      let after = contents_of g.W.Write.contents c.translate_lines.new.output in
+      let after = contents_of g.W.Write.contents c.translate_log.new.output in
       let run = c.open_lines.new.self in
       let more = started _ _ _ c.self-in-loop.view_is c.in_ok-open_lines.ensures.same in
       let same = one_run _ _ _ c.loop.invariant.same more in
-      rw c.translate_lines.ensures.kept (one_more_part held job run.chosen.worst (λ name. ⊤) c.loop.log.ended
+      rw (c.count_lines.ensures ∙ c.translate_log.ensures.kept) (one_more_part held job run.chosen.worst (λ name. ⊤) c.loop.log.ended
       log.ended (g.R.Read.remaining c.args.reader)
       (pending g.R.Read.remaining c.loop.log) (pending g.R.Read.remaining log) before middle after
       (handed log) (so_far_worse _ _ _ _ _ _ _ _ _ _ more.worst (c.loop.invariant.traced plain))
@@ -83,6 +83,6 @@ loop-preserved g c = record {
       after)
       c.args.self.now run same
       (traced_lines (g.D.Disk.held run.disk) run.job run.chosen c.lines-lines.result.now middle after
-      c.translate_lines.ensures.named c.in_ok-open_lines.ensures.settled
-      c.in_ok-translate_lines.ensures.traced) plain)));
+      c.translate_log.ensures.named c.in_ok-open_lines.ensures.settled
+      c.in_ok-translate_log.ensures.traced) plain)));
 }
