@@ -12,6 +12,7 @@ mod links;
 mod opening;
 mod picking;
 mod roots;
+mod taking;
 mod telling;
 
 pub use finder::Finder;
