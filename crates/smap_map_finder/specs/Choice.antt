@@ -227,20 +227,6 @@ pub record ArePicksOf (Is : Pick → Type 0) (names : List (List ℕ)) (picks : 
 abbrev pub AreChoices : Held → Wanted → List (List ℕ) → List Pick → Type 0
 AreChoices held w names picks = ArePicksOf (IsChoiceOf held w) names picks
 
--- The file of what was found: that of the map, or of the script that has it.
-abbrev pub file_of : Wanted → Found → Option (List ℕ)
-file_of w (Given i) = option_map (λ p. p.file) (slice_get (places_of w) i)
-file_of w (ByEnd i) = slice_get (files_of w) i
-file_of w (Unclear i j) = None
-file_of w Missing = None
-
--- The file that each of these names takes.
-pub record AreFiles (held : Held) (w : Wanted) (in_frames : Bool) (names : List (List ℕ))
-    (files : List (Option (List ℕ))) : Type 0 where
-  pub picks : List Pick
-  pub are_picked : ArePicked held w in_frames names picks
-  pub files_are : files ≡ map (λ p. file_of w p.found) picks
-
 -- ---- the map of what a name has
 
 abbrev pub scheme_size : List ℕ → ℕ
@@ -280,6 +266,20 @@ IsPickedBy held w in_frames pick = IsPicked held w in_frames pick.name.now pick.
 -- What each of these names has.
 abbrev pub ArePicked : Held → Wanted → Bool → List (List ℕ) → List Pick → Type 0
 ArePicked held w in_frames names picks = ArePicksOf (IsPickedBy held w in_frames) names picks
+
+-- The file of what was found: that of the map, or of the script that has it.
+abbrev pub file_of : Wanted → Found → Option (List ℕ)
+file_of w (Given i) = option_map (λ p. p.file) (slice_get (places_of w) i)
+file_of w (ByEnd i) = slice_get (files_of w) i
+file_of w (Unclear i j) = None
+file_of w Missing = None
+
+-- The file that each of these names takes.
+pub record AreFiles (held : Held) (w : Wanted) (in_frames : Bool) (names : List (List ℕ))
+    (files : List (Option (List ℕ))) : Type 0 where
+  pub picks : List Pick
+  pub are_picked : ArePicked held w in_frames names picks
+  pub files_are : files ≡ map (λ p. file_of w p.found) picks
 
 -- a name that is absolute, or else that of the file
 abbrev pub own_name : List ℕ → Option (List ℕ) → List ℕ

@@ -1,4 +1,3 @@
-use Rattle.std.proofs.Common.{tt}
 use Rattle.smap_link.specs.Paths.{bare}
 use Rattle.smap_link.proofs.TableLemmas.{all_bare}
 use Rattle.smap_link.proofs.table.ScriptTable.new.Goals as goal
