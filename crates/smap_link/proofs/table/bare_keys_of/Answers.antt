@@ -1,4 +1,4 @@
-use Rattle.std.proofs.Common.{◌≡◌, ◌∙◌, ℕ, List, Bor, ap, map, reverse, sym, subst}
+use Rattle.std.proofs.Common.{◌≡◌, ◌∙◌, ℕ, List, Bor, ap, map, reverse, subst}
 use Rattle.indexmap.proofs.ReorderLemmas.{map-reverse}
 use Rattle.smap_link.specs.Alike.{key_of}
 use Rattle.smap_link.specs.Paths.{bare}
