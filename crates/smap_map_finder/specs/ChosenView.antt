@@ -12,7 +12,7 @@ use Rattle.smap_map_choice.specs.declared.picks.Found.{Found}
 use Rattle.smap_map_choice.specs.declared.picks.Found.TheVariants.{Given, ByEnd, Unclear, Missing}
 use Rattle.smap_record.specs.Record.{ReadMap, record_of}
 use Rattle.smap_trace.specs.Scripts.{Script}
-use Rattle.smap_map_finder.specs.Choice.{AreLinks, IsMapOf, IsOpenedFor, IsPicked, IsWithout, places_of}
+use Rattle.smap_map_finder.specs.Choice.{AreCompared, AreLinks, IsMapOf, IsOpenedFor, IsPicked, IsWithout, places_of}
 use Rattle.smap_map_finder.specs.declared.chosen.Chosen.{Chosen}
 use Rattle.smap_map_finder.specs.declared.chosen.End.{End}
 use Rattle.smap_map_finder.specs.declared.chosen.Opening.{Opening}
@@ -45,11 +45,12 @@ abbrev pub held_of : {D : Type 0} → (D → Held) → Opener D → Held
 held_of held o = held o.store.disk.now
 
 -- It finds the scripts of the places that the arguments name, among files that hold this, and keeps what
--- scripts name.
+-- scripts name and which files give the same map.
 pub record IsOver {D : Type 0} (of : D → Held) (held : Held) (w : Wanted) (o : Opener D) : Type 0 where
   pub held_is : held_of of o ≡ held
   pub table_is : IsTable o.table (scripts_of (places_of w))
   pub links_are : AreLinks held w o.links.named.entries
+  pub compared_are : AreCompared held w o.compared.items
 
 -- An opening for one name serves another: the same was found for both, and, of a file in a folder without a
 -- URL, they differ in their queries and fragments alone.

@@ -6,6 +6,7 @@
 
 mod checking;
 mod chosen;
+mod copies;
 mod finder;
 mod giving;
 mod links;
