@@ -1,14 +1,14 @@
 -- Files between which it isn't clear which one a name has, and which give the same map.
 use Rattle.std.proofs.Common.{◌≡◌, ◌≢◌, ◌⊎◌, ◌∙◌, ◌<◌, arith, ap, inl, inr, refl, sym, subst, ℕ, Bool, List, []}
+use Rattle.std.proofs.Common.{◌∷◌}
 use Rattle.std.proofs.Common.{Some, None, false, get_or, length, nat_eq, set, true}
 use Rattle.std.proofs.lemmas.Bool.Decides.{nat_tests}
 use Rattle.std.proofs.lemmas.List.{get_or-set_other, get_or-set_same, length-set}
 use Rattle.smap_system.specs.Held.{Held, IsHeld}
 use Rattle.smap_map_files.specs.declared.wanted.Wanted.{Wanted}
-use Rattle.smap_map_choice.specs.declared.picks.Found.{Found}
-use Rattle.smap_map_choice.specs.declared.picks.Found.TheVariants.{ByEnd, Unclear}
-use Rattle.smap_map_finder.specs.Choice.{AreCopies, AreWithoutCopies, HoldSame, HoldsMap, IsAmongCopies, IsBest}
-use Rattle.smap_map_finder.specs.Choice.{IsChoice, IsFoundIn, rivals}
+use Rattle.smap_map_choice.specs.declared.picks.Pick.{Pick}
+use Rattle.smap_map_finder.specs.Choice.{AreCopies, ArePicksIn, AreWithoutCopies, HoldSame, HoldsMap}
+use Rattle.smap_map_finder.specs.Choice.{IsFoundIn, rivals}
 
 pub same_of : (held : Held) (are_maps : Bool) (first second bytes : List ℕ) → IsHeld held first bytes
     → IsHeld held second bytes → (are_maps ≡ true) ⊎ HoldsMap first bytes
@@ -48,14 +48,11 @@ one_out held w file other left after lt was copy is = record {
         subst (λ (f : List ℕ). (f ≡ get_or (rivals w file) k []) ⊎ ((f ≡ []) × AreCopies held w file k))
         (sym stays) (was.each k)
 
--- what a name has of which it isn't clear which one
-pub copied : (held : Held) (w : Wanted) (name : List ℕ) (first second : ℕ) (found : Found)
-    → found ≡ Unclear first second → IsBest held w name found → IsAmongCopies held w name first
-    → IsChoice held w name (ByEnd first)
-copied held w name first second found is best among = inr (record {
-  first = first;
-  second = second;
-  unclear = subst (IsBest held w name) is best;
-  among = among;
-  found_is = refl;
-})
+-- what is found for one name
+pub first_pick : (w : Wanted) (files : List (List ℕ)) (name : List ℕ) (picks : List Pick) (d : Pick)
+    → ArePicksIn w files (name ∷ []) picks → 0 < length picks
+    → IsFoundIn w files name (get_or picks 0 d).found
+first_pick w files name [] d are lt = absurd (omega (arith, lt))
+first_pick w files name (p ∷ picks) d are lt =
+    subst (λ (n : List ℕ). IsFoundIn w files n p.found) (ap (λ (l : List (List ℕ)). get_or l 0 []) are.named)
+    (are.each 0 p lt)

@@ -1,13 +1,13 @@
 //! Files between which it isn't clear which one a name has, and which give the same map.
-ghost use Rattle.std.specs.Prelude.{◌≡◌, IfOk, IfSome, Some, map, true};
+ghost use Rattle.std.specs.Prelude.{◌≡◌, ◌∷◌, [], IfOk, IfSome, List, Some, map, true, ℕ};
 ghost use Rattle.std.specs.List.{All};
 ghost use Rattle.smap_system.specs.Held.{Held, IsHeld};
 ghost use Rattle.smap_link.specs.Table.{IsTable};
 ghost use Rattle.smap_map_choice.specs.Places.{scripts_of};
 ghost use Rattle.smap_map_choice.specs.declared.picks.Found.TheVariants.{ByEnd as by_end};
 ghost use Rattle.smap_map_finder.specs.Choice as spec;
-ghost use Rattle.smap_map_finder.specs.Choice.{AreChoices, AreCompared, AreCopies, HoldSame, HoldsMap};
-ghost use Rattle.smap_map_finder.specs.Choice.{IsAmongCopies, IsBestOf, IsChoiceOf, IsFoundIn, files_of};
+ghost use Rattle.smap_map_finder.specs.Choice.{AreChoices, AreCompared, AreCopies, ArePicksIn, HoldSame};
+ghost use Rattle.smap_map_finder.specs.Choice.{HoldsMap, IsAmongCopies, IsBestOf, IsChoiceOf, IsFoundIn, files_of};
 ghost use Rattle.smap_map_finder.specs.Choice.{places_of};
 ghost use Rattle.smap_map_finder.specs.ChosenView.{IsOver};
 ghost use Rattle.smap_map_finder.specs.Searching.{held_in, wanted_in};
@@ -27,6 +27,16 @@ pub(crate) struct Compared {
     pub(crate) first: usize,
     pub(crate) second: usize,
     pub(crate) are_copies: bool,
+}
+
+/// Whether these are the same.
+fn are_same(bytes: &[u8], others: &[u8]) -> bool
+    ensures { result ≡ true → bytes.now ≡ others.now }
+{
+    if bytes == others {
+        return true;
+    }
+    false
 }
 
 /// What is known of two files.
@@ -50,6 +60,17 @@ fn holds_map(file: &[u8], text: &[u8]) -> bool
         Some(url) => is_data(url),
         None => false,
     }
+}
+
+/// What is found for the one name of these.
+fn first_found(picks: &[Pick<'_>]) -> Option<Found>
+    ensures { (w : Wanted) (files : List (List ℕ)) (name : List ℕ) → ArePicksIn w files (name ∷ []) picks.now
+        → IfSome result (IsFoundIn w files name) }
+{
+    if picks.len() == 0 {
+        return None;
+    }
+    Some(picks[0].found)
 }
 
 /// Whether this file is found.
@@ -109,10 +130,13 @@ impl<E: Eprint + AllocGlobal, D: Disk> Search<'_, E, D> {
         let Some(others) = self.bytes_of(second)? else {
             return Ok(false);
         };
-        if bytes.as_slice() != others.as_slice() {
+        if !are_same(&bytes, &others) {
             return Ok(false);
         }
-        Ok(are_maps || holds_map(first, &bytes))
+        if are_maps {
+            return Ok(true);
+        }
+        Ok(holds_map(first, &bytes))
     }
 
     /// The same of the files with these numbers.
@@ -164,10 +188,7 @@ impl<E: Eprint + AllocGlobal, D: Disk> Search<'_, E, D> {
         ensures table { IsTable table.new (scripts_of (places_of (wanted_in self.now))) }
     {
         let picks = pick_all(self.host.alloc(), table, files, true, &[name])?;
-        if picks.is_empty() {
-            return Ok(None);
-        }
-        Ok(Some(picks[0].found))
+        Ok(first_found(&picks))
     }
 
     /// Whether a name has this file once those are left out that give the same map.
@@ -212,7 +233,7 @@ impl<E: Eprint + AllocGlobal, D: Disk> Search<'_, E, D> {
         requires over { IsOver D.held (held_in D.held self.now) (wanted_in self.now) opener.old }
         requires files { map (λ f. f.now) files.now ≡ files_of (wanted_in self.now) }
         requires best { IsBestOf (held_in D.held self.now) (wanted_in self.now) pick }
-        ensures name { IfOk result (λ p. p.name.now ≡ pick.name.now) }
+        ensures name { IfOk result (λ p. p.name.now ≡ pick.entry.name.now) }
         ensures choice { IfOk result (IsChoiceOf (held_in D.held self.now) (wanted_in self.now)) }
         ensures over { IsOver D.held (held_in D.held self.now) (wanted_in self.now) opener.new }
     {

@@ -3,7 +3,7 @@ use Rattle.smap_map_finder.specs.Choice.{AreWithoutCopies}
 use Rattle.smap_map_finder.specs.ChosenView.{IsOver}
 use Rattle.smap_map_finder.proofs.opening.Search.is_among_copies.Given as goal
 
-abbrev pub invariant-loop-1 : goal.invariant-loop-1
-invariant-loop-1 g l = AreWithoutCopies (g.D.Disk.held l.self.host.now.disk.now) l.self.wanted.now l.file
+abbrev pub invariant-loop : goal.invariant-loop
+invariant-loop g l = AreWithoutCopies (g.D.Disk.held l.self.host.now.disk.now) l.self.wanted.now l.file
     (map (λ f. f.now) l.left.items)
     × IsOver g.D.Disk.held (g.D.Disk.held l.self.host.now.disk.now) l.self.wanted.now l.opener
