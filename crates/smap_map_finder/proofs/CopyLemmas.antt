@@ -1,7 +1,6 @@
 -- Files between which it isn't clear which one a name has, and which give the same map.
 use Rattle.std.proofs.Common.{◌≡◌, ◌≢◌, ◌⊎◌, ◌∙◌, ◌<◌, arith, ap, inl, inr, refl, sym, subst, ℕ, Bool, List, []}
-use Rattle.std.proofs.Common.{◌∷◌}
-use Rattle.std.proofs.Common.{Some, None, false, get_or, length, nat_eq, set, true}
+use Rattle.std.proofs.Common.{◌∷◌, Some, None, false, get_or, length, nat_eq, set, true}
 use Rattle.std.proofs.lemmas.Bool.Decides.{nat_tests}
 use Rattle.std.proofs.lemmas.List.{get_or-set_other, get_or-set_same, length-set}
 use Rattle.smap_system.specs.Held.{Held, IsHeld}
@@ -17,15 +16,7 @@ same_of None are_maps first second bytes one other whole = tt
 same_of (Some held) are_maps first second bytes one other whole =
     record { bytes = bytes; first_holds = one; second_holds = other; are_whole = whole }
 
--- no file is left out
-pub none_out : (held : Held) (w : Wanted) (file : ℕ) (files : List (List ℕ)) → files ≡ rivals w file
-    → AreWithoutCopies held w file files
-none_out held w file files is = record {
-  count = ap length is;
-  each = λ k. inl (ap (λ (l : List (List ℕ)). get_or l k []) is);
-}
-
--- one more is
+-- one more file is left out
 pub one_out : (held : Held) (w : Wanted) (file other : ℕ) (left after : List (List ℕ)) → other < length left
     → AreWithoutCopies held w file left → AreCopies held w file other → after ≡ set left other []
     → AreWithoutCopies held w file after
