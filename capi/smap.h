@@ -439,7 +439,8 @@ SMAP_INLINE uint32_t smap_named_map(const char *folder, size_t folder_len, const
 SMAP_INLINE uint32_t smap_normal_form(const char *name, size_t len, bool with_query, smap_bytes *out);
 
 /* OK: *out says whether two names are alike, that is, differ at most in the query, the fragment, the default
- * port, the capitals of the host, in being a path or its file: URL, and in the case of the drive. MEMORY. */
+ * port, the capitals of the host, in percent escapes that no character needs, in being a path or its file:
+ * URL, and in the case of the drive. MEMORY. */
 SMAP_INLINE uint32_t smap_alike(const char *one, size_t one_len, const char *other, size_t other_len,
                                 bool *out);
 

@@ -415,7 +415,10 @@ class LinksTest(unittest.TestCase):
         # the URL Standard, and RFC 8089 for paths
         groups = [
             ["http://h/a.js", "HTTP://H:80/a.js", "http://h/a.js?v=3", "http://h/./x/../a.js#y"],
-            ["https://h/a.js", "https://h:443/a.js"],
+            ["https://h/a.js", "https://h:443/a.js", "https://h/%61%2Ejs"],
+            ["https://h/[x]/\u00e9.js", "https://h/%5bx%5D/%c3%a9.js"],
+            ["https://h/b/c.js"],
+            ["https://h/b%2Fc.js"],
             ["http://h:443/a.js"],
             ["http://h/A.js"],
             ["/s/a b.js", "file:///s/a%20b.js", "file://localhost/s/a%20b.js?x"],

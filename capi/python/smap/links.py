@@ -140,7 +140,8 @@ def normal_form(name: AnyStr, with_query: bool = False) -> AnyStr:
 
 def alike(one: Union[str, bytes], other: Union[str, bytes]) -> bool:
     """Whether two names differ at most in the query, the fragment, the default port, the capitals of the
-    host, in being a path or its file: URL, and in the case of the drive.
+    host, in percent escapes that no character needs, in being a path or its file: URL, and in the case of the
+    drive.
     """
     out = c_bool()
     check(lib.smap_alike(*_words([as_bytes(one), as_bytes(other)]), byref(out)))

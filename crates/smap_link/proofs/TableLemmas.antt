@@ -15,7 +15,9 @@ use Rattle.std.proofs.lemmas.List.{take-append-drop}
 use Rattle.std.proofs.lemmas.List.Quantifiers.{position-Some}
 use Rattle.std.proofs.lemmas.Slice.Eq.{bytes_eq-Decides}
 use Rattle.indexmap.specs.IndexMap.{insert_entry}
-use Rattle.smap_link.specs.Choice.{IsRepeated, first_of, or_else}
+use Rattle.std.proofs.lemmas.List.Elements.{All-head, All-tail}
+use Rattle.std.specs.List.{All}
+use Rattle.smap_link.specs.Choice.{IsRepeated, first_of, or_else, sole}
 use Rattle.smap_link.specs.Table.{HasPlaces, Row, place_in, rows_of, texts_in, with_place}
 
 -- ---- the map's words
@@ -202,3 +204,31 @@ pub mapped_at : (f : List ℕ → List ℕ) (names : List (List ℕ)) (i : ℕ) 
 mapped_at f [] i lt = absurd (omega (arith, lt))
 mapped_at f (n ∷ names) zero lt = refl
 mapped_at f (n ∷ names) (suc i) lt = mapped_at f names i (omega (arith, lt))
+
+-- the same of what is made of the texts
+pub read_mapped : (f : List ℕ → List ℕ) (all : List (List ℕ)) (i : ℕ) → i < length all
+    → (now after : List (Bor (List ℕ))) (t : Bor (List ℕ)) → after ≡ now ++ t ∷ []
+    → t.now ≡ f (get_or all i []) → map (λ t. t.now) now ≡ take i (map f all)
+    → map (λ t. t.now) after ≡ take (i + 1) (map f all)
+read_mapped f all i lt now after t is one was =
+    ap (map (λ t. t.now)) is ∙ map-append (λ (t : Bor (List ℕ)). t.now) now (t ∷ [])
+    ∙ ap (λ (l : List (List ℕ)). l ++ t.now ∷ []) was
+    ∙ ap (λ (x : List ℕ). take i (map f all) ++ x ∷ []) (one ∙ mapped_at f all i lt)
+    ∙ sym (take_more (map f all) i [] (simp length-map (omega (arith, lt))))
+
+-- ---- names without queries
+
+-- names that have none are the same without them
+pub all_bare : (f : List ℕ → List ℕ) (names : List (Bor (List ℕ)))
+    → All (λ (n : Bor (List ℕ)). f n.now ≡ n.now) names
+    → map f (map (λ n. n.now) names) ≡ map (λ n. n.now) names
+all_bare f [] all = refl
+all_bare f (n ∷ names) all =
+    ap (λ (x : List ℕ). x ∷ map f (map (λ (m : Bor (List ℕ)). m.now) names))
+    (All-head (λ (m : Bor (List ℕ)). f m.now ≡ m.now) n names all)
+    ∙ ap (λ (l : List (List ℕ)). n.now ∷ l)
+    (all_bare f names (All-tail (λ (m : Bor (List ℕ)). f m.now ≡ m.now) n names all))
+
+pub none_sole : (n : ℕ) (first last : Option ℕ) → first ≡ None → sole n first last ≡ None
+none_sole n None last is = refl
+none_sole n (Some i) last is = absurd (true≢false (ap is_some is))

@@ -1,6 +1,6 @@
 -- Which map each script has that a log names.
-use Rattle.std.specs.Prelude.{◌≡◌, ℕ, ◌+◌, ◌<◌, Bool, true, List, [], ◌∷◌, ◌++◌, cond, length, map, get_or}
-use Rattle.std.specs.Prelude.{Option}
+use Rattle.std.specs.Prelude.{◌≡◌, ℕ, ◌+◌, ◌-◌, ◌<◌, ◌==◌, Bool, true, List, [], ◌∷◌, ◌++◌, cond, length, map}
+use Rattle.std.specs.Prelude.{Option, get_or, reverse}
 use Rattle.std.specs.Prelude.{Some, None}
 use Rattle.std.specs.List.{position_from}
 use Rattle.std.specs.Str.{bytes_eq}
@@ -23,15 +23,26 @@ or_else (Some i) other = Some i
 abbrev pub alike_in : List ℕ → List (List ℕ) → Option ℕ
 alike_in name all = first_of (key_of name) (map key_of all)
 
+-- the place in a list of n that is first and last: the last is counted from the end
+abbrev pub sole : ℕ → Option ℕ → Option ℕ → Option ℕ
+sole n None last = None
+sole n (Some i) None = None
+sole n (Some i) (Some j) = cond (n - i - 1 == j) (Some i) None
+
+-- the only one that is alike to a name but for its query and its fragment
+abbrev pub only_alike : List ℕ → List (List ℕ) → Option ℕ
+only_alike name scripts = sole (length scripts) (alike_in (bare name) (map bare scripts))
+    (alike_in (bare name) (reverse (map bare scripts)))
+
 -- the first that is alike to a name and has the same query, or else, if queries are ignored, that is alike to
--- it without its query and its fragment
+-- it without its query and its fragment, or else the only one that is alike to it but for these
 abbrev pub alike_to : Bool → List (List ℕ) → List ℕ → Option ℕ
-alike_to ignore_query scripts name =
-    or_else (alike_in name scripts) (cond ignore_query (alike_in (bare name) scripts) None)
+alike_to ignore_query scripts name = or_else (alike_in name scripts)
+    (cond ignore_query (or_else (alike_in (bare name) scripts) (only_alike name scripts)) None)
 
 -- Of these scripts the one that a log means by a name: that of this very name; or else, if names may be
 -- alike, the first that is alike to it and has the same query; or else the first that is alike to it without
--- its query and its fragment.
+-- its query and its fragment; or else the only one that is alike to it but for these.
 abbrev pub meant : Bool → List (List ℕ) → List ℕ → Option ℕ
 meant may_be_alike scripts name = or_else (first_of name scripts)
     (cond may_be_alike (alike_to true scripts name) None)

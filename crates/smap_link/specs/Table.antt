@@ -1,10 +1,12 @@
 -- The first places of texts in a list, as a table.
 use Rattle.std.specs.Prelude.{◌≡◌, ⊤, ℕ, List, [], ◌∷◌, ◌++◌, cond, map, Option, Some, None, is_some}
-use Rattle.std.specs.Prelude.{option_map}
+use Rattle.std.specs.Prelude.{option_map, reverse, true}
 use Rattle.std.specs.Global.{Vec}
 use Rattle.std.specs.Str.{bytes_eq}
 use Rattle.smap_link.specs.Alike.{key_of}
 use Rattle.smap_link.specs.Choice.{first_of}
+use Rattle.smap_link.specs.Paths.{bare}
+use Rattle.smap_link.specs.declared.table.BareKeys.{BareKeys}
 use Rattle.smap_link.specs.declared.table.ScriptTable.{ScriptTable}
 
 abbrev pub Row : Type 0
@@ -38,8 +40,16 @@ abbrev pub AreKeys : Option (List Row) → List (List ℕ) → Type 0
 AreKeys None keys = ⊤
 AreKeys (Some rows) keys = HasPlaces rows keys
 
+-- What there is of keys of names without queries and fragments, has their first places, from both ends.
+abbrev pub AreBareKeys : Option BareKeys → List (List ℕ) → Type 0
+AreBareKeys None scripts = ⊤
+AreBareKeys (Some keys) scripts = HasPlaces (rows_of keys.from_start.entries) (map key_of (map bare scripts))
+    × HasPlaces (rows_of keys.from_end.entries) (map key_of (reverse (map bare scripts)))
+
 -- The table is that of these scripts' names.
 pub record IsTable (table : ScriptTable) (scripts : List (List ℕ)) : Type 0 where
   pub of_names : HasPlaces (rows_of table.names.entries) scripts
   pub of_keys : AreKeys (option_map (λ t. rows_of t.entries) table.keys) (map key_of scripts)
   pub texts : texts_in (rows_of table.names.entries) ≡ scripts
+  pub of_bare : AreBareKeys table.bare_keys scripts
+  pub are_bare : table.are_bare ≡ true → map bare scripts ≡ scripts

@@ -2,9 +2,9 @@
 ghost use Rattle.std.specs.Prelude.{◌≡◌, ◌++◌, IfOk, codes, not, ◌&&◌, string_bytes};
 ghost use Rattle.smap_link.specs.Alike as spec;
 
-use crate::encoding::{url_of, utf8};
+use crate::encoding::{encoded, url_of, utf8};
 use crate::inline::{bytes_of, without_fragment};
-use crate::paths::{bare_size, has_drive};
+use crate::paths::{bare_size, has_drive, slash_count};
 use std::alloc::{AllocError, Global};
 use url::{ParseError, Position, Url};
 
@@ -33,19 +33,31 @@ fn with_small_drive(path: Vec<u8>) -> Vec<u8>
     path
 }
 
+/// The path of a URL with those percent escapes alone that it needs; one with an escaped slash as it is.
+fn respelled(alloc: Global, path: &[u8]) -> Result<Vec<u8>, AllocError>
+    ensures { IfOk result (λ p. p.items ≡ spec.respelled path.now) }
+{
+    let made = bytes_of(alloc, path)?;
+    if slash_count(&made) != slash_count(path) {
+        return Vec::from_slice(alloc, path);
+    }
+    encoded(alloc, &made)
+}
+
 fn form_of_url(alloc: Global, url: &Url) -> Result<Vec<u8>, AllocError>
     ensures { IfOk result (λ form. form.items ≡ spec.form_of_url url.now) }
 {
     let is_local_file = url.scheme() == "file" && !url.has_host();
+    let path = url.path().as_bytes();
     if is_local_file {
-        let path = bytes_of(alloc, url.path().as_bytes())?;
+        let path = bytes_of(alloc, path)?;
         return Ok(with_small_drive(path));
     }
-    Vec::from_slice(
-        alloc,
-        url.slice(Position::BeforeScheme, Position::AfterPath)
-            .as_bytes(),
-    )
+    let front = url.slice(Position::BeforeScheme, Position::BeforePath);
+    let mut form = Vec::from_slice(alloc, front.as_bytes())?;
+    let path = respelled(alloc, path)?;
+    form.extend_from_slice(&path)?;
+    Ok(form)
 }
 
 fn form_of(alloc: Global, url: &[u8]) -> Result<Vec<u8>, AllocError>
@@ -63,8 +75,8 @@ fn form_of(alloc: Global, url: &[u8]) -> Result<Vec<u8>, AllocError>
 
 /// What all names of a script have in common: two names are alike if this is the same for both. They may
 /// differ in the query, the fragment, the default port, the capitals of the host, in being a path or its
-/// file: URL, in percent escapes of a file: URL, and in the case of the drive. A name that is no URL is alike
-/// to itself alone.
+/// file: URL, in percent escapes that no character needs, and in the case of the drive. A name that is no URL
+/// is alike to itself alone.
 ///
 /// # Errors
 ///

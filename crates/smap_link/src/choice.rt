@@ -62,8 +62,8 @@ fn add_choice(found: &mut Vec<Choice>, i: usize, script: Option<usize>) -> Resul
 
 /// For each name of a log, in its order, the script that is meant, if one of these is: that of this very
 /// name; or else, if names may be alike, the first that is alike to it and has the same query (`key_of`); or
-/// else the first that is alike to it without its query and its fragment, which a path has too in some logs.
-/// What is left out has no map here.
+/// else the first that is alike to it without its query and its fragment, which a path has too in some logs;
+/// or else the only one that is alike to it but for these. What is left out has no map here.
 ///
 /// The time is proportional to the bytes of all names.
 ///

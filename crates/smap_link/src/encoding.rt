@@ -114,6 +114,15 @@ pub(crate) fn utf8<'a>(bytes: &'a [u8]) -> Option<&'a str>
     }
 }
 
+/// A path as in a URL.
+pub(crate) fn encoded(alloc: Global, path: &[u8]) -> Result<Vec<u8>, AllocError>
+    ensures { IfOk result (λ text. text.items ≡ spec.encoded path.now) }
+{
+    let mut text = String::new(alloc);
+    percent_encode(path, IN_PATH).append_to(&mut text)?;
+    Ok(text.into_bytes())
+}
+
 /// The file: URL of what begins with a slash, or with a drive.
 pub(crate) fn url_of(alloc: Global, path: &[u8]) -> Result<Option<String>, AllocError>
     ensures { IfOk result (λ url. option_map string_bytes url ≡ spec.url_of path.now) }
@@ -170,8 +179,7 @@ pub fn script_url(alloc: Global, folder: &[u8], name: &[u8]) -> Result<Vec<u8>, 
         url.extend_from_slice(name)?;
         return Ok(url);
     }
-    let mut text = String::new(alloc);
-    percent_encode(name, IN_PATH).append_to(&mut text)?;
-    url.extend_from_slice(text.as_bytes())?;
+    let name = encoded(alloc, name)?;
+    url.extend_from_slice(&name)?;
     Ok(url)
 }

@@ -162,7 +162,8 @@ fn of_data(alloc: Global, engine: &GeneralPurpose, rest: &[u8]) -> Result<Vec<u8
     body_of(alloc, engine, is_base64(&rest[..at]), &rest[at + 1..])
 }
 
-fn is_data(url: &[u8]) -> bool
+/// Whether it is a `data:` URL.
+pub fn is_data(url: &[u8]) -> bool
     ensures { result ≡ spec.is_data url.now }
 {
     same_word(&url[..url.len().min(5)], b"data:")

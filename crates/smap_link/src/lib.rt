@@ -31,7 +31,7 @@ pub use comment::{css_map_url, map_url};
 pub use encoding::{IN_PATH, PathFault, file_url, is_path, script_url};
 pub use endings::{maps_of_scripts, script_of_map, scripts_of_maps};
 pub use ends::agree_equally;
-pub use inline::{InlineFault, inline_map};
+pub use inline::{InlineFault, inline_map, is_data};
 pub use kinds::{FileKind, file_kind, link_in, says_nothing};
 pub use likeness::{Likeness, most_alike};
 pub use names::{is_below, script_name};

@@ -12,7 +12,7 @@ use Rattle.smap_map_choice.specs.declared.picks.Pick.{Pick}
 
 -- Of these scripts the one that a log means by a name: that of this very name; or else the first that is
 -- alike and has the same query; or else, if queries are ignored, the first that is alike to the name without
--- its query and its fragment.
+-- its query and its fragment, or the only one that is alike to it but for these.
 abbrev pub meant : Bool → List (List ℕ) → List ℕ → Option ℕ
 meant ignore_query scripts name = or_else (first_of name scripts)
     (alike_to ignore_query scripts name)

@@ -95,7 +95,8 @@ fn end_at(ends: &[Likeness], i: usize) -> Likeness
 /// What each name of a log has, in the order of the names: the map of the script that is meant, or else that
 /// file of the folders without a URL whose name ends as the script's path does, by whole segments. A script
 /// is meant that has this very name, or else the first that is alike and has the same query, or else, if
-/// queries are ignored, the first that is alike to the name without its query.
+/// queries are ignored, the first that is alike to the name without its query, or the only one that is alike
+/// to it but for that.
 ///
 /// The time is proportional to the bytes of all names, and of those files that end alike.
 ///

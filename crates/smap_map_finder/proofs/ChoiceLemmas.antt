@@ -8,8 +8,8 @@ use Rattle.std.specs.Global.{Vec}
 use Rattle.std.specs.List.{All, slice_get}
 use Rattle.std.proofs.lemmas.Option.{get_or_from_slice_get, slice_get-get_or, slice_get-map, slice_get_within}
 use Rattle.smap_system.specs.Held.{Held, IsHeld}
-use Rattle.smap_map_finder.specs.Choice.{AreChoices, ArePicksIn, ArePicksOf, IsFoundIn, NamesMap, files_of}
-use Rattle.smap_map_finder.specs.Choice.{FindsNone, HasNone, IsChoice, IsHalfUnclear, IsTied, NamesNone}
+use Rattle.smap_map_finder.specs.Choice.{AreBest, ArePicksIn, ArePicksOf, IsFoundIn, NamesMap, files_of}
+use Rattle.smap_map_finder.specs.Choice.{FindsNone, HasNone, IsBest, IsHalfUnclear, IsTied, NamesNone}
 use Rattle.smap_map_finder.specs.Choice.{is_plain, map_files_of}
 use Rattle.smap_map_finder.specs.Choice.{places_of}
 use Rattle.smap_map_files.specs.Given.{Folder, IsFollowed}
@@ -97,7 +97,7 @@ all_of Is f xs i picks are le = let long = length-map xs f in rw (take_all i (ma
 -- finds that no map is asked for
 pub clear_choice : (held : Held) (w : Wanted) (names : List (List ℕ)) (picks : List Pick)
     → ArePicksIn w (files_of w) names picks → All (λ (p : Pick). is_plain w p.found ≡ true) picks
-    → AreChoices held w names picks
+    → AreBest held w names picks
 clear_choice held w names picks are clear = record {
   named = are.named;
   each = λ k d lt. inl (record { is_found = are.each k d lt; is_clear = inl (clear k d lt) });
@@ -115,7 +115,7 @@ tied_choice w name found map all maps tied = record {
 
 pub untied_choice : (held : Held) (w : Wanted) (name : List ℕ) (found map : Found)
     → IsFoundIn w (files_of w) name found → IsFoundIn w (map_files_of w) name map
-    → ¬ IsTied w name found map → IsChoice held w name found
+    → ¬ IsTied w name found map → IsBest held w name found
 untied_choice held w name found map all maps untied = inl (record {
   is_found = all;
   is_clear = inr (record { map = map; is_map = maps; is_untied = untied });
@@ -123,7 +123,7 @@ untied_choice held w name found map all maps untied = inl (record {
 
 pub passed_choice : (held : Held) (w : Wanted) (name : List ℕ) (found map : Found)
     → IsFoundIn w (files_of w) name found → IsFoundIn w (map_files_of w) name map → FindsNone held w found
-    → IsChoice held w name map
+    → IsBest held w name map
 passed_choice held w name found map all maps none =
     inr (inr (record { script = found; by_all = all; without = none; by_map = maps }))
 

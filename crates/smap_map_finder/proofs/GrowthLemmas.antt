@@ -18,10 +18,11 @@ use Rattle.smap_map_finder.specs.Choice.{IsOpenedAs, IsUnopened, has_base, openi
 use Rattle.smap_map_files.specs.Given.{Folder}
 use Rattle.smap_map_files.specs.Opened.{GivesNone}
 use Rattle.smap_map_choice.specs.Places.{MapPlace}
-use Rattle.smap_map_finder.specs.ChosenView.{AreChosen, Choices, Ends, IsCrowded, IsWithoutMap, Grows, map_in}
+use Rattle.smap_map_finder.specs.ChosenView.{AreChosen, Choices, IsCrowded, IsWithoutMap, Grows, map_in}
 use Rattle.smap_map_finder.specs.ChosenView.{HasNone}
 use Rattle.smap_map_finder.specs.ChosenView.{IsFor, IsLeft, IsNotOpened}
 use Rattle.smap_map_finder.specs.ChosenView.{IsFind, IsServedBy, IsSettledIn, IsTried, Serves}
+use Rattle.smap_map_finder.specs.declared.chosen.End.{End}
 use Rattle.smap_map_finder.specs.declared.chosen.Opening.{Opening}
 
 refused_worse : (most : ℕ) (held : Held) (root : Option Folder) (has_base : Bool) (place : MapPlace)
@@ -70,7 +71,7 @@ gives_worse held w worst worse name found le g = record {
 }
 
 -- what is crowded stays so
-abbrev pub StayCrowded : Ends → Ends → Type 0
+abbrev pub StayCrowded : List End → List End → Type 0
 StayCrowded old new = (file : ℕ) → IsCrowded old file → IsCrowded new file
 
 none_worse : (held : Held) (w : Wanted) (c d : Choices) (name : List ℕ) (found : Found)
@@ -91,7 +92,7 @@ left_worse held w in_frames c d name a le (inr (found, picked, none)) =
     inr (found, picked, none_worse held w c d name found a le none)
 
 -- the same choices, once files were opened for more names and worse maps refused
-abbrev pub further : Choices → Ends → ℕ → Choices
+abbrev pub further : Choices → List End → ℕ → Choices
 further c ends worst = record {
   scripts = c.scripts;
   openings = c.openings;
@@ -100,7 +101,7 @@ further c ends worst = record {
   worst = worst;
 }
 
-pub chosen_further : (held : Held) (w : Wanted) (c : Choices) (ends : Ends) (worst : ℕ)
+pub chosen_further : (held : Held) (w : Wanted) (c : Choices) (ends : List End) (worst : ℕ)
     → StayCrowded c.ends ends
     → c.worst ≤ worst → AreChosen held w c → AreChosen held w (further c ends worst)
 chosen_further held w c ends worst a le chosen = record {
@@ -115,7 +116,7 @@ pub chosen_worse : (held : Held) (w : Wanted) (c : Choices) (worst : ℕ) → c.
     → AreChosen held w (further c c.ends worst)
 chosen_worse held w c worst le chosen = chosen_further held w c c.ends worst (λ i is. is) le chosen
 
-pub grows_further : (c : Choices) (ends : Ends) (worst : ℕ) → StayCrowded c.ends ends → c.worst ≤ worst
+pub grows_further : (c : Choices) (ends : List End) (worst : ℕ) → StayCrowded c.ends ends → c.worst ≤ worst
     → Grows c (further c ends worst)
 grows_further c ends worst a le = record {
   names = λ name has. has;

@@ -1,5 +1,6 @@
 pub mod ChoiceLemmas
 pub mod ChosenLemmas
+pub mod CopyLemmas
 pub mod EndLemmas
 pub mod GrowthLemmas
 pub mod LinkLemmas

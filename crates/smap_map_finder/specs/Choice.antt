@@ -1,12 +1,14 @@
 -- Which map a name of a log has, of those that the arguments name.
 use Rattle.std.specs.Prelude.{◌≡◌, ◌⊎◌, ◌+◌, ◌<◌, ◌≤◌, ℕ, Bool, true, false, not, ◌==◌, ◌&&◌, ◌||◌}
 use Rattle.std.specs.Prelude.{nat_eq, nat_le, nat_lt, List, [], codes, cond, drop, length, map}
-use Rattle.std.specs.Prelude.{min, take, unwrap_or, ⊤}
+use Rattle.std.specs.Prelude.{get_or, min, take, unwrap_or, ⊤}
 use Rattle.std.specs.Prelude.{Option, Some, None, option_and_then, option_map}
 use Rattle.std.specs.Char.{is_ascii_alphanumeric}
 use Rattle.std.specs.List.{All, list_any, prefix_len, slice_get, starts_with}
 use Rattle.smap_system.specs.Held.{Held}
 use Rattle.smap_link.specs.Ends.{script_path, stem}
+use Rattle.smap_link.specs.Inline.{is_data}
+use Rattle.smap_link.specs.Kinds.{link_in}
 use Rattle.smap_link.specs.Paths.{bare}
 use Rattle.smap_link.specs.Tails.{AgreeEqually}
 use Rattle.smap_link.specs.Urls.{is_path}
@@ -25,6 +27,7 @@ use Rattle.smap_map_files.specs.RootView.{folder_in}
 use Rattle.smap_map_files.specs.declared.wanted.Origin.{Origin}
 use Rattle.smap_map_files.specs.declared.wanted.Origin.TheVariants as origin
 use Rattle.smap_map_files.specs.declared.wanted.Wanted.{Wanted}
+use Rattle.smap_map_finder.specs.declared.copies.Compared.{Compared}
 use Rattle.smap_map_finder.specs.declared.links.Named.{Named}
 use Rattle.smap_map_finder.specs.declared.links.Named.TheVariants as named
 
@@ -210,10 +213,69 @@ pub record IsPassedOver (held : Held) (w : Wanted) (name : List ℕ) (found : Fo
   pub without : FindsNone held w script
   pub by_map : IsFoundIn w (map_files_of w) name found
 
+-- What is found for a name by the ends of the files' names, and by what scripts name.
+abbrev pub IsBest : Held → Wanted → List ℕ → Found → Type 0
+IsBest held w name found =
+    IsClear w name found ⊎ (IsSettled held w name found ⊎ IsPassedOver held w name found)
+
+abbrev pub IsBestOf : Held → Wanted → Pick → Type 0
+IsBestOf held w pick = IsBest held w pick.name.now pick.found
+
+-- The text of a script names its map by a `data:` URL.
+abbrev pub HoldsMap : List ℕ → List ℕ → Type 0
+HoldsMap script text = (url : List ℕ) × (link_in script text ≡ Some url) × (is_data url ≡ true)
+
+-- Two files hold the same, and are maps, or scripts that hold theirs.
+pub record IsSame (held : List ℕ → Option (List ℕ)) (are_maps : Bool) (first second : List ℕ) : Type 0 where
+  pub bytes : List ℕ
+  pub first_holds : held first ≡ Some bytes
+  pub second_holds : held second ≡ Some bytes
+  pub are_whole : (are_maps ≡ true) ⊎ HoldsMap first bytes
+
+-- The same, where it is said what files hold.
+abbrev pub HoldSame : Held → Bool → List ℕ → List ℕ → Type 0
+HoldSame None are_maps first second = ⊤
+HoldSame (Some held) are_maps first second = IsSame held are_maps first second
+
+-- The same of the files with these numbers: they give the same map for one name.
+pub record AreCopies (held : Held) (w : Wanted) (first second : ℕ) : Type 0 where
+  pub first_name : List ℕ
+  pub first_is : slice_get (files_of w) first ≡ Some first_name
+  pub second_name : List ℕ
+  pub second_is : slice_get (files_of w) second ≡ Some second_name
+  pub same : HoldSame held (nat_lt first (map_count_of w)) first_name second_name
+
+-- What is kept of two files: whether they do.
+abbrev pub AreCompared : Held → Wanted → List Compared → Type 0
+AreCompared held w kept = All (λ c. c.are_copies ≡ true → AreCopies held w c.first c.second) kept
+
+-- The files among which one with this number is looked for: the maps, or for a script all.
+abbrev pub rivals : Wanted → ℕ → List (List ℕ)
+rivals w file = cond (nat_lt file (map_count_of w)) (map_files_of w) (files_of w)
+
+-- These are its rivals, but some that give the same map have no name.
+pub record AreWithoutCopies (held : Held) (w : Wanted) (file : ℕ) (files : List (List ℕ)) : Type 0 where
+  pub count : length files ≡ length (rivals w file)
+  pub each : (k : ℕ) → (get_or files k [] ≡ get_or (rivals w file) k [])
+      ⊎ ((get_or files k [] ≡ []) × AreCopies held w file k)
+
+-- A name has this file among those.
+pub record IsAmongCopies (held : Held) (w : Wanted) (name : List ℕ) (file : ℕ) : Type 0 where
+  pub files : List (List ℕ)
+  pub without : AreWithoutCopies held w file files
+  pub is_found : IsFoundIn w files name (ByEnd file)
+
+-- Of two files between which it isn't clear, the first, if it is but for those that give the same map.
+pub record IsCopied (held : Held) (w : Wanted) (name : List ℕ) (found : Found) : Type 0 where
+  pub first : ℕ
+  pub second : ℕ
+  pub unclear : IsBest held w name (Unclear first second)
+  pub among : IsAmongCopies held w name first
+  pub found_is : found ≡ ByEnd first
+
 -- What is found for a name of a log.
 abbrev pub IsChoice : Held → Wanted → List ℕ → Found → Type 0
-IsChoice held w name found =
-    IsClear w name found ⊎ (IsSettled held w name found ⊎ IsPassedOver held w name found)
+IsChoice held w name found = IsBest held w name found ⊎ IsCopied held w name found
 
 abbrev pub IsChoiceOf : Held → Wanted → Pick → Type 0
 IsChoiceOf held w pick = IsChoice held w pick.name.now pick.found
@@ -222,6 +284,10 @@ IsChoiceOf held w pick = IsChoice held w pick.name.now pick.found
 pub record ArePicksOf (Is : Pick → Type 0) (names : List (List ℕ)) (picks : List Pick) : Type 0 where
   pub named : map (λ p. p.name.now) picks ≡ names
   pub each : All Is picks
+
+-- What is found so for each of these names.
+abbrev pub AreBest : Held → Wanted → List (List ℕ) → List Pick → Type 0
+AreBest held w names picks = ArePicksOf (IsBestOf held w) names picks
 
 -- What is found for each of these names.
 abbrev pub AreChoices : Held → Wanted → List (List ℕ) → List Pick → Type 0
@@ -266,6 +332,20 @@ IsPickedBy held w in_frames pick = IsPicked held w in_frames pick.name.now pick.
 -- What each of these names has.
 abbrev pub ArePicked : Held → Wanted → Bool → List (List ℕ) → List Pick → Type 0
 ArePicked held w in_frames names picks = ArePicksOf (IsPickedBy held w in_frames) names picks
+
+-- The file of what was found: that of the map, or of the script that has it.
+abbrev pub file_of : Wanted → Found → Option (List ℕ)
+file_of w (Given i) = option_map (λ p. p.file) (slice_get (places_of w) i)
+file_of w (ByEnd i) = slice_get (files_of w) i
+file_of w (Unclear i j) = None
+file_of w Missing = None
+
+-- The file that each of these names takes.
+pub record AreFiles (held : Held) (w : Wanted) (in_frames : Bool) (names : List (List ℕ))
+    (files : List (Option (List ℕ))) : Type 0 where
+  pub picks : List Pick
+  pub are_picked : ArePicked held w in_frames names picks
+  pub files_are : files ≡ map (λ p. file_of w p.found) picks
 
 -- a name that is absolute, or else that of the file
 abbrev pub own_name : List ℕ → Option (List ℕ) → List ℕ

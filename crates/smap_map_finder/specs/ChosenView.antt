@@ -1,10 +1,9 @@
 -- What contracts say of the maps that were opened for a log.
-use Rattle.std.specs.Prelude.{◌≡◌, ◌⊎◌, ◌≤◌, ℕ, Bool, List, [], Option, None, Some, bytes_eq, is_some, length}
-use Rattle.std.specs.Prelude.{map, nat_eq, option_map, true, ⊤}
+use Rattle.std.specs.Prelude.{◌≡◌, ◌==◌, ◌&&◌, ◌⊎◌, ◌≤◌, ℕ, Bool, List, [], Option, None, Some, bytes_eq}
+use Rattle.std.specs.Prelude.{count_by, map, option_map, ⊤}
 use Rattle.std.specs.Global.{Vec}
 use Rattle.std.specs.Str.{IsUtf8}
 use Rattle.std.specs.List.{All, Contains, IsDistinct, slice_get}
-use Rattle.std.specs.Map.{lookup}
 use Rattle.smap_system.specs.Held.{Held}
 use Rattle.smap_link.specs.Paths.{bare}
 use Rattle.smap_link.specs.Table.{IsTable}
@@ -13,18 +12,12 @@ use Rattle.smap_map_choice.specs.declared.picks.Found.{Found}
 use Rattle.smap_map_choice.specs.declared.picks.Found.TheVariants.{Given, ByEnd, Unclear, Missing}
 use Rattle.smap_record.specs.Record.{ReadMap, record_of}
 use Rattle.smap_trace.specs.Scripts.{Script}
-use Rattle.smap_map_finder.specs.Choice.{AreLinks, IsMapOf, IsOpenedFor, IsPicked, IsWithout, places_of}
-use Rattle.smap_map_finder.specs.declared.giving.TheConstants.{MOST_AGAIN}
+use Rattle.smap_map_finder.specs.Choice.{AreCompared, AreLinks, IsMapOf, IsOpenedFor, IsPicked, IsWithout, places_of}
 use Rattle.smap_map_finder.specs.declared.chosen.Chosen.{Chosen}
+use Rattle.smap_map_finder.specs.declared.chosen.End.{End}
 use Rattle.smap_map_finder.specs.declared.chosen.Opening.{Opening}
 use Rattle.smap_map_finder.specs.declared.opening.Opener.{Opener}
 use Rattle.smap_map_files.specs.declared.wanted.Wanted.{Wanted}
-
--- The names for which files of folders without a URL were opened, without their queries and fragments: the
--- first of each file, and the further ones.
-pub record Ends : Type 0 where
-  pub firsts : List (ℕ × Vec ℕ)
-  pub further : List (Vec ℕ)
 
 -- What was chosen: the names that have maps, the openings, the names that are left without maps, those for
 -- which files were opened that end as they do, and the greatest status of a map that was refused.
@@ -32,7 +25,7 @@ pub record Choices : Type 0 where
   pub scripts : List Script
   pub openings : List Opening
   pub left : List (Vec ℕ × Bool)
-  pub ends : Ends
+  pub ends : List End
   pub worst : ℕ
 
 abbrev pub choices_of : Chosen → Choices
@@ -40,26 +33,24 @@ choices_of c = record {
   scripts = c.scripts;
   openings = c.openings.items;
   left = c.left.entries;
-  ends = record { firsts = c.files.entries; further = c.again.keys };
+  ends = c.ends.keys;
   worst = c.worst;
 }
 
-abbrev pub no_ends : Ends
-no_ends = record { firsts = []; further = [] }
-
 abbrev pub no_choices : Choices
-no_choices = record { scripts = []; openings = []; left = []; ends = no_ends; worst = 0 }
+no_choices = record { scripts = []; openings = []; left = []; ends = []; worst = 0 }
 
 -- what the files of its disk hold
 abbrev pub held_of : {D : Type 0} → (D → Held) → Opener D → Held
 held_of held o = held o.store.disk.now
 
 -- It finds the scripts of the places that the arguments name, among files that hold this, and keeps what
--- scripts name.
+-- scripts name and which files give the same map.
 pub record IsOver {D : Type 0} (of : D → Held) (held : Held) (w : Wanted) (o : Opener D) : Type 0 where
   pub held_is : held_of of o ≡ held
   pub table_is : IsTable o.table (scripts_of (places_of w))
   pub links_are : AreLinks held w o.links.named.entries
+  pub compared_are : AreCompared held w o.compared.items
 
 -- An opening for one name serves another: the same was found for both, and, of a file in a folder without a
 -- URL, they differ in their queries and fragments alone.
@@ -86,9 +77,9 @@ HasMap c name = Contains (map (λ script. script.0) c.scripts) name
 
 -- ---- names without a map
 
--- The file was opened, and such files were opened for as many further names as they may be.
-abbrev pub IsCrowded : Ends → ℕ → Type 0
-IsCrowded ends file = (is_some (lookup (nat_eq file) ends.firsts) ≡ true) × (MOST_AGAIN ≤ length ends.further)
+-- The file was opened for as many names as it may be.
+abbrev pub IsCrowded : List End → ℕ → Type 0
+IsCrowded ends file = 100 ≤ count_by (λ e. e.file == file) ends
 
 -- An opening that serves the name gave no map.
 pub record IsWithoutMap (held : Held) (w : Wanted) (worst : ℕ) (name : List ℕ) (found : Found) : Type 0 where
@@ -136,20 +127,13 @@ pub record IsEndOf (held : Held) (w : Wanted) (Asked : List ℕ → Type 0) (fil
   pub in_frames : Bool
   pub picked : IsPicked held w in_frames whole (ByEnd file)
 
--- The file was first opened for another name.
-abbrev pub IsOther : List (ℕ × Vec ℕ) → ℕ → List ℕ → Type 0
-IsOther firsts file name =
-    (first : Vec ℕ) × (lookup (nat_eq file) firsts ≡ Some first) × (first.items ≡ name → ⊥)
+abbrev pub same_end : End → End → Bool
+same_end a b = (a.file == b.file) && bytes_eq a.name.items b.name.items
 
--- A name has a file that was first opened for another.
-abbrev pub IsFurther : (ℕ → List ℕ → Type 0) → List (ℕ × Vec ℕ) → Vec ℕ → Type 0
-IsFurther IsOf firsts name = (file : ℕ) × IsOf file name.items × IsOther firsts file name.items
-
--- Each of these names has its file in this way, and no two further ones are the same.
-pub record AreEnds (IsOf : ℕ → List ℕ → Type 0) (ends : Ends) : Type 0 where
-  pub firsts : All (λ f. IsOf f.0 f.1.items) ends.firsts
-  pub further : All (IsFurther IsOf ends.firsts) ends.further
-  pub apart : IsDistinct (λ a b. bytes_eq a.items b.items) ends.further
+-- Each of these names has its file in this way, and no two are the same.
+pub record AreEnds (IsOf : ℕ → List ℕ → Type 0) (ends : List End) : Type 0 where
+  pub each : All (λ e. IsOf e.file e.name.items) ends
+  pub apart : IsDistinct same_end ends
 
 -- They are names of a log that have files that end as they do.
 abbrev pub AreEndsOf : Held → Wanted → (List ℕ → Type 0) → Choices → Type 0
@@ -189,12 +173,7 @@ pub record Grows (old new : Choices) : Type 0 where
   pub crowded : (file : ℕ) → IsCrowded old.ends file → IsCrowded new.ends file
   pub worst : old.worst ≤ new.worst
 
--- Names that have files are still names of a log, if this one is, which has this file.
-abbrev pub KeepsEnd : Held → Wanted → List ℕ → ℕ → Choices → Choices → Type 0
-KeepsEnd held w name file old new = (asked : List (List ℕ)) → IsEndOf held w (Contains asked) file name
-    → AreEndsOf held w (Contains asked) old → AreEndsOf held w (Contains asked) new
-
--- The same, if this one is, for which this was found.
+-- Names that have files are still names of a log, if this one is, for which this was found.
 abbrev pub KeepsEnds : Held → Wanted → List ℕ → Found → Choices → Choices → Type 0
 KeepsEnds held w name found old new = (asked : List (List ℕ)) (in_frames : Bool)
     → IsPicked held w in_frames name found → Contains asked name

@@ -1,13 +1,12 @@
 //! The maps that were opened for the names of a log.
-ghost use Rattle.std.specs.Prelude.{◌≡◌, Bool, IfOk, IfSome, List, OnOk, Some, false, is_some, nat_eq};
+ghost use Rattle.std.specs.Prelude.{◌≡◌, ◌==◌, Bool, IfOk, IfSome, List, OnOk, Some, count_by, false};
 ghost use Rattle.std.specs.Prelude.{option_map, true, ℕ};
 ghost use Rattle.std.specs.Global.{Vec};
 ghost use Rattle.std.specs.List.{slice_get};
-ghost use Rattle.std.specs.Map.{lookup};
 ghost use Rattle.smap_system.specs.Held.{Held};
 ghost use Rattle.smap_map_finder.specs.Choice.{IsMapOf};
-ghost use Rattle.smap_map_finder.specs.ChosenView.{AreChosen, Grows, HasMap, IsLeft, IsOther, IsServedBy};
-ghost use Rattle.smap_map_finder.specs.ChosenView.{IsSettledIn, IsTried, KeepsEnd, KeepsEnds, Serves};
+ghost use Rattle.smap_map_finder.specs.ChosenView.{AreChosen, Grows, HasMap, IsLeft, IsServedBy};
+ghost use Rattle.smap_map_finder.specs.ChosenView.{IsSettledIn, IsTried, KeepsEnds, Serves};
 ghost use Rattle.smap_map_finder.specs.ChosenView.{choices_of};
 ghost use Rattle.smap_map_finder.specs.ChosenView.{no_choices};
 ghost use Rattle.smap_map_finder.specs.declared.chosen.Opening.{Opening};
@@ -70,6 +69,14 @@ fn shared(alloc: Global, map: Option<SourceMap>) -> Result<Option<Arc<SourceMap>
     }
 }
 
+/// A file of a folder without a URL, and a name of the log for which it was opened, without its query and its
+/// fragment.
+#[derive(Drop, PartialEq, Eq, Hash)]
+pub(crate) struct End {
+    pub(crate) file: usize,
+    pub(crate) name: Vec<u8>,
+}
+
 /// The maps that were opened, and the names of the log that have them.
 #[derive(Drop)]
 pub(crate) struct Chosen {
@@ -80,12 +87,11 @@ pub(crate) struct Chosen {
     pub(crate) scripts: Scripts<Arc<SourceMap>>,
     /// Names that have no map, and whether they were looked for as those of frames.
     pub(crate) left: IndexMap<Vec<u8>, bool>,
-    /// The files of folders without a URL that were opened, and the name for which each was first, without
-    /// its query and its fragment.
-    pub(crate) files: IndexMap<usize, Vec<u8>>,
-    /// The further names for which one of them was opened, likewise.
-    pub(crate) again: IndexSet<Vec<u8>>,
-    /// Whether it was told that there are too many of these.
+    /// The files of folders without a URL that were opened.
+    pub(crate) files: IndexSet<usize>,
+    /// The same with the names for which they were.
+    pub(crate) ends: IndexSet<End>,
+    /// Whether it was told that one was opened for as many names as it may be.
     pub(crate) is_crowded: bool,
     /// How many files gave maps.
     pub(crate) count: usize,
@@ -106,8 +112,8 @@ impl Chosen {
             numbers: IndexMap::new(alloc),
             scripts: Scripts::new(alloc),
             left: IndexMap::new(alloc),
-            files: IndexMap::new(alloc),
-            again: IndexSet::new(alloc),
+            files: IndexSet::new(alloc),
+            ends: IndexSet::new(alloc),
             is_crowded: false,
             count: 0,
             told: IndexMap::new(alloc),
@@ -204,49 +210,16 @@ impl Chosen {
         Ok(number)
     }
 
-    /// Whether a file of a folder without a URL was opened for a name.
-    pub(crate) fn is_opened(&self, file: usize) -> bool
-        ensures { result ≡ is_some (lookup (nat_eq file) (choices_of self.now).ends.firsts) }
-    {
-        self.files.contains_key(&file)
+    /// Whether a file of a folder without a URL was opened.
+    pub(crate) fn is_opened(&self, file: usize) -> bool {
+        self.files.contains(&file)
     }
 
-    /// Whether it was first opened for another name than this.
-    fn is_further(&self, file: usize, name: &[u8]) -> bool
-        ensures { result ≡ true → IsOther (choices_of self.now).ends.firsts file name.now }
+    /// For how many names it was.
+    pub(crate) fn count_of(&self, file: usize) -> usize
+        ensures { result ≡ count_by (λ e. e.file == file) (choices_of self.now).ends }
     {
-        let Some(first) = self.files.get(&file) else {
-            return false;
-        };
-        !is_name(first, name)
-    }
-
-    /// Notes the first name for which a file of a folder without a URL was opened.
-    fn note_first(&mut self, alloc: Global, file: usize, name: &[u8]) -> Result<(), AllocError>
-        requires { is_some (lookup (nat_eq file) (choices_of self.old).ends.firsts) ≡ false }
-        ensures chosen { (held : Held) (wanted : Wanted) → AreChosen held wanted (choices_of self.old)
-            → AreChosen held wanted (choices_of self.new) }
-        ensures grows { Grows (choices_of self.old) (choices_of self.new) }
-        ensures ends { (held : Held) (wanted : Wanted) → KeepsEnd held wanted name.now file
-            (choices_of self.old) (choices_of self.new) }
-    {
-        let name = Vec::from_slice(alloc, name)?;
-        self.files.insert(file, name)?;
-        Ok(())
-    }
-
-    /// Notes a further name for which it was opened.
-    fn note_further(&mut self, alloc: Global, file: usize, name: &[u8]) -> Result<(), AllocError>
-        requires { IsOther (choices_of self.old).ends.firsts file name.now }
-        ensures chosen { (held : Held) (wanted : Wanted) → AreChosen held wanted (choices_of self.old)
-            → AreChosen held wanted (choices_of self.new) }
-        ensures grows { Grows (choices_of self.old) (choices_of self.new) }
-        ensures ends { (held : Held) (wanted : Wanted) → KeepsEnd held wanted name.now file
-            (choices_of self.old) (choices_of self.new) }
-    {
-        let name = Vec::from_slice(alloc, name)?;
-        self.again.insert(name)?;
-        Ok(())
+        self.ends.iter().filter(|end| end.file == file).count()
     }
 
     /// Notes that what was found for a name was opened, if it is a file of a folder without a URL.
@@ -265,13 +238,9 @@ impl Chosen {
         let Found::ByEnd(file) = found else {
             return Ok(());
         };
-        let name = bare(name);
-        if !self.is_opened(file) {
-            return self.note_first(alloc, file, name);
-        }
-        if self.is_further(file, name) {
-            return self.note_further(alloc, file, name);
-        }
+        let name = Vec::from_slice(alloc, bare(name))?;
+        self.files.insert(file)?;
+        self.ends.insert(End { file, name })?;
         Ok(())
     }
 

@@ -1,6 +1,7 @@
 //! The maps of the scripts that a log names, as one value.
 ghost use Rattle.std.specs.Prelude.{◌≡◌, IfOk, OnOk, cond, map, option_map};
 ghost use Rattle.std.specs.List.{All};
+ghost use Rattle.smap_map_finder.specs.Choice.{AreFiles};
 ghost use Rattle.smap_map_finder.specs.ChosenView.{AreChosen, Grows, IsSettledIn, KeepEnds};
 ghost use Rattle.smap_map_finder.specs.ChosenView.{no_choices};
 ghost use Rattle.smap_map_finder.specs.Finding.{IsSameSearch};
@@ -135,6 +136,19 @@ impl<'a, E: Eprint + AllocGlobal, D: Disk> Finder<'a, E, D> {
         ensures { option_map (λ m. record_of m.now) result ≡ map_of self.now.chosen.scripts name.now }
     {
         self.chosen.map_of(name)
+    }
+
+    /// The file that each of these names takes, as `open_for` finds it: that of its map, or of the script that
+    /// has it. No map is opened.
+    ///
+    /// # Errors
+    ///
+    /// `Stop`.
+    pub fn files_of(&self, in_frames: bool, names: &[&[u8]]) -> Result<Vec<Option<&'a [u8]>>, Stop>
+        ensures { IfOk result (λ files. AreFiles (D.held self.now.disk) self.now.wanted in_frames
+            (map (λ n. n.now) names.now) (map (option_map (λ f. f.now)) files.items)) }
+    {
+        self.search.files_of(in_frames, names)
     }
 
     /// The status of a run whose maps are these: the greatest of a map that was refused, unless broken maps

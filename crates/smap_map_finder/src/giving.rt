@@ -22,9 +22,9 @@ use smap_system::{Disk, Stop};
 use std::alloc::{AllocError, Global};
 use std::sync::Arc;
 
-/// So often a file of a folder without a URL is opened at most for a further name, whose sources have other
-/// URLs: a log may have any number of names that end alike.
-const MOST_AGAIN: usize = 16;
+/// For so many names a file of a folder without a URL is opened at most, since for each its sources have
+/// other URLs: a log may have any number of names that end alike.
+const MOST_FOR: usize = 100;
 
 /// Whether a pick's file is opened.
 #[derive(Clone, Copy, Debug, PartialEq, Eq)]
@@ -118,8 +118,8 @@ fn unknown<'a>(
 }
 
 impl<E: Eprint + AllocGlobal, D: Disk> Search<'_, E, D> {
-    /// Whether a pick is opened: a file that was opened for other names is so a few times more. Once it is
-    /// not, that is said.
+    /// Whether a pick is opened: a file that was opened for other names is so up to a number of times. Once
+    /// it is not, that is said.
     fn turn_of(&self, found: Found, chosen: &mut Chosen) -> Turn
         ensures never { result ≡ Turn.Never → IsNotOpened (choices_of chosen.new) found }
         ensures chosen { choices_of chosen.new ≡ choices_of chosen.old }
@@ -130,7 +130,7 @@ impl<E: Eprint + AllocGlobal, D: Disk> Search<'_, E, D> {
         if !chosen.is_opened(file) {
             return Turn::First;
         }
-        if chosen.again.len() < MOST_AGAIN {
+        if chosen.count_of(file) < MOST_FOR {
             return Turn::Again;
         }
         if !chosen.is_crowded {

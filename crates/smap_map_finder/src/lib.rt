@@ -6,12 +6,14 @@
 
 mod checking;
 mod chosen;
+mod copies;
 mod finder;
 mod giving;
 mod links;
 mod opening;
 mod picking;
 mod roots;
+mod taking;
 mod telling;
 
 pub use finder::Finder;

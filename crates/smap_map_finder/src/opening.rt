@@ -7,6 +7,7 @@ ghost use Rattle.smap_map_choice.specs.Opening.{found_place};
 ghost use Rattle.smap_map_choice.specs.PlaceView.{place_in};
 ghost use Rattle.smap_map_finder.specs.Searching.{wanted_in};
 
+use crate::copies::Compared;
 use crate::links::Links;
 use crate::roots::{has_base, root_of};
 use smap_link::{ChoiceFault, ScriptTable};
@@ -29,6 +30,7 @@ pub(crate) struct Search<'a, E, D> {
 pub(crate) struct Opener<'a, D> {
     pub(crate) table: ScriptTable,
     pub(crate) links: Links,
+    pub(crate) compared: Vec<Compared>,
     pub(crate) store: FileStore<'a, D>,
 }
 
@@ -47,6 +49,7 @@ impl<'a, D> Opener<'a, D> {
             Ok(table) => Ok(Opener {
                 table,
                 links: Links::new(alloc),
+                compared: Vec::new(alloc),
                 store: FileStore::new(alloc, disk),
             }),
             Err(ChoiceFault::Memory) => Err(Stop::Memory),

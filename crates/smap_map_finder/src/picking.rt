@@ -2,7 +2,7 @@
 ghost use Rattle.std.specs.Prelude.{◌≡◌, ◌↔◌, IfOk, IsTrue, List, map, option_map, true, ℕ};
 ghost use Rattle.std.specs.List.{All};
 ghost use Rattle.smap_map_finder.specs.Choice as spec;
-ghost use Rattle.smap_map_finder.specs.Choice.{AreChoices, AreLinks, ArePicked, ArePicksIn, IsChoice};
+ghost use Rattle.smap_map_finder.specs.Choice.{AreBest, AreLinks, ArePicked, ArePicksIn, IsBest};
 ghost use Rattle.smap_map_finder.specs.Choice.{IsChoiceOf};
 ghost use Rattle.smap_map_finder.specs.Choice.{IsFoundIn};
 ghost use Rattle.smap_map_finder.specs.Choice.{IsHalfUnclear, files_of, places_of};
@@ -106,7 +106,7 @@ fn within_ends(name: &[u8], in_frames: bool, found: Found) -> Found
 }
 
 /// How many of the files are maps.
-fn map_count(wanted: &Wanted<'_>) -> usize
+pub(crate) fn map_count(wanted: &Wanted<'_>) -> usize
     ensures { result ≡ spec.map_count_of wanted.now }
 {
     wanted.map_count.min(wanted.files.len())
@@ -249,7 +249,7 @@ impl<E: Eprint + AllocGlobal, D: Disk> Search<'_, E, D> {
         requires script { IsFoundIn (wanted_in self.now) (spec.script_files_of (wanted_in self.now))
             name.now script }
         requires map { IsFoundIn (wanted_in self.now) (spec.map_files_of (wanted_in self.now)) name.now map }
-        ensures choice { IfOk result (IsChoice (held_in D.held self.now) (wanted_in self.now) name.now) }
+        ensures choice { IfOk result (IsBest (held_in D.held self.now) (wanted_in self.now) name.now) }
         ensures links { AreLinks (held_in D.held self.now) (wanted_in self.now) links.new.named.entries }
     {
         if let (Found::ByEnd(i), Found::ByEnd(of_map)) = (script, map) {
@@ -287,7 +287,7 @@ impl<E: Eprint + AllocGlobal, D: Disk> Search<'_, E, D> {
             finds.of_scripts }
         requires map { IsFoundIn (wanted_in self.now) (spec.map_files_of (wanted_in self.now)) name.now
             finds.of_maps }
-        ensures choice { IfOk result (IsChoice (held_in D.held self.now) (wanted_in self.now) name.now) }
+        ensures choice { IfOk result (IsBest (held_in D.held self.now) (wanted_in self.now) name.now) }
         ensures links { AreLinks (held_in D.held self.now) (wanted_in self.now) links.new.named.entries }
     {
         let tied = is_tied(self.host.alloc(), self.wanted, name, finds)?;
@@ -314,7 +314,7 @@ impl<E: Eprint + AllocGlobal, D: Disk> Search<'_, E, D> {
             (λ n. n.now) names.now) picks.now.scripts.now }
         requires maps { ArePicksIn (wanted_in self.now) (spec.map_files_of (wanted_in self.now))
             (map (λ n. n.now) names.now) picks.now.maps.now }
-        ensures choices { IfOk result (λ all. AreChoices (held_in D.held self.now) (wanted_in self.now)
+        ensures choices { IfOk result (λ all. AreBest (held_in D.held self.now) (wanted_in self.now)
             (map (λ n. n.now) names.now) all.items) }
         ensures links { AreLinks (held_in D.held self.now) (wanted_in self.now) links.new.named.entries }
     {
@@ -345,7 +345,7 @@ impl<E: Eprint + AllocGlobal, D: Disk> Search<'_, E, D> {
         requires files { map (λ f. f.now) files.now ≡ files_of (wanted_in self.now) }
         requires picks { ArePicksIn (wanted_in self.now) (files_of (wanted_in self.now)) (map (λ n. n.now)
             names.now) picks.items }
-        ensures picked { IfOk result (λ all. AreChoices (held_in D.held self.now) (wanted_in self.now)
+        ensures picked { IfOk result (λ all. AreBest (held_in D.held self.now) (wanted_in self.now)
             (map (λ n. n.now) names.now) all.items) }
         ensures over { IsOver D.held (held_in D.held self.now) (wanted_in self.now) opener.new }
     {
@@ -380,6 +380,7 @@ impl<E: Eprint + AllocGlobal, D: Disk> Search<'_, E, D> {
         let files = slices(alloc, self.wanted.files.as_slice())?;
         let picks = pick_all(alloc, &mut opener.table, &files, true, names)?;
         let picks = self.settled(opener, &files, names, picks)?;
+        let picks = self.choose_all(opener, &files, &picks)?;
         Ok(all_within(alloc, in_frames, &picks)?)
     }
 }

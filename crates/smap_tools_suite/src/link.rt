@@ -83,11 +83,16 @@ fn are_chosen(rt: &impl Abort, alloc: Global, may_be_alike: bool, expected: &[Ch
         b"https://h/a.js".as_slice(),
         b"/srv/b.js",
         b"https://H/a.js",
+        b"https://h/[c].js?v=1",
+        b"https://h/d.js?v=1",
+        b"https://h/d.js?v=2",
     ];
     let names = [
         b"https://h:443/a.js?v=1".as_slice(),
         b"file:///srv/b.js",
         b"https://H/a.js",
+        b"https://h/%5Bc%5D.js?v=2",
+        b"https://h/d.js?v=3",
     ];
     let found = choose(alloc, names.as_slice(), scripts.as_slice(), may_be_alike);
     lists(rt, found, expected);
@@ -95,12 +100,13 @@ fn are_chosen(rt: &impl Abort, alloc: Global, may_be_alike: bool, expected: &[Ch
 
 #[test]
 fn names_choose_scripts(rt: HostRuntime) {
-    let [alike, path, same] = [
+    let [alike, path, same, only] = [
         Choice { name: 0, script: 0 },
         Choice { name: 1, script: 1 },
         Choice { name: 2, script: 2 },
+        Choice { name: 3, script: 3 },
     ];
-    are_chosen(&rt, rt.alloc(), true, &[alike, path, same]);
+    are_chosen(&rt, rt.alloc(), true, &[alike, path, same, only]);
     are_chosen(&rt, rt.alloc(), false, &[same]);
     let twice = [b"a.js".as_slice(), b"b.js", b"a.js"];
     let fault = choose(rt.alloc(), &[], twice.as_slice(), true).err();

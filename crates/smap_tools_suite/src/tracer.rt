@@ -108,3 +108,106 @@ fn a_map_that_can_not_be_read_has_status_3(rt: HostRuntime) -> Result<(), Fail> 
     equal(&rt, out.as_slice(), b"@http://h/m/out.js:1:2\n".as_slice());
     Ok(())
 }
+
+/// What is given, a log, and what becomes of that.
+type Row<'a> = (&'a [&'a str], &'a [u8], &'a [u8]);
+
+const NAMES: [Row<'static>; 8] = [
+    (
+        &["http://h/=/dist"],
+        b"@http://h/%5Bid%5D.js:1:2\n@http://h/%40x/%7Ey.js:1:2\n",
+        b"@http://h/a.js:11:3\n@http://h/@x/a.js:11:3\n",
+    ),
+    (
+        &["http://h/o.js?v=2=/x.map"],
+        b"@http://h/o.js?v=1:1:2\n@http://h/o.js:1:2\n",
+        b"@http://h/a.js:11:3\n@http://h/a.js:11:3\n",
+    ),
+    (
+        &["http://h/o.js?v=1=/x.map", "http://h/o.js?v=2=/x.map"],
+        b"@http://h/o.js?v=3:1:2\n@http://h/o.js?v=2:1:2\n",
+        b"@http://h/o.js?v=3:1:2\n@http://h/a.js:11:3\n",
+    ),
+    (
+        &["/same"],
+        b"@http://h/main.js:1:2\n",
+        b"@http://h/a.js:11:3\n",
+    ),
+    (
+        &["/other"],
+        b"@http://h/main.js:1:2\n@http://h/c/main.js:1:2\n",
+        b"@http://h/main.js:1:2\n@http://h/c/b.js:11:3\n",
+    ),
+    (
+        &["/inline"],
+        b"@http://h/main.js:1:2\n",
+        b"@http://h/a.js:11:3\n",
+    ),
+    (
+        &["/link"],
+        b"@http://h/main.js:1:2\n",
+        b"@http://h/main.js:1:2\n",
+    ),
+    (
+        &["/same", "/other"],
+        b"@http://h/same/a/main.js:1:2\n",
+        b"@http://h/same/a/a.js:11:3\n",
+    ),
+];
+
+#[test]
+fn a_name_finds_its_map(rt: HostRuntime) -> Result<(), Fail> {
+    const OTHER: &[u8] = b"{\"version\":3,\"sources\":[\"b.js\"],\"mappings\":\"AAUE,IAEA\"}";
+    const INLINE: &[u8] =
+        b"f()\n//# sourceMappingURL=data:,{\"version\":3,\"sources\":[\"a.js\"],\"mappings\":\"AAUE,IAEA\"}";
+    const LINK: &[u8] = b"f()\n//# sourceMappingURL=x.map";
+    let disk = MemoryDisk::new(rt.alloc());
+    for (file, bytes) in [
+        ("/x.map", MAP),
+        ("/dist/[id].js.map", MAP),
+        ("/dist/@x/~y.js.map", MAP),
+        ("/same/a/main.js.map", MAP),
+        ("/same/b/main.js.map", MAP),
+        ("/same/c/main.js.map", MAP),
+        ("/same/c/d/main.js.map", OTHER),
+        ("/other/a/main.js.map", MAP),
+        ("/other/b/main.js.map", MAP),
+        ("/other/c/main.js.map", OTHER),
+        ("/inline/a/main.js", INLINE),
+        ("/inline/b/main.js", INLINE),
+        ("/link/a/main.js", LINK),
+        ("/link/b/main.js", LINK),
+        ("/link/a/x.map", MAP),
+        ("/link/b/x.map", OTHER),
+    ] {
+        disk.add_file(file, bytes)?;
+    }
+    for (places, log, expected) in NAMES {
+        let mut words = Vec::from_slice(rt.alloc(), &["smap-trace"])?;
+        words.extend_from_slice(places)?;
+        let (_, out) = traced(&rt, &disk, &words, log)?;
+        equal(&rt, out.as_slice(), expected);
+    }
+    Ok(())
+}
+
+#[test]
+fn a_file_serves_many_names(rt: HostRuntime) -> Result<(), Fail> {
+    let disk = MemoryDisk::new(rt.alloc());
+    disk.add_file("/dist/a.js.map", MAP)?;
+    disk.add_file("/dist/b.js.map", MAP)?;
+    let mut log = Vec::new(rt.alloc());
+    for n in 0..102 {
+        for name in ["a", "b"] {
+            let line = format!(in rt.alloc(); "@http://h{n}/{name}.js:1:2\n")?;
+            log.extend_from_slice(line.as_bytes())?;
+        }
+    }
+    let (_, out) = traced(&rt, &disk, &["smap-trace", "/dist"], &log)?;
+    let told = out
+        .split(|b| *b == b'\n')
+        .filter(|line| line.ends_with(b"/a.js:11:3"))
+        .count();
+    equal(&rt, told, 200);
+    Ok(())
+}

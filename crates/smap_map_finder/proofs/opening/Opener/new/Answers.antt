@@ -7,4 +7,5 @@ returns-in-Ok g c =
       held_is = search rules;
       table_is = search rules;
       links_are = c.new.ensures (g.D.Disk.held c.args.disk.now) c.args.wanted.now;
+      compared_are = search rules;
     }

@@ -45,3 +45,6 @@ returns-in_err-give-clause-ends g c =
     one_kept held w c.args.in_frames picks c.loop-i.i d _ _ _ c.loop-i-test.true c.requires.picked was.ends
     (subst (λ (h : Held). KeepsEnds h w (get_or picks c.loop-i.i d).name.now (get_or picks c.loop-i.i d).found
     (choices_of c.loop-i.chosen) (choices_of c.give.new.chosen)) was.held c.give.ensures.ends)
+
+pub returns-in_err-give-clause-grows : goal.returns-in_err-give-clause-grows
+returns-in_err-give-clause-grows g c = grows_on _ _ _ c.loop-i.invariant.grows c.give.ensures.grows

@@ -59,3 +59,10 @@ pub returns-clause-ends : goal.returns-clause-ends
 returns-clause-ends g c = then_keeps (g.D.Disk.held c.args.store.now.disk.now) c.args.self.now.wanted.now
     c.args.pick.now.name.now c.args.pick.now.found _ _ _ c.note_opening.ensures.ends
     (c.note_end.ensures.ends (g.D.Disk.held c.args.store.now.disk.now) c.args.self.now.wanted.now)
+
+pub returns-in_err-note_end-clause-grows : goal.returns-in_err-note_end-clause-grows
+returns-in_err-note_end-clause-grows g c =
+    let old = choices_of c.args.chosen.now in
+    grows_on _ _ _ (grows_on _ _ _
+    (grows_further old old.ends c.opened_under.new.worst (λ i is. is) c.opened_under.ensures.worst)
+    c.note_opening.ensures.grows) c.note_end.ensures.grows

@@ -1,5 +1,5 @@
 use Rattle.std.proofs.Common.{◌+◌, refl, sym, subst, Bor, List, ℕ, map, take}
-use Rattle.smap_map_finder.specs.Choice.{ArePicksOf, IsChoiceOf, files_of, map_files_of, script_files_of}
+use Rattle.smap_map_finder.specs.Choice.{ArePicksOf, IsBestOf, files_of, map_files_of, script_files_of}
 use Rattle.smap_map_finder.proofs.ChoiceLemmas.{found_at, one_more}
 use Rattle.smap_map_finder.proofs.opening.Search.settle_each.Goals as goal
 
@@ -23,7 +23,7 @@ settled_found-requires-clause-links g c = c.loop-i.invariant.1
 
 pub loop-i-preserved : goal.loop-i-preserved
 loop-i-preserved g c =
-    let Is = IsChoiceOf (g.D.Disk.held c.args.self.now.host.now.disk.now) c.args.self.now.wanted.now in
+    let Is = IsBestOf (g.D.Disk.held c.args.self.now.host.now.disk.now) c.args.self.now.wanted.now in
     let name_of = λ (n : Bor (List ℕ)). n.now in
     let names = c.args.names.now in (
       subst (ArePicksOf Is (take (c.loop-i.i + 1) (map name_of names))) (sym c.in_ok-push.ensures.items)

@@ -1,0 +1,40 @@
+use Rattle.std.proofs.Common.{◌≡◌, ◌∙◌, ◌<◌, [], Bor, List, ap, arith, length, map, rules, set, true, ℕ}
+use Rattle.std.proofs.lemmas.List.{length-map, map-set}
+use Rattle.smap_map_choice.specs.declared.picks.Found.TheVariants.{ByEnd}
+use Rattle.smap_map_finder.specs.Choice.{IsFoundIn}
+use Rattle.smap_map_finder.proofs.CopyLemmas.{one_out}
+use Rattle.smap_map_finder.proofs.opening.Search.is_among_copies.Goals as goal
+
+pub returns-then-is_found-clause-copies : goal.returns-then-is_found-clause-copies
+returns-then-is_found-clause-copies g c = λ _.
+    let w = c.args.self.now.wanted.now in
+    let now = λ (f : Bor (List ℕ)). f.now in
+    let seen : IsFoundIn w (map now c.deref.result.now) c.args.name.now (ByEnd c.args.file) =
+    rw (c.is_found.ensures c.if-is_found.true) at c.in_ok-found.ensures.found in
+    record {
+      files = map now c.loop.left.items;
+      without = c.loop.invariant.0;
+      is_found = rw c.deref.ensures.value at seen;
+    }
+
+pub loop-preserved : goal.loop-preserved
+loop-preserved g c =
+    let held = g.D.Disk.held c.args.self.now.host.now.disk.now in
+    let w = c.args.self.now.wanted.now in
+    let now = λ (f : Bor (List ℕ)). f.now in
+    let left = c.loop.left.items in
+    let other = c.in-Some.other in
+    let within : other < length left = search rules in
+    let lt : other < length (map now left) = simp length-map (omega (arith, within)) in
+    let are : c.in_ok-are_copies.field-0 ≡ true = grind (arith, c.if-not-branch.false) in
+    let none : c.as_slice.result.now ≡ [] = search rules in (
+      one_out held w c.args.file other (map now left) _ lt c.loop.invariant.0
+          (c.in_ok-are_copies.ensures.copies are)
+          (map-set now left other c.as_slice.result ∙ ap (λ (n : List ℕ). set (map now left) other n) none),
+      record {
+        held_is = c.loop.invariant.1.held_is;
+        table_is = c.in_ok-found.ensures.table;
+        links_are = c.loop.invariant.1.links_are;
+        compared_are = c.in_ok-are_copies.ensures.compared;
+      },
+    )
