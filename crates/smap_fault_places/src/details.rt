@@ -75,6 +75,22 @@ fn member_detail(alloc: Global, value: Option<&Value>, expected: &str) -> Result
     format!(in alloc; " is {shown}, not {expected}")
 }
 
+/// What a list of strings, or of strings and nulls, is instead, or its first entry that is neither.
+fn list_detail(alloc: Global, kind: Kind, list: &Value) -> Result<String, AllocError> {
+    let Value::Array(entries) = list else {
+        return member_detail(alloc, Some(list), "an array");
+    };
+    let has_nulls = kind != Kind::Names;
+    let wrong = entries.iter().position(|entry| !entry.is_string()
+        && !(has_nulls && entry.is_null()));
+    let Some(index) = wrong else {
+        return Ok(String::new(alloc));
+    };
+    let shown = shown(alloc, &entries[index])?;
+    let shown = shown.as_str();
+    format!(in alloc; ": entry {index} is {shown}, not a string")
+}
+
 /// Whether a value is a text that has a space where a URL has its host.
 fn has_space_in_host(value: &Value) -> bool {
     let Some((_, rest)) = value.as_str().and_then(|text| text.split_once("://")) else {
@@ -121,6 +137,9 @@ fn value_detail(
     match (kind, value) {
         (Kind::SourceUrl(_) | Kind::UnstableUrl(_), Some(source)) => {
             source_detail(alloc, map, source)
+        }
+        (Kind::Sources | Kind::SourcesContent | Kind::Names, Some(list)) => {
+            list_detail(alloc, kind, list)
         }
         _ => Ok(String::new(alloc)),
     }

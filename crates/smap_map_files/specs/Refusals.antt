@@ -1,6 +1,5 @@
 -- What is said of a map that is refused, after the message of its fault.
-use Rattle.std.specs.Prelude.{◌≡◌, ◌⊎◌, ◌++◌, ℕ, List, [], codes, Ok}
-use Rattle.serde_json.specs.Data.{Data}
+use Rattle.std.specs.Prelude.{◌≡◌, ◌⊎◌, ◌++◌, ℕ, List, [], codes}
 use Rattle.url.specs.Parts.{Parts}
 use Rattle.smap_fault_places.specs.Details.{IsDetail}
 use Rattle.smap_record.specs.declared.fault.Fault.{Fault}

@@ -173,5 +173,10 @@ pub fn sentence(alloc: Global, repair: &Repair) -> Result<String, AllocError>
 pub fn proposal(alloc: Global, repair: &Repair) -> Result<String, AllocError>
     ensures { IfOk result (λ s. string_bytes s ≡ proposal_message repair.now) }
 {
-    format!(in alloc; "{}{}: {}", Subject(repair), OfSection(&repair.section), Proposed(repair))
+    format!(in alloc;
+        "{}{}: {}",
+        Subject(repair),
+        OfSection(&repair.section),
+        Proposed(repair)
+    )
 }
