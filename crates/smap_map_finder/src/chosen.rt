@@ -123,9 +123,7 @@ impl Chosen {
 
     /// Whether what was opened for a name gave no map.
     pub(crate) fn gave_none(&self, name: &[u8]) -> bool {
-        self.openings
-            .iter()
-            .any(|opening| opening.map.is_none() && opening.name.as_slice() == name)
+        self.openings.iter().any(|opening| opening.map.is_none() && opening.name.as_slice() == name)
     }
 
     /// How many files gave maps.
