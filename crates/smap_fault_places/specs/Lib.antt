@@ -1,4 +1,5 @@
 pub mod Contexts
+pub mod Details
 pub mod FaultRanges
 pub mod Faults
 pub mod Paths

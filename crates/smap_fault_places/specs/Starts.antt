@@ -1,5 +1,5 @@
 -- What a file shows at its beginning that is no map, and what may help then.
-use Rattle.std.specs.Prelude.{ℕ, Bool, ◌==◌, ◌||◌, List, [], ◌∷◌, codes, drop, if◌then◌else◌, nat_eq}
+use Rattle.std.specs.Prelude.{ℕ, ◌==◌, List, [], ◌∷◌, codes, drop, if◌then◌else◌, nat_eq}
 use Rattle.std.specs.List.{prefix_len, starts_with}
 use Rattle.json.specs.Word.{is_space}
 use Rattle.smap_record.specs.declared.fault.Kind.{Kind}

@@ -10,7 +10,7 @@ use smap_record::{Fault, Kind};
 use std::alloc::{AllocError, Global};
 
 /// The path to the map of the section with these indices.
-fn map_path(alloc: Global, section: &[usize]) -> Result<Vec<Step>, AllocError>
+pub(crate) fn map_path(alloc: Global, section: &[usize]) -> Result<Vec<Step>, AllocError>
     ensures { IfOk result (λ v. v.items ≡ spec.to_map section.now) }
 {
     let mut path = Vec::new(alloc);

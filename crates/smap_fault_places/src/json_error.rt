@@ -20,16 +20,14 @@ fn line_start(text: &[u8], line: usize) -> usize
     at
 }
 
-/// Where reading a text as JSON stopped. An error at the last byte that says that the text is cut short is
-/// one at the end of the text.
+/// Where reading a text as JSON stopped. An error that says that the text is cut short is one at its end.
 pub(crate) fn error_range(text: &[u8], error: &Error) -> TextRange
     ensures within { IsRangeOf (length text.now) result }
     ensures empty { result.start ≡ result.end }
 {
     let ahead = error.column().saturating_sub(1);
     let at = line_start(text, error.line()).saturating_add(ahead);
-    let is_cut = error.is_eof() && at.saturating_add(1) == text.len();
-    let at = if is_cut {
+    let at = if error.is_eof() {
         text.len()
     } else {
         at.min(text.len())

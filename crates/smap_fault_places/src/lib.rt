@@ -10,13 +10,14 @@
 //!
 //! Where in the text of a source map a fault is: [`range_of`] gives the range of bytes of the member, the
 //! section or the segment that a [`smap_record::Fault`] is about, and [`point_of`] makes a line and a column
-//! of a place. What a file shows at its beginning that is no map, and what may help then, is told by
-//! [`start_of`] and [`hint`].
+//! of a place. What is wrong there is said by [`detail`]; what a file shows at its beginning that is no map,
+//! by [`start_of`].
 //!
 //! The map's JSON tree is read once more, so these are for a map that was refused.
 #![tactic(auto)]
 
 mod bytes;
+mod details;
 mod fault_path;
 mod fault_range;
 mod json_error;
@@ -28,17 +29,20 @@ mod point;
 mod range;
 mod scan;
 mod segment;
+mod segment_details;
+mod shown_values;
 mod spelling;
 mod starts;
 mod step;
 mod walk;
 mod written;
 
+pub use details::detail;
 pub use fault_range::range_of;
 pub use point::{Point, point_of};
 pub use range::TextRange;
 pub use segment::segment_range;
-pub use starts::{Start, hint, start_of};
+pub use starts::{Start, start_of};
 pub use step::{Key, Step};
 pub use walk::{there, value_at};
 pub use written::value_range;

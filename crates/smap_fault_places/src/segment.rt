@@ -56,7 +56,7 @@ fn segment_len(text: &[u8]) -> usize
 }
 
 /// Where in a mappings string the segment with this place may be.
-fn span_of(mappings: &[u8], place: SegmentPlace) -> Option<TextRange>
+pub(crate) fn span_of(mappings: &[u8], place: SegmentPlace) -> Option<TextRange>
     ensures { IfSome result (IsRangeOf (length mappings.now)) }
 {
     let line = after_count(mappings, b';', place.line)?;

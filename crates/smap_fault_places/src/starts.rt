@@ -56,7 +56,7 @@ pub fn start_of(bytes: &[u8]) -> Start
 
 /// What may help with a map that is refused for this fault and begins so, in parentheses after a space; empty
 /// unless it isn't JSON.
-pub fn hint(fault: &Fault, start: Start) -> &'static str
+pub(crate) fn hint(fault: &Fault, start: Start) -> &'static str
     ensures { result.now ≡ spec.hint fault.now.kind start }
 {
     match start {

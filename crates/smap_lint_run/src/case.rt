@@ -5,6 +5,7 @@ use crate::scripts::Script;
 use smap_fault_places::{point_of, range_of};
 use smap_link::script_url;
 use smap_lint_rules::Check;
+use smap_map_files::MapText;
 use smap_record::{Base, BaseFault, Fault, Limits, ReadError, SourceMap};
 use smap_report::Point;
 use smap_system::Disk;
@@ -57,8 +58,16 @@ impl Case<'_, '_> {
     }
 
     /// Notes that the map is refused.
-    fn add_refused(&mut self, bytes: &[u8], fault: &Fault) -> Result<(), AllocError> {
-        let message = format!(in self.book.alloc; "{fault}")?;
+    fn add_refused(&mut self, base: &Base, bytes: &[u8], fault: &Fault) -> Result<(), AllocError> {
+        let text = MapText {
+            bytes,
+            base,
+            url_bytes: self.book.url_bytes,
+            is_file: !self.is_inline,
+        };
+        let detail = text.detail(self.book.alloc, fault)?;
+        let detail = detail.as_str();
+        let message = format!(in self.book.alloc; "{fault}{detail}")?;
         let point = self.point(bytes, fault)?;
         self.book
             .add_at(Check::RefusedMap, self.file, point, message)
@@ -86,7 +95,7 @@ impl Case<'_, '_> {
                 Ok(None)
             }
             Err(ReadError::Refused(fault)) => {
-                self.add_refused(bytes, &fault)?;
+                self.add_refused(&base, bytes, &fault)?;
                 Ok(None)
             }
             Err(ReadError::Memory) => Err(AllocError),

@@ -4,6 +4,7 @@ pub mod Lists
 pub mod Naming
 pub mod Opened
 pub mod Positions
+pub mod Refusals
 pub mod RootView
 pub mod Settling
 pub mod SubjectView

@@ -5,8 +5,8 @@ ghost use Rattle.smap_map_choice.specs.Memory.{names_in};
 ghost use Rattle.smap_map_choice.specs.Opening.{IsMadeOf};
 ghost use Rattle.smap_map_choice.specs.PlaceView.{place_in};
 
+use crate::map_text::MapText;
 use crate::may_name_map;
-use smap_fault_places::{Start, start_of};
 use smap_map_choice::{OpenFault, Place, Store};
 use smap_record::{Base, BaseFault, Fault, Limits, ReadError, SourceMap};
 use smap_system::{Disk, FileFault, Kind, LIMIT, read_file};
@@ -25,8 +25,8 @@ pub enum MapFault {
     NotUrl,
     /// It is a script, and what it names for its map is none: this, in words.
     Link(String),
-    /// It isn't accepted.
-    Refused(Fault, Start),
+    /// It isn't accepted; what follows the message of its fault.
+    Refused(Fault, String),
     /// The URLs of its sources take more than this many bytes, which are allowed.
     UrlBytes(usize),
 }
@@ -52,16 +52,16 @@ pub enum Content {
 }
 
 /// The map that these bytes are, the URLs of whose sources may take so many bytes, or what is wrong with
-/// them.
+/// them; `is_file` says whether they are all that a file holds.
 pub(crate) fn loaded_from(
     alloc: Global,
     bytes: &[u8],
     base: &[u8],
     url_bytes: usize,
+    is_file: bool,
 ) -> Result<Loaded, AllocError>
     ensures { IfOk result (IsRead url_bytes base.now bytes.now) }
 {
-    let start = start_of(bytes);
     let Ok(base) = std::str::from_utf8(base) else {
         return Ok(Loaded::Broken(MapFault::NotUtf8));
     };
@@ -73,7 +73,16 @@ pub(crate) fn loaded_from(
     match SourceMap::from_slice_within(alloc, bytes, &base, Limits::usual(), url_bytes) {
         Ok(Some((map, _))) => Ok(Loaded::Map(map)),
         Ok(None) => Ok(Loaded::Broken(MapFault::UrlBytes(url_bytes))),
-        Err(ReadError::Refused(fault)) => Ok(Loaded::Broken(MapFault::Refused(fault, start))),
+        Err(ReadError::Refused(fault)) => {
+            let text = MapText {
+                bytes,
+                base: &base,
+                url_bytes,
+                is_file,
+            };
+            let detail = text.detail(alloc, &fault)?;
+            Ok(Loaded::Broken(MapFault::Refused(fault, detail)))
+        }
         Err(ReadError::Memory) => Err(AllocError),
     }
 }
@@ -115,7 +124,7 @@ fn load_map<D: Disk>(
         return Ok(Loaded::Broken(MapFault::Unread));
     };
     match read_file(alloc, disk, file, LIMIT) {
-        Ok(bytes) => loaded_from(alloc, &bytes, &place.base, url_bytes),
+        Ok(bytes) => loaded_from(alloc, &bytes, &place.base, url_bytes, true),
         Err(fault) => Ok(Loaded::Broken(unread(fault)?)),
     }
 }

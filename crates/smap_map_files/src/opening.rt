@@ -80,7 +80,7 @@ fn inline_loaded<E: Eprint + AllocGlobal, D: Disk>(
     let base = inline_base(alloc, &subject.place.script)?;
     let mut own = copied(alloc, &subject.place)?;
     own.base = given_base(alloc, subject, base)?;
-    let loaded = loaded_from(alloc, &bytes, &own.base, subject.url_bytes)?;
+    let loaded = loaded_from(alloc, &bytes, &own.base, subject.url_bytes, false)?;
     Ok((own, loaded))
 }
 
@@ -98,7 +98,7 @@ fn itself_loaded<E: Eprint + AllocGlobal, D: Disk>(
     if subject.root.is_some() {
         return left_out(host, how, subject, "names no map");
     }
-    let loaded = loaded_from(alloc, &text, &subject.place.base, subject.url_bytes)?;
+    let loaded = loaded_from(alloc, &text, &subject.place.base, subject.url_bytes, true)?;
     Ok(Some((copied(alloc, &subject.place)?, loaded)))
 }
 
@@ -251,7 +251,7 @@ fn settle_content<E: Eprint + AllocGlobal, D: Disk>(
         },
         Content::Bytes(bytes) => {
             let base = &subject.place.base;
-            let loaded = loaded_from(host.alloc(), &bytes, base, subject.url_bytes)?;
+            let loaded = loaded_from(host.alloc(), &bytes, base, subject.url_bytes, true)?;
             map_in(host, &subject.place, loaded, worst)
         }
         Content::Unread(why) => map_in(host, &subject.place, Loaded::Broken(why), worst),

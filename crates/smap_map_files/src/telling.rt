@@ -3,7 +3,6 @@ ghost use Rattle.std.specs.Prelude.{◌<◌, IfOk};
 
 use crate::loading::MapFault;
 use crate::opening::{How, Subject};
-use smap_fault_places::{Start, hint};
 use smap_link::{FileKind, file_kind};
 use smap_map_choice::Place;
 use smap_record::{Fault, Kind};
@@ -25,10 +24,10 @@ pub(crate) fn say_of<E: Eprint + AllocGlobal, D: Disk>(
     Ok(())
 }
 
-/// What may help with a map that isn't accepted, by what it shows at its beginning or else by its name.
-fn hint_for(fault: &Fault, start: Start, file: &[u8]) -> &'static str {
-    if fault.kind != Kind::Json || start != Start::Other {
-        return hint(fault, start);
+/// What a file is instead of a map, by its name, if its text doesn't show more.
+fn kind_hint(fault: &Fault, detail: &str, file: &[u8]) -> &'static str {
+    if fault.kind != Kind::Json || !detail.is_empty() {
+        return "";
     }
     match file_kind(file) {
         FileKind::Script => " (it is a script, which names no map)",
@@ -68,9 +67,10 @@ fn words_of(alloc: Global, place: &Place, fault: &MapFault) -> Result<(String, u
             let what = what.as_str();
             Ok((format!(in alloc; "it {what}")?, 1))
         }
-        MapFault::Refused(fault, start) => {
-            let hint = hint_for(fault, *start, &place.file);
-            Ok((format!(in alloc; "{fault}{hint}")?, 1))
+        MapFault::Refused(fault, detail) => {
+            let detail = detail.as_str();
+            let kind = kind_hint(fault, detail, &place.file);
+            Ok((format!(in alloc; "{fault}{detail}{kind}")?, 1))
         }
         MapFault::UrlBytes(most) => {
             let most = *most;

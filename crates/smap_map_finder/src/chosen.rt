@@ -127,6 +127,11 @@ impl Chosen {
         self.is_unclear
     }
 
+    /// Whether what was opened for a name gave no map.
+    pub(crate) fn gave_none(&self, name: &[u8]) -> bool {
+        self.openings.iter().any(|opening| opening.map.is_none() && opening.name.as_slice() == name)
+    }
+
     /// How many files gave maps.
     pub(crate) fn opened_count(&self) -> usize {
         self.count

@@ -168,6 +168,11 @@ impl<'a, E: Eprint + AllocGlobal, D: Disk> Finder<'a, E, D> {
         self.chosen.is_unclear()
     }
 
+    /// Whether what was opened for a name gave no map.
+    pub fn gave_none(&self, name: &[u8]) -> bool {
+        self.chosen.gave_none(name)
+    }
+
     /// How many files gave maps.
     pub fn opened_count(&self) -> usize {
         self.chosen.opened_count()

@@ -5,7 +5,6 @@ use Rattle.std.specs.List.{join_by}
 use Rattle.std.specs.declared.alloc.Global.{Global}
 use Rattle.smap_differences.specs.Naming.{shown_name}
 use Rattle.smap_record.specs.Messages.{fault_message}
-use Rattle.smap_fault_places.specs.Starts.{hint}
 use Rattle.smap_maps_run.specs.JsonLines.{failure_text, long_urls}
 use Rattle.smap_maps_run.specs.declared.outcome.Outcome.{Outcome}
 use Rattle.smap_maps_run.specs.declared.outcome.Refusal.{Refusal}
@@ -33,9 +32,9 @@ names_text = join_by (λ name. shown_name (string_bytes name)) (codes ", ")
 
 -- what is said of a refused map, with the fault that repairs would leave, if that is told
 abbrev pub refusal_text : Refusal → Option (String Global) → List ℕ
-refusal_text why None = fault_message why.fault ++ hint why.fault.kind why.start
-refusal_text why (Some left) =
-    fault_message why.fault ++ (codes "; once that is repaired: " ++ string_bytes left)
+refusal_text why None = fault_message why.fault ++ string_bytes why.detail
+refusal_text why (Some left) = fault_message why.fault
+    ++ (string_bytes why.detail ++ (codes "; once that is repaired: " ++ string_bytes left))
 
 -- what is said of a map that loses members by a rewrite
 abbrev pub drops_text : List (String Global) → Option (List ℕ)

@@ -6,6 +6,7 @@ ghost use Rattle.smap_maps_run.specs.Judging.{IsJudged};
 
 use crate::outcome::Verdict;
 use crate::placing::unread;
+use smap_map_files::MapText;
 use smap_record::{Base, Limits, ReadError, SourceMap};
 use std::alloc::Global;
 
@@ -28,11 +29,19 @@ fn map_of(
 /// so many bytes for the URLs of its sources: accepted, refused, or failed with
 /// [`Failure::Memory`](crate::Failure::Memory).
 pub fn judged(alloc: Global, base: &Base, bytes: &[u8], url_bytes: usize) -> Verdict
-    ensures { IsJudged (reading_within base.now usual url_bytes bytes.now) url_bytes bytes.now result }
+    ensures { IsJudged base.now url_bytes bytes.now result }
 {
     match map_of(alloc, base, bytes, url_bytes) {
         Ok(Some(_)) => Verdict::Accepted,
         Ok(None) => Verdict::LongUrls(url_bytes),
-        Err(error) => unread(alloc, bytes, error),
+        Err(error) => {
+            let text = MapText {
+                bytes,
+                base,
+                url_bytes,
+                is_file: true,
+            };
+            unread(alloc, &text, error)
+        }
     }
 }

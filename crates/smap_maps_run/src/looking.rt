@@ -8,6 +8,7 @@ use crate::{Failure, Outcome, Verdict, judged, unread};
 use serde_json::Value;
 use smap_command_line::maps::Rewrite;
 use smap_differences::{Drops, changes, dropped};
+use smap_map_files::MapText;
 use smap_record::{Base, BaseFault, map_tree};
 use smap_system::{Disk, FileFault, LIMIT, Stamp, read_file};
 use std::alloc::{AllocError, Global};
@@ -20,6 +21,16 @@ pub(crate) struct Case<'a, D> {
     pub(crate) target: &'a Target,
     /// How many bytes the URLs of its sources may take.
     pub(crate) url_bytes: usize,
+}
+
+/// What a file holds, to be read as a map.
+pub(crate) fn map_text<'a>(base: &'a Base, bytes: &'a [u8], url_bytes: usize) -> MapText<'a> {
+    MapText {
+        bytes,
+        base,
+        url_bytes,
+        is_file: true,
+    }
 }
 
 /// What an outcome is without a rewrite.
@@ -152,7 +163,10 @@ impl<D: Disk> Case<'_, D> {
         let text = match formed(alloc, form, &base, &bytes, self.url_bytes) {
             Ok(Some(text)) => text,
             Ok(None) => return Err(Verdict::LongUrls(self.url_bytes)),
-            Err(error) => return Err(unread(alloc, &bytes, error)),
+            Err(error) => {
+                let text = map_text(&base, &bytes, self.url_bytes);
+                return Err(unread(alloc, &text, error));
+            }
         };
         if text.as_slice() == bytes.as_slice() {
             return Ok(plain(alloc, Verdict::Unchanged));

@@ -2,7 +2,7 @@
 ghost use Rattle.std.specs.Prelude.{◌≡◌};
 ghost use Rattle.smap_maps_run.specs.Outcomes as spec;
 
-use smap_fault_places::{Point, Start, TextRange};
+use smap_fault_places::{Point, TextRange};
 use smap_record::Fault;
 
 /// Why a map is neither accepted nor refused, or can't be replaced.
@@ -38,8 +38,8 @@ pub struct TextPlace {
 pub struct Refusal {
     /// The first fault that is met.
     pub fault: Fault,
-    /// What its file shows at its beginning.
-    pub start: Start,
+    /// What is wrong there, and what mends it: words that follow the message of the fault.
+    pub detail: String,
     /// Where in its text, if the fault has a place there.
     pub place: Option<TextPlace>,
 }

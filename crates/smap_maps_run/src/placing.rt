@@ -1,9 +1,10 @@
-//! Where in its text a map is refused.
-ghost use Rattle.std.specs.Prelude.{IfOk, IfSome};
-ghost use Rattle.smap_maps_run.specs.Judging.{IsJudgedFor, IsPlaceOf, IsRefusedFor};
+//! Why a map is refused, and where in its text.
+ghost use Rattle.std.specs.Prelude.{◌≡◌, IfOk, IfSome};
+ghost use Rattle.smap_maps_run.specs.Judging.{IsJudgedFor, IsPlaceOf, IsRefusedFor, IsTold};
 
 use crate::outcome::{Failure, Refusal, TextPlace, Verdict};
-use smap_fault_places::{point_of, range_of, start_of};
+use smap_fault_places::{point_of, range_of};
+use smap_map_files::MapText;
 use smap_record::{Fault, ReadError};
 use std::alloc::{AllocError, Global};
 
@@ -20,28 +21,37 @@ fn place_in(alloc: Global, bytes: &[u8], fault: &Fault) -> Result<Option<TextPla
     }
 }
 
-/// What a map with these bytes is that is refused for this fault: refused, with the fault's place in them, or
-/// failed with [`Failure::Memory`].
-pub fn refused_for(alloc: Global, bytes: &[u8], fault: Fault) -> Verdict
-    ensures { IsRefusedFor bytes.now fault result }
+/// What a text is that is refused for this fault.
+fn told(alloc: Global, text: &MapText<'_>, fault: Fault) -> Result<Refusal, AllocError>
+    ensures { IfOk result (λ why. (why.fault ≡ fault)
+        × IsTold text.now.base.now text.now.url_bytes text.now.bytes.now why) }
 {
-    match place_in(alloc, bytes, &fault) {
-        Ok(place) => Verdict::Refused(Refusal {
-            fault,
-            start: start_of(bytes),
-            place,
-        }),
+    let detail = text.detail(alloc, &fault)?;
+    let place = place_in(alloc, text.bytes, &fault)?;
+    Ok(Refusal {
+        fault,
+        detail,
+        place,
+    })
+}
+
+/// What a text is that is refused for this fault: refused, with what is wrong and where, or failed with
+/// [`Failure::Memory`].
+pub fn refused_for(alloc: Global, text: &MapText<'_>, fault: Fault) -> Verdict
+    ensures { IsRefusedFor text.now.base.now text.now.url_bytes text.now.bytes.now fault result }
+{
+    match told(alloc, text, fault) {
+        Ok(why) => Verdict::Refused(why),
         Err(_) => Verdict::Failed(Failure::Memory),
     }
 }
 
-/// What a map with these bytes is that isn't read: refused as by [`refused_for`], or failed with
-/// [`Failure::Memory`].
-pub fn unread(alloc: Global, bytes: &[u8], error: ReadError) -> Verdict
-    ensures { IsJudgedFor bytes.now error result }
+/// What a text is that isn't read: refused as by [`refused_for`], or failed with [`Failure::Memory`].
+pub fn unread(alloc: Global, text: &MapText<'_>, error: ReadError) -> Verdict
+    ensures { IsJudgedFor text.now.base.now text.now.url_bytes text.now.bytes.now error result }
 {
     match error {
-        ReadError::Refused(fault) => refused_for(alloc, bytes, fault),
+        ReadError::Refused(fault) => refused_for(alloc, text, fault),
         ReadError::Memory => Verdict::Failed(Failure::Memory),
     }
 }

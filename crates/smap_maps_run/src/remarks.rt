@@ -5,7 +5,6 @@ ghost use Rattle.smap_maps_run.specs.Remarks as spec;
 use crate::json_lines::{failure_text, long_urls};
 use crate::outcome::{Outcome, Refusal, TextPlace, Verdict};
 use smap_differences::shown_name;
-use smap_fault_places::hint;
 use std::alloc::{AllocError, Global};
 
 /// The names of members, as JSON writes them.
@@ -27,16 +26,13 @@ fn names_text(alloc: Global, names: &[String]) -> Result<String, AllocError>
 fn refusal_text(alloc: Global, why: &Refusal, left: Option<&String>) -> Result<String, AllocError>
     ensures { IfOk result (λ t. string_bytes t ≡ spec.refusal_text why.now (option_copied left.entry)) }
 {
-    let fault = &why.fault;
+    let (fault, detail) = (&why.fault, why.detail.as_str());
     match left {
         Some(left) => {
             let left = left.as_str();
-            format!(in alloc; "{fault}; once that is repaired: {left}")
+            format!(in alloc; "{fault}{detail}; once that is repaired: {left}")
         }
-        None => {
-            let hint = hint(fault, why.start);
-            format!(in alloc; "{fault}{hint}")
-        }
+        None => format!(in alloc; "{fault}{detail}"),
     }
 }
 

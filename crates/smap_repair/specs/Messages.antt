@@ -32,6 +32,16 @@ replaced_text r =
     else (if is_empty (string_bytes r.after) then codes "removed"
     else (string_bytes r.before ++ (codes " becomes " ++ string_bytes r.after)))
 
--- A repair in a line.
+-- what would become of what is there
+abbrev pub proposed_text : Repair → List ℕ
+proposed_text r =
+    if is_empty (string_bytes r.before) then string_bytes r.after ++ codes " would be added"
+    else (if is_empty (string_bytes r.after) then codes "would be removed"
+    else (string_bytes r.before ++ (codes " would become " ++ string_bytes r.after)))
+
+-- A repair in a line: one that was made, and one that isn't made yet.
 unfoldable pub repair_message : Repair → List ℕ
 repair_message r = subject_text r ++ (section_text r.section ++ (codes ": " ++ replaced_text r))
+
+unfoldable pub proposal_message : Repair → List ℕ
+proposal_message r = subject_text r ++ (section_text r.section ++ (codes ": " ++ proposed_text r))

@@ -22,5 +22,5 @@ mod scanning;
 mod source_repairs;
 mod spelling;
 
-pub use repair::{Change, Repair, sentence};
+pub use repair::{Change, Repair, proposal, sentence};
 pub use repairing::{Repaired, repair_text};

@@ -1,6 +1,7 @@
 //! One repair of a map's text, and what is said of it.
 ghost use Rattle.std.specs.Prelude.{Some, Ok, IfOk, ◌≡◌, string_bytes};
-ghost use Rattle.smap_repair.specs.Messages.{subject_text, replaced_text, repair_message};
+ghost use Rattle.smap_repair.specs.Messages.{proposal_message, proposed_text, repair_message};
+ghost use Rattle.smap_repair.specs.Messages.{replaced_text, subject_text};
 
 use itoa::Buffer;
 use smap_record::Path;
@@ -109,6 +110,26 @@ impl fmt::Display for Replaced<'_> {
     }
 }
 
+/// What would become of what is there.
+#[derive(Drop)]
+struct Proposed<'a>(&'a Repair);
+
+impl fmt::Display for Proposed<'_> {
+    ghost output = { λ proposed. Some (proposed_text proposed.0.now) };
+
+    fn fmt<W: fmt::Write>(&self, f: &mut fmt::Formatter<W>) -> fmt::Result {
+        let repair = self.0;
+        let (before, after) = (repair.before.as_str(), repair.after.as_str());
+        if before.is_empty() {
+            write!(f, "{after} would be added")
+        } else if after.is_empty() {
+            f.write_str("would be removed")
+        } else {
+            write!(f, "{before} would become {after}")
+        }
+    }
+}
+
 /// Sources and sections count from 0. What stood in the text is shown as it stood there.
 impl fmt::Display for Repair {
     ghost output = { λ repair. Some (repair_message repair) };
@@ -137,4 +158,25 @@ pub fn sentence(alloc: Global, repair: &Repair) -> Result<String, AllocError>
     ensures { IfOk result (λ s. string_bytes s ≡ repair_message repair.now) }
 {
     format!(in alloc; "{repair}")
+}
+
+/// The same of a repair that isn't made yet, as in
+///
+/// ```
+/// version: "3" would become 3
+/// ```
+///
+/// # Errors
+///
+/// `AllocError`.
+#[tactic(auto, unfolding(crate::specs::Messages::proposal_message))]
+pub fn proposal(alloc: Global, repair: &Repair) -> Result<String, AllocError>
+    ensures { IfOk result (λ s. string_bytes s ≡ proposal_message repair.now) }
+{
+    format!(in alloc;
+        "{}{}: {}",
+        Subject(repair),
+        OfSection(&repair.section),
+        Proposed(repair)
+    )
 }

@@ -34,8 +34,12 @@ fn why_no_map<E: Eprint + AllocGlobal, D: Disk>(
     host: &Host<'_, E, D>,
     wanted: &Wanted<'_>,
     script: &[u8],
+    finder: &Finder<'_, E, D>,
 ) -> Result<String, Stop> {
     let alloc = host.alloc();
+    if finder.gave_none(script) {
+        return Ok(String::from_str(alloc, "the file that was found gives none; -v says more")?);
+    }
     let given = wanted
         .places
         .iter()
@@ -89,7 +93,7 @@ pub(crate) fn hint_at_nothing<E: Eprint + AllocGlobal, D: Disk>(
         host.say(hint_without_names(job, frames, escaped));
         return Ok(());
     };
-    let why = why_no_map(host, &job.wanted, name)?;
+    let why = why_no_map(host, &job.wanted, name, finder)?;
     let why = why.as_str();
     let name = printable(alloc, name)?;
     let name = name.as_str();

@@ -1,11 +1,11 @@
 //! A map and its script, read.
 use crate::files::{read_named, text_of};
 use crate::links::{Link, link_of};
-use crate::refusals::{hint, place_of};
+use crate::refusals::place_of;
 use crate::scripts::script_of;
 use serde_json::Value;
 use smap_link::{FileKind, file_kind, script_url};
-use smap_map_files::{Home, folder_url, is_within};
+use smap_map_files::{Home, MapText, folder_url, is_within};
 use smap_record::{Base, BaseFault, Fault, Limits, ReadError, SourceMap};
 use smap_system::{Disk, Host, Stop, parted};
 
@@ -63,6 +63,8 @@ struct Found {
     name: String,
     url: String,
     bytes: Vec<u8>,
+    /// Whether they are all that the file holds.
+    is_file: bool,
 }
 
 /// A script that was read before its map.
@@ -72,17 +74,17 @@ struct Script {
     bytes: Vec<u8>,
 }
 
-/// Says why a map is refused, and what may help.
+/// Says why a map is refused, with words that follow that.
 fn refuse<E: Eprint + AllocGlobal, D: Disk>(
     host: &Host<'_, E, D>,
     found: Found,
     error: String,
-    hint: &str,
+    detail: &str,
     place: Value,
 ) -> Result<Loaded, Stop> {
     let alloc = host.alloc();
     let (path, text) = (found.path.as_str(), error.as_str());
-    let said = format!(in alloc; "{path}: {text}{hint}")?;
+    let said = format!(in alloc; "{path}: {text}{detail}")?;
     host.say(said.as_str());
     Ok(Loaded {
         map: found.name,
@@ -95,13 +97,21 @@ fn refuse<E: Eprint + AllocGlobal, D: Disk>(
 fn refuse_map<E: Eprint + AllocGlobal, D: Disk>(
     host: &Host<'_, E, D>,
     found: Found,
+    base: &Base,
+    url_bytes: usize,
     fault: &Fault,
 ) -> Result<Loaded, Stop> {
     let alloc = host.alloc();
     let error = format!(in alloc; "{fault}")?;
-    let hint = hint(&found.bytes, fault);
+    let text = MapText {
+        bytes: &found.bytes,
+        base,
+        url_bytes,
+        is_file: found.is_file,
+    };
+    let detail = text.detail(alloc, fault)?;
     let place = place_of(alloc, &found.bytes, fault)?;
-    refuse(host, found, error, hint, place)
+    refuse(host, found, error, detail.as_str(), place)
 }
 
 fn refuse_urls<E: Eprint + AllocGlobal, D: Disk>(
@@ -165,7 +175,9 @@ fn load_found<E: Eprint + AllocGlobal, D: Disk>(
         Ok(Some((map, _))) => map,
         Ok(None) => return refuse_urls(host, found, url_bytes),
         Err(ReadError::Memory) => return Err(Stop::Memory),
-        Err(ReadError::Refused(fault)) => return refuse_map(host, found, &fault),
+        Err(ReadError::Refused(fault)) => {
+            return refuse_map(host, found, &base, url_bytes, &fault);
+        }
     };
     let Script { path, bytes } = script_for(host, found.path.as_str(), &map, script, named)?;
     let name = String::from_str(alloc, parted(path.as_str()).1)?;
@@ -208,6 +220,7 @@ fn found_in<E: Eprint + AllocGlobal, D: Disk>(
         name,
         url,
         bytes,
+        is_file: true,
     })
 }
 
@@ -259,6 +272,7 @@ fn load_script<E: Eprint + AllocGlobal, D: Disk>(
             name: String::from_str(alloc, parted(name).1)?,
             url: file_url_of(host, home.url, name)?,
             bytes: map,
+            is_file: false,
         },
         Link::Nothing | Link::Broken if found => return Ok(None),
         Link::Nothing => return Err(fail_alone(host, path.as_str(), "it names no map")),

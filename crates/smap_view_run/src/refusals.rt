@@ -1,4 +1,4 @@
-//! Why a map is refused, and where in its text that is.
+//! Where in the text of a map its fault is.
 use serde_json::{Value, json};
 use smap_fault_places::{Point, Start, TextRange, point_of, range_of, start_of};
 use smap_record::Fault;
@@ -9,11 +9,6 @@ const AROUND: usize = 1_500;
 
 /// Stands for what is left out.
 const ELLIPSIS: &str = "\u{2026}";
-
-/// What may help with a file that isn't JSON, where its first bytes show what it is.
-pub(crate) fn hint(bytes: &[u8], fault: &Fault) -> &'static str {
-    smap_fault_places::hint(fault, start_of(bytes))
-}
 
 /// Whether no character begins with this byte.
 fn is_inner(byte: u8) -> bool {
