@@ -117,18 +117,31 @@ impl<E: Eprint + AllocGlobal, D: Disk> Run<'_, E, D> {
         Ok(())
     }
 
-    /// How many frames of scripts with a map have no mapping. Where positions are looked for anywhere, it is
-    /// known only if nothing was translated.
+    /// How many frames of scripts with a map have no mapping. Where positions are looked for anywhere, other
+    /// lines are translated too, so these frames are counted one by one.
     fn unmapped_count(&self) -> u64 {
         if self.job.anywhere && self.tally.changed > 0 {
-            return 0;
+            return self.frames.missed.all();
         }
         self.frames.mapped.all().saturating_sub(self.tally.changed)
     }
 
-    /// Whether it isn't known of all frames without a mapping of which scripts they are.
+    /// Whether other lines than frames were translated.
+    fn has_others(&self) -> bool {
+        let translated = self
+            .frames
+            .mapped
+            .all()
+            .saturating_sub(self.unmapped_count());
+        self.tally.changed > translated
+    }
+
+    /// Whether frames without a mapping may not be counted yet.
     fn lacks_missed(&self) -> bool {
-        !self.job.anywhere && self.unmapped_count() > self.frames.missed.all()
+        if self.job.anywhere {
+            return self.frames.mapped.all() > 0;
+        }
+        self.unmapped_count() > self.frames.missed.all()
     }
 
     /// Counts the frames of lines of a log that is read once, which were translated.
@@ -136,6 +149,7 @@ impl<E: Eprint + AllocGlobal, D: Disk> Run<'_, E, D> {
         ensures { self.new ≡ self.old }
     {
         self.count_frames()?;
+        self.frames.are_followed = true;
         if self.lacks_missed() {
             let (host, job, scripts) = (self.host, self.job, self.finder.scripts());
             add_missed(
@@ -154,10 +168,18 @@ impl<E: Eprint + AllocGlobal, D: Disk> Run<'_, E, D> {
         self.tally.changed == 0 || self.frames.mapped.is_of_one()
     }
 
-    /// Looks through logs that are files once more, where it isn't known of which scripts frames without a
-    /// mapping are.
+    /// Whether nothing more has to be known of the frames without a mapping.
+    fn knows_missed(&self) -> bool {
+        if self.job.anywhere {
+            return self.frames.are_followed || self.tally.changed == 0;
+        }
+        self.is_plain()
+    }
+
+    /// Looks through logs that are files once more, where it isn't known how many frames without a mapping
+    /// there are, or of which scripts they are.
     fn find_missed(&mut self) -> Result<(), Stop> {
-        if self.is_plain() || !self.lacks_missed() {
+        if self.knows_missed() || !self.lacks_missed() {
             return Ok(());
         }
         let job = self.job;
@@ -208,7 +230,7 @@ impl<E: Eprint + AllocGlobal, D: Disk> Run<'_, E, D> {
     /// Says how many frames stayed, if some did, and what most of them are of.
     fn say_counts(&self, unmapped: &str, mapless: &str) -> Result<(), Stop> {
         let summary = Summary {
-            anywhere: self.job.anywhere,
+            in_lines: self.has_others(),
             translated: self.tally.changed,
             unmapped: Stayed {
                 count: self.unmapped_count(),

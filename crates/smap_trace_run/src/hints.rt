@@ -64,6 +64,8 @@ fn why_no_map<E: Eprint + AllocGlobal, D: Disk>(
 fn hint_without_names(job: &Job<'_>, frames: &Frames, escaped: bool) -> &'static str {
     if escaped {
         "the log has URLs written with \\/ (JSON): smap-events reads it"
+    } else if job.anywhere && frames.used.all() > 0 {
+        "nothing was translated: the maps have no mapping for the positions in the log: of another build?"
     } else if job.anywhere {
         "nothing was translated: no position in the log is one of a script that has a map"
     } else if frames.foreign > 0 {
