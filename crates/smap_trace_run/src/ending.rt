@@ -64,41 +64,55 @@ fn build_text(
     Ok(Some(text))
 }
 
-/// Adds the frames of a log without a mapping, though their script has a map.
+/// Adds the frames of lines without a mapping, though their script has a map, of so many lines at most.
+fn add_missed_lines<E: Eprint + AllocGlobal, D: Disk>(
+    run: &Run<'_, E, D>,
+    lines: &[u8],
+    left: &mut u64,
+    missed: &mut Counted,
+) -> Result<(), AllocError> {
+    let (scripts, style) = (run.finder.scripts(), &run.job.style);
+    for line in lines.split_inclusive(|b| *b == b'\n') {
+        if *left == 0 {
+            return Ok(());
+        }
+        *left -= 1;
+        add_missed(run.host.alloc(), line, scripts, style, missed)?;
+    }
+    Ok(())
+}
+
+/// The same of a log.
 fn add_missed_of<E: Eprint + AllocGlobal, D: Disk>(
     run: &Run<'_, E, D>,
     path: &str,
+    left: &mut u64,
     missed: &mut Counted,
 ) -> Result<(), Stop> {
-    let (host, style) = (run.host, &run.job.style);
+    let host = run.host;
     let mut log = Log::new(host.alloc(), open_log(host, path)?);
     for _ in 0..u64::MAX {
-        if !log.advance(host)? {
+        if *left == 0 || !log.advance(host)? {
             return Ok(());
         }
-        add_missed(
-            host.alloc(),
-            log.lines(),
-            run.finder.scripts(),
-            style,
-            missed,
-        )?;
+        add_missed_lines(run, log.lines(), left, missed)?;
     }
     Err(host.fail(3, "cannot read the log"))
 }
 
 /// The frames of logs without a mapping, though their scripts have maps: of these, or of standard input where
-/// there are none.
+/// there are none. A log may have grown, so no more lines are read than were translated.
 fn missed_of<E: Eprint + AllocGlobal, D: Disk>(
     run: &Run<'_, E, D>,
     logs: &[&str],
 ) -> Result<Counted, Stop> {
     let mut missed = Counted::new(run.host.alloc());
+    let mut left = run.tally.lines;
     if logs.is_empty() {
-        add_missed_of(run, STDIN, &mut missed)?;
+        add_missed_of(run, STDIN, &mut left, &mut missed)?;
     }
     for path in logs {
-        add_missed_of(run, path, &mut missed)?;
+        add_missed_of(run, path, &mut left, &mut missed)?;
     }
     Ok(missed)
 }

@@ -65,7 +65,7 @@ fn hint_without_names(job: &Job<'_>, frames: &Frames, escaped: bool) -> &'static
     if escaped {
         "the log has URLs written with \\/ (JSON): smap-events reads it"
     } else if job.anywhere && frames.used.all() > 0 {
-        "nothing was translated: the maps have no mapping for the positions in the log (of another build?)"
+        "nothing was translated: no position in the log has a mapping (of another build?)"
     } else if job.anywhere {
         "nothing was translated: no position in the log is one of a script that has a map"
     } else if frames.foreign > 0 {
