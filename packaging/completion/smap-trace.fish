@@ -1,7 +1,8 @@
 # Completion of smap-trace for fish. tests/rows/completion.rows compares its options with --help.
 
 # written by tools/options
-complete -c smap-trace -l anywhere -d 'Find positions anywhere in a line: behind a time, in JSON, in colours'
+complete -c smap-trace -l frames-only -d 'Translate only lines that are stack frames, with nothing around them'
+complete -c smap-trace -l anywhere -d 'Find positions anywhere in a line, as without --frames-only'
 complete -c smap-trace -l hide-ignored -d 'Leave out frames in ignored sources (libraries, mostly)'
 complete -c smap-trace -l skip-broken -d 'Leave out maps that smap refuses, naming each; the status is 0 then'
 complete -c smap-trace -l strict -d 'Stop where smap refuses a map. Of logs that are files nothing is translated then'

@@ -31,7 +31,7 @@ maps_at() {
 }
 
 # Writes what `smap translate --anywhere` makes of standard input with the map of http://h/m/out.js; and where
-# `smap-trace --anywhere` with these arguments makes something else of it, as a file or as a pipe, that.
+# `smap-trace` with these arguments makes something else of it, as a file or as a pipe, that.
 as_translated() {
     cat >log
     {
@@ -40,9 +40,9 @@ as_translated() {
         printf '\ntrace\n'
         cat log
     } | smap translate --anywhere >translated
-    smap-trace --anywhere "$@" log >traced 2>/dev/null
+    smap-trace "$@" log >traced 2>/dev/null
     cmp traced translated || cat traced
-    tail -n +1 log | smap-trace --anywhere "$@" >traced 2>/dev/null
+    tail -n +1 log | smap-trace "$@" >traced 2>/dev/null
     cmp traced translated || cat traced
     cat translated
 }

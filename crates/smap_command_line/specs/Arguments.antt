@@ -4,6 +4,7 @@ use Rattle.std.specs.Prelude.{Option, Some, None, is_none, is_some, slice_get, i
 use Rattle.std.specs.List.{list_all, list_any}
 use Rattle.std.specs.Option.{option_map_or}
 use Rattle.clap.specs.Words.{Text}
+use Rattle.smap_link.specs.Urls.{is_path}
 use Rattle.smap_command_line.specs.Values.{is_nothing, parted}
 use Rattle.smap_command_line.specs.declared.trace.arguments.Argument.{Argument}
 use Rattle.smap_command_line.specs.declared.trace.arguments.Argument.TheVariants.{Path, Place}
@@ -12,9 +13,11 @@ use Rattle.smap_command_line.specs.declared.trace.arguments.ArgumentFault.TheVar
 
 -- ---- an argument
 
--- something without a space (32) or a line feed (10), as the URL of a script is in a log
+-- something without a line feed (10), and but in an absolute path without a space (32), as the URL of a script
+-- is in a log
 abbrev pub can_be_url : Text → Bool
-can_be_url text = not (is_nothing text) && not (list_any (λ b. b == 32 || b == 10) text)
+can_be_url text = not (is_nothing text) && not (list_any (λ b. b == 10) text)
+    && (is_path text || not (list_any (λ b. b == 32) text))
 
 -- what is wrong with URL=FILE, whatever names of files there are: both need to be there
 abbrev pub place_fault : Text × Text → Option ArgumentFault

@@ -1,4 +1,5 @@
 pub mod BeginningLemmas
+pub mod Examples
 pub mod LogLemmas
 pub mod NameLemmas
 pub mod NamingLemmas

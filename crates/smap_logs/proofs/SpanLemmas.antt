@@ -54,10 +54,10 @@ pub none_left : {X : Type 0} (o : Option X) → ((x : X) → o ≡ Some x → �
 none_left None h = refl
 none_left (Some x) h = absurd (h x refl)
 
-pub four_more : (old n1 n2 n3 n4 a b c d : List Span) → n1 ≡ old ++ a → n2 ≡ n1 ++ b → n3 ≡ n2 ++ c
-    → n4 ≡ n3 ++ d
-    → n4 ≡ old ++ (a ++ (b ++ (c ++ d)))
-four_more old n1 n2 n3 n4 a b c d p q r t = rw (t, r, q, p) (simp append_assoc)
+pub five_more : (old n1 n2 n3 n4 n5 a b c d e : List Span) → n1 ≡ old ++ a → n2 ≡ n1 ++ b → n3 ≡ n2 ++ c
+    → n4 ≡ n3 ++ d → n5 ≡ n4 ++ e
+    → n5 ≡ old ++ (a ++ (b ++ (c ++ (d ++ e))))
+five_more old n1 n2 n3 n4 n5 a b c d e p q r t u = rw (u, t, r, q, p) (simp append_assoc)
 
 module _ (line : List ℕ) (n m before at : ℕ) (more : n ≡ suc m) where
   places_more : (end : ℕ) → number_end line at ≡ Some end

@@ -1,9 +1,10 @@
 -- Where the URL of a script may begin.
-use Rattle.std.specs.Prelude.{ℕ, zero, suc, ◌-◌, ◌<◌, ◌==◌, ◌&&◌, ◌||◌, Bool, not, cond, List, [], ◌∷◌}
-use Rattle.std.specs.Prelude.{drop, take, find, nat_eq, nat_lt, slice_index, slice_range, IfSome}
-use Rattle.std.specs.Prelude.{Option, None, Some}
+use Rattle.std.specs.Prelude.{ℕ, zero, suc, ◌+◌, ◌-◌, ◌<◌, ◌==◌, ◌&&◌, ◌||◌, Bool, not, cond, List, []}
+use Rattle.std.specs.Prelude.{◌∷◌, codes, drop, take, find, nat_eq, nat_le, nat_lt, slice_index, slice_range}
+use Rattle.std.specs.Prelude.{IfSome, Option, None, Some}
 use Rattle.std.specs.Char.{is_ascii_alphabetic}
-use Rattle.std.specs.List.{prefix_len, slice_get, starts_with}
+use Rattle.std.specs.List.{ends_with, prefix_len, slice_get, starts_with, suffix_len}
+use Rattle.std.specs.Option.{option_or}
 use Rattle.smap_frames.specs.Places.{may_begin}
 use Rattle.smap_logs.specs.Bytes.{ends_url, is_scheme_byte}
 use Rattle.smap_logs.specs.declared.beginnings.Beginnings.{Beginnings}
@@ -57,3 +58,37 @@ pub record AreBefore (end : ℕ) (found : Beginnings) : Type 0 where
   pub scheme : IfSome found.scheme (λ start. start < end)
   pub root : IfSome found.root (λ start. start < end)
   pub farthest : IfSome found.farthest (λ start. start < end)
+
+-- ---- paths with spaces
+
+-- how many bytes follow the last colon, and the last opening parenthesis
+abbrev pub size_after_colon : List ℕ → ℕ
+size_after_colon text = suffix_len (λ b. not (b == 58)) text
+
+abbrev pub size_after_parenthesis : List ℕ → ℕ
+size_after_parenthesis text = suffix_len (λ b. not (b == 40)) text
+
+-- The last bytes before a place, so many and at most 1,024, are a path: ` (` precedes them, and they begin
+-- with a root.
+abbrev pub is_path_of_size : List ℕ → ℕ → ℕ → Bool
+is_path_of_size line end size = nat_lt 0 size && nat_le size end && nat_le size 1024
+    && ends_with nat_eq (take (end - size) line) (codes " (")
+    && begins_with_root (slice_range line (end - size) end)
+
+-- where they begin, if they are
+abbrev pub path_of_size : List ℕ → ℕ → ℕ → Option ℕ
+path_of_size line end size = cond (is_path_of_size line end size) (Some (end - size)) None
+
+-- how many bytes before a place hold no colon, and of these how many no parenthesis
+abbrev pub size_from_drive : List ℕ → ℕ → ℕ
+size_from_drive line end = size_after_colon (take end line)
+
+abbrev pub size_from_slash : List ℕ → ℕ → ℕ
+size_from_slash line end =
+    size_after_parenthesis (slice_range line (end - size_from_drive line end) end)
+
+-- Where a path begins that ends here and may hold spaces: one from a slash follows the last parenthesis and
+-- holds no colon, one from a drive holds no colon but the drive's.
+abbrev pub path_start : List ℕ → ℕ → Option ℕ
+path_start line end = option_or (path_of_size line end (size_from_slash line end))
+    (path_of_size line end (size_from_drive line end + 2))

@@ -51,9 +51,9 @@ others_in_line line = filter has_plain_query (map (name_in line) (spans line))
 abbrev pub others_in : List ℕ → List (List ℕ)
 others_in text = flat_map others_in_line (slice_split is_feed text)
 
--- a space, a control character
+-- a control character
 abbrev pub is_control : ℕ → Bool
-is_control b = nat_lt b 33 || b == 127
+is_control b = nat_lt b 32 || b == 127
 
 -- Whether a text with a position behind it may be looked for. Whoever reads a URL leaves some control
 -- characters out, so that a text which holds one would be taken for another name: it is a name only if a

@@ -1,10 +1,11 @@
 -- Spans of a line.
 use Rattle.std.specs.Prelude.{◌≡◌, ℕ, zero, suc, ◌+◌, ◌<◌, ◌≤◌, ◌==◌, ◌&&◌, Bool, false, cond, List, [], ◌∷◌}
-use Rattle.std.specs.Prelude.{◌++◌, drop, length, nat_le, nat_lt, slice_index, IfSome, Option, None, Some}
+use Rattle.std.specs.Prelude.{◌++◌, codes, drop, length, nat_eq, nat_le, nat_lt, slice_index, IfSome, Option}
+use Rattle.std.specs.Prelude.{None, Some}
 use Rattle.std.specs.Char.{is_ascii_digit}
-use Rattle.std.specs.List.{All, list_any, prefix_len, slice_get}
+use Rattle.std.specs.List.{All, list_any, prefix_len, slice_get, starts_with}
 use Rattle.std.specs.Option.{option_map, option_map_or}
-use Rattle.smap_logs.specs.Beginnings.{beginnings, last}
+use Rattle.smap_logs.specs.Beginnings.{beginnings, last, path_start}
 use Rattle.smap_logs.specs.declared.runs.Place.{Place}
 use Rattle.smap_logs.specs.declared.runs.Run.{Run}
 use Rattle.smap_logs.specs.declared.spans.Span.{Span}
@@ -63,13 +64,20 @@ span_if place None others = []
 span_if place (Some at) others = cond (list_any (λ other. is_place other at) others) []
     (record { start = at; url_end = place.start; end = place.end } ∷ [])
 
+-- where the path with spaces begins before a position that a parenthesis closes
+abbrev pub path_before : List ℕ → Place → Option ℕ
+path_before line place =
+    cond (starts_with nat_eq (drop place.end line) (codes ")")) (path_start line place.start) None
+
 -- the spans of one position
 abbrev pub spans_at : List ℕ → Place → List Span
 spans_at line place = let found = beginnings line place.start in
     span_if place found.nearest []
     ++ (span_if place found.scheme (found.nearest ∷ [])
     ++ (span_if place found.root (found.nearest ∷ found.scheme ∷ [])
-    ++ span_if place found.farthest (found.nearest ∷ found.scheme ∷ found.root ∷ [])))
+    ++ (span_if place found.farthest (found.nearest ∷ found.scheme ∷ found.root ∷ [])
+    ++ span_if place (path_before line place)
+    (found.nearest ∷ found.scheme ∷ found.root ∷ found.farthest ∷ []))))
 
 abbrev pub spans_if : List ℕ → Option Place → List Span
 spans_if line None = []

@@ -1,5 +1,5 @@
 //! Where the URL of a script may begin that ends at a given place of a line.
-ghost use Rattle.std.specs.Prelude.{◌≡◌, ℕ, cond, ◌<◌, ◌≤◌, length};
+ghost use Rattle.std.specs.Prelude.{◌≡◌, ℕ, cond, ◌<◌, ◌≤◌, IfSome, length};
 ghost use Rattle.std.specs.Option.{option_or};
 ghost use Rattle.std.specs.List.{prefix_len};
 ghost use Rattle.smap_logs.specs.Beginnings as spec;
@@ -114,4 +114,52 @@ pub(crate) fn beginnings_of(line: &[u8], end: usize) -> Beginnings
         }
     }
     found
+}
+
+/// How many bytes follow the last colon.
+fn size_after_colon(text: &[u8]) -> usize
+    ensures value { result ≡ spec.size_after_colon text.now }
+    ensures within { result ≤ length text.now }
+{
+    text.iter().rev().take_while(|b| **b != b':').count()
+}
+
+/// How many bytes follow the last opening parenthesis.
+fn size_after_parenthesis(text: &[u8]) -> usize
+    ensures value { result ≡ spec.size_after_parenthesis text.now }
+    ensures within { result ≤ length text.now }
+{
+    text.iter().rev().take_while(|b| **b != b'(').count()
+}
+
+/// Where the last bytes before a place begin, so many, if they are a path from a root and ` (` precedes them.
+fn path_of_size(line: &[u8], end: usize, size: usize) -> Option<usize>
+    requires { end ≤ length line.now }
+    ensures value { result ≡ spec.path_of_size line.now end size }
+    ensures before { IfSome result (λ start. start < end) }
+{
+    if size == 0 || size > end || size > MAX_URL {
+        return None;
+    }
+    let start = end - size;
+    if line[..start].ends_with(b" (") && begins_with_root(&line[start..end]) {
+        Some(start)
+    } else {
+        None
+    }
+}
+
+/// Where a path begins that ends here, follows ` (` and may hold spaces. One from a drive may hold
+/// parentheses too, as `C:\Program Files (x86)\a.js` does.
+pub(crate) fn path_start(line: &[u8], end: usize) -> Option<usize>
+    requires { end ≤ length line.now }
+    ensures value { result ≡ spec.path_start line.now end }
+    ensures before { IfSome result (λ start. start < end) }
+{
+    let size = size_after_colon(&line[..end]);
+    let from_slash = size_after_parenthesis(&line[end - size..end]);
+    match path_of_size(line, end, from_slash) {
+        Some(start) => Some(start),
+        None => path_of_size(line, end, size + 2),
+    }
 }

@@ -227,11 +227,11 @@ impl Names {
     }
 }
 
-/// Whether a name has a space or a control character.
+/// Whether a name has a control character.
 pub fn has_control(name: &[u8]) -> bool
     ensures { result ≡ list_any spec.is_control name.now }
 {
-    name.iter().any(|b| *b <= b' ' || *b == 0x7f)
+    name.iter().any(|b| *b < b' ' || *b == 0x7f)
 }
 
 /// Whether one of these is the name.

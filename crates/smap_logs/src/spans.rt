@@ -4,7 +4,7 @@ ghost use Rattle.std.specs.List.{list_any};
 ghost use Rattle.smap_logs.specs.Spans as spec;
 ghost use Rattle.smap_logs.specs.Spans.{AddsSpans, IsPlaceIn, IsRunIn};
 
-use crate::beginnings::{Beginnings, beginnings_of};
+use crate::beginnings::{Beginnings, beginnings_of, path_start};
 use crate::runs::{Place, Run, run_at};
 use std::alloc::AllocError;
 
@@ -61,6 +61,19 @@ fn add_span(
     Ok(())
 }
 
+/// Where the path with spaces begins before a position that a parenthesis closes, if there is one.
+fn path_before(line: &[u8], place: Place) -> Option<usize>
+    requires { IsPlaceIn (length line.now) place }
+    ensures value { result ≡ spec.path_before line.now place }
+    ensures before { IfSome result (λ start. start < place.start) }
+{
+    if line[place.end..].starts_with(b")") {
+        path_start(line, place.start)
+    } else {
+        None
+    }
+}
+
 /// Adds the spans of one position.
 #[tactic(auto, using(crate::proofs::SpanLemmas::adds_trans))]
 fn add_spans_at(line: &[u8], place: Place, spans: &mut Vec<Span>) -> Result<(), AllocError>
@@ -79,6 +92,8 @@ fn add_spans_at(line: &[u8], place: Place, spans: &mut Vec<Span>) -> Result<(), 
     add_span(line, place, scheme, &[nearest], spans)?;
     add_span(line, place, root, &[nearest, scheme], spans)?;
     add_span(line, place, farthest, &[nearest, scheme, root], spans)?;
+    let path = path_before(line, place);
+    add_span(line, place, path, &[nearest, scheme, root, farthest], spans)?;
     Ok(())
 }
 
@@ -112,6 +127,8 @@ fn add_spans_of(line: &[u8], run: Run, spans: &mut Vec<Span>) -> Result<(), Allo
 /// the last two are positions. A URL holds no space, has at most 1,024 bytes, and begins at the start of the
 /// line, behind a byte that can't be part of a URL or path, or behind a colour sequence. Of these beginnings
 /// four count: the nearest, the nearest with a scheme, the nearest with a root, and the farthest.
+///
+/// A path from a root may hold spaces if it and its position are all that stands between ` (` and `)`.
 ///
 /// The time is proportional to the line's length.
 ///

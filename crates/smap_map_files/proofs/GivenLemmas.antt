@@ -12,7 +12,7 @@ use Rattle.smap_link.specs.Ends.{stem}
 use Rattle.smap_link.specs.Kinds.{is_map}
 use Rattle.smap_map_choice.specs.Places.{MapPlace, below, folder_place}
 use Rattle.smap_map_files.specs.Chosen.{beside_flag, holds}
-use Rattle.smap_map_files.specs.Lists.{Lists, folder_named, has_own_map, holds_space, wanted_names}
+use Rattle.smap_map_files.specs.Lists.{Lists, folder_named, has_own_map, wanted_names}
 use Rattle.smap_map_files.specs.Lists.{with_files, with_places, Folder, folder_in, own_folder, texts}
 use Rattle.smap_map_files.specs.Lists.{with_folder, with_folder_alone, with_root}
 use Rattle.smap_map_files.specs.Naming.{IsPath}
@@ -93,13 +93,7 @@ places_more number ps qs b = same_lists _ _ (sym (append_assoc b.places ps qs))
 
 named_more : (url path name : List ℕ) (names : List (List ℕ))
     → folder_named url path (name ∷ names) ≡ folder_named url path (name ∷ []) ++ folder_named url path names
-named_more url path name names = by (holds_space (folder_place url path name).script)
-  where
-    by : (b : Bool) → cond (not b) (folder_place url path name ∷ folder_named url path names)
-        (folder_named url path names)
-        ≡ cond (not b) (folder_place url path name ∷ []) [] ++ folder_named url path names
-    by true = refl
-    by false = refl
+named_more url path name names = refl
 
 -- those that were gone through, and those to come
 pub below_more : (url path : List ℕ) (number i : ℕ) (names : List (List ℕ)) (name : List ℕ)

@@ -1,5 +1,5 @@
 -- What arguments name, as lists, and what is added to them.
-use Rattle.std.specs.Prelude.{ℕ, Bool, not, ◌==◌, ◌&&◌, List, [], ◌∷◌, ◌++◌, codes, filter, length, map}
+use Rattle.std.specs.Prelude.{ℕ, Bool, not, ◌&&◌, List, [], ◌∷◌, ◌++◌, codes, filter, length, map}
 use Rattle.std.specs.Prelude.{Option, Some, None, is_some, string_bytes, String}
 use Rattle.std.specs.List.{list_any}
 use Rattle.std.specs.Str.{bytes_eq}
@@ -128,14 +128,9 @@ has_own_map names name = list_any (λ m. is_map m && bytes_eq name (stem m)) nam
 abbrev pub wanted_names : List (List ℕ) → List (List ℕ)
 wanted_names names = filter (λ name. not (has_own_map names name)) names
 
--- a space, with which no log can name a script
-abbrev pub holds_space : List ℕ → Bool
-holds_space script = list_any (λ b. b == 32) script
-
--- the maps and scripts with these names whose scripts a log can name
+-- the maps and scripts with these names
 abbrev pub folder_named : List ℕ → List ℕ → List (List ℕ) → List MapPlace
-folder_named url path names = filter (λ place. not (holds_space place.script)) (map
-    (folder_place url path) names)
+folder_named url path names = map (folder_place url path) names
 
 abbrev pub with_places : ℕ → List MapPlace → Lists → Lists
 with_places number places b = record {

@@ -16,7 +16,7 @@ use crate::wanted::{Origin, Root, Wanted, may_name_map};
 use indexmap::IndexSet;
 use smap_link::{link_in, own_url, script_url};
 use smap_map_choice::{Place, below, usual_place};
-use smap_system::{Disk, Host, LIMIT, Stop, printable, read_file, walk};
+use smap_system::{Disk, Host, LIMIT, Stop, read_file, walk};
 use std::alloc::{AllocError, Global};
 
 const ENDINGS: [&str; 5] = [".map", ".js", ".mjs", ".cjs", ".css"];
@@ -184,25 +184,6 @@ fn place_below(alloc: Global, root: &Root, name: &str) -> Result<Place, AllocErr
     usual_place(alloc, &script, &file)
 }
 
-fn holds_space(script: &[u8]) -> bool
-    ensures { result ≡ spec.holds_space script.now }
-{
-    script.iter().any(|b| *b == b' ')
-}
-
-/// Says that no log can name the script of a map.
-fn leave_out<E: Eprint + AllocGlobal, D: Disk>(
-    host: &Host<'_, E, D>,
-    file: &[u8],
-) -> Result<(), Stop> {
-    let alloc = host.alloc();
-    let file = printable(alloc, file)?;
-    let file = file.as_str();
-    let text = format!(in alloc; "left out {file}: no frame is found whose path holds a space")?;
-    host.say(text.as_str());
-    Ok(())
-}
-
 /// Adds a place in the folder with this number.
 fn push_below(place: Place, number: usize, wanted: &mut Wanted<'_>) -> Result<(), AllocError>
     ensures { OnOk result (lists_of wanted.new
@@ -213,7 +194,7 @@ fn push_below(place: Place, number: usize, wanted: &mut Wanted<'_>) -> Result<()
     Ok(())
 }
 
-/// Adds the map or script with this name in the folder with this number, if a log can name its script.
+/// Adds the map or script with this name in the folder with this number.
 fn add_below<E: Eprint + AllocGlobal, D: Disk>(
     host: &Host<'_, E, D>,
     root: &Root,
@@ -226,9 +207,6 @@ fn add_below<E: Eprint + AllocGlobal, D: Disk>(
         (lists_of wanted.old)) }
 {
     let place = place_below(host.alloc(), root, name)?;
-    if holds_space(&place.script) {
-        return leave_out(host, &place.file);
-    }
     push_below(place, number, wanted)?;
     Ok(())
 }

@@ -28,23 +28,23 @@ abbrev pub frames_head : ℕ → ℕ → List ℕ
 frames_head n translated =
     decimal n ++ (codes " " ++ (frames_word n ++ (codes ": " ++ (decimal translated ++ codes " translated"))))
 
--- what was translated: frames, or lines where positions are looked for anywhere
+-- what was translated: frames, or lines if others than frames were
 abbrev pub head : Summary → List ℕ
-head s = cond s.anywhere (lines_head s.translated) (frames_head (total s) s.translated)
+head s = cond s.in_lines (lines_head s.translated) (frames_head (total s) s.translated)
 
 -- the frames that stayed, which are named as such among lines
 abbrev pub stayed : Bool → Stayed → List ℕ
-stayed anywhere s = cond anywhere
+stayed in_lines s = cond in_lines
     (codes ", " ++ (decimal s.count ++ (codes " " ++ (frames_word s.count ++ (codes " " ++ verb s.count)))))
     (codes ", " ++ (decimal s.count ++ (codes " " ++ verb s.count)))
 
 abbrev pub unmapped : Bool → Stayed → List ℕ
-unmapped anywhere s = cond (s.count == 0) []
-    (stayed anywhere s ++ (codes " no mapping (" ++ (s.most.now ++ codes ": of another build?)")))
+unmapped in_lines s = cond (s.count == 0) []
+    (stayed in_lines s ++ (codes " no mapping (" ++ (s.most.now ++ codes ": of another build?)")))
 
 abbrev pub mapless : Bool → Stayed → List ℕ
-mapless anywhere s = cond (s.count == 0) []
-    (stayed anywhere s ++ (codes " no map (" ++ (s.most.now ++ codes ")")))
+mapless in_lines s = cond (s.count == 0) []
+    (stayed in_lines s ++ (codes " no map (" ++ (s.most.now ++ codes ")")))
 
 abbrev pub text : Summary → List ℕ
-text s = head s ++ (unmapped s.anywhere s.unmapped ++ mapless s.anywhere s.mapless)
+text s = head s ++ (unmapped s.in_lines s.unmapped ++ mapless s.in_lines s.mapless)

@@ -80,6 +80,10 @@ pub record IsTracedTo (status : ℕ) (held : Held) (job : Job) (kind : InputKind
 abbrev pub skipping : Options → Bool
 skipping options = has options (codes "skip-broken") && not (has options (codes "strict"))
 
+-- whether positions are found anywhere in a line: unless frames alone are asked for
+abbrev pub finds_anywhere : Options → Bool
+finds_anywhere options = has options (codes "anywhere") || not (has options (codes "frames-only"))
+
 -- what is written for the beginnings of source URLs: for each its first text the second
 abbrev pub pairs_of : List (Bor (List ℕ) × Bor (List ℕ)) → List (List ℕ × List ℕ)
 pairs_of pairs = map (λ p. (p.0.now, p.1.now)) pairs
@@ -88,10 +92,10 @@ pairs_of pairs = map (λ p. (p.0.now, p.1.now)) pairs
 abbrev pub prefixes_of : List Pair → List (List ℕ × List ℕ)
 prefixes_of prefixes = map (λ p. (p.key.now, p.text.now)) prefixes
 
--- A run does what these words ask for: positions are found anywhere in its lines, also where it is to
+-- A run does what these words ask for: positions are found anywhere in its lines, always where it is to
 -- translate positions. A URL in the log is taken with its query.
 pub record IsJobOf (asked : TraceWords) (job : Job) : Type 0 where
-  pub anywhere : job.anywhere ≡ (has asked.options (codes "anywhere") || has_positions job.wanted)
+  pub anywhere : job.anywhere ≡ (finds_anywhere asked.options || has_positions job.wanted)
   pub list : job.list ≡ has asked.options (codes "list")
   pub check_all : job.check_all ≡ has asked.options (codes "check-all")
   pub skip : job.how.skip ≡ skipping asked.options

@@ -64,41 +64,55 @@ fn build_text(
     Ok(Some(text))
 }
 
-/// Adds the frames of a log without a mapping, though their script has a map.
+/// Adds the frames of lines without a mapping, though their script has a map, of so many lines at most.
+fn add_missed_lines<E: Eprint + AllocGlobal, D: Disk>(
+    run: &Run<'_, E, D>,
+    lines: &[u8],
+    left: &mut u64,
+    missed: &mut Counted,
+) -> Result<(), AllocError> {
+    let (scripts, style) = (run.finder.scripts(), &run.job.style);
+    for line in lines.split_inclusive(|b| *b == b'\n') {
+        if *left == 0 {
+            return Ok(());
+        }
+        *left -= 1;
+        add_missed(run.host.alloc(), line, scripts, style, missed)?;
+    }
+    Ok(())
+}
+
+/// The same of a log.
 fn add_missed_of<E: Eprint + AllocGlobal, D: Disk>(
     run: &Run<'_, E, D>,
     path: &str,
+    left: &mut u64,
     missed: &mut Counted,
 ) -> Result<(), Stop> {
-    let (host, style) = (run.host, &run.job.style);
+    let host = run.host;
     let mut log = Log::new(host.alloc(), open_log(host, path)?);
     for _ in 0..u64::MAX {
-        if !log.advance(host)? {
+        if *left == 0 || !log.advance(host)? {
             return Ok(());
         }
-        add_missed(
-            host.alloc(),
-            log.lines(),
-            run.finder.scripts(),
-            style,
-            missed,
-        )?;
+        add_missed_lines(run, log.lines(), left, missed)?;
     }
     Err(host.fail(3, "cannot read the log"))
 }
 
 /// The frames of logs without a mapping, though their scripts have maps: of these, or of standard input where
-/// there are none.
+/// there are none. A log may have grown, so no more lines are read than were translated.
 fn missed_of<E: Eprint + AllocGlobal, D: Disk>(
     run: &Run<'_, E, D>,
     logs: &[&str],
 ) -> Result<Counted, Stop> {
     let mut missed = Counted::new(run.host.alloc());
+    let mut left = run.tally.lines;
     if logs.is_empty() {
-        add_missed_of(run, STDIN, &mut missed)?;
+        add_missed_of(run, STDIN, &mut left, &mut missed)?;
     }
     for path in logs {
-        add_missed_of(run, path, &mut missed)?;
+        add_missed_of(run, path, &mut left, &mut missed)?;
     }
     Ok(missed)
 }
@@ -117,18 +131,31 @@ impl<E: Eprint + AllocGlobal, D: Disk> Run<'_, E, D> {
         Ok(())
     }
 
-    /// How many frames of scripts with a map have no mapping. Where positions are looked for anywhere, it is
-    /// known only if nothing was translated.
+    /// How many frames of scripts with a map have no mapping. Where positions are looked for anywhere, other
+    /// lines are translated too, so these frames are counted one by one.
     fn unmapped_count(&self) -> u64 {
         if self.job.anywhere && self.tally.changed > 0 {
-            return 0;
+            return self.frames.missed.all();
         }
         self.frames.mapped.all().saturating_sub(self.tally.changed)
     }
 
-    /// Whether it isn't known of all frames without a mapping of which scripts they are.
+    /// Whether other lines than frames were translated.
+    fn has_others(&self) -> bool {
+        let translated = self
+            .frames
+            .mapped
+            .all()
+            .saturating_sub(self.unmapped_count());
+        self.tally.changed > translated
+    }
+
+    /// Whether frames without a mapping may not be counted yet.
     fn lacks_missed(&self) -> bool {
-        !self.job.anywhere && self.unmapped_count() > self.frames.missed.all()
+        if self.job.anywhere {
+            return self.frames.mapped.all() > 0;
+        }
+        self.unmapped_count() > self.frames.missed.all()
     }
 
     /// Counts the frames of lines of a log that is read once, which were translated.
@@ -136,6 +163,7 @@ impl<E: Eprint + AllocGlobal, D: Disk> Run<'_, E, D> {
         ensures { self.new ≡ self.old }
     {
         self.count_frames()?;
+        self.frames.are_followed = true;
         if self.lacks_missed() {
             let (host, job, scripts) = (self.host, self.job, self.finder.scripts());
             add_missed(
@@ -154,10 +182,18 @@ impl<E: Eprint + AllocGlobal, D: Disk> Run<'_, E, D> {
         self.tally.changed == 0 || self.frames.mapped.is_of_one()
     }
 
-    /// Looks through logs that are files once more, where it isn't known of which scripts frames without a
-    /// mapping are.
+    /// Whether nothing more has to be known of the frames without a mapping.
+    fn knows_missed(&self) -> bool {
+        if self.job.anywhere {
+            return self.frames.are_followed || self.tally.changed == 0;
+        }
+        self.is_plain()
+    }
+
+    /// Looks through logs that are files once more, where it isn't known how many frames without a mapping
+    /// there are, or of which scripts they are.
     fn find_missed(&mut self) -> Result<(), Stop> {
-        if self.is_plain() || !self.lacks_missed() {
+        if self.knows_missed() || !self.lacks_missed() {
             return Ok(());
         }
         let job = self.job;
@@ -208,7 +244,7 @@ impl<E: Eprint + AllocGlobal, D: Disk> Run<'_, E, D> {
     /// Says how many frames stayed, if some did, and what most of them are of.
     fn say_counts(&self, unmapped: &str, mapless: &str) -> Result<(), Stop> {
         let summary = Summary {
-            anywhere: self.job.anywhere,
+            in_lines: self.has_others(),
             translated: self.tally.changed,
             unmapped: Stayed {
                 count: self.unmapped_count(),

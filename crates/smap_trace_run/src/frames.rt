@@ -89,6 +89,8 @@ pub(crate) struct Frames {
     pub(crate) foreign: u64,
     /// Those of scripts with maps that have no mapping for them, as far as they were looked for.
     pub(crate) missed: Counted,
+    /// Whether the lines of logs were looked through for these as they were translated.
+    pub(crate) are_followed: bool,
     /// Those of scripts with maps, and what else names such a script.
     pub(crate) used: Counted,
 }
@@ -101,6 +103,7 @@ impl Frames {
             elsewhere: Counted::new(alloc),
             foreign: 0,
             missed: Counted::new(alloc),
+            are_followed: false,
             used: Counted::new(alloc),
         }
     }

@@ -11,6 +11,11 @@ fn is_foreign(scheme: &[u8]) -> bool {
     scheme.ends_with(b"-extension") || FOREIGN.iter().any(|word| word.as_bytes() == scheme)
 }
 
+/// Whether a name is what follows a parenthesis of a path, as in `C:\Program Files (x86)\a.js`.
+fn is_rest(name: &[u8]) -> bool {
+    name.iter().find(|b| b"()".contains(*b)) == Some(&b')')
+}
+
 /// Whether a script with this name can have a map at all: `node:fs`, `about:blank` and `<anonymous>` can't.
 pub(crate) fn can_have_map(name: &[u8]) -> bool {
     if is_path(name) {
@@ -21,7 +26,7 @@ pub(crate) fn can_have_map(name: &[u8]) -> bool {
             let (scheme, rest) = name.split_at(colon);
             rest.starts_with(b"://") && !is_foreign(scheme)
         }
-        None => !name.iter().any(|b| *b == b'<' || *b == b'['),
+        None => !is_rest(name) && !name.iter().any(|b| *b == b'<' || *b == b'['),
     }
 }
 

@@ -68,12 +68,14 @@ fn why_no_map<E: Eprint + AllocGlobal, D: Disk>(
 fn hint_without_names(job: &Job<'_>, frames: &Frames, escaped: bool) -> &'static str {
     if escaped {
         "the log has URLs written with \\/ (JSON): smap-events reads it"
+    } else if job.anywhere && frames.used.all() > 0 {
+        "nothing was translated: no position in the log has a mapping (of another build?)"
     } else if job.anywhere {
         "nothing was translated: no position in the log is one of a script that has a map"
     } else if frames.foreign > 0 {
-        "no frame in the log is of a script that can have a map; --anywhere finds positions in other lines"
+        "no frame in the log is of a script that can have a map; leave out --frames-only for other lines"
     } else {
-        "no line of the log is a stack frame alone; --anywhere finds positions in other lines"
+        "no line of the log is a stack frame alone; leave out --frames-only for other lines"
     }
 }
 

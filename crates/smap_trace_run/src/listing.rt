@@ -108,17 +108,17 @@ fn hint_at_list<E: Eprint + AllocGlobal, D: Disk>(
     let alloc = host.alloc();
     let frames = frame_count(&listed.names);
     let positions = listed.looked.lines;
-    if !job.anywhere && positions > frames {
+    if positions > frames {
         let more = positions.saturating_sub(frames);
         let signs = listed.looked.signs(alloc)?;
         let signs = signs.as_str();
         let text = if signs.is_empty() {
             format!(in alloc;
-                "lines with positions that are no frames alone: {more}; --anywhere finds these"
+                "lines with positions that are no frames alone, and not listed: {more}"
             )?
         } else {
             format!(in alloc;
-                "lines with positions that are no frames alone: {more} ({signs}); --anywhere finds these"
+                "lines with positions that are no frames alone, and not listed: {more} ({signs})"
             )?
         };
         host.say(text.as_str());

@@ -5,9 +5,8 @@ ghost use Rattle.smap_command_line.specs.Lookups.{has, text};
 ghost use Rattle.smap_trace_run.specs.OutputView.{contents_of};
 ghost use Rattle.smap_trace_run.specs.Running.{IsSameRun};
 ghost use Rattle.smap_trace_run.specs.Runs.{AreFound, IsAnswered, IsJobOf, IsTracedAsked, IsTracedJob};
-ghost use Rattle.smap_trace_run.specs.Runs.{IsTracedTo, skipping};
+ghost use Rattle.smap_trace_run.specs.Runs.{IsTracedTo, finds_anywhere, pairs_of, prefixes_of, skipping};
 ghost use Rattle.smap_trace_run.specs.Written.{IsTracedTextIn};
-ghost use Rattle.smap_trace_run.specs.Runs.{pairs_of, prefixes_of};
 ghost use Rattle.smap_command_line.specs.Trace.{IsAsked};
 
 use crate::decorating::Style;
@@ -200,9 +199,10 @@ fn check_lines<E: Eprint + AllocGlobal, D: Disk>(
 
 /// Whether positions are found anywhere in a line.
 fn is_anywhere(asked: &TraceWords<'_>, wanted: &Wanted<'_>) -> bool
-    ensures { result ≡ (has asked.now.options (codes "anywhere") || has_positions wanted.now) }
+    ensures { result ≡ (finds_anywhere asked.now.options || has_positions wanted.now) }
 {
-    asked.options.has("anywhere") || wanted.has_positions()
+    let options = &asked.options;
+    options.has("anywhere") || !options.has("frames-only") || wanted.has_positions()
 }
 
 /// The prefixes as pairs.

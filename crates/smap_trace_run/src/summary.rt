@@ -15,9 +15,9 @@ pub(crate) struct Stayed<'a> {
 /// What became of the frames of a run, those left out whose scripts can't have a map.
 #[derive(Clone, Copy, Debug)]
 pub(crate) struct Summary<'a> {
-    /// Whether positions are looked for anywhere.
-    pub(crate) anywhere: bool,
-    /// How many were translated; where positions are looked for anywhere, of how many lines some were.
+    /// Whether lines were translated that are no frames, so that lines are counted.
+    pub(crate) in_lines: bool,
+    /// How many were translated: frames or lines.
     pub(crate) translated: u64,
     /// Those of scripts with a map that has no mapping for them.
     pub(crate) unmapped: Stayed<'a>,
@@ -60,37 +60,37 @@ fn frames_head(alloc: Global, total: u64, translated: u64) -> Result<String, All
 }
 
 /// How many frames stayed.
-fn stayed_text(alloc: Global, anywhere: bool, stayed: &Stayed<'_>) -> Result<String, AllocError>
-    ensures { IfOk result (λ t. string_bytes t ≡ spec.stayed anywhere stayed.now) }
+fn stayed_text(alloc: Global, in_lines: bool, stayed: &Stayed<'_>) -> Result<String, AllocError>
+    ensures { IfOk result (λ t. string_bytes t ≡ spec.stayed in_lines stayed.now) }
 {
     let (count, verb) = (stayed.count, verb(stayed.count));
-    if anywhere {
+    if in_lines {
         let frames = frames_word(count);
         return format!(in alloc; ", {count} {frames} {verb}");
     }
     format!(in alloc; ", {count} {verb}")
 }
 
-fn unmapped_text(alloc: Global, anywhere: bool, stayed: &Stayed<'_>) -> Result<String, AllocError>
-    ensures { IfOk result (λ t. string_bytes t ≡ spec.unmapped anywhere stayed.now) }
+fn unmapped_text(alloc: Global, in_lines: bool, stayed: &Stayed<'_>) -> Result<String, AllocError>
+    ensures { IfOk result (λ t. string_bytes t ≡ spec.unmapped in_lines stayed.now) }
 {
     if stayed.count == 0 {
         return Ok(String::new(alloc));
     }
     let most = stayed.most;
-    let stayed = stayed_text(alloc, anywhere, stayed)?;
+    let stayed = stayed_text(alloc, in_lines, stayed)?;
     let stayed = stayed.as_str();
     format!(in alloc; "{stayed} no mapping ({most}: of another build?)")
 }
 
-fn mapless_text(alloc: Global, anywhere: bool, stayed: &Stayed<'_>) -> Result<String, AllocError>
-    ensures { IfOk result (λ t. string_bytes t ≡ spec.mapless anywhere stayed.now) }
+fn mapless_text(alloc: Global, in_lines: bool, stayed: &Stayed<'_>) -> Result<String, AllocError>
+    ensures { IfOk result (λ t. string_bytes t ≡ spec.mapless in_lines stayed.now) }
 {
     if stayed.count == 0 {
         return Ok(String::new(alloc));
     }
     let most = stayed.most;
-    let stayed = stayed_text(alloc, anywhere, stayed)?;
+    let stayed = stayed_text(alloc, in_lines, stayed)?;
     let stayed = stayed.as_str();
     format!(in alloc; "{stayed} no map ({most})")
 }
@@ -116,7 +116,7 @@ impl Summary<'_> {
     fn head(&self, alloc: Global) -> Result<String, AllocError>
         ensures { IfOk result (λ t. string_bytes t ≡ spec.head self.now) }
     {
-        if self.anywhere {
+        if self.in_lines {
             return lines_head(alloc, self.translated);
         }
         frames_head(alloc, self.total(), self.translated)
@@ -131,8 +131,8 @@ impl Summary<'_> {
         ensures { IfOk result (λ t. string_bytes t ≡ spec.text self.now) }
     {
         let head = self.head(alloc)?;
-        let unmapped = unmapped_text(alloc, self.anywhere, &self.unmapped)?;
-        let mapless = mapless_text(alloc, self.anywhere, &self.mapless)?;
+        let unmapped = unmapped_text(alloc, self.in_lines, &self.unmapped)?;
+        let mapless = mapless_text(alloc, self.in_lines, &self.mapless)?;
         let (head, unmapped, mapless) = (head.as_str(), unmapped.as_str(), mapless.as_str());
         format!(in alloc; "{head}{unmapped}{mapless}")
     }

@@ -4,6 +4,7 @@ ghost use Rattle.std.specs.List.{list_any};
 ghost use Rattle.smap_command_line.specs.Arguments as spec;
 
 use crate::values::parted;
+use smap_link::is_path;
 
 /// An argument, as far as its text says what it is.
 #[derive(Clone, Copy, Debug, PartialEq, Eq)]
@@ -20,23 +21,24 @@ pub enum Argument<'a> {
 pub enum ArgumentFault {
     /// It is empty.
     Empty,
-    /// What stands before its first `=` is empty, or holds a space or a line feed.
+    /// What stands before its first `=` is empty, holds a line feed, or is no path and holds a space.
     Url,
     /// Nothing stands after its first `=`.
     File,
 }
 
-fn holds_space(text: &[u8]) -> bool
-    ensures { result ≡ list_any (λ b. b == 32 || b == 10) text.now }
+fn holds(text: &[u8], byte: u8) -> bool
+    ensures { result ≡ list_any (λ b. b == byte) text.now }
 {
-    text.iter().any(|b| *b == b' ' || *b == b'\n')
+    text.iter().any(|b| *b == byte)
 }
 
-/// Whether this can be a script's URL in a log, or the URL of a map: it isn't looked at any closer.
+/// Whether this can be a script's URL or path in a log, or the URL of a map: it isn't looked at any closer.
 pub(crate) fn can_be_url(text: &str) -> bool
     ensures { result ≡ spec.can_be_url text.now }
 {
-    !text.is_empty() && !holds_space(text.as_bytes())
+    let bytes = text.as_bytes();
+    !text.is_empty() && !holds(bytes, b'\n') && (is_path(bytes) || !holds(bytes, b' '))
 }
 
 fn place_fault(url: &str, file: &str) -> Option<ArgumentFault>

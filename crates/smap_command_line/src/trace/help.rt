@@ -20,7 +20,8 @@ Rewrites the stack traces in a log: positions in scripts become positions in the
   LOG              A log, in place of standard input
   POSITION         URL:LINE:COLUMN, or LINE:COLUMN with one map that is given by its file: in place of a log
 
-  --anywhere      Find positions anywhere in a line: behind a time, in JSON, in colours
+  --frames-only   Translate only lines that are stack frames, with nothing around them
+  --anywhere      Find positions anywhere in a line, as without --frames-only
   --hide-ignored  Leave out frames in ignored sources (libraries, mostly)
   --skip-broken   Leave out maps that smap refuses, naming each; the status is 0 then
   --strict        Stop where smap refuses a map. Of logs that are files nothing is translated then

@@ -33,9 +33,9 @@ pub enum Kind {
 /// What is wrong with an argument that names a file or a folder.
 #[derive(Clone, Copy, Debug, PartialEq, Eq)]
 pub enum SplitFault {
-    /// Its URL is empty, or holds a space or a line feed.
+    /// Its URL is empty, holds a line feed, or is no path and holds a space.
     Url,
-    /// Its base is empty, or holds a space or a line feed.
+    /// Its base is empty, holds a line feed, or is no path and holds a space.
     Base,
     /// It names a folder, and has a base.
     FolderBase,

@@ -2,11 +2,17 @@
 use crate::rows::{FLAG, OptionOf, OptionRow, URL_BYTES, Value};
 
 /// The options, in the order in which the help lists them and values are looked at.
-pub const OPTIONS: [OptionRow; 12] = [
+pub const OPTIONS: [OptionRow; 13] = [
+    OptionOf {
+        name: "frames-only",
+        help: "Translate only lines that are stack frames, with nothing around them",
+        details: "Without it positions are found anywhere in a line: after a time, in JSON, in colours.",
+        ..FLAG
+    },
     OptionOf {
         name: "anywhere",
-        help: "Find positions anywhere in a line: behind a time, in JSON, in colours",
-        details: "It does so before a { and within eval as well.",
+        help: "Find positions anywhere in a line, as without --frames-only",
+        details: "It outweighs --frames-only.",
         ..FLAG
     },
     OptionOf {

@@ -1,0 +1,21 @@
+-- Known answers of the definitions.
+use Rattle.std.proofs.Common.{◌≡◌, None, Some, codes, refl}
+use Rattle.smap_logs.specs.Beginnings.{path_start}
+
+from_slash : path_start (codes "at f (/my shop/a.js") 19 ≡ Some 6
+from_slash = refl
+
+from_drive : path_start (codes "at f (C:\\Program Files (x86)\\a.js") 33 ≡ Some 6
+from_drive = refl
+
+the_last : path_start (codes "at f (/a.js:1:2), g (/b c.js") 28 ≡ Some 21
+the_last = refl
+
+no_further_colon : path_start (codes "eval at f (/a.js:1:2), <anonymous>") 34 ≡ None
+no_further_colon = refl
+
+no_root : path_start (codes "at f (my shop/a.js") 18 ≡ None
+no_root = refl
+
+no_parenthesis : path_start (codes "at /my shop/a.js") 16 ≡ None
+no_parenthesis = refl
