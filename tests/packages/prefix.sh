@@ -21,6 +21,12 @@ runs_alone() {
         grep -q src/cart.ts "$work/page.html"
 }
 
+# The rows of tests/rows/, which otherwise run over the program that finds its C library when it starts.
+archive_passes_rows() (
+    unset SMAP_CAPI
+    SMAP=$usr/bin/smap tests/rows/run
+)
+
 archive_compiles() {
     put_program c "$work/compiled" || return 1
     (
@@ -295,6 +301,7 @@ test_prefix() {
     try 'the archive, unpacked by the line of README, runs its first example' unpacks_anywhere
     ! can_be_root 'the programs of the archive, alone in a root' ||
         try 'the programs of the archive run alone in a root' runs_alone
+    try 'the programs of the archive pass all rows' archive_passes_rows
     if has cc 'a C program with the archive' && has pkg-config 'a C program with the archive'; then
         try 'the archive compiles the C program of its manual' archive_compiles
     fi

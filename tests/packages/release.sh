@@ -254,7 +254,7 @@ finds_dependency() {
 # A library whose names have no versions isn't packed.
 refuses_other_names() {
     cp -r "$lib" "$work/unversioned" && rm "$work/unversioned"/libsmap.so* &&
-        cc -shared -Wl,-soname,libsmap.so.0 -o "$work/unversioned/libsmap.so.0" \
+        cc -shared -nostdlib -Wl,-soname,libsmap.so.0 -o "$work/unversioned/libsmap.so.0" \
             -Wl,--whole-archive "$work/unversioned/libsmap.a" -Wl,--no-whole-archive || return 1
     ! SMAP=$SMAP SMAP_CAPI=$work/unversioned tools/build-packages "$work/none" 2>"$work/said" || return 1
     grep '^dpkg-gensymbols: .*: some new symbols appeared' "$work/said" && [ -z "$(ls "$work/none")" ]
