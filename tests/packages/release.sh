@@ -194,7 +194,7 @@ wants_no_library() {
     find "$work/unpacked" -path '*/node-smap' -prune -o -type f \( -path '*/bin/smap' -o -path '*/smap_programs/smap' \
         -o -name 'libsmap.so.0' -o -name smap.node \) -print >"$work/compiled.list"
     [ "$(wc -l <"$work/compiled.list")" -ge 4 ] && while IFS= read -r file; do
-        readelf -l -d "$file" >"$work/wants" && ! grep -E 'INTERP|NEEDED' "$work/wants" || return 1
+        readelf -l -d "$file" >"$work/headers" && ! grep -E 'INTERP|NEEDED' "$work/headers" || return 1
     done <"$work/compiled.list"
 }
 
