@@ -4,25 +4,12 @@ const platform = `${process.platform}-${process.arch}`;
 
 /** An error that says what keeps smap from running here. */
 function failure(why, cause) {
-  const error = new Error(`smap runs on Linux on x86-64 with glibc, and ${why}`, cause && { cause });
+  const error = new Error(`smap runs on Linux on x86-64, and ${why}`, cause && { cause });
   return Object.assign(error, { code: 'SMAP_NOT_BUILT' });
-}
-
-// The report asks the network for names of hosts unless it is told not to.
-function hasGlibc() {
-  const { report } = process;
-  const { excludeNetwork } = report;
-  report.excludeNetwork = true;
-  try {
-    return Boolean(report.getReport().header.glibcVersionRuntime);
-  } finally {
-    report.excludeNetwork = excludeNetwork;
-  }
 }
 
 function whatIsMissing() {
   if (platform !== 'linux-x64') return `this is ${platform}`;
-  if (!hasGlibc()) return 'the C library here is another one';
   return 'its package smap-linux-x64, which has what is compiled, is not installed';
 }
 

@@ -12,7 +12,8 @@ PAGE = "smap-events.1"
 class LibraryHook(BuildHookInterface):
     """Puts the file that SMAP_WHEEL_LIBRARY names into the wheel, beside the module.
 
-    The wheel is then for the platform SMAP_WHEEL_PLATFORM, such as manylinux_2_14_x86_64, or for this one.
+    The wheel is then for the platforms of SMAP_WHEEL_PLATFORM, such as
+    manylinux_2_5_x86_64.musllinux_1_1_x86_64, or for this one.
     Without the variable it has the module alone, for any platform, which loads the system's library.
     """
 
@@ -26,6 +27,6 @@ class LibraryHook(BuildHookInterface):
         library = os.environ.get("SMAP_WHEEL_LIBRARY")
         if library:
             included[os.path.abspath(library)] = "smap/libsmap.so.0"
-            platform = os.environ.get("SMAP_WHEEL_PLATFORM") or sysconfig.get_platform()
+            this = sysconfig.get_platform().replace("-", "_").replace(".", "_")
             build_data["pure_python"] = False
-            build_data["tag"] = f"py3-none-{platform.replace('-', '_').replace('.', '_')}"
+            build_data["tag"] = f"py3-none-{os.environ.get('SMAP_WHEEL_PLATFORM') or this}"

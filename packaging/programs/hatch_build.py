@@ -11,7 +11,7 @@ class ProgramHook(BuildHookInterface):
     """Puts the program that SMAP_WHEEL_PROGRAM names into the wheel, the template that SMAP_WHEEL_TEMPLATE names
     beside it, where smap-view looks for it, and pages of SMAP_WHEEL_PAGES, a folder.
 
-    The wheel is for the platform SMAP_WHEEL_PLATFORM, such as manylinux_2_34_x86_64.
+    The wheel is for the platforms of SMAP_WHEEL_PLATFORM, such as manylinux_2_17_x86_64.musllinux_1_1_x86_64.
     """
 
     def initialize(self, version, build_data):

@@ -11,6 +11,22 @@ unpacks_anywhere() {
     (unset SMAP && cd "$work/example" && PATH="$usr/bin:$PATH" sh ./command >written && diff wanted written)
 }
 
+# Where there is no other file than the programs and those that they read: no C library, no /dev, no /proc.
+runs_alone() {
+    mkdir -p "$work/alone/share" && cp -R "$work/example/." "$usr/bin" "$work/alone" &&
+        cp -R "$usr/share/smap" "$work/alone/share" || return 1
+    as_root chroot "$work/alone" /bin/smap-trace dist/ crash.log >"$work/written" &&
+        diff "$work/alone/wanted" "$work/written" &&
+        as_root chroot "$work/alone" /bin/smap-view dist/cart.js.map >"$work/page.html" &&
+        grep -q src/cart.ts "$work/page.html"
+}
+
+# The rows of tests/rows/, which otherwise run over the program that finds its C library when it starts.
+archive_passes_rows() (
+    unset SMAP_CAPI
+    SMAP=$usr/bin/smap tests/rows/run
+)
+
 archive_compiles() {
     put_program c "$work/compiled" || return 1
     (
@@ -30,6 +46,17 @@ installs_wheel() {
     ) && "$venv/bin/python" -m pip check &&
         [ "$(cd / && "$venv/bin/python" -c 'import smap; print(smap.__version__, smap.version())')" = \
             "$python_version $library_version" ]
+}
+
+# pip takes both wheels for musl too, and not for another processor. INSTALL has their names.
+takes_wheels() {
+    "$venv/bin/python" -m pip download --no-index --disable-pip-version-check --no-deps --only-binary :all: \
+        --platform "$1" --dest "$work/taken" "$wheel" "$programs"
+}
+
+wheels_are_for_musl() {
+    takes_wheels musllinux_1_1_x86_64 && ! takes_wheels musllinux_1_1_aarch64 &&
+        grep -F "${wheel##*/}" docs/INSTALL.md && grep -F "${programs##*/}" docs/INSTALL.md
 }
 
 wheel_runs_program() {
@@ -257,6 +284,7 @@ test_python() {
     fi
     try 'a virtual environment is made' python3 -m venv "$venv" &&
         try 'the wheel is installed by the line of README' installs_wheel || return
+    try 'the wheels are for musl too' wheels_are_for_musl
     try 'the wheel runs the Python program of its manual' wheel_runs_program
     try 'the wheel runs the example of smap-events' wheel_runs_events
     has mypy 'the types of the Python module' && try 'the wheel has types' has_types
@@ -271,6 +299,9 @@ test_python() {
 
 test_prefix() {
     try 'the archive, unpacked by the line of README, runs its first example' unpacks_anywhere
+    ! can_be_root 'the programs of the archive, alone in a root' ||
+        try 'the programs of the archive run alone in a root' runs_alone
+    try 'the programs of the archive pass all rows' archive_passes_rows
     if has cc 'a C program with the archive' && has pkg-config 'a C program with the archive'; then
         try 'the archive compiles the C program of its manual' archive_compiles
     fi

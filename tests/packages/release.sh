@@ -132,7 +132,8 @@ says_maintainer() {
 # makes no difference to this, so they hold a small program.
 names_maintainer() (
     says_maintainer "$dist" 'smap maintainers <smap@example.invalid>' || return 1
-    SMAP=/bin/true
+    SMAP=$work/small
+    echo 'int main(void) { return 0; }' | cc -static -x c -o "$SMAP" - || return 1
     SMAP_CAPI=$lib
     export SMAP SMAP_CAPI
     DEBEMAIL=ada@example.org DEBFULLNAME='Ada R&D/Lovelace' tools/build-packages "$work/ada" &
@@ -187,23 +188,14 @@ programs_say_commit() {
     tools/version commit | diff - "$work/commit"
 }
 
-# The greatest version of the C library that a symbol of these files wants: N of 2.N.
-greatest_glibc() {
-    objdump -T "$@" | sed -n 's/.*GLIBC_2\.\([0-9]*\).*/\1/p' | sort -n | tail -n 1 | grep .
-}
-
-wheels_name_c_library() {
-    greatest=$(greatest_glibc "$work/unpacked/wheel/smap/libsmap.so.0") &&
-        [ "$wheel" = "$dist/smap-$python_version-py3-none-manylinux_2_${greatest}_x86_64.whl" ] &&
-        greatest=$(greatest_glibc "$work/unpacked/programs/smap_programs/smap") &&
-        [ "$programs" = "$dist/smap_programs-$python_version-py3-none-manylinux_2_${greatest}_x86_64.whl" ]
-}
-
-# README says what the program and the library want together.
-readme_names_c_library() {
-    set -- "$work/unpacked/smap/usr/bin/smap" "$work/unpacked/libsmap0/usr/lib/x86_64-linux-gnu/libsmap.so.0"
-    greatest=$(greatest_glibc "$@") && grep -F "glibc 2.$greatest or later" README.md || return 1
-    [ -z "$wheel" ] || grep -F "${wheel##*/}" README.md
+# What is compiled wants no loader and no library: a Linux is enough for the programs, and for the libraries any C
+# library of the process. node-smap is for Debian's alone.
+wants_no_library() {
+    find "$work/unpacked" -path '*/node-smap' -prune -o -type f \( -path '*/bin/smap' -o -path '*/smap_programs/smap' \
+        -o -name 'libsmap.so.0' -o -name smap.node \) -print >"$work/compiled.list"
+    [ "$(wc -l <"$work/compiled.list")" -ge 4 ] && while IFS= read -r file; do
+        readelf -l -d "$file" >"$work/headers" && ! grep -E 'INTERP|NEEDED' "$work/headers" || return 1
+    done <"$work/compiled.list"
 }
 
 # The first release whose library has versions of names, without which no program starts that wants them: this
@@ -262,7 +254,7 @@ finds_dependency() {
 # A library whose names have no versions isn't packed.
 refuses_other_names() {
     cp -r "$lib" "$work/unversioned" && rm "$work/unversioned"/libsmap.so* &&
-        cc -shared -Wl,-soname,libsmap.so.0 -o "$work/unversioned/libsmap.so.0" \
+        cc -shared -nostdlib -Wl,-soname,libsmap.so.0 -o "$work/unversioned/libsmap.so.0" \
             -Wl,--whole-archive "$work/unversioned/libsmap.a" -Wl,--no-whole-archive || return 1
     ! SMAP=$SMAP SMAP_CAPI=$work/unversioned tools/build-packages "$work/none" 2>"$work/said" || return 1
     grep '^dpkg-gensymbols: .*: some new symbols appeared' "$work/said" && [ -z "$(ls "$work/none")" ]
@@ -295,8 +287,7 @@ test_release() {
     try 'the programs say it, and before a release the commit' programs_say_commit
     try 'the Debian packages name their maintainer' names_maintainer
     try 'what is no maintainer is refused' refuses_maintainer
-    [ -z "$wheel" ] || try 'the wheels name the C library that they want' wheels_name_c_library
-    try 'README names the C library that is wanted' readme_names_c_library
+    try 'the programs and the libraries want no other library' wants_no_library
     try 'the Debian packages have the pages that their files name' has_pages
     try 'the Debian package of the library has its symbols' has_symbols
     try 'there are packages with the symbols that were stripped' keeps_all_symbols

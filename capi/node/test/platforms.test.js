@@ -1,6 +1,5 @@
 'use strict';
-// The package where there is no addon for the system: on another one, on Linux with another C library, and
-// where the package with the addon isn't installed.
+// The package where there is no addon: on another system, and where the package with the addon isn't installed.
 const assert = require('node:assert');
 const fs = require('node:fs');
 const os = require('node:os');
@@ -24,18 +23,7 @@ fs.cpSync(PACKAGE, inFolder('node_modules/smap'), {
 });
 write('mac.js', `Object.defineProperty(process, 'platform', { value: 'darwin' });
 Object.defineProperty(process, 'arch', { value: 'arm64' });`);
-write('glibc.js', setReport("'2.36'"));
-write('musl.js', setReport('undefined'));
-
-// Node's report names the version of glibc, where Node was linked with it.
-function setReport(version) {
-  return `const { getReport } = process.report;
-process.report.getReport = function () {
-  const report = getReport.call(this);
-  report.header.glibcVersionRuntime = ${version};
-  return report;
-};`;
-}
+write('linux.js', '');
 
 // Nothing that is installed elsewhere is found.
 function run(words, environment = {}) {
@@ -45,11 +33,10 @@ function run(words, environment = {}) {
   return { out: stdout, err: stderr, status };
 }
 
-const RUNS_ON = 'smap runs on Linux on x86-64 with glibc, and';
+const RUNS_ON = 'smap runs on Linux on x86-64, and';
 const MISSING = {
   mac: `${RUNS_ON} this is darwin-arm64`,
-  musl: `${RUNS_ON} the C library here is another one`,
-  glibc: `${RUNS_ON} its package smap-linux-x64, which has what is compiled, is not installed`,
+  linux: `${RUNS_ON} its package smap-linux-x64, which has what is compiled, is not installed`,
 };
 
 const said = name => `try { require('${name}'); } catch (error) { console.log(error.code, error.message); }`;
