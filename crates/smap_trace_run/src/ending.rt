@@ -4,7 +4,6 @@ ghost use Rattle.std.specs.Prelude.{◌≡◌};
 use crate::builds::differ_in_hash;
 use crate::frames::{Counted, add_missed};
 use crate::hints::hint_at_nothing;
-use crate::mismatches::files_of;
 use crate::program::STDIN;
 use crate::summary::{Stayed, Summary};
 use crate::tracing::{Run, open_log};
@@ -202,7 +201,7 @@ impl<E: Eprint + AllocGlobal, D: Disk> Run<'_, E, D> {
     }
 
     /// The file of the map of which most frames without a mapping are.
-    fn unmapped_file(&self, alloc: Global) -> Result<String, AllocError> {
+    fn unmapped_file(&self, alloc: Global) -> Result<String, Stop> {
         let frames = &self.frames;
         let kind = if self.is_plain() {
             &frames.mapped
@@ -212,10 +211,10 @@ impl<E: Eprint + AllocGlobal, D: Disk> Run<'_, E, D> {
         let Some(name) = kind.most().or(frames.mapped.most()) else {
             return Ok(String::new(alloc));
         };
-        let files = files_of(alloc, &self.job.wanted, &[name])?;
+        let files = self.finder.files_of(true, &[name])?;
         match files.first() {
-            Some(Some(file)) => printable(alloc, file),
-            Some(None) | None => printable(alloc, name),
+            Some(Some(file)) => Ok(printable(alloc, file)?),
+            Some(None) | None => Ok(printable(alloc, name)?),
         }
     }
 

@@ -3,42 +3,16 @@ use crate::frames::Counted;
 use crate::tracing::Run;
 use indexmap::IndexMap;
 use memchr::memmem;
-use smap_link::{FileKind, file_kind};
-use smap_lint_rules::{file_agrees, first_past_end, has_separator, line_widths};
-use smap_map_choice::{Found, pick_all, table_of};
-use smap_map_files::Wanted;
-use smap_record::SourceMap;
+use smap_link::{FileKind, file_kind, normal_form};
+use smap_lint_rules::{
+    debug_id, file_agrees, first_past_end, has_separator, line_widths, members_of, same_id,
+};
+use smap_record::{ReadError, SourceMap, map_tree};
 use smap_system::{Disk, FileFault, Host, Kind, LIMIT, Stop, printable, read_file};
 use std::alloc::{AllocError, Global};
 
 /// So many maps are named at most.
 const MOST_SAID: usize = 5;
-
-/// The files of the maps of these scripts.
-pub(crate) fn files_of<'w>(
-    alloc: Global,
-    wanted: &'w Wanted<'_>,
-    names: &[&[u8]],
-) -> Result<Vec<Option<&'w [u8]>>, AllocError> {
-    let mut found = Vec::with_capacity(alloc, names.len())?;
-    let Ok(mut table) = table_of(alloc, &wanted.places) else {
-        return Ok(found);
-    };
-    let mut files = Vec::with_capacity(alloc, wanted.files.len())?;
-    for file in &wanted.files {
-        files.push(file.as_slice())?;
-    }
-    for pick in &pick_all(alloc, &mut table, &files, true, names)? {
-        let file = match pick.found {
-            Found::Given(i) => wanted.places.get(i).map(|place| place.file.as_slice()),
-            Found::ByEnd(i) => wanted.files.get(i).map(|file| file.as_slice()),
-            Found::Unclear(i, j) => wanted.files.get(i.min(j)).map(|file| file.as_slice()),
-            Found::Missing => None,
-        };
-        found.push(file)?;
-    }
-    Ok(found)
-}
 
 /// A file that gave a map, and scripts of the log that take it.
 #[derive(Clone, Copy)]
@@ -61,43 +35,36 @@ fn origin<'a>(name: &'a [u8]) -> Option<&'a [u8]> {
     name.get(..host.checked_add(size)?)
 }
 
-/// Whether two names have different origins.
-fn are_of_two(a: &[u8], b: &[u8]) -> bool {
-    match (origin(a), origin(b)) {
-        (Some(a), Some(b)) => a != b,
-        _ => false,
+/// Whether two names have different origins, however these are spelled.
+fn are_of_two(alloc: Global, a: &[u8], b: &[u8]) -> Result<bool, AllocError> {
+    let (a, b) = (normal_form(alloc, a)?, normal_form(alloc, b)?);
+    match (origin(&a), origin(&b)) {
+        (Some(a), Some(b)) => Ok(a != b),
+        _ => Ok(false),
     }
 }
 
-/// The files that gave maps, each once.
-fn taken_maps<'a>(
+/// Notes that a script takes the map of a file.
+fn note<'a>(
     alloc: Global,
-    wanted: &'a Wanted<'_>,
-    used: &'a Counted,
-) -> Result<Vec<Taken<'a>>, AllocError> {
-    let names = used.names(alloc)?;
-    let mut numbers: IndexMap<Vec<u8>, usize> = IndexMap::new(alloc);
-    let mut all: Vec<Taken<'a>> = Vec::new(alloc);
-    for (script, file) in names.iter().zip(files_of(alloc, wanted, &names)?.iter()) {
-        let Some(file) = *file else {
-            continue;
-        };
-        if let Some(number) = numbers.get_index_of(file) {
-            if let Some(one) = all.get_mut(number) {
-                if one.other.is_none() && are_of_two(one.script, script) {
-                    one.other = Some(*script);
-                }
-            }
-            continue;
-        }
-        numbers.insert(Vec::from_slice(alloc, file)?, all.len())?;
-        all.push(Taken {
+    all: &mut IndexMap<&'a [u8], Taken<'a>>,
+    file: &'a [u8],
+    script: &'a [u8],
+) -> Result<(), AllocError> {
+    let Some(number) = all.get_index_of(file) else {
+        let taken = Taken {
             file,
-            script: *script,
+            script,
             other: None,
-        })?;
+        };
+        all.insert(file, taken)?;
+        return Ok(());
+    };
+    let taken = &mut all[number];
+    if taken.other.is_none() && are_of_two(alloc, taken.script, script)? {
+        taken.other = Some(script);
     }
-    Ok(all)
+    Ok(())
 }
 
 /// The file of the script whose map a file is or names, if it is there.
@@ -161,6 +128,63 @@ fn other_file_text(
     Ok(Some(text))
 }
 
+/// The debug id of the map that a file holds.
+fn id_of_map<D: Disk>(alloc: Global, disk: &D, file: &[u8]) -> Result<Option<String>, AllocError> {
+    let (FileKind::Map, Ok(path)) = (file_kind(file), std::str::from_utf8(file)) else {
+        return Ok(None);
+    };
+    let bytes = match read_file(alloc, disk, path, LIMIT) {
+        Ok(bytes) => bytes,
+        Err(FileFault::Read(_) | FileFault::TooLong) => return Ok(None),
+        Err(FileFault::Memory) => return Err(AllocError),
+    };
+    match map_tree(alloc, &bytes) {
+        Ok(tree) => Ok(members_of(alloc, &tree)?.debug_id),
+        Err(ReadError::Refused(_)) => Ok(None),
+        Err(ReadError::Memory) => Err(AllocError),
+    }
+}
+
+/// How the debug ids of a script and of its map differ, in words.
+fn other_id_text<D: Disk>(
+    alloc: Global,
+    disk: &D,
+    file: &[u8],
+    text: &[u8],
+) -> Result<Option<String>, AllocError> {
+    let Some(id) = debug_id(text) else {
+        return Ok(None);
+    };
+    let Some(of_map) = id_of_map(alloc, disk, file)? else {
+        return Ok(None);
+    };
+    if same_id(id, of_map.as_bytes()) {
+        return Ok(None);
+    }
+    let (id, of_map) = (printable(alloc, id)?, printable(alloc, of_map.as_bytes())?);
+    let (id, of_map) = (id.as_str(), of_map.as_str());
+    let text = format!(in alloc; "has the debug id {of_map}, the script {id}: of another build?")?;
+    Ok(Some(text))
+}
+
+/// What is strange about the map of a script with this text, in words.
+fn strange_part<D: Disk>(
+    alloc: Global,
+    disk: &D,
+    map: &SourceMap,
+    taken: &Taken<'_>,
+    script: &str,
+    text: &[u8],
+) -> Result<Option<String>, AllocError> {
+    if let Some(what) = past_end_text(alloc, map, text)? {
+        return Ok(Some(what));
+    }
+    if let Some(what) = other_id_text(alloc, disk, taken.file, text)? {
+        return Ok(Some(what));
+    }
+    other_file_text(alloc, map, taken, script)
+}
+
 /// What is strange about a map of a script whose file is there, in words.
 fn strange_text<D: Disk>(
     alloc: Global,
@@ -174,12 +198,8 @@ fn strange_text<D: Disk>(
     let Some(text) = text_of(alloc, disk, script)? else {
         return Ok(None);
     };
-    let what = match past_end_text(alloc, map, &text)? {
-        Some(what) => what,
-        None => match other_file_text(alloc, map, taken, script)? {
-            Some(what) => what,
-            None => return Ok(None),
-        },
+    let Some(what) = strange_part(alloc, disk, map, taken, script, &text)? else {
+        return Ok(None);
     };
     let script = printable(alloc, script.as_bytes())?;
     let (script, what) = (script.as_str(), what.as_str());
@@ -222,10 +242,24 @@ impl<E: Eprint + AllocGlobal, D: Disk> Run<'_, E, D> {
         }
     }
 
+    /// The files that gave maps, each once.
+    fn taken_maps<'b>(&'b self) -> Result<IndexMap<&'b [u8], Taken<'b>>, Stop> {
+        let alloc = self.host.alloc();
+        let names = self.frames.used.names(alloc)?;
+        let files = self.finder.files_of(true, &names)?;
+        let mut all = IndexMap::new(alloc);
+        for (script, file) in names.iter().zip(files.iter()) {
+            if let Some(file) = *file {
+                note(alloc, &mut all, file, *script)?;
+            }
+        }
+        Ok(all)
+    }
+
     /// Says which maps seem to be of other scripts than those that take them, of the first of these.
-    pub(crate) fn say_mismatches(&self) -> Result<(), AllocError> {
+    pub(crate) fn say_mismatches(&self) -> Result<(), Stop> {
         let mut said = 0;
-        for taken in &taken_maps(self.host.alloc(), &self.job.wanted, &self.frames.used)? {
+        for (_, taken) in self.taken_maps()?.iter() {
             if said < MOST_SAID && self.say_mismatch(taken)? {
                 said += 1;
             }
