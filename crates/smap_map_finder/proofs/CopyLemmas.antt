@@ -1,5 +1,6 @@
 -- Files between which it isn't clear which one a name has, and which give the same map.
-use Rattle.std.proofs.Common.{◌≡◌, ◌≢◌, ◌⊎◌, ◌∙◌, ◌<◌, arith, ap, inl, inr, refl, sym, subst, ℕ, Bool, List, []}
+use Rattle.std.proofs.Common.{◌≡◌, ◌≢◌, ◌⊎◌, ◌∙◌, ◌<◌, arith, ap, inl, inr, refl, sym, subst, ℕ, Bool, List}
+use Rattle.std.proofs.Common.{[]}
 use Rattle.std.proofs.Common.{◌∷◌, Some, None, false, get_or, length, nat_eq, set, true}
 use Rattle.std.proofs.lemmas.Bool.Decides.{nat_tests}
 use Rattle.std.proofs.lemmas.List.{get_or-set_other, get_or-set_same, length-set}
@@ -29,7 +30,8 @@ one_out held w file other left after lt was copy is = record {
         ⊎ ((get_or after k [] ≡ []) × AreCopies held w file k)
     go k true e = let same : other ≡ k = grind (arith, nat_tests) in inr (
       ap (λ (l : List (List ℕ)). get_or l k []) is
-          ∙ subst (λ (n : ℕ). get_or (set left other []) n [] ≡ []) same (get_or-set_same left other [] [] lt),
+          ∙ subst (λ (n : ℕ). get_or (set left other []) n [] ≡ []) same
+          (get_or-set_same left other [] [] lt),
       subst (AreCopies held w file) same copy,
     )
     go k false e =

@@ -26,14 +26,16 @@ use Rattle.smap_command_line.specs.declared.trace.words.Asked.{Asked}
 use Rattle.smap_command_line.specs.declared.trace.words.TraceWords.{TraceWords}
 
 -- standard input that is a file, as far as it went
-pub to_its_size : (held : Held) (job : Job) (worst : ℕ) (kind : InputKind) (left before after : Option (List ℕ))
+pub to_its_size : (held : Held) (job : Job) (worst : ℕ) (kind : InputKind)
+    (left before after : Option (List ℕ))
     → kind ≡ File → IsTracedFront held job worst STDIN.now left before after
     → IsTracedInput held job worst kind left before after
 to_its_size held job worst kind left before after is traced =
     subst (λ (k : InputKind). IsTracedInput held job worst k left before after) (sym is) (inl traced)
 
 -- and standard input to its end
-pub to_its_end : (held : Held) (job : Job) (worst : ℕ) (kind : InputKind) (left before after : Option (List ℕ))
+pub to_its_end : (held : Held) (job : Job) (worst : ℕ) (kind : InputKind)
+    (left before after : Option (List ℕ))
     → IsTracedTextIn held job worst (λ name. ⊤) left before after
     → IsTracedInput held job worst kind left before after
 to_its_end held job worst File left before after traced = inr traced

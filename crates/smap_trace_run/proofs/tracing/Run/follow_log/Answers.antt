@@ -70,8 +70,8 @@ loop-preserved g c = record {
       let run = c.open_lines.new.self in
       let more = started _ _ _ c.self-in-loop.view_is c.in_ok-open_lines.ensures.same in
       let same = one_run _ _ _ c.loop.invariant.same more in
-      rw (c.count_lines.ensures ∙ c.translate_log.ensures.kept) (one_more_part held job run.chosen.worst (λ name. ⊤) c.loop.log.ended
-      log.ended (g.R.Read.remaining c.args.reader)
+      rw (c.count_lines.ensures ∙ c.translate_log.ensures.kept) (one_more_part held job run.chosen.worst
+      (λ name. ⊤) c.loop.log.ended log.ended (g.R.Read.remaining c.args.reader)
       (pending g.R.Read.remaining c.loop.log) (pending g.R.Read.remaining log) before middle after
       (handed log) (so_far_worse _ _ _ _ _ _ _ _ _ _ more.worst (c.loop.invariant.traced plain))
       (c.in_ok-more.ensures.going c.if-not-more.false)
