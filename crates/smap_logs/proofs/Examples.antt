@@ -14,6 +14,9 @@ the_last = refl
 no_further_colon : path_start (codes "eval at f (/a.js:1:2), <anonymous>") 34 ≡ None
 no_further_colon = refl
 
+two_paths : path_start (codes "said (/my hosts, /my a.js") 25 ≡ None
+two_paths = refl
+
 no_root : path_start (codes "at f (my shop/a.js") 18 ≡ None
 no_root = refl
 

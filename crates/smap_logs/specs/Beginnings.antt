@@ -7,6 +7,7 @@ use Rattle.std.specs.List.{ends_with, prefix_len, slice_get, starts_with, suffix
 use Rattle.std.specs.Option.{option_or}
 use Rattle.smap_frames.specs.Places.{may_begin}
 use Rattle.smap_logs.specs.Bytes.{ends_url, is_scheme_byte}
+use Rattle.smap_logs.specs.Looking.{holds_pair}
 use Rattle.smap_logs.specs.declared.beginnings.Beginnings.{Beginnings}
 
 -- whether a text begins with a letter, letters, digits, `+`, `-` and `.`, and `://`
@@ -68,12 +69,15 @@ size_after_colon text = suffix_len (λ b. not (b == 58)) text
 abbrev pub size_after_parenthesis : List ℕ → ℕ
 size_after_parenthesis text = suffix_len (λ b. not (b == 40)) text
 
--- The last bytes before a place, so many and at most 1,024, are a path: ` (` precedes them, and they begin
--- with a root.
+-- one path from a root: ` /` begins another
+abbrev pub is_one_path : List ℕ → Bool
+is_one_path text = begins_with_root text && not (holds_pair 32 47 text)
+
+-- The last bytes before a place, so many and at most 1,024, are one path, and ` (` precedes them.
 abbrev pub is_path_of_size : List ℕ → ℕ → ℕ → Bool
 is_path_of_size line end size = nat_lt 0 size && nat_le size end && nat_le size 1024
     && ends_with nat_eq (take (end - size) line) (codes " (")
-    && begins_with_root (slice_range line (end - size) end)
+    && is_one_path (slice_range line (end - size) end)
 
 -- where they begin, if they are
 abbrev pub path_of_size : List ℕ → ℕ → ℕ → Option ℕ

@@ -7,6 +7,7 @@ ghost use Rattle.smap_logs.specs.Beginnings.{AreBefore};
 ghost use Rattle.smap_logs.specs.Bytes.{is_scheme_byte as scheme_byte};
 
 use crate::bytes::{ends_url, is_scheme_byte};
+use crate::looking::holds_pair;
 use smap_frames::may_begin;
 
 /// The most bytes that a URL has.
@@ -132,7 +133,14 @@ fn size_after_parenthesis(text: &[u8]) -> usize
     text.iter().rev().take_while(|b| **b != b'(').count()
 }
 
-/// Where the last bytes before a place begin, so many, if they are a path from a root and ` (` precedes them.
+/// Whether a text is one path from a root: ` /` begins another.
+fn is_one_path(text: &[u8]) -> bool
+    ensures { result ≡ spec.is_one_path text.now }
+{
+    begins_with_root(text) && !holds_pair(text, b' ', b'/')
+}
+
+/// Where the last bytes before a place begin, so many, if they are one path and ` (` precedes them.
 fn path_of_size(line: &[u8], end: usize, size: usize) -> Option<usize>
     requires { end ≤ length line.now }
     ensures value { result ≡ spec.path_of_size line.now end size }
@@ -142,7 +150,7 @@ fn path_of_size(line: &[u8], end: usize, size: usize) -> Option<usize>
         return None;
     }
     let start = end - size;
-    if line[..start].ends_with(b" (") && begins_with_root(&line[start..end]) {
+    if line[..start].ends_with(b" (") && is_one_path(&line[start..end]) {
         Some(start)
     } else {
         None

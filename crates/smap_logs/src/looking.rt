@@ -142,7 +142,7 @@ fn without_return(line: &[u8]) -> &[u8]
 }
 
 /// Whether these two bytes stand in a text, one behind the other.
-fn holds_pair(text: &[u8], first: u8, second: u8) -> bool
+pub(crate) fn holds_pair(text: &[u8], first: u8, second: u8) -> bool
     ensures { result ≡ spec.holds_pair first second text.now }
 {
     for at in 0..text.len() {
