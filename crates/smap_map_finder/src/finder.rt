@@ -138,8 +138,8 @@ impl<'a, E: Eprint + AllocGlobal, D: Disk> Finder<'a, E, D> {
         self.chosen.map_of(name)
     }
 
-    /// The file that each of these names takes, as `open_for` finds it: that of its map, or of the script that
-    /// has it. No map is opened.
+    /// The file that each of these names takes, as `open_for` finds it: that of its map, or of the script
+    /// that has it. No map is opened.
     ///
     /// # Errors
     ///
