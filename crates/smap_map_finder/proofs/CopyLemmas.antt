@@ -1,6 +1,5 @@
 -- Files between which it isn't clear which one a name has, and which give the same map.
-use Rattle.std.proofs.Common.{◌≡◌, ◌≢◌, ◌⊎◌, ◌∙◌, ◌<◌, arith, ap, inl, inr, refl, sym, subst, ℕ, Bool, List}
-use Rattle.std.proofs.Common.{[]}
+use Rattle.std.proofs.Common.{◌≡◌, ◌≢◌, ◌⊎◌, ◌∙◌, ◌<◌, arith, ap, inr, refl, sym, subst, ℕ, Bool, List, []}
 use Rattle.std.proofs.Common.{◌∷◌, Some, None, false, get_or, length, nat_eq, set, true}
 use Rattle.std.proofs.lemmas.Bool.Decides.{nat_tests}
 use Rattle.std.proofs.lemmas.List.{get_or-set_other, get_or-set_same, length-set}

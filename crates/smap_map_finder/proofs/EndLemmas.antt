@@ -1,5 +1,5 @@
 -- Names that end as files, noted one by one.
-use Rattle.std.proofs.Common.{◌≡◌, ◌==◌, ◌<◌, ◌≤◌, ◌++◌, ◌∷◌, [], arith, refl, subst, sym, ℕ, Bool, List}
+use Rattle.std.proofs.Common.{◌≡◌, ◌==◌, ◌<◌, ◌≤◌, ◌++◌, ◌∷◌, [], arith, subst, sym, ℕ, Bool, List}
 use Rattle.std.proofs.Common.{Bor, cond, count_by, get_or, length, map}
 use Rattle.std.specs.List.{All, Contains, IsDistinct, list_any}
 use Rattle.std.proofs.lemmas.Bool.{cond_both}

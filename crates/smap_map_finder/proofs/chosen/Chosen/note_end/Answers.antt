@@ -1,9 +1,8 @@
-use Rattle.std.proofs.Common.{rules, ◌≡◌, ◌∙◌, arith}
+use Rattle.std.proofs.Common.{rules, ◌≡◌, arith}
 use Rattle.smap_link.specs.Paths.{bare}
 use Rattle.smap_map_finder.specs.ChosenView.{choices_of}
-use Rattle.smap_map_finder.specs.declared.chosen.End.{End}
 use Rattle.smap_map_finder.proofs.EndLemmas.{crowded_on, end_of, ended_on}
-use Rattle.smap_map_finder.proofs.GrowthLemmas.{chosen_further, grows_further}
+use Rattle.smap_map_finder.proofs.GrowthLemmas.{chosen_further}
 use Rattle.smap_map_finder.proofs.chosen.Chosen.note_end.Goals as goal
 
 pub returns-clause-chosen : goal.returns-clause-chosen

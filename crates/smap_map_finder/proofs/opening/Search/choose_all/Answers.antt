@@ -1,4 +1,4 @@
-use Rattle.std.proofs.Common.{◌+◌, refl, sym, subst, map, take}
+use Rattle.std.proofs.Common.{◌+◌, sym, subst, map, take}
 use Rattle.smap_map_choice.specs.declared.picks.Pick.{Pick}
 use Rattle.smap_map_finder.specs.Choice.{ArePicksOf, IsChoiceOf}
 use Rattle.smap_map_finder.proofs.ChoiceLemmas.{all_of, one_more}
