@@ -130,10 +130,15 @@ impl<E: Eprint + AllocGlobal, D: Disk> Run<'_, E, D> {
         Ok(())
     }
 
-    /// How many frames of scripts with a map have no mapping. Where positions are looked for anywhere, other
-    /// lines are translated too, so these frames are counted one by one.
+    /// Whether lines that are no frames have positions, where these are looked for, too.
+    fn has_other_lines(&self) -> bool {
+        self.job.anywhere && self.start.positions > self.frames.all()
+    }
+
+    /// How many frames of scripts with a map have no mapping. Where other lines are translated, too, these
+    /// frames are counted one by one.
     fn unmapped_count(&self) -> u64 {
-        if self.job.anywhere && self.tally.changed > 0 {
+        if self.tally.changed > 0 && (self.frames.are_followed || self.has_other_lines()) {
             return self.frames.missed.all();
         }
         self.frames.mapped.all().saturating_sub(self.tally.changed)
@@ -151,7 +156,7 @@ impl<E: Eprint + AllocGlobal, D: Disk> Run<'_, E, D> {
 
     /// Whether frames without a mapping may not be counted yet.
     fn lacks_missed(&self) -> bool {
-        if self.job.anywhere {
+        if self.frames.are_followed || self.has_other_lines() {
             return self.frames.mapped.all() > 0;
         }
         self.unmapped_count() > self.frames.missed.all()
@@ -162,7 +167,7 @@ impl<E: Eprint + AllocGlobal, D: Disk> Run<'_, E, D> {
         ensures { self.new ≡ self.old }
     {
         self.count_frames()?;
-        self.frames.are_followed = true;
+        self.frames.are_followed = self.job.anywhere;
         if self.lacks_missed() {
             let (host, job, scripts) = (self.host, self.job, self.finder.scripts());
             add_missed(
@@ -183,10 +188,10 @@ impl<E: Eprint + AllocGlobal, D: Disk> Run<'_, E, D> {
 
     /// Whether nothing more has to be known of the frames without a mapping.
     fn knows_missed(&self) -> bool {
-        if self.job.anywhere {
+        if self.has_other_lines() {
             return self.frames.are_followed || self.tally.changed == 0;
         }
-        self.is_plain()
+        self.frames.are_followed || self.is_plain()
     }
 
     /// Looks through logs that are files once more, where it isn't known how many frames without a mapping

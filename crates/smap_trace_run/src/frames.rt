@@ -108,6 +108,15 @@ impl Frames {
         }
     }
 
+    /// How many there are.
+    pub(crate) fn all(&self) -> u64 {
+        self.mapped
+            .all()
+            .saturating_add(self.mapless.all())
+            .saturating_add(self.elsewhere.all())
+            .saturating_add(self.foreign)
+    }
+
     /// The name that most frames have of scripts without a map that can have one.
     pub(crate) fn most_without(&self) -> Option<&[u8]> {
         let (near, far) = (self.mapless.most_counted(), self.elsewhere.most_counted());

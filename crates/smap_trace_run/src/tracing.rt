@@ -19,7 +19,7 @@ use crate::given::Given;
 use crate::hints::{has_escaped_url, hint_at_start};
 use crate::output::Output;
 use crate::translating::Tally;
-use smap_logs::{Log, Names, has_control, names_in};
+use smap_logs::{Log, Names, has_control, look, names_in};
 use smap_map_files::Wanted;
 use smap_map_finder::{Finder, How};
 use smap_system::{Disk, Host, Stop};
@@ -83,15 +83,8 @@ pub(crate) struct Start {
     pub(crate) is_escaped: bool,
     /// How many lines there are.
     pub(crate) lines: u64,
-}
-
-/// How many lines these are, the last of which may have no end.
-fn line_count(lines: &[u8]) -> u64 {
-    let mut count = 0u64;
-    for _ in lines.split_inclusive(|b| *b == b'\n') {
-        count = count.saturating_add(1);
-    }
-    count
+    /// How many of them have positions, where these are looked for anywhere.
+    pub(crate) positions: u64,
 }
 
 impl Start {
@@ -106,8 +99,13 @@ impl Start {
             self.is_known = true;
             self.is_hinted = hint_at_start(host, lines, job.how.verbose);
         }
-        self.lines = self.lines.saturating_add(line_count(lines));
         self.is_escaped = self.is_escaped || has_escaped_url(lines);
+        for line in lines.split_inclusive(|b| *b == b'\n') {
+            self.lines = self.lines.saturating_add(1);
+            if job.anywhere && look(line).is_some() {
+                self.positions = self.positions.saturating_add(1);
+            }
+        }
     }
 }
 
@@ -263,6 +261,7 @@ impl<'a, E: Eprint + AllocGlobal, D: Disk> Run<'a, E, D> {
                 is_hinted: false,
                 is_escaped: false,
                 lines: 0,
+                positions: 0,
             },
         })
     }
