@@ -12,7 +12,7 @@ mod standard;
 use clap::Error;
 use smap_io::Device;
 use smap_map_files::printable_lines;
-use smap_system::{Disk, Kind, System, printable};
+use smap_system::{Disk, Kind, System, Watched, printable};
 use smap_tool::{RunFault, Task, WordsFault, run, status, task_of};
 use smap_trace_run::{Input, Output};
 use standard::{input, is_output_closed, placeholders};
@@ -237,8 +237,14 @@ fn main(rt: HostRuntime) -> ExitCode {
     let (words, writer) = (words.as_slice(), io::writer(&rt));
     let status = match tool {
         Tool::Trace => smap_trace_run::run(&rt, &disk, words, input, &mut Output::new(writer)),
-        Tool::Maps => smap_maps_run::run(&rt, &disk, words, rt.stderr().is_terminal(), writer),
-        Tool::View => smap_view_run::run(&rt, &disk, words, rt.stdout().is_terminal(), writer),
+        Tool::Maps => {
+            let output = &mut Watched::new(writer);
+            smap_maps_run::run(&rt, &disk, words, rt.stderr().is_terminal(), output)
+        }
+        Tool::View => {
+            let output = &mut Watched::new(writer);
+            smap_view_run::run(&rt, &disk, words, rt.stdout().is_terminal(), output)
+        }
     };
     drop(held);
     ExitCode::from(status)

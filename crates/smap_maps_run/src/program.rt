@@ -198,18 +198,14 @@ pub fn run<E: Eprint + AllocGlobal + Clock, D: Disk, W: Write>(
     disk: &D,
     words: &[&str],
     on_terminal: bool,
-    output: W,
-) -> u8
-where
-    W: Drop,
-{
+    output: &mut Watched<W>,
+) -> u8 {
     let host = Host {
         rt,
         disk,
         name: "smap-maps",
     };
-    let mut writer = Watched::new(output);
-    match answer(&host, words, on_terminal, &mut writer) {
+    match answer(&host, words, on_terminal, output) {
         Ok(()) => 0,
         Err(stop) => host.end(stop),
     }

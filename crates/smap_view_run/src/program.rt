@@ -291,18 +291,14 @@ pub fn run<E: Eprint + AllocGlobal, D: Disk, W: Write>(
     disk: &D,
     words: &[&str],
     on_terminal: bool,
-    output: W,
-) -> u8
-where
-    W: Drop,
-{
+    output: &mut Watched<W>,
+) -> u8 {
     let host = Host {
         rt,
         disk,
         name: "smap-view",
     };
-    let mut writer = Watched::new(output);
-    match answer(&host, words, on_terminal, &mut writer) {
+    match answer(&host, words, on_terminal, output) {
         Ok(verdict) => verdict.status(),
         Err(stop) => host.end(stop),
     }
