@@ -43,7 +43,7 @@ IsFault most url bytes fault.TooLong = ⊥
 IsFault most url bytes fault.NotUtf8 = is_utf8 url ≡ false
 IsFault most url bytes fault.NotUrl = IsErr (parse_url None url)
 IsFault most url bytes (fault.Link what) = ⊥
-IsFault most url bytes (fault.Refused e start) = IsReading most url bytes (Err e)
+IsFault most url bytes (fault.Refused e said) = IsReading most url bytes (Err e)
 IsFault most url bytes (fault.UrlBytes n) = (n ≡ most) × IsReading most url bytes (Ok None)
 
 -- What became of these bytes: the map that they are, or what is wrong with them.
@@ -57,7 +57,7 @@ IsUnreadBy fault.TooLong = ⊤
 IsUnreadBy fault.NotUtf8 = ⊥
 IsUnreadBy fault.NotUrl = ⊥
 IsUnreadBy (fault.Link what) = ⊥
-IsUnreadBy (fault.Refused e start) = ⊥
+IsUnreadBy (fault.Refused e said) = ⊥
 IsUnreadBy (fault.UrlBytes n) = ⊥
 
 -- A file can't be read, or is too long.

@@ -97,7 +97,7 @@ IsLink (loaded.Broken fault.TooLong) = ⊥
 IsLink (loaded.Broken fault.NotUtf8) = ⊥
 IsLink (loaded.Broken fault.NotUrl) = ⊥
 IsLink (loaded.Broken (fault.Link what)) = ⊤
-IsLink (loaded.Broken (fault.Refused e start)) = ⊥
+IsLink (loaded.Broken (fault.Refused e said)) = ⊥
 IsLink (loaded.Broken (fault.UrlBytes n)) = ⊥
 
 -- A script that was found in no folder names what can't be had.
