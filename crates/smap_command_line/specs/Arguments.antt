@@ -13,8 +13,8 @@ use Rattle.smap_command_line.specs.declared.trace.arguments.ArgumentFault.TheVar
 
 -- ---- an argument
 
--- something without a line feed (10), and but in an absolute path without a space (32), as the URL of a script
--- is in a log
+-- something without a line feed (10), and but in an absolute path without a space (32), as the URL of a
+-- script is in a log
 abbrev pub can_be_url : Text → Bool
 can_be_url text = not (is_nothing text) && not (list_any (λ b. b == 10) text)
     && (is_path text || not (list_any (λ b. b == 32) text))

@@ -32,8 +32,8 @@ is_local_file url = bytes_eq url.scheme (codes "file") && not (has_host url)
 abbrev pub slashes : List ℕ → ℕ
 slashes path = count_by (λ b. b == 47) path
 
--- The path of a URL with those percent escapes alone that it needs, in capitals (RFC 3986, 6.2.2); one with an
--- escaped slash as it is.
+-- The path of a URL with those percent escapes alone that it needs, in capitals (RFC 3986, 6.2.2); one with
+-- an escaped slash as it is.
 abbrev pub respelled : List ℕ → List ℕ
 respelled path = let made = percent_decode path in cond (slashes made == slashes path) (encoded made) path
 

@@ -2,8 +2,8 @@
 //! holds or names ([`open_map_of`]); what the URL that a script names leads to, within its folder
 //! ([`target_of`]); and the URL of a folder's files ([`folder_url`]). What URL a text names is found by
 //! `smap_link`; which files are opened for a log is decided above. The file system is `smap_system`'s trait,
-//! so that tests have it in memory. What is wrong is said on standard error, with the status of that; of a map
-//! that is refused in the words of [`MapText::detail`].
+//! so that tests have it in memory. What is wrong is said on standard error, with the status of that; of a
+//! map that is refused in the words of [`MapText::detail`].
 //!
 //! What the arguments of `smap-trace` name on the file system ([`wanted_by`]): maps of scripts, the files of
 //! folders, logs; and one map for each script of these ([`settle`]). How an argument is read is decided by

@@ -12,7 +12,8 @@ use Rattle.smap_map_choice.specs.declared.picks.Found.{Found}
 use Rattle.smap_map_choice.specs.declared.picks.Found.TheVariants.{Given, ByEnd, Unclear, Missing}
 use Rattle.smap_record.specs.Record.{ReadMap, record_of}
 use Rattle.smap_trace.specs.Scripts.{Script}
-use Rattle.smap_map_finder.specs.Choice.{AreCompared, AreLinks, IsMapOf, IsOpenedFor, IsPicked, IsWithout, places_of}
+use Rattle.smap_map_finder.specs.Choice.{AreCompared, AreLinks, IsMapOf, IsOpenedFor, IsPicked, IsWithout}
+use Rattle.smap_map_finder.specs.Choice.{places_of}
 use Rattle.smap_map_finder.specs.declared.chosen.Chosen.{Chosen}
 use Rattle.smap_map_finder.specs.declared.chosen.End.{End}
 use Rattle.smap_map_finder.specs.declared.chosen.Opening.{Opening}

@@ -1,6 +1,6 @@
 //! A run of `smap-trace`.
-ghost use Rattle.std.specs.Prelude.{◌≡◌, ◌||◌, [], false, true, IfOk, IsOk, None, Ok, OnOk, Some, codes, cond};
-ghost use Rattle.std.specs.Prelude.{map, ⊤};
+ghost use Rattle.std.specs.Prelude.{◌≡◌, ◌||◌, [], false, true, IfOk, IsOk, None, Ok, OnOk, Some, codes};
+ghost use Rattle.std.specs.Prelude.{cond, map, ⊤};
 ghost use Rattle.smap_map_files.specs.Positions.{AreClear, has_positions, log_in};
 ghost use Rattle.smap_command_line.specs.Lookups.{has, text};
 ghost use Rattle.smap_trace_run.specs.OutputView.{contents_of};

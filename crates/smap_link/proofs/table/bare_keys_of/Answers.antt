@@ -9,7 +9,8 @@ pub returns : goal.returns
 returns c =
     let now = λ (t : Bor (List ℕ)). t.now in
     let bares = map bare (texts_in (rows_of c.args.names.now.entries)) in
-    let first : map now c.deref.result.now ≡ bares = ap (map now) c.deref.ensures.value ∙ c.in_ok-texts.ensures in
+    let first : map now c.deref.result.now ≡ bares =
+    ap (map now) c.deref.ensures.value ∙ c.in_ok-texts.ensures in
     let last : map now c.deref-2.result.now ≡ reverse bares =
     ap (map now) (c.deref-2.ensures.value ∙ c.reverse.ensures.items)
     ∙ map-reverse now c.in_ok-texts.texts.items ∙ ap reverse c.in_ok-texts.ensures in (

@@ -15,5 +15,5 @@ pub returns-clause-ends : goal.returns-clause-ends
 returns-clause-ends c = λ held wanted asked in_frames picked among all.
     let same : c.in_ok-name.name.items ≡ bare c.args.name.now = search rules in
     ended_on _ _ _ _ c.in_ok-insert-2.ensures.keys c.in_ok-insert-2.ensures.unique
-    (end_of held wanted asked in_frames c.args.name.now c.in_ok-name.name.items c.args.found c.in-ByEnd.file same
-    c.in-ByEnd.is picked among) all
+    (end_of held wanted asked in_frames c.args.name.now c.in_ok-name.name.items c.args.found c.in-ByEnd.file
+    same c.in-ByEnd.is picked among) all

@@ -47,7 +47,8 @@ pub returns-then-not-is_empty : goal.returns-then-not-is_empty
 returns-then-not-is_empty g c =
     let s = c.check_maps.new.self in
     ended_run g.D.Disk.held c.args.self.now s c.follow_paths-answer.new.self c.args.input.kind _ _ _
-    c.follow_paths-answer.result c.end-then-not-is_empty.result c.check_maps.ensures c.follow_paths-answer.ensures.same
+    c.follow_paths-answer.result c.end-then-not-is_empty.result
+    c.check_maps.ensures c.follow_paths-answer.ensures.same
     (on_ok_weaker c.follow_paths-answer.result (logs_traced (g.D.Disk.held s.disk) s.job _
     c.as_slice-logs.result.now c.args.input.kind _ _ _
     (c.as_slice-logs.ensures.value ∙ ap (λ r. r.job.wanted.logs.items) c.self.view_is)
@@ -58,7 +59,8 @@ pub returns-then-has_positions : goal.returns-then-has_positions
 returns-then-has_positions g c =
     let s = c.check_maps.new.self in
     ended_run g.D.Disk.held c.args.self.now s c.follow_positions-answer.new.self c.args.input.kind _ _ _
-    c.follow_positions-answer.result c.end-then-has_positions.result c.check_maps.ensures c.follow_positions-answer.ensures.same
+    c.follow_positions-answer.result c.end-then-has_positions.result
+    c.check_maps.ensures c.follow_positions-answer.ensures.same
     (on_ok_weaker c.follow_positions-answer.result (λ traced. lines_traced (g.D.Disk.held s.disk) s.job _
     c.args.input.kind _ _ _
     (no_items s.job c.as_slice-logs.result.now
@@ -73,7 +75,8 @@ pub returns-then-has_name : goal.returns-then-has_name
 returns-then-has_name g c =
     let s = c.check_maps.new.self in
     ended_run g.D.Disk.held c.args.self.now s c.trace_input-answer.new.self c.args.input.kind _ _ _
-    c.trace_input-answer.result c.end-then-has_name.result c.check_maps.ensures c.trace_input-answer.ensures.same
+    c.trace_input-answer.result c.end-then-has_name.result
+    c.check_maps.ensures c.trace_input-answer.ensures.same
     (on_ok_weaker c.trace_input-answer.result (λ traced. lines_traced (g.D.Disk.held s.disk) s.job _
     c.args.input.kind _ _ _
     (no_items s.job c.as_slice-logs.result.now
