@@ -37,14 +37,11 @@ fn why_no_map<E: Eprint + AllocGlobal, D: Disk>(
     finder: &Finder<'_, E, D>,
 ) -> Result<String, Stop> {
     let alloc = host.alloc();
-    if finder.gave_none(script) {
-        return Ok(String::from_str(alloc, "the file that was found gives none; -v says more")?);
-    }
     let given = wanted
         .places
         .iter()
         .any(|place| place.script.as_slice() == script);
-    if given {
+    if given || finder.gave_none(script) {
         let text = String::from_str(alloc, "what is given for it has none; -v says more")?;
         return Ok(text);
     }
