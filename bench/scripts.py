@@ -35,7 +35,7 @@ C = r"""
 static double now(void) { struct timespec t; clock_gettime(CLOCK_MONOTONIC, &t); return t.tv_sec * 1e6 + t.tv_nsec / 1e3; }
 int main(int count, char **words)
 {
-    static char text[1 << 24], url[64];
+    static char text[1 << 26], url[64];
     size_t size = fread(text, 1, sizeof text - 1, stdin);
     smap_map map = {0};
     if (!size || smap_open_text(&map, text, "http://h/m/0.js.map", NULL, NULL) != SMAP_OK) return 1;
@@ -59,9 +59,9 @@ int main(int count, char **words)
 }
 """
 NODE = """
-const { Map, Scripts } = require(process.argv[1]);
+const { SourceMap, Scripts } = require(process.argv[1]);
 const { readFileSync } = require("fs");
-const map = Map.open(readFileSync(process.argv[2]), "http://h/m/0.js.map");
+const map = new SourceMap(readFileSync(process.argv[2]), "http://h/m/0.js.map");
 for (const number of JSON.parse(process.argv[3])) {
   const scripts = new Scripts();
   for (let i = 0; i < number; i++) scripts.add(`http://h/m/${i}.js`, map);
