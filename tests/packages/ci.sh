@@ -38,7 +38,7 @@ hooks_pass() {
 hooks_fail() {
     echo '{"version":2}' >"$work/hooked/other.css.map" && rm "$work/hooked/dist/out.js.map" || return 1
     ! runs_hook smap-maps-check >"$work/said" || return 1
-    cat "$work/said" && grep -x 'other.css.map:1:12: version' "$work/said" || return 1
+    cat "$work/said" && grep -x 'other.css.map:1:12: version is 2, not 3' "$work/said" || return 1
     ! runs_hook smap-maps-lint >"$work/said" || return 1
     cat "$work/said" && grep ' comment-missing-file$' "$work/said"
 }
