@@ -5,7 +5,7 @@ use std::alloc::{AllocError, Global};
 
 /// What is wrong with the options of a command line. Faults that `clap` finds come first, then those of
 /// values, of the options in the order of their table.
-#[derive(Debug, Drop)]
+#[derive(Drop)]
 pub enum OptionFault<'a> {
     /// An option that there isn't, one without its value, or a flag with one. The error prints itself.
     Refused(Error),

@@ -12,7 +12,7 @@ const USUAL_URL_BYTES: usize = 67_108_864;
 
 /// The options of a command line, which are looked up by their names in the table of options. Each value is
 /// what its option takes.
-#[derive(Debug, Drop)]
+#[derive(Drop)]
 pub struct Options<'a> {
     pub(crate) matches: ArgMatches<'a>,
 }

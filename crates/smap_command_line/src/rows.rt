@@ -14,7 +14,7 @@ pub enum MapsCommand {
 }
 
 /// Commands of `smap-maps`.
-#[derive(Clone, Copy, Debug)]
+#[derive(Clone, Copy)]
 pub struct Commands {
     pub check: bool,
     pub tidy: bool,
@@ -24,7 +24,7 @@ pub struct Commands {
 }
 
 /// What the value of an option has to be.
-#[derive(Clone, Copy, Debug)]
+#[derive(Clone, Copy)]
 pub enum Value {
     /// There is none: the option is a flag.
     Flag,
@@ -55,7 +55,7 @@ pub const SIZES: [&str; 3] = ["table", "tsv", "json"];
 
 /// An option, with texts of this type. (A contract can name a constant with a `&'static str` in it only if
 /// that is a type's argument.)
-#[derive(Clone, Copy, Debug)]
+#[derive(Clone, Copy)]
 pub struct OptionOf<T> {
     /// The name by which it is looked up.
     pub name: T,

@@ -8,7 +8,7 @@ use smap_shape::is_label;
 use std::alloc::{AllocError, Global};
 
 /// What an object is of a map (ECMA-426, "Source map format" and "Index source map").
-#[derive(Clone, Copy, Debug, PartialEq, Eq)]
+#[derive(Clone, Copy, PartialEq, Eq)]
 pub enum Part {
     /// The map itself.
     Whole,

@@ -15,7 +15,7 @@ use std::alloc::{AllocError, Global};
 const MOST_LEVELS: u8 = 8;
 
 /// The members that a rewrite drops.
-#[derive(Debug, Drop)]
+#[derive(Drop)]
 pub struct Drops<'v> {
     /// Those of the map itself, in byte order.
     pub own: Vec<&'v str>,

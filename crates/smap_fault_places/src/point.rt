@@ -5,7 +5,7 @@ ghost use Rattle.smap_fault_places.specs.Points as spec;
 
 /// A line and a column, both from 1. A column counts UTF-16 code units, as editors do, and as columns in
 /// source maps do. Lines end at LF, at CR LF, and at CR.
-#[derive(Clone, Copy, Debug, PartialEq, Eq)]
+#[derive(Clone, Copy, PartialEq, Eq)]
 pub struct Point {
     /// The line.
     pub line: u64,

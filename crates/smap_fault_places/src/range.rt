@@ -2,7 +2,7 @@
 ghost use Rattle.smap_fault_places.specs.Ranges.{IsRangeOf};
 
 /// A range of bytes of a text: from `start`, which counts from 0, up to `end`, which isn't in it.
-#[derive(Clone, Copy, Debug, PartialEq, Eq)]
+#[derive(Clone, Copy, PartialEq, Eq)]
 pub struct TextRange {
     /// The first byte.
     pub start: usize,

@@ -8,7 +8,7 @@ use crate::scan::is_space;
 use smap_record::{Fault, Kind};
 
 /// What a file shows at its beginning that is no map.
-#[derive(Clone, Copy, Debug, PartialEq, Eq)]
+#[derive(Clone, Copy, PartialEq, Eq)]
 pub enum Start {
     /// That it is empty, but for white space.
     Empty,

@@ -4,7 +4,7 @@ ghost use Rattle.smap_fault_places.specs.Paths as spec;
 
 /// The name of a member of a source map, or of a section (ECMA-426, "Source map format" and "Index source
 /// map").
-#[derive(Clone, Copy, Debug, PartialEq, Eq)]
+#[derive(Clone, Copy, PartialEq, Eq)]
 pub enum Key {
     /// `version`
     Version,
@@ -33,7 +33,7 @@ pub enum Key {
 }
 
 /// A step from a value to one within it.
-#[derive(Clone, Copy, Debug, PartialEq, Eq)]
+#[derive(Clone, Copy, PartialEq, Eq)]
 pub enum Step {
     /// To the member of an object with this name; to the last one, if there are several.
     Member(Key),

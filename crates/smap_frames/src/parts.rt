@@ -1,7 +1,7 @@
 //! The parts of a frame.
 
 /// A frame of a stack trace. `before`, `url`, `:`, `line`, `:`, `column` and `after` joined are its line.
-#[derive(Clone, Copy, Debug, PartialEq, Eq)]
+#[derive(Clone, Copy, PartialEq, Eq)]
 pub struct Frame<'a> {
     /// What is before the URL, such as `    at f (`.
     pub before: &'a [u8],

@@ -8,7 +8,7 @@ ghost use Rattle.smap_frames.specs.Places as spec;
 use crate::frames::place;
 
 /// A line and a column behind a URL.
-#[derive(Clone, Copy, Debug, PartialEq, Eq)]
+#[derive(Clone, Copy, PartialEq, Eq)]
 pub struct Place {
     /// From 1.
     pub line: u32,

@@ -80,7 +80,7 @@ pub(crate) fn backslashed(alloc: Global, path: &[u8]) -> Result<Vec<u8>, AllocEr
 }
 
 /// Why a path has no URL, or a URL no path.
-#[derive(Clone, Copy, Debug, PartialEq, Eq)]
+#[derive(Clone, Copy, PartialEq, Eq)]
 pub enum PathFault {
     /// The path isn't UTF-8.
     NotUtf8,

@@ -12,7 +12,7 @@ use percent_encoding::percent_decode;
 use std::alloc::{AllocError, Global};
 
 /// Why a data: URL gives no map.
-#[derive(Clone, Copy, Debug, PartialEq, Eq)]
+#[derive(Clone, Copy, PartialEq, Eq)]
 pub enum InlineFault {
     /// It has no comma.
     Form,

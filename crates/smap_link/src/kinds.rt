@@ -5,7 +5,7 @@ ghost use Rattle.smap_link.specs.Kinds as spec;
 use crate::comment::{css_map_url, is_silent, map_url};
 
 /// What a file is by the end of its name.
-#[derive(Clone, Copy, Debug, PartialEq, Eq)]
+#[derive(Clone, Copy, PartialEq, Eq)]
 pub enum FileKind {
     /// `.js`, `.mjs` or `.cjs`.
     Script,

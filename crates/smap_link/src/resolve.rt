@@ -9,7 +9,7 @@ use std::alloc::{AllocError, Global};
 use url::{ParseError, Url};
 
 /// Why the URL that a script names can't be resolved.
-#[derive(Clone, Copy, Debug, PartialEq, Eq)]
+#[derive(Clone, Copy, PartialEq, Eq)]
 pub enum LinkFault {
     /// The script's name or the URL isn't UTF-8.
     NotUtf8,

@@ -6,7 +6,7 @@ ghost use Rattle.smap_lint_rules.specs.Checks as spec;
 use smap_report::{Level, Rule};
 
 /// What is looked for, in the order of [`RULES`].
-#[derive(Clone, Copy, Debug, PartialEq, Eq)]
+#[derive(Clone, Copy, PartialEq, Eq)]
 pub enum Check {
     MissingMap,
     UnusedMap,

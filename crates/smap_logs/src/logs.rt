@@ -23,7 +23,7 @@ pub struct Log<R> {
 }
 
 /// What a log is read for at one time.
-#[derive(Clone, Copy, Debug, PartialEq, Eq)]
+#[derive(Clone, Copy, PartialEq, Eq)]
 enum Step {
     Lines,
     More,

@@ -23,7 +23,7 @@ pub enum Named {
 }
 
 /// Why a URL that a script names gives neither a map nor a file of its folder.
-#[derive(Clone, Copy, Debug, PartialEq, Eq)]
+#[derive(Clone, Copy, PartialEq, Eq)]
 pub enum NamedFault {
     /// It is a `data:` URL that can't be decoded.
     Garbled,

@@ -13,7 +13,7 @@ use smap_system::{Disk, FileFault, Kind, LIMIT, read_file};
 use std::alloc::{AllocError, Global};
 
 /// Why a file gives no map.
-#[derive(Debug, Drop)]
+#[derive(Drop)]
 pub enum MapFault {
     /// It can't be read.
     Unread,
@@ -88,7 +88,7 @@ pub(crate) fn loaded_from(
 }
 
 /// A fault that a store of files doesn't have: what is wrong with a file is in what it holds.
-#[derive(Clone, Copy, Debug, PartialEq, Eq)]
+#[derive(Clone, Copy, PartialEq, Eq)]
 pub struct NoFault;
 
 /// The files of a disk as maps and scripts.

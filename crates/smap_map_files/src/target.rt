@@ -30,7 +30,7 @@ pub enum Target {
 }
 
 /// Why there is no file of a folder with a name.
-#[derive(Clone, Copy, Debug, PartialEq, Eq)]
+#[derive(Clone, Copy, PartialEq, Eq)]
 pub enum Absence {
     /// Nothing has the name.
     Missing,

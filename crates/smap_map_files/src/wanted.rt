@@ -20,7 +20,7 @@ pub struct Root {
 }
 
 /// How a map is named.
-#[derive(Clone, Copy, Debug, PartialEq, Eq)]
+#[derive(Clone, Copy, PartialEq, Eq)]
 pub enum Origin {
     /// By its own argument, perhaps with its base.
     Alone { has_base: bool },

@@ -27,7 +27,7 @@ use std::sync::Arc;
 const MOST_FOR: usize = 100;
 
 /// Whether a pick's file is opened.
-#[derive(Clone, Copy, Debug, PartialEq, Eq)]
+#[derive(Clone, Copy, PartialEq, Eq)]
 enum Turn {
     First,
     /// It was opened for another name.

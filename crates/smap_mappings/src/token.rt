@@ -48,7 +48,7 @@ pub struct Original {
 pub const MAX_LINES: u32 = 16_777_216;
 
 /// Where a mappings string starts in the generated file, and what its lines and indices must stay below.
-#[derive(Clone, Copy, Debug, PartialEq, Eq)]
+#[derive(Clone, Copy, PartialEq, Eq)]
 pub struct Bounds {
     /// The generated line at which the string starts, at most [`MAX_POSITION`]; not 0 only in a section of
     /// an index map.

@@ -5,7 +5,7 @@ ghost use Rattle.smap_maps_run.specs.Deciding as spec;
 use smap_command_line::maps::Rewrite;
 
 /// What is done with a map that would change.
-#[derive(Clone, Copy, Debug, PartialEq, Eq)]
+#[derive(Clone, Copy, PartialEq, Eq)]
 pub(crate) enum Deed {
     /// It is named.
     Tell,

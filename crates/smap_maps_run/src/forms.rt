@@ -11,7 +11,7 @@ use smap_record::{Base, Limits, ReadError, SourceMap};
 use std::alloc::{AllocError, Global};
 
 /// The form that a map is compared with.
-#[derive(Clone, Copy, Debug, PartialEq, Eq)]
+#[derive(Clone, Copy, PartialEq, Eq)]
 pub(crate) enum Form {
     /// The canonical form, with relative source URLs or with absolute ones.
     Canonical { relative: bool },

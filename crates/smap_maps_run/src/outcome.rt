@@ -25,7 +25,7 @@ pub enum Failure {
 }
 
 /// A place in the text of a map.
-#[derive(Clone, Copy, Debug, PartialEq, Eq)]
+#[derive(Clone, Copy, PartialEq, Eq)]
 pub struct TextPlace {
     /// Its bytes, which count from 0. The range may be empty.
     pub range: TextRange,
@@ -34,7 +34,7 @@ pub struct TextPlace {
 }
 
 /// Why a map is refused.
-#[derive(Debug, Drop)]
+#[derive(Drop)]
 pub struct Refusal {
     /// The first fault that is met.
     pub fault: Fault,
@@ -111,7 +111,7 @@ pub struct Outcome {
 }
 
 /// The maps that were looked at. A count stays at 2^64 - 1 once it is there.
-#[derive(Clone, Copy, Debug, PartialEq, Eq)]
+#[derive(Clone, Copy, PartialEq, Eq)]
 pub struct Tally {
     /// Those with status 0.
     pub accepted: usize,

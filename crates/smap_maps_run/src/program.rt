@@ -18,7 +18,7 @@ use std::io::Write;
 use std::rt::Clock;
 
 /// What is done with each map.
-#[derive(Clone, Copy, Debug, PartialEq, Eq)]
+#[derive(Clone, Copy, PartialEq, Eq)]
 enum Work {
     Check { json: bool },
     Compare { form: Form, rewrite: Rewrite },

@@ -5,7 +5,7 @@ use smap_system::{Disk, Host, Stop, Watched, printable};
 use std::io::Write;
 
 /// How the outcomes are written.
-#[derive(Clone, Copy, Debug, PartialEq, Eq)]
+#[derive(Clone, Copy, PartialEq, Eq)]
 pub(crate) struct Style {
     /// As lines of JSON.
     pub(crate) json: bool,

@@ -7,7 +7,7 @@ use smap_system::{Disk, Host, Kind, Stop, parted, walk};
 use std::alloc::{AllocError, Global};
 
 /// A map to be looked at.
-#[derive(Debug, Drop)]
+#[derive(Drop)]
 pub(crate) struct Target {
     /// Its file, as it was given or found below a folder.
     pub(crate) file: String,

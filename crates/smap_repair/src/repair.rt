@@ -9,7 +9,7 @@ use std::alloc::{AllocError, Global};
 use std::fmt;
 
 /// What a repair is about. `docs/OUTPUT.md` has the list, with an example of each.
-#[derive(Clone, Copy, Debug, PartialEq, Eq)]
+#[derive(Clone, Copy, PartialEq, Eq)]
 pub enum Change {
     /// A byte order mark before the text is removed.
     ByteOrderMark,
@@ -33,7 +33,7 @@ pub enum Change {
 /// ```
 /// source 3 of section 0: "webpack://my app/a.js" becomes "webpack://my%20app/a.js"
 /// ```
-#[derive(Debug, Drop)]
+#[derive(Drop)]
 pub struct Repair {
     /// What was repaired.
     pub change: Change,

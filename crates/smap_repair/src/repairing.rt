@@ -14,7 +14,7 @@ use smap_record::{Base, Fault, Limits, ReadError, SourceMap};
 use std::alloc::{AllocError, Global};
 
 /// What becomes of a map's text that is repaired.
-#[derive(Debug, Drop)]
+#[derive(Drop)]
 pub enum Repaired {
     /// The text is read as it is, and stays so.
     Sound,

@@ -20,7 +20,7 @@ pub struct Rule {
 }
 
 /// A place in a file. Both numbers count from 1, and columns in UTF-16 units.
-#[derive(Clone, Copy, Debug, PartialEq, Eq)]
+#[derive(Clone, Copy, PartialEq, Eq)]
 pub struct Point {
     pub line: u64,
     pub column: u64,

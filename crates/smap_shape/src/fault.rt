@@ -7,7 +7,7 @@
 /// [`section`](crate::section) reports the first of NotObject, Offset, SectionMap, Nested. A member that is
 /// null counts as absent everywhere; that, and refusing a map where the standard would skip a member of
 /// the wrong type, are this project's own rules.
-#[derive(Clone, Copy, Debug, PartialEq, Eq)]
+#[derive(Clone, Copy, PartialEq, Eq)]
 pub enum ShapeFault {
     /// The map, or the section, isn't an object.
     NotObject,

@@ -24,7 +24,7 @@ pub struct Beside {
 }
 
 /// Why no file is begun.
-#[derive(Debug, Drop)]
+#[derive(Drop)]
 pub enum BesideFault {
     /// Nothing may be written under the name.
     Name(io::Error),

@@ -19,7 +19,7 @@ pub enum Kind {
 }
 
 /// What an entry of a folder is, links not followed.
-#[derive(Clone, Copy, Debug, PartialEq, Eq)]
+#[derive(Clone, Copy, PartialEq, Eq)]
 pub enum EntryKind {
     File,
     Folder,
@@ -43,7 +43,7 @@ pub struct Listing {
 }
 
 /// What tells a file from the one that it was before, or that another has put into its place.
-#[derive(Clone, Copy, Debug, PartialEq, Eq)]
+#[derive(Clone, Copy, PartialEq, Eq)]
 pub struct Stamp {
     /// Of the file system that it is on.
     pub device: u64,

@@ -10,7 +10,7 @@ use std::io::{self, ErrorKind, Read};
 pub const LIMIT: u64 = smap_io::LIMIT as u64;
 
 /// Why a file isn't read.
-#[derive(Debug, Drop)]
+#[derive(Drop)]
 pub enum FileFault {
     /// It has more bytes than is allowed.
     TooLong,

@@ -5,7 +5,7 @@ ghost use Rattle.smap_system.specs.Status.{status_of};
 use std::alloc::{AllocError, AllocFailed};
 
 /// Why a run ends before its end.
-#[derive(Clone, Copy, Debug, PartialEq, Eq)]
+#[derive(Clone, Copy, PartialEq, Eq)]
 pub enum Stop {
     /// With this status; why was said.
     Reported(u8),

@@ -3,7 +3,7 @@
 use smap_record::Fault;
 
 /// What is wrong with an entry. Of several faults the first in this list is reported.
-#[derive(Debug, Drop, PartialEq, Eq)]
+#[derive(Drop, PartialEq, Eq)]
 pub enum EntryFault {
     /// The next line is neither a header nor `trace`.
     Header,
@@ -18,7 +18,7 @@ pub enum EntryFault {
 }
 
 /// The first fault of a bundle.
-#[derive(Debug, Drop, PartialEq, Eq)]
+#[derive(Drop, PartialEq, Eq)]
 pub struct Refusal {
     /// The index of the entry, from 0.
     pub entry: usize,
@@ -27,7 +27,7 @@ pub struct Refusal {
 }
 
 /// Why a bundle wasn't read. `Memory` may come in place of any other answer.
-#[derive(Debug, Drop, PartialEq, Eq)]
+#[derive(Drop, PartialEq, Eq)]
 pub enum BundleFault {
     /// It has this fault, and no earlier one.
     Refused(Refusal),

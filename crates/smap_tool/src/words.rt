@@ -13,7 +13,7 @@ use smap_vlq::MAX_POSITION;
 use std::alloc::{AllocError, Global};
 
 /// Why there is no task.
-#[derive(Debug, Drop)]
+#[derive(Drop)]
 pub enum WordsFault {
     /// The arguments are wrong, or ask for help. The error prints itself, and knows its exit code: 2, or 0
     /// for help.

@@ -27,7 +27,7 @@ use std::io::{Read, Write};
 pub(crate) const STDIN: &str = "/proc/self/fd/0";
 
 /// What standard input is.
-#[derive(Clone, Copy, Debug, PartialEq, Eq)]
+#[derive(Clone, Copy, PartialEq, Eq)]
 pub enum InputKind {
     Closed,
     Terminal,

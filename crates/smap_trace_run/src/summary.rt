@@ -5,7 +5,7 @@ ghost use Rattle.smap_trace_run.specs.Ending as spec;
 use std::alloc::{AllocError, Global};
 
 /// Frames that stayed for one reason.
-#[derive(Clone, Copy, Debug)]
+#[derive(Clone, Copy)]
 pub(crate) struct Stayed<'a> {
     pub(crate) count: u64,
     /// What most of them are of.
@@ -13,7 +13,7 @@ pub(crate) struct Stayed<'a> {
 }
 
 /// What became of the frames of a run, those left out whose scripts can't have a map.
-#[derive(Clone, Copy, Debug)]
+#[derive(Clone, Copy)]
 pub(crate) struct Summary<'a> {
     /// Whether lines were translated that are no frames, so that lines are counted.
     pub(crate) in_lines: bool,

@@ -13,7 +13,7 @@ use smap_trace::{Counts, TraceError, translate_in};
 use std::io::{Read, Write};
 
 /// What became of a log's lines.
-#[derive(Clone, Copy, Debug, PartialEq, Eq)]
+#[derive(Clone, Copy, PartialEq, Eq)]
 pub(crate) struct Tally {
     pub(crate) lines: u64,
     pub(crate) changed: u64,

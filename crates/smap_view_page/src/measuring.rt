@@ -16,7 +16,7 @@ use std::alloc::{AllocError, Global};
 
 /// How many bytes of a script, and how many mappings, each source has: a byte has the source of the mapping
 /// that a lookup finds for its position. Lines end as in ECMAScript, and columns are UTF-16 units.
-#[derive(Debug, Drop)]
+#[derive(Drop)]
 pub struct Sizes {
     /// By the numbers of the sources; then of mappings without a source; then of what has no mapping. The sum
     /// is the length of the script.

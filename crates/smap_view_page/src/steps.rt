@@ -7,7 +7,7 @@ use crate::numbers::{difference, push_number};
 use std::alloc::AllocError;
 
 /// Where a mapping leads: numbers of the source and of the name, and the position in the source.
-#[derive(Clone, Copy, Debug, PartialEq, Eq)]
+#[derive(Clone, Copy, PartialEq, Eq)]
 pub(crate) struct Origin {
     pub(crate) source: u32,
     pub(crate) line: u32,
@@ -16,7 +16,7 @@ pub(crate) struct Origin {
 }
 
 /// A mapping.
-#[derive(Clone, Copy, Debug, PartialEq, Eq)]
+#[derive(Clone, Copy, PartialEq, Eq)]
 pub(crate) struct Place {
     pub(crate) line: u32,
     pub(crate) column: u32,
@@ -24,7 +24,7 @@ pub(crate) struct Place {
 }
 
 /// What the mappings before had last.
-#[derive(Clone, Copy, Debug, PartialEq, Eq)]
+#[derive(Clone, Copy, PartialEq, Eq)]
 pub(crate) struct Last {
     line: u32,
     column: u32,

@@ -8,7 +8,7 @@ use crate::lookups::Options;
 use crate::rows::{MapsCommand, OptionRow, is_flag};
 
 /// Options that don't go together.
-#[derive(Clone, Copy, Debug, PartialEq, Eq)]
+#[derive(Clone, Copy, PartialEq, Eq)]
 pub enum Clash {
     /// `--write` and `--diff` exclude each other.
     WriteDiff,

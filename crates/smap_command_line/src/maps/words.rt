@@ -37,7 +37,7 @@ pub enum Rewrite {
 }
 
 /// The values of a command line.
-#[derive(Debug, Drop)]
+#[derive(Drop)]
 pub struct MapsWords<'a> {
     pub command: MapsCommand,
     /// The options, by their names in [`OPTIONS`]. The command has all that are given.
@@ -49,7 +49,7 @@ pub struct MapsWords<'a> {
 }
 
 /// What a command line asks for.
-#[derive(Debug, Drop)]
+#[derive(Drop)]
 pub enum Asked<'a> {
     /// `--help`: [`HELP`](super::HELP) is to be printed.
     Help,
@@ -61,7 +61,7 @@ pub enum Asked<'a> {
 
 /// What is wrong with a command line: the first of all faults. Those of options by themselves come first,
 /// then those of the command, of its options, and that there is no path.
-#[derive(Debug, Drop)]
+#[derive(Drop)]
 pub enum WordFault<'a> {
     /// An option or its value is wrong.
     Options(OptionFault<'a>),

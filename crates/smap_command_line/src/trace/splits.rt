@@ -10,7 +10,7 @@ use smap_link::{FileKind, file_kind};
 
 /// A way to read an argument: its URL ends at one `=`, and the name of its file at a later one, or at its
 /// end. What stands behind that is its base.
-#[derive(Clone, Copy, Debug)]
+#[derive(Clone, Copy)]
 pub struct Split<'a> {
     /// The argument.
     pub word: &'a str,
@@ -31,7 +31,7 @@ pub enum Kind {
 }
 
 /// What is wrong with an argument that names a file or a folder.
-#[derive(Clone, Copy, Debug, PartialEq, Eq)]
+#[derive(Clone, Copy, PartialEq, Eq)]
 pub enum SplitFault {
     /// Its URL is empty, holds a line feed, or is no path and holds a space.
     Url,

@@ -18,7 +18,7 @@ use std::alloc::{AllocError, AllocFailed, Global};
 const USAGE: &str = "smap-trace [OPTION]... URL=FILE|URL/=FOLDER/|FOLDER|MAP|LOG|POSITION...";
 
 /// The values of a command line.
-#[derive(Debug, Drop)]
+#[derive(Drop)]
 pub struct TraceWords<'a> {
     /// The options, by their names in [`OPTIONS`].
     pub options: Options<'a>,
@@ -29,7 +29,7 @@ pub struct TraceWords<'a> {
 }
 
 /// What a command line asks for.
-#[derive(Debug, Drop)]
+#[derive(Drop)]
 pub enum Asked<'a> {
     /// `--help`: [`HELP`](super::HELP) is to be printed.
     Help,
@@ -41,7 +41,7 @@ pub enum Asked<'a> {
 
 /// What is wrong with a command line: the first of all faults. Those of the options come first, then those
 /// of the arguments, and that there are none.
-#[derive(Debug, Drop)]
+#[derive(Drop)]
 pub enum WordFault<'a> {
     /// An option or its value is wrong.
     Options(OptionFault<'a>),

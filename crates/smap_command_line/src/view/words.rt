@@ -24,7 +24,7 @@ pub enum SizesForm {
 }
 
 /// The values of a command line.
-#[derive(Debug, Drop)]
+#[derive(Drop)]
 pub struct ViewWords<'a> {
     /// The options, by their names in [`OPTIONS`].
     pub options: Options<'a>,
@@ -35,7 +35,7 @@ pub struct ViewWords<'a> {
 }
 
 /// What a command line asks for.
-#[derive(Debug, Drop)]
+#[derive(Drop)]
 pub enum Asked<'a> {
     /// `--help`: [`HELP`](super::HELP) is to be printed.
     Help,
@@ -46,7 +46,7 @@ pub enum Asked<'a> {
 }
 
 /// What is wrong with a command line: the first of all faults. Those of the options come first.
-#[derive(Debug, Drop)]
+#[derive(Drop)]
 pub enum WordFault<'a> {
     /// An option or its value is wrong.
     Options(OptionFault<'a>),

@@ -10,7 +10,7 @@ use std::alloc::{AllocError, Global};
 use url::{ParseError, ParseResult, Url};
 
 /// Why a source has no URL.
-#[derive(Clone, Copy, Debug, PartialEq, Eq)]
+#[derive(Clone, Copy, PartialEq, Eq)]
 pub(crate) enum SourceFault {
     NoUrl,
     Unstable,
