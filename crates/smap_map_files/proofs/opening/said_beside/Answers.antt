@@ -1,7 +1,7 @@
 use Rattle.std.proofs.Common.{ap}
 use Rattle.smap_map_files.specs.RootView.{folder_of}
 use Rattle.smap_map_files.proofs.ReachedLemmas.{if_some, script_gives}
-use Rattle.smap_map_files.proofs.opening.named_instead.Goals as goal
+use Rattle.smap_map_files.proofs.opening.said_beside.Goals as goal
 
 pub returns-in-Ok-Script-clause-reached : goal.returns-in-Ok-Script-clause-reached
 returns-in-Ok-Script-clause-reached g c =
