@@ -1,10 +1,9 @@
 //! Why source maps don't work: what is looked for in scripts and their maps ([`RULES`], [`Check`]), over
-//! values. The mappings of a
-//! map that lie past the end of its script or of a source, and how much of the script has an original
-//! ([`count_past_end`], [`count_originals_past_end`], [`mapped_units`]); what a map lists in vain
-//! ([`repeated_count`], [`unused_count`]); paths of the machine that built it ([`is_machine_path`]); and what
-//! a map says beside its mappings, with the id of a build that a script has ([`members_of`], [`debug_id`]).
-//! Nothing is opened here.
+//! values. The mappings of a map that lie past the end of its script or of a source, and how much of the
+//! script has an original ([`count_past_end`], [`count_originals_past_end`], [`mapped_units`]); what a map
+//! lists in vain ([`repeated_count`], [`unused_count`]); paths of the machine that built it
+//! ([`is_machine_path`]); and what a map says beside its mappings, with the id of a build that a script has
+//! ([`members_of`], [`debug_id`]). Nothing is opened here. The lines of a script are `smap_mappings`'.
 #![tactic(auto)]
 
 mod checks;
